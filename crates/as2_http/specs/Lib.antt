@@ -1,0 +1,3 @@
+pub mod HeadText
+pub mod Inputs
+pub mod Stops

@@ -1,0 +1,5 @@
+//! HTTP over any reader and writer: the request that a stream begins with, and replies.
+#![tactic(auto)]
+
+mod head_text;
+mod input;
