@@ -1,3 +1,4 @@
 pub mod HeadText
 pub mod Inputs
 pub mod Stops
+pub mod Framing

@@ -1,5 +1,6 @@
 //! HTTP over any reader and writer: the request that a stream begins with, and replies.
 #![tactic(auto)]
 
+mod framing;
 mod head_text;
 mod input;

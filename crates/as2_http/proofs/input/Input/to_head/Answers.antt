@@ -8,5 +8,5 @@ use Rattle.as2_http.proofs.input.Input.to_head.Goals as goal
 pub loop-place-preserved : goal.loop-place-preserved
 loop-place-preserved g c =
     reads_more IsHeadless c.args.self.now.text.items c.loop-place.self.text.items c.more.new.self.text.items
-        (g.R.Read.remaining c.args.reader.now) (g.R.Read.remaining c.loop-place.reader) (g.R.Read.remaining c.more.new.reader)
-        c.loop-place.invariant (subst HasNoHeadText c.deref.ensures.value c.in_default.ensures.none, omega arith) c.in-Ok.ensures.grown
+    (g.R.Read.remaining c.args.reader.now) (g.R.Read.remaining c.loop-place.reader) (g.R.Read.remaining c.more.new.reader)
+    c.loop-place.invariant (subst HasNoHeadText c.deref.ensures.value c.in_default.ensures.none, omega arith) c.in-Ok.ensures.grown

@@ -1,0 +1,64 @@
+//! What the fields of a head say of the bytes behind it (RFC 9112, sections 6 and 9.6).
+ghost use Rattle.std.specs.Prelude.{◌≡◌};
+ghost use Rattle.std.specs.List.{list_all};
+ghost use Rattle.std.specs.Char.{is_ascii_digit};
+ghost use Rattle.as2_http.specs.Framing.{is_number, content_length, is_close, says_close};
+
+use as2_text::without_blanks;
+
+/// The most bytes that the body of a request may have.
+pub const BODY_LIMIT: usize = 1_048_576;
+
+/// Why no request can be read.
+#[derive(Clone, Copy, Debug, PartialEq, Eq)]
+pub enum Refusal {
+    /// The bytes are no head of a request, or it is too long.
+    BadHead,
+    /// The body has a transfer coding.
+    TransferCoding,
+    /// `Content-Length` stands there twice or is no number.
+    BadLength,
+    /// The body has more than 1,048,576 bytes.
+    TooLarge,
+    /// A POST says nothing of its body's length.
+    NoLength,
+}
+
+fn all_digits(value: &[u8]) -> bool
+    ensures { result ≡ list_all is_ascii_digit value.now }
+{
+    value.iter().all(|byte| byte.is_ascii_digit())
+}
+
+/// One or more digits.
+fn is_number(value: &[u8]) -> bool
+    ensures { result ≡ is_number value.now }
+{
+    !value.is_empty() && all_digits(value)
+}
+
+/// The number of bytes that one `Content-Length` says.
+fn content_length(value: &[u8]) -> Result<usize, Refusal>
+    ensures { result ≡ content_length value.now }
+{
+    if !is_number(value) {
+        return Err(Refusal::BadLength);
+    }
+    match str::from_utf8(value).unwrap().parse::<usize>() {
+        Ok(length) if length <= BODY_LIMIT => Ok(length),
+        _ => Err(Refusal::TooLarge),
+    }
+}
+
+fn is_close(option: &[u8]) -> bool
+    ensures { result ≡ is_close option.now }
+{
+    without_blanks(option).eq_ignore_ascii_case(b"close")
+}
+
+/// One of the options of a `Connection` field is `close`.
+fn says_close(value: &[u8]) -> bool
+    ensures { result ≡ says_close value.now }
+{
+    value.split(|byte| *byte == b',').any(is_close)
+}
