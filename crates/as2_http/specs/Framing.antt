@@ -1,11 +1,9 @@
 -- What the fields of a head say of the bytes behind it (RFC 9112, sections 6 and 9.6).
 use Rattle.std.specs.Prelude.{◌≡◌, ℕ, ◌+◌, ◌<◌, ◌≤◌, Bool, true, false, ◌&&◌, ◌||◌, List, [], ◌∷◌, length, if◌then◌else◌, ◌==◌, nat_lt, nat_le, Result, Ok, Err, codes}
-use Rattle.std.specs.List.{list_all, list_any, slice_split}
+use Rattle.std.specs.List.{list_all, list_any}
 use Rattle.std.specs.Char.{is_ascii_digit}
 use Rattle.std.specs.Str.{str_eq_ignore_ascii_case}
 use Rattle.std.specs.Str.Parse.{digits_value}
-use Rattle.httparse.specs.Ascii.{comma}
-use Rattle.as2_text.specs.Blanks.{without_blanks}
 use Rattle.as2_http.specs.declared.framing.Refusal.{Refusal}
 use Rattle.as2_http.specs.declared.framing.Refusal.TheVariants.{BadHead, TransferCoding, BadLength, TooLarge, NoLength}
 
@@ -22,14 +20,3 @@ abbrev pub content_length : List ℕ → Result ℕ Refusal
 content_length value =
     if is_number value then (if nat_le (digits_value 10 value) body_limit then Ok (digits_value 10 value) else Err TooLarge)
     else Err BadLength
-
-abbrev pub is_comma : ℕ → Bool
-is_comma b = b == comma
-
--- the option of a Connection field that closes
-abbrev pub is_close : List ℕ → Bool
-is_close option = str_eq_ignore_ascii_case (without_blanks option) (codes "close")
-
--- one of the options of a Connection field, which commas part, is `close` (RFC 9112, section 9.6)
-abbrev pub says_close : List ℕ → Bool
-says_close value = list_any is_close (slice_split is_comma value)

@@ -2,3 +2,4 @@ pub mod HeadText
 pub mod Inputs
 pub mod Stops
 pub mod Framing
+pub mod Requests

@@ -2,12 +2,26 @@
 ghost use Rattle.std.specs.Prelude.{◌≡◌};
 ghost use Rattle.std.specs.List.{list_all};
 ghost use Rattle.std.specs.Char.{is_ascii_digit};
-ghost use Rattle.as2_http.specs.Framing.{is_number, content_length, is_close, says_close};
-
-use as2_text::without_blanks;
+ghost use Rattle.as2_http.specs.Framing.{is_number, content_length};
 
 /// The most bytes that the body of a request may have.
 pub const BODY_LIMIT: usize = 1_048_576;
+
+/// The method of a request, of those that an answer depends on (RFC 9110, section 9.3).
+#[derive(Clone, Copy, Debug, PartialEq, Eq)]
+pub enum Method {
+    Post,
+    Head,
+    Other,
+}
+
+/// The target of a request (RFC 9112, section 3.2).
+#[derive(Clone, Copy, Debug, PartialEq, Eq)]
+pub enum Target {
+    /// The station's path, `/as2`.
+    Station,
+    Other,
+}
 
 /// Why no request can be read.
 #[derive(Clone, Copy, Debug, PartialEq, Eq)]
@@ -22,6 +36,14 @@ pub enum Refusal {
     TooLarge,
     /// A POST says nothing of its body's length.
     NoLength,
+}
+
+/// A refused head: no request can be read from here on.
+#[derive(Clone, Copy, Debug, PartialEq, Eq)]
+pub struct Refused {
+    pub reason: Refusal,
+    /// The head was read, and its method is HEAD, whose reply has no body.
+    pub to_head: bool,
 }
 
 fn all_digits(value: &[u8]) -> bool
@@ -48,17 +70,4 @@ fn content_length(value: &[u8]) -> Result<usize, Refusal>
         Ok(length) if length <= BODY_LIMIT => Ok(length),
         _ => Err(Refusal::TooLarge),
     }
-}
-
-fn is_close(option: &[u8]) -> bool
-    ensures { result ≡ is_close option.now }
-{
-    without_blanks(option).eq_ignore_ascii_case(b"close")
-}
-
-/// One of the options of a `Connection` field is `close`.
-fn says_close(value: &[u8]) -> bool
-    ensures { result ≡ says_close value.now }
-{
-    value.split(|byte| *byte == b',').any(is_close)
 }

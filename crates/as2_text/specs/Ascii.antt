@@ -44,3 +44,7 @@ del = 127
 -- a printable byte, the space among them
 abbrev pub is_printable : ℕ → Bool
 is_printable b = nat_le space b && nat_le b tilde
+
+-- `,`
+abbrev pub comma : ℕ
+comma = 44

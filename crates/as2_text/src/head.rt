@@ -1,11 +1,13 @@
 ghost use Rattle.std.specs.Prelude.{◌≡◌, ℕ, ◌≤◌, List, [], ◌∷◌, ◌++◌, length, IfOk, OnOk, OnErr, vec_len};
-ghost use Rattle.std.specs.List.{list_all};
+ghost use Rattle.std.specs.List.{list_all, list_any};
 ghost use Rattle.std.specs.Str.{bytes_eq, str_to_ascii_lowercase};
+ghost use Rattle.as2_text.specs.Options.{lists};
 ghost use Rattle.as2_text.specs.Blanks.{without_blanks};
 ghost use Rattle.as2_text.specs.declared.head.HeadFault.TheVariants.{Memory};
 ghost use Rattle.as2_text.specs.Heads.{IsKept, field_of, is_name_byte, is_name, is_value_byte, is_field, values, Tells, IsBare, Answers, append_fault};
 
 use crate::blanks::without_blanks;
+use crate::options::lists;
 use std::alloc::{AllocError, AllocFailed, Global};
 use std::marker::Model;
 
@@ -156,6 +158,18 @@ fn told<'a>(fields: &'a [Field], name: &[u8]) -> Once<'a>
     }
 }
 
+/// Some field of that name lists the option.
+fn any_lists(fields: &[Field], name: &[u8], option: &[u8]) -> bool
+    ensures { result ≡ list_any (lists option.now) (values (str_to_ascii_lowercase name.now) fields.now) }
+{
+    for field in fields {
+        if field.is_named(name) && lists(field.value(), option) {
+            return true;
+        }
+    }
+    false
+}
+
 impl Head {
     /// A head without fields. It takes no memory, and keeps the allocator for its fields.
     pub fn new(alloc: Global) -> Head
@@ -201,5 +215,12 @@ impl Head {
         ensures bare { IsBare result }
     {
         told(&self.fields, name)
+    }
+
+    /// Whether a field of that name, in whichever case it is written, lists the option (RFC 9110, section 5.6.1).
+    pub fn lists(&self, name: &[u8], option: &[u8]) -> bool
+        ensures { result ≡ list_any (lists option.now) (values (str_to_ascii_lowercase name.now) self.now) }
+    {
+        any_lists(&self.fields, name, option)
     }
 }

@@ -9,6 +9,7 @@ mod identifier;
 mod memory;
 mod moment;
 mod name;
+mod options;
 
 pub use blanks::without_blanks;
 pub use domain::Domain;
@@ -17,6 +18,7 @@ pub use identifier::{IdFault, MessageId};
 pub use memory::Memory;
 pub use moment::Moment;
 pub use name::{AsName, NameFault};
+pub use options::lists;
 
 #[cfg(test)]
 mod tests;

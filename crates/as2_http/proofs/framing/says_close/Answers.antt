@@ -1,8 +1,0 @@
-use Rattle.std.proofs.Common.{rules, tests}
-use Rattle.std.proofs.lemmas.Iterator.Search.{any_from_yields_List}
-use Rattle.std.proofs.lemmas.Iterator.Splits.{YieldsList-from_slice_split}
-use Rattle.as2_http.specs.Framing.{is_comma, is_close}
-use Rattle.as2_http.proofs.framing.says_close.Goals as goal
-
-pub returns : goal.returns
-returns c = any_from_yields_List is_close _ _ _ c.any.ensures.ran (YieldsList-from_slice_split _ is_comma c.args.value.now c.split.ensures.rest c.split.ensures.done c.split.ensures.closure (λ x b q k. search (rules, tests))) (λ x b q k. search (rules, tests))
