@@ -1,3 +1,4 @@
 pub mod Heads
 pub mod Reading
 pub mod Numbers
+pub mod Judging

@@ -3,3 +3,4 @@ pub mod Inputs
 pub mod Stops
 pub mod Framing
 pub mod Requests
+pub mod Reading

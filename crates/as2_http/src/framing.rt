@@ -60,7 +60,7 @@ fn is_number(value: &[u8]) -> bool
 }
 
 /// The number of bytes that one `Content-Length` says.
-fn content_length(value: &[u8]) -> Result<usize, Refusal>
+pub fn content_length(value: &[u8]) -> Result<usize, Refusal>
     ensures { result ≡ content_length value.now }
 {
     if !is_number(value) {

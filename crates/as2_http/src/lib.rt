@@ -4,3 +4,4 @@
 mod framing;
 mod head_text;
 mod input;
+mod request;

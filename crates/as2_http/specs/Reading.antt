@@ -1,0 +1,14 @@
+-- What the readers of a request answer.
+use Rattle.std.specs.Prelude.{◌≡◌, ℕ, ◌<◌, ◌≤◌, List, length}
+use Rattle.httparse.specs.Grammar.{RequestHead}
+use Rattle.as2_http.specs.Requests.{IsHead, method_of, target_of, body_length, is_last}
+use Rattle.as2_http.specs.declared.request.Judged.{Judged}
+
+-- the bytes are a head, and that is what it says
+pub record Judges (text : List ℕ) (j : Judged) : Type 0 where
+  pub head : RequestHead
+  pub reads : IsHead text head j.fields
+  pub method : j.method ≡ method_of head.method
+  pub target : j.target ≡ target_of head.target
+  pub length : body_length j.method j.fields ≡ j.length
+  pub last : j.last ≡ is_last head.minor j.fields
