@@ -1,5 +1,5 @@
 //! What the fields of a head say of the bytes behind it (RFC 9112, sections 6 and 9.6).
-ghost use Rattle.std.specs.Prelude.{◌≡◌};
+ghost use Rattle.std.specs.Prelude.{◌≡◌, ◌≤◌, IfOk};
 ghost use Rattle.std.specs.List.{list_all};
 ghost use Rattle.std.specs.Char.{is_ascii_digit};
 ghost use Rattle.as2_http.specs.Framing.{is_number, content_length};
@@ -61,7 +61,8 @@ fn is_number(value: &[u8]) -> bool
 
 /// The number of bytes that one `Content-Length` says.
 pub fn content_length(value: &[u8]) -> Result<usize, Refusal>
-    ensures { result ≡ content_length value.now }
+    ensures exact { result ≡ content_length value.now }
+    ensures bound { IfOk result (λ length. length ≤ 1048576) }
 {
     if !is_number(value) {
         return Err(Refusal::BadLength);

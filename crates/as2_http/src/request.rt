@@ -1,5 +1,6 @@
 //! The request that a text begins with.
 ghost use Rattle.std.specs.Prelude.{◌≡◌, List, ℕ, length, map, All, IfOk, Some, None, Ok, Err, []};
+ghost use Rattle.std.specs.Prelude.{◌≤◌};
 ghost use Rattle.httparse.specs.Grammar.{RequestHead};
 ghost use Rattle.httparse.specs.Spans.{IsHeaderWithin, header_bytes};
 ghost use Rattle.as2_http.specs.Requests.{Fields, IsHead, appended, method_of, target_of, body_length, is_last};
@@ -54,7 +55,8 @@ fn target_of(bytes: &[u8]) -> Target
 
 /// How many bytes of body follow a head.
 fn body_length(method: Method, fields: &Head) -> Result<usize, Refusal>
-    ensures { result ≡ body_length method fields.now }
+    ensures exact { result ≡ body_length method fields.now }
+    ensures bound { IfOk result (λ length. length ≤ 1048576) }
 {
     if fields.value(b"transfer-encoding") != Once::Absent {
         return Err(Refusal::TransferCoding);
@@ -92,7 +94,7 @@ fn fields_of(alloc: Global, text: &[u8], spans: &[HeaderSpan]) -> Result<Head, N
 }
 
 /// Parses the bytes of a head, and judges what it says.
-fn judge(alloc: Global, text: &[u8]) -> Result<Judged, NotJudged>
+pub fn judge(alloc: Global, text: &[u8]) -> Result<Judged, NotJudged>
     ensures found { IfOk result (Judges text.now) }
     ensures none { result ≡ Err NotJudged.BadHead → (head : RequestHead) (fields : Fields) → ¬ (IsHead text.now head fields) }
 {
