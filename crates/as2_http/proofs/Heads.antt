@@ -1,8 +1,8 @@
 -- A head that is found stays found when more bytes come.
-use Rattle.std.proofs.Common.{◌≡◌, ◌+◌, ◌-◌, ◌<◌, ◌≤◌, ℕ, suc, zero, Bool, true, false, cond, eqb, ltb, ◌&&◌, List, [], ◌∷◌, ◌++◌, length, take, drop, slice_range, Option, Some, None, refl, sym, ap, ◌∙◌, append_assoc, arith, inl, inr}
-use Rattle.std.proofs.lemmas.Bool.{cases_lt, cases_Bool, and_parts}
-use Rattle.std.proofs.lemmas.List.{append-nil, take_all, take-append-le, take-append-drop, length-take, length-drop, drop-drop, drop-append-le}
-use Rattle.as2_http.specs.HeadText.{is_line_byte, unblank, begins_with_lf, empty_line, empty_line_from, up_to_empty_line, window, HasHeadText, HasNoHeadText}
+use Rattle.std.proofs.Common.{◌≡◌, ◌+◌, ◌-◌, ◌<◌, ◌≤◌, ℕ, suc, zero, true, false, eqb, ltb, ◌&&◌, List, [], ◌∷◌, ◌++◌, length, take, drop, slice_range, Option, Some, None, refl, sym, ap, ◌∙◌, append_assoc, arith, inl, inr}
+use Rattle.std.proofs.lemmas.Bool.{cases_Bool, and_parts}
+use Rattle.std.proofs.lemmas.List.{take_all, take-append-drop, length-take, length-drop, drop-append-le}
+use Rattle.as2_http.specs.HeadText.{is_line_byte, unblank, empty_line, empty_line_from, up_to_empty_line, window, HasHeadText, HasNoHeadText}
 use Rattle.httparse.proofs.RunLemmas.{drop_split, length-slice_range}
 use Rattle.as2_http.specs.HeadText.{HeadLies}
 

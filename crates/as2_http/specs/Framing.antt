@@ -1,11 +1,10 @@
 -- What the fields of a head say of the bytes behind it (RFC 9112, sections 6 and 9.6).
-use Rattle.std.specs.Prelude.{◌≡◌, ℕ, ◌+◌, ◌<◌, ◌≤◌, Bool, true, false, ◌&&◌, ◌||◌, List, [], ◌∷◌, length, if◌then◌else◌, ◌==◌, nat_lt, nat_le, Result, Ok, Err, codes}
-use Rattle.std.specs.List.{list_all, list_any}
+use Rattle.std.specs.Prelude.{ℕ, Bool, ◌&&◌, List, length, if◌then◌else◌, nat_lt, nat_le, Result, Ok, Err}
+use Rattle.std.specs.List.{list_all}
 use Rattle.std.specs.Char.{is_ascii_digit}
-use Rattle.std.specs.Str.{str_eq_ignore_ascii_case}
 use Rattle.std.specs.Str.Parse.{digits_value}
 use Rattle.as2_http.specs.declared.framing.Refusal.{Refusal}
-use Rattle.as2_http.specs.declared.framing.Refusal.TheVariants.{BadHead, TransferCoding, BadLength, TooLarge, NoLength}
+use Rattle.as2_http.specs.declared.framing.Refusal.TheVariants.{BadLength, TooLarge}
 
 -- the most bytes that the body of a request may have
 abbrev pub body_limit : ℕ

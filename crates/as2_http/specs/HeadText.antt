@@ -1,5 +1,5 @@
 -- Where the head of a message lies in a text (RFC 9112, section 2.1): behind CR and LF bytes, up to its first empty line.
-use Rattle.std.specs.Prelude.{◌≡◌, ℕ, ◌+◌, ◌<◌, ◌≤◌, Bool, true, false, ◌&&◌, ◌||◌, List, [], ◌∷◌, ◌++◌, length, take, drop, slice_range, if◌then◌else◌, ◌==◌, nat_lt, Option, Some, None}
+use Rattle.std.specs.Prelude.{◌≡◌, ℕ, ◌+◌, ◌<◌, ◌≤◌, Bool, false, ◌&&◌, ◌||◌, List, [], ◌∷◌, ◌++◌, length, take, drop, slice_range, if◌then◌else◌, ◌==◌, nat_lt, Option, Some, None}
 use Rattle.httparse.specs.Ascii.{line_feed, carriage_return}
 
 -- CR or LF

@@ -4,3 +4,4 @@ pub mod Stops
 pub mod Framing
 pub mod Requests
 pub mod Reading
+pub mod Arrivals

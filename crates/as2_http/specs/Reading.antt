@@ -1,5 +1,5 @@
 -- What the readers of a request answer.
-use Rattle.std.specs.Prelude.{◌≡◌, ℕ, ◌<◌, ◌≤◌, List, length, IfOk}
+use Rattle.std.specs.Prelude.{◌≡◌, ℕ, ◌≤◌, List, IfOk}
 use Rattle.httparse.specs.Grammar.{RequestHead}
 use Rattle.as2_http.specs.Requests.{IsHead, method_of, target_of, body_length, is_last}
 use Rattle.as2_http.specs.declared.request.Judged.{Judged}

@@ -1,5 +1,5 @@
 -- The request that a text begins with (RFC 9112, sections 2, 3 and 6), a refusal in its place, or neither yet.
-use Rattle.std.specs.Prelude.{◌≡◌, ℕ, ◌<◌, ◌≤◌, ◌⊎◌, Bool, true, false, ◌||◌, List, [], ◌∷◌, ◌++◌, length, map, if◌then◌else◌, ◌==◌, nat_lt, Option, Some, None, Result, Ok, Err, codes}
+use Rattle.std.specs.Prelude.{◌≡◌, ℕ, ◌<◌, ◌≤◌, Bool, true, false, ◌||◌, List, [], ◌∷◌, ◌++◌, length, map, if◌then◌else◌, ◌==◌, nat_lt, Option, Some, None, Result, Ok, Err, codes}
 use Rattle.std.specs.List.{list_any}
 use Rattle.std.specs.Str.{bytes_eq}
 use Rattle.httparse.specs.Grammar.{RequestHead, ReadsRequest}
@@ -9,12 +9,13 @@ use Rattle.as2_text.specs.Options.{lists}
 use Rattle.as2_http.specs.HeadText.{HasHeadText, HasNoHeadText, head_limit}
 use Rattle.as2_http.specs.Framing.{content_length}
 use Rattle.as2_http.specs.declared.framing.Refusal.{Refusal}
-use Rattle.as2_http.specs.declared.framing.Refusal.TheVariants.{BadHead, TransferCoding, BadLength, TooLarge, NoLength}
+use Rattle.as2_http.specs.declared.framing.Refusal.TheVariants.{BadHead, TransferCoding, BadLength, NoLength}
 use Rattle.as2_http.specs.declared.framing.Method.{Method}
 use Rattle.as2_http.specs.declared.framing.Method.TheVariants as method
 use Rattle.as2_http.specs.declared.framing.Target.{Target}
 use Rattle.as2_http.specs.declared.framing.Target.TheVariants as target
 use Rattle.as2_http.specs.declared.framing.Refused.{Refused}
+use Rattle.as2_http.specs.declared.arrival.Request.{Request}
 
 -- the fields of a head, each its name in lower case and its value
 abbrev pub Fields : Type 0
@@ -64,14 +65,6 @@ abbrev pub is_last : ℕ → Fields → Bool
 is_last minor fields = minor == 0 || list_any (lists (codes "close")) (values (codes "connection") fields)
 
 -- ---- requests
-
--- a request, as far as its answer depends on it
-pub record Request : Type 0 where
-  pub method : Method
-  pub target : Target
-  pub fields : Fields
-  pub body : List ℕ
-  pub last : Bool
 
 -- a whole head stands at the front of the text, and then what follows; the head says that of its body
 pub record Frames (text : List ℕ) (head : RequestHead) (fields : Fields) (after : List ℕ) (framing : Result ℕ Refusal) : Type 0 where

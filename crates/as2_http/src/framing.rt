@@ -2,6 +2,7 @@
 ghost use Rattle.std.specs.Prelude.{◌≡◌, ◌≤◌, IfOk};
 ghost use Rattle.std.specs.List.{list_all};
 ghost use Rattle.std.specs.Char.{is_ascii_digit};
+ghost use Rattle.as2_http.specs.Requests.{is_head};
 ghost use Rattle.as2_http.specs.Framing.{is_number, content_length};
 
 /// The most bytes that the body of a request may have.
@@ -13,6 +14,15 @@ pub enum Method {
     Post,
     Head,
     Other,
+}
+
+impl Method {
+    /// The reply has no body (RFC 9110, section 9.3.2).
+    pub fn is_head(self) -> bool
+        ensures { result ≡ is_head self }
+    {
+        self == Method::Head
+    }
 }
 
 /// The target of a request (RFC 9112, section 3.2).

@@ -1,7 +1,13 @@
 //! HTTP over any reader and writer: the request that a stream begins with, and replies.
 #![tactic(auto)]
 
+mod arrival;
+mod body;
 mod framing;
 mod head_text;
 mod input;
 mod request;
+
+pub use arrival::{Arrival, Request, read_first};
+pub use body::Body;
+pub use framing::{Method, Refusal, Refused, Target};

@@ -1,7 +1,7 @@
 use Rattle.std.proofs.Common.{arith, subst}
 use Rattle.as2_http.specs.HeadText.{HasNoHeadText}
 use Rattle.as2_http.specs.Inputs.{IsHeadless}
-use Rattle.as2_http.proofs.Reading.{reads_more, reads_end}
+use Rattle.as2_http.proofs.Reading.{reads_more}
 use Rattle.as2_http.proofs.input.Input.to_head.Goals as goal
 
 -- the turn read where no head ended yet

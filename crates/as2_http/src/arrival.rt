@@ -1,0 +1,107 @@
+//! The first request of a stream, as it comes.
+ghost use Rattle.std.specs.Prelude.{◌≡◌, ◌≢◌, List, ℕ, Some, IsTrue, false};
+ghost use Rattle.as2_http.specs.Arrivals.{Arrives, LeavesUnread, is_decided};
+ghost use Rattle.as2_http.specs.Requests.{IsOpen};
+
+use crate::body::Body;
+use crate::framing::{Method, Refusal, Refused, Target};
+use crate::head_text::blank_length;
+use crate::input::{Input, NoHead, Stop};
+use crate::request::{NotJudged, judge};
+use as2_text::Head;
+use std::alloc::Global;
+use std::io::Read;
+
+/// A request, as far as its answer depends on it (RFC 9112, section 3).
+#[derive(Drop)]
+pub struct Request {
+    pub method: Method,
+    pub target: Target,
+    /// The fields of its head.
+    pub fields: Head,
+    pub body: Body,
+    /// No further request is read behind this one.
+    pub last: bool,
+}
+
+/// What a stream begins with.
+#[derive(Drop)]
+pub enum Arrival {
+    /// A whole request.
+    Request(Request),
+    /// Bytes that no request begins with.
+    Refused(Refused),
+    /// Its end, behind no more than CR and LF.
+    Closed,
+    /// Less than a request, and then its end.
+    Truncated,
+    /// A read failed before the request was whole.
+    ReadFault,
+    /// Memory for the request wasn't there.
+    Memory,
+    /// The request wasn't whole after 100,000 reads.
+    TooLong,
+}
+
+const BAD_HEAD: Arrival = Arrival::Refused(Refused {
+    reason: Refusal::BadHead,
+    to_head: false,
+});
+
+/// What it is that reading stopped there.
+fn stopped(stop: Stop, text: &[u8]) -> Arrival
+    ensures ended { stop ≡ Stop.Ended → IsOpen text.now → Arrives text.now result }
+    ensures fault { stop ≢ Stop.Ended → (input : List ℕ) → Arrives input result }
+    ensures undecided { is_decided result ≡ false }
+{
+    match stop {
+        Stop::Ended if blank_length(text) == text.len() => Arrival::Closed,
+        Stop::Ended => Arrival::Truncated,
+        Stop::ReadFault => Arrival::ReadFault,
+        Stop::Memory => Arrival::Memory,
+        Stop::TooLong => Arrival::TooLong,
+    }
+}
+
+/// Reads the first request of a stream, and no more than the reads that it takes.
+pub fn read_first<R: Read>(alloc: Global, reader: &mut R) -> Arrival
+    // What arrives is what the whole input begins with.
+    ensures arrives { (input : List ℕ) → R.remaining reader.old ≡ Some input → Arrives input result }
+    // No read was made once that was decided.
+    ensures unread { (input : List ℕ) → R.remaining reader.old ≡ Some input
+        → IsTrue (is_decided result) → LeavesUnread input (R.remaining reader.new) }
+{
+    let Ok(mut input) = Input::new(alloc) else {
+        return Arrival::Memory;
+    };
+    let place = match input.to_head(reader) {
+        Ok(place) => place,
+        Err(NoHead::TooLarge) => return BAD_HEAD,
+        Err(NoHead::Stopped(stop)) => return stopped(stop, &input.text),
+    };
+    let judged = match judge(alloc, &input.text[place.start..place.end]) {
+        Ok(judged) => judged,
+        Err(NotJudged::BadHead) => return BAD_HEAD,
+        Err(NotJudged::Memory) => return Arrival::Memory,
+    };
+    let length = match judged.length {
+        Ok(length) => length,
+        Err(reason) => {
+            return Arrival::Refused(Refused {
+                reason,
+                to_head: judged.method.is_head(),
+            });
+        }
+    };
+    let end = place.end + length;
+    if let Err(stop) = input.to_length(reader, end) {
+        return stopped(stop, &input.text);
+    }
+    Arrival::Request(Request {
+        method: judged.method,
+        target: judged.target,
+        fields: judged.fields,
+        body: Body::of(input.text, place.end, end),
+        last: judged.last,
+    })
+}
