@@ -18,7 +18,7 @@ value_of-bracketed value =
     let last : get_or text (length text - 1) 0 ≡ close_angle = get_or_push (open_angle ∷ value) close_angle 0 (length text - 1) (omega arith) in
     let two : nat_le 2 (length text) ≡ true = grind (arith, nat_tests) in
     let closing : (get_or text (length text - 1) 0 == close_angle) ≡ true = eq-eqb _ _ last in
-    let bracketed : is_bracketed text ≡ true = and_from (nat_le 2 (length text)) _ two closing in
+    let bracketed : is_bracketed text ≡ true = and_from _ _ (and_from (nat_le 2 (length text)) true two refl) closing in
     rw bracketed (take_at value (close_angle ∷ []) (length text - 1 - 1) (omega arith))
 
 -- the values of a longer head are those of its parts, in order
