@@ -4,11 +4,13 @@
 mod alg;
 mod commas;
 mod digester;
+mod field;
 mod mic_text;
 mod trim;
 
 pub use alg::Alg;
 pub use digester::{Digester, mic_of};
+pub use field::{Compared, MicField};
 pub use mic_text::MicText;
 
 #[cfg(test)]
