@@ -3,4 +3,5 @@ pub mod Commas
 pub mod Fed
 pub mod Field
 pub mod Mic
+pub mod Pieces
 pub mod Trim

@@ -3,7 +3,7 @@ ghost use Rattle.as2_mic.specs.Field.{IsMicField, compared, compared_to};
 
 use crate::commas::cut_at_comma;
 use crate::trim::without_blanks_and_line_ends;
-use crate::{Alg, MicText, mic_of};
+use crate::{Alg, MicText, Pieces, mic_of, mic_of_pieces};
 use std::marker::Model;
 
 /// What comes of comparing a content with the MIC that a field gives.
@@ -71,6 +71,16 @@ impl<'a> MicField<'a> {
     {
         match Alg::named(self.digest) {
             Some(alg) => compared_to(self.mic, &mic_of(alg, content)),
+            None => Compared::UnknownAlg,
+        }
+    }
+
+    /// Compares the MIC that the field gives with the one of a content in pieces.
+    pub fn compare_pieces(&self, content: &Pieces) -> Compared
+        ensures { result ≡ compared self.now content.now }
+    {
+        match Alg::named(self.digest) {
+            Some(alg) => compared_to(self.mic, &mic_of_pieces(alg, content)),
             None => Compared::UnknownAlg,
         }
     }
