@@ -21,7 +21,7 @@ pub struct Pieces {
     full: Vec<Vec<u8>>,
     // what stands behind them, of up to 65,536 bytes
     last: Vec<u8>,
-    len: usize,
+    total: usize,
 }
 
 impl Model for Pieces {
@@ -32,7 +32,7 @@ impl Model for Pieces {
 
     ghost view = { λ p. flat_map (λ v. v.items) p.full.items ++ p.last.items };
 
-    ghost invariant = { λ p. All (λ v. length v.items ≡ 65536) p.full.items × (length p.last.items ≤ 65536) × (p.len ≡ length (flat_map (λ v. v.items) p.full.items ++ p.last.items)) };
+    ghost invariant = { λ p. All (λ v. length v.items ≡ 65536) p.full.items × (length p.last.items ≤ 65536) × (p.total ≡ length (flat_map (λ v. v.items) p.full.items ++ p.last.items)) };
 }
 
 /// Puts the last piece behind the full ones, and begins an empty one.
@@ -61,7 +61,7 @@ impl Pieces {
             alloc,
             full: Vec::new(alloc),
             last: Vec::new(alloc),
-            len: 0,
+            total: 0,
         }
     }
 
@@ -69,14 +69,14 @@ impl Pieces {
     pub fn len(&self) -> usize
         ensures { result ≡ length self.now }
     {
-        self.len
+        self.total
     }
 
     /// How many pieces there are.
     pub fn count(&self) -> usize
         ensures { result ≡ piece_count self.now }
     {
-        self.len.div_ceil(PIECE)
+        self.len().div_ceil(PIECE)
     }
 
     /// The piece at a place, counted from 0.
@@ -106,7 +106,7 @@ impl Pieces {
         }
         let count = min(PIECE - self.last.len(), bytes.len());
         self.last.extend_from_slice(&bytes[..count])?;
-        self.len += count;
+        self.total += count;
         Ok(count)
     }
 
@@ -121,7 +121,7 @@ impl Pieces {
             self.full.truncate(whole);
         }
         self.last.truncate(len - whole * PIECE);
-        self.len = len;
+        self.total = len;
     }
 
     /// Appends the bytes. Where there is no memory for them all, none is appended.
@@ -129,7 +129,7 @@ impl Pieces {
         ensures ok { OnOk result (self.new ≡ self.old ++ bytes.now) }
         ensures unchanged { OnErr result (self.new ≡ self.old) }
     {
-        let before = self.len;
+        let before = self.len();
         if before.checked_add(bytes.len()).is_none() {
             return Err(Memory);
         }
@@ -150,7 +150,7 @@ impl Pieces {
     pub fn joined(&self) -> Result<Vec<u8>, Memory>
         ensures { IfOk result (λ v. v.items ≡ self.now) }
     {
-        let mut all = Vec::with_capacity(self.alloc, self.len)?;
+        let mut all = Vec::with_capacity(self.alloc, self.len())?;
         for piece in &self.full {
             all.extend_from_slice(piece.as_slice())?;
         }
