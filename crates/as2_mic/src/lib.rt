@@ -1,0 +1,19 @@
+//! Digests and message integrity checks of AS2 (RFC 4130, section 7.3.1).
+#![tactic(auto)]
+
+mod alg;
+mod commas;
+mod digester;
+mod field;
+mod mic_text;
+mod pieces;
+mod trim;
+
+pub use alg::Alg;
+pub use digester::{Digester, mic_of};
+pub use field::{Compared, MicField};
+pub use mic_text::MicText;
+pub use pieces::{Pieces, mic_of_pieces};
+
+#[cfg(test)]
+mod tests;
