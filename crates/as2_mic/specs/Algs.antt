@@ -1,0 +1,38 @@
+-- The digests of MICs and their names (RFC 4130, section 7.3.1; the names of RFC 3851 and RFC 5751 are read alike).
+use Rattle.std.specs.Prelude.{ℕ, Bool, false, ◌||◌, List, [], ◌∷◌, Option, Some, None, if◌then◌else◌, codes}
+use Rattle.std.specs.List.{slice_split}
+use Rattle.std.specs.Str.{str_eq_ignore_ascii_case}
+use Rattle.as2_mic.specs.declared.alg.Alg.{Alg}
+use Rattle.as2_mic.specs.declared.alg.Alg.TheVariants.{Md5, Sha1}
+use Rattle.as2_mic.specs.Commas.{is_comma}
+use Rattle.as2_mic.specs.Trim.{trimmed}
+
+-- the text is the word, without regard to the case of ASCII letters
+abbrev pub is_word : List ℕ → List ℕ → Bool
+is_word text word = str_eq_ignore_ascii_case text word
+
+-- the digest that a name names
+abbrev pub alg_named : List ℕ → Option Alg
+alg_named name =
+    if is_word name (codes "sha1") || is_word name (codes "sha-1") then Some Sha1
+    else if is_word name (codes "md5") then Some Md5
+    else None
+
+-- the name that is written
+abbrev pub alg_name : Alg → List ℕ
+alg_name Md5 = codes "md5"
+alg_name Sha1 = codes "sha1"
+
+-- the digest of this name, or else of the names behind it
+abbrev pub or_else : Option Alg → Option Alg → Option Alg
+or_else (Some alg) later = Some alg
+or_else None later = later
+
+-- the first digest that is known
+abbrev pub first_known : List (List ℕ) → Option Alg
+first_known [] = None
+first_known (name ∷ names) = or_else (alg_named (trimmed false name)) (first_known names)
+
+-- the first known name of a list, which is cut at its commas
+abbrev pub first_of : List ℕ → Option Alg
+first_of list = first_known (slice_split is_comma list)

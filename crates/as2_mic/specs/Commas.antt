@@ -1,0 +1,18 @@
+-- Texts that are cut at commas.
+use Rattle.std.specs.Prelude.{◌≡◌, ℕ, Bool, false, ◌==◌, List, ◌∷◌, ◌++◌}
+use Rattle.std.specs.List.{All}
+
+abbrev pub comma : ℕ
+comma = 44
+
+abbrev pub is_comma : ℕ → Bool
+is_comma b = b == comma
+
+-- no byte of the text is a comma
+abbrev pub HasNoComma : List ℕ → Type 0
+HasNoComma text = All (λ b. is_comma b ≡ false) text
+
+-- the text has its first comma between these two
+pub record IsCutAtComma (text before behind : List ℕ) : Type 0 where
+  pub whole : text ≡ before ++ comma ∷ behind
+  pub first : HasNoComma before

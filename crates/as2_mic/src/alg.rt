@@ -1,0 +1,64 @@
+ghost use Rattle.std.specs.Prelude.{◌≡◌};
+ghost use Rattle.std.specs.Str.{str_eq_ignore_ascii_case};
+ghost use Rattle.as2_mic.specs.Algs.{alg_named, alg_name, first_of};
+
+use crate::commas::cut_at_comma;
+use crate::trim::without_blanks;
+
+/// A digest that MICs are made with (RFC 4130, section 7.3.1).
+///
+/// What depends on the digest, as its size, its name and its text, is asked of this crate, so that
+/// nothing outside matches on the variants.
+#[derive(Clone, Copy, Debug, PartialEq, Eq)]
+pub enum Alg {
+    /// MD5 (RFC 1321).
+    Md5,
+    /// SHA-1 (FIPS 180-4).
+    Sha1,
+}
+
+/// Whether the text is the word, without regard to case.
+fn is_word(text: &[u8], word: &[u8]) -> bool
+    ensures { result ≡ str_eq_ignore_ascii_case text.now word.now }
+{
+    text.eq_ignore_ascii_case(word)
+}
+
+impl Alg {
+    /// The digest of that name, without regard to case.
+    pub fn named(name: &[u8]) -> Option<Alg>
+        ensures { result ≡ alg_named name.now }
+    {
+        if is_word(name, b"sha1") || is_word(name, b"sha-1") {
+            Some(Alg::Sha1)
+        } else if is_word(name, b"md5") {
+            Some(Alg::Md5)
+        } else {
+            None
+        }
+    }
+
+    /// The name that is written.
+    pub fn name(self) -> &'static str
+        ensures { result.now ≡ alg_name self }
+    {
+        match self {
+            Alg::Md5 => "md5",
+            Alg::Sha1 => "sha1",
+        }
+    }
+
+    /// The first known name of a list with commas between its names.
+    pub fn first_of(list: &[u8]) -> Option<Alg>
+        ensures { result ≡ first_of list.now }
+    {
+        let mut rest = list;
+        while let Some((name, names)) = cut_at_comma(rest) {
+            if let Some(alg) = Alg::named(without_blanks(name)) {
+                return Some(alg);
+            }
+            rest = names;
+        }
+        Alg::named(without_blanks(rest))
+    }
+}
