@@ -186,7 +186,7 @@ impl Head {
         if !is_field(name, value) {
             return Err(HeadFault::BadField);
         }
-        if self.fields.len() >= 64 {
+        if self.len() >= 64 {
             return Err(HeadFault::TooMany);
         }
         let field = Field::new(*self.fields.allocator(), name, value)?;
