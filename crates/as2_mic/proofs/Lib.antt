@@ -1,3 +1,5 @@
 pub mod Cuts
+pub mod Fields
+pub mod Piecewise
 pub mod Texts
 pub mod Trims

@@ -31,7 +31,7 @@ or_else None later = later
 -- the first digest that is known
 abbrev pub first_known : List (List ℕ) → Option Alg
 first_known [] = None
-first_known (name ∷ names) = or_else (alg_named (trimmed false name)) (first_known names)
+first_known (name ∷ names) = or_else (alg_named (trimmed name)) (first_known names)
 
 -- the first known name of a list, which is cut at its commas
 abbrev pub first_of : List ℕ → Option Alg

@@ -1,5 +1,7 @@
 pub mod Algs
 pub mod Commas
 pub mod Fed
+pub mod Field
 pub mod Mic
+pub mod Pieces
 pub mod Trim

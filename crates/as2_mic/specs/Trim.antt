@@ -40,5 +40,13 @@ without_back lines [] = []
 without_back lines (b ∷ rest) = if all_fall_off lines (b ∷ rest) then [] else b ∷ without_back lines rest
 
 -- the text without the blanks, and the line ends where they count, at its ends
-abbrev pub trimmed : Bool → List ℕ → List ℕ
-trimmed lines text = without_back lines (without_front lines text)
+abbrev pub trimmed_of : Bool → List ℕ → List ℕ
+trimmed_of lines text = without_back lines (without_front lines text)
+
+-- the text without the blanks at its ends
+abbrev pub trimmed : List ℕ → List ℕ
+trimmed text = trimmed_of false text
+
+-- the text without the blanks and line ends at its ends
+abbrev pub trimmed_lines : List ℕ → List ℕ
+trimmed_lines text = trimmed_of true text

@@ -4,12 +4,16 @@
 mod alg;
 mod commas;
 mod digester;
+mod field;
 mod mic_text;
+mod pieces;
 mod trim;
 
 pub use alg::Alg;
 pub use digester::{Digester, mic_of};
+pub use field::{Compared, MicField};
 pub use mic_text::MicText;
+pub use pieces::{Pieces, mic_of_pieces};
 
 #[cfg(test)]
 mod tests;

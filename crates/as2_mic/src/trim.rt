@@ -1,5 +1,5 @@
 ghost use Rattle.std.specs.Prelude.{◌≡◌, ◌<◌, length, true, false};
-ghost use Rattle.as2_mic.specs.Trim.{is_blank, falls_off, without_front, without_back, trimmed};
+ghost use Rattle.as2_mic.specs.Trim.{is_blank, falls_off, without_front, without_back, trimmed, trimmed_lines};
 
 /// A space or a tab.
 fn is_blank(b: u8) -> bool
@@ -44,7 +44,14 @@ fn falls_off(lines: bool, b: u8, behind: &[u8]) -> bool
 
 /// The text without the blanks at its ends.
 pub fn without_blanks(text: &[u8]) -> &[u8]
-    ensures { result.now ≡ trimmed false text.now }
+    ensures { result.now ≡ trimmed text.now }
 {
     without_back(false, without_front(false, text))
+}
+
+/// The text without the blanks and line ends at its ends.
+pub fn without_blanks_and_line_ends(text: &[u8]) -> &[u8]
+    ensures { result.now ≡ trimmed_lines text.now }
+{
+    without_back(true, without_front(true, text))
 }
