@@ -1,0 +1,88 @@
+-- The report that is written: a multipart/report (RFC 6522, section 3) whose second part is a message disposition
+-- notification (RFC 8098, section 3) with the fields of AS2 (RFC 4130, section 7.4), and its head fields.
+use Rattle.std.specs.Prelude.{ℕ, List, [], ◌++◌, length, Option, Some, None, codes, decimal}
+use Rattle.as2_text.specs.Names.{spelling}
+use Rattle.as2_mic.specs.Algs.{alg_name}
+use Rattle.as2_mdn.specs.Outcomes.{outcome_text}
+use Rattle.as2_mdn.specs.declared.report.ReportOut.{ReportOut}
+use Rattle.as2_mdn.specs.declared.report.ReportMic.{ReportMic}
+use Rattle.as2_mdn.specs.declared.outcome.Outcome.{Outcome}
+
+-- a line: its start, its value and CRLF
+abbrev pub line : List ℕ → List ℕ → List ℕ
+line start value = start ++ value ++ codes "\r\n"
+
+-- ---- what is made of the number
+
+-- the boundary (RFC 2046, section 5.1.1)
+abbrev pub boundary_text : ℕ → List ℕ
+boundary_text number = codes "as2-mdn-" ++ decimal number
+
+-- the value of the report's Content-Type
+abbrev pub content_type_text : ℕ → List ℕ
+content_type_text number =
+    codes "multipart/report; report-type=disposition-notification; boundary=\"" ++ boundary_text number ++ codes "\""
+
+-- the report's own message identifier
+abbrev pub report_id_text : ℕ → List ℕ → List ℕ
+report_id_text number domain = codes "<mdn-" ++ decimal number ++ codes "@" ++ domain ++ codes ">"
+
+-- ---- the parts
+
+-- the first part, which people read
+abbrev pub explanation_text : ℕ → Outcome → List ℕ
+explanation_text number outcome =
+    codes "Content-Type: text/plain\r\n"
+    ++ codes "\r\n"
+    ++ codes "Receipt " ++ decimal number ++ codes " for the message named below.\r\n"
+    ++ line (codes "Outcome: ") (outcome_text outcome)
+
+-- a MIC and the name of its digest
+abbrev pub mic_text : ReportMic → List ℕ
+mic_text mic = mic.text ++ codes ", " ++ alg_name mic.digest
+
+-- the line of the MIC, where there is one (RFC 4130, section 7.4.3)
+abbrev pub mic_line : Option ReportMic → List ℕ
+mic_line None = []
+mic_line (Some mic) = line (codes "Received-content-MIC: ") (mic_text mic)
+
+-- the second part, which programs read (RFC 8098, section 3.2)
+abbrev pub notification_text : ReportOut → List ℕ
+notification_text out =
+    codes "Content-Type: message/disposition-notification\r\n"
+    ++ codes "\r\n"
+    ++ line (codes "Reporting-UA: ") (codes "as2-station")
+    ++ line (codes "Final-Recipient: rfc822; ") (spelling out.from)
+    ++ line (codes "Original-Message-ID: ") out.original_id
+    ++ line (codes "Disposition: automatic-action/MDN-sent-automatically; ") (outcome_text out.outcome)
+    ++ mic_line out.mic
+
+-- ---- the report
+
+-- The body. The line end before a delimiter belongs to the delimiter, and not to the part.
+abbrev pub report_text : ReportOut → List ℕ
+report_text out =
+    line (codes "--") (boundary_text out.number)
+    ++ explanation_text out.number out.outcome
+    ++ line (codes "\r\n--") (boundary_text out.number)
+    ++ notification_text out
+    ++ codes "\r\n--" ++ boundary_text out.number ++ codes "--\r\n"
+
+-- the head fields of AS2 (RFC 4130, sections 6.1 and 6.2)
+abbrev pub as2_fields_text : ReportOut → List ℕ
+as2_fields_text out =
+    codes "AS2-Version: 1.0\r\n"
+    ++ line (codes "AS2-From: ") (spelling out.from)
+    ++ line (codes "AS2-To: ") (spelling out.to)
+
+-- the head fields of a body of n bytes (RFC 4130, section 7.3)
+abbrev pub head_fields_of : ReportOut → ℕ → List ℕ
+head_fields_of out n =
+    as2_fields_text out
+    ++ line (codes "Message-ID: ") (report_id_text out.number out.domain)
+    ++ line (codes "Content-Type: ") (content_type_text out.number)
+    ++ line (codes "Content-Length: ") (decimal n)
+
+-- the head fields of the report
+abbrev pub head_fields : ReportOut → List ℕ
+head_fields out = head_fields_of out (length (report_text out))
