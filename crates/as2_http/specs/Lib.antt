@@ -5,3 +5,4 @@ pub mod Framing
 pub mod Requests
 pub mod Reading
 pub mod Arrivals
+pub mod Answers

@@ -1,6 +1,7 @@
 //! HTTP over any reader and writer: the request that a stream begins with, and replies.
 #![tactic(auto)]
 
+mod answer;
 mod arrival;
 mod body;
 mod framing;
@@ -8,6 +9,7 @@ mod head_text;
 mod input;
 mod request;
 
+pub use answer::{HttpAnswer, HttpBody};
 pub use arrival::{Arrival, Request, read_first};
 pub use body::Body;
 pub use framing::{Method, Refusal, Refused, Target};
