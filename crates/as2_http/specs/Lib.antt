@@ -6,3 +6,4 @@ pub mod Requests
 pub mod Reading
 pub mod Arrivals
 pub mod Answers
+pub mod Replies

@@ -7,9 +7,11 @@ mod body;
 mod framing;
 mod head_text;
 mod input;
+mod reply;
 mod request;
 
 pub use answer::{HttpAnswer, HttpBody};
 pub use arrival::{Arrival, Request, read_first};
 pub use body::Body;
 pub use framing::{Method, Refusal, Refused, Target};
+pub use reply::{Form, refusal, write_reply};
