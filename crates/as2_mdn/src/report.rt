@@ -12,7 +12,9 @@ use std::alloc::{AllocError, Global};
 /// A message integrity check, and the digest that it was made with.
 #[derive(Clone, Copy)]
 pub struct ReportMic {
+    /// The digest, whose name stands behind the text.
     pub digest: Alg,
+    /// The base64 text of the digest's value (RFC 4130, section 7.3.1).
     pub text: MicText,
 }
 
