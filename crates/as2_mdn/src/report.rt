@@ -1,5 +1,5 @@
 //! The report that answers a document: its body and its head fields.
-ghost use Rattle.std.specs.Prelude.{◌≡◌, ◌++◌, IfOk, OnOk, OnErr};
+ghost use Rattle.std.specs.Prelude.{◌≡◌, ◌++◌, IfOk, OnOk, OnErr, codes};
 ghost use Rattle.as2_text.specs.Names.{spelling};
 ghost use Rattle.as2_mdn.specs.Reports.{as2_fields_text, boundary_text, content_type_text, explanation_text, head_fields_of, line, mic_line, mic_text, notification_text, report_id_text, report_text};
 
@@ -12,7 +12,9 @@ use std::alloc::{AllocError, Global};
 /// A message integrity check, and the digest that it was made with.
 #[derive(Clone, Copy)]
 pub struct ReportMic {
+    /// The digest, whose name stands behind the text.
     pub digest: Alg,
+    /// The base64 text of the digest's value (RFC 4130, section 7.3.1).
     pub text: MicText,
 }
 
@@ -114,6 +116,13 @@ fn add_mic_line(alloc: Global, text: &mut Vec<u8>, mic: Option<ReportMic>) -> Re
     }
 }
 
+/// Appends the line of the document's identifier, with its angle brackets where it was received with them.
+fn add_identifier(text: &mut Vec<u8>, id: &MessageId) -> Result<(), AllocError>
+    ensures { OnOk result (text.new.items ≡ text.old.items ++ line (codes "Original-Message-ID: ") id.now) }
+{
+    add_line(text, b"Original-Message-ID: ", id.as_received().as_bytes())
+}
+
 /// The part that programs read.
 fn notification(alloc: Global, out: &ReportOut) -> Result<Vec<u8>, AllocError>
     ensures { IfOk result (λ text. text.items ≡ notification_text out.now) }
@@ -123,11 +132,7 @@ fn notification(alloc: Global, out: &ReportOut) -> Result<Vec<u8>, AllocError>
         b"Content-Type: message/disposition-notification\r\n\r\nReporting-UA: as2-station\r\n",
     )?;
     add_name(&mut text, b"Final-Recipient: rfc822; ", &out.from)?;
-    add_line(
-        &mut text,
-        b"Original-Message-ID: ",
-        out.original_id.as_received().as_bytes(),
-    )?;
+    add_identifier(&mut text, &out.original_id)?;
     add_line(
         &mut text,
         b"Disposition: automatic-action/MDN-sent-automatically; ",

@@ -2,4 +2,4 @@ use Rattle.std.proofs.Common.{refl}
 use Rattle.as2_mdn.proofs.report.notification.Goals as goal
 
 pub returns : goal.returns
-returns c = rw (c.in_ok-add_mic_line.ensures, c.in_ok-add_line-2.ensures, c.in_ok-add_line.ensures, c.in_ok-add_name.ensures, c.in_ok-text.ensures.items, c.as_bytes-2.ensures.value, c.text.ensures, c.as_bytes.ensures.value, c.as_received.ensures.text) refl
+returns c = rw (c.in_ok-add_mic_line.ensures, c.in_ok-add_line.ensures, c.in_ok-add_identifier.ensures, c.in_ok-add_name.ensures, c.in_ok-text.ensures.items, c.as_bytes.ensures.value, c.text.ensures) refl
