@@ -1,12 +1,12 @@
 -- Texts that are cut at commas, and the first known name of a list.
-use Rattle.std.proofs.Common.{◌≡◌, ℕ, ◌+◌, ◌<◌, ◌≤◌, Bool, true, false, List, [], ◌∷◌, ◌++◌, length, take, drop, slice_index_or, Option, Some, None, refl, sym, ap, subst, ◌∙◌, arith}
+use Rattle.std.proofs.Common.{◌≡◌, ℕ, ◌+◌, ◌<◌, ◌≤◌, false, List, [], ◌∷◌, ◌++◌, length, take, drop, slice_index_or, Option, Some, None, refl, sym, ap, subst, ◌∙◌, arith}
 use Rattle.std.proofs.lemmas.Bool.{ne_eqb}
 use Rattle.std.proofs.lemmas.List.{take_all, append_cancel_left}
 use Rattle.std.proofs.lemmas.List.Elements.{All-more}
 use Rattle.std.proofs.lemmas.List.Splits.{slice_split_at, slice_split_none, length-slice_split}
 use Rattle.std.specs.List.{slice_split}
 use Rattle.as2_mic.specs.declared.alg.Alg.{Alg}
-use Rattle.as2_mic.specs.Algs.{alg_named, or_else, first_known, first_of}
+use Rattle.as2_mic.specs.Algs.{alg_named, or_else, first_of}
 use Rattle.as2_mic.specs.Commas.{comma, is_comma, HasNoComma, IsCutAtComma}
 use Rattle.as2_mic.specs.Trim.{trimmed}
 

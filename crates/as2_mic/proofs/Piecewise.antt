@@ -1,16 +1,12 @@
 -- Bytes in pieces: whole ones of 65,536 bytes, and what stands behind them. `f` gives the bytes of a piece.
-use Rattle.std.proofs.Common.{◌≡◌, ℕ, suc, ◌+◌, ◌-◌, ◌*◌, ◌/◌, ◌<◌, ◌≤◌, Bool, true, false, ltb, List, [], ◌∷◌, ◌++◌, length, take, drop, get_or, Option, Some, None, refl, sym, ap, subst, ◌∙◌, append_assoc, arith}
-use Rattle.std.specs.List.{All, flat_map, remove}
+use Rattle.std.proofs.Common.{◌≡◌, ℕ, suc, ◌+◌, ◌-◌, ◌*◌, ◌/◌, ◌<◌, ◌≤◌, true, false, ltb, List, [], ◌∷◌, ◌++◌, length, take, drop, get_or, Some, None, refl, sym, ap, ◌∙◌, append_assoc, arith}
+use Rattle.std.specs.List.{flat_map, remove}
 use Rattle.std.proofs.lemmas.Bool.{lt-ltb, le-ltb}
-use Rattle.std.proofs.lemmas.List.{append-nil, take-append-drop, take_at, drop_at, take_all, drop_more, drop_all, length-take-le, length-append, take-append-le}
+use Rattle.std.proofs.lemmas.List.{take-append-drop, take_at, drop_at, take_all, drop_more, length-take-le, length-append, take-append-le}
 use Rattle.std.proofs.lemmas.List.Concat.{flat_map-append}
 use Rattle.std.proofs.lemmas.List.Elements.{All-head, All-tail, All-take}
 use Rattle.std.proofs.Math.Seq.{take-add}
-use Rattle.as2_mic.specs.Pieces.{piece_at}
-
--- each is a whole piece
-abbrev pub AreWhole : {X : Type 0} → (X → List ℕ) → List X → Type 0
-AreWhole f xs = All (λ x. length (f x) ≡ 65536) xs
+use Rattle.as2_mic.specs.Pieces.{AreWhole, IsKeptAs, piece_at}
 
 pub length_whole : {X : Type 0} (f : X → List ℕ) (xs : List X) → AreWhole f xs → length (flat_map f xs) ≡ length xs * 65536
 length_whole f [] h = refl
@@ -64,14 +60,8 @@ piece_none f xs l i h le =
 
 -- ---- what is left of them, where all but the first n bytes are taken off
 
-pub record CutTo {X : Type 0} (f : X → List ℕ) (content : List ℕ) (n : ℕ) (xs : List X) (l : List ℕ) : Type 0 where
-  pub whole : AreWhole f xs
-  pub small : length l ≤ 65536
-  pub kept : flat_map f xs ++ l ≡ take n content
-  pub len : n ≡ length (flat_map f xs ++ l)
-
-cut_is : {X : Type 0} (f : X → List ℕ) (content : List ℕ) (n : ℕ) (xs : List X) (l : List ℕ) → AreWhole f xs → length l ≤ 65536 → flat_map f xs ++ l ≡ take n content → n ≤ length content → CutTo f content n xs l
-cut_is f content n xs l h small kept le = record { whole = h; small = small; kept = kept; len = sym (ap length kept ∙ length-take-le n content le) }
+kept_as : {X : Type 0} (f : X → List ℕ) (xs : List X) (l all : List ℕ) → AreWhole f xs → length l ≤ 65536 → flat_map f xs ++ l ≡ all → IsKeptAs f xs l all
+kept_as f xs l all h small e = record { whole_ones = h; short = small; content = e }
 
 take_parts : (w n : ℕ) (content : List ℕ) → w * 65536 ≤ n → take n content ≡ take (w * 65536) content ++ take (n - w * 65536) (drop (w * 65536) content)
 take_parts w n content le =
@@ -81,7 +71,7 @@ take_parts w n content le =
 take_front : (r : ℕ) (p q : List ℕ) → r ≤ length p → take r (p ++ q) ≡ take r p
 take_front r p q le = take-append-le r p q le
 
-pub cut_piece : {X : Type 0} (f : X → List ℕ) (xs : List X) (l : List ℕ) (n w : ℕ) (d : X) → AreWhole f xs → n ≤ length (flat_map f xs ++ l) → w ≡ (n - 1) / 65536 → w < length xs → CutTo f (flat_map f xs ++ l) n (take w xs) (take (n - w * 65536) (f (get_or xs w d)))
+pub cut_piece : {X : Type 0} (f : X → List ℕ) (xs : List X) (l : List ℕ) (n w : ℕ) (d : X) → AreWhole f xs → n ≤ length (flat_map f xs ++ l) → w ≡ (n - 1) / 65536 → w < length xs → IsKeptAs f (take w xs) (take (n - w * 65536) (f (get_or xs w d))) (take n (flat_map f xs ++ l))
 cut_piece f xs l n w d h le is lt =
     let content = flat_map f xs ++ l in
     let fits : n - w * 65536 ≤ length (f (get_or xs w d)) = omega (arith, is, whole_at f xs w d h lt) in
@@ -89,9 +79,9 @@ cut_piece f xs l n w d h le is lt =
     ap (take (n - w * 65536)) (from_piece f xs l w d h lt) ∙ take_front (n - w * 65536) (f (get_or xs w d)) (flat_map f (drop (w + 1) xs) ++ l) fits in
     let kept : flat_map f (take w xs) ++ take (n - w * 65536) (f (get_or xs w d)) ≡ take n content =
     sym (take_parts w n content (omega (arith, is)) ∙ rw (back, take_whole f xs l w h (omega (arith, lt))) refl) in
-    cut_is f content n (take w xs) (take (n - w * 65536) (f (get_or xs w d))) (All-take (λ x. length (f x) ≡ 65536) w xs h) (omega (arith, fits, whole_at f xs w d h lt, length-take-le (n - w * 65536) (f (get_or xs w d)) fits)) kept le
+    kept_as f (take w xs) (take (n - w * 65536) (f (get_or xs w d))) (take n content) (All-take (λ x. length (f x) ≡ 65536) w xs h) (omega (arith, fits, whole_at f xs w d h lt, length-take-le (n - w * 65536) (f (get_or xs w d)) fits)) kept
 
-pub cut_last : {X : Type 0} (f : X → List ℕ) (xs : List X) (l : List ℕ) (n w : ℕ) → AreWhole f xs → length l ≤ 65536 → n ≤ length (flat_map f xs ++ l) → w ≡ (n - 1) / 65536 → length xs ≤ w → CutTo f (flat_map f xs ++ l) n xs (take (n - w * 65536) l)
+pub cut_last : {X : Type 0} (f : X → List ℕ) (xs : List X) (l : List ℕ) (n w : ℕ) → AreWhole f xs → length l ≤ 65536 → n ≤ length (flat_map f xs ++ l) → w ≡ (n - 1) / 65536 → length xs ≤ w → IsKeptAs f xs (take (n - w * 65536) l) (take n (flat_map f xs ++ l))
 cut_last f xs l n w h small le is ge =
     let content = flat_map f xs ++ l in
     let same : w ≡ length xs = omega (arith, is, ge, le, small, length_all f xs l h) in
@@ -99,10 +89,10 @@ cut_last f xs l n w h small le is ge =
     let back : drop (w * 65536) content ≡ l = rw same (from_last f xs l h) in
     let front : take (w * 65536) content ≡ flat_map f xs = rw same (take_at (flat_map f xs) l (length xs * 65536) (length_whole f xs h)) in
     let kept : flat_map f xs ++ take (n - w * 65536) l ≡ take n content = sym (take_parts w n content (omega (arith, is)) ∙ rw (back, front) refl) in
-    cut_is f content n xs (take (n - w * 65536) l) h (omega (arith, fits, small, length-take-le (n - w * 65536) l fits)) kept le
+    kept_as f xs (take (n - w * 65536) l) (take n content) h (omega (arith, fits, small, length-take-le (n - w * 65536) l fits)) kept
 
 pub take_removed : {X : Type 0} (xs : List X) (w : ℕ) → w < length xs → take w (remove xs w) ≡ take w xs
 take_removed xs w lt = take_at (take w xs) (drop (suc w) xs) w (length-take-le w xs (omega (arith, lt)))
 
-pub cut_along : {X : Type 0} (f : X → List ℕ) (content content' : List ℕ) (n : ℕ) (xs xs' : List X) (l l' : List ℕ) → content ≡ content' → xs' ≡ xs → l' ≡ l → CutTo f content n xs l → CutTo f content' n xs' l'
-cut_along f content content' n xs xs' l l' same first last k = rw (← same, first, last) k
+pub kept_along : {X : Type 0} (f : X → List ℕ) (xs xs' : List X) (l l' all : List ℕ) → xs' ≡ xs → l' ≡ l → IsKeptAs f xs l all → IsKeptAs f xs' l' all
+kept_along f xs xs' l l' all first last k = rw (first, last) k

@@ -1,5 +1,5 @@
 -- A text with zeros behind it, in 44 bytes.
-use Rattle.std.proofs.Common.{◌≡◌, ℕ, ◌-◌, ◌<◌, ◌≤◌, List, ◌++◌, length, take, drop, replicate, arith, refl, sym, ap, ◌∙◌}
+use Rattle.std.proofs.Common.{◌≡◌, ℕ, ◌-◌, ◌≤◌, List, ◌++◌, length, take, drop, replicate, arith, refl, ap, ◌∙◌}
 use Rattle.std.proofs.lemmas.List.{drop-replicate, length-replicate, length-append, length-drop, take-append-le, take_all}
 
 -- the bytes are a text of n bytes and zeros

@@ -1,8 +1,8 @@
 -- What is taken off the ends of a text, a byte at a time.
-use Rattle.std.proofs.Common.{◌≡◌, ℕ, ◌+◌, ◌-◌, ◌<◌, ◌≤◌, Bool, true, false, cond, List, [], ◌∷◌, ◌++◌, length, take, drop, get_or, refl, sym, ap, subst, ◌∙◌, append_assoc, arith, inl, inr}
+use Rattle.std.proofs.Common.{◌≡◌, ℕ, ◌+◌, ◌-◌, ◌<◌, Bool, true, false, cond, List, [], ◌∷◌, ◌++◌, length, take, drop, get_or, refl, sym, subst, ◌∙◌, append_assoc, arith, inl, inr}
 use Rattle.std.proofs.lemmas.Bool.{cases_Bool}
 use Rattle.std.proofs.lemmas.List.{drop_more, take_more, take_all, length-drop}
-use Rattle.as2_mic.specs.Trim.{falls_off, all_fall_off, without_front, without_back}
+use Rattle.as2_mic.specs.Trim.{falls_off, all_fall_off, without_back}
 
 -- what stays of a text of which `seen` were seen and `rest` were not: all that stays ends at `kept`, or in the rest
 abbrev pub Stays : Bool → List ℕ → List ℕ → List ℕ → List ℕ → Type 0

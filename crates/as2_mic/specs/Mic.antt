@@ -1,6 +1,6 @@
 -- The MIC of a content (RFC 4130, section 7.3.1): the base64 text (RFC 4648, section 4) of the digest of the content
 -- alone.
-use Rattle.std.specs.Prelude.{◌≡◌, ℕ, ◌<◌, ◌≤◌, nat_lt, nat_le, ◌&&◌, List, length, Option, Some, None, if◌then◌else◌}
+use Rattle.std.specs.Prelude.{ℕ, ◌<◌, ◌≤◌, nat_lt, nat_le, ◌&&◌, List, length, Option, Some, None, if◌then◌else◌}
 use Rattle.sha1.specs.Sha1.{sha1}
 use Rattle.md5.specs.Md5.{md5}
 use Rattle.base64.specs.Engines.{standard}

@@ -1,7 +1,7 @@
 ghost use Rattle.std.specs.Prelude.{◌≡◌, ◌<◌, ◌≤◌, ◌+◌, ◌^◌, [], ◌∷◌, ◌++◌, length, take, IfOk, OnOk, OnErr};
 ghost use Rattle.std.specs.Option.{option_map};
 ghost use Rattle.as2_mic.specs.Mic.{mic};
-ghost use Rattle.as2_mic.specs.Pieces.{piece_count, piece_at};
+ghost use Rattle.as2_mic.specs.Pieces.{AreWhole, IsKeptAs, content_of, piece_size, piece_count, piece_at};
 
 use crate::{Alg, Digester, MicText};
 use as2_text::Memory;
@@ -13,7 +13,8 @@ use std::mem;
 /// The bytes of a piece.
 const PIECE: usize = 65_536;
 
-/// A content as it is kept: one list of bytes in pieces of 65,536, of which the last may be shorter and none is empty.
+/// A content as it is kept: one list of bytes, in pieces of 65,536 of which the last may be shorter
+/// and none is empty.
 #[derive(Drop)]
 pub struct Pieces {
     alloc: Global,
@@ -25,14 +26,15 @@ pub struct Pieces {
 }
 
 impl Model for Pieces {
-    ghost use Rattle.std.specs.Prelude.{◌≡◌, ◌≤◌, ◌++◌, List, ℕ, length};
-    ghost use Rattle.std.specs.List.{All, flat_map};
+    ghost use Rattle.std.specs.Prelude.{◌≡◌, ◌≤◌, List, ℕ, length};
+    ghost use Rattle.as2_mic.specs.Pieces.{AreWhole, content_of, piece_size};
 
     ghost Value = { List ℕ };
 
-    ghost view = { λ p. flat_map (λ v. v.items) p.full.items ++ p.last.items };
+    ghost view = { λ p. content_of (λ v. v.items) p.full.items p.last.items };
 
-    ghost invariant = { λ p. All (λ v. length v.items ≡ 65536) p.full.items × (length p.last.items ≤ 65536) × (p.total ≡ length (flat_map (λ v. v.items) p.full.items ++ p.last.items)) };
+    ghost invariant = { λ p. AreWhole (λ v. v.items) p.full.items × (length p.last.items ≤ piece_size)
+        × (p.total ≡ length (content_of (λ v. v.items) p.full.items p.last.items)) };
 }
 
 /// Puts the last piece behind the full ones, and begins an empty one.
@@ -50,6 +52,22 @@ fn shelve(alloc: Global, full: &mut Vec<Vec<u8>>, last: &mut Vec<u8>) -> Result<
             Err(Memory)
         }
     }
+}
+
+/// Takes off all bytes behind the first `len`.
+fn cut(full: &mut Vec<Vec<u8>>, last: &mut Vec<u8>, len: usize)
+    requires whole { AreWhole (λ v. v.items) full.old.items }
+    requires short { length last.old.items ≤ piece_size }
+    requires within { len ≤ length (content_of (λ v. v.items) full.old.items last.old.items) }
+    ensures { IsKeptAs (λ v. v.items) full.new.items last.new.items
+        (take len (content_of (λ v. v.items) full.old.items last.old.items)) }
+{
+    let whole = len.saturating_sub(1) / PIECE;
+    if whole < full.len() {
+        *last = full.remove(whole);
+        full.truncate(whole);
+    }
+    last.truncate(len - whole * PIECE);
 }
 
 impl Pieces {
@@ -115,12 +133,7 @@ impl Pieces {
         requires { len ≤ length self.old }
         ensures { self.new ≡ take len self.old }
     {
-        let whole = len.saturating_sub(1) / PIECE;
-        if whole < self.full.len() {
-            self.last = self.full.remove(whole);
-            self.full.truncate(whole);
-        }
-        self.last.truncate(len - whole * PIECE);
+        cut(&mut self.full, &mut self.last, len);
         self.total = len;
     }
 

@@ -1,4 +1,4 @@
-use Rattle.std.proofs.Common.{◌≡◌, ◌+◌, ◌-◌, ◌++◌, ◌<◌, ◌≤◌, ◌^◌, length, take, drop}
+use Rattle.std.proofs.Common.{◌≡◌, ◌+◌, ◌++◌, ◌<◌, ◌≤◌, ◌^◌, length, take}
 use Rattle.as2_mic.proofs.pieces.Pieces.append.Given as goal
 
 abbrev pub invariant-loop-rest : goal.invariant-loop-rest

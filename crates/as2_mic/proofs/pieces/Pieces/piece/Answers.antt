@@ -1,4 +1,4 @@
-use Rattle.std.proofs.Common.{rules, ◌≡◌, ◌<◌, ◌≤◌, ◌+◌, ◌*◌, ◌++◌, length, List, ℕ, Some, Vec, Global, sym, ap, ◌∙◌, arith}
+use Rattle.std.proofs.Common.{rules, ◌≡◌, ◌<◌, ◌≤◌, ◌+◌, ◌*◌, length, List, ℕ, Some, Vec, Global, sym, ap, ◌∙◌, arith}
 use Rattle.as2_mic.specs.Pieces.{piece_at}
 use Rattle.as2_mic.proofs.Piecewise.{piece_whole, piece_last, piece_none}
 use Rattle.as2_mic.proofs.pieces.Pieces.piece.Goals as goal
