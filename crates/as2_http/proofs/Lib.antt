@@ -4,3 +4,4 @@ pub mod Numbers
 pub mod Judging
 pub mod Framed
 pub mod Arriving
+pub mod Lines
