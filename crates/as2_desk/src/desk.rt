@@ -1,0 +1,104 @@
+//! A command line, run.
+ghost use Rattle.std.specs.Prelude.{◌≡◌, ◌⊎◌};
+ghost use Rattle.as2_desk.specs.Statuses.{done, faulty, refused};
+
+use crate::command::command;
+use crate::first_post::{Served, first_post};
+use crate::options::{OptionFault, Options};
+use crate::status::{DONE, FAULTY, REFUSED, end_name, status_of};
+use clap::error::ErrorKind;
+use clap::{Command, Error};
+use std::alloc::{AllocError, Global};
+use std::io::{Read, Write};
+
+/// Runs the command line `words`, which begin with the program's name, and answers the exit status:
+/// 0 done, 1 refused, 2 a faulty command line. `clock` is the moment where the options give none,
+/// in seconds since 1970, if it can be told. The reply goes to `output`; why something was refused
+/// or is faulty, to `errors`.
+pub fn run<R: Read, W: Write, E: Write>(
+    alloc: Global,
+    words: &[&str],
+    clock: Option<u64>,
+    input: &mut R,
+    output: &mut W,
+    errors: &mut E,
+) -> u8
+    ensures status { (result ≡ done) ⊎ ((result ≡ refused) ⊎ (result ≡ faulty)) }
+    // A faulty command line reads and writes nothing.
+    ensures untouched { result ≡ faulty → (input.new ≡ input.old) × (output.new ≡ output.old) }
+{
+    match options(alloc, words, clock) {
+        Ok(options) => post(alloc, &options, input, output, errors),
+        Err(error) => tell(alloc, &error, output, errors),
+    }
+}
+
+/// The options of the words, or what there is to say in place of running them.
+fn options<'a>(alloc: Global, words: &'a [&'a str], clock: Option<u64>) -> Result<Options, Error> {
+    let mut command = command(alloc)?;
+    let found = command.try_get_matches_from_mut(words)?;
+    match Options::of(&found, clock) {
+        Ok(options) => Ok(options),
+        Err(fault) => Err(explained(alloc, &mut command, fault)?),
+    }
+}
+
+/// The fault in the form of the parser's own errors.
+fn explained(
+    alloc: Global,
+    command: &mut Command<'_>,
+    fault: OptionFault<'_>,
+) -> Result<Error, AllocError> {
+    let text = fault.to_string(alloc)?;
+    command.error(ErrorKind::ValueValidation, text.as_str())
+}
+
+fn post<R: Read, W: Write, E: Write>(
+    alloc: Global,
+    options: &Options,
+    input: &mut R,
+    output: &mut W,
+    errors: &mut E,
+) -> u8
+    ensures { (result ≡ done) ⊎ (result ≡ refused) }
+{
+    let Options {
+        names,
+        first,
+        moment,
+    } = options;
+    let end = first_post(alloc, names, *moment, *first, input, output);
+    if end != Served::Closed {
+        refuse(end_name(end), errors);
+    }
+    status_of(end)
+}
+
+/// Says that something was refused. Where that can't be said there is nobody else to say it to.
+fn refuse<E: Write>(name: &str, errors: &mut E) {
+    let _ = write!(errors, "refused: {name}\n");
+}
+
+/// Says why nothing is run: help and the version on `output`, a fault on `errors`.
+fn tell<W: Write, E: Write>(alloc: Global, error: &Error, output: &mut W, errors: &mut E) -> u8
+    ensures status { (result ≡ done) ⊎ ((result ≡ refused) ⊎ (result ≡ faulty)) }
+    ensures untouched { result ≡ faulty → output.new ≡ output.old }
+{
+    if error.kind() == ErrorKind::OutOfMemory {
+        refuse("Memory", errors);
+        return REFUSED;
+    }
+    let Ok(text) = error.to_string(alloc) else {
+        refuse("Memory", errors);
+        return REFUSED;
+    };
+    if error.use_stderr() {
+        let _ = errors.write_all(text.as_bytes());
+        return FAULTY;
+    }
+    if output.write_all(text.as_bytes()).is_err() {
+        refuse("CannotWrite", errors);
+        return REFUSED;
+    }
+    DONE
+}
