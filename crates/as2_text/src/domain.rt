@@ -1,4 +1,4 @@
-ghost use Rattle.std.specs.Prelude.{◌≡◌, ℕ, List};
+ghost use Rattle.std.specs.Prelude.{◌≡◌, ℕ, List, ⊤};
 ghost use Rattle.std.specs.List.{list_all};
 ghost use Rattle.as2_text.specs.Domains.{IsDomain, domain_of, is_domain_byte};
 
@@ -55,11 +55,14 @@ impl Domain {
 }
 
 impl Clone for Domain {
-    ghost is_clone = { λ d e. e ≡ d };
+    ghost is_clone = { λ m n. n ≡ m };
+
+    // It takes no memory.
+    ghost is_infallible = { λ _. ⊤ };
 
     fn clone(&self) -> Result<Domain, AllocError> {
-        Ok(Domain {
-            kept: self.kept.clone()?,
-        })
+        let mut kept = ArrayVec::new();
+        kept.try_extend_from_slice(self.bytes()).unwrap();
+        Ok(Domain { kept })
     }
 }
