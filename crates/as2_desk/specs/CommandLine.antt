@@ -1,7 +1,8 @@
 -- The command line of the program, in the terms of the parser of words.
 use Rattle.std.specs.Prelude.{◌≡◌, ◌⊎◌, ℕ, List, [], ◌∷◌, Option, Some, true, codes, pos}
-use Rattle.clap.specs.Words.{App, Row, Rule, Text, fault_of, matches_of, new_app, new_rule, on_top, with_rule, with_subcommand}
-use Rattle.clap.specs.Simple.{Shape, new_shape}
+use Rattle.as2_text.specs.Moments.{last_moment}
+use Rattle.clap.specs.Words.{App, Row, Rule, Text, fault_of, matches_of, new_app, new_rule, with_rule, with_subcommand}
+use Rattle.clap.specs.Simple.{new_shape, on_top}
 use Rattle.clap.specs.Kinds.{IsAmong, Kinds}
 use Rattle.clap.specs.declared.builder.value_parser.ValueParser.TheVariants.{Signed}
 use Rattle.clap.specs.declared.error.kind.ErrorKind.TheVariants.{DisplayHelp, DisplayVersion}
@@ -24,7 +25,7 @@ first = record (number (codes "first") 1 999999999999) { defaults = codes "1" �
 
 -- a moment
 abbrev pub moment : Rule
-moment = number (codes "moment") 0 253402300799
+moment = number (codes "moment") 0 last_moment
 
 -- the program, before its options: it has a version, and there must be a command
 abbrev pub program : App

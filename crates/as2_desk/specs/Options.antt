@@ -1,5 +1,5 @@
 -- What the options of a command line say.
-use Rattle.std.specs.Prelude.{◌≡◌, ◌<◌, ◌≤◌, ◌^◌, ℕ, List, [], Option, Some, None, codes}
+use Rattle.std.specs.Prelude.{◌≡◌, ◌<◌, ◌≤◌, ◌^◌, ℕ, List, [], Option, Some, None, codes, ⊤}
 use Rattle.std.specs.Str.Parse.{IsNumeral, digits_value, without_leading_plus}
 use Rattle.as2_text.specs.Names.{Spells}
 use Rattle.as2_text.specs.Domains.{IsDomain}
@@ -26,6 +26,12 @@ Says text n = IsNumeral 10 (without_leading_plus text) × (n ≡ digits_value 10
 abbrev pub NumberIs : Option Text → ℕ → Type 0
 NumberIs (Some text) n = Says text n
 NumberIs None n = ⊥
+
+-- the number that the value says, where it is there
+abbrev pub Tells : Option Text → Option ℕ → Type 0
+Tells (Some text) (Some n) = Says text n
+Tells None None = ⊤
+Tells _ _ = ⊥
 
 -- the value says the number of seconds, or it isn't there and the clock tells it
 abbrev pub SecondsAre : Option Text → Option ℕ → ℕ → Type 0

@@ -1,4 +1,10 @@
 //! The options and commands of the program.
+ghost use Rattle.std.specs.Prelude.{◌≡◌, codes, false, IfOk};
+ghost use Rattle.clap.specs.Simple.{new_shape};
+ghost use Rattle.clap.specs.Words.{app_of, rule_of, shape_of};
+ghost use Rattle.clap.specs.declared.builder.command.Command.TheViews.{out-Command as fields_of};
+ghost use Rattle.as2_desk.specs.CommandLine.{command_line, first, moment, needed, program};
+
 use clap::{Arg, Command, value_parser};
 use std::alloc::{AllocError, Global};
 
@@ -21,10 +27,40 @@ Example:
   as2desk --organization Supplier --partner Buyer --domain station.example post < plain-post.http";
 
 /// The command line that the program reads.
-pub(crate) fn command<'a>(alloc: Global) -> Result<Command<'a>, AllocError> {
-    let post = Command::new(alloc, POST).about(
-        "Answers the post on standard input with a reply on standard output",
+pub(crate) fn command<'a>(alloc: Global) -> Result<Command<'a>, AllocError>
+    ensures { IfOk result (λ c. app_of c ≡ command_line) }
+{
+    let organization = needed(
+        alloc,
+        ORGANIZATION,
+        "NAME",
+        "The station's own AS2 name, spelled as in a field AS2-To",
     );
+    let partner = needed(
+        alloc,
+        PARTNER,
+        "NAME",
+        "The partner's AS2 name, spelled as in a field AS2-From",
+    );
+    let domain = needed(
+        alloc,
+        DOMAIN,
+        "DOMAIN",
+        "Domain of receipts' identifiers: 1 to 253 letters, digits, '-', '.'",
+    );
+    program(alloc)
+        .arg(organization)?
+        .arg(partner)?
+        .arg(domain)?
+        .arg(first(alloc))?
+        .arg(moment(alloc))?
+        .subcommand(post(alloc))
+}
+
+/// The program, before its options and commands.
+fn program<'a>(alloc: Global) -> Command<'a>
+    ensures { app_of result ≡ program }
+{
     Command::new(alloc, "as2desk")
         .version("0.1.0")
         .about("An AS2 station: takes documents from a partner and answers with receipts")
@@ -32,32 +68,24 @@ pub(crate) fn command<'a>(alloc: Global) -> Result<Command<'a>, AllocError> {
         .subcommand_required(true)
         .subcommand_value_name("COMMAND")
         .disable_help_subcommand(true)
-        .arg(name(alloc, ORGANIZATION).help(
-            "The station's own AS2 name, spelled as in a field AS2-To",
-        ))?
-        .arg(name(alloc, PARTNER).help("The partner's AS2 name, spelled as in a field AS2-From"))?
-        .arg(domain(alloc))?
-        .arg(first(alloc))?
-        .arg(moment(alloc))?
-        .subcommand(post)
 }
 
-fn name<'a>(alloc: Global, option: &'a str) -> Arg<'a> {
-    Arg::new(alloc, option)
-        .long(option)
-        .value_name("NAME")
+/// An option that must be there.
+fn needed<'a>(alloc: Global, name: &'a str, value: &'a str, help: &'a str) -> Arg<'a>
+    ensures rule { rule_of result ≡ needed name.entry.now }
+    ensures local { result.global ≡ false }
+{
+    Arg::new(alloc, name)
+        .long(name)
+        .value_name(value)
         .required(true)
+        .help(help)
 }
 
-fn domain<'a>(alloc: Global) -> Arg<'a> {
-    Arg::new(alloc, DOMAIN)
-        .long(DOMAIN)
-        .value_name("DOMAIN")
-        .required(true)
-        .help("Domain of receipts' identifiers: 1 to 253 letters, digits, '-', '.'")
-}
-
-fn first<'a>(alloc: Global) -> Arg<'a> {
+fn first<'a>(alloc: Global) -> Arg<'a>
+    ensures rule { rule_of result ≡ first }
+    ensures local { result.global ≡ false }
+{
     Arg::new(alloc, FIRST)
         .long(FIRST)
         .value_name("N")
@@ -66,10 +94,22 @@ fn first<'a>(alloc: Global) -> Arg<'a> {
         .help("Number of the first receipt: 1 to 999999999999")
 }
 
-fn moment<'a>(alloc: Global) -> Arg<'a> {
+fn moment<'a>(alloc: Global) -> Arg<'a>
+    ensures rule { rule_of result ≡ moment }
+    ensures local { result.global ≡ false }
+{
     Arg::new(alloc, MOMENT)
         .long(MOMENT)
         .value_name("SECONDS")
         .value_parser(value_parser!(u64).range(0..=253_402_300_799))
         .help("Moment in seconds since 1970: 0 to 253402300799 [default: the clock]")
+}
+
+fn post<'a>(alloc: Global) -> Command<'a>
+    ensures shape { shape_of result ≡ new_shape (codes "post") }
+    ensures local { (fields_of result).has_globals ≡ false }
+{
+    Command::new(alloc, POST).about(
+        "Answers the post on standard input with a reply on standard output",
+    )
 }

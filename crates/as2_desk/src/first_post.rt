@@ -1,6 +1,5 @@
 //! The answer to the first post of a stream.
-use crate::pending::{Domain, Moment};
-use as2_text::AsName;
+use as2_text::{AsName, Domain, Moment};
 use std::alloc::Global;
 use std::io::{Read, Write};
 

@@ -5,7 +5,6 @@ mod command;
 mod desk;
 pub mod first_post;
 mod options;
-mod pending;
 mod status;
 
 pub use desk::run;
