@@ -1,10 +1,10 @@
 -- The command line of the program, in the terms of the parser of words.
-use Rattle.std.specs.Prelude.{◌≡◌, ◌⊎◌, ℕ, List, [], ◌∷◌, Option, Some, true, codes, pos}
+use Rattle.std.specs.Prelude.{◌≡◌, ◌⊎◌, ℕ, List, [], ◌∷◌, Option, Some, true, codes}
 use Rattle.as2_text.specs.Moments.{last_moment}
 use Rattle.clap.specs.Words.{App, Row, Rule, Text, fault_of, matches_of, new_app, new_rule, with_rule, with_subcommand}
 use Rattle.clap.specs.Simple.{new_shape, on_top}
 use Rattle.clap.specs.Kinds.{IsAmong, Kinds}
-use Rattle.clap.specs.declared.builder.value_parser.ValueParser.TheVariants.{Signed}
+use Rattle.clap.specs.declared.builder.value_parser.ValueParser.TheVariants.{Unsigned}
 use Rattle.clap.specs.declared.error.kind.ErrorKind.TheVariants.{DisplayHelp, DisplayVersion}
 
 -- `--name VALUE`
@@ -17,7 +17,7 @@ needed name = record (option name) { required = true }
 
 -- an option whose value is a number from `low` to `high`
 abbrev pub number : Text → ℕ → ℕ → Rule
-number name low high = record (option name) { parser = Some (Signed (pos low) (pos high)) }
+number name low high = record (option name) { parser = Some (Unsigned low high) }
 
 -- the number of the first receipt, 1 where it isn't given
 abbrev pub first : Rule

@@ -3,7 +3,7 @@ ghost use Rattle.std.specs.Prelude.{◌≡◌, codes, false, IfOk};
 ghost use Rattle.clap.specs.Simple.{new_shape};
 ghost use Rattle.clap.specs.Words.{app_of, rule_of, shape_of};
 ghost use Rattle.clap.specs.declared.builder.command.Command.TheViews.{out-Command as fields_of};
-ghost use Rattle.as2_desk.specs.CommandLine.{command_line, first, moment, needed, program};
+ghost use Rattle.as2_desk.specs.CommandLine.{command_line, first, moment, needed, option, program};
 
 use clap::{Arg, Command, value_parser};
 use std::alloc::{AllocError, Global};
@@ -70,39 +70,43 @@ fn program<'a>(alloc: Global) -> Command<'a>
         .disable_help_subcommand(true)
 }
 
-/// An option that must be there.
-fn needed<'a>(alloc: Global, name: &'a str, value: &'a str, help: &'a str) -> Arg<'a>
-    ensures rule { rule_of result ≡ needed name.entry.now }
+/// An option with a value.
+fn option<'a>(alloc: Global, name: &'a str, value: &'a str, help: &'a str) -> Arg<'a>
+    ensures rule { rule_of result ≡ option name.entry.now }
     ensures local { result.global ≡ false }
 {
     Arg::new(alloc, name)
         .long(name)
         .value_name(value)
-        .required(true)
         .help(help)
+}
+
+/// An option that must be there.
+fn needed<'a>(alloc: Global, name: &'a str, value: &'a str, help: &'a str) -> Arg<'a>
+    ensures rule { rule_of result ≡ needed name.entry.now }
+    ensures local { result.global ≡ false }
+{
+    option(alloc, name, value, help).required(true)
 }
 
 fn first<'a>(alloc: Global) -> Arg<'a>
     ensures rule { rule_of result ≡ first }
     ensures local { result.global ≡ false }
 {
-    Arg::new(alloc, FIRST)
-        .long(FIRST)
-        .value_name("N")
+    let help = "Number of the first receipt: 1 to 999999999999";
+    option(alloc, FIRST, "N", help)
         .default_value("1")
         .value_parser(value_parser!(u64).range(1..=999_999_999_999))
-        .help("Number of the first receipt: 1 to 999999999999")
 }
 
 fn moment<'a>(alloc: Global) -> Arg<'a>
     ensures rule { rule_of result ≡ moment }
     ensures local { result.global ≡ false }
 {
-    Arg::new(alloc, MOMENT)
-        .long(MOMENT)
-        .value_name("SECONDS")
-        .value_parser(value_parser!(u64).range(0..=253_402_300_799))
-        .help("Moment in seconds since 1970: 0 to 253402300799 [default: the clock]")
+    let help = "Moment in seconds since 1970: 0 to 253402300799 [default: the clock]";
+    option(alloc, MOMENT, "SECONDS", help).value_parser(value_parser!(u64).range(
+        0..=253_402_300_799,
+    ))
 }
 
 fn post<'a>(alloc: Global) -> Command<'a>
