@@ -5,6 +5,7 @@ use Rattle.clap.specs.Words.{App, Row, Rule, Text, fault_of, matches_of, new_app
 use Rattle.clap.specs.Simple.{new_shape, on_top}
 use Rattle.clap.specs.Kinds.{IsAmong, Kinds}
 use Rattle.clap.specs.declared.builder.value_parser.ValueParser.TheVariants.{Unsigned}
+use Rattle.clap.specs.declared.error.kind.ErrorKind.{ErrorKind}
 use Rattle.clap.specs.declared.error.kind.ErrorKind.TheVariants.{DisplayHelp, DisplayVersion}
 
 -- `--name VALUE`
@@ -48,6 +49,10 @@ faults words = fault_of command_line words
 abbrev pub values : List Text → List Row
 values words = matches_of command_line words
 
--- the words ask for the help or the version, and for nothing else
+-- help or the version, and no fault
+abbrev pub IsHelp : ErrorKind → Type 0
+IsHelp kind = (kind ≡ DisplayHelp) ⊎ (kind ≡ DisplayVersion)
+
+-- the words ask for help or the version
 abbrev pub AsksForHelp : List Text → Type 0
 AsksForHelp words = IsAmong DisplayHelp (faults words) ⊎ IsAmong DisplayVersion (faults words)

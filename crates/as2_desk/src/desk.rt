@@ -1,13 +1,19 @@
 //! A command line, run.
-ghost use Rattle.std.specs.Prelude.{◌≡◌, ◌⊎◌};
+ghost use Rattle.std.specs.Prelude.{◌≡◌, ◌≢◌, ◌⊎◌, ℕ, [], IfErr, IfOk};
+ghost use Rattle.clap.specs.Walk.{texts};
+ghost use Rattle.clap.specs.Words.{HasKind, app_of, found_of, kind_of, rows_of};
+ghost use Rattle.clap.specs.declared.error.kind.ErrorKind.TheVariants.{OutOfMemory, ValueValidation};
+ghost use Rattle.as2_desk.specs.CommandLine.{AsksForHelp, IsHelp, command_line, faults, values};
+ghost use Rattle.as2_desk.specs.Options.{Gives, GivesNone};
 ghost use Rattle.as2_desk.specs.Statuses.{done, faulty, refused};
+ghost use Rattle.as2_desk.specs.declared.first_post.Names.{Names as TheNames};
 
 use crate::command::command;
 use crate::first_post::{Served, first_post};
 use crate::options::{OptionFault, Options};
 use crate::status::{DONE, FAULTY, REFUSED, end_name, status_of};
 use clap::error::ErrorKind;
-use clap::{Command, Error};
+use clap::{ArgMatches, Command, Error};
 use std::alloc::{AllocError, Global};
 use std::io::{Read, Write};
 
@@ -24,6 +30,14 @@ pub fn run<R: Read, W: Write, E: Write>(
     errors: &mut E,
 ) -> u8
     ensures status { (result ≡ done) ⊎ ((result ≡ refused) ⊎ (result ≡ faulty)) }
+    // Words that give options are no faulty command line.
+    ensures given { (names : TheNames) (first moment : ℕ)
+        → Gives (texts words.entry.now) clock names first moment → result ≢ faulty }
+    // Words that give none run nothing.
+    ensures unread { GivesNone (texts words.entry.now) clock → input.new ≡ input.old }
+    // They are faulty, unless they ask for the help or the version; memory may be wanting to say so.
+    ensures none { GivesNone (texts words.entry.now) clock → ¬ AsksForHelp (texts words.entry.now)
+        → ((result ≡ faulty) ⊎ (result ≡ refused)) × (output.new ≡ output.old) }
     // A faulty command line reads and writes nothing.
     ensures untouched { result ≡ faulty → (input.new ≡ input.old) × (output.new ≡ output.old) }
 {
@@ -34,13 +48,27 @@ pub fn run<R: Read, W: Write, E: Write>(
 }
 
 /// The options of the words, or what there is to say in place of running them.
-fn options<'a>(alloc: Global, words: &'a [&'a str], clock: Option<u64>) -> Result<Options, Error> {
+fn options<'a>(alloc: Global, words: &'a [&'a str], clock: Option<u64>) -> Result<Options, Error>
+    ensures given { IfOk result (λ o. Gives (texts words.entry.now) clock o.names o.first o.moment) }
+    ensures none { IfErr result (λ e. kind_of e ≢ OutOfMemory → GivesNone (texts words.entry.now) clock) }
+    ensures help { IfErr result (λ e. IsHelp (kind_of e) → AsksForHelp (texts words.entry.now)) }
+{
     let mut command = command(alloc)?;
-    let found = command.try_get_matches_from_mut(words)?;
+    let found = parse(&mut command, words)?;
     match Options::of(&found, clock) {
         Ok(options) => Ok(options),
         Err(fault) => Err(explained(alloc, &mut command, fault)?),
     }
+}
+
+/// What the parser finds in the words.
+fn parse<'a>(command: &mut Command<'a>, words: &'a [&'a str]) -> Result<ArgMatches<'a>, Error>
+    requires { app_of command.old ≡ command_line }
+    ensures found { IfOk result (λ m. (faults (texts words.entry.now) ≡ [])
+        × (rows_of (found_of m) ≡ values (texts words.entry.now))) }
+    ensures fault { IfErr result (HasKind (faults (texts words.entry.now))) }
+{
+    command.try_get_matches_from_mut(words)
 }
 
 /// The fault in the form of the parser's own errors.
@@ -48,7 +76,9 @@ fn explained(
     alloc: Global,
     command: &mut Command<'_>,
     fault: OptionFault<'_>,
-) -> Result<Error, AllocError> {
+) -> Result<Error, AllocError>
+    ensures { IfOk result (λ e. kind_of e ≡ ValueValidation) }
+{
     let text = fault.to_string(alloc)?;
     command.error(ErrorKind::ValueValidation, text.as_str())
 }
@@ -82,7 +112,10 @@ fn refuse<E: Write>(name: &str, errors: &mut E) {
 /// Says why nothing is run: help and the version on `output`, a fault on `errors`.
 fn tell<W: Write, E: Write>(alloc: Global, error: &Error, output: &mut W, errors: &mut E) -> u8
     ensures status { (result ≡ done) ⊎ ((result ≡ refused) ⊎ (result ≡ faulty)) }
-    ensures untouched { result ≡ faulty → output.new ≡ output.old }
+    ensures fault { ¬ IsHelp (kind_of error.now)
+        → ((result ≡ faulty) ⊎ (result ≡ refused)) × (output.new ≡ output.old) }
+    ensures help { IsHelp (kind_of error.now) → result ≢ faulty }
+    ensures memory { kind_of error.now ≡ OutOfMemory → result ≡ refused }
 {
     if error.kind() == ErrorKind::OutOfMemory {
         refuse("Memory", errors);
