@@ -153,7 +153,8 @@ fn reason(fault: NameFault) -> &'static str {
     match fault {
         NameFault::Empty => "it is empty",
         NameFault::TooLong => "it has over 128 bytes",
-        NameFault::BadByte => "a byte may not stand there (with blanks, spell it in double quotes)",
+        NameFault::BadByte =>
+            "it has a byte that is not allowed (one with blanks is spelled in double quotes)",
         NameFault::BadQuoting => "its quotes or backslashes do not pair",
     }
 }

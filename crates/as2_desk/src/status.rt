@@ -17,12 +17,7 @@ pub(crate) fn status_of(end: Served) -> u8
 {
     match end {
         Served::Closed => DONE,
-        Served::Truncated
-        | Served::BadFraming
-        | Served::ReadFault
-        | Served::WriteFault
-        | Served::Memory
-        | Served::TooLong => REFUSED,
+        _ => REFUSED,
     }
 }
 
