@@ -1,5 +1,5 @@
 -- What a typed read of an option tells of the number that its text says.
-use Rattle.std.proofs.Common.{◌≡◌, ◌<◌, ◌^◌, ℕ, List, Option, Some, None, Result, Ok, Err, MatchResult, refl, subst}
+use Rattle.std.proofs.Common.{◌≡◌, ◌<◌, ◌^◌, ℕ, Option, Some, None, Result, Ok, Err, MatchResult, refl, subst}
 use Rattle.std.specs.Str.Parse.{ParsesUnsigned}
 use Rattle.clap.specs.Walk.{Text}
 use Rattle.clap.specs.Matches.{TriesOne}

@@ -1,5 +1,5 @@
 -- The parser of a number in a range.
-use Rattle.std.proofs.Common.{◌≡◌, ℕ, ℤ, pos, Some, subst}
+use Rattle.std.proofs.Common.{◌≡◌, ℤ, Some, subst}
 use Rattle.clap.specs.Words.{NarrowsTo}
 use Rattle.clap.specs.declared.builder.value_parser.ValueParser.{ValueParser}
 use Rattle.clap.specs.declared.builder.value_parser.ValueParser.TheVariants.{Unsigned}

@@ -348,6 +348,14 @@ fn ran<'a, W: Write>(
     ))
 }
 
+fn joined(alloc: Global, parts: &[&str]) -> Result<String, AllocError> {
+    let mut text = String::new(alloc);
+    for part in parts {
+        text.push_str(part)?;
+    }
+    Ok(text)
+}
+
 #[test]
 fn each_command_line_is_answered(rt: HostRuntime) -> Result<(), Fail> {
     for case in CASES {
@@ -360,10 +368,7 @@ fn each_command_line_is_answered(rt: HostRuntime) -> Result<(), Fail> {
             &mut output,
             &mut errors,
         )?;
-        let mut told = String::new(rt.alloc());
-        for part in case.errors {
-            told.push_str(part)?;
-        }
+        let told = joined(rt.alloc(), case.errors)?;
         assert_eq!(rt; std::str::from_utf8(errors.as_slice())?, told.as_str());
         assert_eq!(rt; std::str::from_utf8(output.as_slice())?, case.output);
         assert_eq!(rt; status, case.status);

@@ -1,4 +1,4 @@
-use Rattle.std.proofs.Common.{◌∙◌, ◌≡◌, ap, ap₂, rules, Option, Some, List, [], ◌∷◌, codes, pos}
+use Rattle.std.proofs.Common.{◌∙◌, ◌≡◌, ap, ap₂, Option, Some, pos}
 use Rattle.clap.specs.Words.{Rule, rule_of}
 use Rattle.clap.specs.declared.builder.value_parser.ValueParser.{ValueParser}
 use Rattle.clap.specs.declared.builder.value_parser.ValueParser.TheVariants.{Unsigned}
