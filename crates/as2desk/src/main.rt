@@ -1,7 +1,6 @@
 //! The program `as2desk`: an AS2 station at the command line.
 #![tactic(auto)]
 
-use std::alloc::AllocError;
 use std::process::ExitCode;
 use std::time::SystemTime;
 use std::{env, io};
@@ -14,7 +13,14 @@ fn clock(rt: &HostRuntime) -> Option<u64> {
 }
 
 fn main(rt: HostRuntime) -> io::Result<ExitCode> {
-    let words: Vec<String> = env::args(&rt)?.collect(rt.alloc())?;
+    let words: Vec<String> = match env::args(&rt) {
+        Ok(words) => words.collect(rt.alloc())?,
+        Err(error) if error.kind() == io::ErrorKind::InvalidData => {
+            eprintln!(rt; "error: a word of the command line is not UTF-8")?;
+            return Ok(ExitCode::from(2));
+        }
+        Err(error) => return Err(error),
+    };
     let mut texts = Vec::new(rt.alloc());
     for word in &words {
         texts.push(word.as_str())?;
