@@ -1,0 +1,58 @@
+-- The command line of the program, in the terms of the parser of words.
+use Rattle.std.specs.Prelude.{◌≡◌, ◌⊎◌, ℕ, List, [], ◌∷◌, Some, true, codes}
+use Rattle.as2_text.specs.Moments.{last_moment}
+use Rattle.clap.specs.Words.{App, Row, Rule, Text, fault_of, matches_of, new_app, new_rule, with_rule, with_subcommand}
+use Rattle.clap.specs.Simple.{new_shape, on_top}
+use Rattle.clap.specs.Kinds.{IsAmong, Kinds}
+use Rattle.clap.specs.declared.builder.value_parser.ValueParser.TheVariants.{Unsigned}
+use Rattle.clap.specs.declared.error.kind.ErrorKind.{ErrorKind}
+use Rattle.clap.specs.declared.error.kind.ErrorKind.TheVariants.{DisplayHelp, DisplayVersion}
+
+-- `--name VALUE`
+abbrev pub option : Text → Rule
+option name = record (new_rule name) { long = Some name; value_names = 1 }
+
+-- an option that must be there
+abbrev pub needed : Text → Rule
+needed name = record (option name) { required = true }
+
+-- an option whose value is a number from `low` to `high`
+abbrev pub number : Text → ℕ → ℕ → Rule
+number name low high = record (option name) { parser = Some (Unsigned low high) }
+
+-- the number of the first receipt, 1 where it isn't given
+abbrev pub first : Rule
+first = record (number (codes "first") 1 999999999999) { defaults = codes "1" ∷ [] }
+
+-- a moment
+abbrev pub moment : Rule
+moment = number (codes "moment") 0 last_moment
+
+-- the program, before its options: it has a version, and there must be a command
+abbrev pub program : App
+program = on_top (λ s. record s { has_version = true; subcommand_required = true; disable_help_subcommand = true })
+    (new_app (codes "as2desk"))
+
+abbrev pub options : App
+options = with_rule (with_rule (with_rule (with_rule (with_rule program (needed (codes "organization"))) (needed (codes "partner")))
+    (needed (codes "domain"))) first) moment
+
+-- as2desk OPTIONS post
+abbrev pub command_line : App
+command_line = with_subcommand options (new_shape (codes "post"))
+
+-- why the words are no such command line; of one that is, nothing
+abbrev pub faults : List Text → Kinds
+faults words = fault_of command_line words
+
+-- the values that the words give the options
+abbrev pub values : List Text → List Row
+values words = matches_of command_line words
+
+-- help or the version, and no fault
+abbrev pub IsHelp : ErrorKind → Type 0
+IsHelp kind = (kind ≡ DisplayHelp) ⊎ (kind ≡ DisplayVersion)
+
+-- the words ask for help or the version
+abbrev pub AsksForHelp : List Text → Type 0
+AsksForHelp words = IsAmong DisplayHelp (faults words) ⊎ IsAmong DisplayVersion (faults words)

@@ -1,0 +1,28 @@
+-- How the end of a stream is told to a shell: by the exit status, and by a name.
+use Rattle.std.specs.Prelude.{ℕ, List, codes}
+use Rattle.as2_desk.specs.declared.first_post.Served.{Served}
+use Rattle.as2_desk.specs.declared.first_post.Served.TheVariants as end
+
+-- the exit statuses
+abbrev pub done : ℕ
+done = 0
+
+abbrev pub refused : ℕ
+refused = 1
+
+abbrev pub faulty : ℕ
+faulty = 2
+
+-- only an end in good order is no refusal
+abbrev pub status_of : Served → ℕ
+status_of end.Closed = done
+status_of _ = refused
+
+abbrev pub end_name : Served → List ℕ
+end_name end.Closed = codes "Closed"
+end_name end.Truncated = codes "Truncated"
+end_name end.BadFraming = codes "BadFraming"
+end_name end.ReadFault = codes "ReadFault"
+end_name end.WriteFault = codes "WriteFault"
+end_name end.Memory = codes "Memory"
+end_name end.TooLong = codes "TooLong"

@@ -1,0 +1,37 @@
+//! How the end of a stream is told to a shell: by the exit status, and by a name.
+ghost use Rattle.std.specs.Prelude.{◌≡◌};
+ghost use Rattle.as2_desk.specs.Statuses.{end_name, status_of};
+
+use crate::first_post::Served;
+
+/// What was asked for is done.
+pub(crate) const DONE: u8 = 0;
+/// It was refused, and why is said on standard error.
+pub(crate) const REFUSED: u8 = 1;
+/// The command line is faulty, and nothing was begun.
+pub(crate) const FAULTY: u8 = 2;
+
+/// The exit status that tells `end`.
+pub(crate) fn status_of(end: Served) -> u8
+    ensures { result ≡ status_of end }
+{
+    match end {
+        Served::Closed => DONE,
+        _ => REFUSED,
+    }
+}
+
+/// The name of `end`, as it is spelled in `Served`.
+pub(crate) fn end_name(end: Served) -> &'static str
+    ensures { result.now ≡ end_name end }
+{
+    match end {
+        Served::Closed => "Closed",
+        Served::Truncated => "Truncated",
+        Served::BadFraming => "BadFraming",
+        Served::ReadFault => "ReadFault",
+        Served::WriteFault => "WriteFault",
+        Served::Memory => "Memory",
+        Served::TooLong => "TooLong",
+    }
+}
