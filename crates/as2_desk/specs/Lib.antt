@@ -1,3 +1,5 @@
 pub mod CommandLine
 pub mod Options
 pub mod Statuses
+pub mod PostAnswers
+pub mod FirstPath

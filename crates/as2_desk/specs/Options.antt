@@ -6,7 +6,7 @@ use Rattle.as2_text.specs.Domains.{IsDomain}
 use Rattle.as2_text.specs.Moments.{last_moment}
 use Rattle.clap.specs.Words.{Row, Text, first_of, one_of}
 use Rattle.as2_desk.specs.CommandLine.{faults, values}
-use Rattle.as2_desk.specs.declared.first_post.Names.{Names}
+use Rattle.as2_desk.specs.declared.names.Names.{Names}
 
 -- the value is there and spells the name
 abbrev pub NameIs : Option Text → List ℕ → Type 0

@@ -6,10 +6,10 @@ ghost use Rattle.clap.specs.declared.error.kind.ErrorKind.TheVariants.{OutOfMemo
 ghost use Rattle.as2_desk.specs.CommandLine.{AsksForHelp, IsHelp, command_line, faults, values};
 ghost use Rattle.as2_desk.specs.Options.{Gives, GivesNone};
 ghost use Rattle.as2_desk.specs.Statuses.{done, faulty, refused};
-ghost use Rattle.as2_desk.specs.declared.first_post.Names.{Names as TheNames};
+ghost use Rattle.as2_desk.specs.declared.names.Names.{Names as TheNames};
 
 use crate::command::command;
-use crate::first_post::{Served, first_post};
+use crate::first_path::{Served, first_post};
 use crate::options::{OptionFault, Options};
 use crate::status::{DONE, FAULTY, REFUSED, end_name, status_of};
 use clap::error::ErrorKind;

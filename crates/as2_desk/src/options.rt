@@ -3,10 +3,10 @@ ghost use Rattle.std.specs.Prelude.{◌≡◌, ◌<◌, ◌≤◌, ◌^◌, ℕ,
 ghost use Rattle.as2_text.specs.Moments.{last_moment};
 ghost use Rattle.clap.specs.Words.{first_of, found_of, one_of, rows_of};
 ghost use Rattle.as2_desk.specs.Options.{DomainIs, Give, NameIs, NumberIs, SecondsAre, Tells};
-ghost use Rattle.as2_desk.specs.declared.first_post.Names.{Names as TheNames};
+ghost use Rattle.as2_desk.specs.declared.names.Names.{Names as TheNames};
 
 use crate::command::{DOMAIN, FIRST, MOMENT, ORGANIZATION, PARTNER};
-use crate::first_post::Names;
+use crate::names::Names;
 use as2_text::{AsName, Domain, Moment, NameFault};
 use clap::ArgMatches;
 use std::fmt;

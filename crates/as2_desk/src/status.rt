@@ -2,7 +2,7 @@
 ghost use Rattle.std.specs.Prelude.{◌≡◌};
 ghost use Rattle.as2_desk.specs.Statuses.{end_name, status_of};
 
-use crate::first_post::Served;
+use crate::first_path::Served;
 
 /// What was asked for is done.
 pub(crate) const DONE: u8 = 0;
