@@ -17,3 +17,6 @@ pub use body::Body;
 pub use framing::{Method, Refusal, Refused, Target};
 pub use laws::{one_arrival, one_refusal, one_request};
 pub use reply::{Form, refusal, write_reply};
+
+#[cfg(test)]
+mod tests;
