@@ -3,5 +3,6 @@ pub mod Reading
 pub mod Numbers
 pub mod Judging
 pub mod Framed
+pub mod Alone
 pub mod Arriving
 pub mod Lines

@@ -3,6 +3,7 @@ pub mod Inputs
 pub mod Stops
 pub mod Framing
 pub mod Requests
+pub mod Laws
 pub mod Reading
 pub mod Arrivals
 pub mod Answers

@@ -7,6 +7,7 @@ mod body;
 mod framing;
 mod head_text;
 mod input;
+mod laws;
 mod reply;
 mod request;
 
@@ -14,4 +15,8 @@ pub use answer::{HttpAnswer, HttpBody};
 pub use arrival::{Arrival, Request, read_first};
 pub use body::Body;
 pub use framing::{Method, Refusal, Refused, Target};
+pub use laws::{one_arrival, one_refusal, one_request};
 pub use reply::{Form, refusal, write_reply};
+
+#[cfg(test)]
+mod tests;

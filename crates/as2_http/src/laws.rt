@@ -1,0 +1,19 @@
+//! What holds of every text, whoever reads it.
+ghost use Rattle.as2_http.specs.Laws.{BeginsWithOne, RefusesInOneWay, NeverRefusesRequests, NeverOpensRequests, NeverOpensRefused};
+
+/// A text begins with one request at most, and one thing follows it.
+pub fn one_request()
+    ensures { BeginsWithOne }
+{}
+
+/// A text is refused in one way at most.
+pub fn one_refusal()
+    ensures { RefusesInOneWay }
+{}
+
+/// Of these a text does one at most: it begins with a request, it is refused, or it is open.
+pub fn one_arrival()
+    ensures never_refused { NeverRefusesRequests }
+    ensures never_open { NeverOpensRequests }
+    ensures refused_for_good { NeverOpensRefused }
+{}
