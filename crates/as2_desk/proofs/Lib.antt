@@ -1,3 +1,4 @@
 mod Numbers
 mod Ranges
 pub mod Sending
+mod OneReply

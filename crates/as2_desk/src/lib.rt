@@ -5,12 +5,14 @@ mod answer;
 mod command;
 mod desk;
 mod first_path;
+mod laws;
 mod names;
 mod options;
 mod status;
 
 pub use desk::run;
 pub use first_path::{Served, first_post};
+pub use laws::one_reply;
 pub use names::Names;
 
 #[cfg(test)]

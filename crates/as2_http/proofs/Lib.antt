@@ -6,3 +6,4 @@ pub mod Framed
 pub mod Alone
 pub mod Arriving
 pub mod Lines
+pub mod Dated

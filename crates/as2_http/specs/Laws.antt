@@ -1,8 +1,11 @@
 -- A text begins with one thing at most: a request and what follows it, or a refusal, or it is open.
 use Rattle.std.specs.Prelude.{◌≡◌, ℕ, List}
+use Rattle.as2_http.specs.Answers.{Answer}
+use Rattle.as2_http.specs.Replies.{IsReply}
 use Rattle.as2_http.specs.Requests.{Begins, Refuses, IsOpen}
 use Rattle.as2_http.specs.declared.framing.Refused.{Refused}
 use Rattle.as2_http.specs.declared.arrival.Request.{Request}
+use Rattle.as2_http.specs.declared.reply.Form.{Form}
 
 -- two requests that a text begins with are one, and so is what follows
 abbrev pub BeginsWithOne : Type 0
@@ -23,3 +26,7 @@ NeverOpensRequests = (text : List ℕ) (r : Request) (rest : List ℕ) → Begin
 -- a text that is refused isn't open
 abbrev pub NeverOpensRefused : Type 0
 NeverOpensRefused = (text : List ℕ) (refused : Refused) → Refuses text refused → ¬ (IsOpen text)
+
+-- an answer has one reply at a moment
+abbrev pub RepliesInOneWay : Type 0
+RepliesInOneWay = (moment : ℕ) (form : Form) (answer : Answer) (text same : List ℕ) → IsReply moment form answer text → IsReply moment form answer same → text ≡ same

@@ -1,5 +1,5 @@
 //! What holds of every text, whoever reads it.
-ghost use Rattle.as2_http.specs.Laws.{BeginsWithOne, RefusesInOneWay, NeverRefusesRequests, NeverOpensRequests, NeverOpensRefused};
+ghost use Rattle.as2_http.specs.Laws.{BeginsWithOne, RefusesInOneWay, NeverRefusesRequests, NeverOpensRequests, NeverOpensRefused, RepliesInOneWay};
 
 /// A text begins with one request at most, and one thing follows it.
 pub fn one_request()
@@ -16,4 +16,9 @@ pub fn one_arrival()
     ensures never_refused { NeverRefusesRequests }
     ensures never_open { NeverOpensRequests }
     ensures refused_for_good { NeverOpensRefused }
+{}
+
+/// An answer has one reply at a moment.
+pub fn one_reply_text()
+    ensures { RepliesInOneWay }
 {}

@@ -15,7 +15,7 @@ pub use answer::{HttpAnswer, HttpBody};
 pub use arrival::{Arrival, Request, read_first};
 pub use body::Body;
 pub use framing::{Method, Refusal, Refused, Target};
-pub use laws::{one_arrival, one_refusal, one_request};
+pub use laws::{one_arrival, one_refusal, one_reply_text, one_request};
 pub use reply::{Form, refusal, write_reply};
 
 #[cfg(test)]
