@@ -3,3 +3,4 @@ pub mod Options
 pub mod Statuses
 pub mod PostAnswers
 pub mod FirstPath
+pub mod Runs
