@@ -1,3 +1,4 @@
+mod Given
 mod Numbers
 mod Ranges
 pub mod Sending

@@ -4,3 +4,4 @@ pub mod Statuses
 pub mod PostAnswers
 pub mod FirstPath
 pub mod Laws
+pub mod Runs

@@ -5,6 +5,7 @@ ghost use Rattle.clap.specs.Words.{HasKind, app_of, found_of, kind_of, rows_of};
 ghost use Rattle.clap.specs.declared.error.kind.ErrorKind.TheVariants.{OutOfMemory, ValueValidation};
 ghost use Rattle.as2_desk.specs.CommandLine.{AsksForHelp, IsHelp, command_line, faults, values};
 ghost use Rattle.as2_desk.specs.Options.{Gives, GivesNone};
+ghost use Rattle.as2_desk.specs.Runs.{Runs};
 ghost use Rattle.as2_desk.specs.Statuses.{done, faulty, refused};
 ghost use Rattle.as2_desk.specs.declared.names.Names.{Names as TheNames};
 
@@ -33,6 +34,12 @@ pub fn run<R: Read, W: Write, E: Write>(
     // Words that give options are no faulty command line.
     ensures given { (names : TheNames) (first moment : ℕ)
         → Gives (texts words.entry.now) clock names first moment → result ≢ faulty }
+    // With options the first path is gone, and the status tells its end; where memory for the words was
+    // wanting nothing is read or written.
+    ensures runs { (names : TheNames) (first moment : ℕ)
+        → Gives (texts words.entry.now) clock names first moment
+        → Runs names first moment (R.remaining input.old) (R.remaining input.new) (W.contents output.old) (W.contents output.new) result
+        ⊎ ((result ≡ refused) × (input.new ≡ input.old) × (output.new ≡ output.old)) }
     // Words that give none run nothing.
     ensures unread { GivesNone (texts words.entry.now) clock → input.new ≡ input.old }
     // They are faulty, unless they ask for the help or the version; memory may be wanting to say so.
@@ -83,6 +90,7 @@ fn explained(
     command.error(ErrorKind::ValueValidation, text.as_str())
 }
 
+/// Answers the first post of the input.
 fn post<R: Read, W: Write, E: Write>(
     alloc: Global,
     options: &Options,
@@ -90,7 +98,9 @@ fn post<R: Read, W: Write, E: Write>(
     output: &mut W,
     errors: &mut E,
 ) -> u8
-    ensures { (result ≡ done) ⊎ (result ≡ refused) }
+    ensures status { (result ≡ done) ⊎ (result ≡ refused) }
+    ensures runs { Runs options.now.names options.now.first options.now.moment
+        (R.remaining input.old) (R.remaining input.new) (W.contents output.old) (W.contents output.new) result }
 {
     let Options {
         names,

@@ -1,20 +1,13 @@
-use super::*;
+// Expected values are the worked ones of the project's profile, and follow from its formats.
+mod command_lines;
+mod posts;
+mod streams;
+
+use crate::run;
 use std::alloc::{AllocError, Global};
-use std::io::{Error, ErrorKind, Result as IoResult, Write};
-use std::test::Fail;
+use std::io::{Error, ErrorKind, Read, Result as IoResult, Write};
 
-/// A command line, and what it comes to.
-#[derive(Clone, Copy)]
-struct Case {
-    options: &'static [&'static str],
-    rest: &'static [&'static str],
-    status: u8,
-    output: &'static str,
-    // The parts of the text.
-    errors: &'static [&'static str],
-}
-
-const GOOD: &[&str] = &[
+const FIXTURE: &[&str] = &[
     "--organization",
     "Supplier",
     "--partner",
@@ -23,313 +16,67 @@ const GOOD: &[&str] = &[
     "station.example",
 ];
 
-const HELP: &str = "\
-An AS2 station: takes documents from a partner and answers with receipts
+/// The plain post.
+const POST: &str = "\
+POST /as2 HTTP/1.1\r
+Host: 127.0.0.1:8080\r
+AS2-Version: 1.0\r
+AS2-From: Buyer\r
+AS2-To: Supplier\r
+Message-ID: <m1@x>\r
+Content-Type: application/edi-x12\r
+Disposition-Notification-To: a@x\r
+Disposition-Notification-Options: signed-receipt-micalg=optional, sha1\r
+Content-Length: 3\r
+\r
+abc";
 
-Usage: as2desk [OPTIONS] --organization <NAME> --partner <NAME> --domain <DOMAIN> <COMMAND>
-
-Commands:
-  post  Answers the post on standard input with a reply on standard output
-
-Options:
-      --organization <NAME>  The station's own AS2 name, spelled as in a field AS2-To
-      --partner <NAME>       The partner's AS2 name, spelled as in a field AS2-From
-      --domain <DOMAIN>      Domain of receipts' identifiers: 1 to 253 letters, digits, '-', '.'
-      --first <N>            Number of the first receipt: 1 to 999999999999 [default: 1]
-      --moment <SECONDS>     Moment in seconds since 1970: 0 to 253402300799 [default: the clock]
-  -h, --help                 Print help
-  -V, --version              Print version
-
-Exit status: 0 done, 1 refused, 2 a faulty command line.
-
-Example:
-  as2desk --organization Supplier --partner Buyer --domain station.example post < plain-post.http
+/// Its reply at the moment 1000.
+const RECEIPT: &str = "\
+HTTP/1.1 200 OK\r
+Date: Thu, 01 Jan 1970 00:16:40 GMT\r
+AS2-Version: 1.0\r
+AS2-From: Supplier\r
+AS2-To: Buyer\r
+Message-ID: <mdn-1@station.example>\r
+Content-Type: multipart/report; report-type=disposition-notification; boundary=\"as2-mdn-1\"\r
+Content-Length: 397\r
+\r
+--as2-mdn-1\r
+Content-Type: text/plain\r
+\r
+Receipt 1 for the message named below.\r
+Outcome: processed\r
+\r
+--as2-mdn-1\r
+Content-Type: message/disposition-notification\r
+\r
+Reporting-UA: as2-station\r
+Final-Recipient: rfc822; Supplier\r
+Original-Message-ID: <m1@x>\r
+Disposition: automatic-action/MDN-sent-automatically; processed\r
+Received-content-MIC: qZk+NkcGgWq6PiVxeFDCbJzQ2J0=, sha1\r
+\r
+--as2-mdn-1--\r
 ";
 
-// The forms of these texts are those of `clap`.
-const USAGE: &str = "
-
-Usage: as2desk [OPTIONS] --organization <NAME> --partner <NAME> --domain <DOMAIN> <COMMAND>";
-
-const POST_USAGE: &str = "
-
-Usage: as2desk --organization <NAME> --partner <NAME> --domain <DOMAIN> post";
-
-const HINT: &str = "
-
-For more information, try '--help'.
+/// The reply to a document whose receipt isn't asked for.
+const NOTHING: &str = "\
+HTTP/1.1 200 OK\r
+Date: Thu, 01 Jan 1970 00:16:40 GMT\r
+Content-Length: 0\r
+\r
 ";
 
-const CASES: [Case; 24] = [
-    Case {
-        options: GOOD,
-        rest: &["post"],
-        status: 0,
-        output: "",
-        errors: &[],
-    },
-    Case {
-        options: GOOD,
-        rest: &[
-            "--moment",
-            "253402300799",
-            "--first",
-            "999999999999",
-            "post",
-        ],
-        status: 0,
-        output: "",
-        errors: &[],
-    },
-    Case {
-        options: GOOD,
-        rest: &["--help"],
-        status: 0,
-        output: HELP,
-        errors: &[],
-    },
-    Case {
-        options: &[],
-        rest: &["-h"],
-        status: 0,
-        output: HELP,
-        errors: &[],
-    },
-    Case {
-        options: &[],
-        rest: &["--version"],
-        status: 0,
-        output: "as2desk 0.1.0\n",
-        errors: &[],
-    },
-    Case {
-        options: GOOD,
-        rest: &["--colour", "post"],
-        status: 2,
-        output: "",
-        errors: &[
-            "error: unexpected argument '--colour' found",
-            "\n\nUsage: as2desk --organization <NAME> --partner <NAME> --domain <DOMAIN> <COMMAND>",
-            HINT,
-        ],
-    },
-    Case {
-        options: GOOD,
-        rest: &["--first"],
-        status: 2,
-        output: "",
-        errors: &[
-            "error: a value is required for '--first <N>' but none was supplied",
-            HINT,
-        ],
-    },
-    Case {
-        options: GOOD,
-        rest: &["--first", "0", "post"],
-        status: 2,
-        output: "",
-        errors: &[
-            "error: invalid value '0' for '--first <N>': 0 is not in 1..=999999999999",
-            HINT,
-        ],
-    },
-    Case {
-        options: GOOD,
-        rest: &["--first", "1000000000000", "post"],
-        status: 2,
-        output: "",
-        errors: &[
-            "error: invalid value '1000000000000' for '--first <N>': 1000000000000 is not in 1..=999999999999",
-            HINT,
-        ],
-    },
-    Case {
-        options: GOOD,
-        rest: &["--first", "one", "post"],
-        status: 2,
-        output: "",
-        errors: &[
-            "error: invalid value 'one' for '--first <N>': invalid digit found in string",
-            HINT,
-        ],
-    },
-    Case {
-        options: GOOD,
-        rest: &["--first", "1", "--first", "2", "post"],
-        status: 2,
-        output: "",
-        errors: &[
-            "error: the argument '--first <N>' cannot be used multiple times",
-            USAGE,
-            HINT,
-        ],
-    },
-    Case {
-        options: GOOD,
-        rest: &["--moment", "253402300800", "post"],
-        status: 2,
-        output: "",
-        errors: &[
-            "error: invalid value '253402300800' for '--moment <SECONDS>': 253402300800 is not in 0..=253402300799",
-            HINT,
-        ],
-    },
-    Case {
-        options: GOOD,
-        rest: &["--moment", "noon", "post"],
-        status: 2,
-        output: "",
-        errors: &[
-            "error: invalid value 'noon' for '--moment <SECONDS>': invalid digit found in string",
-            HINT,
-        ],
-    },
-    Case {
-        options: GOOD,
-        rest: &["--moment=-1", "post"],
-        status: 2,
-        output: "",
-        errors: &[
-            "error: invalid value '-1' for '--moment <SECONDS>': invalid digit found in string",
-            HINT,
-        ],
-    },
-    Case {
-        options: GOOD,
-        rest: &[],
-        status: 2,
-        output: "",
-        errors: &[
-            "error: 'as2desk' requires a subcommand but one was not provided\n  [subcommands: post]",
-            USAGE,
-            HINT,
-        ],
-    },
-    Case {
-        options: GOOD,
-        rest: &["past"],
-        status: 2,
-        output: "",
-        errors: &[
-            "error: unrecognized subcommand 'past'\n\n  tip: a similar subcommand exists: 'post'",
-            USAGE,
-            HINT,
-        ],
-    },
-    Case {
-        options: GOOD,
-        rest: &["help"],
-        status: 2,
-        output: "",
-        errors: &["error: unrecognized subcommand 'help'", USAGE, HINT],
-    },
-    Case {
-        options: GOOD,
-        rest: &["post", "more"],
-        status: 2,
-        output: "",
-        errors: &["error: unexpected argument 'more' found", POST_USAGE, HINT],
-    },
-    Case {
-        options: GOOD,
-        rest: &["post", "--first", "1"],
-        status: 2,
-        output: "",
-        errors: &[
-            "error: unexpected argument '--first' found",
-            POST_USAGE,
-            HINT,
-        ],
-    },
-    Case {
-        options: &["--organization", "Supplier", "--partner", "Buyer"],
-        rest: &["post"],
-        status: 2,
-        output: "",
-        errors: &[
-            "error: the following required arguments were not provided:\n  --domain <DOMAIN>\n\nUsage: as2desk --organization <NAME> --partner <NAME> --domain <DOMAIN> <COMMAND>",
-            HINT,
-        ],
-    },
-    Case {
-        options: &[
-            "--organization",
-            "a b",
-            "--partner",
-            "Buyer",
-            "--domain",
-            "station.example",
-        ],
-        rest: &["post"],
-        status: 2,
-        output: "",
-        errors: &[
-            "error: invalid value 'a b' for '--organization <NAME>': not an AS2 name: it has a byte that is not allowed (one with blanks is spelled in double quotes)",
-            USAGE,
-            HINT,
-        ],
-    },
-    Case {
-        options: &[
-            "--organization",
-            "Supplier",
-            "--partner",
-            "\"Buyer",
-            "--domain",
-            "station.example",
-        ],
-        rest: &["post"],
-        status: 2,
-        output: "",
-        errors: &[
-            "error: invalid value '\"Buyer' for '--partner <NAME>': not an AS2 name: its quotes or backslashes do not pair",
-            USAGE,
-            HINT,
-        ],
-    },
-    Case {
-        options: &[
-            "--organization",
-            "Supplier",
-            "--partner",
-            "",
-            "--domain",
-            "station.example",
-        ],
-        rest: &["post"],
-        status: 2,
-        output: "",
-        errors: &[
-            "error: invalid value '' for '--partner <NAME>': not an AS2 name: it is empty",
-            USAGE,
-            HINT,
-        ],
-    },
-    Case {
-        options: &[
-            "--organization",
-            "Supplier",
-            "--partner",
-            "Buyer",
-            "--domain",
-            "a_b",
-        ],
-        rest: &["post"],
-        status: 2,
-        output: "",
-        errors: &[
-            "error: invalid value 'a_b' for '--domain <DOMAIN>': not 1 to 253 letters, digits, '-' and '.'",
-            USAGE,
-            HINT,
-        ],
-    },
-];
+/// A text, and what stands in its place.
+type Change = (&'static str, &'static str);
 
-/// Runs the words with no input, at the moment 1000.
-fn ran<'a, W: Write>(
+/// Runs a command line at the moment 1000.
+fn run_words<'a, R: Read, W: Write>(
     alloc: Global,
     options: &'a [&'a str],
     rest: &'a [&'a str],
+    input: &mut R,
     output: &mut W,
     errors: &mut Vec<u8>,
 ) -> Result<u8, AllocError> {
@@ -337,15 +84,33 @@ fn ran<'a, W: Write>(
     words.push("as2desk")?;
     words.extend_from_slice(options)?;
     words.extend_from_slice(rest)?;
-    let mut input = b"".as_slice();
-    Ok(run(
-        alloc,
-        words.as_slice(),
-        Some(1000),
-        &mut input,
+    Ok(run(alloc, words.as_slice(), Some(1000), input, output, errors))
+}
+
+/// What a command line came to.
+#[derive(Drop)]
+struct Ran {
+    status: u8,
+    output: Vec<u8>,
+    errors: Vec<u8>,
+}
+
+/// Runs a command line with that input.
+fn posted<'a>(
+    alloc: Global,
+    options: &'a [&'a str],
+    rest: &'a [&'a str],
+    input: &str,
+) -> Result<Ran, AllocError> {
+    let mut input = input.as_bytes();
+    let mut output = Vec::new(alloc);
+    let mut errors = Vec::new(alloc);
+    let status = run_words(alloc, options, rest, &mut input, &mut output, &mut errors)?;
+    Ok(Ran {
+        status,
         output,
         errors,
-    ))
+    })
 }
 
 fn joined(alloc: Global, parts: &[&str]) -> Result<String, AllocError> {
@@ -356,29 +121,23 @@ fn joined(alloc: Global, parts: &[&str]) -> Result<String, AllocError> {
     Ok(text)
 }
 
-#[test]
-fn each_command_line_is_answered(rt: HostRuntime) -> Result<(), Fail> {
-    for case in CASES {
-        let mut output = Vec::new(rt.alloc());
-        let mut errors = Vec::new(rt.alloc());
-        let status = ran(
-            rt.alloc(),
-            case.options,
-            case.rest,
-            &mut output,
-            &mut errors,
-        )?;
-        let told = joined(rt.alloc(), case.errors)?;
-        assert_eq!(rt; std::str::from_utf8(errors.as_slice())?, told.as_str());
-        assert_eq!(rt; std::str::from_utf8(output.as_slice())?, case.output);
-        assert_eq!(rt; status, case.status);
+fn changed(alloc: Global, text: &str, changes: &[Change]) -> Result<String, AllocError> {
+    let mut now = joined(alloc, [text].as_slice())?;
+    for change in changes {
+        now = now.replace(alloc, change.0, change.1)?;
     }
-    Ok(())
+    Ok(now)
 }
 
-/// A writer that fails.
+/// A reader and writer that fails.
 #[derive(Drop)]
 struct Broken;
+
+impl Read for Broken {
+    fn read(&mut self, _buf: &mut [u8]) -> IoResult<usize> {
+        Err(Error::from(ErrorKind::BrokenPipe))
+    }
+}
 
 impl Write for Broken {
     fn write(&mut self, _buf: &[u8]) -> IoResult<usize> {
@@ -388,56 +147,4 @@ impl Write for Broken {
     fn flush(&mut self) -> IoResult<()> {
         Ok(())
     }
-}
-
-#[test]
-fn help_that_cannot_be_written_is_refused(rt: HostRuntime) -> Result<(), Fail> {
-    let mut errors = Vec::new(rt.alloc());
-    let status = ran(
-        rt.alloc(),
-        GOOD,
-        ["--help"].as_slice(),
-        &mut Broken,
-        &mut errors,
-    )?;
-    assert_eq!(rt; status, 1);
-    assert_eq!(rt;
-        std::str::from_utf8(errors.as_slice())?,
-        "refused: CannotWrite\n"
-    );
-    Ok(())
-}
-
-#[test]
-fn a_moment_is_wanted_where_the_clock_tells_none(rt: HostRuntime) -> Result<(), Fail> {
-    let words = [
-        "as2desk",
-        "--organization",
-        "Supplier",
-        "--partner",
-        "Buyer",
-        "--domain",
-        "station.example",
-        "post",
-    ];
-    for clock in [None, Some(253_402_300_800)] {
-        let mut output = Vec::new(rt.alloc());
-        let mut errors = Vec::new(rt.alloc());
-        let mut input = b"".as_slice();
-        let status = run(
-            rt.alloc(),
-            words.as_slice(),
-            clock,
-            &mut input,
-            &mut output,
-            &mut errors,
-        );
-        assert_eq!(rt; status, 2);
-        assert!(rt;
-            errors
-                .as_slice()
-                .starts_with(b"error: the clock tells no moment")
-        );
-    }
-    Ok(())
 }
