@@ -16,6 +16,9 @@ const FIXTURE: &[&str] = &[
     "station.example",
 ];
 
+/// Behind the fixture's options: the command, at the moment 1000.
+const AT_1000: &[&str] = &["--moment", "1000", "post"];
+
 /// The plain post.
 const POST: &str = "\
 POST /as2 HTTP/1.1\r
@@ -68,10 +71,10 @@ Content-Length: 0\r
 \r
 ";
 
-/// A text, and what stands in its place.
+/// A part of a text, and what stands in its place.
 type Change = (&'static str, &'static str);
 
-/// Runs a command line at the moment 1000.
+/// Runs a command line where the clock tells 2000.
 fn run_words<'a, R: Read, W: Write>(
     alloc: Global,
     options: &'a [&'a str],
@@ -84,7 +87,7 @@ fn run_words<'a, R: Read, W: Write>(
     words.push("as2desk")?;
     words.extend_from_slice(options)?;
     words.extend_from_slice(rest)?;
-    Ok(run(alloc, words.as_slice(), Some(1000), input, output, errors))
+    Ok(run(alloc, words.as_slice(), Some(2000), input, output, errors))
 }
 
 /// What a command line came to.
@@ -129,7 +132,7 @@ fn changed(alloc: Global, text: &str, changes: &[Change]) -> Result<String, Allo
     Ok(now)
 }
 
-/// A reader and writer that fails.
+/// A reader and a writer whose every call fails.
 #[derive(Drop)]
 struct Broken;
 

@@ -1,5 +1,5 @@
 //! What a post says, and the answer that it gets.
-use super::{Change, FIXTURE, NOTHING, POST, RECEIPT, changed, joined, posted};
+use super::{AT_1000, Change, FIXTURE, NOTHING, POST, RECEIPT, changed, joined, posted};
 use std::test::Fail;
 
 // The lines of the plain post.
@@ -336,7 +336,7 @@ const CASES: [Case; 50] = [
 fn each_post_is_answered(rt: HostRuntime) -> Result<(), Fail> {
     for case in CASES {
         let post = changed(rt.alloc(), POST, case.changes)?;
-        let ran = posted(rt.alloc(), FIXTURE, ["post"].as_slice(), post.as_str())?;
+        let ran = posted(rt.alloc(), FIXTURE, AT_1000, post.as_str())?;
         assert_eq!(rt; std::str::from_utf8(ran.output.as_slice())?, case.reply);
         assert_eq!(rt; std::str::from_utf8(ran.errors.as_slice())?, "");
         assert_eq!(rt; ran.status, 0);
@@ -358,12 +358,7 @@ fn a_quoted_name_is_spelled_so_in_the_reply(rt: HostRuntime) -> Result<(), Fail>
         "--domain",
         "station.example",
     ];
-    let ran = posted(
-        rt.alloc(),
-        options.as_slice(),
-        ["post"].as_slice(),
-        post.as_str(),
-    )?;
+    let ran = posted(rt.alloc(), options.as_slice(), AT_1000, post.as_str())?;
     let to = joined(rt.alloc(), ["AS2-To: ", QUOTED, "\r\n"].as_slice())?;
     let reply = RECEIPT.replace(rt.alloc(), "AS2-To: Buyer\r\n", to.as_str())?;
     assert_eq!(rt; std::str::from_utf8(ran.output.as_slice())?, reply.as_str());
@@ -377,7 +372,7 @@ fn a_name_has_at_most_128_letters(rt: HostRuntime) -> Result<(), Fail> {
         let name = "x".repeat(rt.alloc(), letters)?;
         let from = joined(rt.alloc(), ["AS2-From: ", name.as_str(), "\r\n"].as_slice())?;
         let post = POST.replace(rt.alloc(), FROM, from.as_str())?;
-        let ran = posted(rt.alloc(), FIXTURE, ["post"].as_slice(), post.as_str())?;
+        let ran = posted(rt.alloc(), FIXTURE, AT_1000, post.as_str())?;
         assert_eq!(rt; std::str::from_utf8(ran.output.as_slice())?, reply);
     }
     Ok(())
@@ -386,7 +381,7 @@ fn a_name_has_at_most_128_letters(rt: HostRuntime) -> Result<(), Fail> {
 #[test]
 fn the_identifier_is_named_as_received(rt: HostRuntime) -> Result<(), Fail> {
     let post = POST.replace(rt.alloc(), ID, "Message-ID: m1@x\r\n")?;
-    let ran = posted(rt.alloc(), FIXTURE, ["post"].as_slice(), post.as_str())?;
+    let ran = posted(rt.alloc(), FIXTURE, AT_1000, post.as_str())?;
     // Two brackets less.
     let changes = [("<m1@x>", "m1@x"), ("397", "395")];
     let reply = changed(rt.alloc(), RECEIPT, changes.as_slice())?;
@@ -397,7 +392,7 @@ fn the_identifier_is_named_as_received(rt: HostRuntime) -> Result<(), Fail> {
 
 #[test]
 fn the_receipt_has_the_first_number(rt: HostRuntime) -> Result<(), Fail> {
-    let rest = ["--first", "999999999999", "post"];
+    let rest = ["--moment", "1000", "--first", "999999999999", "post"];
     let ran = posted(rt.alloc(), FIXTURE, rest.as_slice(), POST)?;
     // Eleven digits more in four places of the body.
     let changes = [

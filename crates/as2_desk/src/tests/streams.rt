@@ -1,5 +1,7 @@
 //! Streams: what they come to, and what of them is read.
-use super::{Broken, Change, FIXTURE, NOTHING, POST, RECEIPT, changed, joined, posted, run_words};
+use super::{
+    AT_1000, Broken, Change, FIXTURE, NOTHING, POST, RECEIPT, changed, joined, posted, run_words,
+};
 use std::io::{Read, Result as IoResult};
 use std::test::Fail;
 
@@ -200,7 +202,7 @@ const CASES: [Case; 16] = [
 #[test]
 fn each_stream_is_answered(rt: HostRuntime) -> Result<(), Fail> {
     for case in CASES {
-        let ran = posted(rt.alloc(), FIXTURE, ["post"].as_slice(), case.input)?;
+        let ran = posted(rt.alloc(), FIXTURE, AT_1000, case.input)?;
         assert_eq!(rt; std::str::from_utf8(ran.output.as_slice())?, case.output);
         assert_eq!(rt; std::str::from_utf8(ran.errors.as_slice())?, case.errors);
         assert_eq!(rt; ran.status, case.status);
@@ -211,7 +213,7 @@ fn each_stream_is_answered(rt: HostRuntime) -> Result<(), Fail> {
 #[test]
 fn a_document_that_ends_too_early_is_truncated(rt: HostRuntime) -> Result<(), Fail> {
     let post = POST.replace(rt.alloc(), "Content-Length: 3", "Content-Length: 4")?;
-    let ran = posted(rt.alloc(), FIXTURE, ["post"].as_slice(), post.as_str())?;
+    let ran = posted(rt.alloc(), FIXTURE, AT_1000, post.as_str())?;
     assert_eq!(rt; std::str::from_utf8(ran.output.as_slice())?, "");
     assert_eq!(rt;
         std::str::from_utf8(ran.errors.as_slice())?,
@@ -231,7 +233,7 @@ fn a_head_has_at_most_64_fields(rt: HostRuntime) -> Result<(), Fail> {
         let fields = "X: y\r\n".repeat(rt.alloc(), more)?;
         let host = joined(rt.alloc(), ["Host: h\r\n", fields.as_str()].as_slice())?;
         let post = POST.replace(rt.alloc(), "Host: 127.0.0.1:8080\r\n", host.as_str())?;
-        let ran = posted(rt.alloc(), FIXTURE, ["post"].as_slice(), post.as_str())?;
+        let ran = posted(rt.alloc(), FIXTURE, AT_1000, post.as_str())?;
         assert_eq!(rt; std::str::from_utf8(ran.output.as_slice())?, reply);
         assert_eq!(rt; std::str::from_utf8(ran.errors.as_slice())?, errors);
         assert_eq!(rt; ran.status, status);
@@ -242,7 +244,7 @@ fn a_head_has_at_most_64_fields(rt: HostRuntime) -> Result<(), Fail> {
 #[test]
 fn the_first_post_alone_is_answered(rt: HostRuntime) -> Result<(), Fail> {
     let posts = POST.repeat(rt.alloc(), 2)?;
-    let ran = posted(rt.alloc(), FIXTURE, ["post"].as_slice(), posts.as_str())?;
+    let ran = posted(rt.alloc(), FIXTURE, AT_1000, posts.as_str())?;
     assert_eq!(rt; std::str::from_utf8(ran.output.as_slice())?, RECEIPT);
     assert_eq!(rt; ran.status, 0);
     Ok(())
@@ -277,7 +279,7 @@ fn no_read_is_made_behind_the_first_post(rt: HostRuntime) -> Result<(), Fail> {
     let status = run_words(
         rt.alloc(),
         FIXTURE,
-        ["post"].as_slice(),
+        AT_1000,
         &mut input,
         &mut output,
         &mut errors,
@@ -310,7 +312,7 @@ fn a_long_post_leaves_the_rest_unread(rt: HostRuntime) -> Result<(), Fail> {
     let status = run_words(
         rt.alloc(),
         FIXTURE,
-        ["post"].as_slice(),
+        AT_1000,
         &mut input,
         &mut output,
         &mut errors,
@@ -329,7 +331,7 @@ fn a_read_that_fails_is_a_read_fault(rt: HostRuntime) -> Result<(), Fail> {
     let status = run_words(
         rt.alloc(),
         FIXTURE,
-        ["post"].as_slice(),
+        AT_1000,
         &mut Broken,
         &mut output,
         &mut errors,
@@ -350,7 +352,7 @@ fn a_write_that_fails_is_a_write_fault(rt: HostRuntime) -> Result<(), Fail> {
     let status = run_words(
         rt.alloc(),
         FIXTURE,
-        ["post"].as_slice(),
+        AT_1000,
         &mut input,
         &mut Broken,
         &mut errors,
