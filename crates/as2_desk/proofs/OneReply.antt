@@ -1,16 +1,13 @@
 -- An input has one reply and one end.
-use Rattle.std.proofs.Common.{◌≡◌, ℕ, List, [], Option, refl, sym, ap, ◌∙◌, subst, inl, inr}
+use Rattle.std.proofs.Common.{◌≡◌, ℕ, List, Option, refl, sym, ◌∙◌, subst, inl, inr}
 use Rattle.as2_http.proofs.Dated.{replies_in_one_way}
 use Rattle.as2_http.proofs.Alone.{begins_with_one, refuses_in_one_way, never_refuses_requests, never_opens_requests, never_opens_refused}
-use Rattle.as2_http.specs.Answers.{Answer}
-use Rattle.as2_http.specs.Replies.{IsReply, IsDateOf, reply, refusal}
+use Rattle.as2_http.specs.Replies.{IsReply, refusal}
 use Rattle.as2_http.specs.declared.arrival.Request.{Request}
 use Rattle.as2_http.specs.declared.framing.Refused.{Refused}
-use Rattle.as2_http.specs.declared.reply.Form.{Form}
-use Rattle.as2_desk.specs.FirstPath.{FirstPath, Replies, Refusal, form_of, refusal_form}
-use Rattle.as2_desk.specs.Laws.{AtJudged, OneReply}
+use Rattle.as2_desk.specs.FirstPath.{Replies, Refusal, form_of, refusal_form}
+use Rattle.as2_desk.specs.Laws.{OneReply}
 use Rattle.as2_desk.specs.PostAnswers.{answer}
-use Rattle.as2_desk.specs.declared.first_path.Served.{Served}
 use Rattle.as2_desk.specs.declared.first_path.Served.TheVariants.{Closed, Truncated, BadFraming, ReadFault, WriteFault, Memory, TooLong}
 use Rattle.as2_desk.specs.declared.names.Names.{Names}
 

@@ -1,5 +1,5 @@
 -- What was written, from what arrived and how its answer was sent.
-use Rattle.std.proofs.Common.{◌≡◌, ℕ, List, [], Option, Some, refl, sym, ap, ◌∙◌, subst, inl, inr}
+use Rattle.std.proofs.Common.{◌≡◌, ℕ, List, [], Option, refl, sym, subst, inl, inr}
 use Rattle.std.specs.Io.KnownBytes.{Appends}
 use Rattle.as2_http.specs.Answers.{Answer}
 use Rattle.as2_http.specs.Arrivals.{LeavesUnread}
@@ -11,7 +11,7 @@ use Rattle.as2_http.specs.declared.reply.Form.{Form}
 use Rattle.as2_desk.specs.FirstPath.{FirstPath, Sent, UnlessWriteFault, form_of, refusal_form}
 use Rattle.as2_desk.specs.PostAnswers.{answer}
 use Rattle.as2_desk.specs.declared.first_path.Served.{Served}
-use Rattle.as2_desk.specs.declared.first_path.Served.TheVariants.{Closed, BadFraming, Memory, WriteFault}
+use Rattle.as2_desk.specs.declared.first_path.Served.TheVariants.{Closed, BadFraming}
 use Rattle.as2_desk.specs.declared.names.Names.{Names}
 
 -- what the first path promises of an end

@@ -2,10 +2,8 @@
 use Rattle.std.proofs.Common.{◌≡◌, ℕ, List, sym, ap, ◌∙◌}
 use Rattle.httpdate.specs.Text.{imf_fixdate}
 use Rattle.httpdate.proofs.Theorems.{unix_secs_injective}
-use Rattle.as2_http.specs.Answers.{Answer}
 use Rattle.as2_http.specs.Laws.{RepliesInOneWay}
-use Rattle.as2_http.specs.Replies.{IsReply, IsDateOf, reply}
-use Rattle.as2_http.specs.declared.reply.Form.{Form}
+use Rattle.as2_http.specs.Replies.{IsDateOf, reply}
 
 one_date : (moment : ℕ) (text same : List ℕ) → IsDateOf moment text → IsDateOf moment same → text ≡ same
 one_date moment text same (d, s, t) (e, u, v) = t ∙ ap imf_fixdate (unix_secs_injective d e (s ∙ sym u)) ∙ sym v

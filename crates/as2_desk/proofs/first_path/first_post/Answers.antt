@@ -1,7 +1,5 @@
 use Rattle.std.proofs.Common.{rules, refl, [], inr, true, false}
 use Rattle.std.proofs.KnownBytes.{Appends-nil}
-use Rattle.as2_http.specs.declared.reply.Form.{Form}
-use Rattle.as2_http.specs.declared.arrival.Request.{Request}
 use Rattle.as2_desk.proofs.Sending.{request_sent, refusal_sent}
 use Rattle.as2_desk.proofs.first_path.first_post.Goals as goal
 
