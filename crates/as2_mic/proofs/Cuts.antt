@@ -8,7 +8,7 @@ use Rattle.std.specs.List.{slice_split}
 use Rattle.as2_mic.specs.declared.alg.Alg.{Alg}
 use Rattle.as2_mic.specs.Algs.{alg_named, or_else, first_of}
 use Rattle.as2_mic.specs.Commas.{comma, is_comma, HasNoComma, IsCutAtComma}
-use Rattle.as2_mic.specs.Trim.{trimmed}
+use Rattle.as2_text.specs.Blanks.{without_blanks}
 
 pub no_comma_more : (text : List ℕ) (i : ℕ) → i < length text → HasNoComma (take i text) → (slice_index_or text i 0 ≡ 44 → ⊥) → HasNoComma (take (i + 1) text)
 no_comma_more text i lt before other = All-more (λ b. is_comma b ≡ false) text i 0 lt before (ne_eqb (slice_index_or text i 0) 44 other)
@@ -16,20 +16,20 @@ no_comma_more text i lt before other = All-more (λ b. is_comma b ≡ false) tex
 pub no_comma_all : (text : List ℕ) (i : ℕ) → length text ≤ i → HasNoComma (take i text) → HasNoComma text
 no_comma_all text i le before = subst HasNoComma (take_all i text le) before
 
-first_cut : (text before behind : List ℕ) → IsCutAtComma text before behind → first_of text ≡ or_else (alg_named (trimmed before)) (first_of behind)
+first_cut : (text before behind : List ℕ) → IsCutAtComma text before behind → first_of text ≡ or_else (alg_named (without_blanks before)) (first_of behind)
 first_cut text before behind c = rw (c.whole, slice_split_at is_comma before comma behind c.first refl) refl
 
 or_else_none : (first : Option Alg) → or_else first None ≡ first
 or_else_none (Some alg) = refl
 or_else_none None = refl
 
-pub first_whole : (text : List ℕ) → HasNoComma text → first_of text ≡ alg_named (trimmed text)
-first_whole text none = rw (slice_split_none is_comma text none) (or_else_none (alg_named (trimmed text)))
+pub first_whole : (text : List ℕ) → HasNoComma text → first_of text ≡ alg_named (without_blanks text)
+first_whole text none = rw (slice_split_none is_comma text none) (or_else_none (alg_named (without_blanks text)))
 
-pub first_found : (text before behind : List ℕ) (alg : Alg) → IsCutAtComma text before behind → alg_named (trimmed before) ≡ Some alg → first_of text ≡ Some alg
+pub first_found : (text before behind : List ℕ) (alg : Alg) → IsCutAtComma text before behind → alg_named (without_blanks before) ≡ Some alg → first_of text ≡ Some alg
 first_found text before behind alg c e = first_cut text before behind c ∙ ap (λ (r : Option Alg). or_else r (first_of behind)) e
 
-pub first_on : (text before behind : List ℕ) → IsCutAtComma text before behind → alg_named (trimmed before) ≡ None → first_of behind ≡ first_of text
+pub first_on : (text before behind : List ℕ) → IsCutAtComma text before behind → alg_named (without_blanks before) ≡ None → first_of behind ≡ first_of text
 first_on text before behind c e = sym (first_cut text before behind c ∙ ap (λ (r : Option Alg). or_else r (first_of behind)) e)
 
 -- ---- the first comma

@@ -4,26 +4,26 @@ use Rattle.std.proofs.lemmas.Bool.{eqb-true}
 use Rattle.std.proofs.lemmas.List.{nil_from_length}
 use Rattle.as2_mic.specs.Commas.{HasNoComma, IsCutAtComma}
 use Rattle.as2_mic.specs.Field.{IsMicField}
-use Rattle.as2_mic.specs.Trim.{trimmed_lines}
+use Rattle.as2_mic.specs.Trim.{trimmed}
 use Rattle.as2_mic.proofs.Cuts.{one_before, one_behind, no_cut}
 
 pub no_field : (value : List ℕ) (field : List ℕ × List ℕ) → HasNoComma value → IsMicField value field → ⊥
 no_field value field none f = no_cut value f.before f.behind none f.cut
 
-pub the_mic : (value before behind : List ℕ) (field : List ℕ × List ℕ) → IsCutAtComma value before behind → IsMicField value field → field.0 ≡ trimmed_lines before
-the_mic value before behind field c f = f.mic ∙ ap trimmed_lines (one_before value f.before f.behind before behind f.cut c)
+pub the_mic : (value before behind : List ℕ) (field : List ℕ × List ℕ) → IsCutAtComma value before behind → IsMicField value field → field.0 ≡ trimmed before
+the_mic value before behind field c f = f.mic ∙ ap trimmed (one_before value f.before f.behind before behind f.cut c)
 
-pub the_digest : (value before behind : List ℕ) (field : List ℕ × List ℕ) → IsCutAtComma value before behind → IsMicField value field → field.1 ≡ trimmed_lines behind
-the_digest value before behind field c f = f.digest ∙ ap trimmed_lines (one_behind value f.before f.behind before behind f.cut c)
+pub the_digest : (value before behind : List ℕ) (field : List ℕ × List ℕ) → IsCutAtComma value before behind → IsMicField value field → field.1 ≡ trimmed behind
+the_digest value before behind field c f = f.digest ∙ ap trimmed (one_behind value f.before f.behind before behind f.cut c)
 
 nothing : (text : List ℕ) → (length text == 0) ≡ true → text ≡ []
 nothing text e = nil_from_length text (eqb-true (length text) 0 e)
 
-pub empty_mic : (value before behind mic : List ℕ) (field : List ℕ × List ℕ) → IsCutAtComma value before behind → mic ≡ trimmed_lines before → (length mic == 0) ≡ true → IsMicField value field → ⊥
+pub empty_mic : (value before behind mic : List ℕ) (field : List ℕ × List ℕ) → IsCutAtComma value before behind → mic ≡ trimmed before → (length mic == 0) ≡ true → IsMicField value field → ⊥
 empty_mic value before behind mic field c e zero f = f.has_mic (the_mic value before behind field c f ∙ sym e ∙ nothing mic zero)
 
-pub empty_digest : (value before behind digest : List ℕ) (field : List ℕ × List ℕ) → IsCutAtComma value before behind → digest ≡ trimmed_lines behind → (length digest == 0) ≡ true → IsMicField value field → ⊥
+pub empty_digest : (value before behind digest : List ℕ) (field : List ℕ × List ℕ) → IsCutAtComma value before behind → digest ≡ trimmed behind → (length digest == 0) ≡ true → IsMicField value field → ⊥
 empty_digest value before behind digest field c e zero f = f.has_digest (the_digest value before behind field c f ∙ sym e ∙ nothing digest zero)
 
-pub the_field : (value before behind mic digest : List ℕ) (field : List ℕ × List ℕ) → IsCutAtComma value before behind → mic ≡ trimmed_lines before → digest ≡ trimmed_lines behind → IsMicField value field → (mic, digest) ≡ field
+pub the_field : (value before behind mic digest : List ℕ) (field : List ℕ × List ℕ) → IsCutAtComma value before behind → mic ≡ trimmed before → digest ≡ trimmed behind → IsMicField value field → (mic, digest) ≡ field
 the_field value before behind mic digest field c m d f = λ i. ((m ∙ sym (the_mic value before behind field c f)) i, (d ∙ sym (the_digest value before behind field c f)) i)

@@ -5,7 +5,7 @@ use Rattle.std.specs.Str.{str_eq_ignore_ascii_case}
 use Rattle.as2_mic.specs.declared.alg.Alg.{Alg}
 use Rattle.as2_mic.specs.declared.alg.Alg.TheVariants.{Md5, Sha1}
 use Rattle.as2_mic.specs.Commas.{is_comma}
-use Rattle.as2_mic.specs.Trim.{trimmed}
+use Rattle.as2_text.specs.Blanks.{without_blanks}
 
 -- the text is the word, without regard to the case of ASCII letters
 abbrev pub is_word : List ℕ → List ℕ → Bool
@@ -31,7 +31,7 @@ or_else None later = later
 -- the first digest that is known
 abbrev pub first_known : List (List ℕ) → Option Alg
 first_known [] = None
-first_known (name ∷ names) = or_else (alg_named (trimmed name)) (first_known names)
+first_known (name ∷ names) = or_else (alg_named (without_blanks name)) (first_known names)
 
 -- the first known name of a list, which is cut at its commas
 abbrev pub first_of : List ℕ → Option Alg

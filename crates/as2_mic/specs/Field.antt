@@ -7,7 +7,7 @@ use Rattle.as2_mic.specs.declared.field.Compared.TheVariants.{UnknownAlg, Same, 
 use Rattle.as2_mic.specs.Algs.{alg_named}
 use Rattle.as2_mic.specs.Commas.{IsCutAtComma}
 use Rattle.as2_mic.specs.Mic.{mic}
-use Rattle.as2_mic.specs.Trim.{trimmed_lines}
+use Rattle.as2_mic.specs.Trim.{trimmed}
 
 -- a field: the text of the MIC and the name of the digest
 abbrev pub given_mic : List ℕ × List ℕ → List ℕ
@@ -22,8 +22,8 @@ pub record IsMicField (value : List ℕ) (field : List ℕ × List ℕ) : Type 0
   pub before : List ℕ
   pub behind : List ℕ
   pub cut : IsCutAtComma value before behind
-  pub mic : given_mic field ≡ trimmed_lines before
-  pub digest : given_digest field ≡ trimmed_lines behind
+  pub mic : given_mic field ≡ trimmed before
+  pub digest : given_digest field ≡ trimmed behind
   pub has_mic : given_mic field ≢ []
   pub has_digest : given_digest field ≢ []
 

@@ -1,5 +1,6 @@
-ghost use Rattle.std.specs.Prelude.{◌≡◌, ◌<◌, length, true, false};
-ghost use Rattle.as2_mic.specs.Trim.{is_blank, falls_off, without_front, without_back, trimmed, trimmed_lines};
+ghost use Rattle.std.specs.Prelude.{◌≡◌};
+ghost use Rattle.as2_text.specs.Blanks.{is_blank};
+ghost use Rattle.as2_mic.specs.Trim.{falls_off, without_front, without_back, trimmed};
 
 /// A space or a tab.
 fn is_blank(b: u8) -> bool
@@ -8,13 +9,13 @@ fn is_blank(b: u8) -> bool
     b == b' ' || b == b'\t'
 }
 
-/// The text behind the blanks, and line ends where they count, that it begins with.
-fn without_front(lines: bool, text: &[u8]) -> &[u8]
-    ensures { result.now ≡ without_front lines text.now }
+/// The text behind the blanks and line ends that it begins with.
+fn without_front(text: &[u8]) -> &[u8]
+    ensures { result.now ≡ without_front text.now }
 {
     let mut rest = text;
     while let [b, behind @ ..] = rest {
-        if !falls_off(lines, *b, behind) {
+        if !falls_off(*b, behind) {
             break;
         }
         rest = behind;
@@ -22,36 +23,29 @@ fn without_front(lines: bool, text: &[u8]) -> &[u8]
     rest
 }
 
-/// The text up to the blanks, and line ends where they count, that it ends with.
-fn without_back(lines: bool, text: &[u8]) -> &[u8]
-    ensures { result.now ≡ without_back lines text.now }
+/// The text up to the blanks and line ends that it ends with.
+fn without_back(text: &[u8]) -> &[u8]
+    ensures { result.now ≡ without_back text.now }
 {
     let mut end = 0;
     for i in 0..text.len() {
-        if !falls_off(lines, text[i], &text[i + 1..]) {
+        if !falls_off(text[i], &text[i + 1..]) {
             end = i + 1;
         }
     }
     &text[..end]
 }
 
-/// Whether the byte, with that text behind it, is a blank, or is of a line end where they count.
-fn falls_off(lines: bool, b: u8, behind: &[u8]) -> bool
-    ensures { result ≡ falls_off lines b behind.now }
+/// Whether the byte, with that text behind it, is a blank or is of a line end.
+fn falls_off(b: u8, behind: &[u8]) -> bool
+    ensures { result ≡ falls_off b behind.now }
 {
-    is_blank(b) || lines && (b == b'\n' || b == b'\r' && behind.first() == Some(&b'\n'))
-}
-
-/// The text without the blanks at its ends.
-pub fn without_blanks(text: &[u8]) -> &[u8]
-    ensures { result.now ≡ trimmed text.now }
-{
-    without_back(false, without_front(false, text))
+    is_blank(b) || b == b'\n' || (b == b'\r' && behind.first() == Some(&b'\n'))
 }
 
 /// The text without the blanks and line ends at its ends.
 pub fn without_blanks_and_line_ends(text: &[u8]) -> &[u8]
-    ensures { result.now ≡ trimmed_lines text.now }
+    ensures { result.now ≡ trimmed text.now }
 {
-    without_back(true, without_front(true, text))
+    without_back(without_front(text))
 }
