@@ -6,6 +6,7 @@ use std::marker::Model;
 /// What an answer's body is.
 #[derive(Drop)]
 pub enum HttpBody {
+    /// No bytes.
     Nothing,
     /// One line of text.
     Line(&'static str),

@@ -15,10 +15,13 @@ use std::io::Read;
 /// A request, as far as its answer depends on it (RFC 9112, section 3).
 #[derive(Drop)]
 pub struct Request {
+    /// Its method, of those that an answer depends on.
     pub method: Method,
+    /// Its target: the station's path or another.
     pub target: Target,
     /// The fields of its head.
     pub fields: Head,
+    /// As many bytes as its head says.
     pub body: Body,
     /// No further request is read behind this one.
     pub last: bool,

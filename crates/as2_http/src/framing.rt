@@ -11,8 +11,11 @@ pub const BODY_LIMIT: usize = 1_048_576;
 /// The method of a request, of those that an answer depends on (RFC 9110, section 9.3).
 #[derive(Clone, Copy, Debug, PartialEq, Eq)]
 pub enum Method {
+    /// `POST`, by which documents and receipts come.
     Post,
+    /// `HEAD`, whose reply has no body.
     Head,
+    /// Any other.
     Other,
 }
 
@@ -30,6 +33,7 @@ impl Method {
 pub enum Target {
     /// The station's path, `/as2`.
     Station,
+    /// Any other.
     Other,
 }
 
@@ -51,6 +55,7 @@ pub enum Refusal {
 /// A refused head: no request can be read from here on.
 #[derive(Clone, Copy, Debug, PartialEq, Eq)]
 pub struct Refused {
+    /// Why it is refused.
     pub reason: Refusal,
     /// The head was read, and its method is HEAD, whose reply has no body.
     pub to_head: bool,

@@ -65,7 +65,9 @@ fn front(text: &[u8]) -> &[u8]
 /// Where the bytes of the first head are.
 #[derive(Clone, Copy, Debug, PartialEq, Eq)]
 pub struct HeadPlace {
+    /// Where its first byte stands.
     pub start: usize,
+    /// Where the bytes behind it begin.
     pub end: usize,
 }
 

@@ -40,6 +40,7 @@ pub enum NoHead {
 /// The bytes of a stream that were read so far.
 #[derive(Drop)]
 pub struct Input {
+    /// All bytes that were read, in order.
     pub text: Vec<u8>,
     buffer: Vec<u8>,
     reads_left: u32,
@@ -47,6 +48,7 @@ pub struct Input {
 }
 
 impl Input {
+    /// Nothing read yet, and room for one read.
     pub fn new(alloc: Global) -> Result<Input, AllocError>
         ensures { IfOk result (λ i. i.text.items ≡ []) }
     {

@@ -15,8 +15,11 @@ use std::alloc::Global;
 /// What a head says.
 #[derive(Drop)]
 pub struct Judged {
+    /// The method of the request.
     pub method: Method,
+    /// The target of the request.
     pub target: Target,
+    /// The fields of the head.
     pub fields: Head,
     /// How many bytes of body follow, or why none can be read.
     pub length: Result<usize, Refusal>,
