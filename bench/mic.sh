@@ -1,6 +1,6 @@
 #!/bin/sh
 # The time of a MIC of 200 MiB beside sha1sum and md5sum, as ratios: at most 1.2 of each is wanted.
-# Builds a small program over copies of as2_text and as2_mic in a temporary folder, and takes the best of five
+# Builds a small program over copies of as2_names and as2_mic in a temporary folder, and takes the best of five
 # runs of each, in turn.
 set -eu
 top=$(cd "$(dirname "$0")/.." && pwd)
@@ -9,15 +9,15 @@ trap 'rm -rf "$work"' EXIT
 
 mkdir -p "$work/crates/mic_bench/src"
 git init -q "$work"
-for crate in as2_text as2_mic; do
+for crate in as2_names as2_mic; do
     mkdir "$work/crates/$crate"
     for part in src specs proofs; do
         cp -r "$top/crates/$crate/$part" "$work/crates/$crate/"
     done
 done
 cat > "$work/crates.txt" <<'END'
-as2_text: arrayvec
-as2_mic: as2_text sha1 md5 base64 arrayvec
+as2_names: arrayvec
+as2_mic: as2_names sha1 md5 base64 arrayvec
 mic_bench: as2_mic
 END
 cat > "$work/crates/mic_bench/src/main.rt" <<'END'

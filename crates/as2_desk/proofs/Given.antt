@@ -1,8 +1,8 @@
 -- The words give one set of options.
 use Rattle.std.proofs.Common.{◌≡◌, ℕ, List, Option, Some, None, sym, ap, subst, ◌∙◌}
 use Rattle.clap.specs.Walk.{Row, Text}
-use Rattle.as2_text.specs.Names.{Spells}
-use Rattle.as2_text.proofs.Spelled.{again}
+use Rattle.as2_names.specs.Names.{Spells}
+use Rattle.as2_names.proofs.Spelled.{again}
 use Rattle.as2_desk.specs.CommandLine.{values}
 use Rattle.as2_desk.specs.Options.{DomainIs, Give, Gives, NameIs, NumberIs, SecondsAre}
 use Rattle.as2_desk.specs.Runs.{Runs}

@@ -1,6 +1,6 @@
 -- The command line of the program, in the terms of the parser of words.
 use Rattle.std.specs.Prelude.{◌≡◌, ◌⊎◌, ℕ, List, [], ◌∷◌, Some, true, codes}
-use Rattle.as2_text.specs.Moments.{last_moment}
+use Rattle.as2_names.specs.Moments.{last_moment}
 use Rattle.clap.specs.Words.{App, Row, Rule, Text, fault_of, matches_of, new_app, new_rule, with_rule, with_subcommand}
 use Rattle.clap.specs.Simple.{new_shape, on_top}
 use Rattle.clap.specs.Kinds.{IsAmong, Kinds}

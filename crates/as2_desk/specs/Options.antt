@@ -1,9 +1,9 @@
 -- What the options of a command line say.
 use Rattle.std.specs.Prelude.{◌≡◌, ◌<◌, ◌≤◌, ◌^◌, ℕ, List, [], Option, Some, None, codes, ⊤}
 use Rattle.std.specs.Str.Parse.{IsNumeral, digits_value, without_leading_plus}
-use Rattle.as2_text.specs.Names.{Spells}
-use Rattle.as2_text.specs.Domains.{IsDomain}
-use Rattle.as2_text.specs.Moments.{last_moment}
+use Rattle.as2_names.specs.Names.{Spells}
+use Rattle.as2_names.specs.Domains.{IsDomain}
+use Rattle.as2_names.specs.Moments.{last_moment}
 use Rattle.clap.specs.Words.{Row, Text, first_of, one_of}
 use Rattle.as2_desk.specs.CommandLine.{faults, values}
 use Rattle.as2_desk.specs.declared.names.Names.{Names}

@@ -4,9 +4,9 @@ use Rattle.std.specs.Option.{option_and_then}
 use Rattle.std.specs.Result.{result_ok}
 use Rattle.std.specs.Char.{is_ascii_digit}
 use Rattle.std.specs.Str.{bytes_eq}
-use Rattle.as2_text.specs.Heads.{values}
-use Rattle.as2_text.specs.Names as name
-use Rattle.as2_text.specs.Identifiers as identifier
+use Rattle.as2_names.specs.Heads.{values}
+use Rattle.as2_names.specs.Names as name
+use Rattle.as2_names.specs.Identifiers as identifier
 use Rattle.as2_mic.specs.Mic.{mic}
 use Rattle.as2_mic.specs.declared.alg.Alg.TheVariants.{Sha1}
 use Rattle.as2_mdn.specs.declared.report.ReportOut.{ReportOut}

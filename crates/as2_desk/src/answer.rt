@@ -1,7 +1,7 @@
 //! The answer to a request on the first path.
 ghost use Rattle.std.specs.Prelude.{◌≡◌, List, ℕ, IfOk, codes};
 ghost use Rattle.std.specs.Str.{str_to_ascii_lowercase};
-ghost use Rattle.as2_text.specs.Heads.{values};
+ghost use Rattle.as2_names.specs.Heads.{values};
 ghost use Rattle.as2_desk.specs.PostAnswers.{answer, asks_more, asks_plainly, asks_receipt, document_answer, identifier_in, is_just, is_there, is_version, name_in, post_answer, receipt, version_fits};
 
 use crate::names::Names;

@@ -1,6 +1,6 @@
 //! What the options of a command line say.
 ghost use Rattle.std.specs.Prelude.{◌≡◌, ◌<◌, ◌≤◌, ◌^◌, ℕ, List, codes, Option, option_map, IfOk, IfErr};
-ghost use Rattle.as2_text.specs.Moments.{last_moment};
+ghost use Rattle.as2_names.specs.Moments.{last_moment};
 ghost use Rattle.clap.specs.Words.{first_of, found_of, one_of, rows_of};
 ghost use Rattle.as2_desk.specs.Options.{DomainIs, Give, NameIs, NumberIs, SecondsAre, Tells};
 ghost use Rattle.as2_desk.specs.declared.names.Names.{Names as TheNames};

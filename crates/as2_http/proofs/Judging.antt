@@ -10,7 +10,7 @@ use Rattle.httparse.specs.declared.Status.{Status}
 use Rattle.httparse.specs.declared.Status.TheVariants.{Complete, Partial}
 use Rattle.httparse.specs.declared.spans.HeaderSpan.{HeaderSpan}
 use Rattle.httparse.specs.declared.spans.RequestSpans.{RequestSpans}
-use Rattle.as2_text.specs.Heads.{is_field, field_of}
+use Rattle.as2_names.specs.Heads.{is_field, field_of}
 use Rattle.as2_http.specs.Requests.{Fields, appended, IsHead}
 
 -- a head takes no more than 64 fields

@@ -4,8 +4,8 @@ use Rattle.std.specs.List.{list_any}
 use Rattle.std.specs.Str.{bytes_eq}
 use Rattle.httparse.specs.Grammar.{RequestHead, ReadsRequest}
 use Rattle.httparse.specs.Spans.{name_and_value}
-use Rattle.as2_text.specs.Heads.{is_field, field_of, values}
-use Rattle.as2_text.specs.Options.{lists}
+use Rattle.as2_names.specs.Heads.{is_field, field_of, values}
+use Rattle.as2_names.specs.Options.{lists}
 use Rattle.as2_http.specs.HeadText.{HasHeadText, HasNoHeadText, head_limit}
 use Rattle.as2_http.specs.Framing.{content_length}
 use Rattle.as2_http.specs.declared.framing.Refusal.{Refusal}

@@ -1,6 +1,6 @@
 //! The report that answers a document: its body and its head fields.
 ghost use Rattle.std.specs.Prelude.{◌≡◌, ◌++◌, IfOk, OnOk, OnErr, codes};
-ghost use Rattle.as2_text.specs.Names.{spelling};
+ghost use Rattle.as2_names.specs.Names.{spelling};
 ghost use Rattle.as2_mdn.specs.Reports.{as2_fields_text, boundary_text, content_type_text, explanation_text, head_fields_of, line, mic_line, mic_text, notification_text, report_id_text, report_text};
 
 use crate::outcome::Outcome;

@@ -7,8 +7,10 @@ use Rattle.std.proofs.lemmas.List.Splits.{slice_split_at, slice_split_none, leng
 use Rattle.std.specs.List.{slice_split}
 use Rattle.as2_mic.specs.declared.alg.Alg.{Alg}
 use Rattle.as2_mic.specs.Algs.{alg_named, or_else, first_of}
-use Rattle.as2_mic.specs.Commas.{comma, is_comma, HasNoComma, IsCutAtComma}
-use Rattle.as2_text.specs.Blanks.{without_blanks}
+use Rattle.as2_names.specs.Ascii.{comma}
+use Rattle.as2_names.specs.Options.{is_comma}
+use Rattle.as2_mic.specs.Commas.{HasNoComma, IsCutAtComma}
+use Rattle.as2_names.specs.Blanks.{without_blanks}
 
 pub no_comma_more : (text : List ℕ) (i : ℕ) → i < length text → HasNoComma (take i text) → (slice_index_or text i 0 ≡ 44 → ⊥) → HasNoComma (take (i + 1) text)
 no_comma_more text i lt before other = All-more (λ b. is_comma b ≡ false) text i 0 lt before (ne_eqb (slice_index_or text i 0) 44 other)

@@ -4,7 +4,7 @@ use Rattle.std.proofs.lemmas.Bool.{eqb-true}
 use Rattle.std.proofs.lemmas.List.{nil_from_length}
 use Rattle.as2_mic.specs.Commas.{HasNoComma, IsCutAtComma}
 use Rattle.as2_mic.specs.Field.{IsMicField}
-use Rattle.as2_mic.specs.Trim.{trimmed}
+use Rattle.as2_names.specs.Trim.{trimmed}
 use Rattle.as2_mic.proofs.Cuts.{one_before, one_behind, no_cut}
 
 pub no_field : (value : List ℕ) (field : List ℕ × List ℕ) → HasNoComma value → IsMicField value field → ⊥

@@ -2,4 +2,3 @@ pub mod Cuts
 pub mod Fields
 pub mod Piecewise
 pub mod Texts
-pub mod Trims

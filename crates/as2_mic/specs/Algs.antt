@@ -4,8 +4,8 @@ use Rattle.std.specs.List.{slice_split}
 use Rattle.std.specs.Str.{str_eq_ignore_ascii_case}
 use Rattle.as2_mic.specs.declared.alg.Alg.{Alg}
 use Rattle.as2_mic.specs.declared.alg.Alg.TheVariants.{Md5, Sha1}
-use Rattle.as2_mic.specs.Commas.{is_comma}
-use Rattle.as2_text.specs.Blanks.{without_blanks}
+use Rattle.as2_names.specs.Options.{is_comma}
+use Rattle.as2_names.specs.Blanks.{without_blanks}
 
 -- the text is the word, without regard to the case of ASCII letters
 abbrev pub is_word : List ℕ → List ℕ → Bool

@@ -1,12 +1,8 @@
 -- Texts that are cut at commas.
-use Rattle.std.specs.Prelude.{◌≡◌, ℕ, Bool, false, ◌==◌, List, ◌∷◌, ◌++◌}
+use Rattle.std.specs.Prelude.{◌≡◌, ℕ, Bool, false, List, ◌∷◌, ◌++◌}
 use Rattle.std.specs.List.{All}
-
-abbrev pub comma : ℕ
-comma = 44
-
-abbrev pub is_comma : ℕ → Bool
-is_comma b = b == comma
+use Rattle.as2_names.specs.Ascii.{comma}
+use Rattle.as2_names.specs.Options.{is_comma}
 
 -- no byte of the text is a comma
 abbrev pub HasNoComma : List ℕ → Type 0

@@ -7,7 +7,7 @@ use Rattle.as2_mic.specs.declared.field.Compared.TheVariants.{UnknownAlg, Same, 
 use Rattle.as2_mic.specs.Algs.{alg_named}
 use Rattle.as2_mic.specs.Commas.{IsCutAtComma}
 use Rattle.as2_mic.specs.Mic.{mic}
-use Rattle.as2_mic.specs.Trim.{trimmed}
+use Rattle.as2_names.specs.Trim.{trimmed}
 
 -- a field: the text of the MIC and the name of the digest
 abbrev pub given_mic : List ℕ × List ℕ → List ℕ

@@ -4,4 +4,3 @@ pub mod Fed
 pub mod Field
 pub mod Mic
 pub mod Pieces
-pub mod Trim

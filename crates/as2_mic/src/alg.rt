@@ -3,7 +3,7 @@ ghost use Rattle.std.specs.Str.{str_eq_ignore_ascii_case};
 ghost use Rattle.as2_mic.specs.Algs.{alg_named, alg_name, first_of};
 
 use crate::commas::cut_at_comma;
-use as2_text::without_blanks;
+use as2_names::without_blanks;
 
 /// A digest that MICs are made with (RFC 4130, section 7.3.1).
 ///

@@ -2,8 +2,8 @@ ghost use Rattle.std.specs.Prelude.{◌≡◌, ℕ, List, Some, IfSome, IfNone};
 ghost use Rattle.as2_mic.specs.Field.{IsMicField, compared, compared_to};
 
 use crate::commas::cut_at_comma;
-use crate::trim::without_blanks_and_line_ends;
 use crate::{Alg, MicText, Pieces, mic_of, mic_of_pieces};
+use as2_names::without_blanks_and_line_ends;
 use std::marker::Model;
 
 /// What comes of comparing a content with the MIC that a field gives.

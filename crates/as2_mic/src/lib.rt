@@ -7,7 +7,6 @@ mod digester;
 mod field;
 mod mic_text;
 mod pieces;
-mod trim;
 
 pub use alg::Alg;
 pub use digester::{Digester, mic_of};

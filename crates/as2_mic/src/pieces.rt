@@ -4,7 +4,7 @@ ghost use Rattle.as2_mic.specs.Mic.{mic};
 ghost use Rattle.as2_mic.specs.Pieces.{AreWhole, IsKeptAs, content_of, piece_size, piece_count, piece_at};
 
 use crate::{Alg, Digester, MicText};
-use as2_text::Memory;
+use as2_names::Memory;
 use std::alloc::Global;
 use std::cmp::min;
 use std::marker::Model;

@@ -1,24 +1,7 @@
-//! The texts of AS2: names as they are spelled in a field.
+//! The texts of AS2: names, identifiers and heads, media types, parts and fields, addresses and receipt requests.
 #![tactic(auto)]
 
-mod ascii;
-mod blanks;
-mod domain;
-mod head;
-mod identifier;
-mod memory;
-mod moment;
-mod name;
-mod options;
-
-pub use blanks::without_blanks;
-pub use domain::Domain;
-pub use head::{Head, HeadFault, Once};
-pub use identifier::{IdFault, MessageId};
-pub use memory::Memory;
-pub use moment::Moment;
-pub use name::{AsName, NameFault};
-pub use options::lists;
-
-#[cfg(test)]
-mod tests;
+pub use as2_names::{
+    AsName, Domain, Head, HeadFault, IdFault, Memory, MessageId, Moment, NameFault, Once, is_blank,
+    lists, without_blanks, without_blanks_and_line_ends,
+};

@@ -1,0 +1,2 @@
+//! Media types (RFC 2045, section 5.1).
+#![tactic(auto)]

@@ -1,0 +1,7 @@
+pub mod Laws
+pub mod Printable
+pub mod Scanning
+pub mod Spelled
+pub mod Told
+pub mod Trimmed
+pub mod Trims

@@ -1,0 +1,35 @@
+-- Printable bytes are text, and so is each part of them.
+use Rattle.std.proofs.Common.{◌≡◌, ℕ, suc, zero, ◌-◌, ◌<◌, true, List, [], ◌∷◌, length, drop, Result, Ok, Err, refl, arith, inl, inr}
+use Rattle.std.specs.Prelude.{IsAscii, IsUtf8, IsOk, MatchResult}
+use Rattle.std.specs.List.{list_all}
+use Rattle.std.proofs.lemmas.Bool.{cases_Bool, and_parts}
+use Rattle.std.proofs.lemmas.Bool.Decides.{nat_tests}
+use Rattle.std.proofs.lemmas.Str.{IsUtf8-from_ascii, IsAscii-take, IsAscii-drop}
+use Rattle.as2_names.specs.Ascii.{is_printable}
+use Rattle.as2_names.specs.Identifiers.{is_bracketed, value_of}
+
+printable_small : (b : ℕ) → is_printable b ≡ true → b < 128
+printable_small b h = grind (arith, nat_tests)
+
+printable_ascii : (bs : List ℕ) → list_all is_printable bs ≡ true → IsAscii bs
+printable_ascii [] h i = omega arith
+printable_ascii (b ∷ rest) h zero = printable_small b (and_parts (is_printable b) (list_all is_printable rest) h).0
+printable_ascii (b ∷ rest) h (suc i) = printable_ascii rest (and_parts (is_printable b) (list_all is_printable rest) h).1 i
+
+pub printable_text : (bs : List ℕ) → list_all is_printable bs ≡ true → IsUtf8 bs
+printable_text bs h = IsUtf8-from_ascii bs (printable_ascii bs h)
+
+-- the value of a printable text is text
+pub value_text : (text : List ℕ) → list_all is_printable text ≡ true → IsUtf8 (value_of text)
+unfolding value_of
+value_text text h =
+    elim (cases_Bool (is_bracketed text)) [
+      | inl bracketed ↦ rw bracketed (IsUtf8-from_ascii _ (IsAscii-take (drop 1 text) (length text - 1 - 1) (IsAscii-drop text 1 (printable_ascii text h))))
+      | inr bare ↦ rw bare (printable_text text h)
+    ]
+
+-- bytes that are text are read as text
+pub read_ok : {T E : Type 0} (bs : List ℕ) (r : Result T E) (P : T → Type 0) (Q : E → Type 0) → IsUtf8 bs
+    → MatchResult r P (λ e. ¬ (IsUtf8 bs) × Q e) → IsOk r
+read_ok bs (Ok x) P Q h m = refl
+read_ok bs (Err e) P Q h m = absurd (m.0 h)

@@ -1,0 +1,9 @@
+use Rattle.std.proofs.Common.{◌≡◌, length, reverse}
+use Rattle.as2_names.specs.Blanks.{skip_blanks}
+use Rattle.as2_names.proofs.blanks.without_trailing.Given as goal
+
+abbrev pub invariant-loop-text : goal.invariant-loop-text
+invariant-loop-text l = skip_blanks (reverse l.text) ≡ skip_blanks (reverse l.fn.text)
+
+abbrev pub decreases-loop-text : goal.decreases-loop-text
+decreases-loop-text l = length l.text

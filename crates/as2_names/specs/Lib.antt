@@ -1,0 +1,10 @@
+pub mod Ascii
+pub mod Blanks
+pub mod Domains
+pub mod Heads
+pub mod Identifiers
+pub mod Moments
+pub mod Names
+pub mod Scan
+pub mod Options
+pub mod Trim

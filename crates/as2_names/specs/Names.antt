@@ -1,0 +1,81 @@
+-- AS2 names (RFC 4130, section 6.2): which text spells which name, and the first fault of a text that spells none.
+use Rattle.std.specs.Prelude.{◌≡◌, ℕ, ◌<◌, ◌≤◌, ◌⊎◌, Bool, true, false, ◌&&◌, ◌||◌, not, List, [], ◌∷◌, ◌++◌, length, if◌then◌else◌, ◌==◌, nat_lt, nat_le, IsTrue, Result, Ok, Err}
+use Rattle.std.specs.List.{flat_map, list_all}
+use Rattle.as2_names.specs.Ascii.{space, quote, backslash, tilde, is_printable}
+use Rattle.as2_names.specs.declared.name.NameFault.{NameFault}
+use Rattle.as2_names.specs.declared.name.NameFault.TheVariants.{Empty, TooLong, BadByte, BadQuoting}
+
+-- `"` and `\`, which stand in quotes behind a backslash
+abbrev pub is_special : ℕ → Bool
+is_special b = b == quote || b == backslash
+
+-- AS2-text: printable, no space, and not special
+abbrev pub is_text_byte : ℕ → Bool
+is_text_byte b = nat_lt space b && (nat_le b tilde && not (is_special b))
+
+-- a name
+pub record IsName (name : List ℕ) : Type 0 where
+  pub some : 0 < length name
+  pub short : length name ≤ 128
+  pub printable : IsTrue (list_all is_printable name)
+
+-- a byte as it stands between quotes
+abbrev pub escaped : ℕ → List ℕ
+escaped b = if is_special b then backslash ∷ b ∷ [] else b ∷ []
+
+-- the name between double quotes
+abbrev pub quoted : List ℕ → List ℕ
+quoted name = quote ∷ flat_map escaped name ++ quote ∷ []
+
+-- The text spells the name: as itself, where it is all AS2-text, or between quotes.
+abbrev pub Spells : List ℕ → List ℕ → Type 0
+Spells text name = IsName name × ((IsTrue (list_all is_text_byte name) × (text ≡ name)) ⊎ (text ≡ quoted name))
+
+-- the spelling that is written: the atomic one where there is one
+abbrev pub spelling : List ℕ → List ℕ
+spelling name = if list_all is_text_byte name then name else quoted name
+
+-- ---- reading from the left, up to the first fault
+
+-- the units are these and then those
+abbrev pub with_front : List ℕ → Result (List ℕ) NameFault → Result (List ℕ) NameFault
+with_front front (Ok units) = Ok (front ++ units)
+with_front front (Err e) = Err e
+
+-- nothing follows the closing quote
+abbrev pub closed : List ℕ → Result (List ℕ) NameFault
+closed [] = Ok []
+closed (b ∷ rest) = Err BadQuoting
+
+-- the units behind the opening quote; behind a backslash where `escaping`
+abbrev pub units : Bool → List ℕ → Result (List ℕ) NameFault
+units escaping [] = Err BadQuoting
+units true (b ∷ rest) = if is_special b then with_front (b ∷ []) (units false rest) else Err BadQuoting
+units false (b ∷ rest) =
+    if b == quote then closed rest
+    else if b == backslash then units true rest
+    else if is_printable b then with_front (b ∷ []) (units false rest) else Err BadByte
+
+-- the units, where there are 1 to 128
+abbrev pub fitting : List ℕ → Result (List ℕ) NameFault
+fitting units = if length units == 0 then Err Empty else if nat_lt 128 (length units) then Err TooLong else Ok units
+
+-- the units of a text that could be read, where they fit
+abbrev pub fitted : Result (List ℕ) NameFault → Result (List ℕ) NameFault
+fitted (Ok units) = fitting units
+fitted (Err e) = Err e
+
+-- the name that an atomic text spells
+abbrev pub atomic : List ℕ → Result (List ℕ) NameFault
+atomic text = if list_all is_text_byte text then fitting text else Err BadByte
+
+-- the name that a text spells, or its first fault
+abbrev pub reading : List ℕ → Result (List ℕ) NameFault
+reading [] = Err Empty
+reading (b ∷ rest) = if b == quote then fitted (units false rest) else atomic (b ∷ rest)
+
+-- the name that the bytes are, without a spelling
+abbrev pub plain : List ℕ → Result (List ℕ) NameFault
+plain bytes =
+    if length bytes == 0 then Err Empty
+    else if list_all is_printable bytes then fitting bytes else Err BadByte

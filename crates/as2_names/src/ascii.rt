@@ -1,0 +1,16 @@
+// Classes of bytes.
+ghost use Rattle.std.specs.Prelude.{◌≡◌};
+ghost use Rattle.std.specs.List.{list_all};
+ghost use Rattle.as2_names.specs.Ascii.{is_printable};
+
+pub(crate) fn is_printable(b: u8) -> bool
+    ensures { result ≡ is_printable b }
+{
+    matches!(b, b' '..=b'~')
+}
+
+pub(crate) fn all_printable(bytes: &[u8]) -> bool
+    ensures { result ≡ list_all is_printable bytes.now }
+{
+    bytes.iter().all(|b| is_printable(*b))
+}

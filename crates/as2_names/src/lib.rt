@@ -1,0 +1,26 @@
+//! Names, identifiers, domains, moments and heads of AS2 messages: the lowest layer of the texts.
+#![tactic(auto)]
+
+mod ascii;
+mod blanks;
+mod domain;
+mod head;
+mod identifier;
+mod memory;
+mod moment;
+mod name;
+mod options;
+mod trim;
+
+pub use blanks::{is_blank, without_blanks};
+pub use domain::Domain;
+pub use head::{Head, HeadFault, Once};
+pub use identifier::{IdFault, MessageId};
+pub use memory::Memory;
+pub use moment::Moment;
+pub use name::{AsName, NameFault};
+pub use options::lists;
+pub use trim::without_blanks_and_line_ends;
+
+#[cfg(test)]
+mod tests;
