@@ -5,7 +5,8 @@ use Rattle.as2_mic.specs.declared.alg.Alg.{Alg}
 use Rattle.as2_mic.specs.declared.field.Compared.{Compared}
 use Rattle.as2_mic.specs.declared.field.Compared.TheVariants.{UnknownAlg, Same, Differs}
 use Rattle.as2_mic.specs.Algs.{alg_named}
-use Rattle.as2_mic.specs.Commas.{IsCutAtComma}
+use Rattle.as2_names.specs.Ascii.{comma}
+use Rattle.as2_names.specs.Cuts.{IsCutAt}
 use Rattle.as2_mic.specs.Mic.{mic}
 use Rattle.as2_names.specs.Trim.{trimmed}
 
@@ -21,7 +22,7 @@ given_digest field = field.1
 pub record IsMicField (value : List ℕ) (field : List ℕ × List ℕ) : Type 0 where
   pub before : List ℕ
   pub behind : List ℕ
-  pub cut : IsCutAtComma value before behind
+  pub cut : IsCutAt comma value before behind
   pub mic : given_mic field ≡ trimmed before
   pub digest : given_digest field ≡ trimmed behind
   pub has_mic : given_mic field ≢ []

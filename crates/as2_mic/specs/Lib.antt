@@ -1,5 +1,4 @@
 pub mod Algs
-pub mod Commas
 pub mod Fed
 pub mod Field
 pub mod Mic

@@ -2,8 +2,7 @@ ghost use Rattle.std.specs.Prelude.{◌≡◌};
 ghost use Rattle.std.specs.Str.{str_eq_ignore_ascii_case};
 ghost use Rattle.as2_mic.specs.Algs.{alg_named, alg_name, first_of};
 
-use crate::commas::cut_at_comma;
-use as2_names::without_blanks;
+use as2_names::{cut_at, without_blanks};
 
 /// A digest that MICs are made with (RFC 4130, section 7.3.1).
 ///
@@ -53,7 +52,7 @@ impl Alg {
         ensures { result ≡ first_of list.now }
     {
         let mut rest = list;
-        while let Some((name, names)) = cut_at_comma(rest) {
+        while let Some((name, names)) = cut_at(rest, b',') {
             if let Some(alg) = Alg::named(without_blanks(name)) {
                 return Some(alg);
             }

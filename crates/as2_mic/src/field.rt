@@ -1,9 +1,8 @@
 ghost use Rattle.std.specs.Prelude.{◌≡◌, ℕ, List, Some, IfSome, IfNone};
 ghost use Rattle.as2_mic.specs.Field.{IsMicField, compared, compared_to};
 
-use crate::commas::cut_at_comma;
 use crate::{Alg, MicText, Pieces, mic_of, mic_of_pieces};
-use as2_names::without_blanks_and_line_ends;
+use as2_names::{cut_at, without_blanks_and_line_ends};
 use std::marker::Model;
 
 /// What comes of comparing a content with the MIC that a field gives.
@@ -54,7 +53,7 @@ impl<'a> MicField<'a> {
         // Where nothing is read, nothing stands there.
         ensures none { IfNone result ((field : List ℕ × List ℕ) → ¬ IsMicField value.now field) }
     {
-        let Some((before, behind)) = cut_at_comma(value) else {
+        let Some((before, behind)) = cut_at(value, b',') else {
             return None;
         };
         let mic = without_blanks_and_line_ends(before);

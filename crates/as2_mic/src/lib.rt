@@ -2,7 +2,6 @@
 #![tactic(auto)]
 
 mod alg;
-mod commas;
 mod digester;
 mod field;
 mod mic_text;

@@ -1,3 +1,4 @@
+pub mod Cuts
 pub mod Laws
 pub mod Printable
 pub mod Scanning

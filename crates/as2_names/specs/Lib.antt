@@ -1,5 +1,6 @@
 pub mod Ascii
 pub mod Blanks
+pub mod Cuts
 pub mod Domains
 pub mod Heads
 pub mod Identifiers

@@ -3,6 +3,7 @@
 
 mod ascii;
 mod blanks;
+mod cut;
 mod domain;
 mod head;
 mod identifier;
@@ -13,6 +14,7 @@ mod options;
 mod trim;
 
 pub use blanks::{is_blank, without_blanks};
+pub use cut::cut_at;
 pub use domain::Domain;
 pub use head::{Head, HeadFault, Once};
 pub use identifier::{IdFault, MessageId};
