@@ -1,6 +1,5 @@
 pub mod Heads
 pub mod Reading
-pub mod Numbers
 pub mod Judging
 pub mod Framed
 pub mod Alone

@@ -1,9 +1,9 @@
 //! What the fields of a head say of the bytes behind it (RFC 9112, sections 6 and 9.6).
 ghost use Rattle.std.specs.Prelude.{◌≡◌, ◌≤◌, IfOk};
-ghost use Rattle.std.specs.List.{list_all};
-ghost use Rattle.std.specs.Char.{is_ascii_digit};
 ghost use Rattle.as2_http.specs.Requests.{is_head};
-ghost use Rattle.as2_http.specs.Framing.{is_number, content_length};
+ghost use Rattle.as2_http.specs.Framing.{content_length};
+
+use as2_text::{decimal_value, is_number};
 
 /// The most bytes that the body of a request may have.
 pub const BODY_LIMIT: usize = 1_048_576;
@@ -61,19 +61,6 @@ pub struct Refused {
     pub to_head: bool,
 }
 
-fn all_digits(value: &[u8]) -> bool
-    ensures { result ≡ list_all is_ascii_digit value.now }
-{
-    value.iter().all(|byte| byte.is_ascii_digit())
-}
-
-/// One or more digits.
-fn is_number(value: &[u8]) -> bool
-    ensures { result ≡ is_number value.now }
-{
-    !value.is_empty() && all_digits(value)
-}
-
 /// The number of bytes that one `Content-Length` says.
 pub fn content_length(value: &[u8]) -> Result<usize, Refusal>
     ensures exact { result ≡ content_length value.now }
@@ -82,8 +69,8 @@ pub fn content_length(value: &[u8]) -> Result<usize, Refusal>
     if !is_number(value) {
         return Err(Refusal::BadLength);
     }
-    match str::from_utf8(value).unwrap().parse::<usize>() {
-        Ok(length) if length <= BODY_LIMIT => Ok(length),
+    match decimal_value(value) {
+        Some(length) if length <= BODY_LIMIT as u64 => Ok(length as usize),
         _ => Err(Refusal::TooLarge),
     }
 }

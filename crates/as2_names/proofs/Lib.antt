@@ -1,5 +1,6 @@
 pub mod Cuts
 pub mod Laws
+pub mod Numbers
 pub mod Printable
 pub mod Scanning
 pub mod Spelled

@@ -6,6 +6,7 @@ pub mod Heads
 pub mod Identifiers
 pub mod Moments
 pub mod Names
+pub mod Numbers
 pub mod Scan
 pub mod Options
 pub mod Trim

@@ -10,6 +10,7 @@ mod identifier;
 mod memory;
 mod moment;
 mod name;
+mod number;
 mod options;
 mod trim;
 
@@ -21,6 +22,7 @@ pub use identifier::{IdFault, MessageId};
 pub use memory::Memory;
 pub use moment::Moment;
 pub use name::{AsName, NameFault};
+pub use number::{decimal_value, is_number};
 pub use options::lists;
 pub use trim::without_blanks_and_line_ends;
 

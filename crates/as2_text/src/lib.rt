@@ -2,6 +2,6 @@
 #![tactic(auto)]
 
 pub use as2_names::{
-    AsName, Domain, Head, HeadFault, IdFault, Memory, MessageId, Moment, NameFault, Once, cut_at, is_blank,
-    lists, without_blanks, without_blanks_and_line_ends,
+    AsName, Domain, Head, HeadFault, IdFault, Memory, MessageId, Moment, NameFault, Once, cut_at,
+    decimal_value, is_blank, is_number, lists, without_blanks, without_blanks_and_line_ends,
 };

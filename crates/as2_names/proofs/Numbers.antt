@@ -1,5 +1,5 @@
 -- Digits are text, and what they are parsed as.
-use Rattle.std.proofs.Common.{◌≡◌, ℕ, suc, zero, ◌<◌, ◌^◌, true, List, [], ◌∷◌, length, Result, Ok, Err, refl, sym, arith, rules, inl, inr, nat_le}
+use Rattle.std.proofs.Common.{◌≡◌, ℕ, suc, zero, ◌<◌, ◌^◌, true, List, [], ◌∷◌, length, Option, Some, None, Result, Ok, Err, refl, sym, arith, rules, inl, inr, nat_lt}
 use Rattle.std.specs.Prelude.{IsAscii, IsUtf8, IsOk, MatchResult}
 use Rattle.std.specs.Char.{is_ascii_digit}
 use Rattle.std.specs.List.{list_all}
@@ -9,8 +9,7 @@ use Rattle.std.proofs.lemmas.Bool.{cases_Bool, and_parts}
 use Rattle.std.proofs.lemmas.Bool.Decides.{nat_tests}
 use Rattle.std.proofs.lemmas.Str.{IsUtf8-from_ascii}
 use Rattle.std.proofs.lemmas.Str.Parse.{IsNumeralModel, numerals_by_value, parse_digits}
-use Rattle.as2_http.specs.Framing.{is_number, content_length}
-use Rattle.as2_http.specs.declared.framing.Refusal.TheVariants.{TooLarge}
+use Rattle.as2_names.specs.Numbers.{is_number, decimal_value}
 
 digit_small : (b : ℕ) → is_ascii_digit b ≡ true → b < 128
 digit_small b h = grind (arith, nat_tests)
@@ -39,15 +38,12 @@ pub read_ok : {T E : Type 0} (bs : List ℕ) (r : Result T E) (P : T → Type 0)
 read_ok bs (Ok x) P Q h m = refl
 read_ok bs (Err e) P Q h m = absurd (m.0 h)
 
--- a number that doesn't fit is over the limit
-pub over_limit : (bs : List ℕ) → is_number bs ≡ true → ¬ ((0 < length bs) × (digits_value 10 bs < 2 ^ 64)) → Err TooLarge ≡ content_length bs
-over_limit bs h n =
-    elim (cases_Bool (nat_le (digits_value 10 bs) 1048576)) [
-      | inl t ↦ absurd (n (grind (arith, nat_tests), grind (arith, nat_tests)))
+-- a number that isn't parsed has no value
+pub none_parsed : {E : Type 0} (bs text : List ℕ) (r : Result ℕ E) (e : E) → text ≡ bs → ParsesUnsigned 64 10 text r → r ≡ Err e → is_number bs ≡ true → None ≡ decimal_value bs
+none_parsed bs text (Ok n) e same p is h = absurd cc
+none_parsed bs text (Err f) e same p is h =
+    let o : ¬ ((0 < length bs) × (digits_value 10 bs < 2 ^ 64)) = parsed bs (Err f) (rw (sym same) p) h in
+    elim (cases_Bool (nat_lt (digits_value 10 bs) (2 ^ 64))) [
+      | inl t ↦ absurd (o (grind (arith, nat_tests), grind (arith, nat_tests)))
       | inr f ↦ rw (h, f) refl
     ]
-
--- the same of the call's answer
-pub over_parsed : {E : Type 0} (bs text : List ℕ) (r : Result ℕ E) (e : E) → text ≡ bs → ParsesUnsigned 64 10 text r → r ≡ Err e → is_number bs ≡ true → Err TooLarge ≡ content_length bs
-over_parsed bs text (Ok n) e same p err h = absurd cc
-over_parsed bs text (Err f) e same p err h = over_limit bs h (parsed bs (Err f) (rw (sym same) p) h)
