@@ -1,5 +1,5 @@
 -- Digits are text, and what they are parsed as.
-use Rattle.std.proofs.Common.{◌≡◌, ℕ, suc, zero, ◌<◌, ◌^◌, true, List, [], ◌∷◌, length, Option, Some, None, Result, Ok, Err, refl, sym, arith, rules, inl, inr, nat_lt}
+use Rattle.std.proofs.Common.{◌≡◌, ℕ, suc, zero, ◌<◌, ◌^◌, true, List, [], ◌∷◌, length, None, Result, Ok, Err, refl, sym, arith, rules, inl, inr, nat_lt}
 use Rattle.std.specs.Prelude.{IsAscii, IsUtf8, IsOk, MatchResult}
 use Rattle.std.specs.Char.{is_ascii_digit}
 use Rattle.std.specs.List.{list_all}

@@ -21,6 +21,10 @@ space = 32
 abbrev pub quote : ℕ
 quote = 34
 
+-- b'#'
+abbrev pub number_sign : ℕ
+number_sign = 35
+
 -- b','
 abbrev pub comma : ℕ
 comma = 44
@@ -36,6 +40,10 @@ dot = 46
 -- b'/'
 abbrev pub slash : ℕ
 slash = 47
+
+-- b'0'
+abbrev pub digit_zero : ℕ
+digit_zero = 48
 
 -- b':'
 abbrev pub colon : ℕ

@@ -1,6 +1,6 @@
 ghost use Rattle.std.specs.Prelude.{◌≡◌, ℕ, List, ⊤};
 ghost use Rattle.std.specs.List.{list_all};
-ghost use Rattle.as2_names.specs.Domains.{IsDomain, domain_of, is_domain_byte};
+ghost use Rattle.as2_names.specs.Domains.{IsDomain, domain_of, is_domain, is_domain_byte};
 
 use arrayvec::ArrayVec;
 use std::alloc::AllocError;
@@ -32,12 +32,19 @@ fn all_domain_bytes(bytes: &[u8]) -> bool
     bytes.iter().all(|b| is_domain_byte(*b))
 }
 
+/// Whether the bytes are a domain, or a host of that form: 1 to 253 letters, digits, hyphens and dots.
+pub fn is_domain(bytes: &[u8]) -> bool
+    ensures { result ≡ is_domain bytes.now }
+{
+    !bytes.is_empty() && bytes.len() <= 253 && all_domain_bytes(bytes)
+}
+
 impl Domain {
     /// The domain that the bytes are; None where they are no domain.
     pub fn of(bytes: &[u8]) -> Option<Domain>
         ensures { result ≡ domain_of bytes.now }
     {
-        if bytes.is_empty() || bytes.len() > 253 || !all_domain_bytes(bytes) {
+        if !is_domain(bytes) {
             return None;
         }
         let mut kept = ArrayVec::new();

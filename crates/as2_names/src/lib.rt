@@ -16,7 +16,7 @@ mod trim;
 
 pub use blanks::{is_blank, without_blanks};
 pub use cut::cut_at;
-pub use domain::Domain;
+pub use domain::{Domain, is_domain};
 pub use head::{Head, HeadFault, Once};
 pub use identifier::{IdFault, MessageId};
 pub use memory::Memory;

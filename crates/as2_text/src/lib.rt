@@ -1,7 +1,10 @@
 //! The texts of AS2: names, identifiers and heads, media types, parts and fields, addresses and receipt requests.
 #![tactic(auto)]
 
+mod url;
+
 pub use as2_names::{
     AsName, Domain, Head, HeadFault, IdFault, Memory, MessageId, Moment, NameFault, Once, cut_at,
     decimal_value, is_blank, is_number, lists, without_blanks, without_blanks_and_line_ends,
 };
+pub use url::Url;
