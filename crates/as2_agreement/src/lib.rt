@@ -1,0 +1,2 @@
+//! Agreements with partners, read from TOML.
+#![tactic(auto)]
