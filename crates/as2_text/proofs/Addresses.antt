@@ -87,7 +87,8 @@ url_found text url e =
       http = tests.1;
       authority = authority_found (before_slash rest) parts.0;
       target = target_found (from_slash rest) parts.1;
-      short = grind (arith, nat_tests) })
+      short = grind (arith, nat_tests);
+    })
 
 -- ---- what is an address is read
 
@@ -156,17 +157,21 @@ behind_said b rest target (inr s) = s.0
 
 split_again : (authority behind target : List ℕ) → Lacks slash authority → SaysTarget behind target → Splits (authority ++ behind) authority behind target
 split_again authority [] target lacks says =
-    record { before = ap before_slash (append-nil authority) ∙ before_none authority lacks;
-             from = ap from_slash (append-nil authority) ∙ from_none authority lacks;
-             follows = refl;
-             says = root_said target says }
+    record {
+      before = ap before_slash (append-nil authority) ∙ before_none authority lacks;
+      from = ap from_slash (append-nil authority) ∙ from_none authority lacks;
+      follows = refl;
+      says = root_said target says;
+    }
 split_again authority (b ∷ rest) target lacks says =
     let t : is_target (b ∷ rest) ≡ true = target_said b rest target says in
     let same : b ≡ slash = eqb-true b slash (and_parts (b == slash) (list_all is_target_byte rest) t).0 in
-    record { before = rw same (before_first authority rest lacks);
-             from = rw same (from_first authority rest lacks);
-             follows = t;
-             says = behind_said b rest target says }
+    record {
+      before = rw same (before_first authority rest lacks);
+      from = rw same (from_first authority rest lacks);
+      follows = t;
+      says = behind_said b rest target says;
+    }
 
 rest_again : (authority behind target rest : List ℕ) → rest ≡ authority ++ behind → IsAuthority authority → SaysTarget behind target → address_in rest ≡ Some (authority, target)
 rest_again authority behind target rest e a t =

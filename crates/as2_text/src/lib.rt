@@ -1,6 +1,8 @@
 //! The texts of AS2: names, identifiers and heads, media types, parts and fields, addresses and receipt requests.
 #![tactic(auto)]
 
+mod receipt_option;
+mod receipt_options;
 mod url;
 
 pub use as2_names::{
