@@ -1,6 +1,7 @@
 //! The texts of AS2: names, identifiers and heads, media types, parts and fields, addresses and receipt requests.
 #![tactic(auto)]
 
+mod receipt_ask;
 mod receipt_option;
 mod receipt_options;
 mod url;
@@ -9,4 +10,8 @@ pub use as2_names::{
     AsName, Domain, Head, HeadFault, IdFault, Memory, MessageId, Moment, NameFault, Once, cut_at,
     decimal_value, is_blank, is_number, lists, without_blanks, without_blanks_and_line_ends,
 };
+pub use receipt_ask::{AskFault, How, ReceiptAsk};
 pub use url::Url;
+
+#[cfg(test)]
+mod tests;

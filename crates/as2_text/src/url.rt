@@ -115,6 +115,8 @@ impl<'a> Url<'a> {
         ensures only { (url : List ℕ × List ℕ) → IsUrl text.now url → result ≡ Some url }
         // Where nothing is read, no address is written there.
         ensures none { IfNone result ((url : List ℕ × List ℕ) → ¬ IsUrl text.now url) }
+        // The same as a value.
+        ensures exact { result ≡ url_of text.now }
     {
         url_of(text)
     }
