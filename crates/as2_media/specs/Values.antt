@@ -1,0 +1,47 @@
+-- The values of parameters and their spelling (RFC 2045, section 5.1; the quoted string of RFC 822, section 3.3).
+use Rattle.std.specs.Prelude.{◌≡◌, ◌≢◌, ℕ, ◌-◌, ◌⊎◌, Bool, true, false, ◌&&◌, ◌||◌, not, ◌==◌, nat_le, List, [], ◌∷◌, ◌++◌, length, slice_index, slice_range, if◌then◌else◌, IsTrue, Option, Some, None}
+use Rattle.std.specs.List.{list_all}
+use Rattle.as2_names.specs.Ascii.{quote, backslash}
+use Rattle.as2_names.specs.Trim.{trimmed}
+use Rattle.as2_media.specs.Bytes.{is_bare_byte, is_line_byte}
+
+-- a value that stands without quotes: no blank at its ends
+pub record IsBare (value : List ℕ) : Type 0 where
+  pub some : value ≢ []
+  pub trim : trimmed value ≡ value
+  pub bytes : IsTrue (list_all is_bare_byte value)
+
+-- Units that may stand between quotes, each a backslash and the byte behind it or a byte other than a quote and a
+-- backslash, and none with CR or LF; from behind a backslash where `escaped`.
+abbrev pub is_quoted_text : Bool → List ℕ → Bool
+is_quoted_text escaped [] = not escaped
+is_quoted_text true (b ∷ rest) = not (is_line_byte b) && is_quoted_text false rest
+is_quoted_text false (b ∷ rest) = not (is_line_byte b) && (not (b == quote) && is_quoted_text (b == backslash) rest)
+
+-- the text between quotes
+abbrev pub quoted : List ℕ → List ℕ
+quoted value = quote ∷ value ++ quote ∷ []
+
+-- The text spells the value: as itself, or between quotes, where the value is what stands there, backslashes and all.
+abbrev pub SpellsValue : List ℕ → List ℕ → Type 0
+SpellsValue text value = (IsBare value × (text ≡ value)) ⊎ (IsTrue (is_quoted_text false value) × (text ≡ quoted value))
+
+-- ---- reading
+
+-- it begins with a quote and ends with another
+abbrev pub is_enclosed : List ℕ → Bool
+is_enclosed text =
+    nat_le 2 (length text)
+    && slice_index text 0 == quote
+    && slice_index text (length text - 1) == quote
+
+-- what stands between its first and its last byte
+abbrev pub inside : List ℕ → List ℕ
+inside text = slice_range text 1 (length text - 1)
+
+-- the value that a text without blanks at its ends spells
+unfoldable pub value_of : List ℕ → Option (List ℕ)
+value_of text =
+    if is_enclosed text && is_quoted_text false (inside text) then Some (inside text)
+    else if not (length text == 0) && list_all is_bare_byte text then Some text
+    else None
