@@ -35,13 +35,15 @@ is_enclosed text =
     && slice_index text 0 == quote
     && slice_index text (length text - 1) == quote
 
--- what stands between its first and its last byte
-abbrev pub inside : List ℕ → List ℕ
-inside text = slice_range text 1 (length text - 1)
+-- what stands between the quotes that the text begins and ends with
+unfoldable pub between_quotes : List ℕ → Option (List ℕ)
+between_quotes text = if is_enclosed text then Some (slice_range text 1 (length text - 1)) else None
+
+-- the value that stands between quotes, or else the text itself
+abbrev pub value_among : Option (List ℕ) → List ℕ → Option (List ℕ)
+value_among (Some value) text = if is_quoted_text false value then Some value else None
+value_among None text = if not (length text == 0) && list_all is_bare_byte text then Some text else None
 
 -- the value that a text without blanks at its ends spells
-unfoldable pub value_of : List ℕ → Option (List ℕ)
-value_of text =
-    if is_enclosed text && is_quoted_text false (inside text) then Some (inside text)
-    else if not (length text == 0) && list_all is_bare_byte text then Some text
-    else None
+abbrev pub value_of : List ℕ → Option (List ℕ)
+value_of text = value_among (between_quotes text) text

@@ -14,3 +14,6 @@ mod value;
 pub use fault::TypeFault;
 pub use kind::Kind;
 pub use media_type::MediaType;
+
+#[cfg(test)]
+mod tests;

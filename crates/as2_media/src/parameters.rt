@@ -30,7 +30,7 @@ impl<'a> Model for Parameters<'a> {
 impl<'a> Parameters<'a> {
     /// The parameters that stand behind a media type's first `;`, if it has one.
     pub(crate) fn parse(text: Option<&'a [u8]>) -> Result<Parameters<'a>, TypeFault>
-        ensures { result ≡ parameters 8 (segments_of (option_map (λ t. t.now) text)) }
+        ensures { result ≡ parameters 8 (segments_of (option_map (λ t. t.now) text.entry)) }
     {
         let mut held = ArrayVec::new();
         let mut rest = text;

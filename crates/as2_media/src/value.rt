@@ -1,6 +1,6 @@
 // The spelling of a parameter's value.
-ghost use Rattle.std.specs.Prelude.{◌≡◌, option_map};
-ghost use Rattle.as2_media.specs.Values.{is_bare, is_quoted, is_quoted_text, value_of};
+ghost use Rattle.std.specs.Prelude.{◌≡◌, false, option_map};
+ghost use Rattle.as2_media.specs.Values.{is_quoted_text, between_quotes, value_of};
 
 use crate::token::{all_bare_bytes, is_line_byte};
 
@@ -18,13 +18,36 @@ fn is_quoted_text(text: &[u8]) -> bool
     !escaped
 }
 
-/// The value that a text without blanks at its ends spells: the text itself, or what stands between its quotes.
+/// What stands between the quotes that a text begins and ends with.
+#[tactic(auto, unfolding(crate::specs::Values::between_quotes))]
+fn between_quotes(text: &[u8]) -> Option<&[u8]>
+    ensures { option_map (λ v. v.now) result ≡ between_quotes text.now }
+{
+    match text {
+        [b'"', value @ .., b'"'] => Some(value),
+        _ => None,
+    }
+}
+
+/// The value that a text without blanks at its ends spells: what stands between its quotes, or the text itself where it
+/// has none.
 pub(crate) fn value_of(spelled: &[u8]) -> Option<&[u8]>
     ensures { option_map (λ v. v.now) result ≡ value_of spelled.now }
 {
-    match spelled {
-        [b'"', value @ .., b'"'] if is_quoted_text(value) => Some(value),
-        [_, ..] if all_bare_bytes(spelled) => Some(spelled),
-        _ => None,
+    match between_quotes(spelled) {
+        Some(value) => {
+            if is_quoted_text(value) {
+                Some(value)
+            } else {
+                None
+            }
+        }
+        None => {
+            if !spelled.is_empty() && all_bare_bytes(spelled) {
+                Some(spelled)
+            } else {
+                None
+            }
+        }
     }
 }
