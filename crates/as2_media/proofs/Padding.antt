@@ -1,5 +1,5 @@
 -- What blanks and line ends around a text are to it.
-use Rattle.std.proofs.Common.{◌≡◌, ⊥, ℕ, ◌<◌, ◌≤◌, ◌+◌, Bool, true, false, List, [], ◌∷◌, ◌++◌, length, refl, sym, ap, subst, ◌∙◌, append_assoc, arith, inl, inr}
+use Rattle.std.proofs.Common.{◌≡◌, ℕ, ◌<◌, ◌≤◌, ◌+◌, Bool, true, false, List, [], ◌∷◌, ◌++◌, length, refl, sym, ap, subst, ◌∙◌, append_assoc, arith, inl, inr}
 use Rattle.std.specs.Prelude.{◌&&◌, ◌||◌, ◌==◌, IsTrue}
 use Rattle.std.proofs.lemmas.Bool.{cases_Bool, and_parts, and_from}
 use Rattle.as2_names.specs.Ascii.{line_feed, carriage_return}
@@ -19,7 +19,7 @@ end_more false true r x y f h = refl
 end_more false false true x y f h = f h
 end_more false false false x y f h = h
 
-falls_on : (b : ℕ) (rest text : List ℕ) → (begins_with_lf rest ≡ true → begins_with_lf text ≡ true) → falls_off b rest ≡ true → falls_off b text ≡ true
+pub falls_on : (b : ℕ) (rest text : List ℕ) → (begins_with_lf rest ≡ true → begins_with_lf text ≡ true) → falls_off b rest ≡ true → falls_off b text ≡ true
 falls_on b rest text f h = end_more (is_blank b) (b == line_feed) (b == carriage_return) (begins_with_lf rest) (begins_with_lf text) f h
 
 falls_more : (b : ℕ) (front text : List ℕ) → falls_off b front ≡ true → falls_off b (front ++ text) ≡ true
@@ -37,7 +37,7 @@ front_off (b ∷ rest) text h =
     let p = and_parts (falls_off b rest) (all_fall_off rest) h in
     rw (falls_more b rest text p.0) (front_off rest text p.1)
 
-none_stays : (text : List ℕ) → all_fall_off text ≡ true → without_back text ≡ []
+pub none_stays : (text : List ℕ) → all_fall_off text ≡ true → without_back text ≡ []
 none_stays [] h = refl
 none_stays (b ∷ rest) h = rw h refl
 
@@ -61,7 +61,7 @@ pub record IsSolid (text : List ℕ) : Type 0 where
   pub front : (behind : List ℕ) → without_front (text ++ behind) ≡ text ++ behind
   pub back : (blanks : List ℕ) → all_fall_off blanks ≡ true → without_back (text ++ blanks) ≡ text
 
-record Ends (text : List ℕ) : Type 0 where
+pub record Ends (text : List ℕ) : Type 0 where
   pub some : text ≡ [] → ⊥
   pub back : (blanks : List ℕ) → all_fall_off blanks ≡ true → without_back (text ++ blanks) ≡ text
 
@@ -74,7 +74,7 @@ no_margin false false false x h = refl
 pub stays : (b : ℕ) (rest : List ℕ) → is_margin b ≡ false → falls_off b rest ≡ false
 stays b rest h = no_margin (is_blank b) (b == line_feed) (b == carriage_return) (begins_with_lf rest) h
 
-one_ends : (b : ℕ) → is_margin b ≡ false → Ends (b ∷ [])
+pub one_ends : (b : ℕ) → is_margin b ≡ false → Ends (b ∷ [])
 one_ends b h = record {
   some = λ e. absurd cc;
   back = λ blanks off. rw (stays b blanks h, none_stays blanks off) refl;
@@ -91,15 +91,29 @@ some_stays text blanks e off =
       | inr some ↦ some
     ]
 
-more_ends : (b : ℕ) (text : List ℕ) → Ends text → Ends (b ∷ text)
+pub more_ends : (b : ℕ) (text : List ℕ) → Ends text → Ends (b ∷ text)
 more_ends b text e = record {
   some = λ n. absurd cc;
   back = λ blanks off. rw (some_stays text blanks e off, and_no (falls_off b (text ++ blanks)), e.back blanks off) refl;
 }
 
-solid : (b : ℕ) (rest : List ℕ) → is_margin b ≡ false → Ends (b ∷ rest) → IsSolid (b ∷ rest)
+pub front_ends : (front text : List ℕ) → IsSolid text → Ends (front ++ text)
+front_ends [] text s = record { some = s.some; back = s.back }
+front_ends (b ∷ rest) text s = more_ends b (rest ++ text) (front_ends rest text s)
+
+pub solid : (b : ℕ) (rest : List ℕ) → is_margin b ≡ false → Ends (b ∷ rest) → IsSolid (b ∷ rest)
 solid b rest h e = record {
   some = e.some;
   front = λ behind. rw (stays b (rest ++ behind) h) refl;
   back = e.back;
 }
+
+pub front_solid : (front text : List ℕ) → (b : ℕ) (rest : List ℕ) → front ≡ b ∷ rest → is_margin b ≡ false → IsSolid text → IsSolid (front ++ text)
+front_solid front text b rest e h s = rw e (solid b (rest ++ text) h (front_ends (b ∷ rest) text s))
+
+-- blanks around a solid text come off
+pub padded_trimmed : (text inner : List ℕ) → IsPadded text inner → IsSolid inner → trimmed text ≡ inner
+padded_trimmed text inner p s =
+    ap trimmed (p.whole ∙ append_assoc p.front inner p.back)
+    ∙ ap without_back (front_off p.front (inner ++ p.back) p.blank_front ∙ s.front p.back)
+    ∙ s.back p.back p.blank_back
