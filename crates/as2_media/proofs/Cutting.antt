@@ -15,7 +15,7 @@ abbrev pub is_free : ℕ → List ℕ → Bool
 is_free mark [] = true
 is_free mark (b ∷ rest) = not (b == mark) && is_free mark rest
 
-not_false : (x : Bool) → not x ≡ true → x ≡ false
+pub not_false : (x : Bool) → not x ≡ true → x ≡ false
 not_false true h = absurd cc
 not_false false h = refl
 
@@ -57,6 +57,16 @@ cut_whole mark (b ∷ text) rest h =
           rw other (ap (λ (x : List ℕ). b ∷ x) (cut_whole mark text rest e))
     ]
 
+pub before_none : (mark : ℕ) (text : List ℕ) → behind mark text ≡ None → before mark text ≡ text
+before_none mark [] h = refl
+before_none mark (b ∷ text) h =
+    elim (cases_Bool (b == mark)) [
+      | inl same ↦ absurd (let e : Some text ≡ None = rw same at h in cc)
+      | inr other ↦
+          let e : behind mark text ≡ None = rw other at h in
+          rw other (ap (λ (x : List ℕ). b ∷ x) (before_none mark text e))
+    ]
+
 -- ---- texts without the mark
 
 pub free_append : (mark : ℕ) (front text : List ℕ) → is_free mark front ≡ true → is_free mark text ≡ true → is_free mark (front ++ text) ≡ true
@@ -66,7 +76,7 @@ free_append mark (b ∷ front) text f t =
     and_from (not (b == mark)) (is_free mark (front ++ text)) p.0 (free_append mark front text p.1 t)
 
 -- a byte that passes a test is none that doesn't
-other_byte : (test : ℕ → Bool) (b mark : ℕ) → test b ≡ true → test mark ≡ false → not (b == mark) ≡ true
+pub other_byte : (test : ℕ → Bool) (b mark : ℕ) → test b ≡ true → test mark ≡ false → not (b == mark) ≡ true
 other_byte test b mark passed failed =
     elim (cases_Bool (b == mark)) [
       | inl same ↦ absurd (let e : b ≡ mark = eqb-true b mark same in let t : true ≡ false = sym passed ∙ ap test e ∙ failed in cc)
@@ -87,14 +97,15 @@ blank_free mark (b ∷ rest) m h =
     let p = and_parts (falls_off b rest) (all_fall_off rest) h in
     and_from (not (b == mark)) (is_free mark rest) (other_byte is_margin b mark (margin b rest p.0) m) (blank_free mark rest m p.1)
 
-pub tokens_free : (mark : ℕ) (text : List ℕ) → is_token_byte mark ≡ false → list_all is_token_byte text ≡ true → is_free mark text ≡ true
-tokens_free mark [] m h = refl
-tokens_free mark (b ∷ rest) m h =
-    let p = and_parts (is_token_byte b) (list_all is_token_byte rest) h in
-    and_from (not (b == mark)) (is_free mark rest) (other_byte is_token_byte b mark p.0 m) (tokens_free mark rest m p.1)
+-- a text whose bytes all pass a test has none that doesn't
+pub passing_free : (test : ℕ → Bool) (mark : ℕ) (text : List ℕ) → test mark ≡ false → list_all test text ≡ true → is_free mark text ≡ true
+passing_free test mark [] m h = refl
+passing_free test mark (b ∷ rest) m h =
+    let p = and_parts (test b) (list_all test rest) h in
+    and_from (not (b == mark)) (is_free mark rest) (other_byte test b mark p.0 m) (passing_free test mark rest m p.1)
 
 pub token_free : (mark : ℕ) (text : List ℕ) → is_token_byte mark ≡ false → is_token text ≡ true → is_free mark text ≡ true
-token_free mark text m h = tokens_free mark text m (and_parts (not (length text == 0)) (list_all is_token_byte text) h).1
+token_free mark text m h = passing_free is_token_byte mark text m (and_parts (not (length text == 0)) (list_all is_token_byte text) h).1
 
 pub padded_free : (mark : ℕ) (text inner : List ℕ) → is_margin mark ≡ false → IsPadded text inner → is_free mark inner ≡ true → is_free mark text ≡ true
 padded_free mark text inner m p h =

@@ -97,9 +97,9 @@ more_ends b text e = record {
   back = λ blanks off. rw (some_stays text blanks e off, and_no (falls_off b (text ++ blanks)), e.back blanks off) refl;
 }
 
-pub front_ends : (front text : List ℕ) → IsSolid text → Ends (front ++ text)
-front_ends [] text s = record { some = s.some; back = s.back }
-front_ends (b ∷ rest) text s = more_ends b (rest ++ text) (front_ends rest text s)
+pub front_ends : (front text : List ℕ) → Ends text → Ends (front ++ text)
+front_ends [] text e = e
+front_ends (b ∷ rest) text e = more_ends b (rest ++ text) (front_ends rest text e)
 
 pub solid : (b : ℕ) (rest : List ℕ) → is_margin b ≡ false → Ends (b ∷ rest) → IsSolid (b ∷ rest)
 solid b rest h e = record {
@@ -107,9 +107,6 @@ solid b rest h e = record {
   front = λ behind. rw (stays b (rest ++ behind) h) refl;
   back = e.back;
 }
-
-pub front_solid : (front text : List ℕ) → (b : ℕ) (rest : List ℕ) → front ≡ b ∷ rest → is_margin b ≡ false → IsSolid text → IsSolid (front ++ text)
-front_solid front text b rest e h s = rw e (solid b (rest ++ text) h (front_ends (b ∷ rest) text s))
 
 -- blanks around a solid text come off
 pub padded_trimmed : (text inner : List ℕ) → IsPadded text inner → IsSolid inner → trimmed text ≡ inner

@@ -32,16 +32,16 @@ pub token_solid : (text : List ℕ) → is_token text ≡ true → IsSolid text
 token_solid [] h = absurd cc
 token_solid (b ∷ rest) h = solid b rest (token_first b rest h) (tokens_end b rest (token_bytes (b ∷ rest) h))
 
--- two tokens and what is between them
-pub tokens_solid : (text between behind : List ℕ) → is_token text ≡ true → IsSolid behind → IsSolid (text ++ between ++ behind)
-tokens_solid [] between behind h s = absurd cc
-tokens_solid (b ∷ rest) between behind h s =
-    solid b (rest ++ between ++ behind) (token_first b rest h) (front_ends (b ∷ rest ++ between) behind s)
+-- two tokens and the byte between them
+pub tokens_solid : (text : List ℕ) (c : ℕ) (behind : List ℕ) → is_token text ≡ true → IsSolid behind → IsSolid (text ++ c ∷ behind)
+tokens_solid [] c behind h s = absurd cc
+tokens_solid (b ∷ rest) c behind h s =
+    solid b (rest ++ c ∷ behind) (token_first b rest h) (front_ends (b ∷ rest) (c ∷ behind) (more_ends c behind (record { some = s.some; back = s.back })))
 
 -- ---- values
 
 quoted_solid : (value : List ℕ) → IsSolid (quoted value)
-quoted_solid value = solid quote (value ++ quote ∷ []) refl (front_ends (quote ∷ value) (quote ∷ []) (solid quote [] refl (one_ends quote refl)))
+quoted_solid value = solid quote (value ++ quote ∷ []) refl (front_ends (quote ∷ value) (quote ∷ []) (one_ends quote refl))
 
 front_shorter : (text : List ℕ) → length (without_front text) ≤ length text
 front_shorter [] = omega arith
