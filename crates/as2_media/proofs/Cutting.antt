@@ -1,9 +1,8 @@
 -- Texts that are cut at a byte.
-use Rattle.std.proofs.Common.{◌≡◌, eq-eqb, ℕ, Bool, true, false, List, [], ◌∷◌, ◌++◌, length, Option, Some, None, refl, sym, ap, ◌∙◌, arith, inl, inr}
-use Rattle.std.specs.Prelude.{◌&&◌, ◌||◌, ◌==◌, not}
+use Rattle.std.proofs.Common.{◌≡◌, eq-eqb, ℕ, Bool, true, false, List, [], ◌∷◌, ◌++◌, length, Some, None, refl, sym, ap, ◌∙◌, inl, inr}
+use Rattle.std.specs.Prelude.{◌&&◌, ◌==◌, not}
 use Rattle.std.specs.List.{list_all}
 use Rattle.std.proofs.lemmas.Bool.{cases_Bool, and_parts, and_from, eqb-true}
-use Rattle.as2_names.specs.Ascii.{space, tab, line_feed, carriage_return}
 use Rattle.as2_names.specs.Trim.{falls_off, all_fall_off}
 use Rattle.as2_media.specs.Bytes.{is_token_byte, is_token}
 use Rattle.as2_media.specs.Cuts.{before, behind}

@@ -1,12 +1,12 @@
 -- A text is what is kept of it with blanks and line ends around that, and what is kept stays so.
-use Rattle.std.proofs.Common.{◌≡◌, ℕ, ◌<◌, ◌≤◌, Bool, true, false, List, [], ◌∷◌, ◌++◌, length, refl, sym, ap, ◌∙◌, append_assoc, arith, inl, inr}
+use Rattle.std.proofs.Common.{◌≡◌, ℕ, Bool, true, false, List, [], ◌∷◌, ◌++◌, refl, sym, ap, ◌∙◌, append_assoc, inl, inr}
 use Rattle.std.specs.Prelude.{◌&&◌, ◌||◌, ◌==◌, ◌⊎◌, if◌then◌else◌}
-use Rattle.std.proofs.lemmas.Bool.{cases_Bool, and_parts, and_from}
+use Rattle.std.proofs.lemmas.Bool.{cases_Bool, and_from}
 use Rattle.as2_names.specs.Ascii.{line_feed, carriage_return}
 use Rattle.as2_names.specs.Blanks.{is_blank}
 use Rattle.as2_names.specs.Trim.{begins_with_lf, falls_off, all_fall_off, without_front, without_back, trimmed}
 use Rattle.as2_media.specs.Parameters.{IsPadded}
-use Rattle.as2_media.proofs.Padding.{falls_on, all_off_append, none_stays}
+use Rattle.as2_media.proofs.Padding.{falls_on, all_off_append}
 
 -- what falls off in front
 abbrev front_of : List ℕ → List ℕ

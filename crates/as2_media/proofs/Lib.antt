@@ -6,3 +6,4 @@ pub mod Quotes
 pub mod Readings
 pub mod Segments
 pub mod Solid
+pub mod Spellings

@@ -1,16 +1,12 @@
 -- Values between quotes.
-use Rattle.std.proofs.Common.{◌≡◌, ℕ, ◌+◌, ◌-◌, ◌<◌, ◌≤◌, Bool, true, false, eq-eqb, List, [], ◌∷◌, ◌++◌, length, take, drop, get_or, Option, Some, None, refl, sym, ap, ◌∙◌, arith, inl, inr}
-use Rattle.std.specs.Prelude.{◌&&◌, ◌==◌, nat_le, not, slice_range}
-use Rattle.std.specs.List.{list_all}
+use Rattle.std.proofs.Common.{◌≡◌, ℕ, ◌+◌, ◌-◌, ◌≤◌, Bool, true, false, eq-eqb, List, [], ◌∷◌, ◌++◌, length, drop, get_or, Some, None, refl, ap, ◌∙◌, arith, inl, inr}
+use Rattle.std.specs.Prelude.{◌&&◌, ◌==◌, nat_le, slice_range}
 use Rattle.std.proofs.lemmas.Bool.{cases_Bool, and_parts, and_from, eqb-true}
 use Rattle.std.proofs.lemmas.Bool.Decides.{nat_tests}
 use Rattle.std.proofs.lemmas.List.{length_push, take_at, get_or_push, drop_more, length-drop, nil_from_length}
 use Rattle.std.proofs.lemmas.List.Folds.{drop_split}
 use Rattle.as2_names.specs.Ascii.{quote}
-use Rattle.as2_names.specs.Trim.{trimmed}
-use Rattle.as2_media.specs.Bytes.{is_bare_byte}
-use Rattle.as2_media.specs.Values.{IsBare, SpellsValue, is_quoted_text, quoted, is_enclosed, between_quotes, value_among, value_of}
-use Rattle.as2_media.proofs.Cutting.{not_false, other_byte}
+use Rattle.as2_media.specs.Values.{quoted, is_enclosed, between_quotes}
 
 -- what stands between the quotes of a quoted value is the value
 pub between_quoted : (value : List ℕ) → between_quotes (quoted value) ≡ Some value

@@ -1,21 +1,20 @@
 -- What is spelled is read: one value, one parameter, and all.
-use Rattle.std.proofs.Common.{◌≡◌, ℕ, zero, suc, ◌-◌, ◌<◌, ◌≤◌, Bool, true, false, List, [], ◌∷◌, ◌++◌, length, Option, Some, None, Result, Ok, Err, refl, sym, ap, ◌∙◌, append_assoc, append-nil, arith, inl, inr}
-use Rattle.std.specs.Prelude.{◌&&◌, ◌==◌, not}
+use Rattle.std.proofs.Common.{◌≡◌, ℕ, zero, suc, ◌-◌, ◌≤◌, true, false, List, [], ◌∷◌, ◌++◌, length, Some, Ok, refl, ap, ◌∙◌, append-nil, arith, inl, inr}
+use Rattle.std.specs.Prelude.{◌==◌}
 use Rattle.std.specs.List.{list_all}
-use Rattle.std.proofs.lemmas.Bool.{cases_Bool, and_parts, and_from, eqb-true, ne_eqb}
+use Rattle.std.proofs.lemmas.Bool.{and_parts, ne_eqb}
 use Rattle.std.proofs.lemmas.List.{nil_from_length}
 use Rattle.as2_names.specs.Ascii.{quote, equals_sign, slash, semicolon}
 use Rattle.as2_names.specs.Trim.{all_fall_off, trimmed}
 use Rattle.as2_media.specs.Bytes.{is_bare_byte, is_token}
-use Rattle.as2_media.specs.Cuts.{before, behind, segments, segments_of}
-use Rattle.as2_media.specs.Values.{IsBare, SpellsValue, between_quotes, value_among, value_of, quoted}
-use Rattle.as2_media.specs.Parameters.{IsPadded, SpellsParameter, Spell, parameter, parameters, with_name, given_value, and_then, with_front}
-use Rattle.as2_media.specs.MediaTypes.{Media, IsMediaType, behind_semicolons, reading, essence, tokens, media_of}
-use Rattle.as2_media.specs.declared.fault.TypeFault.{TypeFault}
-use Rattle.as2_media.proofs.Padding.{padded_trimmed, blank_trimmed, IsSolid}
+use Rattle.as2_media.specs.Cuts.{before, behind, segments_of}
+use Rattle.as2_media.specs.Values.{IsBare, SpellsValue, value_of}
+use Rattle.as2_media.specs.Parameters.{IsPadded, SpellsParameter, Spell, parameter, parameters, given_value}
+use Rattle.as2_media.specs.MediaTypes.{Media, IsMediaType, behind_semicolons, reading, essence}
+use Rattle.as2_media.proofs.Padding.{padded_trimmed, blank_trimmed}
 use Rattle.as2_media.proofs.Fronts.{nothing_kept}
 use Rattle.as2_media.proofs.Solid.{token_solid, tokens_solid, value_solid}
-use Rattle.as2_media.proofs.Cutting.{is_free, not_false, other_byte, before_free, behind_free, before_all, behind_none, token_free, padded_free, free_append, margin}
+use Rattle.as2_media.proofs.Cutting.{is_free, not_false, other_byte, before_free, behind_free, before_all, behind_none, token_free, padded_free, free_append}
 use Rattle.as2_media.proofs.Segments.{segments_joined}
 use Rattle.as2_media.proofs.Quotes.{between_quoted, between_none}
 

@@ -1,15 +1,15 @@
 -- Tokens and values have no blank and no line end at their ends.
-use Rattle.std.proofs.Common.{◌≡◌, ℕ, ◌+◌, ◌-◌, ◌<◌, ◌≤◌, Bool, true, false, List, [], ◌∷◌, ◌++◌, length, drop, refl, sym, ap, ◌∙◌, arith, inl, inr}
+use Rattle.std.proofs.Common.{◌≡◌, ℕ, ◌≤◌, Bool, true, false, List, [], ◌∷◌, ◌++◌, length, drop, refl, ap, arith, inl, inr}
 use Rattle.std.specs.Prelude.{◌&&◌, ◌||◌, ◌==◌, not}
 use Rattle.std.specs.List.{list_all}
-use Rattle.std.proofs.lemmas.Bool.{cases_Bool, and_parts, and_from, eqb-true}
+use Rattle.std.proofs.lemmas.Bool.{cases_Bool, and_parts}
 use Rattle.std.proofs.lemmas.Bool.Decides.{nat_tests}
-use Rattle.as2_names.specs.Ascii.{quote, slash, semicolon, line_feed, carriage_return}
+use Rattle.as2_names.specs.Ascii.{quote, semicolon, line_feed, carriage_return}
 use Rattle.as2_names.specs.Blanks.{is_blank}
 use Rattle.as2_names.specs.Trim.{falls_off, all_fall_off, without_front, without_back, trimmed}
-use Rattle.as2_media.specs.Bytes.{is_token_byte, is_token, is_special, is_bare_byte, is_line_byte}
-use Rattle.as2_media.specs.Values.{IsBare, SpellsValue, is_quoted_text, quoted}
-use Rattle.as2_media.proofs.Padding.{is_margin, IsSolid, Ends, one_ends, more_ends, front_ends, solid, stays}
+use Rattle.as2_media.specs.Bytes.{is_token_byte, is_token, is_special, is_bare_byte}
+use Rattle.as2_media.specs.Values.{IsBare, SpellsValue, quoted}
+use Rattle.as2_media.proofs.Padding.{is_margin, IsSolid, Ends, one_ends, more_ends, front_ends, solid}
 
 token_byte_inside : (b : ℕ) → is_token_byte b ≡ true → is_margin b ≡ false
 token_byte_inside b h =

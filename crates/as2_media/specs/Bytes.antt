@@ -1,5 +1,5 @@
 -- The bytes of tokens and values (RFC 2045, section 5.1).
-use Rattle.std.specs.Prelude.{ℕ, ◌<◌, Bool, ◌&&◌, ◌||◌, not, ◌==◌, nat_lt, nat_le, List, length, codes, IsTrue}
+use Rattle.std.specs.Prelude.{ℕ, Bool, ◌&&◌, ◌||◌, not, ◌==◌, nat_lt, nat_le, List, length, codes}
 use Rattle.std.specs.List.{list_all, list_any}
 use Rattle.as2_names.specs.Ascii.{space, quote, semicolon, tilde, line_feed, carriage_return}
 

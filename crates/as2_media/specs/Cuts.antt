@@ -1,6 +1,5 @@
 -- Texts that are cut at a byte, and at each `;` outside quotes.
 use Rattle.std.specs.Prelude.{ℕ, Bool, false, ◌==◌, List, [], ◌∷◌, ◌++◌, if◌then◌else◌, Option, Some, None}
-use Rattle.std.specs.List.{list_all}
 use Rattle.as2_names.specs.Ascii.{quote, semicolon, backslash}
 use Rattle.as2_media.specs.declared.cuts.Place.{Place}
 use Rattle.as2_media.specs.declared.cuts.Place.TheVariants.{Outside, Quoted, Escaped}

@@ -1,5 +1,5 @@
 -- Media types (RFC 2045, section 5.1): which text is which media type, and the first fault of a text that is none.
-use Rattle.std.specs.Prelude.{◌≡◌, ℕ, ◌≤◌, Bool, ◌&&◌, ◌==◌, List, ◌∷◌, ◌++◌, length, if◌then◌else◌, IsTrue, Option, Some, None, Result, Ok, Err}
+use Rattle.std.specs.Prelude.{◌≡◌, ℕ, ◌≤◌, Bool, ◌&&◌, List, ◌∷◌, ◌++◌, length, if◌then◌else◌, IsTrue, Option, Some, None, Result, Ok, Err}
 use Rattle.std.specs.List.{flat_map}
 use Rattle.std.specs.Str.{str_eq_ignore_ascii_case}
 use Rattle.as2_names.specs.Ascii.{slash, semicolon}

@@ -1,5 +1,5 @@
 -- The values of parameters and their spelling (RFC 2045, section 5.1; the quoted string of RFC 822, section 3.3).
-use Rattle.std.specs.Prelude.{◌≡◌, ◌≢◌, ℕ, ◌-◌, ◌⊎◌, Bool, true, false, ◌&&◌, ◌||◌, not, ◌==◌, nat_le, List, [], ◌∷◌, ◌++◌, length, slice_index, slice_range, if◌then◌else◌, IsTrue, Option, Some, None}
+use Rattle.std.specs.Prelude.{◌≡◌, ◌≢◌, ℕ, ◌-◌, ◌⊎◌, Bool, true, false, ◌&&◌, not, ◌==◌, nat_le, List, [], ◌∷◌, ◌++◌, length, slice_index, slice_range, if◌then◌else◌, IsTrue, Option, Some, None}
 use Rattle.std.specs.List.{list_all}
 use Rattle.as2_names.specs.Ascii.{quote, backslash}
 use Rattle.as2_names.specs.Trim.{trimmed}

@@ -1,5 +1,5 @@
-use Rattle.std.proofs.Common.{◌≡◌, ◌∷◌, ◌-◌, ◌<◌, ◌≤◌, false, length, List, ℕ, option_map, Some, sym, ap, ◌∙◌, arith, rules}
-use Rattle.std.specs.Prelude.{◌==◌, not}
+use Rattle.std.proofs.Common.{◌≡◌, ◌∷◌, ◌-◌, ◌<◌, ◌≤◌, false, length, List, ℕ, option_map, Some, sym, ap, ◌∙◌, arith}
+use Rattle.std.specs.Prelude.{◌==◌}
 use Rattle.std.proofs.lemmas.Bool.{eqb-false}
 use Rattle.as2_names.specs.Trim.{trimmed}
 use Rattle.as2_media.specs.Cuts.{segments_of}

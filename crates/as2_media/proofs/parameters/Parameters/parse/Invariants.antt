@@ -1,4 +1,4 @@
-use Rattle.std.proofs.Common.{◌≡◌, ◌-◌, ◌≤◌, length}
+use Rattle.std.proofs.Common.{◌≡◌, ◌-◌, length}
 use Rattle.std.specs.Prelude.{option_map}
 use Rattle.as2_media.specs.Cuts.{segments_of}
 use Rattle.as2_media.specs.Parameters.{parameters, with_front}
