@@ -50,9 +50,9 @@ equals_stays (b ∷ left) right h = equals_stays left right (and_parts _ (all_fa
 some_trimmed : (text : List ℕ) (p : List ℕ × List ℕ) → SpellsParameter text p → (length (trimmed text) == 0) ≡ false
 some_trimmed text p s =
     ne_eqb (length (trimmed text)) 0 (λ e.
-        let all : all_fall_off text ≡ true = nothing_kept text (nil_from_length (trimmed text) e) in
-        let no : equals_sign ≡ 0 = equals_stays s.left s.right (rw s.whole at all) in
-        absurd cc)
+    let all : all_fall_off text ≡ true = nothing_kept text (nil_from_length (trimmed text) e) in
+    let no : equals_sign ≡ 0 = equals_stays s.left s.right (rw s.whole at all) in
+    absurd cc)
 
 one_again : (room : ℕ) (text : List ℕ) (texts : List (List ℕ)) (first : List ℕ × List ℕ) (others ps : List (List ℕ × List ℕ)) → ps ≡ first ∷ others → SpellsParameter text first
     → ((n : ℕ) → length others ≤ n → parameters n texts ≡ Ok others) → length ps ≤ room → parameters room (text ∷ texts) ≡ Ok ps
@@ -80,7 +80,7 @@ essence_again text type_name subtype p t s =
 essence_free : (text type_name subtype : List ℕ) → IsPadded text (type_name ++ slash ∷ subtype) → is_token type_name ≡ true → is_token subtype ≡ true → is_free semicolon text ≡ true
 essence_free text type_name subtype p t s =
     padded_free semicolon text (type_name ++ slash ∷ subtype) refl p
-        (free_append semicolon type_name (slash ∷ subtype) (token_free semicolon type_name refl t) (token_free semicolon subtype refl s))
+    (free_append semicolon type_name (slash ∷ subtype) (token_free semicolon type_name refl t) (token_free semicolon subtype refl s))
 
 cut_before : (front : List ℕ) (texts : List (List ℕ)) → is_free semicolon front ≡ true → before semicolon (front ++ behind_semicolons texts) ≡ front
 cut_before front [] f = rw (append-nil front) (before_all semicolon front f)

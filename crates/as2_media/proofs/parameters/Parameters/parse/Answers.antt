@@ -19,5 +19,5 @@ loop-rest-preserved-in-Some-parse c =
     let room : length held < 8 = omega (arith, other, fits) in
     let cut : segments_of (option_map (λ t. t.now) c.loop-rest.rest) ≡ text ∷ texts = ap (λ r. segments_of (option_map (λ t. t.now) r)) c.in-Some.is ∙ c.cut_segment.ensures in
     rw c.push.ensures.items (taken held c.in-Some-parse.parameter text texts room some parsed
-        ∙ ap (λ (x : List (List ℕ)). with_front held (parameters (8 - length held) x)) (sym cut)
-        ∙ c.loop-rest.invariant)
+    ∙ ap (λ (x : List (List ℕ)). with_front held (parameters (8 - length held) x)) (sym cut)
+    ∙ c.loop-rest.invariant)
