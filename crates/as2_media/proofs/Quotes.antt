@@ -1,12 +1,15 @@
 -- Values between quotes.
 use Rattle.std.proofs.Common.{◌≡◌, ℕ, ◌+◌, ◌-◌, ◌≤◌, Bool, true, false, eq-eqb, List, [], ◌∷◌, ◌++◌, length, drop, get_or, Some, None, refl, ap, ◌∙◌, arith, inl, inr}
-use Rattle.std.specs.Prelude.{◌&&◌, ◌==◌, nat_le, slice_range}
+use Rattle.std.specs.Prelude.{◌&&◌, ◌==◌, nat_le, not, slice_range}
+use Rattle.std.specs.List.{flat_map, list_all}
 use Rattle.std.proofs.lemmas.Bool.{cases_Bool, and_parts, and_from, eqb-true}
 use Rattle.std.proofs.lemmas.Bool.Decides.{nat_tests}
 use Rattle.std.proofs.lemmas.List.{length_push, take_at, get_or_push, drop_more, length-drop, nil_from_length}
 use Rattle.std.proofs.lemmas.List.Folds.{drop_split}
-use Rattle.as2_names.specs.Ascii.{quote}
-use Rattle.as2_media.specs.Values.{quoted, is_enclosed, between_quotes}
+use Rattle.as2_names.specs.Ascii.{quote, backslash}
+use Rattle.as2_media.specs.Bytes.{is_line_byte}
+use Rattle.as2_media.specs.Values.{QuotedUnit, qtext, pair, print_unit, is_unit, IsQuoted, is_quoted_text, quoted, is_enclosed, between_quotes}
+use Rattle.as2_media.proofs.Cutting.{not_false}
 
 -- what stands between the quotes of a quoted value is the value
 pub between_quoted : (value : List ℕ) → between_quotes (quoted value) ≡ Some value
@@ -58,3 +61,49 @@ quotes_whole (b ∷ rest) value h =
           quotes_again b rest value enclosed cc
       | inr bare ↦ absurd (let e : None ≡ Some value = rw bare at h in cc)
     ]
+
+-- ---- the units
+
+pub units_again : (units : List QuotedUnit) → list_all is_unit units ≡ true → is_quoted_text false (flat_map print_unit units) ≡ true
+units_again [] h = refl
+units_again (qtext b ∷ rest) h =
+    let p = and_parts (is_unit (qtext b)) (list_all is_unit rest) h in
+    let q = and_parts (not (is_line_byte b)) (not (b == quote) && not (b == backslash)) p.0 in
+    let r = and_parts (not (b == quote)) (not (b == backslash)) q.1 in
+    rw (q.0, r.0, not_false (b == backslash) r.1) (units_again rest p.1)
+units_again (pair b ∷ rest) h =
+    let p = and_parts (is_unit (pair b)) (list_all is_unit rest) h in
+    and_from (not (is_line_byte b)) (is_quoted_text false (flat_map print_unit rest)) p.0 (units_again rest p.1)
+
+-- the units of a text, and of one behind a backslash
+abbrev Units : Bool → List ℕ → Type 0
+Units false text = IsQuoted text
+Units true text = IsQuoted (backslash ∷ text)
+
+units_found : (escaped : Bool) (text : List ℕ) → is_quoted_text escaped text ≡ true → Units escaped text
+units_found true [] h = absurd cc
+units_found false [] h = record { units = []; whole = refl; each = refl }
+units_found true (b ∷ rest) h =
+    let p = and_parts (not (is_line_byte b)) (is_quoted_text false rest) h in
+    let r : IsQuoted rest = units_found false rest p.1 in
+    record { units = pair b ∷ r.units; whole = ap (λ (x : List ℕ). backslash ∷ b ∷ x) r.whole; each = and_from (not (is_line_byte b)) (list_all is_unit r.units) p.0 r.each }
+units_found false (b ∷ rest) h =
+    let p = and_parts (not (is_line_byte b)) (not (b == quote) && is_quoted_text (b == backslash) rest) h in
+    let q = and_parts (not (b == quote)) (is_quoted_text (b == backslash) rest) p.1 in
+    elim (cases_Bool (b == backslash)) [
+      | inl back ↦
+          let behind : is_quoted_text true rest ≡ true = rw back at q.1 in
+          let r : IsQuoted (backslash ∷ rest) = units_found true rest behind in
+          rw (eqb-true b backslash back) r
+      | inr other ↦
+          let behind : is_quoted_text false rest ≡ true = rw other at q.1 in
+          let r : IsQuoted rest = units_found false rest behind in
+          let stands : is_unit (qtext b) ≡ true = rw (p.0, q.0, other) refl in
+          record { units = qtext b ∷ r.units; whole = ap (λ (x : List ℕ). b ∷ x) r.whole; each = and_from (is_unit (qtext b)) (list_all is_unit r.units) stands r.each }
+    ]
+
+pub quoted_found : (value : List ℕ) → is_quoted_text false value ≡ true → IsQuoted value
+quoted_found value h = units_found false value h
+
+pub quoted_again : (value : List ℕ) → IsQuoted value → is_quoted_text false value ≡ true
+quoted_again value v = rw v.whole (units_again v.units v.each)

@@ -16,7 +16,7 @@ use Rattle.as2_media.proofs.Fronts.{nothing_kept}
 use Rattle.as2_media.proofs.Solid.{token_solid, tokens_solid, value_solid}
 use Rattle.as2_media.proofs.Cutting.{is_free, not_false, other_byte, before_free, behind_free, before_all, behind_none, token_free, padded_free, free_append}
 use Rattle.as2_media.proofs.Segments.{segments_joined}
-use Rattle.as2_media.proofs.Quotes.{between_quoted, between_none}
+use Rattle.as2_media.proofs.Quotes.{between_quoted, between_none, quoted_again}
 
 bare_again : (value : List ℕ) → IsBare value → value_of value ≡ Some value
 bare_again [] v = absurd (v.some refl)
@@ -30,7 +30,7 @@ value_again : (text value : List ℕ) → SpellsValue text value → value_of te
 value_again text value s =
     elim s [
       | inl x ↦ rw x.1 (bare_again value x.0)
-      | inr x ↦ rw (x.1, between_quoted value, x.0) refl
+      | inr x ↦ rw (x.1, between_quoted value, quoted_again value x.0) refl
     ]
 
 parameter_again : (text : List ℕ) (p : List ℕ × List ℕ) → SpellsParameter text p → parameter text ≡ Some p

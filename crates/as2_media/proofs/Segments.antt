@@ -11,6 +11,7 @@ use Rattle.as2_media.specs.Cuts.{next, is_end, with_front, segments}
 use Rattle.as2_media.specs.Values.{SpellsValue, is_quoted_text}
 use Rattle.as2_media.specs.Parameters.{IsPadded, SpellsParameter, Spell}
 use Rattle.as2_media.specs.MediaTypes.{behind_semicolons}
+use Rattle.as2_media.proofs.Quotes.{quoted_again}
 use Rattle.as2_media.proofs.Cutting.{is_free, not_false, blank_free, passing_free, token_free, padded_free}
 
 front_more : (b : ℕ) (texts : List (List ℕ)) → with_front [] (with_front (b ∷ []) texts) ≡ with_front (b ∷ []) texts
@@ -95,7 +96,7 @@ value_closed : (text value : List ℕ) → SpellsValue text value → is_closed 
 value_closed text value s =
     elim s [
       | inl x ↦ rw x.1 (plain_closed value (passing_free is_bare_byte quote value refl x.0.bytes) (passing_free is_bare_byte semicolon value refl x.0.bytes))
-      | inr x ↦ rw x.1 (units_closed false value x.0)
+      | inr x ↦ rw x.1 (units_closed false value (quoted_again value x.0))
     ]
 
 parameter_closed : (text : List ℕ) (p : List ℕ × List ℕ) → SpellsParameter text p → is_closed Outside text ≡ true

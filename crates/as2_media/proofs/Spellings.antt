@@ -16,7 +16,7 @@ use Rattle.as2_media.specs.MediaTypes.{Media, IsMediaType, behind_semicolons, re
 use Rattle.as2_media.proofs.Fronts.{trimmed_padded, trimmed_again, nothing_kept}
 use Rattle.as2_media.proofs.Cutting.{not_false, cut_whole, before_none}
 use Rattle.as2_media.proofs.Segments.{joined_segments}
-use Rattle.as2_media.proofs.Quotes.{quotes_whole}
+use Rattle.as2_media.proofs.Quotes.{quotes_whole, quoted_found}
 
 -- which way an `if` went that gave something
 given : {A : Type 0} (test : Bool) (a : Option A) (x : A) → (if test then a else None) ≡ Some x → (test ≡ true) × (a ≡ Some x)
@@ -27,7 +27,7 @@ value_among_found : (text value : List ℕ) (inside : Option (List ℕ)) → tri
 value_among_found text value (Some inner) t b h =
     let g = given (is_quoted_text false inner) (Some inner) value h in
     let e : inner ≡ value = let same : Some inner ≡ Some value = g.1 in cc in
-    inr (rw (← e) g.0, quotes_whole text value (b ∙ g.1))
+    inr (rw (← e) (quoted_found inner g.0), quotes_whole text value (b ∙ g.1))
 value_among_found text value None t b h =
     let g = given (not (length text == 0) && list_all is_bare_byte text) (Some text) value h in
     let p = and_parts (not (length text == 0)) (list_all is_bare_byte text) g.0 in

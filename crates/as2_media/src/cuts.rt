@@ -4,7 +4,7 @@ ghost use Rattle.as2_media.specs.Cuts.{before, behind, next, segments, segments_
 ghost use Rattle.as2_media.specs.declared.cuts.Place.TheVariants.{Outside};
 
 /// Where a byte of a text stands.
-#[derive(Clone, Copy, Debug, PartialEq, Eq)]
+#[derive(Clone, Copy, PartialEq, Eq)]
 enum Place {
     /// Outside quotes.
     Outside,

@@ -2,7 +2,7 @@ use crate::{MediaType, TypeFault};
 use std::test::Fail;
 
 // A field, and why it is no media type, if it is none.
-const CASES: [(&[u8], Option<TypeFault>); 62] = [
+const CASES: [(&[u8], Option<TypeFault>); 64] = [
     // the slash is looked for first, before the first `;`
     (b"", Some(TypeFault::NoSlash)),
     (b" ", Some(TypeFault::NoSlash)),
@@ -65,6 +65,9 @@ const CASES: [(&[u8], Option<TypeFault>); 62] = [
     (b"text/plain; a=\"b\\\nc\"", Some(TypeFault::BadParameter)),
     (b"text/plain; a=b\r\n c", Some(TypeFault::BadParameter)),
     (b"text/plain; a=b\r; c=d", Some(TypeFault::BadParameter)),
+    // the examples of RFC 2045, section 5.1
+    (b"text/plain; charset=us-ascii (Plain text)", None),
+    (b"text/plain; charset=\"us-ascii\"", None),
     // eight, and a ninth of any form
     (b"text/plain; a=1;a=2;a=3;a=4;a=5;a=6;a=7;a=8; ;", None),
     (
