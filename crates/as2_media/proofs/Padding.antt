@@ -50,20 +50,21 @@ none_in_front (b ∷ rest) h =
 pub blank_trimmed : (text : List ℕ) → all_fall_off text ≡ true → trimmed text ≡ []
 blank_trimmed text h = ap without_back (none_in_front text h)
 
--- ---- a text that blanks behind it leave as it is, and one that blanks before it do
+-- ---- texts that stay as they are with blanks around them
 
--- no space, tab, LF and CR
+-- a space, a tab, LF or CR
 abbrev pub is_margin : ℕ → Bool
 is_margin b = is_blank b || (b == line_feed || b == carriage_return)
 
-pub record IsSolid (text : List ℕ) : Type 0 where
-  pub some : text ≡ [] → ⊥
-  pub front : (behind : List ℕ) → without_front (text ++ behind) ≡ text ++ behind
-  pub back : (blanks : List ℕ) → all_fall_off blanks ≡ true → without_back (text ++ blanks) ≡ text
-
+-- the text is not empty, and blanks behind it alone come off
 pub record Ends (text : List ℕ) : Type 0 where
   pub some : text ≡ [] → ⊥
   pub back : (blanks : List ℕ) → all_fall_off blanks ≡ true → without_back (text ++ blanks) ≡ text
+
+-- and nothing comes off in front of it
+pub record IsSolid (text : List ℕ) : Type 0 where
+  pub ends : Ends text
+  pub front : (behind : List ℕ) → without_front (text ++ behind) ≡ text ++ behind
 
 no_margin : (p q r x : Bool) → (p || (q || r)) ≡ false → (p || (q || (r && x))) ≡ false
 no_margin true q r x h = h
@@ -102,15 +103,11 @@ front_ends [] text e = e
 front_ends (b ∷ rest) text e = more_ends b (rest ++ text) (front_ends rest text e)
 
 pub solid : (b : ℕ) (rest : List ℕ) → is_margin b ≡ false → Ends (b ∷ rest) → IsSolid (b ∷ rest)
-solid b rest h e = record {
-  some = e.some;
-  front = λ behind. rw (stays b (rest ++ behind) h) refl;
-  back = e.back;
-}
+solid b rest h e = record { ends = e; front = λ behind. rw (stays b (rest ++ behind) h) refl }
 
 -- blanks around a solid text come off
 pub padded_trimmed : (text inner : List ℕ) → IsPadded text inner → IsSolid inner → trimmed text ≡ inner
 padded_trimmed text inner p s =
     ap trimmed (p.whole ∙ append_assoc p.front inner p.back)
     ∙ ap without_back (front_off p.front (inner ++ p.back) p.blank_front ∙ s.front p.back)
-    ∙ s.back p.back p.blank_back
+    ∙ s.ends.back p.back p.blank_back

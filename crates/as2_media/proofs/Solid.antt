@@ -36,7 +36,7 @@ token_solid (b ∷ rest) h = solid b rest (token_first b rest h) (tokens_end b r
 pub tokens_solid : (text : List ℕ) (c : ℕ) (behind : List ℕ) → is_token text ≡ true → IsSolid behind → IsSolid (text ++ c ∷ behind)
 tokens_solid [] c behind h s = absurd cc
 tokens_solid (b ∷ rest) c behind h s =
-    solid b (rest ++ c ∷ behind) (token_first b rest h) (front_ends (b ∷ rest) (c ∷ behind) (more_ends c behind (record { some = s.some; back = s.back })))
+    solid b (rest ++ c ∷ behind) (token_first b rest h) (front_ends (b ∷ rest) (c ∷ behind) (more_ends c behind s.ends))
 
 -- ---- values
 
