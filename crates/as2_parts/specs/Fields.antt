@@ -1,6 +1,6 @@
 -- The fields of a text (RFC 5322, sections 2.2 and 2.2.3).
-use Rattle.std.specs.Prelude.{◌≡◌, ℕ, ◌⊎◌, Bool, false, ◌&&◌, not, ◌==◌, nat_lt, nat_le, List, [], ◌∷◌, length, ◌++◌, if◌then◌else◌, ◌≢◌, IsTrue, All, filter, flat_map, filter_map, Option, Some, None, Result, Ok, Err}
-use Rattle.std.specs.List.{concat, list_all, onto_first, before_first, after_first, list_any}
+use Rattle.std.specs.Prelude.{◌≡◌, ℕ, ◌+◌, take, drop, ◌⊎◌, Bool, false, ◌&&◌, not, ◌==◌, nat_lt, nat_le, List, [], ◌∷◌, length, ◌++◌, if◌then◌else◌, ◌≢◌, IsTrue, All, filter, flat_map, filter_map, Option, Some, None, Result, Ok, Err, position}
+use Rattle.std.specs.List.{concat, list_all, onto_first}
 use Rattle.std.specs.Str.{str_eq_ignore_ascii_case}
 use Rattle.as2_names.specs.Ascii.{line_feed, colon, space, tilde}
 use Rattle.as2_names.specs.Blanks.{is_blank}
@@ -78,12 +78,18 @@ is_colon b = b == colon
 abbrev pub is_name : List ℕ → Bool
 is_name name = nat_lt 0 (length name) && list_all is_name_byte name
 
+-- the field of that name and that text behind its colon, where the name may be one
+abbrev pub field_with : List ℕ → List ℕ → Option FieldText
+field_with name raw = if is_name name then Some (name, trimmed raw) else None
+
+-- the field of a line that has its first colon at that place
+abbrev pub field_cut : Option ℕ → List ℕ → Option FieldText
+field_cut (Some colon_place) line = field_with (take colon_place line) (drop (colon_place + 1) line)
+field_cut None line = None
+
 -- the field that a line is, with those that go on with it, if it is one
 abbrev pub field_of : List ℕ → Option FieldText
-field_of line =
-    if list_any is_colon line && is_name (before_first is_colon line)
-    then Some (before_first is_colon line, trimmed (after_first is_colon line))
-    else None
+field_of line = field_cut (position is_colon line) line
 
 -- the fields of a text, in order
 abbrev pub fields : List ℕ → List FieldText

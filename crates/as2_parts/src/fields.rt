@@ -1,6 +1,6 @@
-ghost use Rattle.std.specs.Prelude.{◌≡◌, ◌<◌, ◌∷◌, length, IfSome, option_map, List};
+ghost use Rattle.std.specs.Prelude.{◌≡◌, ◌<◌, ◌∷◌, length, IfSome, option_map, position, List};
 ghost use Rattle.std.specs.List.{list_all};
-ghost use Rattle.as2_parts.specs.Fields.{HasFields, FieldText, is_name_byte, is_name, begins_with_blank, unfolded, field_of, fields, named, texts, Tells};
+ghost use Rattle.as2_parts.specs.Fields.{HasFields, FieldText, is_name_byte, is_name, is_colon, begins_with_blank, unfolded, field_of, fields, named, texts, Tells};
 
 use as2_names::{is_blank, without_blanks_and_line_ends};
 use std::marker::Model;
@@ -40,10 +40,16 @@ fn is_name_byte(b: u8) -> bool
     matches!(b, b'!'..=b'~') && b != b':'
 }
 
+fn all_name_bytes(bytes: &[u8]) -> bool
+    ensures { result ≡ list_all is_name_byte bytes.now }
+{
+    bytes.iter().all(|b| is_name_byte(*b))
+}
+
 fn is_name(name: &[u8]) -> bool
     ensures { result ≡ is_name name.now }
 {
-    !name.is_empty() && name.iter().all(|b| is_name_byte(*b))
+    !name.is_empty() && all_name_bytes(name)
 }
 
 /// Whether the text begins with a blank.
@@ -70,17 +76,29 @@ fn first_unfolded(text: &[u8]) -> (&[u8], &[u8])
     text.split_at(text.len())
 }
 
+/// Where the first colon of a line stands.
+fn colon_place(line: &[u8]) -> Option<usize>
+    ensures place { result ≡ position is_colon line.now }
+    ensures within { IfSome result (λ n. n < length line.now) }
+{
+    line.iter().position(|b| *b == b':')
+}
+
 /// The field that a line is, with the lines that go on with it.
 fn field_of(line: &[u8]) -> Option<Field<'_>>
     ensures { option_map texts result ≡ field_of line.now }
 {
-    let colon = line.iter().position(|b| *b == b':')?;
-    let name = &line[..colon];
+    let Some(colon) = colon_place(line) else {
+        return None;
+    };
+    let (name, behind) = line.split_at(colon);
     if !is_name(name) {
         return None;
     }
-    let value = without_blanks_and_line_ends(&line[colon + 1..]);
-    Some(Field { name, value })
+    Some(Field {
+        name,
+        value: without_blanks_and_line_ends(&behind[1..]),
+    })
 }
 
 impl<'a> Fields<'a> {

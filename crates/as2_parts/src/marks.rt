@@ -2,19 +2,26 @@
 ghost use Rattle.std.specs.Prelude.{◌≡◌, ◌∷◌, [], option_map, Some, IfSome, IfNone};
 ghost use Rattle.std.specs.List.{concat, list_all, list_any};
 ghost use Rattle.as2_names.specs.Blanks.{is_blank};
-ghost use Rattle.as2_parts.specs.Lines.{lines, behind_boundary, is_hyphens, is_delimiter, is_closing, is_mark};
+ghost use Rattle.as2_parts.specs.Lines.{lines, behind, behind_boundary, is_hyphens, is_delimiter, is_closing, is_mark};
 ghost use Rattle.as2_parts.specs.Parts.{before_mark, from_mark};
 
 use crate::lines::{first_line, without_line_end};
 use as2_names::is_blank;
 
+/// What stands behind that front of a text that begins so.
+fn behind<'a>(text: &'a [u8], front: &[u8]) -> Option<&'a [u8]>
+    ensures { option_map (λ rest. rest.now) result ≡ behind front.now text.now }
+{
+    text.strip_prefix(front)
+}
+
 /// What stands behind `--boundary` in a line that begins so, without its line end.
 fn behind_boundary<'a>(line: &'a [u8], boundary: &[u8]) -> Option<&'a [u8]>
     ensures { option_map (λ rest. rest.now) result ≡ behind_boundary boundary.now line.now }
 {
-    match without_line_end(line) {
-        [b'-', b'-', rest @ ..] => rest.strip_prefix(boundary),
-        _ => None,
+    match behind(without_line_end(line), b"--") {
+        Some(rest) => behind(rest, boundary),
+        None => None,
     }
 }
 

@@ -48,15 +48,9 @@ fn part_in(text: &[u8]) -> Part<'_>
     }
 }
 
-/// The first two parts of a multipart body (RFC 2046, section 5.1.1). The boundary is any bytes, and is read literally.
-/// Only what stands before the first closing line counts; the line end before a delimiter belongs to the delimiter.
-pub fn two_parts<'a>(body: &'a [u8], boundary: &[u8]) -> Result<(Part<'a>, Part<'a>), PartFault>
-    // What is found are the parts of the body.
-    ensures found { IfOk result (λ parts. IsTwoParts boundary.now body.now (texts parts.0) (texts parts.1)) }
-    // Where the body has two parts, they are found.
-    ensures only { (first second : PartText) → IsTwoParts boundary.now body.now first second → shown result ≡ Ok (first, second) }
-    // Which fault it is.
-    ensures exact { shown result ≡ reading boundary.now body.now }
+/// The first two parts of a body, or its first fault.
+fn read_parts<'a>(body: &'a [u8], boundary: &[u8]) -> Result<(Part<'a>, Part<'a>), PartFault>
+    ensures { shown result ≡ reading boundary.now body.now }
 {
     let Some(opening) = next_mark(body, boundary) else {
         return Err(PartFault::NoDelimiter);
@@ -80,4 +74,17 @@ pub fn two_parts<'a>(body: &'a [u8], boundary: &[u8]) -> Result<(Part<'a>, Part<
         part_in(without_line_end(between.before)),
         part_in(without_line_end(end.before)),
     ))
+}
+
+/// The first two parts of a multipart body (RFC 2046, section 5.1.1). The boundary is any bytes, and is read literally.
+/// Only what stands before the first closing line counts; the line end before a delimiter belongs to the delimiter.
+pub fn two_parts<'a>(body: &'a [u8], boundary: &[u8]) -> Result<(Part<'a>, Part<'a>), PartFault>
+    // What is found are the parts of the body.
+    ensures found { IfOk result (λ parts. IsTwoParts boundary.now body.now (texts parts.0) (texts parts.1)) }
+    // Where the body has two parts, they are found.
+    ensures only { (first second : PartText) → IsTwoParts boundary.now body.now first second → shown result ≡ Ok (first, second) }
+    // Which fault it is.
+    ensures exact { shown result ≡ reading boundary.now body.now }
+{
+    read_parts(body, boundary)
 }
