@@ -9,7 +9,7 @@ use Rattle.as2_parts.specs.Lines.{lines, without_line_end, is_delimiter, is_clos
 use Rattle.as2_parts.specs.Parts.{PartText, part_in, part_of, before_mark, from_mark, behind_first, behind_preamble, reading}
 
 -- the closing lines stand from the first mark on
-closing_from : (boundary : List ℕ) (ls : List (List ℕ)) → list_any (is_closing boundary) (from_mark boundary ls) ≡ list_any (is_closing boundary) ls
+pub closing_from : (boundary : List ℕ) (ls : List (List ℕ)) → list_any (is_closing boundary) (from_mark boundary ls) ≡ list_any (is_closing boundary) ls
 closing_from boundary [] = refl
 closing_from boundary (line ∷ rest) =
     elim (cases_Bool (is_mark boundary line)) [

@@ -11,7 +11,7 @@ use Rattle.as2_parts.specs.declared.parts.PartFault.TheVariants.{NoDelimiter, On
 use Rattle.as2_parts.specs.Lines.{lines, is_delimiter, is_closing, is_mark, IsDelimiter, IsClosing}
 use Rattle.as2_parts.specs.Parts.{PartText, part_of, before_mark, from_mark, behind_first, behind_preamble, reading, IsMark, HasNoMark, IsTwoParts, texts, shown}
 use Rattle.as2_parts.proofs.Deciding.{delimiter_is, is_delimiter_of, closing_is, is_closing_of, mark_is, is_mark_of, plain_of, plain_is, delimiter_opens}
-use Rattle.as2_parts.proofs.Reading.{Opens, closed_by, reads_two}
+use Rattle.as2_parts.proofs.Reading.{Opens, closing_from, closed_by, reads_two}
 
 abbrev Plain : List ℕ → List (List ℕ) → Type 0
 Plain boundary ls = All (λ line. is_mark boundary line ≡ false) ls
@@ -125,11 +125,69 @@ ends_by boundary (mark ∷ after) e = (mark, after, refl)
 has_closing : (boundary : List ℕ) (ls : List (List ℕ)) → list_any (is_closing boundary) ls ≡ true → Any (IsClosing boundary) ls
 has_closing boundary ls e = let a = Any-from_list_any (is_closing boundary) ls e in (a.0, a.1, a.2, a.3, closing_is boundary a.1 a.4)
 
+-- a closing line stands behind the second delimiter
+closed_behind : (boundary : List ℕ) (after : List (List ℕ)) (between : List ℕ) (rest : List (List ℕ)) → from_mark boundary after ≡ between ∷ rest → is_closing boundary between ≡ false → list_any (is_closing boundary) after ≡ true → list_any (is_closing boundary) (from_mark boundary rest) ≡ true
+closed_behind boundary after between rest found parts closed =
+    let both : (is_closing boundary between || list_any (is_closing boundary) rest) ≡ true = sym (closed_by boundary after between rest found) ∙ closed in
+    let later : list_any (is_closing boundary) rest ≡ true = rw parts at both in
+    closing_from boundary rest ∙ later
+
 pub found : (boundary body : List ℕ) (first second : PartText) → reading boundary body ≡ Ok (first, second) → IsTwoParts boundary body first second
-found boundary body first second e = ?
+found boundary body first second e =
+    let r = reads_first boundary (lines body) (from_mark boundary (lines body)) first second refl e in
+    let a = cut_at boundary (lines body) r.opening r.after r.starts in
+    let b = cut_at boundary r.after r.between r.rest r.goes_on in
+    let closed = closed_behind boundary r.after r.between r.rest r.goes_on r.parts r.closed in
+    let k = ends_by boundary (from_mark boundary r.rest) closed in
+    let c = cut_at boundary r.rest k.0 k.1 k.2 in
+    let behind : r.after ≡ before_mark boundary r.after ++ r.between ∷ (before_mark boundary r.rest ++ k.0 ∷ k.1) = b.whole ∙ ap (λ (ls : List (List ℕ)). before_mark boundary r.after ++ r.between ∷ ls) c.whole in
+    record {
+      preamble = before_mark boundary (lines body);
+      opening = r.opening;
+      first_lines = before_mark boundary r.after;
+      between = r.between;
+      second_lines = before_mark boundary r.rest;
+      next = k.0;
+      rest = k.1;
+      whole = a.whole ∙ ap (λ (ls : List (List ℕ)). before_mark boundary (lines body) ++ r.opening ∷ ls) behind;
+      opens = opens_by boundary r.opening a.marks r.opens;
+      parts = opens_by boundary r.between b.marks r.parts;
+      ends = mark_is boundary k.0 c.marks;
+      closed = has_closing boundary (k.0 ∷ k.1) (ap (list_any (is_closing boundary)) (sym k.2) ∙ closed);
+      before = no_mark_before boundary (lines body);
+      in_first = no_mark_before boundary r.after;
+      in_second = no_mark_before boundary r.rest;
+      first_part = r.first_part;
+      second_part = r.second_part;
+    }
+
+plain_lines : (boundary : List ℕ) (ls : List (List ℕ)) → HasNoMark boundary ls → Plain boundary ls
+plain_lines boundary ls none = All-weaker (λ line. ¬ IsMark boundary line) (λ line. is_mark boundary line ≡ false) (λ line h. plain_of boundary line h) ls none
+
+delimiter_marks : (boundary line : List ℕ) → IsDelimiter boundary line → is_mark boundary line ≡ true
+delimiter_marks boundary line d = is_mark_of boundary line (inl d)
+
+closes : (boundary : List ℕ) (ls : List (List ℕ)) → Any (IsClosing boundary) ls → list_any (is_closing boundary) ls ≡ true
+closes boundary ls a = list_any-from_Any (is_closing boundary) ls (a.0, a.1, a.2, a.3, is_closing_of boundary a.1 a.4)
 
 pub again : (boundary body : List ℕ) (first second : PartText) → IsTwoParts boundary body first second → reading boundary body ≡ Ok (first, second)
-again boundary body first second t = ?
+again boundary body first second t =
+    let rest = t.second_lines ++ t.next ∷ t.rest in
+    let after = t.first_lines ++ t.between ∷ rest in
+    let plain = plain_lines boundary t.preamble t.before in
+    let plain_first = plain_lines boundary t.first_lines t.in_first in
+    let plain_second = plain_lines boundary t.second_lines t.in_second in
+    let between_marks = delimiter_marks boundary t.between t.parts in
+    let next_marks = is_mark_of boundary t.next t.ends in
+    let opens : Opens boundary body t.opening after = record {
+      found = ap (from_mark boundary) t.whole ∙ from_mark_at boundary t.preamble t.opening after plain (delimiter_marks boundary t.opening t.opens);
+      opens = delimiter_opens boundary t.opening (is_delimiter_of boundary t.opening t.opens);
+    } in
+    let goes = from_mark_at boundary t.first_lines t.between rest plain_first between_marks in
+    let closed = closed_by boundary rest t.next t.rest (from_mark_at boundary t.second_lines t.next t.rest plain_second next_marks) ∙ closes boundary (t.next ∷ t.rest) t.closed in
+    let one : part_of (before_mark boundary after) ≡ first = ap part_of (before_mark_at boundary t.first_lines t.between rest plain_first between_marks) ∙ sym t.first_part in
+    let two : part_of (before_mark boundary rest) ≡ second = ap part_of (before_mark_at boundary t.second_lines t.next t.rest plain_second next_marks) ∙ sym t.second_part in
+    sym (reads_two boundary body t.opening after t.between rest opens goes (delimiter_opens boundary t.between (is_delimiter_of boundary t.between t.parts)) closed) ∙ (λ i. Ok (one i, two i))
 
 -- ---- the answer of the code
 

@@ -42,7 +42,7 @@ pub record IsTwoParts (boundary body : List ℕ) (first second : PartText) : Typ
   pub second_lines : List (List ℕ)
   pub next : List ℕ
   pub rest : List (List ℕ)
-  pub whole : lines body ≡ preamble ++ opening ∷ first_lines ++ between ∷ second_lines ++ next ∷ rest
+  pub whole : lines body ≡ preamble ++ opening ∷ (first_lines ++ between ∷ (second_lines ++ next ∷ rest))
   pub opens : IsDelimiter boundary opening
   pub parts : IsDelimiter boundary between
   pub ends : IsMark boundary next
