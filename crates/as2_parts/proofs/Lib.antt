@@ -6,3 +6,4 @@ pub mod Marking
 pub mod Moving
 pub mod Reading
 pub mod TwoParts
+pub mod Unfolding
