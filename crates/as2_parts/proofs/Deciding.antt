@@ -1,8 +1,7 @@
 -- The tests of delimiters and closing lines tell what they are.
-use Rattle.std.proofs.Common.{◌≡◌, ◌==◌, ℕ, Bool, true, false, cond, List, [], ◌∷◌, ◌++◌, Option, Some, None, refl, sym, ap, ◌∙◌, arith, inl, inr}
-use Rattle.std.specs.Prelude.{◌⊎◌, ◌||◌}
+use Rattle.std.proofs.Common.{◌≡◌, ◌==◌, ℕ, true, false, List, [], ◌∷◌, ◌++◌, Option, Some, None, refl, ap, ◌∙◌, inl, inr}
 use Rattle.std.specs.List.{list_all}
-use Rattle.std.proofs.lemmas.Bool.{cases_Bool, eqb-true, eq-eqb, ne_eqb, or_cases, or_parts, or_from, or_left, or_right, and_parts, both_ways, false_from_ne_true}
+use Rattle.std.proofs.lemmas.Bool.{cases_Bool, eqb-true, eq-eqb, or_cases, or_left, or_right, and_parts, both_ways, false_from_ne_true}
 use Rattle.as2_names.specs.Blanks.{is_blank}
 use Rattle.as2_parts.specs.Lines.{without_line_end, behind, behind_boundary, is_blanks, is_hyphens, is_delimiter, is_closing, is_mark, IsBlanks, IsDelimiter, IsClosing}
 use Rattle.as2_parts.specs.Parts.{IsMark}

@@ -1,12 +1,11 @@
 -- The parts of a body, mark by mark.
-use Rattle.std.proofs.Common.{◌≡◌, ℕ, Bool, true, false, cond, List, [], ◌∷◌, ◌++◌, Result, Ok, Err, refl, sym, ap, ◌∙◌, inl, inr}
+use Rattle.std.proofs.Common.{◌≡◌, ℕ, true, false, List, [], ◌∷◌, Ok, Err, refl, sym, ap, ◌∙◌, inl, inr}
 use Rattle.std.specs.Prelude.{◌||◌}
-use Rattle.std.specs.List.{concat, list_any}
-use Rattle.std.proofs.lemmas.Bool.{cases_Bool, or_parts, or_left, or_right, or_from}
-use Rattle.as2_parts.specs.declared.parts.PartFault.{PartFault}
-use Rattle.as2_parts.specs.declared.parts.PartFault.TheVariants.{NoDelimiter, OnePart, NotClosed}
-use Rattle.as2_parts.specs.Lines.{lines, without_line_end, is_delimiter, is_closing, is_mark}
-use Rattle.as2_parts.specs.Parts.{PartText, part_in, part_of, before_mark, from_mark, behind_first, behind_preamble, reading}
+use Rattle.std.specs.List.{list_any}
+use Rattle.std.proofs.lemmas.Bool.{cases_Bool, or_parts, or_left, or_right}
+use Rattle.as2_parts.specs.declared.parts.PartFault.TheVariants.{OnePart, NotClosed}
+use Rattle.as2_parts.specs.Lines.{lines, is_delimiter, is_closing, is_mark}
+use Rattle.as2_parts.specs.Parts.{part_of, before_mark, from_mark, reading}
 
 -- the closing lines stand from the first mark on
 pub closing_from : (boundary : List ℕ) (ls : List (List ℕ)) → list_any (is_closing boundary) (from_mark boundary ls) ≡ list_any (is_closing boundary) ls

@@ -1,15 +1,15 @@
 -- What is read are the parts of the body, and the parts of a body are read.
-use Rattle.std.proofs.Common.{◌≡◌, ℕ, Bool, true, false, cond, List, [], ◌∷◌, ◌++◌, length, Result, Ok, Err, refl, sym, ap, ◌∙◌, inl, inr}
-use Rattle.std.specs.Prelude.{◌||◌, ◌⊎◌, All, Any, IfOk}
-use Rattle.std.specs.List.{concat, list_any}
-use Rattle.std.proofs.lemmas.Bool.{cases_Bool, or_parts, or_cases, or_left, or_right, or_from}
+use Rattle.std.proofs.Common.{◌≡◌, ℕ, Bool, true, false, cond, List, [], ◌∷◌, ◌++◌, Result, Ok, Err, refl, sym, ap, ◌∙◌, inl, inr}
+use Rattle.std.specs.Prelude.{◌||◌, All, Any, IfOk}
+use Rattle.std.specs.List.{list_any}
+use Rattle.std.proofs.lemmas.Bool.{cases_Bool, or_cases}
 use Rattle.std.proofs.lemmas.List.Elements.{All-nil, All-cons, All-head, All-tail, All-weaker}
 use Rattle.std.proofs.lemmas.List.Folds.{Any-from_list_any, list_any-from_Any}
 use Rattle.as2_parts.specs.declared.parts.Part.{Part}
 use Rattle.as2_parts.specs.declared.parts.PartFault.{PartFault}
 use Rattle.as2_parts.specs.declared.parts.PartFault.TheVariants.{NoDelimiter, OnePart, NotClosed}
 use Rattle.as2_parts.specs.Lines.{lines, is_delimiter, is_closing, is_mark, IsDelimiter, IsClosing}
-use Rattle.as2_parts.specs.Parts.{PartText, part_of, before_mark, from_mark, behind_first, behind_preamble, reading, IsMark, HasNoMark, IsTwoParts, texts, shown}
+use Rattle.as2_parts.specs.Parts.{PartText, part_of, before_mark, from_mark, behind_first, behind_preamble, reading, IsMark, HasNoMark, IsTwoParts, part_text, shown}
 use Rattle.as2_parts.proofs.Deciding.{delimiter_is, is_delimiter_of, closing_is, is_closing_of, mark_is, is_mark_of, plain_of, plain_is, delimiter_opens}
 use Rattle.as2_parts.proofs.Reading.{Opens, closing_from, closed_by, reads_two}
 
@@ -191,6 +191,6 @@ again boundary body first second t =
 
 -- ---- the answer of the code
 
-pub found_if : (boundary body : List ℕ) (r : Result (Part × Part) PartFault) → shown r ≡ reading boundary body → IfOk r (λ parts. IsTwoParts boundary body (texts parts.0) (texts parts.1))
-found_if boundary body (Ok parts) e = found boundary body (texts parts.0) (texts parts.1) (sym e)
+pub found_if : (boundary body : List ℕ) (r : Result (Part × Part) PartFault) → shown r ≡ reading boundary body → IfOk r (λ parts. IsTwoParts boundary body (part_text parts.0) (part_text parts.1))
+found_if boundary body (Ok parts) e = found boundary body (part_text parts.0) (part_text parts.1) (sym e)
 found_if boundary body (Err fault) e = tt

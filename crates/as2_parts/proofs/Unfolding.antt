@@ -1,12 +1,11 @@
 -- The lines of a text, each with those that go on with it.
-use Rattle.std.proofs.Common.{◌≡◌, ◌==◌, ℕ, Bool, true, false, cond, List, [], ◌∷◌, ◌++◌, map, Option, Some, None, refl, sym, ap, subst, ◌∙◌, append_assoc, inl, inr}
-use Rattle.std.specs.Prelude.{◌⊎◌, ◌&&◌, not, All, flat_map, filter_map}
+use Rattle.std.proofs.Common.{◌≡◌, ◌==◌, ℕ, true, false, cond, List, [], ◌∷◌, ◌++◌, map, Option, Some, None, refl, sym, ap, subst, ◌∙◌, inl, inr}
+use Rattle.std.specs.Prelude.{not, All, flat_map, filter_map}
 use Rattle.std.specs.List.{concat, onto_first, cons_option}
 use Rattle.std.proofs.lemmas.Bool.{cases_Bool, not_from_false, not-true, eqb-true}
-use Rattle.std.proofs.lemmas.List.{append-nil}
 use Rattle.std.proofs.lemmas.List.Elements.{All-nil, All-cons, All-head, All-tail}
 use Rattle.as2_parts.specs.Lines.{lines}
-use Rattle.as2_parts.specs.Fields.{FieldText, IsField, Folded, lines_of, GoOn, IsFolded, Holds, HasFields, begins_with_blank, unfolded, field_of, fields}
+use Rattle.as2_parts.specs.Fields.{FieldText, Folded, lines_of, GoOn, IsFolded, Holds, HasFields, begins_with_blank, unfolded, field_of, fields}
 use Rattle.as2_parts.proofs.FieldText.{field_take, field_again, no_field, blank_no_field}
 
 -- the lines at the front that go on with none, and the others with those that go on with them

@@ -102,11 +102,11 @@ abbrev pub named : List ℕ → List FieldText → List FieldText
 named name fields = filter (λ field. str_eq_ignore_ascii_case field.0 name) fields
 
 -- the bytes of a field
-abbrev pub texts : Field → FieldText
-texts field = (field.name.now, field.value.now)
+abbrev pub field_text : Field → FieldText
+field_text field = (field.name.now, field.value.now)
 
 -- none of the fields, the only one, or that there are more
 abbrev pub Tells : Result (Option Field) Twice → List FieldText → Type 0
 Tells (Ok None) fields = fields ≡ []
-Tells (Ok (Some field)) fields = fields ≡ texts field ∷ []
+Tells (Ok (Some field)) fields = fields ≡ field_text field ∷ []
 Tells (Err twice) fields = (a b : FieldText) × (others : List FieldText) × (fields ≡ a ∷ b ∷ others)

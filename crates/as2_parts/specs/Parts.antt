@@ -87,9 +87,9 @@ reading boundary body = behind_preamble boundary (from_mark boundary (lines body
 -- ---- what the code hands out
 
 -- the bytes of a part
-abbrev pub texts : Part → PartText
-texts part = (part.head.now, part.content.now)
+abbrev pub part_text : Part → PartText
+part_text part = (part.head.now, part.content.now)
 
 -- the bytes of an answer
 abbrev pub shown : Result (Part × Part) PartFault → Result (PartText × PartText) PartFault
-shown result = result_map_both (λ parts. (texts parts.0, texts parts.1)) (λ fault. fault) result
+shown result = result_map_both (λ parts. (part_text parts.0, part_text parts.1)) (λ fault. fault) result

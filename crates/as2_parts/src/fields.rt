@@ -1,6 +1,6 @@
 ghost use Rattle.std.specs.Prelude.{◌≡◌, ◌<◌, ◌∷◌, length, IfSome, option_map, position, List};
 ghost use Rattle.std.specs.List.{list_all};
-ghost use Rattle.as2_parts.specs.Fields.{HasFields, FieldText, is_name_byte, is_name, is_colon, begins_with_blank, unfolded, field_of, fields, named, texts, Tells};
+ghost use Rattle.as2_parts.specs.Fields.{HasFields, FieldText, is_name_byte, is_name, is_colon, begins_with_blank, unfolded, field_of, fields, named, field_text, Tells};
 
 use as2_names::{is_blank, without_blanks_and_line_ends};
 use std::marker::Model;
@@ -86,7 +86,7 @@ fn colon_place(line: &[u8]) -> Option<usize>
 
 /// The field that a line is, with the lines that go on with it.
 fn field_of(line: &[u8]) -> Option<Field<'_>>
-    ensures { option_map texts result ≡ field_of line.now }
+    ensures { option_map field_text result ≡ field_of line.now }
 {
     let Some(colon) = colon_place(line) else {
         return None;
@@ -119,11 +119,11 @@ impl<'a> Fields<'a> {
 
 impl<'a> Iterator for Fields<'a> {
     ghost use Rattle.std.specs.Iterator.{YieldsFirstBy, item_count};
-    ghost use Rattle.as2_parts.specs.Fields.{texts};
+    ghost use Rattle.as2_parts.specs.Fields.{field_text};
 
     type Item = Field<'a>;
 
-    ghost next_gives = { YieldsFirstBy texts (λ rest. rest) };
+    ghost next_gives = { YieldsFirstBy field_text (λ rest. rest) };
 
     ghost remaining = { item_count (λ rest. rest) };
 

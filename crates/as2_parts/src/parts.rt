@@ -1,6 +1,6 @@
 ghost use Rattle.std.specs.Prelude.{◌≡◌, IfOk, Ok};
 ghost use Rattle.as2_parts.specs.Lines.{without_line_end};
-ghost use Rattle.as2_parts.specs.Parts.{IsTwoParts, PartText, part_in, reading, texts, shown};
+ghost use Rattle.as2_parts.specs.Parts.{IsTwoParts, PartText, part_in, reading, part_text, shown};
 
 use crate::lines::{first_line, is_empty_line, without_line_end};
 use crate::marks::{has_closing, is_closing, next_mark};
@@ -27,7 +27,7 @@ pub enum PartFault {
 
 /// The part that is written in a text.
 fn part_in(text: &[u8]) -> Part<'_>
-    ensures { texts result ≡ part_in text.now }
+    ensures { part_text result ≡ part_in text.now }
 {
     let mut length = 0;
     let mut rest = text;
@@ -80,7 +80,7 @@ fn read_parts<'a>(body: &'a [u8], boundary: &[u8]) -> Result<(Part<'a>, Part<'a>
 /// Only what stands before the first closing line counts; the line end before a delimiter belongs to the delimiter.
 pub fn two_parts<'a>(body: &'a [u8], boundary: &[u8]) -> Result<(Part<'a>, Part<'a>), PartFault>
     // What is found are the parts of the body.
-    ensures found { IfOk result (λ parts. IsTwoParts boundary.now body.now (texts parts.0) (texts parts.1)) }
+    ensures found { IfOk result (λ parts. IsTwoParts boundary.now body.now (part_text parts.0) (part_text parts.1)) }
     // Where the body has two parts, they are found.
     ensures only { (first second : PartText) → IsTwoParts boundary.now body.now first second → shown result ≡ Ok (first, second) }
     // Which fault it is.

@@ -1,9 +1,9 @@
-use Rattle.std.proofs.Common.{List, ℕ, true, Ok, sym, ap, ◌∙◌}
+use Rattle.std.proofs.Common.{true, sym, ap, ◌∙◌}
 use Rattle.std.specs.Prelude.{◌≡◌}
 use Rattle.std.specs.List.{list_any}
 use Rattle.std.proofs.lemmas.Bool.{or_from, or_left, or_right}
 use Rattle.as2_parts.specs.Lines.{lines, is_closing, without_line_end}
-use Rattle.as2_parts.specs.Parts.{PartText, part_in, part_of, before_mark}
+use Rattle.as2_parts.specs.Parts.{part_in}
 use Rattle.as2_parts.proofs.Reading.{Opens, unclosed, closed_by, reads_unclosed, reads_one, reads_two}
 use Rattle.as2_parts.proofs.parts.read_parts.Goals as goal
 use Rattle.as2_parts.proofs.parts.read_parts.Goals.{else-not-is_closing-via-then-not-is_closing+else-not-has_closing, else-not-is_closing-via-else-not-is_closing}
