@@ -1,0 +1,112 @@
+-- The fields of a text (RFC 5322, sections 2.2 and 2.2.3).
+use Rattle.std.specs.Prelude.{◌≡◌, ℕ, ◌+◌, take, drop, ◌⊎◌, Bool, false, ◌&&◌, not, ◌==◌, nat_lt, nat_le, List, [], ◌∷◌, length, ◌++◌, if◌then◌else◌, ◌≢◌, IsTrue, All, filter, flat_map, filter_map, Option, Some, None, Result, Ok, Err, position}
+use Rattle.std.specs.List.{concat, list_all, onto_first}
+use Rattle.std.specs.Str.{str_eq_ignore_ascii_case}
+use Rattle.as2_names.specs.Ascii.{line_feed, colon, space, tilde}
+use Rattle.as2_names.specs.Blanks.{is_blank}
+use Rattle.as2_names.specs.Trim.{trimmed}
+use Rattle.as2_parts.specs.declared.fields.Field.{Field}
+use Rattle.as2_parts.specs.declared.fields.Twice.{Twice}
+use Rattle.as2_parts.specs.Lines.{lines}
+
+-- a field: its name and its value
+abbrev pub FieldText : Type 0
+FieldText = List ℕ × List ℕ
+
+-- ftext: a printable byte, neither a blank nor `:`
+abbrev pub is_name_byte : ℕ → Bool
+is_name_byte b = nat_lt space b && nat_le b tilde && not (b == colon)
+
+-- the text begins with a blank
+abbrev pub begins_with_blank : List ℕ → Bool
+begins_with_blank [] = false
+begins_with_blank (b ∷ rest) = is_blank b
+
+-- field = name ":" raw, its value being raw without the blanks and line ends at its ends
+pub record IsField (text : List ℕ) (field : FieldText) : Type 0 where
+  pub raw : List ℕ
+  pub whole : text ≡ field.0 ++ colon ∷ raw
+  pub some : field.0 ≢ []
+  pub named : IsTrue (list_all is_name_byte field.0)
+  pub value : field.1 ≡ trimmed raw
+
+-- a line, and the lines that go on with it
+pub record Folded : Type 0 where
+  pub line : List ℕ
+  pub more : List (List ℕ)
+
+abbrev pub lines_of : Folded → List (List ℕ)
+lines_of f = f.line ∷ f.more
+
+-- lines that go on with the line before
+abbrev pub GoOn : List (List ℕ) → Type 0
+GoOn more = All (λ line. IsTrue (begins_with_blank line)) more
+
+-- the line goes on with none, and the others with it
+abbrev pub IsFolded : Folded → Type 0
+IsFolded f = IsTrue (not (begins_with_blank f.line)) × GoOn f.more
+
+-- these are the fields among those lines, in order
+abbrev pub Holds : List Folded → List FieldText → Type 0
+Holds [] fields = fields ≡ []
+Holds (f ∷ rest) fields =
+    ((field : FieldText) × (others : List FieldText) × (fields ≡ field ∷ others) × IsField (concat (lines_of f)) field × Holds rest others)
+    ⊎ (((field : FieldText) → ¬ IsField (concat (lines_of f)) field) × Holds rest fields)
+
+-- The text has these fields: its lines are lines that go on with none, and then lines with those that go on with them,
+-- and these are the fields among them.
+pub record HasFields (text : List ℕ) (fields : List FieldText) : Type 0 where
+  pub loose : List (List ℕ)
+  pub folded_lines : List Folded
+  pub whole : lines text ≡ loose ++ flat_map lines_of folded_lines
+  pub loose_go_on : GoOn loose
+  pub each : All IsFolded folded_lines
+  pub fields_are : Holds folded_lines fields
+
+-- ---- the fields as a function
+
+-- the lines, each with those that go on with it: the text is cut behind each LF that no blank follows
+abbrev pub unfolded : List ℕ → List (List ℕ)
+unfolded [] = []
+unfolded (b ∷ rest) =
+    if b == line_feed && not (begins_with_blank rest) then (b ∷ []) ∷ unfolded rest else onto_first b (unfolded rest)
+
+abbrev pub is_colon : ℕ → Bool
+is_colon b = b == colon
+
+-- the name may be one
+abbrev pub is_name : List ℕ → Bool
+is_name name = nat_lt 0 (length name) && list_all is_name_byte name
+
+-- the field of that name and that text behind its colon, where the name may be one
+abbrev pub field_with : List ℕ → List ℕ → Option FieldText
+field_with name raw = if is_name name then Some (name, trimmed raw) else None
+
+-- the field of a line that has its first colon at that place
+abbrev pub field_cut : Option ℕ → List ℕ → Option FieldText
+field_cut (Some colon_place) line = field_with (take colon_place line) (drop (colon_place + 1) line)
+field_cut None line = None
+
+-- the field that a line is, with those that go on with it, if it is one
+abbrev pub field_of : List ℕ → Option FieldText
+field_of line = field_cut (position is_colon line) line
+
+-- the fields of a text, in order
+abbrev pub fields : List ℕ → List FieldText
+fields text = filter_map field_of (unfolded text)
+
+-- ---- the fields of a name
+
+-- the fields of that name, whatever the case of its letters
+abbrev pub named : List ℕ → List FieldText → List FieldText
+named name fields = filter (λ field. str_eq_ignore_ascii_case field.0 name) fields
+
+-- the bytes of a field
+abbrev pub field_text : Field → FieldText
+field_text field = (field.name.now, field.value.now)
+
+-- none of the fields, the only one, or that there are more
+abbrev pub Tells : Result (Option Field) Twice → List FieldText → Type 0
+Tells (Ok None) fields = fields ≡ []
+Tells (Ok (Some field)) fields = fields ≡ field_text field ∷ []
+Tells (Err twice) fields = (a b : FieldText) × (others : List FieldText) × (fields ≡ a ∷ b ∷ others)
