@@ -1,2 +1,7 @@
+pub mod Cuts
+pub mod Details
+pub mod Dispositions
 pub mod Outcomes
+pub mod Receipts
 pub mod Reports
+pub mod Verdicts

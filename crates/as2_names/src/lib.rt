@@ -15,7 +15,7 @@ mod trim;
 pub use blanks::{is_blank, without_blanks};
 pub use domain::Domain;
 pub use head::{Head, HeadFault, Once};
-pub use identifier::{IdFault, MessageId};
+pub use identifier::{IdFault, MessageId, without_brackets};
 pub use memory::Memory;
 pub use moment::Moment;
 pub use name::{AsName, NameFault};
