@@ -49,13 +49,15 @@ found_cut byte (b ∷ rest) p h =
           subst (λ (q : List ℕ × List ℕ). IsCutAt byte (b ∷ rest) q.0 q.1) q.2 (cut_more byte b rest q.0 other (found_cut byte rest q.0 q.1))
     ]
 
+some_or_none : (p : List ℕ × List ℕ) → Some p ≡ None → ⊥
+some_or_none p h = cc
+
 pub found_none : (byte : ℕ) (text : List ℕ) → cut_of byte text ≡ None → HasNo byte text
 found_none byte [] h = All-nil (λ b. (b == byte) ≡ false)
 found_none byte (b ∷ rest) h =
     elim (cases_Bool (b == byte)) [
       | inl here ↦
-          let now : Some ([], rest) ≡ None = sym (ap (λ t. cond t (Some ([], rest)) (with_first b (cut_of byte rest))) here) ∙ h in
-          absurd cc
+          absurd (some_or_none ([], rest) (sym (ap (λ t. cond t (Some ([], rest)) (with_first b (cut_of byte rest))) here) ∙ h))
       | inr other ↦
           let later : with_first b (cut_of byte rest) ≡ None = sym (ap (λ t. cond t (Some ([], rest)) (with_first b (cut_of byte rest))) other) ∙ h in
           All-cons (λ b. (b == byte) ≡ false) b rest other (found_none byte rest (with_first_none b (cut_of byte rest) later))
