@@ -1,14 +1,16 @@
 -- The disposition that is read is the one that the value has.
-use Rattle.std.proofs.Common.{◌≡◌, ◌==◌, ◌&&◌, ℕ, true, cond, List, [], length, Option, Some, None, Result, Ok, Err, refl, sym, ap, subst, ◌∙◌, inl, inr}
+use Rattle.std.proofs.Common.{◌≡◌, ◌==◌, ◌&&◌, ℕ, true, false, cond, List, [], ◌∷◌, ◌++◌, length, Option, Some, None, Result, Ok, Err, refl, sym, ap, subst, ◌∙◌, inl, inr}
 use Rattle.std.specs.Prelude.{◌⊎◌, IfOk}
 use Rattle.std.proofs.lemmas.Bool.{cases_Bool, and_parts, eqb-true}
 use Rattle.std.proofs.lemmas.List.{nil_from_length}
+use Rattle.std.proofs.lemmas.List.Elements.{All-cons, All-append}
 use Rattle.as2_names.specs.Ascii.{slash, semicolon}
 use Rattle.as2_mdn.specs.Cuts.{IsCutAt, cut_of}
 use Rattle.as2_mdn.specs.Dispositions.{type_of, is_action_mode, is_sending_mode, IsModified, IsUnmodified, IsDisposition, type_and_modifier, with_type, with_mode, with_both, reading}
 use Rattle.as2_mdn.specs.declared.disposition.DispositionFault.{DispositionFault}
 use Rattle.as2_mdn.specs.declared.disposition.DispositionFault.TheVariants as fault
 use Rattle.as2_mdn.proofs.Cutting.{cut_found, none_found, found_cut, found_none}
+use Rattle.as2_mdn.proofs.Modes.{action_has_no_slash, action_has_no_semicolon, sending_has_no_semicolon}
 
 -- ---- what stands in the value is read
 
@@ -26,9 +28,19 @@ type_again d some =
       | inr other ↦ rw other refl
     ]
 
+mode_cut : (value : List ℕ) (d : List ℕ × List ℕ) (x : IsDisposition value d) → IsCutAt semicolon value (x.action ++ slash ∷ x.sending) x.typed
+mode_cut value d x = record {
+  whole = x.whole;
+  first = All-append (λ b. (b == semicolon) ≡ false) x.action (slash ∷ x.sending) (action_has_no_semicolon x.action x.is_action)
+      (All-cons (λ b. (b == semicolon) ≡ false) slash x.sending refl (sending_has_no_semicolon x.sending x.is_sending));
+}
+
+action_cut : (value : List ℕ) (d : List ℕ × List ℕ) (x : IsDisposition value d) → IsCutAt slash (x.action ++ slash ∷ x.sending) x.action x.sending
+action_cut value d x = record { whole = refl; first = action_has_no_slash x.action x.is_action }
+
 pub again : (value : List ℕ) (d : List ℕ × List ℕ) → IsDisposition value d → reading value ≡ Ok d
 again value d x =
-    rw (cut_found semicolon value x.mode x.typed x.cut, cut_found slash x.mode x.is_mode.action x.is_mode.sending x.is_mode.cut, x.is_mode.is_action, x.is_mode.is_sending, typed_again x.typed d x.is_typed)
+    rw (cut_found semicolon value (x.action ++ slash ∷ x.sending) x.typed (mode_cut value d x), cut_found slash (x.action ++ slash ∷ x.sending) x.action x.sending (action_cut value d x), x.is_action, x.is_sending, typed_again x.typed d x.is_typed)
     (type_again d x.has_type)
 
 -- ---- what is read stands in the value
@@ -57,10 +69,12 @@ with_mode_found value mode typed d p whole cut h =
           let t = type_found d (type_and_modifier typed (cut_of slash typed)) on in
           let words = and_parts (is_action_mode p.0) (is_sending_mode p.1) good in
           subst (IsDisposition value) t.0 (record {
-            mode = mode;
+            action = p.0;
+            sending = p.1;
             typed = typed;
-            cut = whole;
-            is_mode = record { action = p.0; sending = p.1; cut = cut; is_action = words.0; is_sending = words.1 };
+            whole = whole.whole ∙ ap (λ (x : List ℕ). x ++ semicolon ∷ typed) cut.whole;
+            is_action = words.0;
+            is_sending = words.1;
             is_typed = typed_found typed (cut_of slash typed) refl;
             has_type = t.1;
           })

@@ -1,6 +1,6 @@
 -- The value of a `Disposition` field (RFC 8098, section 3.2.6; RFC 4130, section 7.4.3): which value has which
 -- disposition, and the first fault of a value that has none.
-use Rattle.std.specs.Prelude.{◌≡◌, ◌≢◌, ◌⊎◌, ℕ, Bool, ◌&&◌, ◌||◌, not, ◌==◌, nat_le, List, [], length, take, codes, if◌then◌else◌, IsTrue, Option, Some, None, Result, Ok, Err}
+use Rattle.std.specs.Prelude.{◌≡◌, ◌≢◌, ◌⊎◌, ℕ, Bool, ◌&&◌, ◌||◌, not, ◌==◌, nat_le, List, [], ◌∷◌, ◌++◌, length, take, codes, if◌then◌else◌, IsTrue, Option, Some, None, Result, Ok, Err}
 use Rattle.std.specs.Str.{str_eq_ignore_ascii_case}
 use Rattle.as2_names.specs.Ascii.{slash, semicolon}
 use Rattle.as2_names.specs.Trim.{trimmed}
@@ -27,14 +27,6 @@ is_action_mode text = is_word (trimmed text) (codes "manual-action") || is_word 
 abbrev pub is_sending_mode : List ℕ → Bool
 is_sending_mode text = is_word (trimmed text) (codes "MDN-sent-manually") || is_word (trimmed text) (codes "MDN-sent-automatically")
 
--- `action-mode/sending-mode`
-pub record IsMode (text : List ℕ) : Type 0 where
-  pub action : List ℕ
-  pub sending : List ℕ
-  pub cut : IsCutAt slash text action sending
-  pub is_action : IsTrue (is_action_mode action)
-  pub is_sending : IsTrue (is_sending_mode sending)
-
 -- `type/modifier`, with blanks and line ends around both
 pub record IsModified (text : List ℕ) (disposition : List ℕ × List ℕ) : Type 0 where
   pub before : List ℕ
@@ -49,12 +41,15 @@ pub record IsUnmodified (text : List ℕ) (disposition : List ℕ × List ℕ) :
   pub is_type : type_of disposition ≡ trimmed text
   pub no_modifier : modifier_of disposition ≡ []
 
--- The value has the disposition: a mode, `;`, a type that isn't empty, and perhaps `/` and a modifier.
+-- The value has the disposition: an action mode, `/`, a sending mode, `;`, a type that isn't empty, and perhaps `/` and a
+-- modifier, with blanks and line ends around each.
 pub record IsDisposition (value : List ℕ) (disposition : List ℕ × List ℕ) : Type 0 where
-  pub mode : List ℕ
+  pub action : List ℕ
+  pub sending : List ℕ
   pub typed : List ℕ
-  pub cut : IsCutAt semicolon value mode typed
-  pub is_mode : IsMode mode
+  pub whole : value ≡ action ++ slash ∷ sending ++ semicolon ∷ typed
+  pub is_action : IsTrue (is_action_mode action)
+  pub is_sending : IsTrue (is_sending_mode sending)
   pub is_typed : IsModified typed disposition ⊎ IsUnmodified typed disposition
   pub has_type : type_of disposition ≢ []
 
