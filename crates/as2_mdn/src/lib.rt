@@ -1,11 +1,21 @@
-//! Receipts: the outcome of a received document, and the report that tells it (RFC 8098, RFC 4130 section 7).
+//! Receipts: the outcome of a received document, the report that tells it, and what a receipt says of a document that
+//! was sent (RFC 8098, RFC 4130 section 7).
 #![tactic(auto)]
 
+mod cut;
+mod detail;
+mod disposition;
 mod outcome;
+mod receipt;
 mod report;
+mod verdicts;
 
+pub use detail::{Detail, State};
+pub use disposition::{Disposition, DispositionFault};
 pub use outcome::Outcome;
+pub use receipt::{MicPart, Receipt};
 pub use report::{ReportMic, ReportOut, write_head_fields, write_report};
+pub use verdicts::{verdict, verdict_pieces};
 
 #[cfg(test)]
 mod tests;

@@ -1,3 +1,6 @@
+mod dispositions;
+mod verdicts;
+
 use super::*;
 use as2_mic::{Alg, mic_of};
 use as2_text::{AsName, Domain, MessageId};

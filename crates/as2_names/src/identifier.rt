@@ -44,9 +44,9 @@ impl Model for MessageId {
     ghost invariant = { λ m. IsIdentifier (string_bytes m.text) };
 }
 
-/// The text without one surrounding pair of angle brackets.
+/// The value of an identifier: the text without one surrounding pair of angle brackets (RFC 4130, section 5.3.3).
 #[tactic(auto, unfolding(crate::specs::Identifiers::value_of))]
-fn without_brackets(text: &[u8]) -> &[u8]
+pub fn without_brackets(text: &[u8]) -> &[u8]
     ensures { result.now ≡ value_of text.now }
 {
     match text {

@@ -1,0 +1,4 @@
+pub mod Cutting
+pub mod MicBytes
+pub mod Modes
+pub mod Reading

@@ -1,0 +1,46 @@
+-- What a receipt says of a document's content (RFC 8098, section 3.2.6; RFC 4130, section 7.5).
+use Rattle.std.specs.Prelude.{ℕ, Bool, true, false, not, List, if◌then◌else◌, Option, Some, None}
+use Rattle.as2_mic.specs.declared.field.Compared.{Compared}
+use Rattle.as2_mic.specs.declared.field.Compared.TheVariants.{UnknownAlg, Differs}
+use Rattle.as2_mic.specs.Field.{compared}
+use Rattle.as2_mdn.specs.Dispositions.{is_processed, has_modifier, has_error}
+use Rattle.as2_mdn.specs.Receipts.{ReceiptRead, Mic, Missing, Unreadable, Given}
+use Rattle.as2_mdn.specs.declared.detail.Detail.{Detail}
+use Rattle.as2_mdn.specs.declared.detail.Detail.TheVariants.{Processed, Warning, NoMic, UnknownMic, NotProcessed, ErrorModifier, MicDiffers}
+
+-- what comes of comparing a content with the MIC that is given, if one is; one that can't be read is under no known
+-- digest
+abbrev pub mic_compared : Mic → List ℕ → Option Compared
+mic_compared Missing content = None
+mic_compared Unreadable content = Some UnknownAlg
+mic_compared (Given field) content = Some (compared field content)
+
+-- a MIC is given under a known digest, and isn't the content's
+abbrev pub differs : Option Compared → Bool
+differs (Some Differs) = true
+differs found = false
+
+-- no MIC is given
+abbrev pub is_missing : Option Compared → Bool
+is_missing None = true
+is_missing found = false
+
+-- a MIC is given that can't be read, or whose digest isn't known
+abbrev pub is_unknown : Option Compared → Bool
+is_unknown (Some UnknownAlg) = true
+is_unknown found = false
+
+-- the verdict on a disposition and what came of comparing: the first line that fits
+abbrev pub judged : List ℕ × List ℕ → Option Compared → Detail
+judged disposition found =
+    if not (is_processed disposition) then NotProcessed
+    else if has_error disposition then ErrorModifier
+    else if differs found then MicDiffers
+    else if has_modifier disposition then Warning
+    else if is_missing found then NoMic
+    else if is_unknown found then UnknownMic
+    else Processed
+
+-- the verdict of a receipt on a content
+abbrev pub verdict_of : ReceiptRead → List ℕ → Detail
+verdict_of receipt content = judged receipt.disposition (mic_compared receipt.mic content)
