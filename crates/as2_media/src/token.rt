@@ -15,8 +15,9 @@ fn all_token_bytes(text: &[u8]) -> bool
     text.iter().all(|b| is_token_byte(*b))
 }
 
-/// A token (RFC 2045, section 5.1).
-pub(crate) fn is_token(text: &[u8]) -> bool
+/// Whether the text is a token: one or more visible bytes, none of them a mark that may stand in quotes only (RFC 2045,
+/// section 5.1).
+pub fn is_token(text: &[u8]) -> bool
     ensures { result ≡ is_token text.now }
 {
     !text.is_empty() && all_token_bytes(text)

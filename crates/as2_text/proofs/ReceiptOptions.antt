@@ -10,7 +10,8 @@ use Rattle.as2_names.specs.Blanks.{without_blanks}
 use Rattle.as2_names.specs.Cuts.{Lacks, IsCutAt, cut_at}
 use Rattle.as2_names.proofs.Cuts.{parts_cut, cut_found, cut_some}
 use Rattle.as2_text.specs.declared.receipt_option.Importance.{Importance}
-use Rattle.as2_text.specs.ReceiptOptions.{ReceiptOption, AreOptions, IsOption, IsOptions, are_options, are_values, importance_of, is_empty, is_readable, is_token, option_behind, option_cut, option_with, are_distinct, first_named, has_name, is_other_required, is_required_other, is_semicolon, named_again, option_of, options_in, where_named}
+use Rattle.as2_media.specs.Bytes.{is_token}
+use Rattle.as2_text.specs.ReceiptOptions.{ReceiptOption, AreOptions, IsOption, IsOptions, are_options, are_values, importance_of, is_empty, is_readable, option_behind, option_cut, option_with, are_distinct, first_named, has_name, is_other_required, is_required_other, is_semicolon, named_again, option_of, options_in, where_named}
 
 -- ---- the options of a text that is cut
 

@@ -1,10 +1,11 @@
 -- The value of a `Disposition-Notification-Options` field (RFC 8098, section 2.2; RFC 4130, section 7.3): parameters that
 -- semicolons part, each `name=importance, value, value..`.
-use Rattle.std.specs.Prelude.{◌≡◌, ℕ, ◌⊎◌, Bool, true, false, ◌&&◌, ◌||◌, not, ◌==◌, nat_lt, nat_le, List, [], ◌∷◌, length, codes, if◌then◌else◌, IsTrue, IsFalse, filter_map, Option, Some, None}
+use Rattle.std.specs.Prelude.{◌≡◌, ℕ, ◌⊎◌, Bool, true, false, ◌&&◌, ◌||◌, not, ◌==◌, List, [], ◌∷◌, length, codes, if◌then◌else◌, IsTrue, IsFalse, filter_map, Option, Some, None}
 use Rattle.std.specs.List.{list_all, list_any, slice_split}
 use Rattle.std.specs.Option.{is_some}
 use Rattle.std.specs.Str.{str_eq_ignore_ascii_case}
-use Rattle.as2_names.specs.Ascii.{space, tilde, comma, equals_sign, semicolon}
+use Rattle.as2_media.specs.Bytes.{is_token}
+use Rattle.as2_names.specs.Ascii.{comma, equals_sign, semicolon}
 use Rattle.as2_names.specs.Blanks.{without_blanks}
 use Rattle.as2_names.specs.Cuts.{IsCutAt, cut_at}
 use Rattle.as2_names.specs.Options.{is_comma}
@@ -16,13 +17,6 @@ pub record ReceiptOption : Type 0 where
   pub name : List ℕ
   pub importance : Importance
   pub values : List ℕ
-
--- a byte of a token (RFC 2045, section 5.1)
-abbrev pub is_token_byte : ℕ → Bool
-is_token_byte b = nat_lt space b && nat_le b tilde && not (list_any (λ c. c == b) (codes "()<>@,;:\\\"/[]?="))
-
-abbrev pub is_token : List ℕ → Bool
-is_token text = nat_lt 0 (length text) && list_all is_token_byte text
 
 -- the word says that importance, whatever the case of its letters
 abbrev pub importance_of : List ℕ → Option Importance

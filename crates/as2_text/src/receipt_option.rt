@@ -1,10 +1,10 @@
 // One parameter of a receipt request's options (RFC 8098, section 2.2).
 ghost use Rattle.std.specs.Prelude.{◌≡◌, Some};
-ghost use Rattle.std.specs.List.{list_all};
 ghost use Rattle.as2_names.specs.Ascii.{comma};
 ghost use Rattle.as2_names.specs.Cuts.{cut_at};
-ghost use Rattle.as2_text.specs.ReceiptOptions.{are_values, has_name, importance_of, is_empty, is_other_required, is_required, is_token, is_token_byte, micalg, option_behind, option_of, option_with};
+ghost use Rattle.as2_text.specs.ReceiptOptions.{are_values, has_name, importance_of, is_empty, is_other_required, is_required, micalg, option_behind, option_of, option_with};
 
+use as2_media::is_token;
 use as2_names::{cut_at, without_blanks};
 use std::marker::Model;
 
@@ -42,24 +42,6 @@ impl<'a> Model for ReceiptOption<'a> {
     ghost Value = { options.ReceiptOption };
 
     ghost view = { λ o. record { name = o.name.now; importance = o.importance; values = o.values.now } };
-}
-
-fn is_token_byte(b: u8) -> bool
-    ensures { result ≡ is_token_byte b }
-{
-    b > b' ' && b <= b'~' && !b"()<>@,;:\\\"/[]?=".contains(&b)
-}
-
-fn all_token_bytes(text: &[u8]) -> bool
-    ensures { result ≡ list_all is_token_byte text.now }
-{
-    text.iter().all(|b| is_token_byte(*b))
-}
-
-fn is_token(text: &[u8]) -> bool
-    ensures { result ≡ is_token text.now }
-{
-    !text.is_empty() && all_token_bytes(text)
 }
 
 /// Nothing but blanks.
