@@ -2,6 +2,7 @@ pub mod Behind
 pub mod Cutting
 pub mod Deciding
 pub mod FieldText
+pub mod Laws
 pub mod Marking
 pub mod Moving
 pub mod Reading
