@@ -1,6 +1,7 @@
 pub mod Behind
 pub mod Cutting
 pub mod Deciding
+pub mod Faults
 pub mod FieldText
 pub mod Laws
 pub mod Marking
