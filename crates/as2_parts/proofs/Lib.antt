@@ -1,7 +1,9 @@
 pub mod Behind
 pub mod Cutting
 pub mod Deciding
+pub mod Faults
 pub mod FieldText
+pub mod Laws
 pub mod Marking
 pub mod Moving
 pub mod Reading

@@ -30,11 +30,11 @@ pub no_mark_before : (boundary : List ℕ) (ls : List (List ℕ)) → HasNoMark 
 no_mark_before boundary ls = All-weaker (λ line. is_mark boundary line ≡ false) (λ line. ¬ IsMark boundary line) (λ line plain. plain_is boundary line plain) (before_mark boundary ls) (plain_before boundary ls)
 
 -- the lines are cut at a mark
-record Cut (boundary : List ℕ) (ls : List (List ℕ)) (mark : List ℕ) (after : List (List ℕ)) : Type 0 where
+pub record Cut (boundary : List ℕ) (ls : List (List ℕ)) (mark : List ℕ) (after : List (List ℕ)) : Type 0 where
   pub whole : ls ≡ before_mark boundary ls ++ mark ∷ after
   pub marks : is_mark boundary mark ≡ true
 
-cut_at : (boundary : List ℕ) (ls : List (List ℕ)) (mark : List ℕ) (after : List (List ℕ)) → from_mark boundary ls ≡ mark ∷ after → Cut boundary ls mark after
+pub cut_at : (boundary : List ℕ) (ls : List (List ℕ)) (mark : List ℕ) (after : List (List ℕ)) → from_mark boundary ls ≡ mark ∷ after → Cut boundary ls mark after
 cut_at boundary [] mark after e = absurd cc
 cut_at boundary (line ∷ rest) mark after e =
     elim (cases_Bool (is_mark boundary line)) [

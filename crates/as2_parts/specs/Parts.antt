@@ -1,11 +1,11 @@
 -- The two parts of a multipart body (RFC 2046, section 5.1.1), and the first fault of a body that hasn't two.
-use Rattle.std.specs.Prelude.{◌≡◌, ℕ, ◌⊎◌, List, [], ◌∷◌, ◌++◌, if◌then◌else◌, All, Any, Result, Ok, Err}
+use Rattle.std.specs.Prelude.{◌≡◌, ℕ, ◌+◌, ◌⊎◌, Bool, not, ◌==◌, List, [], ◌∷◌, ◌++◌, if◌then◌else◌, All, Any, Option, Some, None, Result, Ok, Err}
 use Rattle.std.specs.List.{concat, list_any}
 use Rattle.std.specs.Result.{result_map_both}
 use Rattle.as2_parts.specs.declared.parts.Part.{Part}
 use Rattle.as2_parts.specs.declared.parts.PartFault.{PartFault}
 use Rattle.as2_parts.specs.declared.parts.PartFault.TheVariants.{NoDelimiter, OnePart, NotClosed}
-use Rattle.as2_parts.specs.Lines.{lines, is_empty_line, without_line_end, IsDelimiter, IsClosing, is_closing, is_mark}
+use Rattle.as2_parts.specs.Lines.{lines, is_empty_line, without_line_end, IsDelimiter, IsClosing, is_delimiter, is_closing, is_mark}
 
 -- what stands before the first empty line and what stands behind it; without one all stands before
 abbrev pub cut_at_empty_line : List (List ℕ) → List ℕ × List ℕ
@@ -83,6 +83,26 @@ behind_preamble boundary (mark ∷ rest) =
 -- the two parts of a body, or its first fault
 abbrev pub reading : List ℕ → List ℕ → Result (PartText × PartText) PartFault
 reading boundary body = behind_preamble boundary (from_mark boundary (lines body))
+
+-- how many delimiters stand before the first closing line
+abbrev pub delimiters : List ℕ → List (List ℕ) → ℕ
+delimiters boundary [] = 0
+delimiters boundary (line ∷ rest) =
+    if is_closing boundary line then 0
+    else if is_delimiter boundary line then 1 + delimiters boundary rest
+    else delimiters boundary rest
+
+-- the fault of a body that has so many, and has a closing line or has none
+abbrev pub fault_of : ℕ → Bool → Option PartFault
+fault_of count closed =
+    if count == 0 then Some NoDelimiter
+    else if not closed then Some NotClosed
+    else if count == 1 then Some OnePart
+    else None
+
+-- why a body hasn't two parts, if it hasn't
+abbrev pub part_fault : List ℕ → List ℕ → Option PartFault
+part_fault boundary body = fault_of (delimiters boundary (lines body)) (list_any (is_closing boundary) (lines body))
 
 -- ---- what the code hands out
 

@@ -5,7 +5,7 @@ ghost use Rattle.as2_parts.specs.Fields.{HasFields, FieldText, is_name_byte, is_
 use as2_names::{is_blank, without_blanks_and_line_ends};
 use std::marker::Model;
 
-/// A field: slices of the text that has it.
+/// A field (RFC 5322, section 2.2): slices of the text that has it.
 #[derive(Clone, Copy, Debug, PartialEq, Eq)]
 pub struct Field<'a> {
     /// The bytes before the colon.
@@ -19,7 +19,7 @@ pub struct Field<'a> {
 #[derive(Clone, Copy, Debug, PartialEq, Eq)]
 pub struct Twice;
 
-/// The fields of a text, in order.
+/// The fields of a text, in order. [`Fields::of`] says what they are.
 #[derive(Debug, Drop)]
 pub struct Fields<'a> {
     rest: &'a [u8],
@@ -110,7 +110,7 @@ impl<'a> Fields<'a> {
         ensures found { HasFields text.now result }
         // The text has no other fields.
         ensures only { (others : List FieldText) → HasFields text.now others → result ≡ others }
-        // The fields are those that the function gives.
+        // They are those that the function gives.
         ensures exact { result ≡ fields text.now }
     {
         Fields { rest: text }

@@ -25,6 +25,7 @@ fn behind_boundary<'a>(line: &'a [u8], boundary: &[u8]) -> Option<&'a [u8]>
     }
 }
 
+/// Whether the text is blanks, or empty.
 fn is_blanks(text: &[u8]) -> bool
     ensures { result ≡ list_all is_blank text.now }
 {
@@ -41,6 +42,7 @@ fn is_hyphens(text: &[u8]) -> bool
     }
 }
 
+/// Whether the line is `--boundary` and blanks.
 fn is_delimiter(line: &[u8], boundary: &[u8]) -> bool
     ensures { result ≡ is_delimiter boundary.now line.now }
 {
@@ -50,6 +52,7 @@ fn is_delimiter(line: &[u8], boundary: &[u8]) -> bool
     }
 }
 
+/// Whether the line is `--boundary--` and blanks.
 pub fn is_closing(line: &[u8], boundary: &[u8]) -> bool
     ensures { result ≡ is_closing boundary.now line.now }
 {

@@ -1,11 +1,12 @@
 ghost use Rattle.std.specs.Prelude.{◌≡◌, IfOk, Ok};
 ghost use Rattle.as2_parts.specs.Lines.{without_line_end};
-ghost use Rattle.as2_parts.specs.Parts.{IsTwoParts, PartText, part_in, reading, part_text, shown};
+ghost use Rattle.std.specs.Result.{result_err};
+ghost use Rattle.as2_parts.specs.Parts.{IsTwoParts, PartText, part_in, reading, part_fault, part_text, shown};
 
 use crate::lines::{first_line, is_empty_line, without_line_end};
 use crate::marks::{has_closing, is_closing, next_mark};
 
-/// A part of a multipart body: slices of it.
+/// A part of a multipart body (RFC 2046, section 5.1): slices of the body.
 #[derive(Clone, Copy, Debug, PartialEq, Eq)]
 pub struct Part<'a> {
     /// The text before the first empty line, all of the part where it has none.
@@ -83,7 +84,9 @@ pub fn two_parts<'a>(body: &'a [u8], boundary: &[u8]) -> Result<(Part<'a>, Part<
     ensures found { IfOk result (λ parts. IsTwoParts boundary.now body.now (part_text parts.0) (part_text parts.1)) }
     // Where the body has two parts, they are found.
     ensures only { (first second : PartText) → IsTwoParts boundary.now body.now first second → shown result ≡ Ok (first, second) }
-    // Which fault it is.
+    // The fault is the first in the order NoDelimiter, NotClosed, OnePart.
+    ensures fault { result_err result ≡ part_fault boundary.now body.now }
+    // The answer is the one that the function gives.
     ensures exact { shown result ≡ reading boundary.now body.now }
 {
     read_parts(body, boundary)

@@ -1,0 +1,51 @@
+-- What the definitions say of texts that are put together, for the crates above.
+use Rattle.std.proofs.Common.{◌≡◌, ◌==◌, ℕ, true, false, List, [], ◌∷◌, ◌++◌, Ok, refl, sym, ap, ◌∙◌}
+use Rattle.std.specs.Prelude.{not, filter_map}
+use Rattle.std.specs.List.{list_all}
+use Rattle.std.proofs.lemmas.Bool.{and_parts, not-true}
+use Rattle.as2_parts.specs.Lines.{lines}
+use Rattle.as2_parts.specs.Parts.{PartText, IsTwoParts}
+use Rattle.as2_parts.specs.Fields.{FieldText, IsField, HasFields, begins_with_blank, unfolded, field_of, fields}
+use Rattle.as2_parts.proofs.FieldText.{field_again}
+use Rattle.as2_parts.proofs.TwoParts.{again}
+use Rattle.as2_parts.proofs.Unfolding.{fields_only}
+
+-- ---- what a text has is one
+
+pub one_first_part : (boundary body : List ℕ) (first second first' second' : PartText) → IsTwoParts boundary body first second → IsTwoParts boundary body first' second' → first ≡ first'
+one_first_part boundary body first second first' second' t u =
+    let same : Ok (first, second) ≡ Ok (first', second') = sym (again boundary body first second t) ∙ again boundary body first' second' u in
+    let pairs : (first, second) ≡ (first', second') = cc same in
+    ap (λ (p : PartText × PartText). p.0) pairs
+
+pub one_second_part : (boundary body : List ℕ) (first second first' second' : PartText) → IsTwoParts boundary body first second → IsTwoParts boundary body first' second' → second ≡ second'
+one_second_part boundary body first second first' second' t u =
+    let same : Ok (first, second) ≡ Ok (first', second') = sym (again boundary body first second t) ∙ again boundary body first' second' u in
+    let pairs : (first, second) ≡ (first', second') = cc same in
+    ap (λ (p : PartText × PartText). p.1) pairs
+
+pub one_list_of_fields : (text : List ℕ) (some others : List FieldText) → HasFields text some → HasFields text others → some ≡ others
+one_list_of_fields text some others h k = sym (fields_only text some h) ∙ fields_only text others k
+
+-- ---- a text with a line in front
+
+-- the text has no LF
+abbrev pub HasNoFeed : List ℕ → Type 0
+HasNoFeed text = list_all (λ b. not (b == 10)) text ≡ true
+
+pub lines_front : (line rest : List ℕ) → HasNoFeed line → lines (line ++ 10 ∷ rest) ≡ (line ++ 10 ∷ []) ∷ lines rest
+lines_front [] rest h = refl
+lines_front (b ∷ line) rest h =
+    let p = and_parts (not (b == 10)) (list_all (λ b. not (b == 10)) line) h in
+    rw (not-true (b == 10) p.0, lines_front line rest p.1) refl
+
+pub unfolded_front : (line rest : List ℕ) → HasNoFeed line → begins_with_blank rest ≡ false → unfolded (line ++ 10 ∷ rest) ≡ (line ++ 10 ∷ []) ∷ unfolded rest
+unfolded_front [] rest h free = rw free refl
+unfolded_front (b ∷ line) rest h free =
+    let p = and_parts (not (b == 10)) (list_all (λ b. not (b == 10)) line) h in
+    rw (not-true (b == 10) p.0, unfolded_front line rest p.1 free) refl
+
+-- a line that is a field gives it before the fields of the rest, where that begins with no blank
+pub fields_front : (line rest : List ℕ) (field : FieldText) → HasNoFeed line → begins_with_blank rest ≡ false → IsField (line ++ 10 ∷ []) field → fields (line ++ 10 ∷ rest) ≡ field ∷ fields rest
+fields_front line rest field h free f =
+    ap (filter_map field_of) (unfolded_front line rest h free) ∙ rw (field_again (line ++ 10 ∷ []) field f) refl
