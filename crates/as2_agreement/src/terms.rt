@@ -17,12 +17,25 @@ use as2_names::AsName;
 use as2_text::Url;
 use toml::Table;
 
-/// Whether an organization or a partner has the name. There are at most 320.
+/// Whether an organization has the name.
+fn is_organization(organizations: &[Organization], name: &AsName) -> bool
+    ensures { result ≡ list_any (λ o. bytes_eq name.now o.name) organizations.now }
+{
+    organizations.iter().any(|o| name.bytes() == o.name.bytes())
+}
+
+/// Whether a partner has the name.
+fn is_partner(partners: &[Partner], name: &AsName) -> bool
+    ensures { result ≡ list_any (λ p. bytes_eq name.now p.name) partners.now }
+{
+    partners.iter().any(|p| name.bytes() == p.name.bytes())
+}
+
+/// Whether an organization or a partner has the name. There are at most 320, so each is looked at.
 fn is_taken(organizations: &[Organization], partners: &[Partner], name: &AsName) -> bool
     ensures { result ≡ list_any (bytes_eq name.now) (names organizations.now partners.now) }
 {
-    organizations.iter().any(|o| name.bytes() == o.name.bytes())
-        || partners.iter().any(|p| name.bytes() == p.name.bytes())
+    is_organization(organizations, name) || is_partner(partners, name)
 }
 
 /// The name of an entry, which no organization and no partner before may have.
