@@ -1,0 +1,10 @@
+pub mod Counting
+pub mod Cutting
+pub mod Fronts
+pub mod Laws
+pub mod Padding
+pub mod Quotes
+pub mod Readings
+pub mod Segments
+pub mod Solid
+pub mod Spellings

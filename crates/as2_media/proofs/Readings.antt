@@ -1,0 +1,98 @@
+-- What is spelled is read: one value, one parameter, and all.
+use Rattle.std.proofs.Common.{◌≡◌, ℕ, zero, suc, ◌-◌, ◌≤◌, true, false, List, [], ◌∷◌, ◌++◌, length, Some, Ok, refl, ap, ◌∙◌, append-nil, arith, inl, inr}
+use Rattle.std.specs.Prelude.{◌==◌}
+use Rattle.std.specs.List.{list_all}
+use Rattle.std.proofs.lemmas.Bool.{and_parts, ne_eqb}
+use Rattle.std.proofs.lemmas.List.{nil_from_length}
+use Rattle.as2_names.specs.Ascii.{quote, equals_sign, slash, semicolon}
+use Rattle.as2_names.specs.Trim.{all_fall_off, trimmed}
+use Rattle.as2_media.specs.Bytes.{is_bare_byte, is_token}
+use Rattle.as2_media.specs.Cuts.{before, behind, segments_of}
+use Rattle.as2_media.specs.Values.{IsBare, SpellsValue, value_of}
+use Rattle.as2_media.specs.Parameters.{IsPadded, SpellsParameter, Spell, parameter, parameters, given_value}
+use Rattle.as2_media.specs.MediaTypes.{Media, IsMediaType, behind_semicolons, reading, essence}
+use Rattle.as2_media.proofs.Padding.{padded_trimmed, blank_trimmed}
+use Rattle.as2_media.proofs.Fronts.{nothing_kept}
+use Rattle.as2_media.proofs.Solid.{token_solid, tokens_solid, value_solid}
+use Rattle.as2_media.proofs.Cutting.{is_free, not_false, other_byte, before_free, behind_free, before_all, behind_none, token_free, padded_free, free_append}
+use Rattle.as2_media.proofs.Segments.{segments_joined}
+use Rattle.as2_media.proofs.Quotes.{between_quoted, between_none, quoted_again}
+
+bare_again : (value : List ℕ) → IsBare value → value_of value ≡ Some value
+bare_again [] v = absurd (v.some refl)
+bare_again (b ∷ rest) v =
+    let p = and_parts (is_bare_byte b) (list_all is_bare_byte rest) v.bytes in
+    let all : list_all is_bare_byte (b ∷ rest) ≡ true = v.bytes in
+    let some : (length (b ∷ rest) == 0) ≡ false = ne_eqb (length (b ∷ rest)) 0 (λ e. absurd (omega (arith, e))) in
+    rw (between_none b rest (not_false (b == quote) (other_byte is_bare_byte b quote p.0 refl)), some, all) refl
+
+value_again : (text value : List ℕ) → SpellsValue text value → value_of text ≡ Some value
+value_again text value s =
+    elim s [
+      | inl x ↦ rw x.1 (bare_again value x.0)
+      | inr x ↦ rw (x.1, between_quoted value, quoted_again value x.0) refl
+    ]
+
+parameter_again : (text : List ℕ) (p : List ℕ × List ℕ) → SpellsParameter text p → parameter text ≡ Some p
+parameter_again text p s =
+    let free = padded_free equals_sign s.left p.0 refl s.named (token_free equals_sign p.0 refl s.token) in
+    let name : trimmed (before equals_sign text) ≡ p.0 = ap (λ (x : List ℕ). trimmed (before equals_sign x)) s.whole ∙ ap trimmed (before_free equals_sign s.left s.right free) ∙ padded_trimmed s.left p.0 s.named (token_solid p.0 s.token) in
+    let given : behind equals_sign text ≡ Some s.right = ap (behind equals_sign) s.whole ∙ behind_free equals_sign s.left s.right free in
+    let spelled : trimmed s.right ≡ s.spelled = padded_trimmed s.right s.spelled s.given (value_solid s.spelled p.1 s.spells) in
+    let value : given_value (behind equals_sign text) ≡ Some p.1 = ap given_value given ∙ ap value_of spelled ∙ value_again s.spelled p.1 s.spells in
+    rw (name, s.token, value) refl
+
+-- a text with `=` is not of blanks alone
+equals_stays : (left right : List ℕ) → all_fall_off (left ++ equals_sign ∷ right) ≡ true → equals_sign ≡ 0
+equals_stays [] right h = absurd cc
+equals_stays (b ∷ left) right h = equals_stays left right (and_parts _ (all_fall_off (left ++ equals_sign ∷ right)) h).1
+
+some_trimmed : (text : List ℕ) (p : List ℕ × List ℕ) → SpellsParameter text p → (length (trimmed text) == 0) ≡ false
+some_trimmed text p s =
+    ne_eqb (length (trimmed text)) 0 (λ e.
+    let all : all_fall_off text ≡ true = nothing_kept text (nil_from_length (trimmed text) e) in
+    let no : equals_sign ≡ 0 = equals_stays s.left s.right (rw s.whole at all) in
+    absurd cc)
+
+one_again : (room : ℕ) (text : List ℕ) (texts : List (List ℕ)) (first : List ℕ × List ℕ) (others ps : List (List ℕ × List ℕ)) → ps ≡ first ∷ others → SpellsParameter text first
+    → ((n : ℕ) → length others ≤ n → parameters n texts ≡ Ok others) → length ps ≤ room → parameters room (text ∷ texts) ≡ Ok ps
+one_again zero text texts first others ps e s again le = absurd (omega (arith, le, ap length e))
+one_again (suc room) text texts first others ps e s again le =
+    rw (some_trimmed text first s, parameter_again text first s, again (suc room - 1) (omega (arith, le, ap length e)), e) refl
+
+parameters_again : (room : ℕ) (texts : List (List ℕ)) (ps : List (List ℕ × List ℕ)) → Spell texts ps → length ps ≤ room → parameters room texts ≡ Ok ps
+parameters_again room [] ps s le = rw s refl
+parameters_again room (text ∷ texts) ps s le =
+    elim s [
+      | inl x ↦ rw (blank_trimmed text x.0) (parameters_again room texts ps x.1 le)
+      | inr x ↦ one_again room text texts x.0 x.1 ps x.2 x.3 (λ n fits. parameters_again n texts x.1 x.4 fits) le
+    ]
+
+-- ---- the whole
+
+essence_again : (text type_name subtype : List ℕ) → IsPadded text (type_name ++ slash ∷ subtype) → is_token type_name ≡ true → is_token subtype ≡ true → essence text ≡ Ok (type_name, subtype)
+essence_again text type_name subtype p t s =
+    let inner : trimmed text ≡ type_name ++ slash ∷ subtype = padded_trimmed text (type_name ++ slash ∷ subtype) p (tokens_solid type_name slash subtype t (token_solid subtype s)) in
+    let free = token_free slash type_name refl t in
+    rw (inner, before_free slash type_name subtype free, behind_free slash type_name subtype free, t, s) refl
+
+-- the text before the first `;`, and the segments behind it
+essence_free : (text type_name subtype : List ℕ) → IsPadded text (type_name ++ slash ∷ subtype) → is_token type_name ≡ true → is_token subtype ≡ true → is_free semicolon text ≡ true
+essence_free text type_name subtype p t s =
+    padded_free semicolon text (type_name ++ slash ∷ subtype) refl p
+    (free_append semicolon type_name (slash ∷ subtype) (token_free semicolon type_name refl t) (token_free semicolon subtype refl s))
+
+cut_before : (front : List ℕ) (texts : List (List ℕ)) → is_free semicolon front ≡ true → before semicolon (front ++ behind_semicolons texts) ≡ front
+cut_before front [] f = rw (append-nil front) (before_all semicolon front f)
+cut_before front (text ∷ texts) f = before_free semicolon front (text ++ behind_semicolons texts) f
+
+cut_behind : (front : List ℕ) (texts : List (List ℕ)) (ps : List (List ℕ × List ℕ)) → is_free semicolon front ≡ true → Spell texts ps → segments_of (behind semicolon (front ++ behind_semicolons texts)) ≡ texts
+cut_behind front [] ps f s = rw (append-nil front) (ap segments_of (behind_none semicolon front f))
+cut_behind front (text ∷ texts) ps f s = ap segments_of (behind_free semicolon front (text ++ behind_semicolons texts) f) ∙ segments_joined text texts ps s
+
+pub again : (text : List ℕ) (media : Media) → IsMediaType text media → reading text ≡ Ok media
+again text media m =
+    let free = essence_free m.essence media.type_name media.subtype m.is m.type_token m.subtype_token in
+    let front : essence (before semicolon text) ≡ Ok (media.type_name, media.subtype) = ap (λ (x : List ℕ). essence (before semicolon x)) m.whole ∙ ap essence (cut_before m.essence m.texts free) ∙ essence_again m.essence media.type_name media.subtype m.is m.type_token m.subtype_token in
+    let back : parameters 8 (segments_of (behind semicolon text)) ≡ Ok media.parameters = ap (λ (x : List ℕ). parameters 8 (segments_of (behind semicolon x))) m.whole ∙ ap (parameters 8) (cut_behind m.essence m.texts media.parameters free m.spell) ∙ parameters_again 8 m.texts media.parameters m.spell m.few in
+    rw (front, back) refl

@@ -1,0 +1,42 @@
+-- Texts that are cut at a byte, and at each `;` outside quotes.
+use Rattle.std.specs.Prelude.{ℕ, Bool, false, ◌==◌, List, [], ◌∷◌, ◌++◌, if◌then◌else◌, Option, Some, None}
+use Rattle.as2_names.specs.Ascii.{quote, semicolon, backslash}
+use Rattle.as2_media.specs.declared.cuts.Place.{Place}
+use Rattle.as2_media.specs.declared.cuts.Place.TheVariants.{Outside, Quoted, Escaped}
+
+-- the text before its first such byte
+abbrev pub before : ℕ → List ℕ → List ℕ
+before mark [] = []
+before mark (b ∷ rest) = if b == mark then [] else b ∷ before mark rest
+
+-- the text behind its first such byte, where there is one
+abbrev pub behind : ℕ → List ℕ → Option (List ℕ)
+behind mark [] = None
+behind mark (b ∷ rest) = if b == mark then Some rest else behind mark rest
+
+-- the place behind a byte
+abbrev pub next : Place → ℕ → Place
+next Outside b = if b == quote then Quoted else Outside
+next Quoted b = if b == backslash then Escaped else if b == quote then Outside else Quoted
+next Escaped b = Quoted
+
+-- outside quotes it is a `;`
+abbrev pub is_end : Place → ℕ → Bool
+is_end Outside b = b == semicolon
+is_end Quoted b = false
+is_end Escaped b = false
+
+-- the first of the texts has these bytes in front
+abbrev pub with_front : List ℕ → List (List ℕ) → List (List ℕ)
+with_front front [] = front ∷ []
+with_front front (text ∷ texts) = (front ++ text) ∷ texts
+
+-- the texts between each `;` outside quotes, from a place on
+abbrev pub segments : Place → List ℕ → List (List ℕ)
+segments place [] = [] ∷ []
+segments place (b ∷ rest) = if is_end place b then [] ∷ segments Outside rest else with_front (b ∷ []) (segments (next place b) rest)
+
+-- no text has no segment
+abbrev pub segments_of : Option (List ℕ) → List (List ℕ)
+segments_of None = []
+segments_of (Some text) = segments Outside text

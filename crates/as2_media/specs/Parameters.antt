@@ -1,0 +1,86 @@
+-- The parameters of a media type (RFC 2045, section 5.1), each behind a `;`, blanks and line ends between all.
+use Rattle.std.specs.Prelude.{◌≡◌, ℕ, zero, suc, ◌-◌, ◌⊎◌, ◌==◌, List, [], ◌∷◌, ◌++◌, length, if◌then◌else◌, IsTrue, Option, Some, None, Result, Ok, Err}
+use Rattle.std.specs.Str.{str_eq_ignore_ascii_case}
+use Rattle.as2_names.specs.Ascii.{equals_sign}
+use Rattle.as2_names.specs.Trim.{trimmed, all_fall_off}
+use Rattle.as2_media.specs.Bytes.{is_token}
+use Rattle.as2_media.specs.Cuts.{before, behind}
+use Rattle.as2_media.specs.Values.{SpellsValue, value_of}
+use Rattle.as2_media.specs.declared.fault.TypeFault.{TypeFault}
+use Rattle.as2_media.specs.declared.fault.TypeFault.TheVariants as fault
+
+-- a parameter: its name and its value
+abbrev pub name : List ℕ × List ℕ → List ℕ
+name parameter = parameter.0
+
+abbrev pub value : List ℕ × List ℕ → List ℕ
+value parameter = parameter.1
+
+-- the text is the inner one with blanks and line ends at its ends
+pub record IsPadded (text inner : List ℕ) : Type 0 where
+  pub front : List ℕ
+  pub back : List ℕ
+  pub whole : text ≡ front ++ inner ++ back
+  pub blank_front : IsTrue (all_fall_off front)
+  pub blank_back : IsTrue (all_fall_off back)
+
+-- The text spells the parameter: its name, a token, then `=`, then a spelling of its value, blanks around each.
+pub record SpellsParameter (text : List ℕ) (parameter : List ℕ × List ℕ) : Type 0 where
+  pub left : List ℕ
+  pub right : List ℕ
+  pub spelled : List ℕ
+  pub whole : text ≡ left ++ equals_sign ∷ right
+  pub token : IsTrue (is_token (name parameter))
+  pub named : IsPadded left (name parameter)
+  pub spells : SpellsValue spelled (value parameter)
+  pub given : IsPadded right spelled
+
+-- The texts between the `;` spell the parameters in order; texts of blanks alone, the empty parameters, don't count.
+abbrev pub Spell : List (List ℕ) → List (List ℕ × List ℕ) → Type 0
+Spell [] parameters = parameters ≡ []
+Spell (text ∷ texts) parameters =
+    (IsTrue (all_fall_off text) × Spell texts parameters)
+    ⊎ ((first : List ℕ × List ℕ) × (others : List (List ℕ × List ℕ)) × (parameters ≡ first ∷ others) × SpellsParameter text first × Spell texts others)
+
+-- the value of the first parameter of a name, whatever the case of its letters
+abbrev pub first_value : List ℕ → List (List ℕ × List ℕ) → Option (List ℕ)
+first_value wanted [] = None
+first_value wanted (parameter ∷ others) =
+    if str_eq_ignore_ascii_case (name parameter) wanted then Some (value parameter) else first_value wanted others
+
+-- ---- reading
+
+-- the parameter of that name
+abbrev pub with_name : List ℕ → Option (List ℕ) → Option (List ℕ × List ℕ)
+with_name name None = None
+with_name name (Some value) = Some (name, value)
+
+-- the value that the text behind `=` gives
+abbrev pub given_value : Option (List ℕ) → Option (List ℕ)
+given_value None = None
+given_value (Some text) = value_of (trimmed text)
+
+-- the parameter that a text spells
+abbrev pub parameter : List ℕ → Option (List ℕ × List ℕ)
+parameter text =
+    if is_token (trimmed (before equals_sign text))
+    then with_name (trimmed (before equals_sign text)) (given_value (behind equals_sign text))
+    else None
+
+-- these parameters stand before those
+abbrev pub with_front : List (List ℕ × List ℕ) → Result (List (List ℕ × List ℕ)) TypeFault → Result (List (List ℕ × List ℕ)) TypeFault
+with_front front (Ok parameters) = Ok (front ++ parameters)
+with_front front (Err e) = Err e
+
+-- the parameter, where there is room for it, and those behind it
+abbrev pub and_then : ℕ → Option (List ℕ × List ℕ) → Result (List (List ℕ × List ℕ)) TypeFault → Result (List (List ℕ × List ℕ)) TypeFault
+and_then zero first others = Err fault.TooMany
+and_then (suc room) None others = Err fault.BadParameter
+and_then (suc room) (Some first) others = with_front (first ∷ []) others
+
+-- the parameters that the texts between the `;` spell, so many at most, or the first fault
+abbrev pub parameters : ℕ → List (List ℕ) → Result (List (List ℕ × List ℕ)) TypeFault
+parameters room [] = Ok []
+parameters room (text ∷ texts) =
+    if length (trimmed text) == 0 then parameters room texts
+    else and_then room (parameter text) (parameters (room - 1) texts)
