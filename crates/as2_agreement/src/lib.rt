@@ -1,2 +1,21 @@
-//! Agreements with partners, read from TOML.
+//! Agreements with partners, read from TOML: the station's own names, and its partners with their terms.
 #![tactic(auto)]
+
+mod agreements;
+mod document;
+mod entries;
+mod fault;
+mod key;
+mod partner;
+mod terms;
+mod texts;
+mod values;
+
+pub use agreements::Agreements;
+pub use fault::AgreementFault;
+pub use key::Key;
+pub use partner::{Asked, Organization, Partner};
+pub use texts::{ContentType, UrlText};
+
+#[cfg(test)]
+mod tests;

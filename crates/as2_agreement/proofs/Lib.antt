@@ -1,0 +1,6 @@
+pub mod Decided
+pub mod Each
+pub mod Found
+pub mod Items
+pub mod Keyed
+pub mod Members

@@ -1,0 +1,5 @@
+pub mod Agreements
+pub mod Keys
+pub mod Partners
+pub mod Reading
+pub mod Values

@@ -1,0 +1,45 @@
+-- What the keys of a table hold.
+use Rattle.std.specs.Prelude.{◌≡◌, ℕ, ◌<◌, ◌≤◌, ◌⊎◌, ◌&&◌, Bool, nat_lt, nat_le, List, length, is_some, IsTrue, pos, Option, Some, None}
+use Rattle.std.specs.List.{list_all}
+use Rattle.toml.specs.Data.{Data, string, integer, array, Members, get_member}
+use Rattle.as2_names.specs.Ascii.{is_printable}
+use Rattle.as2_text.specs.Addresses.{IsUrl, url_of}
+use Rattle.as2_agreement.specs.declared.key.Key.{Key}
+use Rattle.as2_agreement.specs.Keys.{key_name}
+
+-- the value at a key
+abbrev pub value_at : Key → Members → Option Data
+value_at key table = get_member (key_name key) table
+
+-- the key holds that text
+abbrev pub HasText : Members → Key → List ℕ → Type 0
+HasText table key text = value_at key table ≡ Some (string text)
+
+-- the key holds that whole number
+abbrev pub HasNumber : Members → Key → ℕ → Type 0
+HasNumber table key number = value_at key table ≡ Some (integer (pos number))
+
+-- ---- which values may be agreed
+
+-- an address of an HTTP service
+abbrev pub IsAddress : List ℕ → Type 0
+IsAddress text = (url : List ℕ × List ℕ) × IsUrl text url
+
+-- the same as a test
+abbrev pub is_address : List ℕ → Bool
+is_address text = is_some (url_of text)
+
+-- a content type: 1 to 255 printable bytes that are the media type of a document
+pub record IsContentType (text : List ℕ) : Type 0 where
+  pub some : 0 < length text
+  pub short : length text ≤ 255
+  pub printable : IsTrue (list_all is_printable text)
+
+-- the same as a test
+abbrev pub is_content_type : List ℕ → Bool
+is_content_type text = nat_lt 0 (length text) && nat_le (length text) 255 && list_all is_printable text
+
+-- a number from 1 to the most
+pub record IsCount (limit number : ℕ) : Type 0 where
+  pub least : 1 ≤ number
+  pub most : number ≤ limit

@@ -1,0 +1,41 @@
+// The keys of a document besides the two arrays.
+ghost use Rattle.std.specs.Prelude.{◌≡◌, option_map, IfOk, IfSome};
+ghost use Rattle.toml.specs.View.{table_view};
+ghost use Rattle.as2_agreement.specs.Values.{value_at, IsAddress};
+ghost use Rattle.as2_agreement.specs.Reading.{Gives, GivesOrMemory, domain, return_url_in};
+ghost use Rattle.as2_agreement.specs.declared.key.Key.TheVariants.{ReturnUrl};
+
+use crate::fault::AgreementFault;
+use crate::key::Key;
+use crate::terms::address_in;
+use crate::texts::UrlText;
+use crate::values::{text_at, value_at};
+use as2_names::Domain;
+use std::alloc::Global;
+use toml::Table;
+
+/// The domain of a document.
+pub(crate) fn domain(document: &Table) -> Result<Domain, AgreementFault>
+    ensures { result ≡ domain (table_view document.now) }
+{
+    match Domain::of(text_at(document, Key::Domain)?.as_bytes()) {
+        Some(domain) => Ok(domain),
+        None => Err(AgreementFault::WrongKind(Key::Domain)),
+    }
+}
+
+/// The address for receipts that come later, which may be absent.
+pub(crate) fn return_url(alloc: Global, document: &Table) -> Result<Option<UrlText>, AgreementFault>
+    ensures { GivesOrMemory (λ u. u) result (return_url_in (value_at ReturnUrl (table_view document.now))) }
+{
+    match value_at(document, Key::ReturnUrl) {
+        None => Ok(None),
+        Some(value) => match value.as_str() {
+            None => Err(AgreementFault::WrongKind(Key::ReturnUrl)),
+            Some(text) => {
+                let text = address_in(Key::ReturnUrl, text)?;
+                Ok(Some(UrlText::keep(alloc, text)?))
+            }
+        },
+    }
+}
