@@ -1,16 +1,28 @@
--- The answer to a request on the first path: the first line that fits.
-use Rattle.std.specs.Prelude.{ℕ, Bool, true, false, ◌&&◌, ◌||◌, not, ◌==◌, List, [], ◌∷◌, if◌then◌else◌, Option, Some, None, is_some, codes}
+-- The answer to a request: the first line that fits.
+use Rattle.std.specs.Prelude.{ℕ, Bool, true, false, ◌&&◌, ◌||◌, not, ◌==◌, List, [], ◌∷◌, if◌then◌else◌, Option, Some, None, Result, Ok, Err, codes}
 use Rattle.std.specs.Option.{option_and_then}
 use Rattle.std.specs.Result.{result_ok}
 use Rattle.std.specs.Char.{is_ascii_digit}
-use Rattle.std.specs.Str.{bytes_eq}
+use Rattle.std.specs.Str.{bytes_eq, str_eq_ignore_ascii_case}
 use Rattle.as2_names.specs.Heads.{values}
 use Rattle.as2_names.specs.Names as name
 use Rattle.as2_names.specs.Identifiers as identifier
-use Rattle.as2_mic.specs.Mic.{mic}
-use Rattle.as2_mic.specs.declared.alg.Alg.TheVariants.{Sha1}
+use Rattle.as2_media.specs.MediaTypes.{Media}
+use Rattle.as2_media.specs.MediaTypes as media_type
+use Rattle.as2_media.specs.Kinds.{kind_of}
+use Rattle.as2_media.specs.declared.kind.Kind.{Kind}
+use Rattle.as2_media.specs.declared.kind.Kind.TheVariants as kind
+use Rattle.as2_text.specs.ReceiptRequests.{Request as ReceiptRequest}
+use Rattle.as2_text.specs.ReceiptRequests as receipt_request
+use Rattle.as2_text.specs.declared.receipt_ask.How.{How}
+use Rattle.as2_text.specs.declared.receipt_ask.How.TheVariants.{NoReceipt, Sync, Async}
+use Rattle.as2_mdn.specs.Outcomes.{outcome_of, outcome_text, report_mic}
+use Rattle.as2_mdn.specs.Receipts.{ReceiptRead}
+use Rattle.as2_mdn.specs.ReportReading as report
+use Rattle.as2_mdn.specs.declared.read_report.ReportFault.{ReportFault}
 use Rattle.as2_mdn.specs.declared.report.ReportOut.{ReportOut}
-use Rattle.as2_mdn.specs.declared.outcome.Outcome.TheVariants.{Processed}
+use Rattle.as2_mdn.specs.declared.outcome.Outcome.{Outcome}
+use Rattle.as2_mdn.specs.declared.outcome.Outcome.TheVariants as outcome
 use Rattle.as2_http.specs.Answers.{Answer, Nothing, Line, Report}
 use Rattle.as2_http.specs.Requests.{Fields}
 use Rattle.as2_http.specs.declared.arrival.Request.{Request}
@@ -37,17 +49,6 @@ only [] = None
 only (value ∷ []) = Some value
 only (value ∷ other ∷ others) = None
 
--- a field of that name stands there
-abbrev pub is_there : List (List ℕ) → Bool
-is_there [] = false
-is_there (value ∷ others) = true
-
--- the one field of that name has exactly that value
-abbrev pub is_just : List ℕ → List (List ℕ) → Bool
-is_just text [] = false
-is_just text (value ∷ []) = bytes_eq value text
-is_just text (value ∷ other ∷ others) = false
-
 -- the AS2 name that the one field spells (RFC 4130, section 6.2)
 abbrev pub name_in : List (List ℕ) → Option (List ℕ)
 name_in said = option_and_then (λ value. result_ok (name.reading value)) (only said)
@@ -67,45 +68,77 @@ version_fits [] = true
 version_fits (value ∷ []) = is_version value
 version_fits (value ∷ other ∷ others) = false
 
--- the head asks for a receipt (RFC 4130, section 7.3)
-abbrev pub asks_receipt : Fields → Bool
-asks_receipt fields = is_there (values (codes "disposition-notification-to") fields)
+-- the text that a Content-Type gives; without one the content is bytes of no known type (RFC 2046, section 4.5.1)
+abbrev pub content_type : List (List ℕ) → Option (List ℕ)
+content_type [] = Some (codes "application/octet-stream")
+content_type (value ∷ []) = Some value
+content_type (value ∷ other ∷ others) = None
 
--- it asks for the receipt that the first path gives: at once, with a SHA-1
-abbrev pub asks_plainly : Fields → Bool
-asks_plainly fields =
-    is_some (only (values (codes "disposition-notification-to") fields))
-    && not (is_there (values (codes "receipt-delivery-option") fields))
-    && is_just (codes "signed-receipt-micalg=optional, sha1") (values (codes "disposition-notification-options") fields)
+-- the media type of the content (RFC 2045, section 5.1)
+abbrev pub media_in : List (List ℕ) → Option Media
+media_in said = option_and_then (λ value. result_ok (media_type.reading value)) (content_type said)
 
--- it asks for something that the first path doesn't give: an encoding, or another receipt
-abbrev pub asks_more : Fields → Bool
-asks_more fields =
-    is_there (values (codes "content-transfer-encoding") fields)
-    || is_there (values (codes "content-encoding") fields)
-    || (asks_receipt fields && not (asks_plainly fields))
+-- a field is absent, or stands there once with one of these words, whatever the case of its letters
+abbrev pub is_one_of : (List ℕ → Bool) → List (List ℕ) → Bool
+is_one_of test [] = true
+is_one_of test (value ∷ []) = test value
+is_one_of test (value ∷ other ∷ others) = false
+
+-- the transfer encodings that leave the content as it is (RFC 2045, section 6.1)
+abbrev pub is_plain_encoding : List ℕ → Bool
+is_plain_encoding value = str_eq_ignore_ascii_case value (codes "7bit") || str_eq_ignore_ascii_case value (codes "8bit") || str_eq_ignore_ascii_case value (codes "binary")
+
+-- the content coding that leaves it as it is (RFC 9110, section 8.4.1)
+abbrev pub is_identity : List ℕ → Bool
+is_identity value = str_eq_ignore_ascii_case value (codes "identity")
+
+-- the content is encoded in a way that isn't taken
+abbrev pub is_encoded : Fields → Bool
+is_encoded fields =
+    not (is_one_of is_plain_encoding (values (codes "content-transfer-encoding") fields))
+    || not (is_one_of is_identity (values (codes "content-encoding") fields))
 
 -- ---- the answer
 
--- the receipt for a document that was processed
-abbrev pub receipt : Names → ℕ → List ℕ → List ℕ → ReportOut
-receipt names number id content = record {
+-- the receipt for a document
+abbrev pub receipt : Names → ℕ → List ℕ → Outcome → ReceiptRequest → List ℕ → ReportOut
+receipt names number id became asked content = record {
   number = number;
   domain = names.domain;
   from = names.organization;
   to = names.partner;
   original_id = id;
-  outcome = Processed;
-  mic = Some (record { digest = Sha1; text = mic Sha1 content });
+  outcome = became;
+  mic = report_mic became asked content;
 }
 
+-- where no receipt is asked for, the answer tells what became of the document (RFC 4130, section 7.2)
+abbrev pub untold : Outcome → Answer
+untold outcome.Processed = record { status = 200; body = Nothing }
+untold became = line 400 (outcome_text became)
+
+-- the answer to a document that was taken, by how its receipt is to come
+abbrev pub taken_answer : How → ReportOut → Answer
+taken_answer NoReceipt out = untold out.outcome
+taken_answer Sync out = record { status = 200; body = Report out }
+taken_answer (Async url) out = line 503 (codes "not supported yet")
+
 -- the answer to a document
-abbrev pub document_answer : Names → ℕ → Fields → List ℕ → Answer
-document_answer names number fields content =
+abbrev pub document_answer : Names → ℕ → Kind → Fields → List ℕ → Answer
+document_answer names number is fields content =
     needs (identifier_in (values (codes "message-id") fields)) (line 400 (codes "bad Message-ID")) λ id.
-    if asks_more fields then line 503 (codes "not supported yet")
-    else if asks_receipt fields then record { status = 200; body = Report (receipt names number id content) }
-    else record { status = 200; body = Nothing }
+    needs (result_ok (receipt_request.reading fields)) (line 400 (codes "bad receipt request")) λ asked.
+    taken_answer asked.how (receipt names number id (outcome_of is (is_encoded fields) asked) asked content)
+
+-- the answer to a report: none of the messages is known, since none is kept yet
+abbrev pub report_answer : Result ReceiptRead ReportFault → Answer
+report_answer (Ok receipt) = line 404 (codes "no such message")
+report_answer (Err fault) = line 400 (codes "unreadable receipt")
+
+-- the answer by what the body is
+abbrev pub answer_of_kind : Kind → Media → Names → ℕ → Fields → List ℕ → Answer
+answer_of_kind kind.Report media names number fields content = report_answer (report.reading media content)
+answer_of_kind is media names number fields content = document_answer names number is fields content
 
 -- the answer to a post
 abbrev pub post_answer : Names → ℕ → Fields → List ℕ → Answer
@@ -114,8 +147,8 @@ post_answer names number fields content =
     needs (name_in (values (codes "as2-to") fields)) (line 400 (codes "bad AS2 names")) λ to.
     if not (version_fits (values (codes "as2-version") fields)) then line 400 (codes "bad AS2-Version")
     else if not (bytes_eq from names.partner && bytes_eq to names.organization) then line 403 (codes "unknown AS2 names")
-    else if not (is_just (codes "application/edi-x12") (values (codes "content-type") fields)) then line 503 (codes "not supported yet")
-    else document_answer names number fields content
+    else needs (media_in (values (codes "content-type") fields)) (line 400 (codes "bad Content-Type")) λ media.
+    answer_of_kind (kind_of media) media names number fields content
 
 -- the answer to a POST by its target
 abbrev pub answer_at : Target → Names → ℕ → Fields → List ℕ → Answer

@@ -1,32 +1,17 @@
-//! The answer to a request on the first path.
+//! The answer to a request.
 ghost use Rattle.std.specs.Prelude.{◌≡◌, List, ℕ, IfOk, codes};
 ghost use Rattle.std.specs.Str.{str_to_ascii_lowercase};
 ghost use Rattle.as2_names.specs.Heads.{values};
-ghost use Rattle.as2_desk.specs.PostAnswers.{answer, asks_more, asks_plainly, asks_receipt, document_answer, identifier_in, is_just, is_there, is_version, name_in, post_answer, receipt, version_fits};
+ghost use Rattle.as2_media.specs.Kinds.{kind_of};
+ghost use Rattle.as2_text.specs.ReceiptRequests.{request_of};
+ghost use Rattle.as2_mdn.specs.ReportReading.{reading};
+ghost use Rattle.as2_desk.specs.PostAnswers.{answer, answer_of_kind, document_answer, identifier_in, is_encoded, is_identity, is_one_of, is_plain_encoding, is_version, media_in, name_in, post_answer, receipt, report_answer, taken_answer, untold, version_fits};
 
 use crate::names::Names;
 use as2_http::{HttpAnswer, Method, Request, Target};
-use as2_mdn::{Outcome, ReportMic, ReportOut};
-use as2_mic::{Alg, mic_of};
-use as2_text::{AsName, Head, IdFault, Memory, MessageId, Once};
+use as2_mdn::{Outcome, ReportOut, outcome_of, read_report, report_mic};
+use as2_text::{AsName, Head, How, IdFault, Kind, MediaType, Memory, MessageId, Once, ReceiptAsk};
 use std::alloc::Global;
-
-/// A field of that name stands there.
-fn is_there(fields: &Head, name: &[u8]) -> bool
-    ensures { result ≡ is_there (values (str_to_ascii_lowercase name.now) fields.now) }
-{
-    fields.value(name) != Once::Absent
-}
-
-/// The one field of that name has exactly that value.
-fn is_just(fields: &Head, name: &[u8], text: &[u8]) -> bool
-    ensures { result ≡ is_just text.now (values (str_to_ascii_lowercase name.now) fields.now) }
-{
-    match fields.value(name) {
-        Once::One(value) => value == text,
-        Once::Absent | Once::Twice => false,
-    }
-}
 
 /// The AS2 name that the one field of that name spells.
 fn name_in(fields: &Head, name: &[u8]) -> Option<AsName>
@@ -73,38 +58,65 @@ fn version_fits(fields: &Head) -> bool
     }
 }
 
-fn asks_receipt(fields: &Head) -> bool
-    ensures { result ≡ asks_receipt fields.now }
+/// The media type of the content; that of bytes of no known type where none is given (RFC 2046, section 4.5.1).
+fn media_in(fields: &Head) -> Option<MediaType<'_>>
+    ensures { result ≡ media_in (values (codes "content-type") fields.now) }
 {
-    is_there(fields, b"disposition-notification-to")
+    match fields.value(b"content-type") {
+        Once::Absent => MediaType::parse(b"application/octet-stream").ok(),
+        Once::One(value) => MediaType::parse(value).ok(),
+        Once::Twice => None,
+    }
 }
 
-/// The head asks for the receipt that the first path gives: at once, with a SHA-1.
-fn asks_plainly(fields: &Head) -> bool
-    ensures { result ≡ asks_plainly fields.now }
+/// A transfer encoding that leaves the content as it is (RFC 2045, section 6.1).
+fn is_plain_encoding(value: &[u8]) -> bool
+    ensures { result ≡ is_plain_encoding value.now }
 {
-    fields.value(b"disposition-notification-to") != Once::Twice
-        && asks_receipt(fields)
-        && !is_there(fields, b"receipt-delivery-option")
-        && is_just(
-            fields,
-            b"disposition-notification-options",
-            b"signed-receipt-micalg=optional, sha1",
-        )
+    value.eq_ignore_ascii_case(b"7bit")
+        || value.eq_ignore_ascii_case(b"8bit")
+        || value.eq_ignore_ascii_case(b"binary")
 }
 
-/// The head asks for something that the first path doesn't give.
-fn asks_more(fields: &Head) -> bool
-    ensures { result ≡ asks_more fields.now }
+/// `Content-Transfer-Encoding` is absent, or one that leaves the content as it is.
+fn is_transferred_plainly(fields: &Head) -> bool
+    ensures { result ≡ is_one_of is_plain_encoding (values (codes "content-transfer-encoding") fields.now) }
 {
-    is_there(fields, b"content-transfer-encoding")
-        || is_there(fields, b"content-encoding")
-        || (asks_receipt(fields) && !asks_plainly(fields))
+    match fields.value(b"content-transfer-encoding") {
+        Once::Absent => true,
+        Once::One(value) => is_plain_encoding(value),
+        Once::Twice => false,
+    }
 }
 
-/// The receipt for a document that was processed.
-fn receipt(names: &Names, number: u64, original_id: MessageId, content: &[u8]) -> ReportOut
-    ensures { result ≡ receipt names.now number original_id content.now }
+/// `Content-Encoding` is absent, or the one that leaves the content as it is (RFC 9110, section 8.4.1).
+fn is_uncoded(fields: &Head) -> bool
+    ensures { result ≡ is_one_of is_identity (values (codes "content-encoding") fields.now) }
+{
+    match fields.value(b"content-encoding") {
+        Once::Absent => true,
+        Once::One(value) => value.eq_ignore_ascii_case(b"identity"),
+        Once::Twice => false,
+    }
+}
+
+/// The content is encoded in a way that isn't taken.
+fn is_encoded(fields: &Head) -> bool
+    ensures { result ≡ is_encoded fields.now }
+{
+    !is_transferred_plainly(fields) || !is_uncoded(fields)
+}
+
+/// The receipt for a document.
+fn receipt(
+    names: &Names,
+    number: u64,
+    original_id: MessageId,
+    outcome: Outcome,
+    asked: &ReceiptAsk<'_>,
+    content: &[u8],
+) -> ReportOut
+    ensures { result ≡ receipt names.now number original_id outcome (request_of asked.now) content.now }
 {
     ReportOut {
         number,
@@ -112,11 +124,29 @@ fn receipt(names: &Names, number: u64, original_id: MessageId, content: &[u8]) -
         from: names.organization.clone().unwrap(),
         to: names.partner.clone().unwrap(),
         original_id,
-        outcome: Outcome::Processed,
-        mic: Some(ReportMic {
-            digest: Alg::Sha1,
-            text: mic_of(Alg::Sha1, content),
-        }),
+        outcome,
+        mic: report_mic(outcome, asked, content),
+    }
+}
+
+/// The answer where no receipt is asked for: what became of the document (RFC 4130, section 7.2).
+fn untold(outcome: Outcome) -> HttpAnswer
+    ensures { result ≡ untold outcome }
+{
+    match outcome {
+        Outcome::Processed => HttpAnswer::nothing(200),
+        _ => HttpAnswer::line(400, outcome.text()),
+    }
+}
+
+/// The answer to a document that was taken.
+fn taken_answer(asked: &ReceiptAsk<'_>, out: ReportOut) -> HttpAnswer
+    ensures { result ≡ taken_answer asked.now.how out }
+{
+    match asked.how {
+        How::NoReceipt => untold(out.outcome),
+        How::Sync => HttpAnswer::report(200, out),
+        How::Async(_) => HttpAnswer::line(503, "not supported yet"),
     }
 }
 
@@ -125,21 +155,48 @@ fn document_answer(
     alloc: Global,
     names: &Names,
     number: u64,
+    kind: Kind,
     fields: &Head,
     content: &[u8],
 ) -> Result<HttpAnswer, Memory>
-    ensures { IfOk result (λ a. a ≡ document_answer names.now number fields.now content.now) }
+    ensures { IfOk result (λ a. a ≡ document_answer names.now number kind fields.now content.now) }
 {
     let Some(id) = identifier_in(alloc, fields)? else {
         return Ok(HttpAnswer::line(400, "bad Message-ID"));
     };
-    if asks_more(fields) {
-        return Ok(HttpAnswer::line(503, "not supported yet"));
+    let Ok(asked) = ReceiptAsk::read(fields) else {
+        return Ok(HttpAnswer::line(400, "bad receipt request"));
+    };
+    let outcome = outcome_of(kind, is_encoded(fields), &asked);
+    let out = receipt(names, number, id, outcome, &asked, content);
+    Ok(taken_answer(&asked, out))
+}
+
+/// The answer to a report.
+fn report_answer(media: &MediaType<'_>, body: &[u8]) -> HttpAnswer
+    ensures { result ≡ report_answer (reading media.now body.now) }
+{
+    match read_report(media, body) {
+        Ok(_) => HttpAnswer::line(404, "no such message"),
+        Err(_) => HttpAnswer::line(400, "unreadable receipt"),
     }
-    if !asks_receipt(fields) {
-        return Ok(HttpAnswer::nothing(200));
+}
+
+/// The answer by what the body is.
+fn answer_of_kind(
+    alloc: Global,
+    media: &MediaType<'_>,
+    names: &Names,
+    number: u64,
+    fields: &Head,
+    content: &[u8],
+) -> Result<HttpAnswer, Memory>
+    ensures { IfOk result (λ a. a ≡ answer_of_kind (kind_of media.now) media.now names.now number fields.now content.now) }
+{
+    match media.kind() {
+        Kind::Report => Ok(report_answer(media, content)),
+        kind => document_answer(alloc, names, number, kind, fields, content),
     }
-    Ok(HttpAnswer::report(200, receipt(names, number, id, content)))
 }
 
 /// The answer to a post.
@@ -164,10 +221,10 @@ fn post_answer(
     if from.bytes() != names.partner.bytes() || to.bytes() != names.organization.bytes() {
         return Ok(HttpAnswer::line(403, "unknown AS2 names"));
     }
-    if !is_just(fields, b"content-type", b"application/edi-x12") {
-        return Ok(HttpAnswer::line(503, "not supported yet"));
-    }
-    document_answer(alloc, names, number, fields, content)
+    let Some(media) = media_in(fields) else {
+        return Ok(HttpAnswer::line(400, "bad Content-Type"));
+    };
+    answer_of_kind(alloc, &media, names, number, fields, content)
 }
 
 /// The answer to a request. `number` is the number of the receipt.

@@ -1,6 +1,7 @@
 // Expected values are the worked ones of the project's profile, and follow from its formats.
 mod command_lines;
 mod posts;
+mod receipts;
 mod streams;
 
 use crate::run;

@@ -64,7 +64,27 @@ Content-Length: 15\r
 bad Message-ID
 ";
 
-/// What later versions answer.
+/// `Content-Type` is twice or unreadable.
+const BAD_TYPE: &str = "\
+HTTP/1.1 400 Bad Request\r
+Date: Thu, 01 Jan 1970 00:16:40 GMT\r
+Content-Type: text/plain\r
+Content-Length: 17\r
+\r
+bad Content-Type
+";
+
+/// The request for a receipt is unreadable.
+const BAD_REQUEST: &str = "\
+HTTP/1.1 400 Bad Request\r
+Date: Thu, 01 Jan 1970 00:16:40 GMT\r
+Content-Type: text/plain\r
+Content-Length: 20\r
+\r
+bad receipt request
+";
+
+/// What later versions answer to a request for an asynchronous receipt.
 const NOT_YET: &str = "\
 HTTP/1.1 503 Service Unavailable\r
 Date: Thu, 01 Jan 1970 00:16:40 GMT\r
@@ -74,7 +94,7 @@ Content-Length: 18\r
 not supported yet
 ";
 
-const CASES: [Case; 50] = [
+const CASES: [Case; 55] = [
     // The names.
     Case {
         changes: &[(FROM, "")],
@@ -156,26 +176,38 @@ const CASES: [Case; 50] = [
     // The media type.
     Case {
         changes: &[(TYPE, "")],
-        reply: NOT_YET,
+        reply: RECEIPT,
     },
     Case {
         changes: &[(
             TYPE,
             "Content-Type: application/edi-x12\r\nContent-Type: application/edi-x12\r\n",
         )],
-        reply: NOT_YET,
+        reply: BAD_TYPE,
+    },
+    Case {
+        changes: &[(TYPE, "Content-Type: application\r\n")],
+        reply: BAD_TYPE,
+    },
+    Case {
+        changes: &[(TYPE, "Content-Type:\r\n")],
+        reply: BAD_TYPE,
+    },
+    Case {
+        changes: &[(TYPE, "Content-Type: application/edi-x12; name\r\n")],
+        reply: BAD_TYPE,
     },
     Case {
         changes: &[(TYPE, "Content-Type: text/plain\r\n")],
-        reply: NOT_YET,
+        reply: RECEIPT,
     },
     Case {
         changes: &[(TYPE, "Content-Type: application/edi-x12; name=order\r\n")],
-        reply: NOT_YET,
+        reply: RECEIPT,
     },
     Case {
         changes: &[(TYPE, "Content-Type: application/EDI-X12\r\n")],
-        reply: NOT_YET,
+        reply: RECEIPT,
     },
     // The identifier.
     Case {
@@ -198,16 +230,16 @@ const CASES: [Case; 50] = [
     Case {
         changes: &[(
             TYPE,
-            "Content-Type: application/edi-x12\r\nContent-Transfer-Encoding: binary\r\n",
+            "Content-Type: application/edi-x12\r\nContent-Transfer-Encoding: Binary\r\n",
         )],
-        reply: NOT_YET,
+        reply: RECEIPT,
     },
     Case {
         changes: &[(
             TYPE,
-            "Content-Type: application/edi-x12\r\nContent-Encoding: identity\r\n",
+            "Content-Type: application/edi-x12\r\nContent-Encoding: Identity\r\n",
         )],
-        reply: NOT_YET,
+        reply: RECEIPT,
     },
     Case {
         changes: &[
@@ -217,7 +249,7 @@ const CASES: [Case; 50] = [
                 "Content-Type: application/edi-x12\r\nContent-Encoding: identity\r\n",
             ),
         ],
-        reply: NOT_YET,
+        reply: NOTHING,
     },
     // The request for a receipt.
     Case {
@@ -257,7 +289,7 @@ const CASES: [Case; 50] = [
             ASKS,
             "Disposition-Notification-To: a@x\r\nDisposition-Notification-To: a@x\r\n",
         )],
-        reply: NOT_YET,
+        reply: BAD_REQUEST,
     },
     Case {
         changes: &[(
@@ -268,26 +300,37 @@ const CASES: [Case; 50] = [
     },
     Case {
         changes: &[(OPTIONS, "")],
-        reply: NOT_YET,
+        reply: RECEIPT,
     },
     Case {
         changes: &[(
             OPTIONS,
             "Disposition-Notification-Options: signed-receipt-micalg=optional, sha1\r\nDisposition-Notification-Options: signed-receipt-micalg=optional, sha1\r\n",
         )],
-        reply: NOT_YET,
+        reply: BAD_REQUEST,
     },
     Case {
-        changes: &[("optional, sha1", "optional, md5")],
-        reply: NOT_YET,
+        changes: &[("optional, sha1", "optional")],
+        reply: BAD_REQUEST,
     },
     Case {
         changes: &[("optional, sha1", "optional,sha1")],
-        reply: NOT_YET,
+        reply: RECEIPT,
     },
     Case {
         changes: &[("optional, sha1", "required, sha1")],
-        reply: NOT_YET,
+        reply: RECEIPT,
+    },
+    Case {
+        changes: &[("optional, sha1", "optional, sha-384, SHA-1")],
+        reply: RECEIPT,
+    },
+    Case {
+        changes: &[(
+            ASKS,
+            "Disposition-Notification-To: a@x\r\nReceipt-Delivery-Option: https://127.0.0.1/mdn\r\n",
+        )],
+        reply: BAD_REQUEST,
     },
     // The order of faults.
     Case {
@@ -304,13 +347,13 @@ const CASES: [Case; 50] = [
     Case {
         changes: &[
             (FROM, "AS2-From: Depot\r\n"),
-            (TYPE, "Content-Type: text/plain\r\n"),
+            (TYPE, "Content-Type: plain\r\n"),
         ],
         reply: UNKNOWN_NAMES,
     },
     Case {
-        changes: &[(TYPE, "Content-Type: text/plain\r\n"), (ID, "")],
-        reply: NOT_YET,
+        changes: &[(TYPE, "Content-Type: plain\r\n"), (ID, "")],
+        reply: BAD_TYPE,
     },
     Case {
         changes: &[
@@ -323,7 +366,7 @@ const CASES: [Case; 50] = [
         reply: BAD_ID,
     },
     Case {
-        changes: &[(ID, ""), (OPTIONS, "")],
+        changes: &[(ID, ""), ("optional, sha1", "optional")],
         reply: BAD_ID,
     },
     Case {
