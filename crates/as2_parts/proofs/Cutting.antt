@@ -4,7 +4,7 @@ use Rattle.std.proofs.lemmas.Bool.{cases_Bool, ne_eqb, eq-eqb}
 use Rattle.std.proofs.lemmas.List.{drop_more, take_more, take_all, take_rest, drop_all}
 use Rattle.std.specs.List.{onto_first, concat}
 use Rattle.as2_parts.specs.Lines.{lines}
-use Rattle.as2_parts.specs.Fields.{unfolded, begins_with_blank}
+use Rattle.as2_parts.specs.Fields.{folded_lines, begins_with_blank}
 
 -- the lists with those bytes before the first
 abbrev pub with_front : List ℕ → List (List ℕ) → List (List ℕ)
@@ -51,8 +51,8 @@ lines_end text some seen =
 -- ---- lines with those that go on with them
 
 -- the same of the lines that are cut where no blank follows
-abbrev pub CutsUnfolded : List ℕ → ℕ → Type 0
-CutsUnfolded text i = with_front (take i text) (unfolded (drop i text)) ≡ unfolded text
+abbrev pub CutsFolded : List ℕ → ℕ → Type 0
+CutsFolded text i = with_front (take i text) (folded_lines (drop i text)) ≡ folded_lines text
 
 -- the text is cut behind that place
 abbrev pub is_cut_at : List ℕ → ℕ → Bool
@@ -78,20 +78,20 @@ no_cut_before_blank text i blank =
 pub no_cut_elsewhere : (text : List ℕ) (i : ℕ) → (get_or text i 0 ≡ 10 → ⊥) → is_cut_at text i ≡ false
 no_cut_elsewhere text i other = rw (ne_eqb (get_or text i 0) 10 other) refl
 
-unfolded_at : (text : List ℕ) (i : ℕ) → i < length text → is_cut_at text i ≡ false → unfolded (drop i text) ≡ onto_first (get_or text i 0) (unfolded (drop (i + 1) text))
-unfolded_at text i lt other = ap unfolded (drop_more text i 0 lt) ∙ rw other refl
+folded_at : (text : List ℕ) (i : ℕ) → i < length text → is_cut_at text i ≡ false → folded_lines (drop i text) ≡ onto_first (get_or text i 0) (folded_lines (drop (i + 1) text))
+folded_at text i lt other = ap folded_lines (drop_more text i 0 lt) ∙ rw other refl
 
-pub unfolded_on : (text : List ℕ) (i : ℕ) → i < length text → is_cut_at text i ≡ false → CutsUnfolded text i → CutsUnfolded text (i + 1)
-unfolded_on text i lt other seen =
-    rw (take_more text i 0 lt) (front_push (take i text) (get_or text i 0) (unfolded (drop (i + 1) text)) ∙ ap (with_front (take i text)) (sym (unfolded_at text i lt other)) ∙ seen)
+pub folded_on : (text : List ℕ) (i : ℕ) → i < length text → is_cut_at text i ≡ false → CutsFolded text i → CutsFolded text (i + 1)
+folded_on text i lt other seen =
+    rw (take_more text i 0 lt) (front_push (take i text) (get_or text i 0) (folded_lines (drop (i + 1) text)) ∙ ap (with_front (take i text)) (sym (folded_at text i lt other)) ∙ seen)
 
-pub unfolded_cut : (text : List ℕ) (i : ℕ) → i < length text → is_cut_at text i ≡ true → CutsUnfolded text i → unfolded text ≡ take (i + 1) text ∷ unfolded (drop (i + 1) text)
-unfolded_cut text i lt cut seen =
-    let here : unfolded (drop i text) ≡ (get_or text i 0 ∷ []) ∷ unfolded (drop (i + 1) text) = ap unfolded (drop_more text i 0 lt) ∙ rw cut refl in
-    sym seen ∙ ap (with_front (take i text)) here ∙ front_first (take i text) (get_or text i 0 ∷ []) (unfolded (drop (i + 1) text)) ∙ ap (λ (line : List ℕ). line ∷ unfolded (drop (i + 1) text)) (sym (take_more text i 0 lt))
+pub folded_cut : (text : List ℕ) (i : ℕ) → i < length text → is_cut_at text i ≡ true → CutsFolded text i → folded_lines text ≡ take (i + 1) text ∷ folded_lines (drop (i + 1) text)
+folded_cut text i lt cut seen =
+    let here : folded_lines (drop i text) ≡ (get_or text i 0 ∷ []) ∷ folded_lines (drop (i + 1) text) = ap folded_lines (drop_more text i 0 lt) ∙ rw cut refl in
+    sym seen ∙ ap (with_front (take i text)) here ∙ front_first (take i text) (get_or text i 0 ∷ []) (folded_lines (drop (i + 1) text)) ∙ ap (λ (line : List ℕ). line ∷ folded_lines (drop (i + 1) text)) (sym (take_more text i 0 lt))
 
-pub unfolded_end : (text : List ℕ) → 0 < length text → CutsUnfolded text (length text) → unfolded text ≡ take (length text) text ∷ unfolded (drop (length text) text)
-unfolded_end text some seen =
+pub folded_end : (text : List ℕ) → 0 < length text → CutsFolded text (length text) → folded_lines text ≡ take (length text) text ∷ folded_lines (drop (length text) text)
+folded_end text some seen =
     let none : drop (length text) text ≡ [] = drop_all (length text) text (omega arith) in
     let all : take (length text) text ≡ text = take_all (length text) text (omega arith) in
     sym seen ∙ rw (none, all) (front_alone text some)

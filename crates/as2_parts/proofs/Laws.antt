@@ -5,10 +5,10 @@ use Rattle.std.specs.List.{list_all}
 use Rattle.std.proofs.lemmas.Bool.{and_parts, not-true}
 use Rattle.as2_parts.specs.Lines.{lines}
 use Rattle.as2_parts.specs.Parts.{PartText, IsTwoParts}
-use Rattle.as2_parts.specs.Fields.{FieldText, IsField, HasFields, begins_with_blank, unfolded, field_of, fields}
+use Rattle.as2_parts.specs.Fields.{FieldText, IsField, HasFields, begins_with_blank, folded_lines, field_of, fields}
 use Rattle.as2_parts.proofs.FieldText.{field_again}
 use Rattle.as2_parts.proofs.TwoParts.{again}
-use Rattle.as2_parts.proofs.Unfolding.{fields_only}
+use Rattle.as2_parts.proofs.Folding.{fields_only}
 
 -- ---- what a text has is one
 
@@ -39,13 +39,13 @@ lines_front (b ∷ line) rest h =
     let p = and_parts (not (b == 10)) (list_all (λ b. not (b == 10)) line) h in
     rw (not-true (b == 10) p.0, lines_front line rest p.1) refl
 
-pub unfolded_front : (line rest : List ℕ) → HasNoFeed line → begins_with_blank rest ≡ false → unfolded (line ++ 10 ∷ rest) ≡ (line ++ 10 ∷ []) ∷ unfolded rest
-unfolded_front [] rest h free = rw free refl
-unfolded_front (b ∷ line) rest h free =
+pub folded_front : (line rest : List ℕ) → HasNoFeed line → begins_with_blank rest ≡ false → folded_lines (line ++ 10 ∷ rest) ≡ (line ++ 10 ∷ []) ∷ folded_lines rest
+folded_front [] rest h free = rw free refl
+folded_front (b ∷ line) rest h free =
     let p = and_parts (not (b == 10)) (list_all (λ b. not (b == 10)) line) h in
-    rw (not-true (b == 10) p.0, unfolded_front line rest p.1 free) refl
+    rw (not-true (b == 10) p.0, folded_front line rest p.1 free) refl
 
 -- a line that is a field gives it before the fields of the rest, where that begins with no blank
 pub fields_front : (line rest : List ℕ) (field : FieldText) → HasNoFeed line → begins_with_blank rest ≡ false → IsField (line ++ 10 ∷ []) field → fields (line ++ 10 ∷ rest) ≡ field ∷ fields rest
 fields_front line rest field h free f =
-    ap (filter_map field_of) (unfolded_front line rest h free) ∙ rw (field_again (line ++ 10 ∷ []) field f) refl
+    ap (filter_map field_of) (folded_front line rest h free) ∙ rw (field_again (line ++ 10 ∷ []) field f) refl

@@ -8,4 +8,4 @@ pub mod Marking
 pub mod Moving
 pub mod Reading
 pub mod TwoParts
-pub mod Unfolding
+pub mod Folding

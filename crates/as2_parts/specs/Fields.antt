@@ -53,23 +53,23 @@ Holds (f ∷ rest) fields =
     ((field : FieldText) × (others : List FieldText) × (fields ≡ field ∷ others) × IsField (concat (lines_of f)) field × Holds rest others)
     ⊎ (((field : FieldText) → ¬ IsField (concat (lines_of f)) field) × Holds rest fields)
 
--- The text has these fields: its lines are lines that go on with none, and then lines with those that go on with them,
--- and these are the fields among them.
+-- The text has these fields: at its front may stand lines that begin with a blank, which belong to no field; then come
+-- lines, each with those that go on with it; and these are the fields among them.
 pub record HasFields (text : List ℕ) (fields : List FieldText) : Type 0 where
   pub loose : List (List ℕ)
-  pub folded_lines : List Folded
-  pub whole : lines text ≡ loose ++ flat_map lines_of folded_lines
+  pub groups : List Folded
+  pub whole : lines text ≡ loose ++ flat_map lines_of groups
   pub loose_go_on : GoOn loose
-  pub each : All IsFolded folded_lines
-  pub fields_are : Holds folded_lines fields
+  pub each : All IsFolded groups
+  pub fields_are : Holds groups fields
 
 -- ---- the fields as a function
 
 -- the lines, each with those that go on with it: the text is cut behind each LF that no blank follows
-abbrev pub unfolded : List ℕ → List (List ℕ)
-unfolded [] = []
-unfolded (b ∷ rest) =
-    if b == line_feed && not (begins_with_blank rest) then (b ∷ []) ∷ unfolded rest else onto_first b (unfolded rest)
+abbrev pub folded_lines : List ℕ → List (List ℕ)
+folded_lines [] = []
+folded_lines (b ∷ rest) =
+    if b == line_feed && not (begins_with_blank rest) then (b ∷ []) ∷ folded_lines rest else onto_first b (folded_lines rest)
 
 abbrev pub is_colon : ℕ → Bool
 is_colon b = b == colon
@@ -93,7 +93,7 @@ field_of line = field_cut (position is_colon line) line
 
 -- the fields of a text, in order
 abbrev pub fields : List ℕ → List FieldText
-fields text = filter_map field_of (unfolded text)
+fields text = filter_map field_of (folded_lines text)
 
 -- ---- the fields of a name
 

@@ -1,6 +1,6 @@
 ghost use Rattle.std.specs.Prelude.{◌≡◌, ◌<◌, ◌∷◌, length, IfSome, option_map, position, List};
 ghost use Rattle.std.specs.List.{list_all};
-ghost use Rattle.as2_parts.specs.Fields.{HasFields, FieldText, is_name_byte, is_name, is_colon, begins_with_blank, unfolded, field_of, fields, named, field_text, Tells};
+ghost use Rattle.as2_parts.specs.Fields.{HasFields, FieldText, is_name_byte, is_name, is_colon, begins_with_blank, folded_lines, field_of, fields, named, field_text, Tells};
 
 use as2_names::{is_blank, without_blanks_and_line_ends};
 use std::marker::Model;
@@ -63,9 +63,9 @@ fn begins_with_blank(text: &[u8]) -> bool
 }
 
 /// The first line of a text with the lines that go on with it, and what stands behind them.
-fn first_unfolded(text: &[u8]) -> (&[u8], &[u8])
+fn first_folded_line(text: &[u8]) -> (&[u8], &[u8])
     requires { 0 < length text.now }
-    ensures first { unfolded text.now ≡ result.0.now ∷ unfolded result.1.now }
+    ensures first { folded_lines text.now ≡ result.0.now ∷ folded_lines result.1.now }
     ensures less { length result.1.now < length text.now }
 {
     for (i, b) in text.iter().enumerate() {
@@ -129,7 +129,7 @@ impl<'a> Iterator for Fields<'a> {
 
     fn next(&mut self) -> Option<Field<'a>> {
         while !self.rest.is_empty() {
-            let (line, rest) = first_unfolded(self.rest);
+            let (line, rest) = first_folded_line(self.rest);
             self.rest = rest;
             if let Some(field) = field_of(line) {
                 return Some(field);

@@ -1,4 +1,4 @@
-use Rattle.as2_parts.proofs.Unfolding.{fields_found, fields_only}
+use Rattle.as2_parts.proofs.Folding.{fields_found, fields_only}
 use Rattle.as2_parts.proofs.fields.Fields.of.Goals as goal
 
 pub returns-clause-found : goal.returns-clause-found

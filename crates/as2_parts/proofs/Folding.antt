@@ -5,7 +5,7 @@ use Rattle.std.specs.List.{concat, onto_first, cons_option}
 use Rattle.std.proofs.lemmas.Bool.{cases_Bool, not_from_false, not-true, eqb-true}
 use Rattle.std.proofs.lemmas.List.Elements.{All-nil, All-cons, All-head, All-tail}
 use Rattle.as2_parts.specs.Lines.{lines}
-use Rattle.as2_parts.specs.Fields.{FieldText, Folded, lines_of, GoOn, IsFolded, Holds, HasFields, begins_with_blank, unfolded, field_of, fields}
+use Rattle.as2_parts.specs.Fields.{FieldText, Folded, lines_of, GoOn, IsFolded, Holds, HasFields, begins_with_blank, folded_lines, field_of, fields}
 use Rattle.as2_parts.proofs.FieldText.{field_take, field_again, no_field, blank_no_field}
 
 -- the lines at the front that go on with none, and the others with those that go on with them
@@ -48,13 +48,13 @@ group_each (line ∷ rest) =
       | inr first ↦ rw first (All-cons IsFolded (record { line = line; more = (group rest).0 }) (group rest).1 (not_from_false (begins_with_blank line) first, group_loose rest) (group_each rest))
     ]
 
-group_front : (loose : List (List ℕ)) (rest : List (List ℕ)) (folded_lines : List Folded) → GoOn loose → group rest ≡ ([], folded_lines) → group (loose ++ rest) ≡ (loose, folded_lines)
-group_front [] rest folded_lines go_on e = e
-group_front (line ∷ loose) rest folded_lines go_on e =
+group_front : (loose : List (List ℕ)) (rest : List (List ℕ)) (groups : List Folded) → GoOn loose → group rest ≡ ([], groups) → group (loose ++ rest) ≡ (loose, groups)
+group_front [] rest groups go_on e = e
+group_front (line ∷ loose) rest groups go_on e =
     let blank : begins_with_blank line ≡ true = All-head Blank line loose go_on in
-    rw (group_front loose rest folded_lines (All-tail Blank line loose go_on) e, blank) refl
+    rw (group_front loose rest groups (All-tail Blank line loose go_on) e, blank) refl
 
-group_again : (folded_lines : List Folded) → All IsFolded folded_lines → group (flat_map lines_of folded_lines) ≡ ([], folded_lines)
+group_again : (groups : List Folded) → All IsFolded groups → group (flat_map lines_of groups) ≡ ([], groups)
 group_again [] each = refl
 group_again (f ∷ rest) each =
     let here = All-head IsFolded f rest each in
@@ -65,20 +65,11 @@ group_again (f ∷ rest) each =
 -- ---- the text is cut into them
 
 abbrev joined : List Folded → List (List ℕ)
-joined folded_lines = map (λ f. concat (lines_of f)) folded_lines
+joined groups = map (λ f. concat (lines_of f)) groups
 
 abbrev blocks : List (List ℕ) → List (List ℕ)
 blocks [] = []
 blocks (line ∷ rest) = (line ++ concat (group rest).0) ∷ joined (group rest).1
-
--- where no blank begins the lines, they are the groups
-blocks_joined : (ls : List (List ℕ)) → (group ls).0 ≡ [] → blocks ls ≡ joined (group ls).1
-blocks_joined [] e = refl
-blocks_joined (line ∷ rest) e =
-    elim (cases_Bool (begins_with_blank line)) [
-      | inl blank ↦ let none : line ∷ (group rest).0 ≡ [] = rw blank at e in absurd cc
-      | inr first ↦ rw first refl
-    ]
 
 -- the first line begins as the text
 lines_some : (b : ℕ) (rest : List ℕ) → (line : List ℕ) × (others : List (List ℕ)) × (lines (b ∷ rest) ≡ (b ∷ line) ∷ others)
@@ -105,12 +96,12 @@ blocks_behind (b ∷ rest) =
       | inr first ↦ rw first refl
     ])
 
-unfolded_is : (text : List ℕ) → unfolded text ≡ blocks (lines text)
-unfolded_is [] = refl
-unfolded_is (b ∷ rest) =
+folded_is : (text : List ℕ) → folded_lines text ≡ blocks (lines text)
+folded_is [] = refl
+folded_is (b ∷ rest) =
     elim (cases_Bool (b == 10)) [
-      | inl feed ↦ rw (eqb-true b 10 feed, unfolded_is rest) (blocks_behind rest)
-      | inr other ↦ rw (other, unfolded_is rest) (onto_blocks b (lines rest))
+      | inl feed ↦ rw (eqb-true b 10 feed, folded_is rest) (blocks_behind rest)
+      | inr other ↦ rw (other, folded_is rest) (onto_blocks b (lines rest))
     ]
 
 -- ---- the fields among them
@@ -131,17 +122,17 @@ fields_joined (line ∷ rest) =
     ]
 
 fields_are : (text : List ℕ) → fields text ≡ filter_map field_of (joined (group (lines text)).1)
-fields_are text = ap (filter_map field_of) (unfolded_is text) ∙ fields_joined (lines text)
+fields_are text = ap (filter_map field_of) (folded_is text) ∙ fields_joined (lines text)
 
 holds_one : (f : Folded) (rest : List Folded) (others : List FieldText) → Holds rest others → (o : Option FieldText) → field_of (concat (lines_of f)) ≡ o → Holds (f ∷ rest) (cons_option o others)
 holds_one f rest others more None e = inr ((λ field i. absurd (cc (sym e ∙ field_again (concat (lines_of f)) field i))), more)
 holds_one f rest others more (Some field) e = inl (field, others, refl, field_take (concat (lines_of f)) field e, more)
 
-holds : (folded_lines : List Folded) → Holds folded_lines (filter_map field_of (joined folded_lines))
+holds : (groups : List Folded) → Holds groups (filter_map field_of (joined groups))
 holds [] = refl
 holds (f ∷ rest) = holds_one f rest (filter_map field_of (joined rest)) (holds rest) (field_of (concat (lines_of f))) refl
 
-holds_again : (folded_lines : List Folded) (given : List FieldText) → Holds folded_lines given → filter_map field_of (joined folded_lines) ≡ given
+holds_again : (groups : List Folded) (given : List FieldText) → Holds groups given → filter_map field_of (joined groups) ≡ given
 holds_again [] given h = sym h
 holds_again (f ∷ rest) given (inl h) = rw (field_again (concat (lines_of f)) h.0 h.3, holds_again rest h.1 h.4) (sym h.2)
 holds_again (f ∷ rest) given (inr h) = rw (no_field (concat (lines_of f)) h.0) (holds_again rest given h.1)
@@ -149,7 +140,7 @@ holds_again (f ∷ rest) given (inr h) = rw (no_field (concat (lines_of f)) h.0)
 pub fields_found : (text : List ℕ) → HasFields text (fields text)
 fields_found text = record {
   loose = (group (lines text)).0;
-  folded_lines = (group (lines text)).1;
+  groups = (group (lines text)).1;
   whole = group_whole (lines text);
   loose_go_on = group_loose (lines text);
   each = group_each (lines text);
@@ -158,5 +149,5 @@ fields_found text = record {
 
 pub fields_only : (text : List ℕ) (given : List FieldText) → HasFields text given → fields text ≡ given
 fields_only text given h =
-    let same : group (lines text) ≡ (h.loose, h.folded_lines) = ap group h.whole ∙ group_front h.loose (flat_map lines_of h.folded_lines) h.folded_lines h.loose_go_on (group_again h.folded_lines h.each) in
-    fields_are text ∙ ap (λ (g : Groups). filter_map field_of (joined g.1)) same ∙ holds_again h.folded_lines given h.fields_are
+    let same : group (lines text) ≡ (h.loose, h.groups) = ap group h.whole ∙ group_front h.loose (flat_map lines_of h.groups) h.groups h.loose_go_on (group_again h.groups h.each) in
+    fields_are text ∙ ap (λ (g : Groups). filter_map field_of (joined g.1)) same ∙ holds_again h.groups given h.fields_are
