@@ -1,4 +1,3 @@
-pub mod Cuts
 pub mod Details
 pub mod Dispositions
 pub mod MicBytes

@@ -2,7 +2,6 @@
 //! was sent (RFC 8098, RFC 4130 section 7).
 #![tactic(auto)]
 
-mod cut;
 mod detail;
 mod disposition;
 mod outcome;
