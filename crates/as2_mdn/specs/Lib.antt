@@ -3,5 +3,6 @@ pub mod Dispositions
 pub mod MicBytes
 pub mod Outcomes
 pub mod Receipts
+pub mod ReportReading
 pub mod Reports
 pub mod Verdicts
