@@ -19,7 +19,7 @@ use Rattle.as2_text.specs.declared.receipt_ask.How.TheVariants.{NoReceipt, Sync,
 use Rattle.as2_mdn.specs.Outcomes.{outcome_of, outcome_text, report_mic}
 use Rattle.as2_mdn.specs.Receipts.{ReceiptRead}
 use Rattle.as2_mdn.specs.ReportReading as report
-use Rattle.as2_mdn.specs.declared.read_report.ReportFault.{ReportFault}
+use Rattle.as2_mdn.specs.declared.report_reader.ReportFault.{ReportFault}
 use Rattle.as2_mdn.specs.declared.report.ReportOut.{ReportOut}
 use Rattle.as2_mdn.specs.declared.outcome.Outcome.{Outcome}
 use Rattle.as2_mdn.specs.declared.outcome.Outcome.TheVariants as outcome

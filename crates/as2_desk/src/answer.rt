@@ -173,7 +173,7 @@ fn document_answer(
 }
 
 /// The answer to a report.
-fn report_answer(media: &MediaType<'_>, body: &[u8]) -> HttpAnswer
+fn report_answer<'a>(media: &MediaType<'a>, body: &'a [u8]) -> HttpAnswer
     ensures { result ≡ report_answer (reading media.now body.now) }
 {
     match read_report(media, body) {
@@ -183,13 +183,13 @@ fn report_answer(media: &MediaType<'_>, body: &[u8]) -> HttpAnswer
 }
 
 /// The answer by what the body is.
-fn answer_of_kind(
+fn answer_of_kind<'a>(
     alloc: Global,
-    media: &MediaType<'_>,
+    media: &MediaType<'a>,
     names: &Names,
     number: u64,
-    fields: &Head,
-    content: &[u8],
+    fields: &'a Head,
+    content: &'a [u8],
 ) -> Result<HttpAnswer, Memory>
     ensures { IfOk result (λ a. a ≡ answer_of_kind (kind_of media.now) media.now names.now number fields.now content.now) }
 {
@@ -200,12 +200,12 @@ fn answer_of_kind(
 }
 
 /// The answer to a post.
-fn post_answer(
+fn post_answer<'a>(
     alloc: Global,
     names: &Names,
     number: u64,
-    fields: &Head,
-    content: &[u8],
+    fields: &'a Head,
+    content: &'a [u8],
 ) -> Result<HttpAnswer, Memory>
     ensures { IfOk result (λ a. a ≡ post_answer names.now number fields.now content.now) }
 {
