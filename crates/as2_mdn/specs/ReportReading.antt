@@ -1,7 +1,7 @@
 -- The report that is read: a multipart/report (RFC 6522, section 3) whose second part is a message disposition
 -- notification (RFC 8098, section 3) with the fields of AS2 (RFC 4130, section 7.4), and the first fault of a body that is
 -- none.
-use Rattle.std.specs.Prelude.{◌≡◌, ℕ, ◌⊎◌, Bool, true, false, ◌&&◌, ◌||◌, not, ◌==◌, List, [], ◌∷◌, length, map, if◌then◌else◌, IsTrue, Option, Some, None, Result, Ok, Err, codes}
+use Rattle.std.specs.Prelude.{◌≡◌, ℕ, ◌⊎◌, Bool, true, false, ◌||◌, not, ◌==◌, List, [], ◌∷◌, length, map, if◌then◌else◌, IsTrue, Option, Some, None, Result, Ok, Err, codes}
 use Rattle.std.specs.Str.{str_eq_ignore_ascii_case}
 use Rattle.as2_names.specs.Ascii.{comma}
 use Rattle.as2_names.specs.Cuts.{cut_at}
