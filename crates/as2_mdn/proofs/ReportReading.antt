@@ -27,7 +27,7 @@ use Rattle.as2_parts.specs.Fields.{FieldText, fields}
 use Rattle.as2_parts.specs.Parts.{PartText, IsTwoParts}
 use Rattle.as2_parts.specs.Parts as parts
 use Rattle.as2_parts.proofs.TwoParts as two_parts
-use Rattle.as2_parts.proofs.Unfolding.{fields_found, fields_only}
+use Rattle.as2_parts.proofs.Folding.{fields_found, fields_only}
 use Rattle.as2_mic.specs.Field.{IsMicField}
 use Rattle.as2_mdn.specs.Dispositions as dispositions
 use Rattle.as2_mdn.specs.Dispositions.{IsDisposition}
