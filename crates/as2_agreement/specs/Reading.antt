@@ -20,7 +20,6 @@ use Rattle.as2_agreement.specs.declared.partner.Partner.{Partner}
 use Rattle.as2_agreement.specs.Agreements.{AgreedValues, names, organizations_limit, partners_limit, wants_return}
 use Rattle.as2_agreement.specs.Partners.{seconds_limit, tries_limit}
 use Rattle.as2_agreement.specs.Values.{value_at, is_address, is_content_type}
-use Rattle.std.specs.Str.{bytes_eq}
 
 -- a value, or the first fault
 abbrev pub Read : Type 0 → Type 0

@@ -1,8 +1,6 @@
 ghost use Rattle.std.specs.Prelude.{◌≡◌, ℕ, List, IfOk, string_bytes};
-ghost use Rattle.as2_text.specs.Addresses.{IsUrl};
 ghost use Rattle.as2_agreement.specs.Values.{IsAddress, IsContentType};
 
-use as2_text::Url;
 use std::alloc::{AllocError, Global};
 use std::marker::Model;
 
