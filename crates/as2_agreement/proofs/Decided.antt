@@ -1,5 +1,5 @@
 -- The tests of addresses and content types decide.
-use Rattle.std.proofs.Common.{◌≡◌, ℕ, Bool, true, false, List, length, Option, Some, None, Result, Ok, Err, refl, sym, ◌∙◌, arith}
+use Rattle.std.proofs.Common.{◌≡◌, ℕ, true, false, List, length, Option, Some, None, Result, Ok, Err, refl, sym, arith}
 use Rattle.std.specs.Prelude.{is_some, nat_lt, nat_le, ◌&&◌, IfSome, IfNone}
 use Rattle.std.specs.List.{list_all}
 use Rattle.std.proofs.lemmas.Bool.{and_parts}

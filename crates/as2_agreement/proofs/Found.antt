@@ -1,5 +1,5 @@
 -- What is read is agreed, and what is agreed is read.
-use Rattle.std.proofs.Common.{◌≡◌, ℕ, ◌≤◌, Bool, true, false, cond, List, [], ◌∷◌, ◌++◌, map, length, Option, Some, None, Result, Ok, Err, refl, sym, ap, subst, ◌∙◌, arith, inl, inr}
+use Rattle.std.proofs.Common.{◌≡◌, ℕ, ◌≤◌, Bool, true, false, List, [], ◌∷◌, ◌++◌, map, length, Option, Some, None, Ok, Err, refl, sym, ap, subst, ◌∙◌, arith, inl, inr}
 use Rattle.std.specs.Prelude.{nat_le, ◌&&◌, ◌⊎◌, is_none, IfOk, IfSome, IsErr, IsErrAnd, IsSome, IsTrue}
 use Rattle.std.specs.List.{AllByRecursion, IsDistinct}
 use Rattle.std.specs.Str.{bytes_eq}
@@ -18,10 +18,10 @@ use Rattle.as2_agreement.specs.declared.partner.Partner.{Partner}
 use Rattle.as2_agreement.specs.Agreements.{AgreedValues, AreAgreements, Agreed, SaysAgreements, SaysReturnUrl, SayEach, HasEntries, names, wants_return, organizations_limit, partners_limit}
 use Rattle.as2_agreement.specs.Partners.{SaysOrganization, SaysPartner, IsPartner}
 use Rattle.as2_agreement.specs.Values.{value_at, HasText, IsAddress}
-use Rattle.as2_agreement.specs.Reading.{Read, ◌>>=◌, present, of_kind, text, address_in, items_len, few, entries, each, domain, return_url_in, organization, organizations, partner, partners, returning, agreements, document_in, reading, OrMemory, GivesOrMemory}
-use Rattle.as2_agreement.proofs.Each.{AreRead, each_read, each_again}
-use Rattle.as2_agreement.proofs.Keyed.{bound, same_ok, guarded, refused, present_ok, of_kind_ok, as_array_ok, str_ok, text_ok, text_again, domain_of_ok, domain_of_again, address_ok, address_in_again}
-use Rattle.as2_agreement.proofs.Members.{organization_name, partner_name, IsOrganization, names_alone, organization_reads, organization_again, partner_reads, partner_again}
+use Rattle.as2_agreement.specs.Reading.{Read, ◌>>=◌, present, of_kind, text, address_in, items_len, few, entries, each, domain, return_url_in, organization, organizations, partner, partners, agreements, document_in, reading, OrMemory, GivesOrMemory}
+use Rattle.as2_agreement.proofs.Each.{each_read, each_again}
+use Rattle.as2_agreement.proofs.Keyed.{bound, same_ok, guarded, refused, present_ok, of_kind_ok, as_array_ok, str_ok, text_ok, domain_of_ok, domain_of_again, address_ok, address_in_again}
+use Rattle.as2_agreement.proofs.Members.{organization_name, partner_name, IsOrganization, organization_reads, organization_again, partner_reads, partner_again}
 
 -- ---- arrays
 

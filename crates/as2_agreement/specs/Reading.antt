@@ -1,5 +1,5 @@
 -- The agreements that a text has, or the first fault in the order of the keys.
-use Rattle.std.specs.Prelude.{◌≡◌, ℕ, zero, suc, ◌⊎◌, Bool, ◌&&◌, nat_le, List, [], ◌∷◌, ◌++◌, codes, is_none, if◌then◌else◌, ℤ, pos, negsuc, Option, Some, None, Result, Ok, Err}
+use Rattle.std.specs.Prelude.{◌≡◌, ℕ, zero, suc, ◌⊎◌, ◌&&◌, nat_le, List, [], ◌∷◌, ◌++◌, codes, is_none, if◌then◌else◌, ℤ, pos, negsuc, Option, Some, None, Result, Ok, Err}
 use Rattle.std.specs.List.{list_any}
 use Rattle.std.specs.Str.{bytes_eq}
 use Rattle.toml.specs.Data.{Data, Items, no_items, item, Members, as_str, as_integer, as_array, as_table}

@@ -1,8 +1,8 @@
 -- What the keys of a table hold, and which values may be agreed (media types: RFC 2045, section 5.1; addresses: RFC 9110,
 -- section 4.2.1).
-use Rattle.std.specs.Prelude.{◌≡◌, ℕ, ◌<◌, ◌≤◌, ◌⊎◌, ◌&&◌, Bool, nat_lt, nat_le, List, length, is_some, IsTrue, pos, true, false, Option, Some, None, Result, Ok, Err}
+use Rattle.std.specs.Prelude.{◌≡◌, ℕ, ◌<◌, ◌≤◌, ◌&&◌, Bool, nat_lt, nat_le, List, length, is_some, IsTrue, pos, true, false, Option, Some, Result, Ok, Err}
 use Rattle.std.specs.List.{list_all}
-use Rattle.toml.specs.Data.{Data, string, integer, array, Members, get_member}
+use Rattle.toml.specs.Data.{Data, string, integer, Members, get_member}
 use Rattle.as2_names.specs.Ascii.{is_printable}
 use Rattle.as2_media.specs.declared.fault.TypeFault.{TypeFault}
 use Rattle.as2_media.specs.declared.kind.Kind.{Kind}
