@@ -1,15 +1,13 @@
 -- The entries of an array are read one by one exactly where each says its member, and no name is taken twice.
-use Rattle.std.proofs.Common.{◌≡◌, ℕ, suc, Bool, true, false, List, [], ◌∷◌, ◌++◌, map, length, Ok, refl, sym, ap, subst, ◌∙◌, inl, inr, append_assoc}
-use Rattle.std.specs.Prelude.{◌||◌}
+use Rattle.std.proofs.Common.{◌≡◌, ℕ, suc, false, List, [], ◌∷◌, ◌++◌, map, length, Ok, refl, sym, ap, subst, ◌∙◌, append_assoc}
 use Rattle.std.specs.List.{list_any, AllByRecursion, IsDistinct}
 use Rattle.std.specs.Str.{bytes_eq}
-use Rattle.std.proofs.lemmas.Bool.{cases_Bool, false≢true}
 use Rattle.std.proofs.lemmas.List.{append-nil, map-append}
 use Rattle.std.proofs.lemmas.Cmp.{nat_list_eq_equiv}
 use Rattle.std.proofs.lemmas.Map.Keys.{IsDistinct-push, IsDistinct-head, IsDistinct-tail}
 use Rattle.toml.specs.Data.{Data, table, Items, no_items, item, Members}
 use Rattle.as2_agreement.specs.Agreements.{SayEach}
-use Rattle.as2_agreement.specs.Reading.{Read, ◌>>=◌, items_len, each}
+use Rattle.as2_agreement.specs.Reading.{Read, items_len, each}
 use Rattle.as2_agreement.proofs.Keyed.{bound}
 
 -- ---- names that are distinct

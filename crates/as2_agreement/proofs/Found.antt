@@ -1,5 +1,5 @@
 -- What is read is agreed, and what is agreed is read.
-use Rattle.std.proofs.Common.{◌≡◌, ℕ, ◌≤◌, Bool, true, false, cond, List, [], ◌∷◌, ◌++◌, map, length, Option, Some, None, Result, Ok, Err, refl, sym, ap, subst, ◌∙◌, arith, inl, inr}
+use Rattle.std.proofs.Common.{◌≡◌, ℕ, ◌≤◌, Bool, true, false, List, [], ◌∷◌, ◌++◌, map, length, Option, Some, None, Ok, Err, refl, sym, ap, subst, ◌∙◌, arith, inl, inr}
 use Rattle.std.specs.Prelude.{nat_le, ◌&&◌, ◌⊎◌, is_none, IfOk, IfSome, IsErr, IsErrAnd, IsSome, IsTrue}
 use Rattle.std.specs.List.{AllByRecursion, IsDistinct}
 use Rattle.std.specs.Str.{bytes_eq}
@@ -18,10 +18,10 @@ use Rattle.as2_agreement.specs.declared.partner.Partner.{Partner}
 use Rattle.as2_agreement.specs.Agreements.{AgreedValues, AreAgreements, Agreed, SaysAgreements, SaysReturnUrl, SayEach, HasEntries, names, wants_return, organizations_limit, partners_limit}
 use Rattle.as2_agreement.specs.Partners.{SaysOrganization, SaysPartner, IsPartner}
 use Rattle.as2_agreement.specs.Values.{value_at, HasText, IsAddress}
-use Rattle.as2_agreement.specs.Reading.{Read, ◌>>=◌, present, of_kind, text, address_in, items_len, few, entries, each, domain, return_url_in, organization, organizations, partner, partners, returning, agreements, document_in, reading, OrMemory, GivesOrMemory}
-use Rattle.as2_agreement.proofs.Each.{AreRead, each_read, each_again}
-use Rattle.as2_agreement.proofs.Keyed.{bound, guarded, refused, present_ok, of_kind_ok, as_array_ok, str_ok, text_ok, text_again, domain_of_ok, domain_of_again, address_ok, address_in_again}
-use Rattle.as2_agreement.proofs.Members.{organization_name, partner_name, IsOrganization, names_alone, organization_reads, organization_again, partner_reads, partner_again}
+use Rattle.as2_agreement.specs.Reading.{Read, ◌>>=◌, present, of_kind, text, address_in, items_len, few, entries, each, domain, return_url_in, organization, organizations, partner, partners, agreements, document_in, reading, OrMemory, GivesOrMemory}
+use Rattle.as2_agreement.proofs.Each.{each_read, each_again}
+use Rattle.as2_agreement.proofs.Keyed.{bound, same_ok, guarded, refused, present_ok, of_kind_ok, as_array_ok, str_ok, text_ok, domain_of_ok, domain_of_again, address_ok, address_in_again}
+use Rattle.as2_agreement.proofs.Members.{organization_name, partner_name, IsOrganization, organization_reads, organization_again, partner_reads, partner_again}
 
 -- ---- arrays
 
@@ -101,7 +101,7 @@ all_front : (x : List ℕ) (front back : List (List ℕ)) → AllByRecursion (λ
 all_front x [] back h = tt
 all_front x (y ∷ front) back h = (h.0, all_front x front back h.1)
 
-distinct_front : (front back : List (List ℕ)) → IsDistinct bytes_eq (front ++ back) → IsDistinct bytes_eq front
+pub distinct_front : (front back : List (List ℕ)) → IsDistinct bytes_eq (front ++ back) → IsDistinct bytes_eq front
 unfolding IsDistinct
 distinct_front [] back d = tt
 distinct_front (x ∷ front) back d = (all_front x front back d.0, distinct_front front back d.1)
@@ -234,6 +234,10 @@ reading_found t a e =
 
 pub reading_again : (t : List ℕ) (a : AgreedValues) → Agreed t a → reading t ≡ Ok a
 reading_again t a g = rw g.parsed (agreements_again g.document a g.says g.are)
+
+-- a text has one set of agreements at most
+pub one_agreed : (t : List ℕ) (a b : AgreedValues) → Agreed t a → Agreed t b → a ≡ b
+one_agreed t a b g h = same_ok a b (sym (reading_again t a g) ∙ reading_again t b h)
 
 -- ---- answers
 

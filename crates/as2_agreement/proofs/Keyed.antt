@@ -1,17 +1,16 @@
 -- A key's value is read exactly where the key holds it.
-use Rattle.std.proofs.Common.{◌≡◌, ℕ, ℤ, pos, negsuc, ◌≤◌, Bool, true, false, cond, List, [], ◌∷◌, length, Option, Some, None, Result, Ok, Err, refl, sym, ap, subst, ◌∙◌, arith, inl, inr}
+use Rattle.std.proofs.Common.{◌≡◌, ℕ, ℤ, pos, negsuc, Bool, true, false, cond, List, length, Option, Some, None, Result, Ok, Err, refl, ap, ◌∙◌, arith, inl, inr}
 use Rattle.std.specs.Prelude.{nat_lt, nat_le, ◌&&◌, ◌==◌, codes}
 use Rattle.std.specs.List.{list_all, list_any}
 use Rattle.std.specs.Str.{bytes_eq}
-use Rattle.std.proofs.lemmas.Bool.{cases_Bool, and_parts, and_from}
+use Rattle.std.proofs.lemmas.Bool.{cases_Bool, and_parts}
 use Rattle.std.proofs.lemmas.Bool.Decides.{nat_tests}
 use Rattle.std.proofs.lemmas.Slice.Eq.{bytes_eq-Decides}
 use Rattle.toml.specs.Data.{Data, string, integer, float, boolean, datetime, array, table, Items, Members, as_str, as_integer, as_array, as_table}
 use Rattle.as2_names.specs.Ascii.{is_printable}
 use Rattle.as2_names.specs.Domains.{IsDomain, domain_of, is_domain, is_domain_byte}
-use Rattle.as2_names.specs.Names.{IsName, plain, fitting}
+use Rattle.as2_names.specs.Names.{IsName, plain}
 use Rattle.as2_names.specs.declared.name.NameFault.{NameFault}
-use Rattle.as2_names.specs.declared.name.NameFault.TheVariants as named
 use Rattle.as2_mic.specs.declared.alg.Alg.{Alg}
 use Rattle.as2_mic.specs.declared.alg.Alg.TheVariants as alg
 use Rattle.as2_mic.specs.Algs.{alg_name}
@@ -20,7 +19,6 @@ use Rattle.as2_agreement.specs.declared.key.Key.{Key}
 use Rattle.as2_agreement.specs.declared.key.Key.TheVariants as key
 use Rattle.as2_agreement.specs.declared.partner.Asked.{Asked}
 use Rattle.as2_agreement.specs.declared.partner.Asked.TheVariants as asked
-use Rattle.as2_agreement.specs.Keys.{key_name}
 use Rattle.as2_agreement.specs.Values.{value_at, HasText, HasNumber, IsAddress, is_address, IsContentType, is_content_type, IsCount}
 use Rattle.as2_agreement.specs.Partners.{asked_word}
 use Rattle.as2_agreement.specs.Reading.{Read, ◌>>=◌, present, of_kind, text, address_in, count_in, count, name_in, free, name, url, asked_named, receipt, digest_named, digest, content_type_in, content_type}

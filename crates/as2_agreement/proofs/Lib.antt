@@ -1,5 +1,6 @@
 pub mod Decided
 pub mod Each
+pub mod Finding
 pub mod Found
 pub mod Items
 pub mod Keyed

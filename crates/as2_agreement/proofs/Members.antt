@@ -1,16 +1,16 @@
 -- An organization and a partner are read exactly where their entry says them.
-use Rattle.std.proofs.Common.{◌≡◌, ℕ, false, List, [], ◌++◌, map, Ok, refl, sym, ap, subst, ◌∙◌}
-use Rattle.std.specs.List.{list_any, AllByRecursion, IsDistinct}
+use Rattle.std.proofs.Common.{◌≡◌, ℕ, false, List, [], ◌++◌, map, Ok, refl, subst}
+use Rattle.std.specs.List.{list_any}
 use Rattle.std.specs.Str.{bytes_eq}
 use Rattle.std.proofs.lemmas.List.{append-nil}
-use Rattle.toml.specs.Data.{Data, table, Members, as_table}
+use Rattle.toml.specs.Data.{table, Members, as_table}
 use Rattle.as2_names.specs.Names.{IsName}
 use Rattle.as2_agreement.specs.declared.key.Key.TheVariants as key
 use Rattle.as2_agreement.specs.declared.partner.Organization.{Organization}
 use Rattle.as2_agreement.specs.declared.partner.Partner.{Partner}
 use Rattle.as2_agreement.specs.Agreements.{names}
 use Rattle.as2_agreement.specs.Partners.{SaysOrganization, SaysPartner, IsPartner, tries_limit, seconds_limit}
-use Rattle.as2_agreement.specs.Reading.{Read, ◌>>=◌, of_kind, name, url, receipt, digest, content_type, count, organization, partner}
+use Rattle.as2_agreement.specs.Reading.{of_kind, name, url, receipt, digest, content_type, count, organization, partner}
 use Rattle.as2_agreement.proofs.Each.{Reads, Again}
 use Rattle.as2_agreement.proofs.Keyed.{same_ok, bound, of_kind_ok, as_table_ok, name_ok, name_again, url_ok, url_again, receipt_ok, receipt_again, digest_ok, digest_again, content_type_ok, content_type_in_again, count_ok, count_again}
 

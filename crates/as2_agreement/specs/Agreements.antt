@@ -1,13 +1,11 @@
 -- Agreements: which a TOML text has.
-use Rattle.std.specs.Prelude.{◌≡◌, ℕ, ◌≤◌, ◌++◌, Bool, List, [], ◌∷◌, map, length, IsSome, IfSome, IsTrue, ⊤, Option, Some, None, Result, Ok, Err, ◌⊎◌}
+use Rattle.std.specs.Prelude.{◌≡◌, ℕ, ◌≤◌, ◌++◌, Bool, List, [], ◌∷◌, map, length, IsSome, IfSome, IsTrue, ⊤, Option, Some, None}
 use Rattle.std.specs.List.{AllByRecursion, IsDistinct, find, list_any}
 use Rattle.std.specs.Str.{bytes_eq}
-use Rattle.toml.specs.Data.{Data, array, table, Items, no_items, item, Members}
+use Rattle.toml.specs.Data.{array, table, Items, no_items, item, Members}
 use Rattle.toml.specs.Parse.{parse_document}
 use Rattle.as2_names.specs.Domains.{IsDomain}
 use Rattle.as2_names.specs.Names.{IsName}
-use Rattle.as2_agreement.specs.declared.fault.AgreementFault.{AgreementFault}
-use Rattle.as2_agreement.specs.declared.fault.AgreementFault.TheVariants as fault
 use Rattle.as2_agreement.specs.declared.key.Key.{Key}
 use Rattle.as2_agreement.specs.declared.key.Key.TheVariants as key
 use Rattle.as2_agreement.specs.declared.partner.Organization.{Organization}

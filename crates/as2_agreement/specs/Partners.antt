@@ -1,5 +1,5 @@
 -- The terms of organizations and partners, key by key.
-use Rattle.std.specs.Prelude.{◌≡◌, ℕ, Bool, true, false, List, codes, Option, Some, None}
+use Rattle.std.specs.Prelude.{ℕ, Bool, true, false, List, codes}
 use Rattle.toml.specs.Data.{Members}
 use Rattle.as2_names.specs.Names.{IsName}
 use Rattle.as2_mic.specs.Algs.{alg_name}

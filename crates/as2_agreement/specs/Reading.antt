@@ -1,5 +1,5 @@
 -- The agreements that a text has, or the first fault in the order of the keys.
-use Rattle.std.specs.Prelude.{◌≡◌, ℕ, zero, suc, ◌⊎◌, Bool, ◌&&◌, nat_le, List, [], ◌∷◌, ◌++◌, codes, is_none, if◌then◌else◌, ℤ, pos, negsuc, Option, Some, None, Result, Ok, Err}
+use Rattle.std.specs.Prelude.{◌≡◌, ℕ, zero, suc, ◌⊎◌, ◌&&◌, nat_le, List, [], ◌∷◌, ◌++◌, codes, is_none, if◌then◌else◌, ℤ, pos, negsuc, Option, Some, None, Result, Ok, Err}
 use Rattle.std.specs.List.{list_any}
 use Rattle.std.specs.Str.{bytes_eq}
 use Rattle.toml.specs.Data.{Data, Items, no_items, item, Members, as_str, as_integer, as_array, as_table}
@@ -20,7 +20,6 @@ use Rattle.as2_agreement.specs.declared.partner.Partner.{Partner}
 use Rattle.as2_agreement.specs.Agreements.{AgreedValues, names, organizations_limit, partners_limit, wants_return}
 use Rattle.as2_agreement.specs.Partners.{seconds_limit, tries_limit}
 use Rattle.as2_agreement.specs.Values.{value_at, is_address, is_content_type}
-use Rattle.std.specs.Str.{bytes_eq}
 
 -- a value, or the first fault
 abbrev pub Read : Type 0 → Type 0

@@ -1,8 +1,11 @@
-ghost use Rattle.std.specs.Prelude.{◌≡◌, ◌⊎◌, ℕ, ◌≤◌, List, length, option_map, IfOk, IfSome, Ok, Err};
+ghost use Rattle.std.specs.Prelude.{◌≡◌, ◌⊎◌, ℕ, ◌≤◌, List, length, option_map, IfOk, IfSome, Some, Ok, Err};
+ghost use Rattle.std.specs.List.{Contains};
 ghost use Rattle.toml.specs.View.{table_view};
 ghost use Rattle.as2_agreement.specs.Agreements.{AgreedValues, AreAgreements, Agreed, organization_of, partner_of, wants_return};
 ghost use Rattle.as2_agreement.specs.Partners.{IsPartner};
 ghost use Rattle.as2_agreement.specs.Reading.{GivesOrMemory, OrMemory, agreements, reading};
+ghost use Rattle.as2_agreement.specs.declared.partner.Organization.{Organization as OneOrganization};
+ghost use Rattle.as2_agreement.specs.declared.partner.Partner.{Partner as OnePartner};
 ghost use Rattle.as2_agreement.specs.declared.fault.AgreementFault.TheVariants.{Memory};
 
 use crate::document::{domain, return_url};
@@ -59,6 +62,23 @@ fn read_document(alloc: Global, document: &Table) -> Result<Agreements, Agreemen
     })
 }
 
+fn organization_named<'a>(
+    organizations: &'a [Organization],
+    name: &AsName,
+) -> Option<&'a Organization>
+    ensures { option_map (λ o. o.now) result ≡ organization_of name.now organizations.now }
+{
+    organizations
+        .iter()
+        .find(|o| o.name.bytes() == name.bytes())
+}
+
+fn partner_named<'a>(partners: &'a [Partner], name: &AsName) -> Option<&'a Partner>
+    ensures { option_map (λ p. p.now) result ≡ partner_of name.now partners.now }
+{
+    partners.iter().find(|p| p.name.bytes() == name.bytes())
+}
+
 impl Agreements {
     /// Reads agreements from TOML. The faults are looked for in the order of the keys, `Memory` aside.
     pub fn read(alloc: Global, text: &str) -> Result<Agreements, AgreementFault>
@@ -97,20 +117,26 @@ impl Agreements {
 
     /// The organization of that name; None where no organization has it.
     pub fn organization(&self, name: &AsName) -> Option<&Organization>
-        ensures { option_map (λ o. o.now) result ≡ organization_of name.now self.now.organizations }
+        // Who is found has the name.
+        ensures found { IfSome result (λ o. o.now.name ≡ name.now) }
+        // Who has the name is found.
+        ensures only { (o : OneOrganization) → Contains self.now.organizations o → o.name ≡ name.now
+            → option_map (λ o. o.now) result ≡ Some o }
+        ensures exact { option_map (λ o. o.now) result ≡ organization_of name.now self.now.organizations }
     {
-        self.organizations
-            .iter()
-            .find(|o| o.name.bytes() == name.bytes())
+        organization_named(&self.organizations, name)
     }
 
     /// The partner of that name; None where no partner has it.
     pub fn partner(&self, name: &AsName) -> Option<&Partner>
-        ensures member { option_map (λ p. p.now) result ≡ partner_of name.now self.now.partners }
+        // Who is found has the name, and terms that may be agreed.
+        ensures found { IfSome result (λ p. (p.now.name ≡ name.now) × IsPartner p.now) }
+        // Who has the name is found.
+        ensures only { (p : OnePartner) → Contains self.now.partners p → p.name ≡ name.now
+            → option_map (λ p. p.now) result ≡ Some p }
+        ensures exact { option_map (λ p. p.now) result ≡ partner_of name.now self.now.partners }
     {
-        self.partners
-            .iter()
-            .find(|p| p.name.bytes() == name.bytes())
+        partner_named(&self.partners, name)
     }
 
     /// How many organizations and how many partners there are.

@@ -4,7 +4,8 @@ ghost use Rattle.std.specs.List.{list_all, list_any};
 ghost use Rattle.std.specs.Str.{bytes_eq};
 ghost use Rattle.toml.specs.View.{table_view};
 ghost use Rattle.as2_names.specs.Ascii.{is_printable};
-ghost use Rattle.as2_agreement.specs.Values.{IsAddress, IsContentType, is_address, is_content_type};
+ghost use Rattle.as2_agreement.specs.Values.{IsAddress, IsContentType, is_address, is_content_type, is_document_type};
+ghost use Rattle.as2_media.specs.MediaTypes.{reading};
 ghost use Rattle.as2_agreement.specs.Agreements.{names};
 ghost use Rattle.as2_agreement.specs.Reading.{Gives, name, name_in, free, asked_named, digest_named, address_in, url, receipt, digest, content_type, content_type_in};
 
@@ -12,6 +13,7 @@ use crate::fault::AgreementFault;
 use crate::key::Key;
 use crate::partner::{Asked, Organization, Partner};
 use crate::values::text_at;
+use as2_media::{Kind, MediaType};
 use as2_mic::Alg;
 use as2_names::AsName;
 use as2_text::Url;
@@ -133,11 +135,21 @@ fn all_printable(text: &[u8]) -> bool
     text.iter().all(|b| matches!(*b, b' '..=b'~'))
 }
 
+/// Whether the text is the media type of a document.
+fn is_document_type(text: &[u8]) -> bool
+    ensures { result ≡ is_document_type (reading text.now) }
+{
+    match MediaType::parse(text) {
+        Ok(media) => matches!(media.kind(), Kind::Document),
+        Err(_) => false,
+    }
+}
+
 /// Whether the text may be agreed as a content type.
 fn is_content_type(text: &[u8]) -> bool
     ensures { result ≡ is_content_type text.now }
 {
-    !text.is_empty() && text.len() <= 255 && all_printable(text)
+    !text.is_empty() && text.len() <= 255 && all_printable(text) && is_document_type(text)
 }
 
 /// The content type of documents for a partner.

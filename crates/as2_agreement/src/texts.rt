@@ -1,23 +1,21 @@
 ghost use Rattle.std.specs.Prelude.{◌≡◌, ℕ, List, IfOk, string_bytes};
-ghost use Rattle.as2_text.specs.Addresses.{IsUrl};
 ghost use Rattle.as2_agreement.specs.Values.{IsAddress, IsContentType};
 
-use as2_text::Url;
 use std::alloc::{AllocError, Global};
 use std::marker::Model;
 
 /// The text of an address of an HTTP service, at most 1,024 bytes.
 #[derive(Drop)]
 pub struct UrlText {
-    text: String,
+    address: String,
 }
 
 impl Model for UrlText {
     ghost Value = { List ℕ };
 
-    ghost view = { λ u. string_bytes u.text };
+    ghost view = { λ u. string_bytes u.address };
 
-    ghost invariant = { λ u. IsAddress (string_bytes u.text) };
+    ghost invariant = { λ u. IsAddress (string_bytes u.address) };
 }
 
 impl UrlText {
@@ -27,7 +25,7 @@ impl UrlText {
         ensures { IfOk result (λ url. url ≡ text.now) }
     {
         Ok(UrlText {
-            text: String::from_str(alloc, text)?,
+            address: String::from_str(alloc, text)?,
         })
     }
 
@@ -36,22 +34,22 @@ impl UrlText {
         ensures text { result.now ≡ self.now }
         ensures address { IsAddress self.now }
     {
-        self.text.as_str()
+        self.address.as_str()
     }
 }
 
 /// A content type of documents: 1 to 255 printable bytes.
 #[derive(Drop)]
 pub struct ContentType {
-    text: String,
+    media_type: String,
 }
 
 impl Model for ContentType {
     ghost Value = { List ℕ };
 
-    ghost view = { λ c. string_bytes c.text };
+    ghost view = { λ c. string_bytes c.media_type };
 
-    ghost invariant = { λ c. IsContentType (string_bytes c.text) };
+    ghost invariant = { λ c. IsContentType (string_bytes c.media_type) };
 }
 
 impl ContentType {
@@ -61,7 +59,7 @@ impl ContentType {
         ensures { IfOk result (λ content_type. content_type ≡ text.now) }
     {
         Ok(ContentType {
-            text: String::from_str(alloc, text)?,
+            media_type: String::from_str(alloc, text)?,
         })
     }
 
@@ -70,6 +68,6 @@ impl ContentType {
         ensures text { result.now ≡ self.now }
         ensures content_type { IsContentType self.now }
     {
-        self.text.as_str()
+        self.media_type.as_str()
     }
 }

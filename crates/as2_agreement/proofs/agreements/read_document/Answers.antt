@@ -2,7 +2,7 @@ use Rattle.std.proofs.Common.{◌≡◌, false, refl, sym}
 use Rattle.std.specs.Prelude.{◌&&◌, is_none}
 use Rattle.toml.specs.View.{table_view}
 use Rattle.as2_agreement.specs.Agreements.{wants_return}
-use Rattle.as2_agreement.proofs.Found.{AreMade, and_false, made_are, partners_refused, err_given}
+use Rattle.as2_agreement.proofs.Found.{and_false, made_are, partners_refused, err_given}
 use Rattle.as2_agreement.proofs.agreements.read_document.Goals as goal
 use Rattle.as2_agreement.proofs.agreements.read_document.Goals.{else-wants_return-via-then-wants_return+else-is_none, else-wants_return-via-else-wants_return}
 
