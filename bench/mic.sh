@@ -3,23 +3,11 @@
 # Builds a small program over copies of as2_names and as2_mic in a temporary folder, and takes the best of five
 # runs of each, in turn.
 set -eu
-top=$(cd "$(dirname "$0")/.." && pwd)
-work=$(mktemp -d)
-trap 'rm -rf "$work"' EXIT
+. "$(dirname "$0")/workspace.sh"
 
+workspace as2_names as2_mic
+echo "mic_bench: as2_mic" >> "$work/crates.txt"
 mkdir -p "$work/crates/mic_bench/src"
-git init -q "$work"
-for crate in as2_names as2_mic; do
-    mkdir "$work/crates/$crate"
-    for part in src specs proofs; do
-        cp -r "$top/crates/$crate/$part" "$work/crates/$crate/"
-    done
-done
-cat > "$work/crates.txt" <<'END'
-as2_names: arrayvec
-as2_mic: as2_names sha1 md5 base64 arrayvec
-mic_bench: as2_mic
-END
 cat > "$work/crates/mic_bench/src/main.rt" <<'END'
 //! Prints the MIC of standard input under the digest that the argument names.
 #![tactic(auto)]
@@ -55,7 +43,7 @@ fn main(rt: HostRuntime) -> io::Result<()> {
 END
 
 head -c 209715200 /dev/urandom > "$work/content"
-(cd "$work/crates/mic_bench" && rt run -- sha1 < /dev/null > /dev/null 2> "$work/build.log") || { cat "$work/build.log" >&2; exit 1; }
+build mic_bench sha1
 
 python3 - "$work" <<'END'
 import base64, binascii, subprocess, sys, time

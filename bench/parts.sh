@@ -3,23 +3,11 @@
 # ten times the bytes may take at most twelve times as long. Builds a small program over copies of the crates in a
 # temporary folder, and takes the best of five of each, in turn, in one run.
 set -eu
-top=$(cd "$(dirname "$0")/.." && pwd)
-work=$(mktemp -d)
-trap 'rm -rf "$work"' EXIT
+. "$(dirname "$0")/workspace.sh"
 
+workspace as2_names as2_parts
+echo "parts_bench: as2_parts" >> "$work/crates.txt"
 mkdir -p "$work/crates/parts_bench/src"
-git init -q "$work"
-for crate in as2_names as2_parts; do
-    mkdir "$work/crates/$crate"
-    for part in src specs proofs; do
-        cp -r "$top/crates/$crate/$part" "$work/crates/$crate/"
-    done
-done
-cat > "$work/crates.txt" <<'END'
-as2_names: arrayvec
-as2_parts: as2_names
-parts_bench: as2_parts
-END
 cat > "$work/crates/parts_bench/src/main.rt" <<'END'
 //! Does what the first argument names over standard input, as often as the second says, and prints what it counted.
 #![tactic(auto)]
@@ -68,7 +56,7 @@ fn main(rt: HostRuntime) -> io::Result<()> {
 }
 END
 
-(cd "$work/crates/parts_bench" && rt run -- parts 1 < /dev/null > /dev/null 2> "$work/build.log") || { cat "$work/build.log" >&2; exit 1; }
+build parts_bench parts 1
 
 python3 - "$work" <<'END'
 import subprocess, sys, time
