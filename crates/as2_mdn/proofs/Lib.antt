@@ -1,5 +1,11 @@
 pub mod Cutting
 pub mod MicBytes
 pub mod Modes
+pub mod OwnFields
+pub mod OwnParts
+pub mod OwnReceipt
+pub mod OwnType
 pub mod Reading
 pub mod ReportReading
+pub mod Written
+pub mod WrittenBytes

@@ -1,5 +1,6 @@
 pub mod Details
 pub mod Dispositions
+pub mod Laws
 pub mod MicBytes
 pub mod Outcomes
 pub mod Receipts

@@ -1,4 +1,6 @@
 mod dispositions;
+mod outcomes;
+mod reading;
 mod verdicts;
 
 use super::*;

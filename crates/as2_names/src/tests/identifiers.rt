@@ -1,4 +1,4 @@
-use crate::{IdFault, MessageId, without_blanks};
+use crate::{IdFault, MessageId, is_identifier, without_blanks};
 use std::test::Fail;
 
 struct Case {
@@ -140,5 +140,35 @@ fn blanks_are_taken_off_both_ends(rt: HostRuntime) -> Result<(), Fail> {
     for (text, want) in CASES {
         assert!(rt; without_blanks(text) == want);
     }
+    Ok(())
+}
+
+// An identifier is tested as it stands: blanks at its ends aren't taken off.
+#[test]
+fn identifiers_are_told(rt: HostRuntime) -> Result<(), Fail> {
+    const CASES: [(&[u8], bool); 12] = [
+        (b"<m1@x>", true),
+        (b"m1@x", true),
+        (b"m", true),
+        (b"<", true),
+        (b"< >", true),
+        (b"a b", true),
+        (b"", false),
+        (b"<>", false),
+        (b" m1@x", false),
+        (b"m1@x\t", false),
+        (b"m1\r\n@x", false),
+        (b"m1@\xe4", false),
+    ];
+    for (text, want) in CASES {
+        assert!(rt; is_identifier(text) == want);
+    }
+    let mut text = Vec::new(rt.alloc());
+    text.resize(999, b'x')?;
+    assert!(rt; is_identifier(&text[..998]));
+    assert!(rt; !is_identifier(&text));
+    text[0] = b'<';
+    text.push(b'>')?;
+    assert!(rt; is_identifier(&text));
     Ok(())
 }

@@ -1,0 +1,67 @@
+-- A report that is written is read as its own receipt, and as no other.
+use Rattle.std.specs.Prelude.{◌≡◌, ℕ, ◌<◌, ◌^◌, List, Option, Some, None, ⊤, codes}
+use Rattle.as2_names.specs.Names.{IsName}
+use Rattle.as2_names.specs.Identifiers.{IsIdentifier}
+use Rattle.as2_media.specs.MediaTypes.{Media, IsMediaType}
+use Rattle.as2_mic.specs.Algs.{alg_name}
+use Rattle.as2_mic.specs.Mic.{IsMicText}
+use Rattle.as2_mdn.specs.declared.outcome.Outcome.{Outcome}
+use Rattle.as2_mdn.specs.declared.outcome.Outcome.TheVariants.{DecryptionFailed, DecompressionFailed, AuthenticationFailed, UnsupportedFormat, UnsupportedMicAlgorithms, Processed}
+use Rattle.as2_mdn.specs.declared.report.ReportMic.{ReportMic}
+use Rattle.as2_mdn.specs.declared.report.ReportOut.{ReportOut}
+use Rattle.as2_mdn.specs.MicBytes.{IsOfMicBytes}
+use Rattle.as2_mdn.specs.Receipts.{ReceiptRead, Mic, Missing, Given}
+use Rattle.as2_mdn.specs.ReportReading.{IsReport}
+use Rattle.as2_mdn.specs.Reports.{content_type_text, report_text}
+
+-- ---- the receipt of a report
+
+-- the disposition of an outcome: its type, and its modifier, which is empty where there is none
+abbrev pub disposition_of : Outcome → List ℕ × List ℕ
+disposition_of DecryptionFailed = (codes "processed", codes "error: decryption-failed")
+disposition_of DecompressionFailed = (codes "processed", codes "error: decompression-failed")
+disposition_of AuthenticationFailed = (codes "processed", codes "error: authentication-failed")
+disposition_of UnsupportedFormat = (codes "failed", codes "failure: unsupported format")
+disposition_of UnsupportedMicAlgorithms = (codes "failed", codes "failure: unsupported MIC-algorithms")
+disposition_of Processed = (codes "processed", codes "")
+
+-- the text of the MIC and the name of its digest
+abbrev pub given_mic : Option ReportMic → Mic
+given_mic None = Missing
+given_mic (Some mic) = Given (mic.text, alg_name mic.digest)
+
+-- the receipt that a report is of
+abbrev pub receipt_of : ReportOut → ReceiptRead
+receipt_of out =
+    record { original_id = out.original_id; disposition = disposition_of out.outcome; mic = given_mic out.mic }
+
+-- ---- the reports that are written
+
+-- the MIC, if there is one, is 1 to 44 letters, digits, `+`, `/` and `=`
+abbrev pub HasMicText : Option ReportMic → Type 0
+HasMicText None = ⊤
+HasMicText (Some mic) = IsMicText mic.text × IsOfMicBytes mic.text
+
+-- What each value of a report is by its own type, and its MIC by what it is made with. Whether there is a MIC doesn't
+-- matter.
+pub record IsOut (out : ReportOut) : Type 0 where
+  pub number : out.number < 2 ^ 64
+  pub from : IsName out.from
+  pub original_id : IsIdentifier out.original_id
+  pub mic : HasMicText out.mic
+
+-- ---- the laws
+
+-- its Content-Type spells a media type
+abbrev pub ReportsHaveTypes : Type 0
+ReportsHaveTypes = (out : ReportOut) → IsOut out → (media : Media) × IsMediaType (content_type_text out.number) media
+
+-- under that type it is a report of its own receipt
+abbrev pub ReportsAreRead : Type 0
+ReportsAreRead =
+    (out : ReportOut) (media : Media) → IsOut out → IsMediaType (content_type_text out.number) media → IsReport media (report_text out) (receipt_of out)
+
+-- and of no other
+abbrev pub ReportsAreOfOne : Type 0
+ReportsAreOfOne =
+    (out : ReportOut) (media : Media) (receipt : ReceiptRead) → IsOut out → IsMediaType (content_type_text out.number) media → IsReport media (report_text out) receipt → receipt ≡ receipt_of out
