@@ -16,7 +16,7 @@ use Rattle.as2_mic.specs.Field.{IsMicField}
 use Rattle.as2_mic.specs.Mic.{IsMicText}
 use Rattle.as2_parts.specs.Fields.{FieldText, begins_with_blank, fields, is_name_byte}
 use Rattle.as2_parts.proofs.Laws.{HasNoFeed}
-use Rattle.as2_parts.proofs.Unfolding.{fields_found}
+use Rattle.as2_parts.proofs.Folding.{fields_found}
 use Rattle.as2_mdn.specs.Dispositions.{IsDisposition}
 use Rattle.as2_mdn.specs.Laws.{disposition_of, given_mic, HasMicText}
 use Rattle.as2_mdn.specs.MicBytes.{is_mic_byte, IsOfMicBytes}
