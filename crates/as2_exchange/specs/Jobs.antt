@@ -1,18 +1,13 @@
 -- The requests that the station sends: a document to its partner (RFC 4130, sections 5.3 and 6), and a receipt that is
 -- sent later (RFC 4130, section 7.3). Both are HTTP requests (RFC 9112, section 3), one to a connection.
-use Rattle.std.specs.Prelude.{ℕ, List, [], ◌++◌, length, Option, Some, None, codes, decimal}
-use Rattle.std.specs.Option.{option_or}
+use Rattle.std.specs.Prelude.{ℕ, [], ◌++◌, length, Option, Some, None, codes, decimal}
 use Rattle.as2_names.specs.Names.{spelling}
 use Rattle.as2_text.specs.Addresses.{authority_of, target_of, url_of}
 use Rattle.as2_mic.specs.Algs.{alg_name}
 use Rattle.as2_mdn.specs.Reports.{line, head_fields, report_text}
 use Rattle.as2_mdn.specs.declared.report.ReportOut.{ReportOut}
+use Rattle.as2_exchange.specs.declared.answer.Job.{Job}
 use Rattle.as2_exchange.specs.Agreement.{Text, Agreements, Partner, Asked, NoReceipt, Sync, Async}
-
--- a request that is to be sent: the authority that it is sent to, and its bytes
-pub record Job : Type 0 where
-  pub authority : Text
-  pub bytes : Text
 
 -- ---- identifiers
 
