@@ -2,3 +2,4 @@ pub mod Cutting
 pub mod MicBytes
 pub mod Modes
 pub mod Reading
+pub mod ReportReading

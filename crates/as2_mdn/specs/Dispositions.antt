@@ -4,7 +4,7 @@ use Rattle.std.specs.Prelude.{◌≡◌, ◌≢◌, ◌⊎◌, ℕ, Bool, ◌&&�
 use Rattle.std.specs.Str.{str_eq_ignore_ascii_case}
 use Rattle.as2_names.specs.Ascii.{slash, semicolon}
 use Rattle.as2_names.specs.Trim.{trimmed}
-use Rattle.as2_mdn.specs.Cuts.{HasNo, IsCutAt, cut_of}
+use Rattle.as2_names.specs.Cuts.{Lacks, IsCutAt, cut_at}
 use Rattle.as2_mdn.specs.declared.disposition.DispositionFault.{DispositionFault}
 use Rattle.as2_mdn.specs.declared.disposition.DispositionFault.TheVariants as fault
 
@@ -37,7 +37,7 @@ pub record IsModified (text : List ℕ) (disposition : List ℕ × List ℕ) : T
 
 -- `type` alone, with blanks and line ends around it
 pub record IsUnmodified (text : List ℕ) (disposition : List ℕ × List ℕ) : Type 0 where
-  pub whole : HasNo slash text
+  pub whole : Lacks slash text
   pub is_type : type_of disposition ≡ trimmed text
   pub no_modifier : modifier_of disposition ≡ []
 
@@ -88,13 +88,13 @@ with_type disposition = if length (type_of disposition) == 0 then Err fault.NoTy
 abbrev pub with_mode : Option (List ℕ × List ℕ) → List ℕ → Result (List ℕ × List ℕ) DispositionFault
 with_mode None typed = Err fault.NoMode
 with_mode (Some p) typed =
-    if is_action_mode p.0 && is_sending_mode p.1 then with_type (type_and_modifier typed (cut_of slash typed)) else Err fault.BadMode
+    if is_action_mode p.0 && is_sending_mode p.1 then with_type (type_and_modifier typed (cut_at slash typed)) else Err fault.BadMode
 
 -- a value that is cut so at its first `;`
 abbrev pub with_both : Option (List ℕ × List ℕ) → Result (List ℕ × List ℕ) DispositionFault
 with_both None = Err fault.NoMode
-with_both (Some p) = with_mode (cut_of slash p.0) p.1
+with_both (Some p) = with_mode (cut_at slash p.0) p.1
 
 -- the disposition that a value has, or its first fault
 abbrev pub reading : List ℕ → Result (List ℕ × List ℕ) DispositionFault
-reading value = with_both (cut_of semicolon value)
+reading value = with_both (cut_at semicolon value)

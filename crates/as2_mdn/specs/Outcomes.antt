@@ -1,7 +1,16 @@
--- The outcomes of a received document, as a disposition spells them (RFC 4130, section 7.5).
-use Rattle.std.specs.Prelude.{ℕ, List, codes}
+-- The outcomes of a received document, as a disposition spells them (RFC 4130, section 7.5): which document has which,
+-- and the MIC of a processed one (RFC 4130, section 7.3.1).
+use Rattle.std.specs.Prelude.{ℕ, Bool, ◌||◌, ◌&&◌, List, if◌then◌else◌, Option, Some, None, is_none, codes}
+use Rattle.as2_media.specs.declared.kind.Kind.{Kind}
+use Rattle.as2_media.specs.declared.kind.Kind.TheVariants.{Enveloped, Compressed, Signed}
+use Rattle.as2_mic.specs.declared.alg.Alg.{Alg}
+use Rattle.as2_mic.specs.declared.alg.Alg.TheVariants.{Sha1}
+use Rattle.as2_mic.specs.Algs.{first_of}
+use Rattle.as2_mic.specs.Mic.{mic}
+use Rattle.as2_text.specs.ReceiptRequests.{Request}
 use Rattle.as2_mdn.specs.declared.outcome.Outcome.{Outcome}
 use Rattle.as2_mdn.specs.declared.outcome.Outcome.TheVariants.{DecryptionFailed, DecompressionFailed, AuthenticationFailed, UnsupportedFormat, UnsupportedMicAlgorithms, Processed}
+use Rattle.as2_mdn.specs.declared.report.ReportMic.{ReportMic}
 
 -- the disposition type, and the modifier where there is one (RFC 8098, section 3.2.6)
 abbrev pub outcome_text : Outcome → List ℕ
@@ -11,3 +20,39 @@ outcome_text AuthenticationFailed = codes "processed/error: authentication-faile
 outcome_text UnsupportedFormat = codes "failed/failure: unsupported format"
 outcome_text UnsupportedMicAlgorithms = codes "failed/failure: unsupported MIC-algorithms"
 outcome_text Processed = codes "processed"
+
+-- ---- the outcome of a document, the first line that fits
+
+-- a digest is required, and none that is listed is known
+abbrev pub requires_unknown_digest : Request → Bool
+requires_unknown_digest request = request.digests_required && is_none (first_of request.digests)
+
+-- the outcome of a content that is neither enveloped nor compressed nor signed
+abbrev pub outcome_of_plain : Bool → Request → Outcome
+outcome_of_plain encoding_refused request =
+    if encoding_refused || request.other_required then UnsupportedFormat
+    else if requires_unknown_digest request then UnsupportedMicAlgorithms
+    else Processed
+
+-- the outcome of a content of that kind, whose encoding is refused or not
+abbrev pub outcome_of : Kind → Bool → Request → Outcome
+outcome_of Enveloped encoding_refused request = DecryptionFailed
+outcome_of Compressed encoding_refused request = DecompressionFailed
+outcome_of Signed encoding_refused request = AuthenticationFailed
+outcome_of kind encoding_refused request = outcome_of_plain encoding_refused request
+
+-- ---- the MIC of a document
+
+-- the digest, or else SHA-1
+abbrev pub or_sha1 : Option Alg → Alg
+or_sha1 (Some digest) = digest
+or_sha1 None = Sha1
+
+-- the MIC of a content under that digest
+abbrev pub mic_under : Alg → List ℕ → ReportMic
+mic_under digest content = record { digest = digest; text = mic digest content }
+
+-- a processed document has a MIC, under the first digest that is listed and known
+abbrev pub report_mic : Outcome → Request → List ℕ → Option ReportMic
+report_mic Processed request content = Some (mic_under (or_sha1 (first_of request.digests)) content)
+report_mic outcome request content = None

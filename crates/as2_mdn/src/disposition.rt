@@ -1,11 +1,10 @@
 ghost use Rattle.std.specs.Prelude.{◌≡◌, ℕ, List, Ok, IfOk, option_map};
 ghost use Rattle.std.specs.Str.{str_eq_ignore_ascii_case};
 ghost use Rattle.as2_names.specs.Ascii.{slash};
-ghost use Rattle.as2_mdn.specs.Cuts.{cut_of};
+ghost use Rattle.as2_names.specs.Cuts.{cut_at};
 ghost use Rattle.as2_mdn.specs.Dispositions.{IsDisposition, reading, type_and_modifier, given_modifier, has_modifier, has_error, begins_with, is_processed, is_action_mode, is_sending_mode, is_word};
 
-use crate::cut::cut_at;
-use as2_names::without_blanks_and_line_ends;
+use as2_names::{cut_at, without_blanks_and_line_ends};
 use std::marker::Model;
 
 /// Why a value has no disposition: the first fault in this order.
@@ -67,7 +66,7 @@ fn is_sending_mode(text: &[u8]) -> bool
 
 /// The type and the modifier of the text behind the `;`.
 fn type_and_modifier(text: &[u8]) -> Disposition<'_>
-    ensures { result ≡ type_and_modifier text.now (cut_of slash text.now) }
+    ensures { result ≡ type_and_modifier text.now (cut_at slash text.now) }
 {
     match cut_at(text, b'/') {
         Some((before, behind)) => Disposition {

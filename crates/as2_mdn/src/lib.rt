@@ -2,19 +2,20 @@
 //! was sent (RFC 8098, RFC 4130 section 7).
 #![tactic(auto)]
 
-mod cut;
 mod detail;
 mod disposition;
 mod outcome;
 mod receipt;
 mod report;
+mod report_reader;
 mod verdicts;
 
 pub use detail::{Detail, State};
 pub use disposition::{Disposition, DispositionFault};
-pub use outcome::Outcome;
+pub use outcome::{Outcome, outcome_of};
 pub use receipt::{MicPart, Receipt};
-pub use report::{ReportMic, ReportOut, write_head_fields, write_report};
+pub use report::{ReportMic, ReportOut, report_mic, write_head_fields, write_report};
+pub use report_reader::{ReportFault, read_report};
 pub use verdicts::{verdict, verdict_pieces};
 
 #[cfg(test)]

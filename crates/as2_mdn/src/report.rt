@@ -1,11 +1,13 @@
 //! The report that answers a document: its body and its head fields.
 ghost use Rattle.std.specs.Prelude.{◌≡◌, ◌++◌, IfOk, OnOk, OnErr, codes};
 ghost use Rattle.as2_names.specs.Names.{spelling};
+ghost use Rattle.as2_text.specs.ReceiptRequests.{request_of};
+ghost use Rattle.as2_mdn.specs.Outcomes.{report_mic};
 ghost use Rattle.as2_mdn.specs.Reports.{as2_fields_text, boundary_text, content_type_text, explanation_text, head_fields_of, line, mic_line, mic_text, notification_text, report_id_text, report_text};
 
 use crate::outcome::Outcome;
-use as2_mic::{Alg, MicText};
-use as2_text::{AsName, Domain, Memory, MessageId};
+use as2_mic::{Alg, MicText, mic_of};
+use as2_text::{AsName, Domain, Memory, MessageId, ReceiptAsk};
 use itoa::Buffer;
 use std::alloc::{AllocError, Global};
 
@@ -16,6 +18,24 @@ pub struct ReportMic {
     pub digest: Alg,
     /// The base64 text of the digest's value (RFC 4130, section 7.3.1).
     pub text: MicText,
+}
+
+/// The MIC of a content that has that outcome: under the first known digest of those that are asked for, or else under
+/// SHA-1. Only a processed document has one.
+pub fn report_mic(outcome: Outcome, ask: &ReceiptAsk<'_>, content: &[u8]) -> Option<ReportMic>
+    ensures { result ≡ report_mic outcome (request_of ask.now) content.now }
+{
+    if outcome != Outcome::Processed {
+        return None;
+    }
+    let digest = match Alg::first_of(ask.digests) {
+        Some(digest) => digest,
+        None => Alg::Sha1,
+    };
+    Some(ReportMic {
+        digest,
+        text: mic_of(digest, content),
+    })
 }
 
 /// What a report tells of the document that it answers (RFC 8098, section 3.2).

@@ -1,7 +1,8 @@
 -- Message identifiers (RFC 4130, section 5.3.3): which texts are one, the value that two of them are compared by, and
 -- the first fault of a text that is none.
-use Rattle.std.specs.Prelude.{◌≡◌, ℕ, ◌-◌, ◌<◌, ◌≤◌, ◌⊎◌, Bool, ◌&&◌, ◌==◌, nat_lt, nat_le, List, length, slice_index, slice_range, if◌then◌else◌, IsTrue, IsOk, Result, Ok, Err}
+use Rattle.std.specs.Prelude.{◌≡◌, ℕ, ◌-◌, ◌<◌, ◌≤◌, ◌⊎◌, Bool, ◌&&◌, not, ◌==◌, nat_lt, nat_le, List, length, slice_index, slice_range, if◌then◌else◌, IsTrue, IsOk, Result, Ok, Err}
 use Rattle.std.specs.List.{list_all}
+use Rattle.std.specs.Str.{bytes_eq}
 use Rattle.as2_names.specs.Ascii.{open_angle, close_angle, is_printable}
 use Rattle.as2_names.specs.Blanks.{without_blanks}
 use Rattle.as2_names.specs.declared.identifier.IdFault.{IdFault}
@@ -24,6 +25,14 @@ pub record IsIdentifier (text : List ℕ) : Type 0 where
   pub printable : IsTrue (list_all is_printable text)
   pub some : 0 < length (value_of text)
   pub short : length (value_of text) ≤ 998
+
+-- the text is one
+abbrev pub is_identifier : List ℕ → Bool
+is_identifier text =
+    bytes_eq (without_blanks text) text
+    && not (length (value_of text) == 0)
+    && nat_le (length (value_of text)) 998
+    && list_all is_printable text
 
 -- ---- the first fault
 

@@ -1,6 +1,6 @@
 ghost use Rattle.std.specs.Prelude.{◌≡◌, ◌⊎◌, ◌↔◌, ℕ, List, IfOk, Ok, Err, IsTrue, string_bytes};
 ghost use Rattle.as2_names.specs.Blanks.{without_blanks};
-ghost use Rattle.as2_names.specs.Identifiers.{IsIdentifier, OrMemory, identified, reading, value_of};
+ghost use Rattle.as2_names.specs.Identifiers.{IsIdentifier, OrMemory, identified, is_identifier, reading, value_of};
 ghost use Rattle.as2_names.specs.declared.identifier.IdFault.TheVariants.{Memory};
 
 use crate::ascii::all_printable;
@@ -53,6 +53,15 @@ pub fn without_brackets(text: &[u8]) -> &[u8]
         [b'<', value @ .., b'>'] => value,
         _ => text,
     }
+}
+
+/// Whether the text is an identifier, without blanks at its ends. It takes no memory.
+pub fn is_identifier(text: &[u8]) -> bool
+    ensures is { IsTrue result ↔ IsIdentifier text.now }
+    ensures exact { result ≡ is_identifier text.now }
+{
+    let value = without_brackets(text);
+    without_blanks(text) == text && !value.is_empty() && value.len() <= 998 && all_printable(text)
 }
 
 /// Keeps an identifier.

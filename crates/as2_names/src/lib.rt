@@ -18,7 +18,7 @@ pub use blanks::{is_blank, without_blanks};
 pub use cut::cut_at;
 pub use domain::{Domain, is_domain};
 pub use head::{Head, HeadFault, Once};
-pub use identifier::{IdFault, MessageId, without_brackets};
+pub use identifier::{IdFault, MessageId, is_identifier, without_brackets};
 pub use memory::Memory;
 pub use moment::Moment;
 pub use name::{AsName, NameFault};

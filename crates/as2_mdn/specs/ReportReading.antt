@@ -1,0 +1,208 @@
+-- The report that is read: a multipart/report (RFC 6522, section 3) whose second part is a message disposition
+-- notification (RFC 8098, section 3) with the fields of AS2 (RFC 4130, section 7.4), and the first fault of a body that is
+-- none.
+use Rattle.std.specs.Prelude.{◌≡◌, ℕ, ◌⊎◌, Bool, true, false, ◌||◌, not, ◌==◌, List, [], ◌∷◌, length, map, if◌then◌else◌, IsTrue, Option, Some, None, Result, Ok, Err, codes}
+use Rattle.std.specs.Str.{str_eq_ignore_ascii_case}
+use Rattle.as2_names.specs.Ascii.{comma}
+use Rattle.as2_names.specs.Cuts.{cut_at}
+use Rattle.as2_names.specs.Trim.{trimmed}
+use Rattle.as2_names.specs.Identifiers.{IsIdentifier, is_identifier}
+use Rattle.as2_media.specs.declared.fault.TypeFault.{TypeFault}
+use Rattle.as2_media.specs.declared.kind.Kind.{Kind}
+use Rattle.as2_media.specs.declared.kind.Kind.TheVariants as kind
+use Rattle.as2_media.specs.MediaTypes.{Media, IsMediaType, media_is_type}
+use Rattle.as2_media.specs.MediaTypes as media_types
+use Rattle.as2_media.specs.Kinds.{kind_of, boundary_of}
+use Rattle.as2_parts.specs.declared.parts.PartFault.{PartFault}
+use Rattle.as2_parts.specs.Fields.{FieldText, HasFields, fields, named}
+use Rattle.as2_parts.specs.Parts.{PartText, IsTwoParts}
+use Rattle.as2_parts.specs.Parts as parts
+use Rattle.as2_mic.specs.Field.{IsMicField}
+use Rattle.as2_mdn.specs.Dispositions.{IsDisposition}
+use Rattle.as2_mdn.specs.Dispositions as dispositions
+use Rattle.as2_mdn.specs.declared.disposition.DispositionFault.{DispositionFault}
+use Rattle.as2_mdn.specs.Receipts.{ReceiptRead, Mic, Missing, Unreadable, Given}
+use Rattle.as2_mdn.specs.declared.report_reader.Found.{Found}
+use Rattle.as2_mdn.specs.declared.report_reader.Found.TheVariants as found
+use Rattle.as2_mdn.specs.declared.report_reader.ReportFault.{ReportFault}
+use Rattle.as2_mdn.specs.declared.report_reader.ReportFault.TheVariants as fault
+
+-- the values of the fields of that name, whatever the case of its letters
+abbrev pub values : List ℕ → List FieldText → List (List ℕ)
+values name fields = map (λ (field : FieldText). field.1) (named name fields)
+
+-- ---- the head of the second part
+
+-- the media type is that of a notification
+abbrev pub is_notification : Media → Bool
+is_notification media = media_is_type (codes "message") (codes "disposition-notification") media
+
+-- the encoding leaves the content as it is (RFC 2045, section 6.2)
+abbrev pub is_identity : List ℕ → Bool
+is_identity encoding =
+    str_eq_ignore_ascii_case encoding (codes "7bit")
+    || str_eq_ignore_ascii_case encoding (codes "8bit")
+    || str_eq_ignore_ascii_case encoding (codes "binary")
+
+-- the one value of `Content-Type` is a media type of a notification
+pub record IsTyped (texts : List (List ℕ)) : Type 0 where
+  pub text : List ℕ
+  pub media : Media
+  pub one : texts ≡ text ∷ []
+  pub is : IsMediaType text media
+  pub notification : IsTrue (is_notification media)
+
+-- nothing says how the content is encoded, or one value that leaves it as it is
+abbrev pub IsUnencoded : List (List ℕ) → Type 0
+IsUnencoded texts = (texts ≡ []) ⊎ ((encoding : List ℕ) × (texts ≡ encoding ∷ []) × IsTrue (is_identity encoding))
+
+-- the head of a notification
+pub record IsNotificationHead (head : List ℕ) : Type 0 where
+  pub head_fields : List FieldText
+  pub whole : HasFields head head_fields
+  pub typed : IsTyped (values (codes "content-type") head_fields)
+  pub unencoded : IsUnencoded (values (codes "content-transfer-encoding") head_fields)
+
+-- ---- the content of the second part
+
+-- the MIC that is given: none where no field is, and one where the one field is one; anything else can't be read
+abbrev pub IsMic : List (List ℕ) → Mic → Type 0
+IsMic [] mic = mic ≡ Missing
+IsMic (text ∷ []) mic =
+    ((field : List ℕ × List ℕ) × IsMicField text field × (mic ≡ Given field))
+    ⊎ (((field : List ℕ × List ℕ) → ¬ IsMicField text field) × (mic ≡ Unreadable))
+IsMic (first ∷ second ∷ others) mic = mic ≡ Unreadable
+
+-- the content tells the receipt
+pub record IsNotification (content : List ℕ) (receipt : ReceiptRead) : Type 0 where
+  pub content_fields : List FieldText
+  pub whole : HasFields content content_fields
+  pub one_id : values (codes "original-message-id") content_fields ≡ receipt.original_id ∷ []
+  pub is_id : IsIdentifier receipt.original_id
+  pub disposition_text : List ℕ
+  pub one_disposition : values (codes "disposition") content_fields ≡ disposition_text ∷ []
+  pub is_disposition : IsDisposition disposition_text receipt.disposition
+  pub is_mic : IsMic (values (codes "received-content-mic") content_fields) receipt.mic
+
+-- ---- the report
+
+-- The body, of that media type, is a report that tells the receipt: of its two parts the second is a notification. The
+-- first, which people read, is whatever it is.
+pub record IsReport (media : Media) (body : List ℕ) (receipt : ReceiptRead) : Type 0 where
+  pub boundary : List ℕ
+  pub first : PartText
+  pub second : PartText
+  pub kind_is : kind_of media ≡ kind.Report
+  pub given : boundary_of media ≡ Some boundary
+  pub two : IsTwoParts boundary body first second
+  pub head : IsNotificationHead second.0
+  pub content : IsNotification second.1 receipt
+
+-- ---- the fields of a name
+
+-- there are no values, or one, or more of them
+pub data Once : Type 0 where
+  Absent : Once
+  One : (text : List ℕ) → Once
+  Twice : Once
+
+abbrev pub once : List (List ℕ) → Once
+once [] = Absent
+once (text ∷ []) = One text
+once (first ∷ second ∷ others) = Twice
+
+-- the fields of that name in a text
+abbrev pub once_in : List ℕ → List ℕ → Once
+once_in text name = once (values name (fields text))
+
+-- what the code hands out
+abbrev pub once_of : Found → Once
+once_of found.Absent = Absent
+once_of (found.One text) = One text.now
+once_of found.Twice = Twice
+
+-- ---- the first fault
+
+-- the field of a MIC that a value has, if it has one
+abbrev pub with_both : List ℕ → List ℕ → Option (List ℕ × List ℕ)
+with_both mic digest = if length mic == 0 || length digest == 0 then None else Some (mic, digest)
+
+abbrev pub mic_cut : Option (List ℕ × List ℕ) → Option (List ℕ × List ℕ)
+mic_cut None = None
+mic_cut (Some cut) = with_both (trimmed cut.0) (trimmed cut.1)
+
+abbrev pub mic_field : List ℕ → Option (List ℕ × List ℕ)
+mic_field text = mic_cut (cut_at comma text)
+
+abbrev pub read_mic : Option (List ℕ × List ℕ) → Mic
+read_mic None = Unreadable
+read_mic (Some field) = Given field
+
+-- the MIC that a field gives
+abbrev pub mic_once : Once → Mic
+mic_once Absent = Missing
+mic_once (One text) = read_mic (mic_field text)
+mic_once Twice = Unreadable
+
+-- the receipt of that identifier and that MIC, where the disposition can be read
+abbrev pub with_disposition : List ℕ → Mic → Result (List ℕ × List ℕ) DispositionFault → Result ReceiptRead ReportFault
+with_disposition id mic (Err e) = Err fault.BadDisposition
+with_disposition id mic (Ok disposition) = Ok (record { original_id = id; disposition = disposition; mic = mic })
+
+abbrev pub disposed : List ℕ → Mic → Once → Result ReceiptRead ReportFault
+disposed id mic (One text) = with_disposition id mic (dispositions.reading text)
+disposed id mic other = Err fault.NoDisposition
+
+abbrev pub identified : Mic → Once → Once → Result ReceiptRead ReportFault
+identified mic (One id) disposition = if is_identifier id then disposed id mic disposition else Err fault.NoId
+identified mic other disposition = Err fault.NoId
+
+abbrev pub is_twice : Once → Bool
+is_twice Twice = true
+is_twice other = false
+
+-- the receipt that the content of a notification tells
+abbrev pub told : Once → Once → Mic → Result ReceiptRead ReportFault
+told id disposition mic = if is_twice id || is_twice disposition then Err fault.Twice else identified mic id disposition
+
+abbrev pub content_reading : List ℕ → Result ReceiptRead ReportFault
+content_reading content =
+    told (once_in content (codes "original-message-id")) (once_in content (codes "disposition"))
+    (mic_once (once_in content (codes "received-content-mic")))
+
+abbrev pub is_media_of_notification : Result Media TypeFault → Bool
+is_media_of_notification (Ok media) = is_notification media
+is_media_of_notification (Err e) = false
+
+abbrev pub is_type_of_notification : Once → Bool
+is_type_of_notification (One text) = is_media_of_notification (media_types.reading text)
+is_type_of_notification other = false
+
+abbrev pub leaves_content : Once → Bool
+leaves_content Absent = true
+leaves_content (One encoding) = is_identity encoding
+leaves_content Twice = false
+
+-- the receipt that a part tells
+abbrev pub part_reading : PartText → Result ReceiptRead ReportFault
+part_reading part =
+    if not (is_type_of_notification (once_in part.0 (codes "content-type"))) then Err fault.NotNotification
+    else if not (leaves_content (once_in part.0 (codes "content-transfer-encoding"))) then Err fault.Encoded
+    else content_reading part.1
+
+abbrev pub second_reading : Result (PartText × PartText) PartFault → Result ReceiptRead ReportFault
+second_reading (Err e) = Err fault.Parts
+second_reading (Ok both) = part_reading both.1
+
+-- the receipt of a body with that boundary
+abbrev pub body_reading : Option (List ℕ) → List ℕ → Result ReceiptRead ReportFault
+body_reading None body = Err fault.NotReport
+body_reading (Some boundary) body = second_reading (parts.reading boundary body)
+
+abbrev pub is_report : Kind → Bool
+is_report kind.Report = true
+is_report other = false
+
+-- the receipt that a body of that media type tells, or its first fault
+abbrev pub reading : Media → List ℕ → Result ReceiptRead ReportFault
+reading media body = if is_report (kind_of media) then body_reading (boundary_of media) body else Err fault.NotReport
