@@ -1,17 +1,14 @@
 -- What each act leaves of an entry is an entry.
-use Rattle.std.proofs.Common.{◌≡◌, ℕ, ◌+◌, Bool, true, false, not, ◌||◌, List, Option, Some, None, refl, sym, ap, ◌∙◌, subst}
-use Rattle.std.specs.Prelude.{option_map, option_and_then, is_some, if◌then◌else◌, nat_le, nat_lt}
-use Rattle.std.specs.Option.{option_map_or}
+use Rattle.std.proofs.Common.{◌≡◌, ℕ, Bool, true, false, not, ◌||◌, Option, Some, None, refl, sym, ap, subst}
+use Rattle.std.specs.Prelude.{option_and_then, if◌then◌else◌, nat_le}
 use Rattle.std.proofs.lemmas.Option.{same_Some}
-use Rattle.std.proofs.lemmas.Bool.{false≢true}
-use Rattle.as2_mic.specs.declared.field.Compared.{Compared}
 use Rattle.as2_mdn.specs.Dispositions.{is_processed, has_modifier, has_error}
-use Rattle.as2_mdn.specs.Verdicts.{judged, differs, is_missing, is_unknown, mic_compared}
-use Rattle.as2_exchange.specs.Agreement.{Text, Agreements, Partner, Asked, NoReceipt, Sync, Async, is_organization, partner_of}
+use Rattle.as2_mdn.specs.Verdicts.{differs, is_missing, is_unknown, mic_compared}
+use Rattle.as2_exchange.specs.Agreement.{Text, Agreements, Partner, Asked, NoReceipt, Sync, Async}
 use Rattle.as2_exchange.specs.Detail.{Detail, New, Sending, Awaiting, Retry, Processed, NoReceiptAsked, Warning, NoMic, UnknownMic, NotProcessed, ErrorModifier, MicDiffers, TriesUsed, Overdue, Attempt, Idle, Running, Last, Used}
 use Rattle.as2_exchange.specs.Readings.{Receipt, verdict}
-use Rattle.as2_exchange.specs.State.{OutEntry, State, is_settled}
-use Rattle.as2_exchange.specs.Step.{Answer, Came, TryAnswer, settled, passes, passed, passes_into, is_due, begun, waits, is_early, closed, closed_by, if_for, came_back, is_idle, is_last, is_delivery, delivered, failed, Refused, AllSettled, TriesUsedUp, NotDue, NoOpenTry, AlreadySettled, Job, TryFailed}
+use Rattle.as2_exchange.specs.State.{OutEntry, is_settled}
+use Rattle.as2_exchange.specs.Step.{Answer, Came, TryAnswer, settled, passes, passed, passes_into, is_due, begun, waits, is_early, closed, closed_by, if_for, came_back, is_idle, is_last, is_delivery, delivered, failed, Refused, AllSettled, TriesUsedUp, NotDue, NoOpenTry, AlreadySettled}
 use Rattle.as2_exchange.specs.Invariants.{is_by_receipt, IsEntry}
 use Rattle.as2_exchange.proofs.Documents.{settled_names, passed_names, begun_names, closed_names, agreed_either, if_either, changed, changed_names}
 use Rattle.as2_exchange.proofs.WellFormed.{unsettled_entry, KeepsEntries}

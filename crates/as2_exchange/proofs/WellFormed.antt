@@ -1,18 +1,15 @@
 -- In every state of a run, its invariants hold.
-use Rattle.std.proofs.Common.{◌≡◌, ℕ, ◌+◌, ◌<◌, ◌≤◌, ◌⊎◌, Bool, true, false, not, ◌&&◌, ◌||◌, List, [], ◌∷◌, ◌++◌, map, Option, Some, None, refl, sym, ap, ◌∙◌, subst, arith}
-use Rattle.std.specs.Prelude.{option_map, option_and_then, is_some, ◌==◌, if◌then◌else◌, nat_le, nat_lt, length, cond}
-use Rattle.std.specs.Option.{option_map_or}
+use Rattle.std.proofs.Common.{◌≡◌, ℕ, ◌+◌, ◌<◌, Bool, true, false, List, [], ◌∷◌, ◌++◌, map, None, refl, sym, ap, ◌∙◌, subst, arith}
+use Rattle.std.specs.Prelude.{◌==◌}
 use Rattle.std.specs.List.{AllByRecursion, IsDistinct, find}
 use Rattle.std.specs.Str.{bytes_eq}
-use Rattle.std.proofs.lemmas.Option.{same_Some}
-use Rattle.std.proofs.lemmas.Bool.{false≢true, cases_Bool}
+use Rattle.std.proofs.lemmas.Bool.{false≢true}
 use Rattle.std.proofs.lemmas.Bool.Decides.{nat_tests}
 use Rattle.std.proofs.lemmas.Slice.Eq.{bytes_eq-Decides}
-use Rattle.as2_exchange.specs.Agreement.{Text, Agreements, Partner, Asked, NoReceipt, Sync, Async, is_organization, partner_of}
-use Rattle.as2_exchange.specs.Readings.{Receipt, Head, MediaType, ReceiptAsk, is_processed, out_id, verdict}
-use Rattle.as2_exchange.specs.State.{Posted, InEntry, OutEntry, Evidence, State, empty, end_of_numbers, document, document_named, received, received_as, same_key, change_document, change_received, is_settled}
-use Rattle.as2_exchange.specs.Step.{Answer, Came, TryAnswer, evidence_of, settled, new_document}
-use Rattle.as2_exchange.specs.Invariants.{IsCounter, AreNumbers, IsRecorded, IsInbox, is_by_receipt, IsEntry, IsOutbox, IsWellFormed}
+use Rattle.as2_exchange.specs.Agreement.{Agreements}
+use Rattle.as2_exchange.specs.Readings.{out_id}
+use Rattle.as2_exchange.specs.State.{Posted, InEntry, OutEntry, end_of_numbers, same_key, is_settled}
+use Rattle.as2_exchange.specs.Invariants.{IsCounter, AreNumbers, IsRecorded, IsInbox, is_by_receipt, IsEntry, IsOutbox}
 use Rattle.as2_exchange.proofs.Identifiers.{out_id-injective}
 use Rattle.as2_exchange.proofs.Documents.{KeepsNames}
 use Rattle.as2_exchange.proofs.Lists.{all_push, all_weaken, all_map, distinct_push, map_last, map_kept, none_found}
