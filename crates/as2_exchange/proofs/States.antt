@@ -1,0 +1,169 @@
+-- Each step, and so each run, leads from a well formed state to a well formed one.
+use Rattle.std.proofs.Common.{◌≡◌, ℕ, ◌+◌, ◌<◌, Bool, true, false, not, [], ◌∷◌, ◌++◌, Option, Some, None, refl, sym, ap, ◌∙◌, subst}
+use Rattle.std.specs.Prelude.{⊤, is_some, ◌==◌, if◌then◌else◌, nat_le, nat_lt, length, ◌&&◌}
+use Rattle.std.specs.List.{IsDistinct}
+use Rattle.std.proofs.lemmas.Option.{same_Some}
+use Rattle.as2_exchange.specs.Agreement.{Text, Agreements, is_organization, partner_of}
+use Rattle.as2_exchange.specs.Readings.{Head, MediaType, ReceiptAsk, Outcome as WhatBecame, Processed, DecryptionFailed, DecompressionFailed, AuthenticationFailed, UnsupportedFormat, UnsupportedMicAlgorithms, is_processed, mic_for, is_report, names_of, version_fits, type_of, id_of, ask_of, report_in, named_by}
+use Rattle.as2_exchange.specs.State.{Posted, InEntry, OutEntry, State, empty, end_of_numbers, document, document_named, received, received_as, change_document, change_received, lasting, is_settled}
+use Rattle.as2_exchange.specs.Step.{Event, Post, Submit, Begin, Outcome, BeginMdn, OutcomeMdn, Tick, Answer, Refused, Submitted, UnknownOrganization, UnknownPartner, TooLarge, Came, Reading, Refuses, IsReceipt, IsDocument, Line, BadNames, BadVersion, UnknownNames, BadType, UnreadableReceipt, BadId, BadAsk, needs, report_posted, document_posted, reading, post, step, settle, settle_for, settled, submit, new_document, begun, closed, tick, record_post, first_entry, queued_again, mdn_begun, mdn_closed, acted, acted_in}
+use Rattle.as2_exchange.specs.Run.{Trace, Run, Answered, Failed}
+use Rattle.as2_exchange.specs.Invariants.{IsCounter, IsRecorded, IsWellFormed}
+use Rattle.as2_exchange.proofs.Documents.{if_either}
+use Rattle.as2_exchange.proofs.Keeping.{is_left}
+use Rattle.as2_exchange.proofs.Repeats.{Left, fresh, repeated, clash, left_is, queued_lasting, mdn_begun_lasting, mdn_closed_lasting}
+use Rattle.as2_exchange.proofs.WellFormed.{inbox_push, inbox_map, KeepsLasting, outbox_push, outbox_map, KeepsEntries, unsettled_entry}
+use Rattle.as2_exchange.proofs.Standing.{settled_keeps, changed_keeps, passed_keeps, begun_keeps, closed_keeps}
+
+-- ---- a posted document has digest and MIC exactly where it is processed
+
+mic_there : (o : WhatBecame) (ask : ReceiptAsk) (content : Text) → is_some (mic_for o ask content) ≡ is_processed o
+unfolding mic_for
+mic_there Processed ask content = refl
+mic_there DecryptionFailed ask content = refl
+mic_there DecompressionFailed ask content = refl
+mic_there AuthenticationFailed ask content = refl
+mic_there UnsupportedFormat ask content = refl
+mic_there UnsupportedMicAlgorithms ask content = refl
+
+-- what a post is read as
+IsGood : Reading → Type 0
+IsGood (Refuses status line) = ⊤
+IsGood (IsReceipt r) = ⊤
+IsGood (IsDocument p) = IsRecorded p
+
+needs_good : {X : Type 0} (o : Option X) (status : ℕ) (line : Line) (rest : X → Reading) → ((x : X) → IsGood (rest x)) → IsGood (needs o status line rest)
+unfolding IsGood
+needs_good None status line rest h = tt
+needs_good (Some x) status line rest h = h x
+
+if_good : (b : Bool) (x y : Reading) → IsGood x → IsGood y → IsGood (if b then x else y)
+if_good true x y h g = h
+if_good false x y h g = g
+
+document_good : (names : Text × Text) (type : MediaType × Text) (head : Head) (body : Text) → IsGood (document_posted names type head body)
+unfolding IsGood
+document_good names type head body =
+    needs_good (id_of head) 400 BadId _ (λ id. needs_good (ask_of head) 400 BadAsk _ (λ ask. mic_there _ ask body))
+
+report_good : (names : Text × Text) (type : MediaType × Text) (body : Text) → IsGood (report_posted names type body)
+unfolding IsGood
+report_good names type body = needs_good (report_in type.0 body) 400 UnreadableReceipt _ (λ r. tt)
+
+reading_good : (A : Agreements) (head : Head) (body : Text) → IsGood (reading A head body)
+unfolding reading IsGood
+reading_good A head body =
+    needs_good (names_of head) 400 BadNames _ (λ names.
+    if_good (not (version_fits head)) (Refuses 400 BadVersion) _ tt
+    (if_good (not (is_organization A names.1 && is_some (partner_of A names.0))) (Refuses 403 UnknownNames) _ tt
+    (needs_good (type_of head) 400 BadType _ (λ type.
+    if_good (is_report type.0) _ _ (report_good names type body) (document_good names type head body)))))
+
+document_recorded : (r : Reading) (p : Posted) → IsGood r → r ≡ IsDocument p → IsRecorded p
+unfolding IsGood
+document_recorded r p h is = subst IsGood is h
+
+-- ---- acts on the two boxes
+
+keeps_lasting : (f : InEntry → InEntry) → ((e : InEntry) → lasting (f e) ≡ lasting e) → KeepsLasting f
+keeps_lasting f kept = record { number = λ e. ap (λ (x : ℕ × Posted). x.0) (kept e); posted = λ e. ap (λ (x : ℕ × Posted). x.1) (kept e) }
+
+changed_lasting : (n : ℕ) (f : InEntry → InEntry) → ((e : InEntry) → lasting (f e) ≡ lasting e) → (e : InEntry) → lasting (if e.number == n then f e else e) ≡ lasting e
+changed_lasting n f kept e = by (e.number == n)
+  where
+    by : (b : Bool) → lasting (if b then f e else e) ≡ lasting e
+    by true = kept e
+    by false = refl
+
+received_formed : (A : Agreements) (s : State) (n : ℕ) (f : InEntry → InEntry) → ((e : InEntry) → lasting (f e) ≡ lasting e) → IsWellFormed A s → IsWellFormed A (change_received s n f)
+received_formed A s n f kept h = record { received = inbox_map s.next_in s.inbox (λ e. if e.number == n then f e else e) (keeps_lasting _ (changed_lasting n f kept)) h.received; sent = h.sent }
+
+document_formed : (A : Agreements) (s : State) (n : ℕ) (f : OutEntry → OutEntry) → KeepsEntries f → IsWellFormed A s → IsWellFormed A (change_document s n f)
+document_formed A s n f kept h = record { received = h.received; sent = outbox_map A s.next_out s.outbox _ (changed_keeps n f kept) h.sent }
+
+acted_formed : (A : Agreements) (s : State) (n : ℕ) (act : OutEntry → Answer × OutEntry) (o : Option OutEntry) → KeepsEntries (λ d. (act d).1) → IsWellFormed A s → IsWellFormed A (acted s n act o).1
+acted_formed A s n act None kept h = h
+acted_formed A s n act (Some d) kept h = document_formed A s n (λ d. (act d).1) kept h
+
+acted_in_formed : (A : Agreements) (s : State) (n : ℕ) (act : InEntry → Answer × InEntry) (o : Option InEntry) → ((e : InEntry) → lasting (act e).1 ≡ lasting e) → IsWellFormed A s → IsWellFormed A (acted_in s n act o).1
+acted_in_formed A s n act None kept h = h
+acted_in_formed A s n act (Some e) kept h = received_formed A s n (λ x. (act x).1) kept h
+
+tick_formed : (A : Agreements) (m : ℕ) (s : State) → IsWellFormed A s → IsWellFormed A (tick m s).1
+unfolding tick
+tick_formed A m s h = record { received = h.received; sent = outbox_map A s.next_out s.outbox _ (passed_keeps m) h.sent }
+
+settle_for_formed : (A : Agreements) (s : State) (m : ℕ) (r : Came) (o : Option OutEntry) → IsWellFormed A s → IsWellFormed A (settle_for s m r o).1
+settle_for_formed A s m r None h = h
+settle_for_formed A s m r (Some d) h = if_either (IsWellFormed A) _ _ _ h (by (is_settled d))
+  where
+    by : (b : Bool) → IsWellFormed A (if b then s else change_document s d.number (settled m r))
+    by true = h
+    by false = document_formed A s d.number (settled m r) (settled_keeps m r) h
+
+settle_formed : (A : Agreements) (s : State) (m : ℕ) (r : Came) → IsWellFormed A s → IsWellFormed A (settle s m r).1
+unfolding settle
+settle_formed A s m r h = settle_for_formed A s m r (document_named s (named_by r.receipt)) h
+
+-- ---- what is taken in
+
+taken_formed : (A : Agreements) (s : State) (organization partner content : Text) (m : ℕ) → s.next_out < end_of_numbers → IsWellFormed A s → IsWellFormed A (record s { outbox = s.outbox ++ new_document A s.next_out organization partner content m ∷ []; next_out = s.next_out + 1 })
+taken_formed A s organization partner content m small h = record {
+  received = h.received;
+  sent = outbox_push A s.next_out s.outbox (new_document A s.next_out organization partner content m) small refl refl (unsettled_entry _ refl refl) h.sent;
+}
+
+submit_formed : (A : Agreements) (s : State) (organization partner content : Text) (m : ℕ) (y : Answer × State) → IsWellFormed A s → submit A s organization partner content m ≡ Some y → IsWellFormed A y.1
+unfolding submit
+submit_formed A s organization partner content m y h e =
+    by (not (is_organization A organization)) (not (is_some (partner_of A partner))) (nat_lt 1048576 (length content)) (nat_le end_of_numbers s.next_out) refl e
+  where
+    by : (b1 b2 b3 b4 : Bool) → nat_le end_of_numbers s.next_out ≡ b4 → (if b1 then Some (Refused UnknownOrganization, s) else if b2 then Some (Refused UnknownPartner, s) else if b3 then Some (Refused TooLarge, s) else if b4 then None else Some (Submitted s.next_out, record s { outbox = s.outbox ++ new_document A s.next_out organization partner content m ∷ []; next_out = s.next_out + 1 })) ≡ Some y → IsWellFormed A y.1
+    by true b2 b3 b4 left g = subst (λ (z : Answer × State). IsWellFormed A z.1) (same_Some _ y g) h
+    by false true b3 b4 left g = subst (λ (z : Answer × State). IsWellFormed A z.1) (same_Some _ y g) h
+    by false false true b4 left g = subst (λ (z : Answer × State). IsWellFormed A z.1) (same_Some _ y g) h
+    by false false false true left g = absurd (cc)
+    by false false false false left g = subst (λ (z : Answer × State). IsWellFormed A z.1) (same_Some _ y g) (taken_formed A s organization partner content m (is_left s.next_out left) h)
+
+first_formed : (A : Agreements) (s : State) (m : ℕ) (p : Posted) → s.next_in < end_of_numbers → IsRecorded p → received_as s p ≡ None → IsWellFormed A s → IsWellFormed A (record s { inbox = s.inbox ++ first_entry s.next_in m p ∷ []; next_in = s.next_in + 1 })
+first_formed A s m p small good new h = record { received = inbox_push s.next_in s.inbox (first_entry s.next_in m p) small refl good new h.received; sent = h.sent }
+
+left_formed : (A : Agreements) (s : State) (m : ℕ) (p : Posted) (o : Option InEntry) (y : Answer × State) → received_as s p ≡ o → IsRecorded p → IsWellFormed A s → Left A s m p o y → IsWellFormed A y.1
+left_formed A s m p o y at good h (fresh none small is) = subst (λ (z : Answer × State). IsWellFormed A z.1) (sym is) (first_formed A s m p small good (at ∙ none) h)
+left_formed A s m p o y at good h (repeated e there same is) = subst (λ (z : Answer × State). IsWellFormed A z.1) (sym is) (received_formed A s e.number (queued_again m) (queued_lasting m) h)
+left_formed A s m p o y at good h (clash e there other is) = subst (IsWellFormed A) (sym is) h
+
+record_formed : (A : Agreements) (s : State) (m : ℕ) (p : Posted) (y : Answer × State) → IsRecorded p → IsWellFormed A s → record_post A s m p ≡ Some y → IsWellFormed A y.1
+unfolding record_post
+record_formed A s m p y good h e = left_formed A s m p (received_as s p) y refl good h (left_is A s m p (received_as s p) y e)
+
+post_formed : (A : Agreements) (s : State) (m : ℕ) (r : Reading) (y : Answer × State) → IsGood r → IsWellFormed A s → post A s m r ≡ Some y → IsWellFormed A y.1
+post_formed A s m (Refuses status line) y good h e = subst (λ (z : Answer × State). IsWellFormed A z.1) (same_Some _ y e) h
+post_formed A s m (IsReceipt r) y good h e = subst (λ (z : Answer × State). IsWellFormed A z.1) (same_Some _ y e) (settle_formed A s m r h)
+post_formed A s m (IsDocument p) y good h e = record_formed A s m p y (document_recorded (IsDocument p) p good refl) h e
+
+-- ---- a step and a run
+
+step_formed : (A : Agreements) (s : State) (e : Event) (y : Answer × State) → IsWellFormed A s → step A s e ≡ Some y → IsWellFormed A y.1
+step_formed A s (Post head body m) y h is = post_formed A s m (reading A head body) y (reading_good A head body) h is
+step_formed A s (Submit organization partner content m) y h is = submit_formed A s organization partner content m y h is
+step_formed A s (Begin n m) y h is = subst (λ (z : Answer × State). IsWellFormed A z.1) (same_Some _ y is) (acted_formed A s n (begun A m) (document s n) (begun_keeps A m) h)
+step_formed A s (Outcome n got m) y h is = subst (λ (z : Answer × State). IsWellFormed A z.1) (same_Some _ y is) (acted_formed A s n (closed A got m) (document s n) (closed_keeps A got m) h)
+step_formed A s (BeginMdn n m) y h is = subst (λ (z : Answer × State). IsWellFormed A z.1) (same_Some _ y is) (acted_in_formed A s n (mdn_begun A m) (received s n) (mdn_begun_lasting A m) h)
+step_formed A s (OutcomeMdn n got m) y h is = subst (λ (z : Answer × State). IsWellFormed A z.1) (same_Some _ y is) (acted_in_formed A s n (mdn_closed A got m) (received s n) (mdn_closed_lasting A got m) h)
+step_formed A s (Tick m) y h is = subst (λ (z : Answer × State). IsWellFormed A z.1) (same_Some _ y is) (tick_formed A m s h)
+
+empty_formed : (A : Agreements) (first : ℕ) → IsCounter first → IsWellFormed A (empty first)
+unfolding IsDistinct
+empty_formed A first h = record {
+  received = record { counter = h; numbers = record { below = tt; distinct = tt }; keys = tt; recorded = tt };
+  sent = record { counter = h; numbers = record { below = tt; distinct = tt }; named = tt; identifiers = tt; entries = tt };
+}
+
+run_formed : (A : Agreements) (old : State) (trace : Trace) (new : State) → IsWellFormed A old → Run A old trace new → IsWellFormed A new
+run_formed A old [] new h run = subst (IsWellFormed A) (sym run) h
+run_formed A old ((e, Answered a) ∷ rest) new h run = run_formed A run.0 rest new (step_formed A old e (a, run.0) h run.1) run.2
+run_formed A old ((e, Failed fault) ∷ rest) new h run = run_formed A old rest new h run.1
+
+pub formed : (A : Agreements) (first : ℕ) (trace : Trace) (s : State) → IsCounter first → Run A (empty first) trace s → IsWellFormed A s
+formed A first trace s h run = run_formed A (empty first) trace s (empty_formed A first h) run

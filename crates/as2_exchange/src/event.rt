@@ -1,0 +1,80 @@
+use as2_mic::Pieces;
+use as2_names::{AsName, Head, Moment};
+
+/// What came of a try to send.
+#[derive(Drop)]
+pub enum TryAnswer {
+    /// No whole answer.
+    NoAnswer,
+    /// An HTTP answer.
+    Reply {
+        /// Its status.
+        status: u16,
+        /// Its head fields.
+        head: Head,
+        /// Its body.
+        body: Pieces,
+    },
+}
+
+/// What happens to the station.
+#[derive(Drop)]
+pub enum Event {
+    /// A message is posted: a document, or a receipt.
+    Post {
+        /// Its head fields.
+        head: Head,
+        /// Its body.
+        body: Pieces,
+        /// When.
+        moment: Moment,
+    },
+    /// A document is handed in for a partner.
+    Submit {
+        /// The organization that sends it.
+        organization: AsName,
+        /// The partner that it is for.
+        partner: AsName,
+        /// Its bytes.
+        content: Pieces,
+        /// When.
+        moment: Moment,
+    },
+    /// A try to send a document begins.
+    Begin {
+        /// The document's number.
+        number: u64,
+        /// When.
+        moment: Moment,
+    },
+    /// A try to send a document has ended.
+    Outcome {
+        /// The document's number.
+        number: u64,
+        /// What came of it.
+        answer: TryAnswer,
+        /// When.
+        moment: Moment,
+    },
+    /// A try to send a receipt begins.
+    BeginMdn {
+        /// The receipt's number.
+        number: u64,
+        /// When.
+        moment: Moment,
+    },
+    /// A try to send a receipt has ended.
+    OutcomeMdn {
+        /// The receipt's number.
+        number: u64,
+        /// What came of it.
+        answer: TryAnswer,
+        /// When.
+        moment: Moment,
+    },
+    /// Time has come to this moment.
+    Tick {
+        /// When.
+        moment: Moment,
+    },
+}

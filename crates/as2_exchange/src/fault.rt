@@ -1,0 +1,16 @@
+/// Why a store couldn't answer. A fault changes nothing.
+#[derive(Clone, Copy, Debug, PartialEq, Eq)]
+pub enum StoreFault {
+    /// There was no memory.
+    Memory,
+    /// The disk failed.
+    Disk,
+    /// The database refused, or holds a row that is no entry.
+    Refused,
+    /// The number that is needed is used up.
+    Full,
+    /// The database is no store of a station.
+    NotAStore,
+    /// The store is of another version.
+    OtherVersion,
+}

@@ -1,0 +1,44 @@
+use crate::attempt::Attempt;
+use crate::bytes::Bytes;
+use as2_mdn::Detail;
+use as2_mic::Pieces;
+use as2_names::{AsName, MessageId, Moment};
+
+/// The receipt that settled a document.
+#[derive(Drop)]
+pub struct Evidence {
+    /// When it came.
+    pub moment: Moment,
+    /// Its content type, as spelled.
+    pub content_type: Bytes,
+    /// The report.
+    pub body: Pieces,
+}
+
+/// An entry of the outbox: a document that is sent to a partner.
+#[derive(Drop)]
+pub struct OutEntry {
+    /// Its number: 1 to 999,999,999,999.
+    pub number: u64,
+    /// The organization that sends it.
+    pub organization: AsName,
+    /// The partner that it is sent to.
+    pub partner: AsName,
+    /// The value of its identifier, which is written between angle brackets.
+    pub id: MessageId,
+    /// Its bytes.
+    pub content: Pieces,
+    /// When it was submitted.
+    pub moment: Moment,
+    /// How often it was tried.
+    pub tries: u64,
+    /// Whether a try is open.
+    pub attempt: Attempt,
+    /// When the next try may begin, or what is waited for is overdue, in seconds since 1970; None where nothing is
+    /// waited for. It may pass the last moment.
+    pub due: Option<u64>,
+    /// How it stands.
+    pub detail: Detail,
+    /// The receipt that settled it, if one has.
+    pub evidence: Option<Evidence>,
+}
