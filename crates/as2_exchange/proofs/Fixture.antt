@@ -1,5 +1,5 @@
 -- The agreements and the texts of the worked rows, and what they are read as, computed from their bytes.
-use Rattle.std.proofs.Common.{◌≡◌, ℕ, true, List, [], ◌∷◌, ◌++◌, Option, Some, None, refl, ap, ◌∙◌}
+use Rattle.std.proofs.Common.{◌≡◌, [], ◌∷◌, ◌++◌, Some, refl, ap}
 use Rattle.std.specs.Prelude.{codes, length}
 use Rattle.sha1.proofs.StandardFacts.{digest_of_abc as sha1_of_abc}
 use Rattle.md5.proofs.StandardFacts.{digest_of_abc as md5_of_abc}
@@ -12,7 +12,7 @@ use Rattle.as2_mic.specs.Mic.{mic, encoded}
 use Rattle.as2_mdn.specs.Receipts.{Mic as MicRead, Given}
 use Rattle.as2_exchange.specs.Agreement.{Text, Agreements, Partner, Asked, NoReceipt, Sync, Async, Sha1, Md5}
 use Rattle.as2_exchange.specs.Detail.{Processed}
-use Rattle.as2_exchange.specs.Readings.{Head, Receipt, How, Sync as AtOnce, Async as Later, Processed as WasProcessed, names_of, version_fits, type_of, is_report, report_in, named_by, verdict, id_of, ask_of, how_of, outcome_of, encoding_refused, mic_for}
+use Rattle.as2_exchange.specs.Readings.{Head, Receipt, How, Sync as AtOnce, Async as Later, Processed as WasProcessed, names_of, version_fits, type_of, is_report, report_in, verdict, id_of, ask_of, how_of, outcome_of, encoding_refused, mic_for}
 use Rattle.as2_exchange.specs.State.{Posted}
 use Rattle.as2_exchange.specs.Step.{IsDocument, IsReceipt, Came, reading}
 
@@ -54,7 +54,7 @@ md5_mic = ap encoded md5_of_abc
 -- ---- a receipt as Buyer's station writes it
 
 -- the head of one from that partner
-pub receipt_head : Text → Head
+unfoldable pub receipt_head : Text → Head
 receipt_head from =
     (codes "as2-from", from)
     ∷ (codes "as2-to", codes "Supplier")
@@ -62,7 +62,7 @@ receipt_head from =
     ∷ []
 
 -- the body of one: the identifier that it names, its disposition, and its line of the MIC
-pub receipt_body : Text → Text → Text → Text
+unfoldable pub receipt_body : Text → Text → Text → Text
 receipt_body id disposition line =
     codes "--as2-mdn-7\r\nContent-Type: text/plain\r\n\r\nReceipt 7 for the message named below.\r\nOutcome: processed\r\n\r\n"
     ++ codes "--as2-mdn-7\r\nContent-Type: message/disposition-notification\r\n\r\nReporting-UA: as2-station\r\nFinal-Recipient: rfc822; Buyer\r\n"
@@ -75,7 +75,7 @@ abbrev pub md5_line : Text
 md5_line = codes "Received-content-MIC: kAFQmDzST7DWlj99KOF/cg==, md5\r\n"
 
 -- the receipt for document 1
-pub q : Text
+unfoldable pub q : Text
 q = receipt_body (codes "<out-1@station.example>") (codes "processed") md5_line
 
 q_has_406_bytes : length q ≡ 406
@@ -128,7 +128,7 @@ unfolding receipt_head receipt_body q reading names_of version_fits type_of is_r
 q_from_depot = refl
 
 -- naming another document
-pub q_for_2 : Text
+unfoldable pub q_for_2 : Text
 q_for_2 = receipt_body (codes "<out-2@station.example>") (codes "processed") md5_line
 
 pub q_for_2_posted : reading fixture (receipt_head (codes "Buyer")) q_for_2 ≡ IsReceipt (came_from (codes "Buyer") (codes "<out-2@station.example>") q_for_2)
@@ -136,7 +136,7 @@ unfolding receipt_head receipt_body q_for_2 reading names_of version_fits type_o
 q_for_2_posted = refl
 
 -- with LF in place of CRLF, and a third part
-pub q_in_lf : Text
+unfoldable pub q_in_lf : Text
 q_in_lf =
     codes "--as2-mdn-7\nContent-Type: text/plain\n\nReceipt 7 for the message named below.\nOutcome: processed\n\n"
     ++ codes "--as2-mdn-7\nContent-Type: message/disposition-notification\n\nReporting-UA: as2-station\nFinal-Recipient: rfc822; Buyer\n"
@@ -150,7 +150,7 @@ q_in_lf_posted = refl
 -- ---- a posted document
 
 -- the head of one: sender, identifier, and what else is asked of the receipt
-pub post_head : Text → Text → Head → Head
+unfoldable pub post_head : Text → Text → Head → Head
 post_head from id more =
     (codes "host", codes "127.0.0.1:8080")
     ∷ (codes "as2-version", codes "1.0")
