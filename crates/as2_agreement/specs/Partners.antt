@@ -1,4 +1,4 @@
--- The terms of organizations and partners, key by key.
+-- The terms of organizations and partners, key by key (names: RFC 4130, section 6.2; how receipts are asked for: section 7.3).
 use Rattle.std.specs.Prelude.{ℕ, Bool, true, false, List, codes}
 use Rattle.toml.specs.Data.{Members}
 use Rattle.as2_names.specs.Names.{IsName}
