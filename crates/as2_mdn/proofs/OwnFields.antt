@@ -18,7 +18,7 @@ use Rattle.as2_parts.specs.Fields.{FieldText, begins_with_blank, fields, is_name
 use Rattle.as2_parts.proofs.Laws.{HasNoFeed}
 use Rattle.as2_parts.proofs.Folding.{fields_found}
 use Rattle.as2_mdn.specs.Dispositions.{IsDisposition}
-use Rattle.as2_mdn.specs.Laws.{disposition_of, given_mic, HasMicText}
+use Rattle.as2_mdn.specs.Laws.{disposition_of, given_mic, HasMicBytes, HasMicText}
 use Rattle.as2_mdn.specs.MicBytes.{is_mic_byte, IsOfMicBytes}
 use Rattle.as2_mdn.specs.Outcomes.{outcome_text}
 use Rattle.as2_mdn.specs.ReportReading.{values, IsMic, IsNotification, IsNotificationHead}
@@ -155,10 +155,10 @@ mic_is mic t b = record {
   has_digest = name_some mic.digest;
 }
 
-mic_given : (out : ReportOut) (mic : Option ReportMic) → HasMicText mic → IsMic (values (codes "received-content-mic") (fields_with out (mic_fields mic))) (given_mic mic)
-mic_given out None h = refl
-mic_given out (Some mic) h =
-    inl ((mic.text, alg_name mic.digest), subst (λ (x : List ℕ). IsMicField x (mic.text, alg_name mic.digest)) (sym (mic_value mic h.0 h.1)) (mic_is mic h.0 h.1), refl)
+mic_given : (out : ReportOut) (mic : Option ReportMic) → HasMicText mic → HasMicBytes mic → IsMic (values (codes "received-content-mic") (fields_with out (mic_fields mic))) (given_mic mic)
+mic_given out None h b = refl
+mic_given out (Some mic) h b =
+    inl ((mic.text, alg_name mic.digest), subst (λ (x : List ℕ). IsMicField x (mic.text, alg_name mic.digest)) (sym (mic_value mic h b)) (mic_is mic h b), refl)
 
 -- ---- the content
 
@@ -170,9 +170,9 @@ one_disposition : (out : ReportOut) (mic : Option ReportMic) → values (codes "
 one_disposition out None = refl
 one_disposition out (Some mic) = refl
 
-pub notification_content : (out : ReportOut) (mic : Option ReportMic) → IsIdentifier out.original_id → HasMicText mic → ContentFeedless out mic
+pub notification_content : (out : ReportOut) (mic : Option ReportMic) → IsIdentifier out.original_id → HasMicText mic → HasMicBytes mic → ContentFeedless out mic
     → IsNotification (joined (field_texts out (mic_texts mic))) (record { original_id = out.original_id; disposition = disposition_of out.outcome; mic = given_mic mic })
-notification_content out mic x h f =
+notification_content out mic x h b f =
     let content = joined (field_texts out (mic_texts mic)) in
     let are : fields content ≡ fields_with out (mic_fields mic) = fields_are out mic f in
     record {
@@ -183,5 +183,5 @@ notification_content out mic x h f =
       disposition_text = value_of (codes " automatic-action/MDN-sent-automatically; " ++ outcome_text out.outcome);
       one_disposition = ap (values (codes "disposition")) are ∙ one_disposition out mic;
       is_disposition = disposition_is out.outcome;
-      is_mic = subst (λ (fs : List FieldText). IsMic (values (codes "received-content-mic") fs) (given_mic mic)) (sym are) (mic_given out mic h);
+      is_mic = subst (λ (fs : List FieldText). IsMic (values (codes "received-content-mic") fs) (given_mic mic)) (sym are) (mic_given out mic h b);
     }

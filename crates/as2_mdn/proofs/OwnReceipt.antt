@@ -1,12 +1,12 @@
 -- A report that is written is read as its own receipt.
-use Rattle.std.proofs.Common.{◌≡◌, [], ◌∷◌, ◌++◌, Option, Some, None, Ok, refl, sym, subst, ◌∙◌}
+use Rattle.std.proofs.Common.{◌≡◌, ℕ, List, [], ◌∷◌, ◌++◌, Option, Some, None, Ok, refl, sym, subst, ◌∙◌}
 use Rattle.as2_media.specs.MediaTypes.{Media, IsMediaType}
 use Rattle.as2_media.proofs.Readings as media_types
 use Rattle.as2_mic.specs.Algs.{alg_name}
 use Rattle.as2_mic.specs.declared.alg.Alg.{Alg}
 use Rattle.as2_mic.specs.declared.alg.Alg.TheVariants.{Md5, Sha1}
 use Rattle.as2_parts.proofs.Laws.{HasNoFeed}
-use Rattle.as2_mdn.specs.Laws.{ReportsAreOfOne, ReportsAreRead, ReportsHaveTypes, IsOut, HasMicText, receipt_of}
+use Rattle.as2_mdn.specs.Laws.{ReportsAreOfOne, ReportsAreRead, ReportsHaveTypes, IsOut, HasMicBytes, IsItsReport, receipt_of}
 use Rattle.as2_mdn.specs.MicBytes.{is_mic_byte}
 use Rattle.as2_mdn.specs.Outcomes.{outcome_text}
 use Rattle.as2_mdn.specs.Reports.{content_type_text, report_text}
@@ -39,25 +39,25 @@ name_no_feed : (digest : Alg) → HasNoFeed (alg_name digest)
 name_no_feed Md5 = refl
 name_no_feed Sha1 = refl
 
-mic_no_feed : (mic : Option ReportMic) → HasMicText mic → HaveNoFeed (mic_texts mic)
+mic_no_feed : (mic : Option ReportMic) → HasMicBytes mic → HaveNoFeed (mic_texts mic)
 mic_no_feed None h = tt
 mic_no_feed (Some mic) h =
-    (no_feed_append (mic.text ++ 44 ∷ 32 ∷ []) (alg_name mic.digest) (no_feed_append mic.text (44 ∷ 32 ∷ []) (no_feed_of is_mic_byte mic.text refl h.1) refl) (name_no_feed mic.digest), tt)
+    (no_feed_append (mic.text ++ 44 ∷ 32 ∷ []) (alg_name mic.digest) (no_feed_append mic.text (44 ∷ 32 ∷ []) (no_feed_of is_mic_byte mic.text refl h) refl) (name_no_feed mic.digest), tt)
 
-feedless : (out : ReportOut) → IsOut out → Feedless out
-feedless out x = record {
+feedless : (out : ReportOut) → IsOut out → HasMicBytes out.mic → Feedless out
+feedless out x b = record {
   digits = decimal_no_feed out.number x.number;
   outcome = outcome_no_feed out.outcome;
   from = spelling_no_feed out.from x.from;
   id = identifier_no_feed out.original_id x.original_id;
-  mic = mic_no_feed out.mic x.mic;
+  mic = mic_no_feed out.mic b;
 }
 
 -- ---- the report
 
-own : (out : ReportOut) → IsOut out → IsReport (media_of out.number) (report_text out) (receipt_of out)
-own out x =
-    let f = feedless out x in
+own : (out : ReportOut) → IsOut out → HasMicBytes out.mic → IsReport (media_of out.number) (report_text out) (receipt_of out)
+own out x b =
+    let f = feedless out x b in
     record {
       boundary = _;
       first = _;
@@ -66,7 +66,7 @@ own out x =
       given = boundary_is out.number x.number;
       two = two_parts out f;
       head = notification_head;
-      content = notification_content out out.mic x.original_id x.mic (record { outcome = f.outcome; from = f.from; id = f.id; mic_lines = f.mic });
+      content = notification_content out out.mic x.original_id x.mic b (record { outcome = f.outcome; from = f.from; id = f.id; mic_lines = f.mic });
     }
 
 -- the media type that is spelled is that one
@@ -76,9 +76,12 @@ media_is out media x m =
     cc same
 
 pub read : ReportsAreRead
-read out media x m = subst (λ (t : Media). IsReport t (report_text out) (receipt_of out)) (media_is out media x m) (own out x)
+read out x b media m = subst (λ (t : Media). IsReport t (report_text out) (receipt_of out)) (media_is out media x m) (own out x b)
+
+pub its_report : (out : ReportOut) (text : List ℕ) → text ≡ report_text out → IsOut out → IsItsReport out text
+its_report out text same x = subst (IsItsReport out) (sym same) (read out x)
 
 pub of_one : ReportsAreOfOne
-of_one out media receipt x m r =
-    let same : Ok receipt ≡ Ok (receipt_of out) = sym (again media (report_text out) receipt r) ∙ again media (report_text out) (receipt_of out) (read out media x m) in
+of_one out media receipt x b m r =
+    let same : Ok receipt ≡ Ok (receipt_of out) = sym (again media (report_text out) receipt r) ∙ again media (report_text out) (receipt_of out) (read out x b media m) in
     cc same

@@ -37,18 +37,27 @@ receipt_of out =
 
 -- ---- the reports that are written
 
--- the MIC, if there is one, is 1 to 44 letters, digits, `+`, `/` and `=`
+-- the MIC, if there is one, is 1 to 44 bytes
 abbrev pub HasMicText : Option ReportMic → Type 0
 HasMicText None = ⊤
-HasMicText (Some mic) = IsMicText mic.text × IsOfMicBytes mic.text
+HasMicText (Some mic) = IsMicText mic.text
 
--- What each value of a report is by its own type, and its MIC by what it is made with. Whether there is a MIC doesn't
--- matter.
+-- what each value of a report is by its own type
 pub record IsOut (out : ReportOut) : Type 0 where
   pub number : out.number < 2 ^ 64
   pub from : IsName out.from
   pub original_id : IsIdentifier out.original_id
   pub mic : HasMicText out.mic
+
+-- the MIC, if there is one, is letters, digits, `+`, `/` and `=`
+abbrev pub HasMicBytes : Option ReportMic → Type 0
+HasMicBytes None = ⊤
+HasMicBytes (Some mic) = IsOfMicBytes mic.text
+
+-- under each media type that the report's Content-Type spells, the text is a report of its own receipt
+abbrev pub IsItsReport : ReportOut → List ℕ → Type 0
+IsItsReport out text =
+    HasMicBytes out.mic → (media : Media) → IsMediaType (content_type_text out.number) media → IsReport media text (receipt_of out)
 
 -- ---- the laws
 
@@ -56,12 +65,11 @@ pub record IsOut (out : ReportOut) : Type 0 where
 abbrev pub ReportsHaveTypes : Type 0
 ReportsHaveTypes = (out : ReportOut) → IsOut out → (media : Media) × IsMediaType (content_type_text out.number) media
 
--- under that type it is a report of its own receipt
+-- its text is a report of its own receipt
 abbrev pub ReportsAreRead : Type 0
-ReportsAreRead =
-    (out : ReportOut) (media : Media) → IsOut out → IsMediaType (content_type_text out.number) media → IsReport media (report_text out) (receipt_of out)
+ReportsAreRead = (out : ReportOut) → IsOut out → IsItsReport out (report_text out)
 
 -- and of no other
 abbrev pub ReportsAreOfOne : Type 0
 ReportsAreOfOne =
-    (out : ReportOut) (media : Media) (receipt : ReceiptRead) → IsOut out → IsMediaType (content_type_text out.number) media → IsReport media (report_text out) receipt → receipt ≡ receipt_of out
+    (out : ReportOut) (media : Media) (receipt : ReceiptRead) → IsOut out → HasMicBytes out.mic → IsMediaType (content_type_text out.number) media → IsReport media (report_text out) receipt → receipt ≡ receipt_of out

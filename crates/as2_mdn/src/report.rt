@@ -1,7 +1,10 @@
 //! The report that answers a document: its body and its head fields.
-ghost use Rattle.std.specs.Prelude.{◌≡◌, ◌++◌, IfOk, OnOk, OnErr, codes};
-ghost use Rattle.as2_names.specs.Names.{spelling};
+ghost use Rattle.std.specs.Prelude.{◌≡◌, ◌<◌, ◌^◌, ◌++◌, IfOk, OnOk, OnErr, codes};
+ghost use Rattle.as2_names.specs.Identifiers.{IsIdentifier};
+ghost use Rattle.as2_names.specs.Names.{IsName, spelling};
+ghost use Rattle.as2_mic.specs.Mic.{IsMicText};
 ghost use Rattle.as2_text.specs.ReceiptRequests.{request_of};
+ghost use Rattle.as2_mdn.specs.Laws.{HasMicText, IsItsReport, IsOut};
 ghost use Rattle.as2_mdn.specs.Outcomes.{report_mic};
 ghost use Rattle.as2_mdn.specs.Reports.{as2_fields_text, boundary_text, content_type_text, explanation_text, head_fields_of, line, mic_line, mic_text, notification_text, report_id_text, report_text};
 
@@ -69,13 +72,15 @@ fn add_line(text: &mut Vec<u8>, start: &[u8], value: &[u8]) -> Result<(), AllocE
 
 /// Appends a line whose value is a name as it is spelled.
 fn add_name(text: &mut Vec<u8>, start: &[u8], name: &AsName) -> Result<(), AllocError>
-    ensures { OnOk result (text.new.items ≡ text.old.items ++ line start.now (spelling name.now)) }
+    ensures added { OnOk result (text.new.items ≡ text.old.items ++ line start.now (spelling name.now)) }
+    ensures name { IsName name.now }
 {
     add_line(text, start, name.spelling().as_str().as_bytes())
 }
 
 fn boundary(alloc: Global, number: u64) -> Result<Vec<u8>, AllocError>
-    ensures { IfOk result (λ text. text.items ≡ boundary_text number) }
+    ensures text { IfOk result (λ text. text.items ≡ boundary_text number) }
+    ensures number { number < 2 ^ 64 }
 {
     let mut text = Vec::from_slice(alloc, b"as2-mdn-")?;
     text.extend_from_slice(Buffer::new().format(number).as_bytes())?;
@@ -118,7 +123,8 @@ fn explanation(alloc: Global, number: u64, outcome: Outcome) -> Result<Vec<u8>, 
 
 /// A MIC and the name of its digest.
 fn mic_value(alloc: Global, mic: ReportMic) -> Result<Vec<u8>, AllocError>
-    ensures { IfOk result (λ text. text.items ≡ mic_text mic) }
+    ensures text { IfOk result (λ text. text.items ≡ mic_text mic) }
+    ensures mic { IfOk result (λ text. IsMicText mic.text) }
 {
     let mut text = Vec::from_slice(alloc, mic.text.bytes())?;
     text.extend_from_slice(b", ")?;
@@ -128,7 +134,8 @@ fn mic_value(alloc: Global, mic: ReportMic) -> Result<Vec<u8>, AllocError>
 
 /// Appends the line of a MIC, where there is one.
 fn add_mic_line(alloc: Global, text: &mut Vec<u8>, mic: Option<ReportMic>) -> Result<(), AllocError>
-    ensures { OnOk result (text.new.items ≡ text.old.items ++ mic_line mic) }
+    ensures added { OnOk result (text.new.items ≡ text.old.items ++ mic_line mic) }
+    ensures mic { OnOk result (HasMicText mic) }
 {
     match mic {
         Some(mic) => add_line(text, b"Received-content-MIC: ", &mic_value(alloc, mic)?),
@@ -138,14 +145,18 @@ fn add_mic_line(alloc: Global, text: &mut Vec<u8>, mic: Option<ReportMic>) -> Re
 
 /// Appends the line of the document's identifier, with its angle brackets where it was received with them.
 fn add_identifier(text: &mut Vec<u8>, id: &MessageId) -> Result<(), AllocError>
-    ensures { OnOk result (text.new.items ≡ text.old.items ++ line (codes "Original-Message-ID: ") id.now) }
+    ensures added { OnOk result (text.new.items ≡ text.old.items ++ line (codes "Original-Message-ID: ") id.now) }
+    ensures identifier { IsIdentifier id.now }
 {
     add_line(text, b"Original-Message-ID: ", id.as_received().as_bytes())
 }
 
 /// The part that programs read.
 fn notification(alloc: Global, out: &ReportOut) -> Result<Vec<u8>, AllocError>
-    ensures { IfOk result (λ text. text.items ≡ notification_text out.now) }
+    ensures text { IfOk result (λ text. text.items ≡ notification_text out.now) }
+    ensures from { IfOk result (λ text. IsName out.now.from) }
+    ensures identifier { IfOk result (λ text. IsIdentifier out.now.original_id) }
+    ensures mic { IfOk result (λ text. HasMicText out.now.mic) }
 {
     let mut text = Vec::from_slice(
         alloc,
@@ -162,9 +173,9 @@ fn notification(alloc: Global, out: &ReportOut) -> Result<Vec<u8>, AllocError>
     Ok(text)
 }
 
-/// The body of a report (RFC 6522, section 3), all its lines with their CRLF.
-pub fn write_report(alloc: Global, out: &ReportOut) -> Result<Vec<u8>, Memory>
-    ensures { IfOk result (λ text. text.items ≡ report_text out.now) }
+fn report_body(alloc: Global, out: &ReportOut) -> Result<Vec<u8>, AllocError>
+    ensures text { IfOk result (λ text. text.items ≡ report_text out.now) }
+    ensures out { IfOk result (λ text. IsOut out.now) }
 {
     let boundary = boundary(alloc, out.number)?;
     let mut text = Vec::new(alloc);
@@ -176,6 +187,16 @@ pub fn write_report(alloc: Global, out: &ReportOut) -> Result<Vec<u8>, Memory>
     text.extend_from_slice(&boundary)?;
     text.extend_from_slice(b"--\r\n")?;
     Ok(text)
+}
+
+/// The body of a report (RFC 6522, section 3), all its lines with their CRLF.
+pub fn write_report(alloc: Global, out: &ReportOut) -> Result<Vec<u8>, Memory>
+    // The text.
+    ensures text { IfOk result (λ text. text.items ≡ report_text out.now) }
+    // It is read as a receipt with the document's identifier, the disposition of the outcome, and the MIC.
+    ensures own { IfOk result (λ text. IsItsReport out.now text.items) }
+{
+    Ok(report_body(alloc, out)?)
 }
 
 /// The head fields of AS2 (RFC 4130, section 6).
