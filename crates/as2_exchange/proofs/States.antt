@@ -156,8 +156,8 @@ step_formed A s (Tick m) y h is = subst (λ (z : Answer × State). IsWellFormed 
 empty_formed : (A : Agreements) (first : ℕ) → IsCounter first → IsWellFormed A (empty first)
 unfolding IsDistinct
 empty_formed A first h = record {
-  received = record { counter = h; numbers = record { below = tt; distinct = tt }; keys = tt; recorded = tt };
-  sent = record { counter = h; numbers = record { below = tt; distinct = tt }; named = tt; identifiers = tt; entries = tt };
+  received = record { counter = h; numbers = record { below = tt; distinct = tt; in_order = tt }; keys = tt; recorded = tt };
+  sent = record { counter = h; numbers = record { below = tt; distinct = tt; in_order = tt }; named = tt; identifiers = tt; entries = tt };
 }
 
 run_formed : (A : Agreements) (old : State) (trace : Trace) (new : State) → IsWellFormed A old → Run A old trace new → IsWellFormed A new

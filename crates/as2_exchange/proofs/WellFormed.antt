@@ -1,6 +1,6 @@
 -- In every state of a run, its invariants hold.
 use Rattle.std.proofs.Common.{◌≡◌, ℕ, ◌+◌, ◌<◌, Bool, true, false, List, [], ◌∷◌, ◌++◌, map, None, refl, sym, ap, ◌∙◌, subst, arith}
-use Rattle.std.specs.Prelude.{◌==◌}
+use Rattle.std.specs.Prelude.{nat_lt, ◌==◌}
 use Rattle.std.specs.List.{AllByRecursion, IsDistinct, find}
 use Rattle.std.specs.Str.{bytes_eq}
 use Rattle.std.proofs.lemmas.Bool.{false≢true}
@@ -22,10 +22,14 @@ below_more n x h = omega arith
 other_number : (n x : ℕ) → x < n → (x == n) ≡ false
 other_number n x h = grind (arith, nat_tests)
 
+no_greater : (n x : ℕ) → x < n → nat_lt n x ≡ false
+no_greater n x h = grind (arith, nat_tests)
+
 numbers_push : (n : ℕ) (ns : List ℕ) → AreNumbers n ns → AreNumbers (n + 1) (ns ++ n ∷ [])
 numbers_push n ns h = record {
   below = all_push (λ x. x < n + 1) ns n (all_weaken (λ x. x < n) (λ x. x < n + 1) (below_more n) ns h.below) (omega arith);
   distinct = distinct_push (λ a b. a == b) ns n h.distinct (all_weaken (λ x. x < n) (λ x. (x == n) ≡ false) (other_number n) ns h.below);
+  in_order = distinct_push (λ a b. nat_lt b a) ns n h.in_order (all_weaken (λ x. x < n) (λ x. nat_lt n x ≡ false) (no_greater n) ns h.below);
 }
 
 counted : (n : ℕ) → n < end_of_numbers → IsCounter n → IsCounter (n + 1)

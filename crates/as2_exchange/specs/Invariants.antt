@@ -1,5 +1,5 @@
 -- What holds in every state that a run leads to.
-use Rattle.std.specs.Prelude.{◌≡◌, ℕ, ◌<◌, ◌≤◌, Bool, true, false, ◌==◌, List, map, None, is_some}
+use Rattle.std.specs.Prelude.{◌≡◌, ℕ, ◌<◌, ◌≤◌, Bool, true, false, ◌==◌, nat_lt, List, map, None, is_some}
 use Rattle.std.specs.List.{AllByRecursion, IsDistinct}
 use Rattle.std.specs.Str.{bytes_eq}
 use Rattle.as2_exchange.specs.Agreement.{Agreements}
@@ -12,10 +12,12 @@ pub record IsCounter (next : ℕ) : Type 0 where
   pub least : 1 ≤ next
   pub most : next ≤ end_of_numbers
 
--- the numbers that were given before the next one: each is below it, and no two are the same
+-- the numbers that were given before the next one: each is below it, no two are the same, and none stands behind a
+-- greater one
 pub record AreNumbers (next : ℕ) (numbers : List ℕ) : Type 0 where
   pub below : AllByRecursion (λ n. n < next) numbers
   pub distinct : IsDistinct (λ a b. a == b) numbers
+  pub in_order : IsDistinct (λ a b. nat_lt b a) numbers
 
 -- digest and MIC are there exactly for a processed document
 abbrev pub IsRecorded : Posted → Type 0
