@@ -106,6 +106,7 @@ pub data Once : Type 0 where
   One : (text : List ℕ) → Once
   Twice : Once
 
+-- which of the three it is
 abbrev pub once : List (List ℕ) → Once
 once [] = Absent
 once (text ∷ []) = One text
@@ -123,17 +124,20 @@ once_of found.Twice = Twice
 
 -- ---- the first fault
 
--- the field of a MIC that a value has, if it has one
+-- a MIC and the name of its digest, neither empty
 abbrev pub with_both : List ℕ → List ℕ → Option (List ℕ × List ℕ)
 with_both mic digest = if length mic == 0 || length digest == 0 then None else Some (mic, digest)
 
+-- those of a value that is cut so at its first comma
 abbrev pub mic_cut : Option (List ℕ × List ℕ) → Option (List ℕ × List ℕ)
 mic_cut None = None
 mic_cut (Some cut) = with_both (trimmed cut.0) (trimmed cut.1)
 
+-- the MIC and the name that a value has, if it has them
 abbrev pub mic_field : List ℕ → Option (List ℕ × List ℕ)
 mic_field text = mic_cut (cut_at comma text)
 
+-- what can't be read is told as such
 abbrev pub read_mic : Option (List ℕ × List ℕ) → Mic
 read_mic None = Unreadable
 read_mic (Some field) = Given field
@@ -144,40 +148,47 @@ mic_once Absent = Missing
 mic_once (One text) = read_mic (mic_field text)
 mic_once Twice = Unreadable
 
--- the receipt of that identifier and that MIC, where the disposition can be read
+-- the receipt of that identifier, that MIC and a disposition that was read
 abbrev pub with_disposition : List ℕ → Mic → Result (List ℕ × List ℕ) DispositionFault → Result ReceiptRead ReportFault
 with_disposition id mic (Err e) = Err fault.BadDisposition
 with_disposition id mic (Ok disposition) = Ok (record { original_id = id; disposition = disposition; mic = mic })
 
+-- the same of the disposition that a field gives
 abbrev pub disposed : List ℕ → Mic → Once → Result ReceiptRead ReportFault
 disposed id mic (One text) = with_disposition id mic (dispositions.reading text)
 disposed id mic other = Err fault.NoDisposition
 
+-- the same of the identifier that a field gives
 abbrev pub identified : Mic → Once → Once → Result ReceiptRead ReportFault
 identified mic (One id) disposition = if is_identifier id then disposed id mic disposition else Err fault.NoId
 identified mic other disposition = Err fault.NoId
 
+-- there are more values than one
 abbrev pub is_twice : Once → Bool
 is_twice Twice = true
 is_twice other = false
 
--- the receipt that the content of a notification tells
+-- the receipt of what the fields give; more than one of either comes before all else
 abbrev pub told : Once → Once → Mic → Result ReceiptRead ReportFault
 told id disposition mic = if is_twice id || is_twice disposition then Err fault.Twice else identified mic id disposition
 
+-- the receipt that the content of a notification tells
 abbrev pub content_reading : List ℕ → Result ReceiptRead ReportFault
 content_reading content =
     told (once_in content (codes "original-message-id")) (once_in content (codes "disposition"))
     (mic_once (once_in content (codes "received-content-mic")))
 
+-- a media type was read, and is that of a notification
 abbrev pub is_media_of_notification : Result Media TypeFault → Bool
 is_media_of_notification (Ok media) = is_notification media
 is_media_of_notification (Err e) = false
 
+-- one value is given, and is the media type of a notification
 abbrev pub is_type_of_notification : Once → Bool
 is_type_of_notification (One text) = is_media_of_notification (media_types.reading text)
 is_type_of_notification other = false
 
+-- no value is given, or one that leaves the content as it is
 abbrev pub leaves_content : Once → Bool
 leaves_content Absent = true
 leaves_content (One encoding) = is_identity encoding
@@ -190,6 +201,7 @@ part_reading part =
     else if not (leaves_content (once_in part.0 (codes "content-transfer-encoding"))) then Err fault.Encoded
     else content_reading part.1
 
+-- the receipt that the second of two parts tells
 abbrev pub second_reading : Result (PartText × PartText) PartFault → Result ReceiptRead ReportFault
 second_reading (Err e) = Err fault.Parts
 second_reading (Ok both) = part_reading both.1
@@ -199,6 +211,7 @@ abbrev pub body_reading : Option (List ℕ) → List ℕ → Result ReceiptRead 
 body_reading None body = Err fault.NotReport
 body_reading (Some boundary) body = second_reading (parts.reading boundary body)
 
+-- a body of that kind is a report
 abbrev pub is_report : Kind → Bool
 is_report kind.Report = true
 is_report other = false

@@ -288,35 +288,48 @@ fn contents(rt: HostRuntime) -> Result<(), Fail> {
 #[test]
 fn mics(rt: HostRuntime) -> Result<(), Fail> {
     const CASES: [(&[&[u8]], Mic); 9] = [
-        (&[], Mic::Missing),
-        (&[MIC], Mic::Given(Compared::Same)),
+        (&[ID, DISPOSITION], Mic::Missing),
+        (&[ID, DISPOSITION, MIC], Mic::Given(Compared::Same)),
         (
-            &[b"Received-content-MIC: AAFQmDzST7DWlj99KOF/cg==, md5\r\n"],
+            &[
+                ID,
+                DISPOSITION,
+                b"Received-content-MIC: AAFQmDzST7DWlj99KOF/cg==, md5\r\n",
+            ],
             Mic::Given(Compared::Differs),
         ),
         (
-            &[b"Received-content-MIC: x, sha1, x\r\n"],
+            &[ID, DISPOSITION, b"Received-content-MIC: x, sha1, x\r\n"],
             Mic::Given(Compared::UnknownAlg),
         ),
-        (&[MIC, MIC], Mic::Unreadable),
+        (&[ID, MIC, DISPOSITION, MIC], Mic::Unreadable),
         (
-            &[b"Received-content-MIC: kAFQmDzST7DWlj99KOF/cg== md5\r\n"],
+            &[
+                ID,
+                DISPOSITION,
+                b"Received-content-MIC: kAFQmDzST7DWlj99KOF/cg== md5\r\n",
+            ],
             Mic::Unreadable,
         ),
-        (&[b"Received-content-MIC:\r\n"], Mic::Unreadable),
-        (&[b"Received-content-MIC: , md5\r\n"], Mic::Unreadable),
         (
-            &[b"Received-content-MIC: kAFQmDzST7DWlj99KOF/cg==,\r\n"],
+            &[ID, DISPOSITION, b"Received-content-MIC:\r\n"],
+            Mic::Unreadable,
+        ),
+        (
+            &[ID, DISPOSITION, b"Received-content-MIC: , md5\r\n"],
+            Mic::Unreadable,
+        ),
+        (
+            &[
+                ID,
+                DISPOSITION,
+                b"Received-content-MIC: kAFQmDzST7DWlj99KOF/cg==,\r\n",
+            ],
             Mic::Unreadable,
         ),
     ];
-    for (fields, mic) in CASES {
-        let mut content = Vec::from_slice(rt.alloc(), ID)?;
-        content.extend_from_slice(DISPOSITION)?;
-        for field in fields {
-            content.extend_from_slice(field)?;
-        }
-        let body = body(rt.alloc(), &[HEAD], &[&content])?;
+    for (content, mic) in CASES {
+        let body = body(rt.alloc(), &[HEAD], content)?;
         assert!(rt; told_by(TYPE, &body) == Told::Receipt(b"<m1@x>", true, false, mic));
     }
     Ok(())
