@@ -5,7 +5,7 @@ use Rattle.std.specs.List.{AllByRecursion, list_any}
 use Rattle.std.proofs.lemmas.Bool.Decides.{nat_tests}
 use Rattle.as2_exchange.specs.Views.{IsLeast, IsNext, least, smaller, next, next_of, due_receipts, due_documents}
 use Rattle.as2_exchange.specs.State.{State}
-use Rattle.as2_exchange.proofs.Tests.{same_number}
+use Rattle.as2_exchange.proofs.Decisions.{same_number}
 use Rattle.as2_exchange.proofs.Lists.{all_weaken}
 
 first_counts : (n : ℕ) (b : Bool) → ((n == n) || b) ≡ true
