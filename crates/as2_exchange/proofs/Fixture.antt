@@ -3,6 +3,7 @@ use Rattle.std.proofs.Common.{◌≡◌, [], ◌∷◌, ◌++◌, Some, refl, ap
 use Rattle.std.specs.Prelude.{codes, length}
 use Rattle.sha1.proofs.StandardFacts.{digest_of_abc as sha1_of_abc}
 use Rattle.md5.proofs.StandardFacts.{digest_of_abc as md5_of_abc}
+use Rattle.md5.specs.Md5.{block_words, rounds, compress, hash_after, digest_bytes, md5}
 use Rattle.base64.proofs.OnLiterals.{base64_on_literals}
 use Rattle.as2_names.specs.Blanks.{without_blanks}
 use Rattle.as2_names.specs.Identifiers.{value_of as bare}
@@ -194,3 +195,8 @@ return_field = (codes "receipt-delivery-option", codes "http://127.0.0.1:8082/md
 pub p1_from_depot : reading fixture (post_head (codes "Depot") m1 return_field) abc ≡ IsDocument (document_of (codes "Depot") m1 abc (Later (codes "http://127.0.0.1:8082/mdn")) sha1_text)
 unfolding post_head reading names_of version_fits type_of is_report id_of ask_of how_of outcome_of encoding_refused mic_for without_blanks between_quotes bare
 p1_from_depot = ap (λ (text : Text). IsDocument (document_of (codes "Depot") m1 abc (Later (codes "http://127.0.0.1:8082/mdn")) text)) sha1_mic
+
+-- the MIC of no content
+empty_content_md5 : mic Md5 [] ≡ codes "1B2M2Y8AsgTpgAmY7PhCfg=="
+unfolding block_words rounds compress hash_after digest_bytes md5 base64_on_literals
+empty_content_md5 = refl

@@ -1,6 +1,6 @@
 -- What is seen of a state: what is due, and the texts that list it.
-use Rattle.std.specs.Prelude.{ℕ, ◌-◌, Bool, true, false, ◌&&◌, List, [], ◌∷◌, ◌++◌, map, length, replicate, count_by, codes, decimal, nat_le, if◌then◌else◌, Option, Some, None, option_map}
-use Rattle.std.specs.List.{filter, flat_map}
+use Rattle.std.specs.Prelude.{◌≡◌, ℕ, ◌-◌, ◌≤◌, IsTrue, ◌==◌, Bool, true, false, ◌&&◌, List, [], ◌∷◌, ◌++◌, map, length, replicate, count_by, codes, decimal, nat_le, if◌then◌else◌, Option, Some, None, option_map}
+use Rattle.std.specs.List.{AllByRecursion, filter, flat_map, list_any}
 use Rattle.as2_names.specs.Ascii.{space}
 use Rattle.as2_names.specs.Names.{spelling}
 use Rattle.as2_mdn.specs.Details.{state_of, name_of}
@@ -54,6 +54,11 @@ abbrev pub least : List ℕ → Option ℕ
 least [] = None
 least (n ∷ ns) = Some (smaller n (least ns))
 
+-- the number is one of them, and none is smaller; there is none exactly where there are none
+abbrev pub IsLeast : List ℕ → Option ℕ → Type 0
+IsLeast ns None = ns ≡ []
+IsLeast ns (Some n) = IsTrue (list_any (λ k. k == n) ns) × AllByRecursion (λ k. n ≤ k) ns
+
 -- a receipt, else a document, else nothing
 abbrev pub next_of : Option ℕ → Option ℕ → Option Next
 next_of (Some n) document = Some (Receipt n)
@@ -63,6 +68,13 @@ next_of None None = None
 -- what is to be sent next: the due receipt of the least number, else the due document of the least number
 abbrev pub next : State → ℕ → Option Next
 next s m = next_of (least (due_receipts s m)) (least (due_documents s m))
+
+-- what may be told to be next: a due receipt of the least number; a due document of the least number, where no receipt is
+-- due; nothing, where nothing is due
+abbrev pub IsNext : State → ℕ → Option Next → Type 0
+IsNext s m None = (due_receipts s m ≡ []) × (due_documents s m ≡ [])
+IsNext s m (Some (Receipt n)) = IsLeast (due_receipts s m) (Some n)
+IsNext s m (Some (Document n)) = (due_receipts s m ≡ []) × IsLeast (due_documents s m) (Some n)
 
 -- ---- texts
 

@@ -1,0 +1,124 @@
+-- Worked rows of what a post is read as.
+use Rattle.std.proofs.Common.{◌≡◌, [], ◌∷◌, Option, Some, None, refl}
+use Rattle.std.specs.Prelude.{codes, replicate, option_map}
+use Rattle.as2_names.specs.Blanks.{without_blanks}
+use Rattle.as2_names.specs.Identifiers.{value_of as bare}
+use Rattle.as2_media.specs.Values.{between_quotes}
+use Rattle.as2_exchange.specs.Agreement.{Text, Alg, Sha1, Md5}
+use Rattle.as2_exchange.specs.Readings.{Head, How, NoReceipt, Sync, Outcome, Processed, DecryptionFailed, DecompressionFailed, AuthenticationFailed, UnsupportedFormat, UnsupportedMicAlgorithms, names_of, version_fits, type_of, is_report, report_in, id_of, value_of, ask_of, how_of, outcome_of, encoding_refused, mic_for}
+use Rattle.as2_exchange.specs.State.{empty}
+use Rattle.as2_exchange.specs.Step.{Post, Reading, Refuses, IsDocument, http, Nothing, Words, BadNames, BadVersion, UnknownNames, BadType, UnreadableReceipt, BadId, BadAsk, IdUsedBefore, NotProcessed, reading, record_post, answer_to}
+use Rattle.as2_exchange.proofs.Fixture.{fixture, abc, sha1_mic, q_type_text, m1}
+use Rattle.as2_exchange.proofs.Rows.{play}
+
+-- a head: version, sender, identifier, content type, and what else stands there
+abbrev message : Text → Text → Text → Text → Head → Head
+message version from id type more =
+    (codes "as2-version", version)
+    ∷ (codes "as2-from", from)
+    ∷ (codes "as2-to", codes "Supplier")
+    ∷ (codes "message-id", id)
+    ∷ (codes "content-type", type)
+    ∷ more
+
+abbrev edi : Text
+edi = codes "application/edi-x12"
+
+-- what asks for a receipt with these options
+abbrev asks : Text → Head
+asks options = (codes "disposition-notification-to", codes "a@x") ∷ (codes "disposition-notification-options", options) ∷ []
+
+abbrev usual : Head
+usual = asks (codes "signed-receipt-micalg=optional, sha1")
+
+abbrev read : Head → Reading
+read head = reading fixture head abc
+
+-- the lines that refuse a post
+refused_posts : (read [] ≡ Refuses 400 BadNames)
+    × (read (message (codes "1.0") (replicate 129 120) m1 edi usual) ≡ Refuses 400 BadNames)
+    × (read (message (codes "1.0") (codes "Buyer") m1 edi ((codes "as2-from", codes "Buyer") ∷ usual)) ≡ Refuses 400 BadNames)
+    × (read (message (codes "2.0") (codes "Buyer") m1 edi usual) ≡ Refuses 400 BadVersion)
+    × (read (message (codes "1.10") (codes "Buyer") m1 edi usual) ≡ Refuses 400 BadVersion)
+    × (read (message (codes "1.0") (codes "Nobody") m1 edi usual) ≡ Refuses 403 UnknownNames)
+    × (read (message (codes "1.0") (codes "buyer") m1 edi usual) ≡ Refuses 403 UnknownNames)
+    × (read (message (codes "1.0") (codes "Buyer") m1 (codes "edi") usual) ≡ Refuses 400 BadType)
+    × (read (message (codes "1.0") (codes "Buyer") m1 q_type_text usual) ≡ Refuses 400 UnreadableReceipt)
+    × (read (message (codes "1.0") (codes "Buyer") (codes "<>") edi usual) ≡ Refuses 400 BadId)
+    × (read (message (codes "1.0") (codes "Buyer") m1 edi ((codes "message-id", m1) ∷ usual)) ≡ Refuses 400 BadId)
+    × (read (message (codes "1.0") (codes "Buyer") m1 edi (asks (codes "x"))) ≡ Refuses 400 BadAsk)
+unfolding reading names_of version_fits type_of is_report report_in id_of ask_of without_blanks between_quotes bare
+refused_posts = (refl, refl, refl, refl, refl, refl, refl, refl, refl, refl, refl, refl)
+
+-- the version may be absent, and so may the content type
+abbrev short_head : Head
+short_head = (codes "as2-from", codes "Buyer") ∷ (codes "as2-to", codes "Supplier") ∷ (codes "message-id", m1) ∷ []
+
+-- what a post is read as: its sender, content type, outcome, and how a receipt is asked for
+abbrev seen_as : Reading → Option (Text × Text × Outcome × How)
+seen_as (IsDocument p) = Some (p.sender, p.content_type, p.outcome, p.how)
+seen_as other = None
+
+least_post : seen_as (read short_head) ≡ Some (codes "Buyer", codes "application/octet-stream", Processed, NoReceipt)
+unfolding reading names_of version_fits type_of is_report id_of ask_of how_of outcome_of encoding_refused without_blanks between_quotes bare
+least_post = refl
+
+quoted_name : seen_as (read (message (codes "1.0") (codes "\"A \\\"B\\\" \\\\ C\"") m1 edi usual)) ≡ Some (codes "A \"B\" \\ C", edi, Processed, Sync)
+unfolding reading names_of version_fits type_of is_report id_of ask_of how_of outcome_of encoding_refused without_blanks between_quotes bare
+quoted_name = refl
+
+-- what becomes of a document from Buyer
+abbrev became_in : Reading → Option Outcome
+became_in (IsDocument p) = Some p.outcome
+became_in other = None
+
+abbrev became : Text → Head → Option Outcome
+became type more = became_in (read (message (codes "1.0") (codes "Buyer") m1 type more))
+
+compressed_and_enveloped : (became (codes "application/pkcs7-mime; smime-type=compressed-data") usual ≡ Some DecompressionFailed)
+    × (became (codes "application/pkcs7-mime") usual ≡ Some DecryptionFailed)
+unfolding reading names_of version_fits type_of is_report id_of ask_of how_of outcome_of encoding_refused without_blanks between_quotes bare
+compressed_and_enveloped = (refl, refl)
+
+signed_and_unsupported : (became (codes "multipart/signed; protocol=\"application/pkcs7-signature\"; micalg=sha1; boundary=\"b\"") usual ≡ Some AuthenticationFailed)
+    × (became edi (asks (codes "signed-receipt-protocol=required, pkcs7-signature")) ≡ Some UnsupportedFormat)
+    × (became edi ((codes "disposition-notification-options", codes "signed-receipt-protocol=required, pkcs7-signature") ∷ []) ≡ Some Processed)
+    × (became edi ((codes "content-transfer-encoding", codes "base64") ∷ usual) ≡ Some UnsupportedFormat)
+    × (became edi ((codes "content-transfer-encoding", codes "Binary") ∷ usual) ≡ Some Processed)
+    × (became edi ((codes "content-encoding", codes "gzip") ∷ usual) ≡ Some UnsupportedFormat)
+    × (became edi ((codes "content-encoding", codes "identity") ∷ usual) ≡ Some Processed)
+unfolding reading names_of version_fits type_of is_report id_of ask_of how_of outcome_of encoding_refused without_blanks between_quotes bare
+signed_and_unsupported = (refl, refl, refl, refl, refl, refl, refl)
+
+-- the digest of the MIC
+abbrev digest_in : Reading → Option Alg
+digest_in (IsDocument p) = option_map (λ mic. mic.digest) p.mic
+digest_in other = None
+
+abbrev digest_of : Text → Option Alg
+digest_of options = digest_in (read (message (codes "1.0") (codes "Buyer") m1 edi (asks options)))
+
+mic_algorithms : (became edi (asks (codes "signed-receipt-micalg=required, sha-384")) ≡ Some UnsupportedMicAlgorithms)
+    × (digest_of (codes "signed-receipt-micalg=required, sha-384") ≡ None)
+    × (digest_of (codes "signed-receipt-micalg=optional, sha-384") ≡ Some Sha1)
+    × (digest_of (codes "signed-receipt-micalg=optional, sha-384, MD5, sha1") ≡ Some Md5)
+unfolding reading names_of version_fits type_of is_report id_of ask_of how_of outcome_of encoding_refused mic_for without_blanks between_quotes bare
+mic_algorithms = (refl, refl, refl, refl)
+
+abbrev bare_head : Text → Head
+bare_head id = message (codes "1.0") (codes "Buyer") id edi []
+
+-- one value in two spellings is no repeat
+identifier_spelling : play (λ s. s.next_in) (empty 1) (Post (bare_head (codes "m1@x")) abc 1000 ∷ Post (bare_head m1) abc 1000 ∷ []) ≡ Some (http 200 Nothing ∷ http 409 (Words IdUsedBefore) ∷ [], 2)
+unfolding play reading names_of version_fits type_of is_report id_of value_of ask_of how_of outcome_of encoding_refused mic_for without_blanks between_quotes bare record_post answer_to
+identifier_spelling = refl
+
+-- an absent content type and the same one spelled out repeat each other
+absent_type_is_octets : play (λ s. s.next_in) (empty 1) (Post short_head abc 1000 ∷ Post (message (codes "1.0") (codes "Buyer") m1 (codes "application/octet-stream") []) abc 1000 ∷ []) ≡ Some (http 200 Nothing ∷ http 200 Nothing ∷ [], 2)
+unfolding play reading names_of version_fits type_of is_report id_of value_of ask_of how_of outcome_of encoding_refused mic_for without_blanks between_quotes bare record_post answer_to
+absent_type_is_octets = rw sha1_mic refl
+
+-- a document that isn't processed, and no receipt asked
+unprocessed_without_receipt : play (λ s. s.next_in) (empty 1) (Post (message (codes "1.0") (codes "Buyer") m1 (codes "application/pkcs7-mime") []) abc 1000 ∷ []) ≡ Some (http 400 (Words (NotProcessed DecryptionFailed)) ∷ [], 2)
+unfolding play reading names_of version_fits type_of is_report id_of value_of ask_of how_of outcome_of encoding_refused mic_for without_blanks between_quotes bare record_post answer_to
+unprocessed_without_receipt = refl
