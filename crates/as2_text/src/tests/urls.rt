@@ -62,9 +62,7 @@ fn addresses_are_told_from_other_texts(rt: HostRuntime) -> Result<(), Fail> {
 // An address of so many bytes, with a host of one.
 fn address(rt: &HostRuntime, length: usize) -> Result<Vec<u8>, Fail> {
     let mut text = Vec::from_slice(rt.alloc(), b"http://h/")?;
-    while text.len() < length {
-        text.push(b'x')?;
-    }
+    text.resize(length, b'x')?;
     Ok(text)
 }
 
@@ -82,9 +80,7 @@ fn an_address_has_1024_bytes_at_most(rt: HostRuntime) -> Result<(), Fail> {
 #[test]
 fn a_host_has_253_bytes_at_most(rt: HostRuntime) -> Result<(), Fail> {
     let mut text = Vec::from_slice(rt.alloc(), b"http://")?;
-    while text.len() < 7 + 253 {
-        text.push(b'h')?;
-    }
+    text.resize(7 + 253, b'h')?;
     assert!(rt; Url::parse(&text).is_some());
     text.push(b'h')?;
     assert!(rt; Url::parse(&text).is_none());
