@@ -1,14 +1,19 @@
 //! The codes that stand in the tables for what is one of a few.
 
-ghost use Rattle.std.specs.Prelude.{◌≡◌, pos, Some, IfSome};
+ghost use Rattle.std.specs.Prelude.{◌≡◌, pos, Ok, Some, IfSome};
+ghost use Rattle.sqlite_value.specs.Value.{owned};
 ghost use Rattle.as2_mdn.specs.declared.detail.Detail.{Detail as DetailOf};
 ghost use Rattle.as2_mdn.specs.declared.outcome.Outcome.{Outcome as OutcomeOf};
 ghost use Rattle.as2_exchange.specs.declared.attempt.Attempt.{Attempt as AttemptOf};
 ghost use Rattle.as2_exchange.specs.declared.inbox.MdnState.{MdnState as MdnStateOf};
 ghost use Rattle.as2_rows.specs.Codes.{outcome_code, how_code, mdn_code, attempt_code, detail_code};
+ghost use Rattle.as2_rows.specs.Rows.{whole};
 
+use crate::RowFault;
+use crate::cells::integer;
 use as2_exchange::{Attempt, How, MdnState};
 use as2_mdn::{Detail, Outcome};
+use sqlite::types::ValueRef;
 
 /// The code of how a receipt was asked for: 1 to 3.
 pub fn how_code(how: &How) -> i64
@@ -144,5 +149,45 @@ pub fn detail_of_code(code: i64) -> Option<Detail>
         13 => Some(Detail::TriesUsed),
         14 => Some(Detail::Overdue),
         _ => None,
+    }
+}
+
+/// What became of a received document, of the value of its column.
+pub fn outcome_in(value: ValueRef<'_>) -> Result<Outcome, RowFault>
+    ensures { (x : OutcomeOf) → owned value.entry ≡ whole (outcome_code x) → result ≡ Ok x }
+{
+    match outcome_of_code(integer(value)?) {
+        Some(outcome) => Ok(outcome),
+        None => Err(RowFault::NotAnEntry),
+    }
+}
+
+/// How a receipt stands, of the value of its column.
+pub fn mdn_in(value: ValueRef<'_>) -> Result<MdnState, RowFault>
+    ensures { (x : MdnStateOf) → owned value.entry ≡ whole (mdn_code x) → result ≡ Ok x }
+{
+    match mdn_of_code(integer(value)?) {
+        Some(mdn) => Ok(mdn),
+        None => Err(RowFault::NotAnEntry),
+    }
+}
+
+/// Whether a try is open, of the value of its column.
+pub fn attempt_in(value: ValueRef<'_>) -> Result<Attempt, RowFault>
+    ensures { (x : AttemptOf) → owned value.entry ≡ whole (attempt_code x) → result ≡ Ok x }
+{
+    match attempt_of_code(integer(value)?) {
+        Some(attempt) => Ok(attempt),
+        None => Err(RowFault::NotAnEntry),
+    }
+}
+
+/// How a document that is sent stands, of the value of its column.
+pub fn detail_in(value: ValueRef<'_>) -> Result<Detail, RowFault>
+    ensures { (x : DetailOf) → owned value.entry ≡ whole (detail_code x) → result ≡ Ok x }
+{
+    match detail_of_code(integer(value)?) {
+        Some(detail) => Ok(detail),
+        None => Err(RowFault::NotAnEntry),
     }
 }
