@@ -20,3 +20,6 @@ pub use fault::RowFault;
 pub use inbox::InRow;
 pub use optional::{digest_of, mic_of, url_of};
 pub use outbox::OutRow;
+
+#[cfg(test)]
+mod tests;
