@@ -1,8 +1,8 @@
-use super::row_of;
+use super::{row_of, row_with};
 use crate::*;
-use as2_exchange::{Attempt, How, MdnState};
+use as2_exchange::{Attempt, MdnState};
 use as2_mdn::Outcome;
-use as2_mic::{Alg, Pieces};
+use as2_mic::Pieces;
 use sqlite::types::ValueRef;
 use std::test::Fail;
 
@@ -181,47 +181,53 @@ const REFUSED: [Case; 30] = [
 #[test]
 fn a_row_is_read_as_its_entry(rt: HostRuntime) -> Result<(), Fail> {
     let row = row_of(rt.alloc(), &PROCESSED)?;
-    match InRow::read(rt.alloc(), &row) {
-        Ok(read) => {
-            assert_eq!(rt; read.number, 1);
-            assert!(rt; read.sender.bytes() == b"Buyer".as_slice());
-            assert!(rt; read.receiver.bytes() == b"Supplier".as_slice());
-            assert!(rt; read.id.as_received() == "<m1@x>");
-            assert!(rt; read.content_type.as_slice() == b"application/edi-x12".as_slice());
-            assert_eq!(rt; read.length, 3);
-            assert_eq!(rt; read.moment.seconds(), 1000);
-            assert_eq!(rt; read.outcome, Outcome::Processed);
-            assert!(rt;
-                matches!(&read.how, How::Async(url) if url.as_slice() == b"http://127.0.0.1:8081/as2".as_slice())
-            );
-            assert!(rt;
-                matches!(read.mic, Some(mic) if mic.digest == Alg::Sha1 && mic.text.bytes() == b"qZk+NkcGgWq6PiVxeFDCbJzQ2J0=".as_slice())
-            );
-            assert_eq!(rt; read.mdn, MdnState::Pending);
-            assert_eq!(rt; read.tries, 4);
-            assert_eq!(rt; read.attempt, Attempt::Running);
-            assert_eq!(rt; read.due, Some(1030));
-        }
-        Err(_) => assert!(rt; false),
-    }
+    let Ok(read) = InRow::read(rt.alloc(), &row) else {
+        return Err(Fail::new("no entry"));
+    };
+    assert_eq!(rt; read.number, 1);
+    assert!(rt; read.sender.bytes() == b"Buyer".as_slice());
+    assert!(rt; read.receiver.bytes() == b"Supplier".as_slice());
+    assert!(rt; read.id.as_received() == "<m1@x>");
+    assert!(rt; read.content_type.as_slice() == b"application/edi-x12".as_slice());
+    assert_eq!(rt; read.length, 3);
+    assert_eq!(rt; read.moment.seconds(), 1000);
+    assert_eq!(rt; read.outcome, Outcome::Processed);
+    assert_eq!(rt; read.mdn, MdnState::Pending);
+    assert_eq!(rt; read.tries, 4);
+    assert_eq!(rt; read.attempt, Attempt::Running);
+    assert_eq!(rt; read.due, Some(1030));
+    Ok(())
+}
+
+#[test]
+fn address_and_mic_are_read(rt: HostRuntime) -> Result<(), Fail> {
+    let row = row_of(rt.alloc(), &PROCESSED)?;
+    let Ok(read) = InRow::read(rt.alloc(), &row) else {
+        return Err(Fail::new("no entry"));
+    };
+    assert!(rt;
+        matches!(url_of(&read.how), Some(url) if url == b"http://127.0.0.1:8081/as2".as_slice())
+    );
+    assert!(rt; matches!(digest_of(&read.mic), Some(name) if name == "sha1"));
+    assert!(rt;
+        matches!(mic_of(&read.mic), Some(text) if text == b"qZk+NkcGgWq6PiVxeFDCbJzQ2J0=".as_slice())
+    );
     Ok(())
 }
 
 #[test]
 fn what_is_null_is_absent(rt: HostRuntime) -> Result<(), Fail> {
     let row = row_of(rt.alloc(), &ENVELOPED)?;
-    match InRow::read(rt.alloc(), &row) {
-        Ok(read) => {
-            assert_eq!(rt; read.number, 999_999_999_999);
-            assert_eq!(rt; read.outcome, Outcome::DecryptionFailed);
-            assert!(rt; matches!(read.how, How::NoReceipt));
-            assert!(rt; read.mic.is_none());
-            assert_eq!(rt; read.mdn, MdnState::Unasked);
-            assert_eq!(rt; read.attempt, Attempt::Idle);
-            assert_eq!(rt; read.due, None);
-        }
-        Err(_) => assert!(rt; false),
-    }
+    let Ok(read) = InRow::read(rt.alloc(), &row) else {
+        return Err(Fail::new("no entry"));
+    };
+    assert_eq!(rt; read.number, 999_999_999_999);
+    assert_eq!(rt; read.outcome, Outcome::DecryptionFailed);
+    assert_eq!(rt; how_code(&read.how), 1);
+    assert!(rt; read.mic.is_none());
+    assert_eq!(rt; read.mdn, MdnState::Unasked);
+    assert_eq!(rt; read.attempt, Attempt::Idle);
+    assert_eq!(rt; read.due, None);
     Ok(())
 }
 
@@ -229,26 +235,24 @@ fn what_is_null_is_absent(rt: HostRuntime) -> Result<(), Fail> {
 fn an_entry_has_its_content(rt: HostRuntime) -> Result<(), Fail> {
     let row = row_of(rt.alloc(), &PROCESSED)?;
     let mut content = Pieces::new(rt.alloc());
-    content.append(b"abc")?;
-    match InRow::read(rt.alloc(), &row) {
-        Ok(read) => {
-            let entry = read.with_content(content);
-            assert_eq!(rt; entry.number, 1);
-            assert_eq!(rt; entry.posted.content.len(), 3);
-            assert!(rt; entry.posted.id.value() == "m1@x");
-            assert_eq!(rt; entry.due, Some(1030));
-        }
-        Err(_) => assert!(rt; false),
+    if content.append(b"abc").is_err() {
+        return Err(Fail::new("no memory"));
     }
+    let Ok(read) = InRow::read(rt.alloc(), &row) else {
+        return Err(Fail::new("no entry"));
+    };
+    let entry = read.with_content(content);
+    assert_eq!(rt; entry.number, 1);
+    assert_eq!(rt; entry.posted.content.len(), 3);
+    assert!(rt; entry.posted.id.value() == "m1@x");
+    assert_eq!(rt; entry.due, Some(1030));
     Ok(())
 }
 
 #[test]
 fn a_row_that_is_none_of_an_entry_is_refused(rt: HostRuntime) -> Result<(), Fail> {
     for case in &REFUSED {
-        let mut values = PROCESSED;
-        values[case.column] = case.value;
-        let row = row_of(rt.alloc(), &values)?;
+        let row = row_with(rt.alloc(), &PROCESSED, case.column, case.value)?;
         assert!(rt; matches!(InRow::read(rt.alloc(), &row), Err(RowFault::NotAnEntry)));
     }
     Ok(())

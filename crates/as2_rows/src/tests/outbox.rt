@@ -1,6 +1,6 @@
-use super::row_of;
+use super::{row_of, row_with};
 use crate::*;
-use as2_exchange::Attempt;
+use as2_exchange::{Attempt, Evidence};
 use as2_mdn::Detail;
 use as2_mic::Pieces;
 use sqlite::types::ValueRef;
@@ -80,35 +80,43 @@ const REFUSED: [Case; 10] = [
 #[test]
 fn a_row_is_read_as_its_document(rt: HostRuntime) -> Result<(), Fail> {
     let row = row_of(rt.alloc(), &SETTLED)?;
+    let Ok(read) = OutRow::read(rt.alloc(), &row) else {
+        return Err(Fail::new("no document"));
+    };
+    assert_eq!(rt; read.number, 1);
+    assert!(rt; read.organization.bytes() == b"Supplier".as_slice());
+    assert!(rt; read.partner.bytes() == b"Buyer".as_slice());
+    assert!(rt; read.id.value() == "out-1@station.example");
+    assert_eq!(rt; read.length, 3);
+    assert_eq!(rt; read.moment.seconds(), 1000);
+    assert_eq!(rt; read.tries, 1);
+    assert_eq!(rt; read.attempt, Attempt::Idle);
+    assert_eq!(rt; read.due, None);
+    assert_eq!(rt; read.detail, Detail::Processed);
+    Ok(())
+}
+
+#[test]
+fn a_document_has_its_content(rt: HostRuntime) -> Result<(), Fail> {
+    let row = row_of(rt.alloc(), &SETTLED)?;
     let mut content = Pieces::new(rt.alloc());
-    content.append(b"abc")?;
-    match OutRow::read(rt.alloc(), &row) {
-        Ok(read) => {
-            assert!(rt; read.organization.bytes() == b"Supplier".as_slice());
-            assert!(rt; read.partner.bytes() == b"Buyer".as_slice());
-            assert!(rt; read.id.value() == "out-1@station.example");
-            assert_eq!(rt; read.length, 3);
-            assert_eq!(rt; read.moment.seconds(), 1000);
-            assert_eq!(rt; read.tries, 1);
-            assert_eq!(rt; read.attempt, Attempt::Idle);
-            assert_eq!(rt; read.due, None);
-            assert_eq!(rt; read.detail, Detail::Processed);
-            let entry = read.with_content(content, None);
-            assert_eq!(rt; entry.number, 1);
-            assert_eq!(rt; entry.content.len(), 3);
-            assert!(rt; entry.evidence.is_none());
-        }
-        Err(_) => assert!(rt; false),
+    if content.append(b"abc").is_err() {
+        return Err(Fail::new("no memory"));
     }
+    let Ok(read) = OutRow::read(rt.alloc(), &row) else {
+        return Err(Fail::new("no document"));
+    };
+    let entry = read.with_content(content, None);
+    assert_eq!(rt; entry.number, 1);
+    assert_eq!(rt; entry.content.len(), 3);
+    assert!(rt; entry.evidence.is_none());
     Ok(())
 }
 
 #[test]
 fn a_row_that_is_none_of_a_document_is_refused(rt: HostRuntime) -> Result<(), Fail> {
     for case in &REFUSED {
-        let mut values = SETTLED;
-        values[case.column] = case.value;
-        let row = row_of(rt.alloc(), &values)?;
+        let row = row_with(rt.alloc(), &SETTLED, case.column, case.value)?;
         assert!(rt; matches!(OutRow::read(rt.alloc(), &row), Err(RowFault::NotAnEntry)));
     }
     Ok(())
@@ -117,19 +125,28 @@ fn a_row_that_is_none_of_a_document_is_refused(rt: HostRuntime) -> Result<(), Fa
 #[test]
 fn a_row_is_read_as_its_evidence(rt: HostRuntime) -> Result<(), Fail> {
     let row = row_of(rt.alloc(), &EVIDENCE)?;
-    match EvidenceRow::read(rt.alloc(), &row) {
-        Ok(read) => {
-            assert_eq!(rt; read.number, 1);
-            assert_eq!(rt; read.evidence.moment.seconds(), 1000);
-            assert!(rt; read.evidence.content_type.as_slice() == b"multipart/report".as_slice());
-            assert_eq!(rt; read.evidence.body.len(), 8);
-        }
-        Err(_) => assert!(rt; false),
-    }
-    let other = row_of(rt.alloc(), &SETTLED)?;
+    let Ok(read) = EvidenceRow::read(rt.alloc(), &row) else {
+        return Err(Fail::new("no evidence"));
+    };
+    let EvidenceRow { number, evidence } = read;
+    let Evidence {
+        moment,
+        content_type,
+        body,
+    } = evidence;
+    assert_eq!(rt; number, 1);
+    assert_eq!(rt; moment.seconds(), 1000);
+    assert!(rt; content_type.as_slice() == b"multipart/report".as_slice());
+    assert_eq!(rt; body.len(), 8);
+    Ok(())
+}
+
+#[test]
+fn a_row_of_another_table_is_no_evidence(rt: HostRuntime) -> Result<(), Fail> {
+    let row = row_of(rt.alloc(), &SETTLED)?;
     assert!(rt;
         matches!(
-            EvidenceRow::read(rt.alloc(), &other),
+            EvidenceRow::read(rt.alloc(), &row),
             Err(RowFault::NotAnEntry)
         )
     );
