@@ -1,8 +1,17 @@
-//! How the end of a stream is told to a shell: by the exit status, and by a name.
+//! How an end is told to a shell: by the exit status, and by a name.
 ghost use Rattle.std.specs.Prelude.{◌≡◌};
 ghost use Rattle.as2_desk.specs.Statuses.{end_name, status_of};
 
 use crate::first_path::Served;
+
+/// How a command line ended.
+#[derive(Clone, Copy, Debug, PartialEq, Eq)]
+pub struct Ran {
+    /// The exit status: 0 done, 1 refused, 2 a faulty command line.
+    pub status: u8,
+    /// Whether all that there was to say on standard error could be written.
+    pub told: bool,
+}
 
 /// What was asked for is done.
 pub(crate) const DONE: u8 = 0;
