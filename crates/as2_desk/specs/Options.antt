@@ -4,6 +4,7 @@ use Rattle.std.specs.Str.Parse.{IsNumeral, digits_value, without_leading_plus}
 use Rattle.as2_names.specs.Moments.{last_moment}
 use Rattle.clap.specs.Words.{Row, Text, first_of, one_of}
 use Rattle.as2_desk.specs.CommandLine.{command_in, faults, values}
+use Rattle.as2_desk.specs.declared.options.Posting.{Posting}
 use Rattle.as2_desk.specs.declared.options.Task.{Task}
 use Rattle.as2_desk.specs.declared.options.Task.TheVariants.{Check, Post}
 
@@ -28,16 +29,16 @@ SecondsAre (Some text) clock n = Says text n
 SecondsAre None clock n = clock ≡ Some n
 
 -- the number of the receipt and the moment that the values give a post
-pub record AsksPost (values : List Row) (clock : Option ℕ) (first moment : ℕ) : Type 0 where
-  pub number : NumberIs (one_of (codes "first") values) first
-  pub seconds : SecondsAre (one_of (codes "moment") values) clock moment
-  pub small : first < 2 ^ 64
-  pub early : moment ≤ last_moment
+pub record AsksPost (values : List Row) (clock : Option ℕ) (posting : Posting) : Type 0 where
+  pub number : NumberIs (one_of (codes "first") values) posting.first
+  pub seconds : SecondsAre (one_of (codes "moment") values) clock posting.moment
+  pub small : posting.first < 2 ^ 64
+  pub early : posting.moment ≤ last_moment
 
 -- what the command and the values ask for; a check needs no moment
 abbrev pub Asks : List Row → Option Text → Option ℕ → Task → Type 0
 Asks values command clock Check = command ≡ Some (codes "check")
-Asks values command clock (Post first moment) = (command ≡ Some (codes "post")) × AsksPost values clock first moment
+Asks values command clock (Post posting) = (command ≡ Some (codes "post")) × AsksPost values clock posting
 
 -- the path of the file of agreements, and what is asked for
 pub record Give (values : List Row) (command : Option Text) (clock : Option ℕ) (path : Text) (task : Task) : Type 0 where

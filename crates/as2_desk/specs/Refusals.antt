@@ -11,16 +11,15 @@ use Rattle.as2_desk.specs.declared.refusal.Refusal.TheVariants as refusal
 
 -- `refused: NAME`
 abbrev pub refused_line : List ℕ → List ℕ
-refused_line name = codes "refused: " ++ name ++ codes "\n"
+refused_line name = codes "refused: " ++ (name ++ codes "\n")
 
--- the key behind the name of a fault, where it has one
-abbrev pub named_key : Option Key → List ℕ
-named_key (Some key) = codes " " ++ key_name key
-named_key None = codes ""
+-- `agreements: NAME`, and the key where there is one
+abbrev pub fault_line : List ℕ → Option Key → List ℕ
+fault_line name None = codes "agreements: " ++ (name ++ codes "\n")
+fault_line name (Some key) = codes "agreements: " ++ (name ++ (codes " " ++ (key_name key ++ codes "\n")))
 
--- `agreements: NAME`, or `agreements: NAME KEY`
 abbrev pub agreements_line : AgreementFault → List ℕ
-agreements_line fault = codes "agreements: " ++ fault_name fault ++ named_key (fault_key fault) ++ codes "\n"
+agreements_line fault = fault_line (fault_name fault) (fault_key fault)
 
 -- the line of a refusal
 abbrev pub line : Refusal → List ℕ

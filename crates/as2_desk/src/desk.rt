@@ -2,14 +2,13 @@
 ghost use Rattle.std.specs.Prelude.{◌≡◌, ◌≢◌, ◌⊎◌, ℕ, List, [], true, IfErr, IfOk};
 ghost use Rattle.std.specs.Io.KnownBytes.{Appends};
 ghost use Rattle.clap.specs.Walk.{texts};
-ghost use Rattle.clap.specs.Words.{HasKind, app_of, found_of, kind_of, rows_of, subcommand_rows_of};
-ghost use Rattle.clap.specs.Simple.{subcommand_of};
+ghost use Rattle.clap.specs.Words.{HasKind, app_of, found_of, kind_of, rows_of, subcommand_name_of};
 ghost use Rattle.clap.specs.declared.error.kind.ErrorKind.TheVariants.{OutOfMemory, ValueValidation};
-ghost use Rattle.as2_desk.specs.CommandLine.{AsksForHelp, IsHelp, command_line, faults, values};
+ghost use Rattle.as2_desk.specs.CommandLine.{AsksForHelp, IsHelp, command_in, command_line, faults, values};
 ghost use Rattle.as2_desk.specs.Options.{Gives, GivesNone};
-ghost use Rattle.as2_desk.specs.Refusals.{line};
+ghost use Rattle.as2_desk.specs.Refusals.{end_line, line};
 ghost use Rattle.as2_desk.specs.Runs.{Counts, Ends, Posts, Runs};
-ghost use Rattle.as2_desk.specs.Statuses.{done, faulty, refused};
+ghost use Rattle.as2_desk.specs.Statuses.{done, faulty, refused, status_of};
 ghost use Rattle.as2_desk.specs.declared.options.Task.{Task as TheTask};
 ghost use Rattle.as2_desk.specs.declared.refusal.Refusal.TheVariants.{Memory};
 
@@ -18,11 +17,10 @@ use crate::check::write_counts;
 use crate::command::command;
 use crate::files::ReadFiles;
 use crate::first_path::{Served, first_post};
-use crate::options::{OptionFault, Options, Task};
+use crate::options::{OptionFault, Options, Posting, Task};
 use crate::refusal::{Refusal, is_said};
-use crate::status::{DONE, FAULTY, REFUSED, Ran, status_of};
+use crate::status::{DONE, FAULTY, REFUSED, Ran};
 use as2_agreement::Agreements;
-use as2_text::Moment;
 use clap::error::ErrorKind;
 use clap::{ArgMatches, Command, Error};
 use std::alloc::{AllocError, Global};
@@ -60,7 +58,7 @@ pub fn run<F: ReadFiles, R: Read, W: Write, E: Write>(
     ensures untouched { result.status ≡ faulty → (input.new ≡ input.old) × (output.new ≡ output.old) }
 {
     match options(alloc, words, clock) {
-        Ok(options) => carry_out(alloc, options, files, input, output, errors),
+        Ok(options) => carry_out(alloc, &options, files, input, output, errors),
         Err(error) => tell(alloc, &error, output, errors),
     }
 }
@@ -84,7 +82,7 @@ fn parse<'a>(command: &mut Command<'a>, words: &'a [&'a str]) -> Result<ArgMatch
     requires { app_of command.old ≡ command_line }
     ensures found { IfOk result (λ m. (faults (texts words.entry.now) ≡ [])
         × (rows_of (found_of m) ≡ values (texts words.entry.now))
-        × (subcommand_rows_of m ≡ subcommand_of command_line (texts words.entry.now))) }
+        × (subcommand_name_of m ≡ command_in (texts words.entry.now))) }
     ensures fault { IfErr result (HasKind (faults (texts words.entry.now))) }
 {
     command.try_get_matches_from_mut(words)
@@ -105,14 +103,14 @@ fn explained(
 /// Does what is asked for, over the agreements.
 fn carry_out<F: ReadFiles, R: Read, W: Write, E: Write>(
     alloc: Global,
-    options: Options<'_>,
+    options: &Options<'_>,
     files: &F,
     input: &mut R,
     output: &mut W,
     errors: &mut E,
 ) -> Ran
     ensures status { (result.status ≡ done) ⊎ (result.status ≡ refused) }
-    ensures runs { Runs (F.content files.now options.entry.agreements.now) options.entry.task
+    ensures runs { Runs (F.content files.now options.now.agreements.now) options.now.task
         (R.remaining input.old) (R.remaining input.new) (input.new ≡ input.old) (output.new ≡ output.old)
         (Appends (W.contents output.old) (W.contents output.new)) (Appends (E.contents errors.old) (E.contents errors.new)) result }
 {
@@ -120,9 +118,7 @@ fn carry_out<F: ReadFiles, R: Read, W: Write, E: Write>(
         Err(refusal) => refuse(refusal, errors),
         Ok(agreements) => match options.task {
             Task::Check => check(&agreements, output, errors),
-            Task::Post(first, moment) => {
-                post(alloc, &agreements, first, moment, input, output, errors)
-            }
+            Task::Post(posting) => post(alloc, &agreements, posting, input, output, errors),
         },
     }
 }
@@ -146,20 +142,30 @@ fn check<W: Write, E: Write>(agreements: &Agreements, output: &mut W, errors: &m
 fn post<R: Read, W: Write, E: Write>(
     alloc: Global,
     agreements: &Agreements,
-    first: u64,
-    moment: Moment,
+    posting: Posting,
     input: &mut R,
     output: &mut W,
     errors: &mut E,
 ) -> Ran
     ensures status { (result.status ≡ done) ⊎ (result.status ≡ refused) }
-    ensures posts { Posts agreements.now first moment (R.remaining input.old) (R.remaining input.new)
+    ensures posts { Posts agreements.now posting (R.remaining input.old) (R.remaining input.new)
         (Appends (W.contents output.old) (W.contents output.new)) (Appends (E.contents errors.old) (E.contents errors.new)) result }
 {
+    let Posting { first, moment } = posting;
     let end = first_post(alloc, agreements, moment, first, input, output);
-    Ran {
-        status: status_of(end),
-        told: end == Served::Closed || is_said(Refusal::Stream(end), errors),
+    tell_end(end, errors)
+}
+
+/// Tells the end of a stream.
+fn tell_end<E: Write>(end: Served, errors: &mut E) -> Ran
+    ensures { Ends (status_of end) (end_line end) (Appends (E.contents errors.old) (E.contents errors.new)) result }
+{
+    match end {
+        Served::Closed => Ran {
+            status: DONE,
+            told: true,
+        },
+        _ => refuse(Refusal::Stream(end), errors),
     }
 }
 

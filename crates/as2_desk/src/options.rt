@@ -10,13 +10,21 @@ use as2_text::Moment;
 use clap::ArgMatches;
 use std::fmt;
 
+/// What a post is answered with besides the agreements.
+#[derive(Clone, Copy)]
+pub(crate) struct Posting {
+    /// The number of the receipt.
+    pub(crate) first: u64,
+    pub(crate) moment: Moment,
+}
+
 /// What is to be done with the agreements.
 #[derive(Clone, Copy)]
 pub(crate) enum Task {
     /// Their members are counted.
     Check,
-    /// A post is answered, with a receipt of that number, at that moment.
-    Post(u64, Moment),
+    /// A post is answered.
+    Post(Posting),
 }
 
 /// What a command line says.
@@ -85,7 +93,7 @@ fn asked_post<'a>(found: &ArgMatches<'a>, clock: Option<u64>) -> Result<Task, Op
 {
     let first = number(found, FIRST)?.ok_or(OptionFault::NoValue(FIRST))?;
     let moment = moment(found, clock)?;
-    Ok(Task::Post(first, moment))
+    Ok(Task::Post(Posting { first, moment }))
 }
 
 /// The number that an option says, if it is there.

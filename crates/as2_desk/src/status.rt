@@ -1,6 +1,6 @@
 //! How an end is told to a shell: by the exit status, and by a name.
 ghost use Rattle.std.specs.Prelude.{◌≡◌};
-ghost use Rattle.as2_desk.specs.Statuses.{end_name, status_of};
+ghost use Rattle.as2_desk.specs.Statuses.{end_name};
 
 use crate::first_path::Served;
 
@@ -19,16 +19,6 @@ pub(crate) const DONE: u8 = 0;
 pub(crate) const REFUSED: u8 = 1;
 /// The command line is faulty, and nothing was begun.
 pub(crate) const FAULTY: u8 = 2;
-
-/// The exit status that tells `end`.
-pub(crate) fn status_of(end: Served) -> u8
-    ensures { result ≡ status_of end }
-{
-    match end {
-        Served::Closed => DONE,
-        _ => REFUSED,
-    }
-}
 
 /// The name of `end`, as it is spelled in `Served`.
 pub(crate) fn end_name(end: Served) -> &'static str
