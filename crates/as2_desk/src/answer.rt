@@ -248,5 +248,11 @@ pub fn answer(
     if request.target != Target::Station {
         return Ok(HttpAnswer::line(404, "no such path"));
     }
-    post_answer(alloc, agreements, number, &request.fields, request.body.bytes())
+    post_answer(
+        alloc,
+        agreements,
+        number,
+        &request.fields,
+        request.body.bytes(),
+    )
 }

@@ -12,5 +12,8 @@ pub(crate) fn write_counts<W: Write>(agreements: &Agreements, output: &mut W) ->
     ensures { OnOk result (Appends (W.contents output.old) (W.contents output.new) (counts_line agreements.now)) }
 {
     let (organizations, partners) = agreements.counts();
-    write!(output, "organizations {organizations}, partners {partners}\n")
+    write!(
+        output,
+        "organizations {organizations}, partners {partners}\n"
+    )
 }

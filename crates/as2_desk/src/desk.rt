@@ -46,9 +46,9 @@ pub fn run<F: ReadFiles, R: Read, W: Write, E: Write>(
     ensures runs { (path : List ℕ) (task : TheTask)
         → Gives (texts words.entry.now) clock path task
         → Runs (F.content files.now path) task (R.remaining input.old) (R.remaining input.new) (input.new ≡ input.old) (output.new ≡ output.old)
-            (Appends (W.contents output.old) (W.contents output.new)) (Appends (E.contents errors.old) (E.contents errors.new)) result
+        (Appends (W.contents output.old) (W.contents output.new)) (Appends (E.contents errors.old) (E.contents errors.new)) result
         ⊎ ((input.new ≡ input.old) × (output.new ≡ output.old)
-            × Ends refused (line Memory) (Appends (E.contents errors.old) (E.contents errors.new)) result) }
+        × Ends refused (line Memory) (Appends (E.contents errors.old) (E.contents errors.new)) result) }
     // Words that ask for nothing run nothing.
     ensures unread { GivesNone (texts words.entry.now) clock → input.new ≡ input.old }
     // They are faulty, unless they ask for the help or the version; memory may be wanting to say so.
@@ -64,7 +64,11 @@ pub fn run<F: ReadFiles, R: Read, W: Write, E: Write>(
 }
 
 /// What the words ask for, or what there is to say in place of it.
-fn options<'a>(alloc: Global, words: &'a [&'a str], clock: Option<u64>) -> Result<Options<'a>, Error>
+fn options<'a>(
+    alloc: Global,
+    words: &'a [&'a str],
+    clock: Option<u64>,
+) -> Result<Options<'a>, Error>
     ensures given { IfOk result (λ o. Gives (texts words.entry.now) clock o.agreements.now o.task) }
     ensures none { IfErr result (λ e. kind_of e ≢ OutOfMemory → GivesNone (texts words.entry.now) clock) }
     ensures help { IfErr result (λ e. IsHelp (kind_of e) → AsksForHelp (texts words.entry.now)) }
@@ -185,8 +189,9 @@ fn tell<W: Write, E: Write>(alloc: Global, error: &Error, output: &mut W, errors
     ensures fault { ¬ IsHelp (kind_of error.now)
         → ((result.status ≡ faulty) ⊎ (result.status ≡ refused)) × (output.new ≡ output.old) }
     ensures help { IsHelp (kind_of error.now) → result.status ≢ faulty }
-    ensures memory { kind_of error.now ≡ OutOfMemory
-        → Ends refused (line Memory) (Appends (E.contents errors.old) (E.contents errors.new)) result }
+    // Want of memory is told as such, or the error is another.
+    ensures memory { ((output.new ≡ output.old) × Ends refused (line Memory) (Appends (E.contents errors.old) (E.contents errors.new)) result)
+        ⊎ (kind_of error.now ≢ OutOfMemory) }
 {
     if error.kind() == ErrorKind::OutOfMemory {
         return refuse(Refusal::Memory, errors);

@@ -1,6 +1,9 @@
 //! Command lines over files of agreements.
 use super::file::OneFile;
-use super::{AGREEMENTS, AT_1000, Broken, FIXTURE, NOTHING, Outcome, POST, RECEIPT, changed, run_words};
+use super::{
+    AGREEMENTS, AT_1000, Broken, Change, FIXTURE, NOTHING, Outcome, POST, RECEIPT, changed,
+    run_words,
+};
 use crate::run;
 use std::alloc::{AllocError, Global};
 use std::test::Fail;
@@ -42,7 +45,7 @@ fn over<'a>(
 /// What is changed in the agreements, each at the first place, and what is then said of them.
 #[derive(Clone, Copy)]
 struct Case {
-    changes: &'static [(&'static str, &'static str)],
+    changes: &'static [Change],
     errors: &'static str,
 }
 
@@ -97,13 +100,19 @@ const CASES: [Case; 11] = [
     },
 ];
 
+/// The agreements with each change made at its first place.
+fn with_first(alloc: Global, changes: &[Change]) -> Result<String, AllocError> {
+    let mut text = String::from_str(alloc, AGREEMENTS)?;
+    for change in changes {
+        text = text.replacen(alloc, change.0, change.1, 1)?;
+    }
+    Ok(text)
+}
+
 #[test]
 fn each_fault_is_told_by_both_commands(rt: HostRuntime) -> Result<(), Fail> {
     for case in CASES {
-        let mut text = String::from_str(rt.alloc(), AGREEMENTS)?;
-        for (old, new) in case.changes {
-            text = text.replacen(rt.alloc(), *old, *new, 1)?;
-        }
+        let text = with_first(rt.alloc(), case.changes)?;
         let ran = over(rt.alloc(), text.as_bytes(), ["check"].as_slice(), "")?;
         assert_eq!(rt; std::str::from_utf8(ran.errors.as_slice())?, case.errors);
         assert_eq!(rt; std::str::from_utf8(ran.output.as_slice())?, "");

@@ -372,28 +372,33 @@ fn a_moment_is_wanted_where_the_clock_tells_none(rt: HostRuntime) -> Result<(), 
         path: "agreements.toml",
         bytes: AGREEMENTS.as_bytes(),
     };
-    for clock in [None, Some(253_402_300_800)] {
-        // A check needs none.
-        for (command, status, told) in [
-            ("post", 2, "error: the clock tells no moment"),
-            ("check", 0, ""),
-        ] {
-            let words = ["as2desk", "--agreements", "agreements.toml", command];
-            let mut output = Vec::new(rt.alloc());
-            let mut errors = Vec::new(rt.alloc());
-            let mut input = b"".as_slice();
-            let ran = run(
-                rt.alloc(),
-                words.as_slice(),
-                clock,
-                &files,
-                &mut input,
-                &mut output,
-                &mut errors,
-            );
-            assert_eq!(rt; ran.status, status);
-            assert!(rt; errors.as_slice().starts_with(told.as_bytes()));
-        }
+    // A check needs none.
+    for (clock, command, status, told) in [
+        (None, "post", 2, "error: the clock tells no moment"),
+        (
+            Some(253_402_300_800),
+            "post",
+            2,
+            "error: the clock tells no moment",
+        ),
+        (None, "check", 0, ""),
+        (Some(253_402_300_800), "check", 0, ""),
+    ] {
+        let words = ["as2desk", "--agreements", "agreements.toml", command];
+        let mut output = Vec::new(rt.alloc());
+        let mut errors = Vec::new(rt.alloc());
+        let mut input = b"".as_slice();
+        let ran = run(
+            rt.alloc(),
+            words.as_slice(),
+            clock,
+            &files,
+            &mut input,
+            &mut output,
+            &mut errors,
+        );
+        assert_eq!(rt; ran.status, status);
+        assert!(rt; errors.as_slice().starts_with(told.as_bytes()));
     }
     Ok(())
 }
