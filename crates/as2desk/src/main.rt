@@ -1,5 +1,6 @@
 //! The program `as2desk`: an AS2 station at the command line.
 #![tactic(auto)]
+
 ghost use Rattle.as2_desk.specs.FileContents.{untold};
 
 use as2_desk::{FileFault, ReadFiles};
@@ -9,6 +10,7 @@ use std::time::SystemTime;
 use std::{env, fs, io};
 
 /// The file system.
+#[derive(Clone, Copy)]
 struct FileSystem<'a> {
     rt: &'a HostRuntime,
 }
