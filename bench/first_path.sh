@@ -4,11 +4,11 @@
 set -eu
 top=$(cd "$(dirname "$0")/.." && pwd)
 "$top/as2desk" --version > /dev/null
-exec python3 - "$top/crates/as2desk/out/as2desk" "$top/examples/plain-post.http" <<'END'
+exec python3 - "$top/crates/as2desk/out/as2desk" "$top/examples/plain-post.http" "$top/examples/agreements.toml" <<'END'
 import os, statistics, subprocess, sys, tempfile, time
 
-program, plain = sys.argv[1:]
-OPTIONS = ["--organization", "Supplier", "--partner", "Buyer", "--domain", "station.example", "--moment", "1000", "post"]
+program, plain, agreements = sys.argv[1:]
+OPTIONS = ["--agreements", agreements, "--moment", "1000", "post"]
 SIZE = 1_048_576
 
 

@@ -11,7 +11,8 @@ import subprocess
 import sys
 
 TOP = pathlib.Path(__file__).resolve().parents[2]
-OPTIONS = ["--organization", "Supplier", "--partner", '"A \\"B\\" \\\\ C"', "--domain", "station.example", "--first", "42", "--moment", "1000", "post"]
+OPTIONS = ["--agreements", str(TOP / "examples" / "agreements.toml"), "--first", "42", "--moment", "1000", "post"]
+PARTNER = '"A \\"B\\" \\\\ C"'
 CONTENT = b"UNB+UNOA:1+SENDER+RECEIVER'\r\n\x00\xff"
 IDENTIFIER = "<a.b+c=d@x.example>"
 
@@ -32,7 +33,7 @@ POSTS = [
 
 
 def post(content_type, fields, options, content):
-    head = ["POST /as2 HTTP/1.1", "AS2-From: " + OPTIONS[3], "AS2-To: Supplier", "Message-ID: " + IDENTIFIER, "Content-Type: " + content_type,
+    head = ["POST /as2 HTTP/1.1", "AS2-From: " + PARTNER, "AS2-To: Supplier", "Message-ID: " + IDENTIFIER, "Content-Type: " + content_type,
             "Disposition-Notification-To: a@x", *fields]
     if options is not None:
         head.append("Disposition-Notification-Options: " + options)
@@ -55,7 +56,7 @@ def check(reply, content, outcome, digest):
     expect("length", int(report["Content-Length"]), len(body))
     expect("AS2-Version", report["AS2-Version"], "1.0")
     expect("AS2-From", report["AS2-From"], "Supplier")
-    expect("AS2-To", report["AS2-To"], OPTIONS[3])
+    expect("AS2-To", report["AS2-To"], PARTNER)
     expect("Message-ID", str(report["Message-ID"]), "<mdn-42@station.example>")
     expect("type", report.get_content_type(), "multipart/report")
     expect("report type", report.get_param("report-type"), "disposition-notification")

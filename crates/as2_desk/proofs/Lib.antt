@@ -1,4 +1,5 @@
 mod Given
+mod Ending
 mod Numbers
 mod Ranges
 pub mod Sending

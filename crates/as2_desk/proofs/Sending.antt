@@ -12,37 +12,37 @@ use Rattle.as2_desk.specs.FirstPath.{FirstPath, Sent, UnlessWriteFault, form_of,
 use Rattle.as2_desk.specs.PostAnswers.{answer}
 use Rattle.as2_desk.specs.declared.first_path.Served.{Served}
 use Rattle.as2_desk.specs.declared.first_path.Served.TheVariants.{Closed, BadFraming}
-use Rattle.as2_desk.specs.declared.names.Names.{Names}
+use Rattle.as2_agreement.specs.Agreements.{AgreedValues}
 
 -- what the first path promises of an end
-abbrev Promised : Names → ℕ → ℕ → List ℕ → Option (List ℕ) → Option (List ℕ) → Option (List ℕ) → Served → Type 0
-Promised names moment number input after before now end =
-    UnlessWriteFault end ((text : List ℕ) × FirstPath names moment number input after end text × Appends before now text)
+abbrev Promised : AgreedValues → ℕ → ℕ → List ℕ → Option (List ℕ) → Option (List ℕ) → Option (List ℕ) → Served → Type 0
+Promised agreements moment number input after before now end =
+    UnlessWriteFault end ((text : List ℕ) × FirstPath agreements moment number input after end text × Appends before now text)
 
 -- the answer to a request was sent
-pub request_sent : (names : Names) (moment number : ℕ) (input : List ℕ) (after before now : Option (List ℕ)) (r : Request) (form : Form) (a : Answer) (result : Served)
-    → ((rest : List ℕ) × Begins input r rest) → LeavesUnread input after → form ≡ form_of r → a ≡ answer names number r → Sent moment form a before now Closed result
-    → Promised names moment number input after before now result
-request_sent names moment number input after before now r form a result b unread f e (inl (is, (text, reply, app))) =
-    let told : IsReply moment (form_of r) (answer names number r) text =
-    subst (λ (x : Form). IsReply moment x (answer names number r) text) f (subst (λ (x : Answer). IsReply moment form x text) e reply) in
-    subst (Promised names moment number input after before now) (sym is)
+pub request_sent : (agreements : AgreedValues) (moment number : ℕ) (input : List ℕ) (after before now : Option (List ℕ)) (r : Request) (form : Form) (a : Answer) (result : Served)
+    → ((rest : List ℕ) × Begins input r rest) → LeavesUnread input after → form ≡ form_of r → a ≡ answer agreements number r → Sent moment form a before now Closed result
+    → Promised agreements moment number input after before now result
+request_sent agreements moment number input after before now r form a result b unread f e (inl (is, (text, reply, app))) =
+    let told : IsReply moment (form_of r) (answer agreements number r) text =
+    subst (λ (x : Form). IsReply moment x (answer agreements number r) text) f (subst (λ (x : Answer). IsReply moment form x text) e reply) in
+    subst (Promised agreements moment number input after before now) (sym is)
     (text, inl (record { request = r; rest = b.0; begins = b.1; reply = told; unread = unread }), app)
-request_sent names moment number input after before now r form a result b unread f e (inr (inl (is, app))) =
-    subst (Promised names moment number input after before now) (sym is) ([], refl, app)
-request_sent names moment number input after before now r form a result b unread f e (inr (inr is)) =
-    subst (Promised names moment number input after before now) (sym is) tt
+request_sent agreements moment number input after before now r form a result b unread f e (inr (inl (is, app))) =
+    subst (Promised agreements moment number input after before now) (sym is) ([], refl, app)
+request_sent agreements moment number input after before now r form a result b unread f e (inr (inr is)) =
+    subst (Promised agreements moment number input after before now) (sym is) tt
 
 -- the reason was sent why no request begins there
-pub refusal_sent : (names : Names) (moment number : ℕ) (input : List ℕ) (after before now : Option (List ℕ)) (refused : Refused) (form : Form) (a : Answer) (result : Served)
+pub refusal_sent : (agreements : AgreedValues) (moment number : ℕ) (input : List ℕ) (after before now : Option (List ℕ)) (refused : Refused) (form : Form) (a : Answer) (result : Served)
     → Refuses input refused → LeavesUnread input after → form ≡ refusal_form refused → a ≡ refusal refused.reason → Sent moment form a before now BadFraming result
-    → Promised names moment number input after before now result
-refusal_sent names moment number input after before now refused form a result refuses unread f e (inl (is, (text, reply, app))) =
+    → Promised agreements moment number input after before now result
+refusal_sent agreements moment number input after before now refused form a result refuses unread f e (inl (is, (text, reply, app))) =
     let told : IsReply moment (refusal_form refused) (refusal refused.reason) text =
     subst (λ (x : Form). IsReply moment x (refusal refused.reason) text) f (subst (λ (x : Answer). IsReply moment form x text) e reply) in
-    subst (Promised names moment number input after before now) (sym is)
+    subst (Promised agreements moment number input after before now) (sym is)
     (text, record { refused = refused; refuses = refuses; reply = told; unread = unread }, app)
-refusal_sent names moment number input after before now refused form a result refuses unread f e (inr (inl (is, app))) =
-    subst (Promised names moment number input after before now) (sym is) ([], refl, app)
-refusal_sent names moment number input after before now refused form a result refuses unread f e (inr (inr is)) =
-    subst (Promised names moment number input after before now) (sym is) tt
+refusal_sent agreements moment number input after before now refused form a result refuses unread f e (inr (inl (is, app))) =
+    subst (Promised agreements moment number input after before now) (sym is) ([], refl, app)
+refusal_sent agreements moment number input after before now refused form a result refuses unread f e (inr (inr is)) =
+    subst (Promised agreements moment number input after before now) (sym is) tt

@@ -1,7 +1,7 @@
 -- The command line of the program, in the terms of the parser of words.
-use Rattle.std.specs.Prelude.{◌≡◌, ◌⊎◌, ℕ, List, [], ◌∷◌, Some, true, codes}
+use Rattle.std.specs.Prelude.{◌≡◌, ◌⊎◌, ℕ, List, [], ◌∷◌, Option, Some, option_map, true, codes}
 use Rattle.as2_names.specs.Moments.{last_moment}
-use Rattle.clap.specs.Words.{App, Row, Rule, Text, fault_of, matches_of, new_app, new_rule, with_rule, with_subcommand}
+use Rattle.clap.specs.Words.{App, Row, Rule, Text, fault_of, matches_of, new_app, new_rule, subcommand_of, with_rule, with_subcommand}
 use Rattle.clap.specs.Simple.{new_shape, on_top}
 use Rattle.clap.specs.Kinds.{IsAmong, Kinds}
 use Rattle.clap.specs.declared.builder.value_parser.ValueParser.TheVariants.{Unsigned}
@@ -34,12 +34,11 @@ program = on_top (λ s. record s { has_version = true; subcommand_required = tru
     (new_app (codes "as2desk"))
 
 abbrev pub options : App
-options = with_rule (with_rule (with_rule (with_rule (with_rule program (needed (codes "organization"))) (needed (codes "partner")))
-    (needed (codes "domain"))) first) moment
+options = with_rule (with_rule (with_rule program (needed (codes "agreements"))) first) moment
 
--- as2desk OPTIONS post
+-- as2desk OPTIONS check, as2desk OPTIONS post
 abbrev pub command_line : App
-command_line = with_subcommand options (new_shape (codes "post"))
+command_line = with_subcommand (with_subcommand options (new_shape (codes "check"))) (new_shape (codes "post"))
 
 -- why the words are no such command line; of one that is, nothing
 abbrev pub faults : List Text → Kinds
@@ -48,6 +47,10 @@ faults words = fault_of command_line words
 -- the values that the words give the options
 abbrev pub values : List Text → List Row
 values words = matches_of command_line words
+
+-- the command that the words name
+abbrev pub command_in : List Text → Option Text
+command_in words = option_map (λ p. p.0) (subcommand_of command_line words)
 
 -- help or the version, and no fault
 abbrev pub IsHelp : ErrorKind → Type 0

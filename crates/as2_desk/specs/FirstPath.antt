@@ -10,7 +10,7 @@ use Rattle.as2_http.specs.declared.arrival.Request.{Request}
 use Rattle.as2_http.specs.declared.framing.Refused.{Refused}
 use Rattle.as2_http.specs.declared.reply.Form.{Form}
 use Rattle.as2_desk.specs.PostAnswers.{answer}
-use Rattle.as2_desk.specs.declared.names.Names.{Names}
+use Rattle.as2_agreement.specs.Agreements.{AgreedValues}
 use Rattle.as2_desk.specs.declared.first_path.Served.{Served}
 use Rattle.as2_desk.specs.declared.first_path.Served.TheVariants.{Closed, Truncated, BadFraming, ReadFault, WriteFault, Memory, TooLong}
 
@@ -23,11 +23,11 @@ abbrev pub refusal_form : Refused → Form
 refusal_form refused = record { closes = true; to_head = refused.to_head }
 
 -- the input begins with a request, the text is its reply, and no more was read than that took
-pub record Replies (names : Names) (moment number : ℕ) (input : List ℕ) (after : Option (List ℕ)) (text : List ℕ) : Type 0 where
+pub record Replies (agreements : AgreedValues) (moment number : ℕ) (input : List ℕ) (after : Option (List ℕ)) (text : List ℕ) : Type 0 where
   pub request : Request
   pub rest : List ℕ
   pub begins : Begins input request rest
-  pub reply : IsReply moment (form_of request) (answer names number request) text
+  pub reply : IsReply moment (form_of request) (answer agreements number request) text
   pub unread : LeavesUnread input after
 
 -- the input begins with no request, the text is the reply that says why, and no more was read than that took
@@ -38,15 +38,15 @@ pub record Refusal (moment : ℕ) (input : List ℕ) (after : Option (List ℕ))
   pub unread : LeavesUnread input after
 
 -- the text that is written for the input, and the end that goes with it; of a write that failed nothing is said
-abbrev pub FirstPath : Names → ℕ → ℕ → List ℕ → Option (List ℕ) → Served → List ℕ → Type 0
-FirstPath names moment number input after Closed text =
-    Replies names moment number input after text ⊎ (IsOpen input × (unblank input ≡ []) × (text ≡ []))
-FirstPath names moment number input after Truncated text = IsOpen input × ¬ (unblank input ≡ []) × (text ≡ [])
-FirstPath names moment number input after BadFraming text = Refusal moment input after text
-FirstPath names moment number input after ReadFault text = text ≡ []
-FirstPath names moment number input after Memory text = text ≡ []
-FirstPath names moment number input after TooLong text = text ≡ []
-FirstPath names moment number input after WriteFault text = ⊤
+abbrev pub FirstPath : AgreedValues → ℕ → ℕ → List ℕ → Option (List ℕ) → Served → List ℕ → Type 0
+FirstPath agreements moment number input after Closed text =
+    Replies agreements moment number input after text ⊎ (IsOpen input × (unblank input ≡ []) × (text ≡ []))
+FirstPath agreements moment number input after Truncated text = IsOpen input × ¬ (unblank input ≡ []) × (text ≡ [])
+FirstPath agreements moment number input after BadFraming text = Refusal moment input after text
+FirstPath agreements moment number input after ReadFault text = text ≡ []
+FirstPath agreements moment number input after Memory text = text ≡ []
+FirstPath agreements moment number input after TooLong text = text ≡ []
+FirstPath agreements moment number input after WriteFault text = ⊤
 
 -- P, unless a write failed
 abbrev pub UnlessWriteFault : Served → Type 0 → Type 0

@@ -1,7 +1,11 @@
 pub mod CommandLine
 pub mod Options
 pub mod Statuses
+pub mod Refusals
+pub mod FileContents
+pub mod FileAgreements
 pub mod PostAnswers
 pub mod FirstPath
 pub mod Laws
+pub mod Checks
 pub mod Runs

@@ -1,22 +1,12 @@
--- What the options of a command line say.
-use Rattle.std.specs.Prelude.{◌≡◌, ◌<◌, ◌≤◌, ◌^◌, ℕ, List, [], Option, Some, None, codes, ⊤}
+-- What a command line asks for.
+use Rattle.std.specs.Prelude.{◌≡◌, ◌<◌, ◌≤◌, ◌^◌, ℕ, List, [], Option, Some, None, option_map, codes, ⊤}
 use Rattle.std.specs.Str.Parse.{IsNumeral, digits_value, without_leading_plus}
-use Rattle.as2_names.specs.Names.{Spells}
-use Rattle.as2_names.specs.Domains.{IsDomain}
 use Rattle.as2_names.specs.Moments.{last_moment}
 use Rattle.clap.specs.Words.{Row, Text, first_of, one_of}
-use Rattle.as2_desk.specs.CommandLine.{faults, values}
-use Rattle.as2_desk.specs.declared.names.Names.{Names}
-
--- the value is there and spells the name
-abbrev pub NameIs : Option Text → List ℕ → Type 0
-NameIs (Some text) name = Spells text name
-NameIs None name = ⊥
-
--- the value is there and is the domain
-abbrev pub DomainIs : Option Text → List ℕ → Type 0
-DomainIs (Some text) domain = IsDomain text × (domain ≡ text)
-DomainIs None domain = ⊥
+use Rattle.as2_desk.specs.CommandLine.{command_in, faults, values}
+use Rattle.as2_desk.specs.declared.options.Posting.{Posting}
+use Rattle.as2_desk.specs.declared.options.Task.{Task}
+use Rattle.as2_desk.specs.declared.options.Task.TheVariants.{Check, Post}
 
 -- the text says the number in decimal digits; a plus may stand before them
 abbrev pub Says : Text → ℕ → Type 0
@@ -38,21 +28,28 @@ abbrev pub SecondsAre : Option Text → Option ℕ → ℕ → Type 0
 SecondsAre (Some text) clock n = Says text n
 SecondsAre None clock n = clock ≡ Some n
 
--- the names, the number of the first receipt and the moment that the values give
-pub record Give (values : List Row) (clock : Option ℕ) (names : Names) (first moment : ℕ) : Type 0 where
-  pub organization : NameIs (first_of (codes "organization") values) names.organization
-  pub partner : NameIs (first_of (codes "partner") values) names.partner
-  pub domain : DomainIs (first_of (codes "domain") values) names.domain
-  pub number : NumberIs (one_of (codes "first") values) first
-  pub seconds : SecondsAre (one_of (codes "moment") values) clock moment
-  pub small : first < 2 ^ 64
-  pub early : moment ≤ last_moment
+-- the number of the receipt and the moment that the values give a post
+pub record AsksPost (values : List Row) (clock : Option ℕ) (posting : Posting) : Type 0 where
+  pub number : NumberIs (one_of (codes "first") values) posting.first
+  pub seconds : SecondsAre (one_of (codes "moment") values) clock posting.moment
+  pub small : posting.first < 2 ^ 64
+  pub early : posting.moment ≤ last_moment
+
+-- what the command and the values ask for; a check needs no moment
+abbrev pub Asks : List Row → Option Text → Option ℕ → Task → Type 0
+Asks values command clock Check = command ≡ Some (codes "check")
+Asks values command clock (Post posting) = (command ≡ Some (codes "post")) × AsksPost values clock posting
+
+-- the path of the file of agreements, and what is asked for
+pub record Give (values : List Row) (command : Option Text) (clock : Option ℕ) (path : Text) (task : Task) : Type 0 where
+  pub agreements : first_of (codes "agreements") values ≡ Some path
+  pub asked : Asks values command clock task
 
 -- the same of the words of a command line
-pub record Gives (words : List Text) (clock : Option ℕ) (names : Names) (first moment : ℕ) : Type 0 where
+pub record Gives (words : List Text) (clock : Option ℕ) (path : Text) (task : Task) : Type 0 where
   pub read : faults words ≡ []
-  pub given : Give (values words) clock names first moment
+  pub given : Give (values words) (command_in words) clock path task
 
--- the words give no options
+-- the words ask for nothing
 abbrev pub GivesNone : List Text → Option ℕ → Type 0
-GivesNone words clock = (names : Names) (first moment : ℕ) → ¬ Gives words clock names first moment
+GivesNone words clock = (path : Text) (task : Task) → ¬ Gives words clock path task

@@ -1,9 +1,9 @@
 -- The answer to a request: the first line that fits.
-use Rattle.std.specs.Prelude.{ℕ, Bool, true, false, ◌&&◌, ◌||◌, not, ◌==◌, List, [], ◌∷◌, if◌then◌else◌, Option, Some, None, Result, Ok, Err, codes}
+use Rattle.std.specs.Prelude.{ℕ, Bool, true, false, ◌&&◌, ◌||◌, not, ◌==◌, List, [], ◌∷◌, if◌then◌else◌, Option, Some, None, is_none, Result, Ok, Err, codes}
 use Rattle.std.specs.Option.{option_and_then}
 use Rattle.std.specs.Result.{result_ok}
 use Rattle.std.specs.Char.{is_ascii_digit}
-use Rattle.std.specs.Str.{bytes_eq, str_eq_ignore_ascii_case}
+use Rattle.std.specs.Str.{str_eq_ignore_ascii_case}
 use Rattle.as2_names.specs.Heads.{values}
 use Rattle.as2_names.specs.Names as name
 use Rattle.as2_names.specs.Identifiers as identifier
@@ -30,7 +30,8 @@ use Rattle.as2_http.specs.declared.framing.Method.{Method}
 use Rattle.as2_http.specs.declared.framing.Method.TheVariants.{Post, Head, Other as OtherMethod}
 use Rattle.as2_http.specs.declared.framing.Target.{Target}
 use Rattle.as2_http.specs.declared.framing.Target.TheVariants.{Station, Other as OtherTarget}
-use Rattle.as2_desk.specs.declared.names.Names.{Names}
+use Rattle.as2_agreement.specs.Agreements.{AgreedValues, organization_of, partner_of}
+use Rattle.as2_desk.specs.declared.parties.Parties.{Parties}
 
 -- an answer of one line
 abbrev pub line : ℕ → List ℕ → Answer
@@ -101,12 +102,12 @@ is_encoded fields =
 -- ---- the answer
 
 -- the receipt for a document
-abbrev pub receipt : Names → ℕ → List ℕ → Outcome → ReceiptRequest → List ℕ → ReportOut
-receipt names number id became asked content = record {
+abbrev pub receipt : Parties → ℕ → List ℕ → Outcome → ReceiptRequest → List ℕ → ReportOut
+receipt parties number id became asked content = record {
   number = number;
-  domain = names.domain;
-  from = names.organization;
-  to = names.partner;
+  domain = parties.domain;
+  from = parties.organization;
+  to = parties.partner;
   original_id = id;
   outcome = became;
   mic = report_mic became asked content;
@@ -124,11 +125,11 @@ taken_answer Sync out = record { status = 200; body = Report out }
 taken_answer (Async url) out = line 503 (codes "not supported yet")
 
 -- the answer to a document
-abbrev pub document_answer : Names → ℕ → Kind → Fields → List ℕ → Answer
-document_answer names number is fields content =
+abbrev pub document_answer : Parties → ℕ → Kind → Fields → List ℕ → Answer
+document_answer parties number is fields content =
     needs (identifier_in (values (codes "message-id") fields)) (line 400 (codes "bad Message-ID")) λ id.
     needs (result_ok (receipt_request.reading fields)) (line 400 (codes "bad receipt request")) λ asked.
-    taken_answer asked.how (receipt names number id (outcome_of is (is_encoded fields) asked) asked content)
+    taken_answer asked.how (receipt parties number id (outcome_of is (is_encoded fields) asked) asked content)
 
 -- the answer to a report: none of the messages is known, since none is kept yet
 abbrev pub report_answer : Result ReceiptRead ReportFault → Answer
@@ -136,31 +137,31 @@ report_answer (Ok receipt) = line 404 (codes "no such message")
 report_answer (Err fault) = line 400 (codes "unreadable receipt")
 
 -- the answer by what the body is
-abbrev pub answer_of_kind : Kind → Media → Names → ℕ → Fields → List ℕ → Answer
-answer_of_kind kind.Report media names number fields content = report_answer (report.reading media content)
-answer_of_kind is media names number fields content = document_answer names number is fields content
+abbrev pub answer_of_kind : Kind → Media → Parties → ℕ → Fields → List ℕ → Answer
+answer_of_kind kind.Report media parties number fields content = report_answer (report.reading media content)
+answer_of_kind is media parties number fields content = document_answer parties number is fields content
 
 -- the answer to a post
-abbrev pub post_answer : Names → ℕ → Fields → List ℕ → Answer
-post_answer names number fields content =
+abbrev pub post_answer : AgreedValues → ℕ → Fields → List ℕ → Answer
+post_answer agreements number fields content =
     needs (name_in (values (codes "as2-from") fields)) (line 400 (codes "bad AS2 names")) λ from.
     needs (name_in (values (codes "as2-to") fields)) (line 400 (codes "bad AS2 names")) λ to.
     if not (version_fits (values (codes "as2-version") fields)) then line 400 (codes "bad AS2-Version")
-    else if not (bytes_eq from names.partner && bytes_eq to names.organization) then line 403 (codes "unknown AS2 names")
+    else if is_none (organization_of to agreements.organizations) || is_none (partner_of from agreements.partners) then line 403 (codes "unknown AS2 names")
     else needs (media_in (values (codes "content-type") fields)) (line 400 (codes "bad Content-Type")) λ media.
-    answer_of_kind (kind_of media) media names number fields content
+    answer_of_kind (kind_of media) media (record { organization = to; partner = from; domain = agreements.domain }) number fields content
 
 -- the answer to a POST by its target
-abbrev pub answer_at : Target → Names → ℕ → Fields → List ℕ → Answer
-answer_at Station names number fields content = post_answer names number fields content
-answer_at OtherTarget names number fields content = line 404 (codes "no such path")
+abbrev pub answer_at : Target → AgreedValues → ℕ → Fields → List ℕ → Answer
+answer_at Station agreements number fields content = post_answer agreements number fields content
+answer_at OtherTarget agreements number fields content = line 404 (codes "no such path")
 
 -- the answer by the method
-abbrev pub answer_by : Method → Target → Names → ℕ → Fields → List ℕ → Answer
-answer_by Post target names number fields content = answer_at target names number fields content
-answer_by Head target names number fields content = line 405 (codes "only POST")
-answer_by OtherMethod target names number fields content = line 405 (codes "only POST")
+abbrev pub answer_by : Method → Target → AgreedValues → ℕ → Fields → List ℕ → Answer
+answer_by Post target agreements number fields content = answer_at target agreements number fields content
+answer_by Head target agreements number fields content = line 405 (codes "only POST")
+answer_by OtherMethod target agreements number fields content = line 405 (codes "only POST")
 
 -- the answer to a request
-abbrev pub answer : Names → ℕ → Request → Answer
-answer names number r = answer_by r.method r.target names number r.fields r.body
+abbrev pub answer : AgreedValues → ℕ → Request → Answer
+answer agreements number r = answer_by r.method r.target agreements number r.fields r.body

@@ -7,7 +7,8 @@ ghost use Rattle.as2_text.specs.ReceiptRequests.{request_of};
 ghost use Rattle.as2_mdn.specs.ReportReading.{reading};
 ghost use Rattle.as2_desk.specs.PostAnswers.{answer, answer_of_kind, document_answer, identifier_in, is_encoded, is_identity, is_one_of, is_plain_encoding, is_version, media_in, name_in, post_answer, receipt, report_answer, taken_answer, untold, version_fits};
 
-use crate::names::Names;
+use crate::parties::Parties;
+use as2_agreement::Agreements;
 use as2_http::{HttpAnswer, Method, Request, Target};
 use as2_mdn::{Outcome, ReportOut, outcome_of, read_report, report_mic};
 use as2_text::{AsName, Head, How, IdFault, Kind, MediaType, Memory, MessageId, Once, ReceiptAsk};
@@ -109,20 +110,20 @@ fn is_encoded(fields: &Head) -> bool
 
 /// The receipt for a document.
 fn receipt(
-    names: &Names,
+    parties: &Parties,
     number: u64,
     original_id: MessageId,
     outcome: Outcome,
     asked: &ReceiptAsk<'_>,
     content: &[u8],
 ) -> ReportOut
-    ensures { result ≡ receipt names.now number original_id outcome (request_of asked.now) content.now }
+    ensures { result ≡ receipt parties.now number original_id outcome (request_of asked.now) content.now }
 {
     ReportOut {
         number,
-        domain: names.domain.clone().unwrap(),
-        from: names.organization.clone().unwrap(),
-        to: names.partner.clone().unwrap(),
+        domain: parties.domain.clone().unwrap(),
+        from: parties.organization.clone().unwrap(),
+        to: parties.partner.clone().unwrap(),
         original_id,
         outcome,
         mic: report_mic(outcome, asked, content),
@@ -153,13 +154,13 @@ fn taken_answer(asked: &ReceiptAsk<'_>, out: ReportOut) -> HttpAnswer
 /// The answer to a document.
 fn document_answer(
     alloc: Global,
-    names: &Names,
+    parties: &Parties,
     number: u64,
     kind: Kind,
     fields: &Head,
     content: &[u8],
 ) -> Result<HttpAnswer, Memory>
-    ensures { IfOk result (λ a. a ≡ document_answer names.now number kind fields.now content.now) }
+    ensures { IfOk result (λ a. a ≡ document_answer parties.now number kind fields.now content.now) }
 {
     let Some(id) = identifier_in(alloc, fields)? else {
         return Ok(HttpAnswer::line(400, "bad Message-ID"));
@@ -168,7 +169,7 @@ fn document_answer(
         return Ok(HttpAnswer::line(400, "bad receipt request"));
     };
     let outcome = outcome_of(kind, is_encoded(fields), &asked);
-    let out = receipt(names, number, id, outcome, &asked, content);
+    let out = receipt(parties, number, id, outcome, &asked, content);
     Ok(taken_answer(&asked, out))
 }
 
@@ -186,28 +187,28 @@ fn report_answer<'a>(media: &MediaType<'a>, body: &'a [u8]) -> HttpAnswer
 fn answer_of_kind<'a>(
     alloc: Global,
     media: &MediaType<'a>,
-    names: &Names,
+    parties: &Parties,
     number: u64,
     fields: &'a Head,
     content: &'a [u8],
 ) -> Result<HttpAnswer, Memory>
-    ensures { IfOk result (λ a. a ≡ answer_of_kind (kind_of media.now) media.now names.now number fields.now content.now) }
+    ensures { IfOk result (λ a. a ≡ answer_of_kind (kind_of media.now) media.now parties.now number fields.now content.now) }
 {
     match media.kind() {
         Kind::Report => Ok(report_answer(media, content)),
-        kind => document_answer(alloc, names, number, kind, fields, content),
+        kind => document_answer(alloc, parties, number, kind, fields, content),
     }
 }
 
 /// The answer to a post.
 fn post_answer<'a>(
     alloc: Global,
-    names: &Names,
+    agreements: &Agreements,
     number: u64,
     fields: &'a Head,
     content: &'a [u8],
 ) -> Result<HttpAnswer, Memory>
-    ensures { IfOk result (λ a. a ≡ post_answer names.now number fields.now content.now) }
+    ensures { IfOk result (λ a. a ≡ post_answer agreements.now number fields.now content.now) }
 {
     let Some(from) = name_in(fields, b"as2-from") else {
         return Ok(HttpAnswer::line(400, "bad AS2 names"));
@@ -218,23 +219,28 @@ fn post_answer<'a>(
     if !version_fits(fields) {
         return Ok(HttpAnswer::line(400, "bad AS2-Version"));
     }
-    if from.bytes() != names.partner.bytes() || to.bytes() != names.organization.bytes() {
+    if agreements.organization(&to).is_none() || agreements.partner(&from).is_none() {
         return Ok(HttpAnswer::line(403, "unknown AS2 names"));
     }
     let Some(media) = media_in(fields) else {
         return Ok(HttpAnswer::line(400, "bad Content-Type"));
     };
-    answer_of_kind(alloc, &media, names, number, fields, content)
+    let parties = Parties {
+        organization: to,
+        partner: from,
+        domain: agreements.domain().clone().unwrap(),
+    };
+    answer_of_kind(alloc, &media, &parties, number, fields, content)
 }
 
 /// The answer to a request. `number` is the number of the receipt.
 pub fn answer(
     alloc: Global,
-    names: &Names,
+    agreements: &Agreements,
     number: u64,
     request: &Request,
 ) -> Result<HttpAnswer, Memory>
-    ensures { IfOk result (λ a. a ≡ answer names.now number request.now) }
+    ensures { IfOk result (λ a. a ≡ answer agreements.now number request.now) }
 {
     if request.method != Method::Post {
         return Ok(HttpAnswer::line(405, "only POST"));
@@ -242,5 +248,11 @@ pub fn answer(
     if request.target != Target::Station {
         return Ok(HttpAnswer::line(404, "no such path"));
     }
-    post_answer(alloc, names, number, &request.fields, request.body.bytes())
+    post_answer(
+        alloc,
+        agreements,
+        number,
+        &request.fields,
+        request.body.bytes(),
+    )
 }

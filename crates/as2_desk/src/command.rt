@@ -8,52 +8,57 @@ ghost use Rattle.as2_desk.specs.CommandLine.{command_line, first, moment, needed
 use clap::{Arg, Command, value_parser};
 use std::alloc::{AllocError, Global};
 
-pub(crate) const ORGANIZATION: &str = "organization";
-
-pub(crate) const PARTNER: &str = "partner";
-
-pub(crate) const DOMAIN: &str = "domain";
+pub(crate) const AGREEMENTS: &str = "agreements";
 
 pub(crate) const FIRST: &str = "first";
 
 pub(crate) const MOMENT: &str = "moment";
 
+pub(crate) const CHECK: &str = "check";
+
 pub(crate) const POST: &str = "post";
 
-const EXAMPLE: &str = "\
-Exit status: 0 done, 1 refused, 2 a faulty command line.
+const EXAMPLES: &str = "\
+Options stand before the command. '--agreements' must be given, and has no default.
+
+Exit status: 0 done; 1 refused, and one line on standard error says why; 2 a faulty command line.
+
+Examples:
+  as2desk --agreements agreements.toml check
+  as2desk --agreements agreements.toml post < plain-post.http";
+
+const CHECK_HELP: &str = "\
+Prints one line, 'organizations A, partners B', and reads nothing but the file of agreements.
+Where that has a fault, the first one is said on standard error, and the key where it has one:
+'agreements: WrongKind receipt'. The exit status is then 1.
 
 Example:
-  as2desk --organization Supplier --partner Buyer --domain station.example post < plain-post.http";
+  as2desk --agreements agreements.toml check";
+
+const POST_HELP: &str = "\
+Standard input is one HTTP request, as a partner sends it: a document or a receipt. The reply on
+standard output has the receipt in it where the document asks for one. A reply that says no, such as
+403, is a reply too: the exit status is 0. It is 1, and 'refused: NAME' is said on standard error,
+where the input is no whole request, or can't be read, or the reply can't be written.
+
+Example:
+  as2desk --agreements agreements.toml --moment 1000 post < plain-post.http";
 
 /// The command line that the program reads.
 pub(crate) fn command<'a>(alloc: Global) -> Result<Command<'a>, AllocError>
     ensures { IfOk result (λ c. app_of c ≡ command_line) }
 {
-    let organization = needed(
+    let agreements = needed(
         alloc,
-        ORGANIZATION,
-        "NAME",
-        "The station's own AS2 name, spelled as in a field AS2-To",
-    );
-    let partner = needed(
-        alloc,
-        PARTNER,
-        "NAME",
-        "The partner's AS2 name, spelled as in a field AS2-From",
-    );
-    let domain = needed(
-        alloc,
-        DOMAIN,
-        "DOMAIN",
-        "Domain of receipts' identifiers: 1 to 253 letters, digits, '-', '.'",
+        AGREEMENTS,
+        "FILE",
+        "Agreements, a TOML file: the station's names, its partners and their terms",
     );
     program(alloc)
-        .arg(organization)?
-        .arg(partner)?
-        .arg(domain)?
+        .arg(agreements)?
         .arg(first(alloc))?
         .arg(moment(alloc))?
+        .subcommand(check(alloc))?
         .subcommand(post(alloc))
 }
 
@@ -63,8 +68,8 @@ fn program<'a>(alloc: Global) -> Command<'a>
 {
     Command::new(alloc, "as2desk")
         .version("0.1.0")
-        .about("An AS2 station: takes documents from a partner and answers with receipts")
-        .after_help(EXAMPLE)
+        .about("An AS2 station: takes documents from partners and answers with receipts")
+        .after_help(EXAMPLES)
         .subcommand_required(true)
         .subcommand_value_name("COMMAND")
         .disable_help_subcommand(true)
@@ -93,7 +98,7 @@ fn first<'a>(alloc: Global) -> Arg<'a>
     ensures rule { rule_of result ≡ first }
     ensures local { result.global ≡ false }
 {
-    let help = "Number of the first receipt: 1 to 999999999999";
+    let help = "Number of the receipt that 'post' writes: 1 to 999999999999";
     option(alloc, FIRST, "N", help)
         .default_value("1")
         .value_parser(value_parser!(u64).range(1..=999_999_999_999))
@@ -103,17 +108,26 @@ fn moment<'a>(alloc: Global) -> Arg<'a>
     ensures rule { rule_of result ≡ moment }
     ensures local { result.global ≡ false }
 {
-    let help = "Moment in seconds since 1970: 0 to 253402300799 [default: the clock]";
+    let help = "Moment of 'post', in seconds since 1970: 0 to 253402300799 [default: the clock]";
     option(alloc, MOMENT, "SECONDS", help).value_parser(value_parser!(u64).range(
         0..=253_402_300_799,
     ))
+}
+
+fn check<'a>(alloc: Global) -> Command<'a>
+    ensures shape { shape_of result ≡ new_shape (codes "check") }
+    ensures local { (fields_of result).has_globals ≡ false }
+{
+    Command::new(alloc, CHECK)
+        .about("Reads the agreements and prints how many organizations and partners they have")
+        .after_help(CHECK_HELP)
 }
 
 fn post<'a>(alloc: Global) -> Command<'a>
     ensures shape { shape_of result ≡ new_shape (codes "post") }
     ensures local { (fields_of result).has_globals ≡ false }
 {
-    Command::new(alloc, POST).about(
-        "Answers the post on standard input with a reply on standard output",
-    )
+    Command::new(alloc, POST)
+        .about("Answers the post on standard input with a reply on standard output")
+        .after_help(POST_HELP)
 }

@@ -1,62 +1,75 @@
 //! A command line, run.
-ghost use Rattle.std.specs.Prelude.{◌≡◌, ◌≢◌, ◌⊎◌, ℕ, [], IfErr, IfOk};
+ghost use Rattle.std.specs.Prelude.{◌≡◌, ◌≢◌, ◌⊎◌, ℕ, List, [], true, IfErr, IfOk};
+ghost use Rattle.std.specs.Io.KnownBytes.{Appends};
 ghost use Rattle.clap.specs.Walk.{texts};
-ghost use Rattle.clap.specs.Words.{HasKind, app_of, found_of, kind_of, rows_of};
+ghost use Rattle.clap.specs.Words.{HasKind, app_of, found_of, kind_of, rows_of, subcommand_name_of};
 ghost use Rattle.clap.specs.declared.error.kind.ErrorKind.TheVariants.{OutOfMemory, ValueValidation};
-ghost use Rattle.as2_desk.specs.CommandLine.{AsksForHelp, IsHelp, command_line, faults, values};
+ghost use Rattle.as2_desk.specs.CommandLine.{AsksForHelp, IsHelp, command_in, command_line, faults, values};
 ghost use Rattle.as2_desk.specs.Options.{Gives, GivesNone};
-ghost use Rattle.as2_desk.specs.Runs.{Runs};
-ghost use Rattle.as2_desk.specs.Statuses.{done, faulty, refused};
-ghost use Rattle.as2_desk.specs.declared.names.Names.{Names as TheNames};
+ghost use Rattle.as2_desk.specs.Refusals.{end_line, line};
+ghost use Rattle.as2_desk.specs.Runs.{Counts, Ends, Posts, Runs};
+ghost use Rattle.as2_desk.specs.Statuses.{done, faulty, refused, status_of};
+ghost use Rattle.as2_desk.specs.declared.options.Task.{Task as TheTask};
+ghost use Rattle.as2_desk.specs.declared.refusal.Refusal.TheVariants.{Memory};
 
+use crate::agreed::agreements_in;
+use crate::check::write_counts;
 use crate::command::command;
+use crate::files::ReadFiles;
 use crate::first_path::{Served, first_post};
-use crate::options::{OptionFault, Options};
-use crate::status::{DONE, FAULTY, REFUSED, end_name, status_of};
+use crate::options::{OptionFault, Options, Posting, Task};
+use crate::refusal::{Refusal, is_said};
+use crate::status::{DONE, FAULTY, REFUSED, Ran};
+use as2_agreement::Agreements;
 use clap::error::ErrorKind;
 use clap::{ArgMatches, Command, Error};
 use std::alloc::{AllocError, Global};
 use std::io::{Read, Write};
 
-/// Runs the command line `words`, which begin with the program's name, and answers the exit status:
-/// 0 done, 1 refused, 2 a faulty command line. `clock` is the moment where the options give none,
-/// in seconds since 1970, if it can be told. The reply goes to `output`; why something was refused
-/// or is faulty, to `errors`.
-pub fn run<R: Read, W: Write, E: Write>(
+/// Runs the command line `words`, which begin with the program's name. `clock` is the moment where the options give
+/// none, in seconds since 1970, if it can be told. The agreements are read from `files`. What the command has to say
+/// goes to `output`; why something was refused or is faulty, to `errors`.
+pub fn run<F: ReadFiles, R: Read, W: Write, E: Write>(
     alloc: Global,
     words: &[&str],
     clock: Option<u64>,
+    files: &F,
     input: &mut R,
     output: &mut W,
     errors: &mut E,
-) -> u8
-    ensures status { (result ≡ done) ⊎ ((result ≡ refused) ⊎ (result ≡ faulty)) }
-    // Words that give options are no faulty command line.
-    ensures given { (names : TheNames) (first moment : ℕ)
-        → Gives (texts words.entry.now) clock names first moment → result ≢ faulty }
-    // With options the first path is gone, and the status tells its end; where memory for the words was
-    // wanting nothing is read or written.
-    ensures runs { (names : TheNames) (first moment : ℕ)
-        → Gives (texts words.entry.now) clock names first moment
-        → Runs names first moment (R.remaining input.old) (R.remaining input.new) (W.contents output.old) (W.contents output.new) result
-        ⊎ ((result ≡ refused) × (input.new ≡ input.old) × (output.new ≡ output.old)) }
-    // Words that give none run nothing.
+) -> Ran
+    ensures status { (result.status ≡ done) ⊎ ((result.status ≡ refused) ⊎ (result.status ≡ faulty)) }
+    // Words that ask for something are no faulty command line.
+    ensures given { (path : List ℕ) (task : TheTask) → Gives (texts words.entry.now) clock path task → result.status ≢ faulty }
+    // It is done over the agreements of the file that they name, or the refusal is told that stands in their place; where
+    // memory for the words was wanting nothing is read or written.
+    ensures runs { (path : List ℕ) (task : TheTask)
+        → Gives (texts words.entry.now) clock path task
+        → Runs (F.content files.now path) task (R.remaining input.old) (R.remaining input.new) (input.new ≡ input.old) (output.new ≡ output.old)
+        (Appends (W.contents output.old) (W.contents output.new)) (Appends (E.contents errors.old) (E.contents errors.new)) result
+        ⊎ ((input.new ≡ input.old) × (output.new ≡ output.old)
+        × Ends refused (line Memory) (Appends (E.contents errors.old) (E.contents errors.new)) result) }
+    // Words that ask for nothing run nothing.
     ensures unread { GivesNone (texts words.entry.now) clock → input.new ≡ input.old }
     // They are faulty, unless they ask for the help or the version; memory may be wanting to say so.
     ensures none { GivesNone (texts words.entry.now) clock → ¬ AsksForHelp (texts words.entry.now)
-        → ((result ≡ faulty) ⊎ (result ≡ refused)) × (output.new ≡ output.old) }
+        → ((result.status ≡ faulty) ⊎ (result.status ≡ refused)) × (output.new ≡ output.old) }
     // A faulty command line reads and writes nothing.
-    ensures untouched { result ≡ faulty → (input.new ≡ input.old) × (output.new ≡ output.old) }
+    ensures untouched { result.status ≡ faulty → (input.new ≡ input.old) × (output.new ≡ output.old) }
 {
     match options(alloc, words, clock) {
-        Ok(options) => post(alloc, &options, input, output, errors),
+        Ok(options) => carry_out(alloc, &options, files, input, output, errors),
         Err(error) => tell(alloc, &error, output, errors),
     }
 }
 
-/// The options of the words, or what there is to say in place of running them.
-fn options<'a>(alloc: Global, words: &'a [&'a str], clock: Option<u64>) -> Result<Options, Error>
-    ensures given { IfOk result (λ o. Gives (texts words.entry.now) clock o.names o.first o.moment) }
+/// What the words ask for, or what there is to say in place of it.
+fn options<'a>(
+    alloc: Global,
+    words: &'a [&'a str],
+    clock: Option<u64>,
+) -> Result<Options<'a>, Error>
+    ensures given { IfOk result (λ o. Gives (texts words.entry.now) clock o.agreements.now o.task) }
     ensures none { IfErr result (λ e. kind_of e ≢ OutOfMemory → GivesNone (texts words.entry.now) clock) }
     ensures help { IfErr result (λ e. IsHelp (kind_of e) → AsksForHelp (texts words.entry.now)) }
 {
@@ -72,7 +85,8 @@ fn options<'a>(alloc: Global, words: &'a [&'a str], clock: Option<u64>) -> Resul
 fn parse<'a>(command: &mut Command<'a>, words: &'a [&'a str]) -> Result<ArgMatches<'a>, Error>
     requires { app_of command.old ≡ command_line }
     ensures found { IfOk result (λ m. (faults (texts words.entry.now) ≡ [])
-        × (rows_of (found_of m) ≡ values (texts words.entry.now))) }
+        × (rows_of (found_of m) ≡ values (texts words.entry.now))
+        × (subcommand_name_of m ≡ command_in (texts words.entry.now))) }
     ensures fault { IfErr result (HasKind (faults (texts words.entry.now))) }
 {
     command.try_get_matches_from_mut(words)
@@ -90,58 +104,112 @@ fn explained(
     command.error(ErrorKind::ValueValidation, text.as_str())
 }
 
-/// Answers the first post of the input.
-fn post<R: Read, W: Write, E: Write>(
+/// Does what is asked for, over the agreements.
+fn carry_out<F: ReadFiles, R: Read, W: Write, E: Write>(
     alloc: Global,
-    options: &Options,
+    options: &Options<'_>,
+    files: &F,
     input: &mut R,
     output: &mut W,
     errors: &mut E,
-) -> u8
-    ensures status { (result ≡ done) ⊎ (result ≡ refused) }
-    ensures runs { Runs options.now.names options.now.first options.now.moment
-        (R.remaining input.old) (R.remaining input.new) (W.contents output.old) (W.contents output.new) result }
+) -> Ran
+    ensures status { (result.status ≡ done) ⊎ (result.status ≡ refused) }
+    ensures runs { Runs (F.content files.now options.now.agreements.now) options.now.task
+        (R.remaining input.old) (R.remaining input.new) (input.new ≡ input.old) (output.new ≡ output.old)
+        (Appends (W.contents output.old) (W.contents output.new)) (Appends (E.contents errors.old) (E.contents errors.new)) result }
 {
-    let Options {
-        names,
-        first,
-        moment,
-    } = options;
-    let end = first_post(alloc, names, *moment, *first, input, output);
-    if end != Served::Closed {
-        refuse(end_name(end), errors);
+    match agreements_in(alloc, files, options.agreements) {
+        Err(refusal) => refuse(refusal, errors),
+        Ok(agreements) => match options.task {
+            Task::Check => check(&agreements, output, errors),
+            Task::Post(posting) => post(alloc, &agreements, posting, input, output, errors),
+        },
     }
-    status_of(end)
 }
 
-/// Says that something was refused. Where that can't be said there is nobody else to say it to.
-fn refuse<E: Write>(name: &str, errors: &mut E) {
-    let _ = write!(errors, "refused: {name}\n");
+/// Tells how many organizations and partners there are.
+fn check<W: Write, E: Write>(agreements: &Agreements, output: &mut W, errors: &mut E) -> Ran
+    ensures status { (result.status ≡ done) ⊎ (result.status ≡ refused) }
+    ensures counts { Counts agreements.now (Appends (W.contents output.old) (W.contents output.new))
+        (Appends (E.contents errors.old) (E.contents errors.new)) result }
+{
+    if write_counts(agreements, output).is_err() {
+        return refuse(Refusal::CannotWrite, errors);
+    }
+    Ran {
+        status: DONE,
+        told: true,
+    }
+}
+
+/// Answers the first post of the input.
+fn post<R: Read, W: Write, E: Write>(
+    alloc: Global,
+    agreements: &Agreements,
+    posting: Posting,
+    input: &mut R,
+    output: &mut W,
+    errors: &mut E,
+) -> Ran
+    ensures status { (result.status ≡ done) ⊎ (result.status ≡ refused) }
+    ensures posts { Posts agreements.now posting (R.remaining input.old) (R.remaining input.new)
+        (Appends (W.contents output.old) (W.contents output.new)) (Appends (E.contents errors.old) (E.contents errors.new)) result }
+{
+    let Posting { first, moment } = posting;
+    let end = first_post(alloc, agreements, moment, first, input, output);
+    tell_end(end, errors)
+}
+
+/// Tells the end of a stream.
+fn tell_end<E: Write>(end: Served, errors: &mut E) -> Ran
+    ensures { Ends (status_of end) (end_line end) (Appends (E.contents errors.old) (E.contents errors.new)) result }
+{
+    match end {
+        Served::Closed => Ran {
+            status: DONE,
+            told: true,
+        },
+        _ => refuse(Refusal::Stream(end), errors),
+    }
+}
+
+/// Says that something was refused.
+fn refuse<E: Write>(refusal: Refusal, errors: &mut E) -> Ran
+    ensures { Ends refused (line refusal) (Appends (E.contents errors.old) (E.contents errors.new)) result }
+{
+    Ran {
+        status: REFUSED,
+        told: is_said(refusal, errors),
+    }
 }
 
 /// Says why nothing is run: help and the version on `output`, a fault on `errors`.
-fn tell<W: Write, E: Write>(alloc: Global, error: &Error, output: &mut W, errors: &mut E) -> u8
-    ensures status { (result ≡ done) ⊎ ((result ≡ refused) ⊎ (result ≡ faulty)) }
+fn tell<W: Write, E: Write>(alloc: Global, error: &Error, output: &mut W, errors: &mut E) -> Ran
+    ensures status { (result.status ≡ done) ⊎ ((result.status ≡ refused) ⊎ (result.status ≡ faulty)) }
     ensures fault { ¬ IsHelp (kind_of error.now)
-        → ((result ≡ faulty) ⊎ (result ≡ refused)) × (output.new ≡ output.old) }
-    ensures help { IsHelp (kind_of error.now) → result ≢ faulty }
-    ensures memory { kind_of error.now ≡ OutOfMemory → result ≡ refused }
+        → ((result.status ≡ faulty) ⊎ (result.status ≡ refused)) × (output.new ≡ output.old) }
+    ensures help { IsHelp (kind_of error.now) → result.status ≢ faulty }
+    // Want of memory is told as such, or the error is another.
+    ensures memory { ((output.new ≡ output.old) × Ends refused (line Memory) (Appends (E.contents errors.old) (E.contents errors.new)) result)
+        ⊎ (kind_of error.now ≢ OutOfMemory) }
 {
     if error.kind() == ErrorKind::OutOfMemory {
-        refuse("Memory", errors);
-        return REFUSED;
+        return refuse(Refusal::Memory, errors);
     }
     let Ok(text) = error.to_string(alloc) else {
-        refuse("Memory", errors);
-        return REFUSED;
+        return refuse(Refusal::Memory, errors);
     };
     if error.use_stderr() {
-        let _ = errors.write_all(text.as_bytes());
-        return FAULTY;
+        return Ran {
+            status: FAULTY,
+            told: errors.write_all(text.as_bytes()).is_ok(),
+        };
     }
     if output.write_all(text.as_bytes()).is_err() {
-        refuse("CannotWrite", errors);
-        return REFUSED;
+        return refuse(Refusal::CannotWrite, errors);
     }
-    DONE
+    Ran {
+        status: DONE,
+        told: true,
+    }
 }

@@ -4,7 +4,7 @@ ghost use Rattle.std.specs.Io.KnownBytes.{Appends};
 ghost use Rattle.as2_desk.specs.FirstPath.{FirstPath, Sent, UnlessWriteFault};
 
 use crate::answer::answer;
-use crate::names::Names;
+use as2_agreement::Agreements;
 use as2_http::{Arrival, Form, HttpAnswer, read_first, refusal, write_reply};
 use as2_text::Moment;
 use std::alloc::Global;
@@ -49,18 +49,18 @@ fn send<W: Write>(
     end
 }
 
-/// Reads the first request of `reader` and writes its reply. `number` is the number of the receipt.
-/// The rest of the input stays unread.
+/// Reads the first request of `reader` and writes its reply: that to a post follows the agreements. `number` is the
+/// number of the receipt. The rest of the input stays unread.
 pub fn first_post<R: Read, W: Write>(
     alloc: Global,
-    names: &Names,
+    agreements: &Agreements,
     moment: Moment,
     number: u64,
     reader: &mut R,
     writer: &mut W,
 ) -> Served
     ensures { (input : List ℕ) → R.remaining reader.old ≡ Some input → UnlessWriteFault result
-        ((text : List ℕ) × FirstPath names.now moment number input (R.remaining reader.new) result text
+        ((text : List ℕ) × FirstPath agreements.now moment number input (R.remaining reader.new) result text
         × Appends (W.contents writer.old) (W.contents writer.new) text) }
 {
     match read_first(alloc, reader) {
@@ -69,7 +69,7 @@ pub fn first_post<R: Read, W: Write>(
                 closes: false,
                 to_head: request.method.is_head(),
             };
-            match answer(alloc, names, number, &request) {
+            match answer(alloc, agreements, number, &request) {
                 Ok(answer) => send(alloc, moment, form, &answer, writer, Served::Closed),
                 Err(_) => Served::Memory,
             }

@@ -1,23 +1,38 @@
-//! What the options of a command line say.
-ghost use Rattle.std.specs.Prelude.{◌≡◌, ◌<◌, ◌≤◌, ◌^◌, ℕ, List, codes, Option, option_map, IfOk, IfErr};
+//! What a command line asks for.
+ghost use Rattle.std.specs.Prelude.{◌≡◌, ◌<◌, ◌≤◌, ◌^◌, ℕ, List, codes, Option, Some, option_map, IfOk, IfErr};
 ghost use Rattle.as2_names.specs.Moments.{last_moment};
-ghost use Rattle.clap.specs.Words.{first_of, found_of, one_of, rows_of};
-ghost use Rattle.as2_desk.specs.Options.{DomainIs, Give, NameIs, NumberIs, SecondsAre, Tells};
-ghost use Rattle.as2_desk.specs.declared.names.Names.{Names as TheNames};
+ghost use Rattle.clap.specs.Words.{first_of, found_of, one_of, rows_of, subcommand_name_of};
+ghost use Rattle.as2_desk.specs.Options.{Asks, Give, NumberIs, SecondsAre, Tells};
+ghost use Rattle.as2_desk.specs.declared.options.Task.{Task as TheTask};
 
-use crate::command::{DOMAIN, FIRST, MOMENT, ORGANIZATION, PARTNER};
-use crate::names::Names;
-use as2_text::{AsName, Domain, Moment, NameFault};
+use crate::command::{AGREEMENTS, CHECK, FIRST, MOMENT, POST};
+use as2_text::Moment;
 use clap::ArgMatches;
 use std::fmt;
 
-/// What the options say.
-#[derive(Drop)]
-pub(crate) struct Options {
-    pub(crate) names: Names,
-    /// The number of the first receipt.
+/// What a post is answered with besides the agreements.
+#[derive(Clone, Copy)]
+pub(crate) struct Posting {
+    /// The number of the receipt.
     pub(crate) first: u64,
     pub(crate) moment: Moment,
+}
+
+/// What is to be done with the agreements.
+#[derive(Clone, Copy)]
+pub(crate) enum Task {
+    /// Their members are counted.
+    Check,
+    /// A post is answered.
+    Post(Posting),
+}
+
+/// What a command line says.
+#[derive(Clone, Copy)]
+pub(crate) struct Options<'a> {
+    /// The path of the file of agreements.
+    pub(crate) agreements: &'a str,
+    pub(crate) task: Task,
 }
 
 /// Why the options say nothing: the first that is at fault.
@@ -25,39 +40,27 @@ pub(crate) struct Options {
 pub(crate) enum OptionFault<'a> {
     /// The option has no value, or one that is no number.
     NoValue(&'a str),
-    /// The value spells no name.
-    BadName(&'a str, &'a str, NameFault),
-    /// The value is no domain.
-    BadDomain(&'a str),
     /// There is neither a moment nor a clock that tells one.
     NoMoment,
+    /// There is no such command.
+    NoCommand,
 }
 
-impl Options {
-    /// What was found for the options; the clock serves where no moment is given.
-    pub(crate) fn of<'a>(
+impl<'a> Options<'a> {
+    /// What was found for the options and the command; the clock serves where a moment is needed and not given.
+    pub(crate) fn of(
         found: &ArgMatches<'a>,
         clock: Option<u64>,
-    ) -> Result<Options, OptionFault<'a>>
-        ensures given { IfOk result (λ o. Give (rows_of (found_of found.now)) clock o.names o.first o.moment) }
-        ensures none { IfErr result (λ _. (names : TheNames) (first moment : ℕ)
-            → ¬ Give (rows_of (found_of found.now)) clock names first moment) }
+    ) -> Result<Options<'a>, OptionFault<'a>>
+        ensures given { IfOk result (λ o. Give (rows_of (found_of found.now)) (subcommand_name_of found.now) clock o.agreements.now o.task) }
+        ensures none { IfErr result (λ _. (path : List ℕ) (task : TheTask)
+            → ¬ Give (rows_of (found_of found.now)) (subcommand_name_of found.now) clock path task) }
     {
-        let organization = name(found, ORGANIZATION)?;
-        let partner = name(found, PARTNER)?;
-        let domain = domain(found)?;
-        let first = number(found, FIRST)?.ok_or(OptionFault::NoValue(FIRST))?;
-        let moment = moment(found, clock)?;
-        let names = Names {
-            organization,
-            partner,
-            domain,
+        let Some(agreements) = text(found, AGREEMENTS) else {
+            return Err(OptionFault::NoValue(AGREEMENTS));
         };
-        Ok(Options {
-            names,
-            first,
-            moment,
-        })
+        let task = asked(found, clock)?;
+        Ok(Options { agreements, task })
     }
 }
 
@@ -68,34 +71,29 @@ fn text<'a>(found: &ArgMatches<'a>, option: &str) -> Option<&'a str>
     found.get_str(option)
 }
 
-/// The name that an option spells.
-fn name<'a>(found: &ArgMatches<'a>, option: &'a str) -> Result<AsName, OptionFault<'a>>
-    ensures spelled { IfOk result (NameIs (first_of option.entry.now (rows_of (found_of found.now)))) }
-    ensures none { IfErr result (λ _. (name : List ℕ)
-        → ¬ NameIs (first_of option.entry.now (rows_of (found_of found.now))) name) }
+/// What the command and its options ask for.
+fn asked<'a>(found: &ArgMatches<'a>, clock: Option<u64>) -> Result<Task, OptionFault<'a>>
+    ensures given { IfOk result (Asks (rows_of (found_of found.now)) (subcommand_name_of found.now) clock) }
+    ensures none { IfErr result (λ _. (task : TheTask)
+        → ¬ Asks (rows_of (found_of found.now)) (subcommand_name_of found.now) clock task) }
 {
-    let Some(value) = text(found, option) else {
-        return Err(OptionFault::NoValue(option));
-    };
-    match AsName::parse(value.as_bytes()) {
-        Ok(name) => Ok(name),
-        Err(fault) => Err(OptionFault::BadName(option, value, fault)),
+    match found.subcommand_name() {
+        Some(name) if name == CHECK => Ok(Task::Check),
+        Some(name) if name == POST => asked_post(found, clock),
+        _ => Err(OptionFault::NoCommand),
     }
 }
 
-/// The domain that the option gives.
-fn domain<'a>(found: &ArgMatches<'a>) -> Result<Domain, OptionFault<'a>>
-    ensures given { IfOk result (DomainIs (first_of (codes "domain") (rows_of (found_of found.now)))) }
-    ensures none { IfErr result (λ _. (domain : List ℕ)
-        → ¬ DomainIs (first_of (codes "domain") (rows_of (found_of found.now))) domain) }
+/// What the options of a post ask for.
+fn asked_post<'a>(found: &ArgMatches<'a>, clock: Option<u64>) -> Result<Task, OptionFault<'a>>
+    requires { subcommand_name_of found.now ≡ Some (codes "post") }
+    ensures given { IfOk result (Asks (rows_of (found_of found.now)) (subcommand_name_of found.now) clock) }
+    ensures none { IfErr result (λ _. (task : TheTask)
+        → ¬ Asks (rows_of (found_of found.now)) (subcommand_name_of found.now) clock task) }
 {
-    let Some(value) = text(found, DOMAIN) else {
-        return Err(OptionFault::NoValue(DOMAIN));
-    };
-    match Domain::of(value.as_bytes()) {
-        Some(domain) => Ok(domain),
-        None => Err(OptionFault::BadDomain(value)),
-    }
+    let first = number(found, FIRST)?.ok_or(OptionFault::NoValue(FIRST))?;
+    let moment = moment(found, clock)?;
+    Ok(Task::Post(Posting { first, moment }))
 }
 
 /// The number that an option says, if it is there.
@@ -133,28 +131,10 @@ impl fmt::Display for OptionFault<'_> {
             OptionFault::NoValue(option) => {
                 write!(f, "'--{option}' has no value that can be read")
             }
-            OptionFault::BadName(option, value, fault) => write!(
-                f,
-                "invalid value '{value}' for '--{option} <NAME>': not an AS2 name: {}",
-                reason(*fault)
-            ),
-            OptionFault::BadDomain(value) => write!(
-                f,
-                "invalid value '{value}' for '--domain <DOMAIN>': not 1 to 253 letters, digits, '-' and '.'"
-            ),
             OptionFault::NoMoment => f.write_str(
                 "the clock tells no moment from 0 to 253402300799, and '--moment <SECONDS>' gives none",
             ),
+            OptionFault::NoCommand => f.write_str("there is no such command"),
         }
-    }
-}
-
-fn reason(fault: NameFault) -> &'static str {
-    match fault {
-        NameFault::Empty => "it is empty",
-        NameFault::TooLong => "it has over 128 bytes",
-        NameFault::BadByte =>
-            "it has a byte that is not allowed (one with blanks is spelled in double quotes)",
-        NameFault::BadQuoting => "its quotes or backslashes do not pair",
     }
 }

@@ -1,8 +1,17 @@
-//! How the end of a stream is told to a shell: by the exit status, and by a name.
+//! How an end is told to a shell: by the exit status, and by a name.
 ghost use Rattle.std.specs.Prelude.{◌≡◌};
-ghost use Rattle.as2_desk.specs.Statuses.{end_name, status_of};
+ghost use Rattle.as2_desk.specs.Statuses.{end_name};
 
 use crate::first_path::Served;
+
+/// How a command line ended.
+#[derive(Clone, Copy, Debug, PartialEq, Eq)]
+pub struct Ran {
+    /// The exit status: 0 done, 1 refused, 2 a faulty command line.
+    pub status: u8,
+    /// Whether all that there was to say on standard error could be written.
+    pub told: bool,
+}
 
 /// What was asked for is done.
 pub(crate) const DONE: u8 = 0;
@@ -10,16 +19,6 @@ pub(crate) const DONE: u8 = 0;
 pub(crate) const REFUSED: u8 = 1;
 /// The command line is faulty, and nothing was begun.
 pub(crate) const FAULTY: u8 = 2;
-
-/// The exit status that tells `end`.
-pub(crate) fn status_of(end: Served) -> u8
-    ensures { result ≡ status_of end }
-{
-    match end {
-        Served::Closed => DONE,
-        _ => REFUSED,
-    }
-}
 
 /// The name of `end`, as it is spelled in `Served`.
 pub(crate) fn end_name(end: Served) -> &'static str

@@ -1,21 +1,56 @@
 // Expected values are the worked ones of the project's profile, and follow from its formats.
+mod agreements;
 mod command_lines;
+mod file;
 mod posts;
 mod receipts;
 mod streams;
 
 use crate::run;
+use file::OneFile;
 use std::alloc::{AllocError, Global};
 use std::io::{Error, ErrorKind, Read, Result as IoResult, Write};
 
-const FIXTURE: &[&str] = &[
-    "--organization",
-    "Supplier",
-    "--partner",
-    "Buyer",
-    "--domain",
-    "station.example",
-];
+const FIXTURE: &[&str] = &["--agreements", "agreements.toml"];
+
+/// The agreements of `examples/agreements.toml`, without its comments.
+const AGREEMENTS: &str = r#"
+domain = "station.example"
+return_url = "http://127.0.0.1:8080/as2"
+
+[[organization]]
+name = "Supplier"
+
+[[partner]]
+name = "Buyer"
+url = "http://127.0.0.1:8081/as2"
+receipt = "sync"
+digest = "sha1"
+content_type = "application/edi-x12"
+max_tries = 2
+retry_seconds = 30
+overdue_seconds = 60
+
+[[partner]]
+name = "Depot"
+url = "http://127.0.0.1:8082/as2"
+receipt = "async"
+digest = "sha1"
+content_type = "application/edi-x12"
+max_tries = 2
+retry_seconds = 30
+overdue_seconds = 60
+
+[[partner]]
+name = 'A "B" \ C'
+url = "http://127.0.0.1:8083/as2"
+receipt = "none"
+digest = "sha1"
+content_type = "application/edi-x12"
+max_tries = 2
+retry_seconds = 30
+overdue_seconds = 60
+"#;
 
 /// Behind the fixture's options: the command, at the moment 1000.
 const AT_1000: &[&str] = &["--moment", "1000", "post"];
@@ -75,7 +110,7 @@ Content-Length: 0\r
 /// A part of a text, and what stands in its place.
 type Change = (&'static str, &'static str);
 
-/// Runs a command line where the clock tells 2000.
+/// Runs a command line over the agreements, where the clock tells 2000.
 fn run_words<'a, R: Read, W: Write>(
     alloc: Global,
     options: &'a [&'a str],
@@ -88,12 +123,25 @@ fn run_words<'a, R: Read, W: Write>(
     words.push("as2desk")?;
     words.extend_from_slice(options)?;
     words.extend_from_slice(rest)?;
-    Ok(run(alloc, words.as_slice(), Some(2000), input, output, errors))
+    let files = OneFile {
+        path: "agreements.toml",
+        bytes: AGREEMENTS.as_bytes(),
+    };
+    let ran = run(
+        alloc,
+        words.as_slice(),
+        Some(2000),
+        &files,
+        input,
+        output,
+        errors,
+    );
+    Ok(ran.status)
 }
 
 /// What a command line came to.
 #[derive(Drop)]
-struct Ran {
+struct Outcome {
     status: u8,
     output: Vec<u8>,
     errors: Vec<u8>,
@@ -105,12 +153,12 @@ fn posted<'a>(
     options: &'a [&'a str],
     rest: &'a [&'a str],
     input: &str,
-) -> Result<Ran, AllocError> {
+) -> Result<Outcome, AllocError> {
     let mut input = input.as_bytes();
     let mut output = Vec::new(alloc);
     let mut errors = Vec::new(alloc);
     let status = run_words(alloc, options, rest, &mut input, &mut output, &mut errors)?;
-    Ok(Ran {
+    Ok(Outcome {
         status,
         output,
         errors,

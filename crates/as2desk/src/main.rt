@@ -1,9 +1,31 @@
 //! The program `as2desk`: an AS2 station at the command line.
 #![tactic(auto)]
 
+ghost use Rattle.as2_desk.specs.FileContents.{untold};
+
+use as2_desk::{FileFault, ReadFiles};
+use std::alloc::Global;
 use std::process::ExitCode;
 use std::time::SystemTime;
-use std::{env, io};
+use std::{env, fs, io};
+
+/// The file system.
+#[derive(Clone, Copy)]
+struct FileSystem<'a> {
+    rt: &'a HostRuntime,
+}
+
+impl ReadFiles for FileSystem<'_> {
+    ghost content = { λ _ _. untold };
+
+    fn read_file(&self, _alloc: Global, path: &str) -> Result<Vec<u8>, FileFault> {
+        match fs::read(self.rt, path) {
+            Ok(bytes) => Ok(bytes),
+            Err(error) if error.kind() == io::ErrorKind::OutOfMemory => Err(FileFault::Memory),
+            Err(_) => Err(FileFault::CannotRead),
+        }
+    }
+}
 
 /// The seconds since 1970, where the clock can be read and does not stand before.
 fn clock(rt: &HostRuntime) -> Option<u64> {
@@ -25,13 +47,14 @@ fn main(rt: HostRuntime) -> io::Result<ExitCode> {
     for word in &words {
         texts.push(word.as_str())?;
     }
-    let status = as2_desk::run(
+    let ran = as2_desk::run(
         rt.alloc(),
         texts.as_slice(),
         clock(&rt),
+        &FileSystem { rt: &rt },
         &mut rt.stdin(),
         &mut rt.stdout(),
         &mut rt.stderr(),
     );
-    Ok(ExitCode::from(status))
+    Ok(ExitCode::from(ran.status))
 }

@@ -1,5 +1,6 @@
 //! Command lines, with no input.
-use super::{Broken, FIXTURE, joined, run_words};
+use super::file::OneFile;
+use super::{AGREEMENTS, Broken, FIXTURE, joined, run_words};
 use crate::run;
 use std::test::Fail;
 
@@ -15,43 +16,78 @@ struct Case {
 }
 
 const HELP: &str = "\
-An AS2 station: takes documents from a partner and answers with receipts
+An AS2 station: takes documents from partners and answers with receipts
 
-Usage: as2desk [OPTIONS] --organization <NAME> --partner <NAME> --domain <DOMAIN> <COMMAND>
+Usage: as2desk [OPTIONS] --agreements <FILE> <COMMAND>
 
 Commands:
-  post  Answers the post on standard input with a reply on standard output
+  check  Reads the agreements and prints how many organizations and partners they have
+  post   Answers the post on standard input with a reply on standard output
 
 Options:
-      --organization <NAME>  The station's own AS2 name, spelled as in a field AS2-To
-      --partner <NAME>       The partner's AS2 name, spelled as in a field AS2-From
-      --domain <DOMAIN>      Domain of receipts' identifiers: 1 to 253 letters, digits, '-', '.'
-      --first <N>            Number of the first receipt: 1 to 999999999999 [default: 1]
-      --moment <SECONDS>     Moment in seconds since 1970: 0 to 253402300799 [default: the clock]
-  -h, --help                 Print help
-  -V, --version              Print version
+      --agreements <FILE>  Agreements, a TOML file: the station's names, its partners and their terms
+      --first <N>          Number of the receipt that 'post' writes: 1 to 999999999999 [default: 1]
+      --moment <SECONDS>   Moment of 'post', in seconds since 1970: 0 to 253402300799 [default: the clock]
+  -h, --help               Print help
+  -V, --version            Print version
 
-Exit status: 0 done, 1 refused, 2 a faulty command line.
+Options stand before the command. '--agreements' must be given, and has no default.
+
+Exit status: 0 done; 1 refused, and one line on standard error says why; 2 a faulty command line.
+
+Examples:
+  as2desk --agreements agreements.toml check
+  as2desk --agreements agreements.toml post < plain-post.http
+";
+
+const CHECK_HELP: &str = "\
+Reads the agreements and prints how many organizations and partners they have
+
+Usage: as2desk --agreements <FILE> check
+
+Options:
+  -h, --help  Print help
+
+Prints one line, 'organizations A, partners B', and reads nothing but the file of agreements.
+Where that has a fault, the first one is said on standard error, and the key where it has one:
+'agreements: WrongKind receipt'. The exit status is then 1.
 
 Example:
-  as2desk --organization Supplier --partner Buyer --domain station.example post < plain-post.http
+  as2desk --agreements agreements.toml check
+";
+
+const POST_HELP: &str = "\
+Answers the post on standard input with a reply on standard output
+
+Usage: as2desk --agreements <FILE> post
+
+Options:
+  -h, --help  Print help
+
+Standard input is one HTTP request, as a partner sends it: a document or a receipt. The reply on
+standard output has the receipt in it where the document asks for one. A reply that says no, such as
+403, is a reply too: the exit status is 0. It is 1, and 'refused: NAME' is said on standard error,
+where the input is no whole request, or can't be read, or the reply can't be written.
+
+Example:
+  as2desk --agreements agreements.toml --moment 1000 post < plain-post.http
 ";
 
 // The forms of these texts are those of `clap`.
 const USAGE: &str = "
 
-Usage: as2desk [OPTIONS] --organization <NAME> --partner <NAME> --domain <DOMAIN> <COMMAND>";
+Usage: as2desk [OPTIONS] --agreements <FILE> <COMMAND>";
 
 const POST_USAGE: &str = "
 
-Usage: as2desk --organization <NAME> --partner <NAME> --domain <DOMAIN> post";
+Usage: as2desk --agreements <FILE> post";
 
 const HINT: &str = "
 
 For more information, try '--help'.
 ";
 
-const CASES: [Case; 24] = [
+const CASES: [Case; 25] = [
     Case {
         options: FIXTURE,
         rest: &["post"],
@@ -87,6 +123,20 @@ const CASES: [Case; 24] = [
         errors: &[],
     },
     Case {
+        options: FIXTURE,
+        rest: &["check", "--help"],
+        status: 0,
+        output: CHECK_HELP,
+        errors: &[],
+    },
+    Case {
+        options: &[],
+        rest: &["post", "--help"],
+        status: 0,
+        output: POST_HELP,
+        errors: &[],
+    },
+    Case {
         options: &[],
         rest: &["--version"],
         status: 0,
@@ -100,7 +150,7 @@ const CASES: [Case; 24] = [
         output: "",
         errors: &[
             "error: unexpected argument '--colour' found",
-            "\n\nUsage: as2desk --organization <NAME> --partner <NAME> --domain <DOMAIN> <COMMAND>",
+            "\n\nUsage: as2desk --agreements <FILE> <COMMAND>",
             HINT,
         ],
     },
@@ -191,7 +241,7 @@ const CASES: [Case; 24] = [
         status: 2,
         output: "",
         errors: &[
-            "error: 'as2desk' requires a subcommand but one was not provided\n  [subcommands: post]",
+            "error: 'as2desk' requires a subcommand but one was not provided\n  [subcommands: check, post]",
             USAGE,
             HINT,
         ],
@@ -233,84 +283,44 @@ const CASES: [Case; 24] = [
         ],
     },
     Case {
-        options: &["--organization", "Supplier", "--partner", "Buyer"],
+        options: &[],
         rest: &["post"],
         status: 2,
         output: "",
         errors: &[
-            "error: the following required arguments were not provided:\n  --domain <DOMAIN>\n\nUsage: as2desk --organization <NAME> --partner <NAME> --domain <DOMAIN> <COMMAND>",
+            "error: the following required arguments were not provided:\n  --agreements <FILE>\n\nUsage: as2desk --agreements <FILE> <COMMAND>",
             HINT,
         ],
     },
     Case {
-        options: &[
-            "--organization",
-            "a b",
-            "--partner",
-            "Buyer",
-            "--domain",
-            "station.example",
-        ],
-        rest: &["post"],
+        options: FIXTURE,
+        rest: &["--organization", "Supplier", "post"],
         status: 2,
         output: "",
         errors: &[
-            "error: invalid value 'a b' for '--organization <NAME>': not an AS2 name: it has a byte that is not allowed (one with blanks is spelled in double quotes)",
+            "error: unexpected argument '--organization' found",
+            "\n\nUsage: as2desk --agreements <FILE> <COMMAND>",
+            HINT,
+        ],
+    },
+    Case {
+        options: FIXTURE,
+        rest: &["--agreements", "other.toml", "post"],
+        status: 2,
+        output: "",
+        errors: &[
+            "error: the argument '--agreements <FILE>' cannot be used multiple times",
             USAGE,
             HINT,
         ],
     },
     Case {
-        options: &[
-            "--organization",
-            "Supplier",
-            "--partner",
-            "\"Buyer",
-            "--domain",
-            "station.example",
-        ],
-        rest: &["post"],
+        options: FIXTURE,
+        rest: &["check", "more"],
         status: 2,
         output: "",
         errors: &[
-            "error: invalid value '\"Buyer' for '--partner <NAME>': not an AS2 name: its quotes or backslashes do not pair",
-            USAGE,
-            HINT,
-        ],
-    },
-    Case {
-        options: &[
-            "--organization",
-            "Supplier",
-            "--partner",
-            "",
-            "--domain",
-            "station.example",
-        ],
-        rest: &["post"],
-        status: 2,
-        output: "",
-        errors: &[
-            "error: invalid value '' for '--partner <NAME>': not an AS2 name: it is empty",
-            USAGE,
-            HINT,
-        ],
-    },
-    Case {
-        options: &[
-            "--organization",
-            "Supplier",
-            "--partner",
-            "Buyer",
-            "--domain",
-            "a_b",
-        ],
-        rest: &["post"],
-        status: 2,
-        output: "",
-        errors: &[
-            "error: invalid value 'a_b' for '--domain <DOMAIN>': not 1 to 253 letters, digits, '-' and '.'",
-            USAGE,
+            "error: unexpected argument 'more' found\n\nUsage: as2desk --agreements <FILE> check",
             HINT,
         ],
     },
@@ -358,34 +368,37 @@ fn help_that_cannot_be_written_is_refused(rt: HostRuntime) -> Result<(), Fail> {
 
 #[test]
 fn a_moment_is_wanted_where_the_clock_tells_none(rt: HostRuntime) -> Result<(), Fail> {
-    let words = [
-        "as2desk",
-        "--organization",
-        "Supplier",
-        "--partner",
-        "Buyer",
-        "--domain",
-        "station.example",
-        "post",
-    ];
-    for clock in [None, Some(253_402_300_800)] {
+    let files = OneFile {
+        path: "agreements.toml",
+        bytes: AGREEMENTS.as_bytes(),
+    };
+    // A check needs none.
+    for (clock, command, status, told) in [
+        (None, "post", 2, "error: the clock tells no moment"),
+        (
+            Some(253_402_300_800),
+            "post",
+            2,
+            "error: the clock tells no moment",
+        ),
+        (None, "check", 0, ""),
+        (Some(253_402_300_800), "check", 0, ""),
+    ] {
+        let words = ["as2desk", "--agreements", "agreements.toml", command];
         let mut output = Vec::new(rt.alloc());
         let mut errors = Vec::new(rt.alloc());
         let mut input = b"".as_slice();
-        let status = run(
+        let ran = run(
             rt.alloc(),
             words.as_slice(),
             clock,
+            &files,
             &mut input,
             &mut output,
             &mut errors,
         );
-        assert_eq!(rt; status, 2);
-        assert!(rt;
-            errors
-                .as_slice()
-                .starts_with(b"error: the clock tells no moment")
-        );
+        assert_eq!(rt; ran.status, status);
+        assert!(rt; errors.as_slice().starts_with(told.as_bytes()));
     }
     Ok(())
 }

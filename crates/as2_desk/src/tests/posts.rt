@@ -94,7 +94,7 @@ Content-Length: 18\r
 not supported yet
 ";
 
-const CASES: [Case; 55] = [
+const CASES: [Case; 57] = [
     // The names.
     Case {
         changes: &[(FROM, "")],
@@ -133,7 +133,7 @@ const CASES: [Case; 55] = [
         reply: RECEIPT,
     },
     Case {
-        changes: &[(FROM, "AS2-From: Depot\r\n")],
+        changes: &[(FROM, "AS2-From: Nobody\r\n")],
         reply: UNKNOWN_NAMES,
     },
     Case {
@@ -142,6 +142,14 @@ const CASES: [Case; 55] = [
     },
     Case {
         changes: &[(TO, "AS2-To: Buyer\r\n")],
+        reply: UNKNOWN_NAMES,
+    },
+    Case {
+        changes: &[(TO, "AS2-To: Nobody\r\n")],
+        reply: UNKNOWN_NAMES,
+    },
+    Case {
+        changes: &[(FROM, "AS2-From: Supplier\r\n")],
         reply: UNKNOWN_NAMES,
     },
     // The version.
@@ -340,13 +348,13 @@ const CASES: [Case; 55] = [
     Case {
         changes: &[
             (VERSION, "AS2-Version: 2.0\r\n"),
-            (FROM, "AS2-From: Depot\r\n"),
+            (FROM, "AS2-From: Nobody\r\n"),
         ],
         reply: BAD_VERSION,
     },
     Case {
         changes: &[
-            (FROM, "AS2-From: Depot\r\n"),
+            (FROM, "AS2-From: Nobody\r\n"),
             (TYPE, "Content-Type: plain\r\n"),
         ],
         reply: UNKNOWN_NAMES,
@@ -387,25 +395,20 @@ fn each_post_is_answered(rt: HostRuntime) -> Result<(), Fail> {
     Ok(())
 }
 
-const QUOTED: &str = "\"A \\\"B\\\" \\\\ C\"";
+/// The spellings of the partners' names.
+const PARTNERS: [&str; 3] = ["Buyer", "Depot", "\"A \\\"B\\\" \\\\ C\""];
 
 #[test]
-fn a_quoted_name_is_spelled_so_in_the_reply(rt: HostRuntime) -> Result<(), Fail> {
-    let from = joined(rt.alloc(), ["AS2-From: ", QUOTED, "\r\n"].as_slice())?;
-    let post = POST.replace(rt.alloc(), FROM, from.as_str())?;
-    let options = [
-        "--organization",
-        "Supplier",
-        "--partner",
-        QUOTED,
-        "--domain",
-        "station.example",
-    ];
-    let ran = posted(rt.alloc(), options.as_slice(), AT_1000, post.as_str())?;
-    let to = joined(rt.alloc(), ["AS2-To: ", QUOTED, "\r\n"].as_slice())?;
-    let reply = RECEIPT.replace(rt.alloc(), "AS2-To: Buyer\r\n", to.as_str())?;
-    assert_eq!(rt; std::str::from_utf8(ran.output.as_slice())?, reply.as_str());
-    assert_eq!(rt; ran.status, 0);
+fn each_partner_is_answered_by_its_name(rt: HostRuntime) -> Result<(), Fail> {
+    for name in PARTNERS {
+        let from = joined(rt.alloc(), ["AS2-From: ", name, "\r\n"].as_slice())?;
+        let post = POST.replace(rt.alloc(), FROM, from.as_str())?;
+        let ran = posted(rt.alloc(), FIXTURE, AT_1000, post.as_str())?;
+        let to = joined(rt.alloc(), ["AS2-To: ", name, "\r\n"].as_slice())?;
+        let reply = RECEIPT.replace(rt.alloc(), "AS2-To: Buyer\r\n", to.as_str())?;
+        assert_eq!(rt; std::str::from_utf8(ran.output.as_slice())?, reply.as_str());
+        assert_eq!(rt; ran.status, 0);
+    }
     Ok(())
 }
 

@@ -1,16 +1,38 @@
-use Rattle.std.proofs.Common.{inl}
-use Rattle.as2_desk.proofs.Given.{runs_given}
-use Rattle.clap.specs.Walk.{texts}
+use Rattle.std.proofs.Common.{◌≡◌, ◌∙◌, sym, refl, arith, inl, inr}
+use Rattle.std.specs.Io.KnownBytes.{Appends}
+use Rattle.clap.specs.Walk.{Text, texts}
+use Rattle.as2_desk.proofs.Given.{given_one}
+use Rattle.as2_desk.specs.Runs.{Runs}
+use Rattle.as2_desk.specs.Statuses.{faulty, refused}
+use Rattle.as2_desk.specs.declared.options.Task.{Task}
 use Rattle.as2_desk.proofs.desk.run.Goals as goal
 
--- here the words give options, and those that they give are the ones that were read
+-- here the words ask for something, and that is what was read
 pub returns-in-Ok-clause-unread : goal.returns-in-Ok-clause-unread
 returns-in-Ok-clause-unread g c = λ none.
-    let given = c.in-Ok.options in
-    absurd (none given.names given.first given.moment c.in-Ok.ensures.given)
+    let read = c.in-Ok.options in
+    absurd (none read.agreements.now read.task c.in-Ok.ensures.given)
 
 pub returns-in-Ok-clause-runs : goal.returns-in-Ok-clause-runs
-returns-in-Ok-clause-runs g c = λ names first moment gives.
+returns-in-Ok-clause-runs g c = λ path task gives.
     let read = c.in-Ok.options in
-    inl (runs_given (texts c.args.words.now) c.args.clock read.names names read.first first read.moment moment _ _ _ _ _
-    c.in-Ok.ensures.given gives c.post.ensures.runs)
+    inl (given_one (texts c.args.words.now) c.args.clock read.agreements.now path read.task task
+    (λ (p : Text) (t : Task). Runs (g.F.ReadFiles.content c.args.files.now p) t
+    (g.R.Read.remaining c.args.input.now) (g.R.Read.remaining c.carry_out.new.input)
+    (c.carry_out.new.input ≡ c.args.input.now) (c.carry_out.new.output ≡ c.args.output.now)
+    (Appends (g.W.Write.contents c.args.output.now) (g.W.Write.contents c.carry_out.new.output))
+    (Appends (g.E.Write.contents c.args.errors.now) (g.E.Write.contents c.carry_out.new.errors)) c.carry_out.result)
+    c.in-Ok.ensures.given gives c.carry_out.ensures.runs)
+
+-- here memory was wanting, since the words ask for something
+pub returns-in-Err-clause-given : goal.returns-in-Err-clause-given
+returns-in-Err-clause-given g c = λ path task gives is_faulty. elim c.tell.ensures.memory [
+  | inl wanting ↦ let bad : refused ≡ faulty = sym wanting.1.ended ∙ is_faulty in omega arith
+  | inr other ↦ c.in-Err.ensures.none other path task gives
+]
+
+pub returns-in-Err-clause-runs : goal.returns-in-Err-clause-runs
+returns-in-Err-clause-runs g c = λ path task gives. elim c.tell.ensures.memory [
+  | inl wanting ↦ inr (refl, wanting.0, wanting.1)
+  | inr other ↦ absurd (c.in-Err.ensures.none other path task gives)
+]

@@ -1,0 +1,14 @@
+use Rattle.std.proofs.Common.{List, Option, sym, subst}
+use Rattle.clap.specs.Walk.{Row, Text, texts}
+use Rattle.clap.specs.Words.{subcommand_name_of}
+use Rattle.as2_desk.specs.CommandLine.{values}
+use Rattle.as2_desk.specs.Options.{Give}
+use Rattle.as2_desk.proofs.desk.options.Goals as goal
+
+-- what the words give is what was found
+pub returns-clause-none : goal.returns-clause-none
+returns-clause-none c = λ known path task gives.
+    let found = c.in_ok-found.ensures.found in
+    let named = subst (λ (o : Option Text). Give (values (texts c.args.words.now)) o c.args.clock path task) (sym found.2) gives.given in
+    c.in-Err.ensures.none path task
+    (subst (λ (v : List Row). Give v (subcommand_name_of c.in_ok-found.found) c.args.clock path task) (sym found.1) named)

@@ -1,0 +1,20 @@
+-- What stands under a path, and what reading it comes to.
+use Rattle.std.specs.Prelude.{◌≡◌, ℕ, List, Result, Ok, Err, ⊤}
+use Rattle.as2_desk.specs.declared.files.FileFault.{FileFault}
+use Rattle.as2_desk.specs.declared.files.FileFault.TheVariants as fault
+
+-- what stands under a path, as far as it is told
+pub data Content : Type 0 where
+  -- nothing is told of it
+  untold : Content
+  -- nothing that can be read
+  unreadable : Content
+  -- a file of these bytes
+  file : List ℕ → Content
+
+-- the bytes are read, or it is told why not; memory may be wanting for the bytes of a file
+abbrev pub Reads : {V : Type 0} → (V → List ℕ) → Content → Result V FileFault → Type 0
+Reads view untold result = ⊤
+Reads view unreadable result = result ≡ Err fault.CannotRead
+Reads view (file bytes) (Ok read) = view read ≡ bytes
+Reads view (file bytes) (Err e) = e ≡ fault.Memory

@@ -1,0 +1,35 @@
+-- The lines on standard error that say why something was refused.
+use Rattle.std.specs.Prelude.{ℕ, List, ◌++◌, Option, Some, None, codes}
+use Rattle.as2_agreement.specs.Keys.{fault_key, fault_name, key_name}
+use Rattle.as2_agreement.specs.declared.fault.AgreementFault.{AgreementFault}
+use Rattle.as2_agreement.specs.declared.key.Key.{Key}
+use Rattle.as2_desk.specs.Statuses.{end_name}
+use Rattle.as2_desk.specs.declared.first_path.Served.{Served}
+use Rattle.as2_desk.specs.declared.first_path.Served.TheVariants as end
+use Rattle.as2_desk.specs.declared.refusal.Refusal.{Refusal}
+use Rattle.as2_desk.specs.declared.refusal.Refusal.TheVariants as refusal
+
+-- `refused: NAME`
+abbrev pub refused_line : List ℕ → List ℕ
+refused_line name = codes "refused: " ++ (name ++ codes "\n")
+
+-- `agreements: NAME`, and the key where there is one
+abbrev pub fault_line : List ℕ → Option Key → List ℕ
+fault_line name None = codes "agreements: " ++ (name ++ codes "\n")
+fault_line name (Some key) = codes "agreements: " ++ (name ++ (codes " " ++ (key_name key ++ codes "\n")))
+
+abbrev pub agreements_line : AgreementFault → List ℕ
+agreements_line fault = fault_line (fault_name fault) (fault_key fault)
+
+-- the line of a refusal
+abbrev pub line : Refusal → List ℕ
+line refusal.CannotRead = refused_line (codes "CannotRead")
+line refusal.CannotWrite = refused_line (codes "CannotWrite")
+line refusal.Memory = refused_line (codes "Memory")
+line (refusal.Agreements fault) = agreements_line fault
+line (refusal.Stream ended) = refused_line (end_name ended)
+
+-- what there is to say of the end of a stream: nothing where it is in good order
+abbrev pub end_line : Served → List ℕ
+end_line end.Closed = codes ""
+end_line ended = line (refusal.Stream ended)

@@ -1,0 +1,63 @@
+//! Why something was refused, in one line on standard error.
+ghost use Rattle.std.specs.Prelude.{◌≡◌, OnOk, true};
+ghost use Rattle.std.specs.Io.KnownBytes.{Appends};
+ghost use Rattle.as2_desk.specs.Refusals.{agreements_line, line, refused_line};
+
+use crate::first_path::Served;
+use crate::status::end_name;
+use as2_agreement::AgreementFault;
+use std::io;
+use std::io::Write;
+
+/// Why what was asked for isn't done.
+#[derive(Clone, Copy, Debug, PartialEq, Eq)]
+pub(crate) enum Refusal {
+    /// A file can't be read.
+    CannotRead,
+    /// Standard output can't be written.
+    CannotWrite,
+    /// There was no memory for the command line.
+    Memory,
+    /// The agreements have a fault.
+    Agreements(AgreementFault),
+    /// A stream came to another end than `Closed`.
+    Stream(Served),
+}
+
+/// Writes `refused: NAME`.
+fn say_refused<E: Write>(name: &str, errors: &mut E) -> io::Result<()>
+    ensures { OnOk result (Appends (E.contents errors.old) (E.contents errors.new) (refused_line name.now)) }
+{
+    write!(errors, "refused: {name}\n")
+}
+
+/// Writes `agreements: NAME`, and the key where the fault has one.
+fn say_agreements<E: Write>(fault: AgreementFault, errors: &mut E) -> io::Result<()>
+    ensures { OnOk result (Appends (E.contents errors.old) (E.contents errors.new) (agreements_line fault)) }
+{
+    let name = fault.name();
+    match fault.key() {
+        None => write!(errors, "agreements: {name}\n"),
+        Some(key) => write!(errors, "agreements: {name} {key}\n"),
+    }
+}
+
+/// Writes the line of a refusal.
+fn say<E: Write>(refusal: Refusal, errors: &mut E) -> io::Result<()>
+    ensures { OnOk result (Appends (E.contents errors.old) (E.contents errors.new) (line refusal)) }
+{
+    match refusal {
+        Refusal::CannotRead => say_refused("CannotRead", errors),
+        Refusal::CannotWrite => say_refused("CannotWrite", errors),
+        Refusal::Memory => say_refused("Memory", errors),
+        Refusal::Agreements(fault) => say_agreements(fault, errors),
+        Refusal::Stream(end) => say_refused(end_name(end), errors),
+    }
+}
+
+/// Says why something was refused, and whether that could be said: where not, there is nobody else to say it to.
+pub(crate) fn is_said<E: Write>(refusal: Refusal, errors: &mut E) -> bool
+    ensures { result ≡ true → Appends (E.contents errors.old) (E.contents errors.new) (line refusal) }
+{
+    say(refusal, errors).is_ok()
+}
