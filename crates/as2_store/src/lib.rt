@@ -1,0 +1,3 @@
+//! The records of the station in SQLite: the tables stand for a state of the exchange machine, and each call takes it to
+//! the named next one or leaves it.
+#![tactic(auto)]
