@@ -1,0 +1,4 @@
+pub mod Codes
+pub mod Contents
+pub mod Rows
+pub mod Waiting

@@ -1,0 +1,122 @@
+-- Entries as rows: as they are stored, with the row's number first and NULL in the column that repeats it; and as a query
+-- shows them, with all columns in order.
+use Rattle.std.specs.Prelude.{ℕ, [], ◌∷◌, Option, Some, None, pos, codes, length}
+use Rattle.sqlite_value.specs.declared.value.Value.{Value}
+use Rattle.sqlite_value.specs.declared.value.Value.TheVariants.{Null, Int, Text, Blob}
+use Rattle.sqlite_value.specs.Order.{Row}
+use Rattle.as2_names.specs.Identifiers.{value_of}
+use Rattle.as2_mic.specs.Algs.{alg_name}
+use Rattle.as2_mdn.specs.declared.report.ReportMic.{ReportMic}
+use Rattle.as2_exchange.specs.declared.inbox.How.{How}
+use Rattle.as2_exchange.specs.declared.inbox.How.TheVariants.{NoReceipt, Sync, Async}
+use Rattle.as2_exchange.specs.declared.inbox.InEntry.{InEntry}
+use Rattle.as2_exchange.specs.declared.outbox.OutEntry.{OutEntry}
+use Rattle.as2_exchange.specs.declared.outbox.Evidence.{Evidence}
+use Rattle.as2_rows.specs.Codes.{outcome_code, how_code, mdn_code, attempt_code, detail_code}
+
+-- ---- values
+
+-- a whole number
+abbrev pub whole : ℕ → Value
+whole n = Int (pos n)
+
+-- NULL is what is absent
+abbrev pub whole_or_null : Option ℕ → Value
+whole_or_null None = Null
+whole_or_null (Some n) = whole n
+
+-- the address that a receipt is sent to
+abbrev pub url_value : How → Value
+url_value NoReceipt = Null
+url_value Sync = Null
+url_value (Async url) = Blob url
+
+-- the digest of a MIC, by its name
+abbrev pub digest_value : Option ReportMic → Value
+digest_value None = Null
+digest_value (Some mic) = Text (alg_name mic.digest)
+
+-- the text of a MIC
+abbrev pub mic_value : Option ReportMic → Value
+mic_value None = Null
+mic_value (Some mic) = Blob mic.text
+
+-- ---- the inbox
+
+-- the columns behind the number: sender, receiver, the identifier's value, the identifier, content type, length, moment,
+-- outcome, how, url, digest, mic, mdn, tries, attempt, due
+abbrev pub in_columns : InEntry → Row
+in_columns e =
+    Blob e.posted.sender
+    ∷ Blob e.posted.receiver
+    ∷ Blob (value_of e.posted.id)
+    ∷ Blob e.posted.id
+    ∷ Blob e.posted.content_type
+    ∷ whole (length e.posted.content)
+    ∷ whole e.moment
+    ∷ whole (outcome_code e.posted.outcome)
+    ∷ whole (how_code e.posted.how)
+    ∷ url_value e.posted.how
+    ∷ digest_value e.posted.mic
+    ∷ mic_value e.posted.mic
+    ∷ whole (mdn_code e.mdn)
+    ∷ whole e.tries
+    ∷ whole (attempt_code e.attempt)
+    ∷ whole_or_null e.due
+    ∷ []
+
+-- as it is stored
+abbrev pub in_row : InEntry → Row
+in_row e = whole e.number ∷ Null ∷ in_columns e
+
+-- as a query shows it
+abbrev pub in_shown : InEntry → Row
+in_shown e = whole e.number ∷ in_columns e
+
+-- ---- the outbox
+
+-- the columns behind the number: organization, partner, the identifier's value, length, moment, tries, attempt, due, detail
+abbrev pub out_columns : OutEntry → Row
+out_columns d =
+    Blob d.organization
+    ∷ Blob d.partner
+    ∷ Blob d.id
+    ∷ whole (length d.content)
+    ∷ whole d.moment
+    ∷ whole d.tries
+    ∷ whole (attempt_code d.attempt)
+    ∷ whole_or_null d.due
+    ∷ whole (detail_code d.detail)
+    ∷ []
+
+-- as it is stored
+abbrev pub out_row : OutEntry → Row
+out_row d = whole d.number ∷ Null ∷ out_columns d
+
+-- as a query shows it
+abbrev pub out_shown : OutEntry → Row
+out_shown d = whole d.number ∷ out_columns d
+
+-- ---- the evidence of the document of that number
+
+-- the columns behind the number: moment, content type, body
+abbrev pub evidence_columns : Evidence → Row
+evidence_columns e = whole e.moment ∷ Blob e.content_type ∷ Blob e.body ∷ []
+
+-- as it is stored
+abbrev pub evidence_row : ℕ → Evidence → Row
+evidence_row number e = whole number ∷ Null ∷ evidence_columns e
+
+-- as a query shows it
+abbrev pub evidence_shown : ℕ → Evidence → Row
+evidence_shown number e = whole number ∷ evidence_columns e
+
+-- ---- the counters
+
+-- the columns: kind, version, the next numbers of a receipt and of a document
+abbrev pub meta_shown : ℕ → ℕ → Row
+meta_shown next_receipt next_document = Text (codes "as2-station") ∷ whole 1 ∷ whole next_receipt ∷ whole next_document ∷ []
+
+-- as they are stored: the only row, whose number is 1
+abbrev pub meta_row : ℕ → ℕ → Row
+meta_row next_receipt next_document = whole 1 ∷ meta_shown next_receipt next_document

@@ -1,0 +1,67 @@
+-- Which entries wait for something, and for what.
+use Rattle.std.specs.Prelude.{ℕ, List, [], ◌∷◌, Option, Some, None, option_map}
+use Rattle.std.specs.List.{filter_map}
+use Rattle.sqlite_value.specs.Order.{Row}
+use Rattle.as2_mdn.specs.declared.detail.Detail.{Detail}
+use Rattle.as2_mdn.specs.declared.detail.Detail.TheVariants.{New, Sending, Awaiting, Retry}
+use Rattle.as2_exchange.specs.declared.attempt.Attempt.{Attempt}
+use Rattle.as2_exchange.specs.declared.attempt.Attempt.TheVariants.{Idle, Running, Last}
+use Rattle.as2_exchange.specs.declared.inbox.MdnState.{MdnState}
+use Rattle.as2_exchange.specs.declared.inbox.MdnState.TheVariants.{Pending}
+use Rattle.as2_exchange.specs.declared.inbox.InEntry.{InEntry}
+use Rattle.as2_exchange.specs.declared.outbox.OutEntry.{OutEntry}
+use Rattle.as2_rows.specs.Rows.{whole, whole_or_null}
+
+-- what waits: its kind, the number of the entry, and from when on it is due
+pub record Waiting : Type 0 where
+  pub kind : ℕ
+  pub number : ℕ
+  pub due : Option ℕ
+
+-- a document that is to be sent: 1
+abbrev pub to_send : ℕ
+to_send = 1
+
+-- a receipt that is to be sent: 2
+abbrev pub to_answer : ℕ
+to_answer = 2
+
+-- a document whose receipt is awaited: 3
+abbrev pub to_hear : ℕ
+to_hear = 3
+
+-- a document whose last try is open: 4
+abbrev pub to_end : ℕ
+to_end = 4
+
+-- what a document waits for
+abbrev pub out_kind : Detail → Attempt → Option ℕ
+out_kind New attempt = Some to_send
+out_kind Retry attempt = Some to_send
+out_kind Sending Running = Some to_send
+out_kind Sending Last = Some to_end
+out_kind Awaiting attempt = Some to_hear
+out_kind detail attempt = None
+
+-- what a received entry waits for
+abbrev pub in_kind : MdnState → Attempt → Option ℕ
+in_kind Pending Idle = Some to_answer
+in_kind Pending Running = Some to_answer
+in_kind mdn attempt = None
+
+abbrev pub out_waiting : OutEntry → Option Waiting
+out_waiting d = option_map (λ kind. record { kind = kind; number = d.number; due = d.due }) (out_kind d.detail d.attempt)
+
+abbrev pub in_waiting : InEntry → Option Waiting
+in_waiting e = option_map (λ kind. record { kind = kind; number = e.number; due = e.due }) (in_kind e.mdn e.attempt)
+
+-- all that waits in the inbox, and in the outbox, in order of the numbers
+abbrev pub waiting_in : List InEntry → List Waiting
+waiting_in inbox = filter_map in_waiting inbox
+
+abbrev pub waiting_out : List OutEntry → List Waiting
+waiting_out outbox = filter_map out_waiting outbox
+
+-- as a query shows it: kind, number, due
+abbrev pub waiting_shown : Waiting → Row
+waiting_shown w = whole w.kind ∷ whole w.number ∷ whole_or_null w.due ∷ []
