@@ -1,1 +1,6 @@
 mod Making
+mod Texts
+mod Quiet
+mod Resting
+mod Beginning
+mod MetaRow

@@ -1,5 +1,5 @@
 -- The tables of the store, version 1, and the texts that make them.
-use Rattle.std.specs.Prelude.{true, false, [], ◌∷◌, ◌++◌, Some, None, codes, List, ℕ, Option, pos}
+use Rattle.std.specs.Prelude.{true, false, [], ◌∷◌, ◌++◌, Some, None, codes, List, ℕ, ◌+◌, map, Option, pos}
 use Rattle.std.specs.Fmt.{decimal}
 use Rattle.sqlite.specs.Collation.TheVariants.{Binary}
 use Rattle.sqlite.specs.declared.types.Value.TheVariants.{Null, Int, Text as Words}
@@ -66,7 +66,7 @@ table name columns key primary uniques checks references = record {
   key = key;
   primary = primary;
   uniques = uniques;
-  orders = Rattle.std.specs.Prelude.map (λ _. record { digits = 0 }) uniques;
+  orders = map (λ _. record { digits = 0 }) uniques;
   checks = checks;
   references = references;
   computed = [];
@@ -160,9 +160,6 @@ waiting_table = record waiting_made { tree = waiting_tree }
 -- the index of a table's one key
 abbrev pub key_index : List ℕ → ℕ → List ℕ → Index
 key_index name tree columns = record { name = codes "sqlite_autoindex_" ++ name ++ codes "_" ++ decimal 1; tree = tree + 1; table = tree; columns = columns; order = record { digits = 0 }; is_unique = true }
-  where
-    use Rattle.std.specs.Prelude.{◌+◌}
-
 abbrev pub waiting_due_made : Index
 waiting_due_made = record { name = codes "waiting_due"; tree = 0; table = waiting_tree; columns = 2 ∷ 4 ∷ 3 ∷ []; order = record { digits = 0 }; is_unique = false }
 
