@@ -1,4 +1,5 @@
 pub mod Codes
 pub mod Contents
+pub mod Reading
 pub mod Rows
 pub mod Waiting

@@ -1,0 +1,162 @@
+//! The values of a row, one at a time.
+
+ghost use Rattle.std.specs.Prelude.{◌≡◌, ◌≤◌, ℕ, List, Option, Ok, IfOk, IfErr, IfSome, pos};
+ghost use Rattle.sqlite_value.specs.declared.value.Value.TheVariants.{Int, Blob};
+ghost use Rattle.sqlite_value.specs.Order.{column};
+ghost use Rattle.sqlite_value.specs.Value.{owned};
+ghost use Rattle.as2_names.specs.Names.{IsName};
+ghost use Rattle.as2_names.specs.Identifiers.{IsIdentifier};
+ghost use Rattle.as2_names.specs.Moments.{last_moment};
+ghost use Rattle.as2_mic.specs.Mic.{IsMicText};
+ghost use Rattle.as2_mdn.specs.declared.report.ReportMic.{ReportMic as Mic};
+ghost use Rattle.as2_exchange.specs.declared.inbox.How.{How as HowOf};
+ghost use Rattle.as2_rows.specs.Codes.{how_code};
+ghost use Rattle.as2_rows.specs.Rows.{whole, whole_or_null, url_value, digest_value, mic_value};
+ghost use Rattle.as2_rows.specs.declared.fault.RowFault.TheVariants as fault;
+
+use crate::RowFault;
+use as2_exchange::{Bytes, How};
+use as2_mdn::ReportMic;
+use as2_mic::{Alg, MicText, Pieces};
+use as2_names::{AsName, IdFault, MessageId, Moment, is_identifier};
+use sqlite::Row;
+use sqlite::types::ValueRef;
+use std::alloc::Global;
+
+/// The value in a column, and NULL past the last one.
+pub fn column<'a>(row: &'a Row, at: usize) -> ValueRef<'a>
+    ensures { owned result ≡ column row.now at }
+{
+    match row.get_ref(at) {
+        Ok(value) => value,
+        Err(_) => ValueRef::Null,
+    }
+}
+
+/// A whole number of the tables.
+pub fn integer(value: ValueRef<'_>) -> Result<i64, RowFault>
+    ensures read { IfOk result (λ n. owned value.entry ≡ Int n) }
+    ensures taken { (n : _) → owned value.entry ≡ Int n → result ≡ Ok n }
+{
+    match value {
+        ValueRef::Int(n) => Ok(n),
+        _ => Err(RowFault::NotAnEntry),
+    }
+}
+
+/// A count.
+pub fn whole(value: ValueRef<'_>) -> Result<u64, RowFault>
+    ensures read { IfOk result (λ n. owned value.entry ≡ whole n) }
+    ensures taken { (n : ℕ) → owned value.entry ≡ whole n → result ≡ Ok n }
+{
+    match u64::try_from(integer(value)?) {
+        Ok(n) => Ok(n),
+        Err(_) => Err(RowFault::NotAnEntry),
+    }
+}
+
+/// A count that may be absent.
+pub fn whole_or_null(value: ValueRef<'_>) -> Result<Option<u64>, RowFault>
+    ensures { (n : Option ℕ) → owned value.entry ≡ whole_or_null n → result ≡ Ok n }
+{
+    match value {
+        ValueRef::Null => Ok(None),
+        _ => Ok(Some(whole(value)?)),
+    }
+}
+
+/// The bytes of a value.
+pub fn blob<'a>(value: ValueRef<'a>) -> Result<&'a [u8], RowFault>
+    ensures read { IfOk result (λ b. owned value.entry ≡ Blob b.now) }
+    ensures taken { IfErr result (λ f. (b : List ℕ) → owned value.entry ≡ Blob b → f ≡ fault.Memory) }
+{
+    match value {
+        ValueRef::Blob(bytes) => Ok(bytes),
+        _ => Err(RowFault::NotAnEntry),
+    }
+}
+
+/// A text that is kept as its bytes.
+pub fn text(alloc: Global, value: ValueRef<'_>) -> Result<Bytes, RowFault>
+    ensures read { IfOk result (λ t. owned value.entry ≡ Blob t) }
+    ensures taken { IfErr result (λ f. (b : List ℕ) → owned value.entry ≡ Blob b → f ≡ fault.Memory) }
+{
+    Ok(Bytes::keep(alloc, blob(value)?)?)
+}
+
+/// Bytes that are kept in pieces.
+pub fn pieces(alloc: Global, value: ValueRef<'_>) -> Result<Pieces, RowFault>
+    ensures read { IfOk result (λ p. owned value.entry ≡ Blob p) }
+    ensures taken { IfErr result (λ f. (b : List ℕ) → owned value.entry ≡ Blob b → f ≡ fault.Memory) }
+{
+    let mut pieces = Pieces::new(alloc);
+    pieces.append(blob(value)?)?;
+    Ok(pieces)
+}
+
+/// A name.
+pub fn name(value: ValueRef<'_>) -> Result<AsName, RowFault>
+    ensures read { IfOk result (λ n. owned value.entry ≡ Blob n) }
+    ensures taken { IfErr result (λ f. (n : List ℕ) → IsName n → owned value.entry ≡ Blob n → f ≡ fault.Memory) }
+{
+    match AsName::plain(blob(value)?) {
+        Ok(name) => Ok(name),
+        Err(_) => Err(RowFault::NotAnEntry),
+    }
+}
+
+/// An identifier, as it was received.
+pub fn identifier(alloc: Global, value: ValueRef<'_>) -> Result<MessageId, RowFault>
+    ensures read { IfOk result (λ t. owned value.entry ≡ Blob t) }
+    ensures taken { IfErr result (λ f. (t : List ℕ) → IsIdentifier t → owned value.entry ≡ Blob t → f ≡ fault.Memory) }
+{
+    let text = blob(value)?;
+    if !is_identifier(text) {
+        return Err(RowFault::NotAnEntry);
+    }
+    match MessageId::parse(alloc, text) {
+        Ok(id) => Ok(id),
+        Err(_) => Err(RowFault::Memory),
+    }
+}
+
+/// A moment.
+pub fn moment(value: ValueRef<'_>) -> Result<Moment, RowFault>
+    ensures read { IfOk result (λ m. owned value.entry ≡ whole m) }
+    ensures taken { IfErr result (λ f. (m : ℕ) → m ≤ last_moment → owned value.entry ≡ whole m → f ≡ fault.Memory) }
+{
+    match Moment::new(whole(value)?) {
+        Some(moment) => Ok(moment),
+        None => Err(RowFault::NotAnEntry),
+    }
+}
+
+/// How a receipt was asked for, of its code and the address.
+pub fn how(alloc: Global, code: ValueRef<'_>, url: ValueRef<'_>) -> Result<How, RowFault>
+    ensures read { IfOk result (λ h. (g : HowOf) → owned code.entry ≡ whole (how_code g) → owned url.entry ≡ url_value g → h ≡ g) }
+    ensures taken { IfErr result (λ f. (g : HowOf) → owned code.entry ≡ whole (how_code g) → owned url.entry ≡ url_value g → f ≡ fault.Memory) }
+{
+    match (integer(code)?, url) {
+        (1, ValueRef::Null) => Ok(How::NoReceipt),
+        (2, ValueRef::Null) => Ok(How::Sync),
+        (3, url) => Ok(How::Async(text(alloc, url)?)),
+        _ => Err(RowFault::NotAnEntry),
+    }
+}
+
+/// The digest and the text of a MIC, where there is one.
+pub fn mic(digest: ValueRef<'_>, text: ValueRef<'_>) -> Result<Option<ReportMic>, RowFault>
+    ensures read { IfOk result (λ m. (n : Option Mic) → owned digest.entry ≡ digest_value n → owned text.entry ≡ mic_value n → m ≡ n) }
+    ensures taken { IfErr result (λ f. (n : Option Mic) → IfSome n (λ mic. IsMicText mic.text)
+        → owned digest.entry ≡ digest_value n → owned text.entry ≡ mic_value n → f ≡ fault.Memory) }
+{
+    let (name, bytes) = match (digest, text) {
+        (ValueRef::Null, ValueRef::Null) => return Ok(None),
+        (ValueRef::Text(name), ValueRef::Blob(bytes)) => (name, bytes),
+        _ => return Err(RowFault::NotAnEntry),
+    };
+    match (Alg::named(name), MicText::of(bytes)) {
+        (Some(digest), Some(text)) => Ok(Some(ReportMic { digest, text })),
+        _ => Err(RowFault::NotAnEntry),
+    }
+}
