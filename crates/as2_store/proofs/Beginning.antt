@@ -1,6 +1,6 @@
 -- What the statements of `create` leave.
 use Rattle.std.proofs.Common.{◌≡◌, ℕ, ◌<◌, ◌≤◌, List, [], ◌∷◌, ◌++◌, codes, Ok, refl, sym, subst, ◌∙◌, pos, arith}
-use Rattle.std.specs.List.{AllByRecursion}
+use Rattle.std.specs.List.{AllByRecursion, IsDistinct}
 use Rattle.sqlite.specs.declared.types.Value.TheVariants.{Null, Int, Text}
 use Rattle.sqlite.specs.Order.{Row}
 use Rattle.sqlite.specs.Table.{Table}
@@ -65,6 +65,7 @@ puts_meta old new first count bare h =
     subst (λ rows. Changed old new store_schema meta_tree (put_row (Int (next_rowid rows) ∷ Text (codes "as2-station") ∷ Int (pos 1) ∷ Int (pos first) ∷ Int (pos first) ∷ []) rows)) bare.empty.0 it
 
 pub stands_empty : (a b : Connected) (first : ℕ) → 1 ≤ first → first < end_of_numbers → IsBare a.now store_schema → Changed a b store_schema meta_tree (meta_row first first ∷ []) → Stands b.now (empty first)
+unfolding IsDistinct
 stands_empty a b first least most bare one = record {
   schema = one.schema_is;
   meta = one.rows_are;

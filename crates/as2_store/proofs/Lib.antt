@@ -3,4 +3,5 @@ mod Texts
 mod Quiet
 mod Resting
 mod Beginning
+mod Answering
 mod MetaRow

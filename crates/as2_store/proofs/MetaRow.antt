@@ -63,6 +63,9 @@ read_fails old new e has h =
 pub rests_fails : (old new : Connected) (e : Error) (s : State) → Rests old s → FailsToQuery meta_read_text [] old new e → IsOutside e
 rests_fails old new e s r h = elim (failed_or_open meta_read_text [] old new e h) [ inl outside ↦ outside | inr opened ↦ read_fails old new e (r.stands opened).schema h ]
 
+pub said_fails : (old new : Connected) (e : Error) (kind : List ℕ) (version : ℕ) → Says old kind version → FailsToQuery meta_read_text [] old new e → IsOutside e
+said_fails old new e kind version it h = read_fails old new e it.schema h
+
 abbrev told : List ℕ → ℕ → ℕ → ℕ → Row
 told kind version n m = Text kind ∷ whole version ∷ whole n ∷ whole m ∷ []
 
