@@ -7,6 +7,7 @@ use Rattle.as2_mic.specs.Mic.{IsMicText}
 use Rattle.as2_exchange.specs.declared.inbox.InEntry.{InEntry}
 use Rattle.as2_exchange.specs.declared.outbox.OutEntry.{OutEntry}
 use Rattle.as2_exchange.specs.declared.outbox.Evidence.{Evidence}
+use Rattle.as2_rows.specs.declared.evidence.EvidenceRow.{EvidenceRow}
 use Rattle.as2_rows.specs.declared.inbox.InRow.{InRow}
 use Rattle.as2_rows.specs.declared.outbox.OutRow.{OutRow}
 
@@ -99,3 +100,9 @@ pub record IsOutEntry (d : OutEntry) : Type 0 where
   pub partner : IsName d.partner
   pub id : IsIdentifier d.id
   pub moment : d.moment ≤ last_moment
+
+-- ---- the evidence
+
+-- the receipt, and the number of its document
+abbrev pub evidence_of : ℕ → Evidence → EvidenceRow
+evidence_of number e = record { number = number; evidence = e }

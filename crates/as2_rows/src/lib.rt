@@ -3,14 +3,20 @@
 
 mod cells;
 mod codes;
+mod contents;
+mod evidence;
 mod fault;
 mod inbox;
+mod optional;
 mod outbox;
 
 pub use codes::{
     attempt_code, attempt_of_code, detail_code, detail_of_code, how_code, mdn_code, mdn_of_code,
     outcome_code, outcome_of_code,
 };
+pub use contents::content_in;
+pub use evidence::EvidenceRow;
 pub use fault::RowFault;
 pub use inbox::InRow;
+pub use optional::{digest_of, mic_of, url_of};
 pub use outbox::OutRow;
