@@ -69,12 +69,14 @@ unfolding IsDistinct
 stands_empty a b first least most bare one = record {
   schema = one.schema_is;
   meta = one.rows_are;
-  inbox = one.others.1.0 (λ e. omega arith) ∙ bare.empty.1.0;
-  inbox_contents = one.others.1.1.0 (λ e. omega arith) ∙ bare.empty.1.1.0;
-  outbox = one.others.1.1.1.0 (λ e. omega arith) ∙ bare.empty.1.1.1.0;
-  outbox_contents = one.others.1.1.1.1.0 (λ e. omega arith) ∙ bare.empty.1.1.1.1.0;
-  evidence = one.others.1.1.1.1.1.0 (λ e. omega arith) ∙ bare.empty.1.1.1.1.1.0;
-  waits = one.others.1.1.1.1.1.1.0 (λ e. omega arith) ∙ bare.empty.1.1.1.1.1.1.0;
+  entries = record {
+    inbox = one.others.1.0 (λ e. omega arith) ∙ bare.empty.1.0;
+    inbox_contents = one.others.1.1.0 (λ e. omega arith) ∙ bare.empty.1.1.0;
+    outbox = one.others.1.1.1.0 (λ e. omega arith) ∙ bare.empty.1.1.1.0;
+    outbox_contents = one.others.1.1.1.1.0 (λ e. omega arith) ∙ bare.empty.1.1.1.1.0;
+    evidence = one.others.1.1.1.1.1.0 (λ e. omega arith) ∙ bare.empty.1.1.1.1.1.0;
+    waits = one.others.1.1.1.1.1.1.0 (λ e. omega arith) ∙ bare.empty.1.1.1.1.1.1.0;
+  };
   receipts = (record { least = least; most = omega (arith, most) }, record { below = tt; distinct = tt; in_order = tt });
   documents = (record { least = least; most = omega (arith, most) }, record { below = tt; distinct = tt; in_order = tt });
 }

@@ -5,3 +5,8 @@ mod Resting
 mod Beginning
 mod Answering
 mod MetaRow
+mod Rising
+mod Piling
+mod Placing
+mod Writing
+mod Growing

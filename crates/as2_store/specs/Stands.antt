@@ -59,16 +59,21 @@ waiting s = documents_waiting to_send s.outbox ++ (waiting_in s.inbox ++ (docume
 
 -- ---- the state
 
--- the tables stand for this state
-pub record Stands (d : Database) (s : State) : Type 0 where
-  pub schema : d.schema ≡ store_schema
-  pub meta : d.trees meta_tree ≡ meta_row s.next_in s.next_out ∷ []
+-- beside `meta`, the tables hold exactly the entries of this state
+pub record HasEntries (d : Database) (s : State) : Type 0 where
   pub inbox : d.trees inbox_tree ≡ map in_row s.inbox
   pub inbox_contents : d.trees inbox_piece_tree ≡ piece_rows (inbox_pieces s.inbox)
   pub outbox : d.trees outbox_tree ≡ map out_row s.outbox
   pub outbox_contents : d.trees outbox_piece_tree ≡ piece_rows (outbox_pieces s.outbox)
   pub evidence : d.trees evidence_tree ≡ evidence_rows s.outbox
   pub waits : d.trees waiting_tree ≡ map waiting_row (waiting s)
+
+-- the tables stand for this state: they are those of a store and no others, `meta` has the counters, and the counters are
+-- above all numbers
+pub record Stands (d : Database) (s : State) : Type 0 where
+  pub schema : d.schema ≡ store_schema
+  pub meta : d.trees meta_tree ≡ meta_row s.next_in s.next_out ∷ []
+  pub entries : HasEntries d s
   pub receipts : IsCounter s.next_in × AreNumbers s.next_in (map (λ e. e.number) s.inbox)
   pub documents : IsCounter s.next_out × AreNumbers s.next_out (map (λ d. d.number) s.outbox)
 

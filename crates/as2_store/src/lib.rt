@@ -2,12 +2,16 @@
 //! the named next one or leaves it.
 #![tactic(auto)]
 
+mod adding;
 mod adopting;
+mod contents;
 mod counters;
 mod creating;
 mod fault;
+mod inbox;
 mod numbers;
 mod store;
+mod waiting;
 
 pub use counters::NextNumbers;
 pub use store::Store;

@@ -1,16 +1,20 @@
 //! The store: its contracts speak of the state that the tables stand for, and of no row.
 
-ghost use Rattle.std.specs.Prelude.{◌≡◌, ◌⊎◌, ◌<◌, ◌≤◌, ℕ, List, None, Some, true, false, IfOk, IfErr};
+ghost use Rattle.std.specs.Prelude.{◌≡◌, ◌⊎◌, ◌<◌, ◌≤◌, ℕ, List, None, Some, true, false, Err, IfOk, IfErr, OnOk, OnErr};
 ghost use Rattle.sqlite.specs.Held.{state};
 ghost use Rattle.sqlite.specs.State.{HasCleanDisk};
 ghost use Rattle.as2_exchange.specs.State.{State, empty, end_of_numbers};
+ghost use Rattle.as2_exchange.specs.declared.fault.StoreFault.TheVariants.{Full};
+ghost use Rattle.as2_store.specs.Adding.{with_received};
 ghost use Rattle.as2_store.specs.Stands.{Rests, IsBlank, Says, judged, may_come};
 
+use crate::adding::add;
 use crate::adopting::check;
 use crate::counters::{NextNumbers, meta_rows, next_of};
 use crate::creating::make;
 use crate::fault::fault_of;
-use as2_exchange::StoreFault;
+use crate::numbers::fits;
+use as2_exchange::{InEntry, StoreFault};
 use sqlite::{Alter, Connection};
 use std::marker::Model;
 
@@ -89,6 +93,27 @@ impl<S: Alter> Store<S> {
         };
         match next_of(&rows) {
             Ok(next) => Ok(next),
+            Err(error) => Err(fault_of(&error)),
+        }
+    }
+
+    /// Adds an entry to the inbox. Its number is to be the next of a receipt, as `next_numbers` gives it. Answers Full exactly
+    /// where that is past 999,999,999,999; Memory, Disk or Refused. A fault leaves the state.
+    pub fn add_in(&mut self, entry: &InEntry) -> Result<(), StoreFault>
+        ensures added { HasCleanDisk (state S.Store self.new) → OnOk result ((s : State) → Rests (state S.Store self.old) s → entry.now.number ≡ s.next_in → Rests (state S.Store self.new) (with_received s entry.now)) }
+        ensures failed { HasCleanDisk (state S.Store self.new) → OnErr result ((s : State) → Rests (state S.Store self.old) s → Rests (state S.Store self.new) s) }
+        ensures full { IfErr result (λ f. f ≡ Full → end_of_numbers ≤ entry.now.number) }
+        ensures full_alone { end_of_numbers ≤ entry.now.number → result ≡ Err Full }
+        ensures fault { IfErr result (λ f. (f ≡ Full) ⊎ (may_come f ≡ true)) }
+    {
+        if entry.number > 999_999_999_999 {
+            return Err(StoreFault::Full);
+        }
+        if !fits(entry) {
+            return Err(StoreFault::Refused);
+        }
+        match add(&mut self.conn, entry) {
+            Ok(()) => Ok(()),
             Err(error) => Err(fault_of(&error)),
         }
     }
