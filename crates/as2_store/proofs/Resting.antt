@@ -1,5 +1,7 @@
 -- What stays when a transaction is given up, and what a commit leaves.
-use Rattle.std.proofs.Common.{◌≡◌, sym, subst, ◌∙◌, false}
+use Rattle.std.proofs.Common.{◌≡◌, sym, subst, ◌∙◌, false, true≢false, inl, inr, Ok, Err, Result, OnErr, IsTrue}
+use Rattle.sqlite.specs.Steps.{FailsToCommit}
+use Rattle.sqlite.specs.declared.error.Error.{Error}
 use Rattle.sqlite.specs.Effect.{Database}
 use Rattle.sqlite.specs.Schema.{Schema}
 use Rattle.sqlite.specs.State.{State as Connected, Shows, IsUnchanged, IsRolledBack, KeepsCommit}
@@ -38,3 +40,19 @@ blank_after old mid new r kept back = record {
       subst (λ (d : Database). d.schema ≡ no_schema) (sym ((back.undone opened).0 ∙ kept.committed was ∙ r.committed (kept.was_open was))) (r.no_table (kept.was_open was));
   committed = λ opened. (back.undone opened).1 ∙ sym (back.undone opened).0;
 }
+
+-- what keeps the last commit, step by step
+pub keeps_then : (a b c : Connected) → KeepsCommit a b → KeepsCommit b c → KeepsCommit a c
+keeps_then a b c one two = record {
+  was_open = λ opened. one.was_open (two.was_open opened);
+  committed = λ opened. two.committed opened ∙ one.committed (two.was_open opened);
+}
+
+pub if_error : {V E : Type 0} {P : Type 0} → P → (r : Result V E) → OnErr r P
+if_error p (Ok v) = tt
+if_error p (Err e) = p
+
+-- a commit that fails inside a transaction goes back to the last one
+pub undone : (last new : Connected) (e : Error) → IsTrue last.in_transaction → FailsToCommit last new e → IsRolledBack last new
+undone last new e inside (inl failed) = failed.3
+undone last new e inside (inr idle) = absurd (true≢false (sym inside ∙ idle.1))

@@ -47,6 +47,7 @@ pub fn set_next_receipt<S: Alter>(tx: &mut Transaction<'_, S>, next: u64) -> Res
     ensures clean { HasCleanDisk (state S.Store tx.new.conn.now) → HasCleanDisk (state S.Store tx.old.conn.now) }
     ensures kept { HasCleanDisk (state S.Store tx.new.conn.now) → KeepsCommit (state S.Store tx.old.conn.now) (state S.Store tx.new.conn.now) }
     ensures open { HasCleanDisk (state S.Store tx.new.conn.now) → OnOk result (IsTrue (state S.Store tx.old.conn.now).is_open) }
+    ensures inside { HasCleanDisk (state S.Store tx.new.conn.now) → OnOk result (IsTrue (state S.Store tx.new.conn.now).in_transaction) }
     ensures put { HasCleanDisk (state S.Store tx.new.conn.now) → OnOk result ((state S.Store tx.old.conn.now).now.schema ≡ store_schema → (n m : ℕ) → (state S.Store tx.old.conn.now).now.trees meta_tree ≡ meta_row n m ∷ []
         → Changed (state S.Store tx.old.conn.now) (state S.Store tx.new.conn.now) store_schema meta_tree (meta_row next m ∷ [])) }
 {
