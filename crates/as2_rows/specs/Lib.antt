@@ -1,5 +1,6 @@
 pub mod Codes
 pub mod Contents
-pub mod Reading
 pub mod Rows
+pub mod Summaries
+pub mod Texts
 pub mod Waiting

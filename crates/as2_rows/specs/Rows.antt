@@ -1,6 +1,6 @@
 -- Entries as rows: as they are stored, with the row's number first and NULL in the column that repeats it; and as a query
 -- shows them, with all columns in order.
-use Rattle.std.specs.Prelude.{ℕ, [], ◌∷◌, Option, Some, None, pos, codes, length}
+use Rattle.std.specs.Prelude.{ℕ, [], ◌∷◌, Option, Some, None, pos, codes}
 use Rattle.sqlite_value.specs.declared.value.Value.{Value}
 use Rattle.sqlite_value.specs.declared.value.Value.TheVariants.{Null, Int, Text, Blob}
 use Rattle.sqlite_value.specs.Order.{Row}
@@ -12,6 +12,9 @@ use Rattle.as2_exchange.specs.declared.inbox.How.TheVariants.{NoReceipt, Sync, A
 use Rattle.as2_exchange.specs.declared.inbox.InEntry.{InEntry}
 use Rattle.as2_exchange.specs.declared.outbox.OutEntry.{OutEntry}
 use Rattle.as2_exchange.specs.declared.outbox.Evidence.{Evidence}
+use Rattle.as2_rows.specs.declared.inbox.InRow.{InRow}
+use Rattle.as2_rows.specs.declared.outbox.OutRow.{OutRow}
+use Rattle.as2_rows.specs.Summaries.{in_summary, out_summary}
 use Rattle.as2_rows.specs.Codes.{outcome_code, how_code, mdn_code, attempt_code, detail_code}
 
 -- ---- values
@@ -45,57 +48,63 @@ mic_value (Some mic) = Blob mic.text
 
 -- the columns behind the number: sender, receiver, the identifier's value, the identifier, content type, length, moment,
 -- outcome, how, url, digest, mic, mdn, tries, attempt, due
-abbrev pub in_columns : InEntry → Row
-in_columns e =
-    Blob e.posted.sender
-    ∷ Blob e.posted.receiver
-    ∷ Blob (value_of e.posted.id)
-    ∷ Blob e.posted.id
-    ∷ Blob e.posted.content_type
-    ∷ whole (length e.posted.content)
-    ∷ whole e.moment
-    ∷ whole (outcome_code e.posted.outcome)
-    ∷ whole (how_code e.posted.how)
-    ∷ url_value e.posted.how
-    ∷ digest_value e.posted.mic
-    ∷ mic_value e.posted.mic
-    ∷ whole (mdn_code e.mdn)
-    ∷ whole e.tries
-    ∷ whole (attempt_code e.attempt)
-    ∷ whole_or_null e.due
+abbrev pub in_columns : InRow → Row
+in_columns r =
+    Blob r.sender
+    ∷ Blob r.receiver
+    ∷ Blob (value_of r.id)
+    ∷ Blob r.id
+    ∷ Blob r.content_type
+    ∷ whole r.length
+    ∷ whole r.moment
+    ∷ whole (outcome_code r.outcome)
+    ∷ whole (how_code r.how)
+    ∷ url_value r.how
+    ∷ digest_value r.mic
+    ∷ mic_value r.mic
+    ∷ whole (mdn_code r.mdn)
+    ∷ whole r.tries
+    ∷ whole (attempt_code r.attempt)
+    ∷ whole_or_null r.due
     ∷ []
 
 -- as it is stored
 abbrev pub in_row : InEntry → Row
-in_row e = whole e.number ∷ Null ∷ in_columns e
+in_row e = whole e.number ∷ Null ∷ in_columns (in_summary e)
 
 -- as a query shows it
+abbrev pub in_row_shown : InRow → Row
+in_row_shown r = whole r.number ∷ in_columns r
+
 abbrev pub in_shown : InEntry → Row
-in_shown e = whole e.number ∷ in_columns e
+in_shown e = in_row_shown (in_summary e)
 
 -- ---- the outbox
 
 -- the columns behind the number: organization, partner, the identifier's value, length, moment, tries, attempt, due, detail
-abbrev pub out_columns : OutEntry → Row
-out_columns d =
-    Blob d.organization
-    ∷ Blob d.partner
-    ∷ Blob d.id
-    ∷ whole (length d.content)
-    ∷ whole d.moment
-    ∷ whole d.tries
-    ∷ whole (attempt_code d.attempt)
-    ∷ whole_or_null d.due
-    ∷ whole (detail_code d.detail)
+abbrev pub out_columns : OutRow → Row
+out_columns r =
+    Blob r.organization
+    ∷ Blob r.partner
+    ∷ Blob r.id
+    ∷ whole r.length
+    ∷ whole r.moment
+    ∷ whole r.tries
+    ∷ whole (attempt_code r.attempt)
+    ∷ whole_or_null r.due
+    ∷ whole (detail_code r.detail)
     ∷ []
 
 -- as it is stored
 abbrev pub out_row : OutEntry → Row
-out_row d = whole d.number ∷ Null ∷ out_columns d
+out_row d = whole d.number ∷ Null ∷ out_columns (out_summary d)
 
 -- as a query shows it
+abbrev pub out_row_shown : OutRow → Row
+out_row_shown r = whole r.number ∷ out_columns r
+
 abbrev pub out_shown : OutEntry → Row
-out_shown d = whole d.number ∷ out_columns d
+out_shown d = out_row_shown (out_summary d)
 
 -- ---- the evidence of the document of that number
 

@@ -1,13 +1,15 @@
 //! The values of a row, one at a time.
 
-ghost use Rattle.std.specs.Prelude.{◌≡◌, ◌≤◌, ℕ, List, Option, Ok, IfOk, IfErr, IfSome, pos};
+ghost use Rattle.std.specs.Prelude.{◌≡◌, ◌≤◌, ℕ, List, Option, Some, Ok, IfOk, IfErr, IfSome, pos};
 ghost use Rattle.sqlite_value.specs.declared.value.Value.TheVariants.{Int, Blob};
 ghost use Rattle.sqlite_value.specs.Order.{column};
 ghost use Rattle.sqlite_value.specs.Value.{owned};
 ghost use Rattle.as2_names.specs.Names.{IsName};
-ghost use Rattle.as2_names.specs.Identifiers.{IsIdentifier};
+ghost use Rattle.as2_names.specs.Identifiers.{IsIdentifier, value_of};
 ghost use Rattle.as2_names.specs.Moments.{last_moment};
+ghost use Rattle.as2_mic.specs.Algs.{alg_name};
 ghost use Rattle.as2_mic.specs.Mic.{IsMicText};
+ghost use Rattle.as2_mic.specs.declared.alg.Alg.{Alg as Digest};
 ghost use Rattle.as2_mdn.specs.declared.report.ReportMic.{ReportMic as Mic};
 ghost use Rattle.as2_exchange.specs.declared.inbox.How.{How as HowOf};
 ghost use Rattle.as2_rows.specs.Codes.{how_code};
@@ -18,7 +20,7 @@ use crate::RowFault;
 use as2_exchange::{Bytes, How};
 use as2_mdn::ReportMic;
 use as2_mic::{Alg, MicText, Pieces};
-use as2_names::{AsName, IdFault, MessageId, Moment, is_identifier};
+use as2_names::{AsName, IdFault, MessageId, Moment, is_identifier, without_brackets};
 use sqlite::Row;
 use sqlite::types::ValueRef;
 use std::alloc::Global;
@@ -57,7 +59,8 @@ pub fn whole(value: ValueRef<'_>) -> Result<u64, RowFault>
 
 /// A count that may be absent.
 pub fn whole_or_null(value: ValueRef<'_>) -> Result<Option<u64>, RowFault>
-    ensures { (n : Option ℕ) → owned value.entry ≡ whole_or_null n → result ≡ Ok n }
+    ensures read { IfOk result (λ n. owned value.entry ≡ whole_or_null n) }
+    ensures taken { (n : Option ℕ) → owned value.entry ≡ whole_or_null n → result ≡ Ok n }
 {
     match value {
         ValueRef::Null => Ok(None),
@@ -120,6 +123,22 @@ pub fn identifier(alloc: Global, value: ValueRef<'_>) -> Result<MessageId, RowFa
     }
 }
 
+/// An identifier, as it was received, of the column of its value and its own.
+pub fn identifier_of(
+    alloc: Global,
+    key: ValueRef<'_>,
+    value: ValueRef<'_>,
+) -> Result<MessageId, RowFault>
+    ensures read { IfOk result (λ t. owned value.entry ≡ Blob t) }
+    ensures key { IfOk result (λ t. owned key.entry ≡ Blob (value_of t)) }
+    ensures taken { IfErr result (λ f. (t : List ℕ) → IsIdentifier t → owned key.entry ≡ Blob (value_of t) → owned value.entry ≡ Blob t → f ≡ fault.Memory) }
+{
+    if blob(key)? != without_brackets(blob(value)?) {
+        return Err(RowFault::NotAnEntry);
+    }
+    identifier(alloc, value)
+}
+
 /// A moment.
 pub fn moment(value: ValueRef<'_>) -> Result<Moment, RowFault>
     ensures read { IfOk result (λ m. owned value.entry ≡ whole m) }
@@ -133,6 +152,8 @@ pub fn moment(value: ValueRef<'_>) -> Result<Moment, RowFault>
 
 /// How a receipt was asked for, of its code and the address.
 pub fn how(alloc: Global, code: ValueRef<'_>, url: ValueRef<'_>) -> Result<How, RowFault>
+    ensures code { IfOk result (λ h. owned code.entry ≡ whole (how_code h)) }
+    ensures url { IfOk result (λ h. owned url.entry ≡ url_value h) }
     ensures read { IfOk result (λ h. (g : HowOf) → owned code.entry ≡ whole (how_code g) → owned url.entry ≡ url_value g → h ≡ g) }
     ensures taken { IfErr result (λ f. (g : HowOf) → owned code.entry ≡ whole (how_code g) → owned url.entry ≡ url_value g → f ≡ fault.Memory) }
 {
@@ -144,8 +165,21 @@ pub fn how(alloc: Global, code: ValueRef<'_>, url: ValueRef<'_>) -> Result<How, 
     }
 }
 
+/// The digest whose written name it is.
+fn alg(name: &[u8]) -> Option<Alg>
+    ensures read { IfSome result (λ digest. name.now ≡ alg_name digest) }
+    ensures taken { (digest : Digest) → name.now ≡ alg_name digest → result ≡ Some digest }
+{
+    match Alg::named(name) {
+        Some(alg) if alg.name().as_bytes() == name => Some(alg),
+        _ => None,
+    }
+}
+
 /// The digest and the text of a MIC, where there is one.
 pub fn mic(digest: ValueRef<'_>, text: ValueRef<'_>) -> Result<Option<ReportMic>, RowFault>
+    ensures digest { IfOk result (λ m. owned digest.entry ≡ digest_value m) }
+    ensures text { IfOk result (λ m. owned text.entry ≡ mic_value m) }
     ensures read { IfOk result (λ m. (n : Option Mic) → owned digest.entry ≡ digest_value n → owned text.entry ≡ mic_value n → m ≡ n) }
     ensures taken { IfErr result (λ f. (n : Option Mic) → IfSome n (λ mic. IsMicText mic.text)
         → owned digest.entry ≡ digest_value n → owned text.entry ≡ mic_value n → f ≡ fault.Memory) }
@@ -155,7 +189,7 @@ pub fn mic(digest: ValueRef<'_>, text: ValueRef<'_>) -> Result<Option<ReportMic>
         (ValueRef::Text(name), ValueRef::Blob(bytes)) => (name, bytes),
         _ => return Err(RowFault::NotAnEntry),
     };
-    match (Alg::named(name), MicText::of(bytes)) {
+    match (alg(name), MicText::of(bytes)) {
         (Some(digest), Some(text)) => Ok(Some(ReportMic { digest, text })),
         _ => Err(RowFault::NotAnEntry),
     }

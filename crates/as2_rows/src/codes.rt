@@ -1,6 +1,6 @@
 //! The codes that stand in the tables for what is one of a few.
 
-ghost use Rattle.std.specs.Prelude.{◌≡◌, pos, Ok, Some, IfSome};
+ghost use Rattle.std.specs.Prelude.{◌≡◌, pos, Ok, Some, IfOk, IfSome};
 ghost use Rattle.sqlite_value.specs.Value.{owned};
 ghost use Rattle.as2_mdn.specs.declared.detail.Detail.{Detail as DetailOf};
 ghost use Rattle.as2_mdn.specs.declared.outcome.Outcome.{Outcome as OutcomeOf};
@@ -154,7 +154,8 @@ pub fn detail_of_code(code: i64) -> Option<Detail>
 
 /// What became of a received document, of the value of its column.
 pub fn outcome_in(value: ValueRef<'_>) -> Result<Outcome, RowFault>
-    ensures { (x : OutcomeOf) → owned value.entry ≡ whole (outcome_code x) → result ≡ Ok x }
+    ensures read { IfOk result (λ x. owned value.entry ≡ whole (outcome_code x)) }
+    ensures taken { (x : OutcomeOf) → owned value.entry ≡ whole (outcome_code x) → result ≡ Ok x }
 {
     match outcome_of_code(integer(value)?) {
         Some(outcome) => Ok(outcome),
@@ -164,7 +165,8 @@ pub fn outcome_in(value: ValueRef<'_>) -> Result<Outcome, RowFault>
 
 /// How a receipt stands, of the value of its column.
 pub fn mdn_in(value: ValueRef<'_>) -> Result<MdnState, RowFault>
-    ensures { (x : MdnStateOf) → owned value.entry ≡ whole (mdn_code x) → result ≡ Ok x }
+    ensures read { IfOk result (λ x. owned value.entry ≡ whole (mdn_code x)) }
+    ensures taken { (x : MdnStateOf) → owned value.entry ≡ whole (mdn_code x) → result ≡ Ok x }
 {
     match mdn_of_code(integer(value)?) {
         Some(mdn) => Ok(mdn),
@@ -174,7 +176,8 @@ pub fn mdn_in(value: ValueRef<'_>) -> Result<MdnState, RowFault>
 
 /// Whether a try is open, of the value of its column.
 pub fn attempt_in(value: ValueRef<'_>) -> Result<Attempt, RowFault>
-    ensures { (x : AttemptOf) → owned value.entry ≡ whole (attempt_code x) → result ≡ Ok x }
+    ensures read { IfOk result (λ x. owned value.entry ≡ whole (attempt_code x)) }
+    ensures taken { (x : AttemptOf) → owned value.entry ≡ whole (attempt_code x) → result ≡ Ok x }
 {
     match attempt_of_code(integer(value)?) {
         Some(attempt) => Ok(attempt),
@@ -184,7 +187,8 @@ pub fn attempt_in(value: ValueRef<'_>) -> Result<Attempt, RowFault>
 
 /// How a document that is sent stands, of the value of its column.
 pub fn detail_in(value: ValueRef<'_>) -> Result<Detail, RowFault>
-    ensures { (x : DetailOf) → owned value.entry ≡ whole (detail_code x) → result ≡ Ok x }
+    ensures read { IfOk result (λ x. owned value.entry ≡ whole (detail_code x)) }
+    ensures taken { (x : DetailOf) → owned value.entry ≡ whole (detail_code x) → result ≡ Ok x }
 {
     match detail_of_code(integer(value)?) {
         Some(detail) => Ok(detail),

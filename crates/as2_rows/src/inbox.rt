@@ -1,11 +1,12 @@
 ghost use Rattle.std.specs.Prelude.{◌≡◌, IfOk, IfErr};
 ghost use Rattle.as2_exchange.specs.declared.inbox.InEntry.{InEntry as Entry};
-ghost use Rattle.as2_rows.specs.Rows.{in_shown};
-ghost use Rattle.as2_rows.specs.Reading.{IsInEntry, in_entry, in_summary};
+ghost use Rattle.as2_rows.specs.Rows.{in_shown, in_row_shown};
+ghost use Rattle.as2_rows.specs.Summaries.{in_entry, in_summary};
+ghost use Rattle.as2_rows.specs.Texts.{IsInEntry};
 ghost use Rattle.as2_rows.specs.declared.fault.RowFault.TheVariants as fault;
 
 use crate::RowFault;
-use crate::cells::{column, how, identifier, mic, moment, name, text, whole, whole_or_null};
+use crate::cells::{column, how, identifier_of, mic, moment, name, text, whole, whole_or_null};
 use crate::codes::{attempt_in, mdn_in, outcome_in};
 use as2_exchange::{Attempt, Bytes, How, InEntry, MdnState, Posted};
 use as2_mdn::{Outcome, ReportMic};
@@ -13,6 +14,9 @@ use as2_mic::Pieces;
 use as2_names::{AsName, MessageId, Moment};
 use sqlite::Row;
 use std::alloc::Global;
+
+/// The columns of the table.
+const COLUMNS: usize = 17;
 
 /// An entry of the inbox with the length of its content in place of the content.
 #[derive(Drop)]
@@ -50,15 +54,18 @@ pub struct InRow {
 impl InRow {
     /// Reads a row that shows all columns of the table, in their order.
     pub fn read(alloc: Global, row: &Row) -> Result<InRow, RowFault>
+        ensures shown { IfOk result (λ r. row.now ≡ in_row_shown r) }
         ensures read { IfOk result (λ r. (e : Entry) → row.now ≡ in_shown e → r ≡ in_summary e) }
         ensures taken { IfErr result (λ f. (e : Entry) → IsInEntry e → row.now ≡ in_shown e → f ≡ fault.Memory) }
     {
+        if row.column_count() != COLUMNS {
+            return Err(RowFault::NotAnEntry);
+        }
         Ok(InRow {
             number: whole(column(row, 0))?,
             sender: name(column(row, 1))?,
             receiver: name(column(row, 2))?,
-            // the column before has its value, for the key
-            id: identifier(alloc, column(row, 4))?,
+            id: identifier_of(alloc, column(row, 3), column(row, 4))?,
             content_type: text(alloc, column(row, 5))?,
             length: whole(column(row, 6))?,
             moment: moment(column(row, 7))?,

@@ -1,7 +1,8 @@
 ghost use Rattle.std.specs.Prelude.{◌≡◌, IfOk, IfErr};
 ghost use Rattle.as2_exchange.specs.declared.outbox.OutEntry.{OutEntry as Entry};
-ghost use Rattle.as2_rows.specs.Rows.{out_shown};
-ghost use Rattle.as2_rows.specs.Reading.{IsOutEntry, out_entry, out_summary};
+ghost use Rattle.as2_rows.specs.Rows.{out_shown, out_row_shown};
+ghost use Rattle.as2_rows.specs.Summaries.{out_entry, out_summary};
+ghost use Rattle.as2_rows.specs.Texts.{IsOutEntry};
 ghost use Rattle.as2_rows.specs.declared.fault.RowFault.TheVariants as fault;
 
 use crate::RowFault;
@@ -13,6 +14,9 @@ use as2_mic::Pieces;
 use as2_names::{AsName, MessageId, Moment};
 use sqlite::Row;
 use std::alloc::Global;
+
+/// The columns of the table.
+const COLUMNS: usize = 10;
 
 /// An entry of the outbox with the length of its content in place of the content, and without its evidence.
 #[derive(Drop)]
@@ -43,9 +47,13 @@ pub struct OutRow {
 impl OutRow {
     /// Reads a row that shows all columns of the table, in their order.
     pub fn read(alloc: Global, row: &Row) -> Result<OutRow, RowFault>
+        ensures shown { IfOk result (λ r. row.now ≡ out_row_shown r) }
         ensures read { IfOk result (λ r. (d : Entry) → row.now ≡ out_shown d → r ≡ out_summary d) }
         ensures taken { IfErr result (λ f. (d : Entry) → IsOutEntry d → row.now ≡ out_shown d → f ≡ fault.Memory) }
     {
+        if row.column_count() != COLUMNS {
+            return Err(RowFault::NotAnEntry);
+        }
         Ok(OutRow {
             number: whole(column(row, 0))?,
             organization: name(column(row, 1))?,

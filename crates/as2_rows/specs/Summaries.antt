@@ -1,9 +1,5 @@
--- What is read of a row: an entry without its content; and what the types of an entry say of its texts and moments.
-use Rattle.std.specs.Prelude.{ℕ, ◌≤◌, List, length, Option, IfSome}
-use Rattle.as2_names.specs.Names.{IsName}
-use Rattle.as2_names.specs.Identifiers.{IsIdentifier}
-use Rattle.as2_names.specs.Moments.{last_moment}
-use Rattle.as2_mic.specs.Mic.{IsMicText}
+-- An entry without its content, as its row has it, and the entry that it is with one.
+use Rattle.std.specs.Prelude.{ℕ, List, length, Option}
 use Rattle.as2_exchange.specs.declared.inbox.InEntry.{InEntry}
 use Rattle.as2_exchange.specs.declared.outbox.OutEntry.{OutEntry}
 use Rattle.as2_exchange.specs.declared.outbox.Evidence.{Evidence}
@@ -53,14 +49,6 @@ in_entry r content = record {
   due = r.due;
 }
 
--- its names are names, its identifier is one, and so on
-pub record IsInEntry (e : InEntry) : Type 0 where
-  pub sender : IsName e.posted.sender
-  pub receiver : IsName e.posted.receiver
-  pub id : IsIdentifier e.posted.id
-  pub mic : IfSome e.posted.mic (λ mic. IsMicText mic.text)
-  pub moment : e.moment ≤ last_moment
-
 -- ---- the outbox
 
 -- the document, with the length of its content in place of the content, and without its evidence
@@ -93,13 +81,6 @@ out_entry r content evidence = record {
   detail = r.detail;
   evidence = evidence;
 }
-
--- its names are names, and so on
-pub record IsOutEntry (d : OutEntry) : Type 0 where
-  pub organization : IsName d.organization
-  pub partner : IsName d.partner
-  pub id : IsIdentifier d.id
-  pub moment : d.moment ≤ last_moment
 
 -- ---- the evidence
 
