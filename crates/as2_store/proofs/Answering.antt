@@ -35,3 +35,8 @@ if_shown P Q f (Err e) h = tt
 pub if_failed : {V : Type 0} (P Q : Error → Type 0) → ((e : Error) → P e → Q e) → (r : Result V Error) → IfErr r P → IfErr r Q
 if_failed P Q f (Ok v) h = tt
 if_failed P Q f (Err e) h = f e h
+
+-- the same, whatever the fault is
+pub if_ok : {V E : Type 0} (P Q : V → Type 0) → ((v : V) → P v → Q v) → (r : Result V E) → IfOk r P → IfOk r Q
+if_ok P Q f (Ok v) h = f v h
+if_ok P Q f (Err e) h = tt

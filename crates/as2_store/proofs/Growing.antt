@@ -83,7 +83,9 @@ stands_received a d e s x it is small mid four = record {
     evidence = four.others.1.1.1.1.1.0 (λ e. omega arith) ∙ mid.entries.evidence;
     waits = four.others.1.1.1.1.1.1.0 (λ e. omega arith) ∙ mid.entries.waits;
   };
-  receipts = (record { least = omega (arith, it.receipts.0.least); most = omega (arith, small, is) },
-      subst (AreNumbers (s.next_in + 1)) (sym (map_last (λ (q : InEntry). q.number) s.inbox x ∙ ap (λ k. map (λ (q : InEntry). q.number) s.inbox ++ k ∷ []) is)) (numbers_push s.next_in (map (λ (q : InEntry). q.number) s.inbox) it.receipts.1));
+  receipts = (
+    record { least = omega (arith, it.receipts.0.least); most = omega (arith, small, is) },
+    subst (AreNumbers (s.next_in + 1)) (sym (map_last (λ (q : InEntry). q.number) s.inbox x ∙ ap (λ k. map (λ (q : InEntry). q.number) s.inbox ++ k ∷ []) is)) (numbers_push s.next_in (map (λ (q : InEntry). q.number) s.inbox) it.receipts.1),
+  );
   documents = it.documents;
 }

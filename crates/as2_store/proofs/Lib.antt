@@ -10,3 +10,5 @@ mod Piling
 mod Placing
 mod Writing
 mod Growing
+mod Looking
+mod Gathering

@@ -2,3 +2,4 @@ pub mod Tables
 pub mod Statements
 pub mod Stands
 pub mod Adding
+pub mod Finding

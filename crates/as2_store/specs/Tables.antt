@@ -160,6 +160,7 @@ waiting_table = record waiting_made { tree = waiting_tree }
 -- the index of a table's one key
 abbrev pub key_index : List ℕ → ℕ → List ℕ → Index
 key_index name tree columns = record { name = codes "sqlite_autoindex_" ++ name ++ codes "_" ++ decimal 1; tree = tree + 1; table = tree; columns = columns; order = record { digits = 0 }; is_unique = true }
+
 abbrev pub waiting_due_made : Index
 waiting_due_made = record { name = codes "waiting_due"; tree = 0; table = waiting_tree; columns = 2 ∷ 4 ∷ 3 ∷ []; order = record { digits = 0 }; is_unique = false }
 

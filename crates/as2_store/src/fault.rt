@@ -4,6 +4,7 @@ ghost use Rattle.std.specs.Prelude.{◌≡◌, true};
 ghost use Rattle.as2_store.specs.Stands.{may_come};
 
 use as2_exchange::StoreFault;
+use as2_rows::RowFault;
 use sqlite::{Error, ErrorCode};
 
 /// The fault that a failed statement is.
@@ -20,5 +21,15 @@ pub fn fault_of(error: &Error) -> StoreFault
             _ => StoreFault::Refused,
         },
         _ => StoreFault::Refused,
+    }
+}
+
+/// The fault that a row is which can't be read.
+pub fn unread_row(fault: RowFault) -> StoreFault
+    ensures { may_come result ≡ true }
+{
+    match fault {
+        RowFault::Memory => StoreFault::Memory,
+        RowFault::NotAnEntry => StoreFault::Refused,
     }
 }

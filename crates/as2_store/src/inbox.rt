@@ -1,18 +1,21 @@
 //! The rows of the inbox, without the contents.
 
-ghost use Rattle.std.specs.Prelude.{◌≡◌, ◌<◌, ◌^◌, IsTrue, OnOk};
+ghost use Rattle.std.specs.Prelude.{◌≡◌, ◌<◌, ◌^◌, false, map, filter, IsTrue, IfOk, OnOk};
 ghost use Rattle.sqlite.specs.Held.{state};
 ghost use Rattle.sqlite.specs.State.{HasCleanDisk, KeepsCommit};
 ghost use Rattle.sqlite.specs.Tree.{put_row};
 ghost use Rattle.sql_tables.specs.Changes.{Changed};
-ghost use Rattle.as2_rows.specs.Rows.{in_row};
+ghost use Rattle.as2_rows.specs.Rows.{in_row, in_shown};
+ghost use Rattle.as2_exchange.specs.State.{State};
 ghost use Rattle.as2_store.specs.Tables.{store_schema, inbox_tree};
 ghost use Rattle.as2_store.specs.Adding.{Fits};
+ghost use Rattle.as2_store.specs.Stands.{Rests};
+ghost use Rattle.as2_store.specs.Finding.{has_key};
 
 use crate::numbers::{whole, whole_or_none};
 use as2_exchange::InEntry;
 use as2_rows::{attempt_code, digest_of, how_code, mdn_code, mic_of, outcome_code, url_of};
-use sqlite::{Alter, Error, Transaction, params};
+use sqlite::{Alter, Connection, Error, Row, Transaction, params};
 
 /// Puts in the row of an entry.
 pub fn put_in<S: Alter>(tx: &mut Transaction<'_, S>, entry: &InEntry) -> Result<(), Error>
@@ -54,4 +57,33 @@ pub fn put_in<S: Alter>(tx: &mut Transaction<'_, S>, entry: &InEntry) -> Result<
         ],
     )?;
     Ok(())
+}
+
+/// The rows of the entries with this key.
+pub fn rows_by_key<S: Alter>(
+    conn: &mut Connection<S>,
+    sender: &[u8],
+    receiver: &[u8],
+    value: &[u8],
+) -> Result<Vec<Row>, Error>
+    ensures mode { conn.old.in_transaction ≡ false → conn.new.in_transaction ≡ false }
+    ensures same { HasCleanDisk (state S.Store conn.new) → (s : State) → Rests (state S.Store conn.old) s → Rests (state S.Store conn.new) s }
+    ensures rows { HasCleanDisk (state S.Store conn.new) → IfOk result (λ rows. (s : State) → Rests (state S.Store conn.old) s → rows.items ≡ map in_shown (filter (has_key sender.now receiver.now value.now) s.inbox)) }
+{
+    conn.query_all(
+        "SELECT number, sender, receiver, identifier_value, identifier, content_type, length, moment, outcome, how, url, digest, mic, mdn, tries, attempt, due FROM inbox WHERE sender = ?1 AND receiver = ?2 AND identifier_value = ?3 ORDER BY number",
+        params![sender, receiver, value],
+    )
+}
+
+/// The rows of all entries, in order of number.
+pub fn all_rows<S: Alter>(conn: &mut Connection<S>) -> Result<Vec<Row>, Error>
+    ensures mode { conn.old.in_transaction ≡ false → conn.new.in_transaction ≡ false }
+    ensures same { HasCleanDisk (state S.Store conn.new) → (s : State) → Rests (state S.Store conn.old) s → Rests (state S.Store conn.new) s }
+    ensures rows { HasCleanDisk (state S.Store conn.new) → IfOk result (λ rows. (s : State) → Rests (state S.Store conn.old) s → rows.items ≡ map in_shown s.inbox) }
+{
+    conn.query_all(
+        "SELECT number, sender, receiver, identifier_value, identifier, content_type, length, moment, outcome, how, url, digest, mic, mdn, tries, attempt, due FROM inbox ORDER BY number",
+        &[],
+    )
 }

@@ -8,6 +8,7 @@ mod contents;
 mod counters;
 mod creating;
 mod fault;
+mod finding;
 mod inbox;
 mod numbers;
 mod store;

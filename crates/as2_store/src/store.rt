@@ -1,11 +1,13 @@
 //! The store: its contracts speak of the state that the tables stand for, and of no row.
 
-ghost use Rattle.std.specs.Prelude.{◌≡◌, ◌⊎◌, ◌<◌, ◌≤◌, ℕ, List, None, Some, true, false, Err, IfOk, IfErr, OnOk, OnErr};
+ghost use Rattle.std.specs.Prelude.{◌≡◌, ◌⊎◌, ◌<◌, ◌≤◌, ℕ, List, map, find, None, Some, true, false, Err, IfOk, IfErr, OnOk, OnErr};
 ghost use Rattle.sqlite.specs.Held.{state};
 ghost use Rattle.sqlite.specs.State.{HasCleanDisk};
 ghost use Rattle.as2_exchange.specs.State.{State, empty, end_of_numbers};
 ghost use Rattle.as2_exchange.specs.declared.fault.StoreFault.TheVariants.{Full};
+ghost use Rattle.as2_rows.specs.Summaries.{in_summary};
 ghost use Rattle.as2_store.specs.Adding.{with_received};
+ghost use Rattle.as2_store.specs.Finding.{has_key};
 ghost use Rattle.as2_store.specs.Stands.{Rests, IsBlank, Says, judged, may_come};
 
 use crate::adding::add;
@@ -13,9 +15,14 @@ use crate::adopting::check;
 use crate::counters::{NextNumbers, meta_rows, next_of};
 use crate::creating::make;
 use crate::fault::fault_of;
+use crate::finding::{entries_in, first_entry};
+use crate::inbox::{all_rows, rows_by_key};
 use crate::numbers::fits;
 use as2_exchange::{InEntry, StoreFault};
+use as2_names::AsName;
+use as2_rows::InRow;
 use sqlite::{Alter, Connection};
+use std::alloc::Global;
 use std::marker::Model;
 
 /// The records of a station, over a connection to memory, a file or a disk. It keeps nothing beside the tables.
@@ -116,5 +123,42 @@ impl<S: Alter> Store<S> {
             Ok(()) => Ok(()),
             Err(error) => Err(fault_of(&error)),
         }
+    }
+
+    /// The entry of the inbox that this sender posted to this receiver under an identifier of this value, if there is one.
+    pub fn find_in(
+        &mut self,
+        alloc: Global,
+        sender: &AsName,
+        receiver: &AsName,
+        id_value: &str,
+    ) -> Result<Option<InEntry>, StoreFault>
+        ensures found { HasCleanDisk (state S.Store self.new) → IfOk result (λ found. (s : State) → Rests (state S.Store self.old) s → found ≡ find (has_key sender.now receiver.now id_value.now) s.inbox) }
+        ensures same { HasCleanDisk (state S.Store self.new) → (s : State) → Rests (state S.Store self.old) s → Rests (state S.Store self.new) s }
+        ensures fault { IfErr result (λ f. may_come f ≡ true) }
+    {
+        let rows = match rows_by_key(
+            &mut self.conn,
+            sender.bytes(),
+            receiver.bytes(),
+            id_value.as_bytes(),
+        ) {
+            Ok(rows) => rows,
+            Err(error) => return Err(fault_of(&error)),
+        };
+        first_entry(&mut self.conn, alloc, &rows)
+    }
+
+    /// The entries of the inbox in order of number, each with the length of its content in place of the content.
+    pub fn list_in(&mut self, alloc: Global) -> Result<Vec<InRow>, StoreFault>
+        ensures entries { HasCleanDisk (state S.Store self.new) → IfOk result (λ entries. (s : State) → Rests (state S.Store self.old) s → entries.items ≡ map in_summary s.inbox) }
+        ensures same { HasCleanDisk (state S.Store self.new) → (s : State) → Rests (state S.Store self.old) s → Rests (state S.Store self.new) s }
+        ensures fault { IfErr result (λ f. may_come f ≡ true) }
+    {
+        let rows = match all_rows(&mut self.conn) {
+            Ok(rows) => rows,
+            Err(error) => return Err(fault_of(&error)),
+        };
+        entries_in(alloc, &rows)
     }
 }

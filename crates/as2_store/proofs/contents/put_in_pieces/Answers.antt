@@ -24,7 +24,7 @@ pieces-preserved g c =
       λ clean. so_far.2 (c.put_in_piece.ensures.clean clean),
       λ clean. keeps_then old mid new (so_far.3 (c.put_in_piece.ensures.clean clean)) (c.put_in_piece.ensures.kept clean),
       λ clean has.
-      let before = so_far.4 (c.put_in_piece.ensures.clean clean) has in
-      subst (Appended old new inbox_piece_tree) (one_before c.args.number content i c.in-Some.piece.now it.1)
-      (appended_then old mid new inbox_piece_tree (pieces_before c.args.number content i) (p ∷ []) before (c.in_ok-put_in_piece.ensures.put clean before.schema_is)),
+          let before = so_far.4 (c.put_in_piece.ensures.clean clean) has in
+          subst (Appended old new inbox_piece_tree) (one_before c.args.number content i c.in-Some.piece.now it.1)
+          (appended_then old mid new inbox_piece_tree (pieces_before c.args.number content i) (p ∷ []) before (c.in_ok-put_in_piece.ensures.put clean before.schema_is)),
     )

@@ -18,6 +18,18 @@ returns-clause-put g c clean has =
     let w : Waiting = record { kind = c.args.kind; number = c.args.number; due = c.args.due } in
     let ran = (made g.S.Store _ _ c.args.tx.now.conn.now c.execute.new.self.conn.now c.execute.result _ c.execute.ensures.ended (c.execute.ensures.runs clean) c.in_ok-execute.field-0 c.in_ok-execute.was).2 in
     let went : Executes waiting_put_text (waiting_params w) old new (Ok c.in_ok-execute.field-0) =
-    rw (c.params-to_sql.ensures, c.params-to_sql-2.ensures, c.params-to_sql-3.ensures, c.params-to_sql-4.ensures, c.whole-place.ensures, c.whole-kind.ensures, c.whole-number.ensures, c.whole_or_none-due.ensures,
-    passed (c.args.kind * 1000000000000 + c.args.number) (omega (arith, c.requires.kind, c.requires.number)), passed c.args.kind (omega (arith, c.requires.kind)), passed c.args.number (omega (arith, c.requires.number)), bound_optional) at ran in
+    rw (
+      c.params-to_sql.ensures,
+      c.params-to_sql-2.ensures,
+      c.params-to_sql-3.ensures,
+      c.params-to_sql-4.ensures,
+      c.whole-place.ensures,
+      c.whole-kind.ensures,
+      c.whole-number.ensures,
+      c.whole_or_none-due.ensures,
+      passed (c.args.kind * 1000000000000 + c.args.number) (omega (arith, c.requires.kind, c.requires.number)),
+      passed c.args.kind (omega (arith, c.requires.kind)),
+      passed c.args.number (omega (arith, c.requires.number)),
+      bound_optional,
+    ) at ran in
     puts_waiting old new w c.in_ok-execute.field-0 has went
