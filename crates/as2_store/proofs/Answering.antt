@@ -1,5 +1,5 @@
 -- What a query leaves, whether it answers or not.
-use Rattle.std.proofs.Common.{◌≡◌, inl, inr, ℕ, List, Ok, Err, Result, refl, sym, subst, IfOk, IfErr}
+use Rattle.std.proofs.Common.{inl, inr, ℕ, List, Ok, Err, Result, refl, sym, subst, IfOk, IfErr}
 use Rattle.sqlite.specs.Order.{Row}
 use Rattle.sqlite.specs.Listing.{understood}
 use Rattle.sqlite.specs.declared.error.Error.{Error}

@@ -1,6 +1,6 @@
 -- The pieces of one entry, found among those of all.
-use Rattle.std.proofs.Common.{◌≡◌, ℕ, ◌+◌, ◌<◌, ◌==◌, List, [], ◌∷◌, ◌++◌, map, Option, Some, None, Bool, true, false, ◌&&◌, cond, refl, sym, ap, ap₂, subst, ◌∙◌, pos, negsuc, codes, Less, arith, append-nil}
-use Rattle.std.specs.List.{AllByRecursion, IsDistinct, filter, find, flat_map, range_with_len}
+use Rattle.std.proofs.Common.{◌≡◌, ℕ, ◌+◌, ◌<◌, ◌==◌, List, [], ◌∷◌, ◌++◌, map, Some, Bool, true, false, ◌&&◌, cond, refl, sym, ap, ap₂, subst, ◌∙◌, pos, negsuc, codes, Less, arith, append-nil}
+use Rattle.std.specs.List.{AllByRecursion, IsDistinct, filter, find, range_with_len}
 use Rattle.std.proofs.lemmas.Bool.Decides.{nat_tests}
 use Rattle.std.proofs.lemmas.List.Elements.{filter-append}
 use Rattle.sqlite.specs.declared.types.Value.TheVariants.{Int}
@@ -21,7 +21,7 @@ use Rattle.as2_rows.specs.Contents.{Piece, pieces, piece_of, piece_shown}
 use Rattle.as2_mic.specs.Pieces.{piece_count}
 use Rattle.as2_store.specs.Tables.{store_schema, inbox_piece_tree}
 use Rattle.as2_store.specs.Statements.{in_pieces_text}
-use Rattle.as2_store.specs.Stands.{Rests, numbered, piece_rows, inbox_pieces}
+use Rattle.as2_store.specs.Stands.{Rests, numbered, inbox_pieces}
 use Rattle.as2_store.proofs.Rising.{rises}
 use Rattle.as2_store.proofs.Looking.{and_true}
 use Rattle.as2_store.proofs.Texts.{piece_terms, piece_columns, in_pieces_is, in_pieces_plain, in_pieces_unlisted}

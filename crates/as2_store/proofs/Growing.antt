@@ -1,24 +1,22 @@
 -- What the tables stand for with an entry more.
-use Rattle.std.proofs.Common.{◌≡◌, ◌≢◌, ℕ, ◌+◌, ◌<◌, ◌≤◌, List, [], ◌∷◌, ◌++◌, map, Option, Some, None, refl, sym, ap, subst, ◌∙◌, arith, append-nil}
-use Rattle.std.specs.List.{AllByRecursion, flat_map}
-use Rattle.std.proofs.lemmas.List.{map-append}
+use Rattle.std.proofs.Common.{◌≡◌, ◌≢◌, ℕ, ◌+◌, ◌<◌, List, [], ◌∷◌, ◌++◌, map, Option, Some, None, refl, sym, ap, subst, ◌∙◌, arith, append-nil}
+use Rattle.std.specs.List.{AllByRecursion}
 use Rattle.sqlite.specs.Order.{Row}
 use Rattle.sqlite.specs.Tree.{put_row}
 use Rattle.sqlite.specs.State.{State as Connected}
-use Rattle.sqlite_trees.proofs.ListLemmas.{all_weaker}
 use Rattle.std.proofs.lemmas.List.Concat.{flat_map-append}
 use Rattle.sql_tables.specs.Changes.{Changed}
 use Rattle.as2_exchange.specs.State.{State, end_of_numbers}
-use Rattle.as2_exchange.specs.Invariants.{IsCounter, AreNumbers}
+use Rattle.as2_exchange.specs.Invariants.{AreNumbers}
 use Rattle.as2_exchange.specs.declared.inbox.InEntry.{InEntry}
 use Rattle.as2_exchange.specs.declared.outbox.OutEntry.{OutEntry}
 use Rattle.as2_exchange.proofs.Lists.{map_last, all_weaken}
 use Rattle.as2_exchange.proofs.WellFormed.{numbers_push}
 use Rattle.as2_rows.specs.Rows.{in_row, meta_row}
-use Rattle.as2_rows.specs.Contents.{Piece, pieces}
+use Rattle.as2_rows.specs.Contents.{pieces}
 use Rattle.as2_rows.specs.Waiting.{Waiting, in_waiting}
 use Rattle.as2_store.specs.Tables.{store_schema, meta_tree, inbox_tree, inbox_piece_tree, waiting_tree}
-use Rattle.as2_store.specs.Stands.{Stands, inbox_pieces, piece_rows, waiting, waiting_row}
+use Rattle.as2_store.specs.Stands.{Stands, inbox_pieces, piece_rows}
 use Rattle.as2_store.specs.Adding.{Appended, Noted, IsEntered, with_received}
 use Rattle.as2_store.proofs.Rising.{puts_between}
 use Rattle.as2_store.proofs.Placing.{noted_rows, noted}

@@ -1,5 +1,5 @@
 -- What the queries of the inbox answer.
-use Rattle.std.proofs.Common.{◌≡◌, ℕ, ◌+◌, ◌<◌, List, [], ◌∷◌, ◌++◌, map, take, length, slice_get, get_or, Option, option_map, Some, None, Bool, true, false, ◌&&◌, bytes_eq, cond, refl, sym, ap, ap₂, ◌∙◌, pos, negsuc, arith}
+use Rattle.std.proofs.Common.{◌≡◌, ℕ, ◌+◌, ◌<◌, List, [], ◌∷◌, ◌++◌, map, take, length, slice_get, get_or, Some, None, Bool, true, false, ◌&&◌, cond, refl, sym, ap, ap₂, ◌∙◌, negsuc, arith}
 use Rattle.std.specs.List.{filter, find}
 use Rattle.std.proofs.lemmas.List.{take_more, get_or-map, length-map, map-append}
 use Rattle.as2_rows.specs.declared.inbox.InRow.{InRow}

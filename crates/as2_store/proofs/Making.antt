@@ -1,5 +1,5 @@
 -- What the texts that make tables mean.
-use Rattle.std.proofs.Common.{◌≡◌, ℕ, List, [], ◌∷◌, ◌++◌, codes, Ok, refl, pos}
+use Rattle.std.proofs.Common.{◌≡◌, Ok, refl}
 use Rattle.sqlite.specs.Compile.{table_defined_by, index_defined_by}
 use Rattle.sqlite.specs.Command.TheVariants.{CreateTable, CreateIndex}
 use Rattle.sqlite.specs.Schema.{Schema}

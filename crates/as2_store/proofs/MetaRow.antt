@@ -1,10 +1,9 @@
 -- The row of `meta`: how it is read, and how its counter is raised.
-use Rattle.std.proofs.Common.{◌≡◌, inl, inr, ℕ, ◌<◌, ◌^◌, List, [], ◌∷◌, map, codes, Option, Ok, Err, Result, IfOk, IfErr, true, true≢false, refl, sym, ap, subst, ◌∙◌, pos, negsuc, arith, rules, w64, to_z, of_z, IsPermutation}
+use Rattle.std.proofs.Common.{◌≡◌, inl, inr, ℕ, ◌<◌, ◌^◌, List, [], ◌∷◌, map, codes, Option, Ok, true, true≢false, refl, sym, ap, subst, ◌∙◌, pos, negsuc, arith, rules, w64, to_z, of_z, IsPermutation}
 use Rattle.std.proofs.lemmas.Int.{to_z-of_z}
-use Rattle.sqlite.specs.declared.types.Value.{Value}
 use Rattle.sqlite.specs.declared.types.Value.TheVariants.{Int, Text}
 use Rattle.sqlite.specs.Order.{Row}
-use Rattle.sqlite.specs.Term.{lit, col}
+use Rattle.sqlite.specs.Term.{lit}
 use Rattle.sqlite.specs.Query.{inner, end}
 use Rattle.sqlite.specs.Program.{overlay}
 use Rattle.sqlite.specs.Effect.{Database, RefusesToRead}
@@ -19,7 +18,6 @@ use Rattle.sqlite_sql.proofs.QueryLemmas.{no_fold_overflows}
 use Rattle.sqlite_tied.specs.Compute.{everything}
 use Rattle.sql_tables.specs.Changes.{Changed, over_table, shown_of, chosen, IsOutside}
 use Rattle.sql_tables.proofs.Writes.{cast_int}
-use Rattle.sql_tables.proofs.Actions.{no_action}
 use Rattle.sql_tables.proofs.Changing.{updates}
 use Rattle.sql_tables.proofs.Inside.{failed_or_open, shown_open}
 use Rattle.sql_tables.proofs.Queries.{in_any_order}

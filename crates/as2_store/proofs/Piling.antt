@@ -1,19 +1,18 @@
 -- Pieces go in behind those that are there.
-use Rattle.std.proofs.Common.{◌≡◌, ◌≢◌, ℕ, ◌+◌, ◌*◌, ◌<◌, ◌≤◌, List, [], ◌∷◌, ◌++◌, map, length, fold, pos, Less, Ok, Option, Some, None, Bool, true, false, nat_lt, cond, refl, sym, ap, subst, ◌∙◌, arith, append-nil, append_assoc, zero, suc, ◌+ℤ◌}
+use Rattle.std.proofs.Common.{◌≡◌, ◌≢◌, ℕ, ◌+◌, ◌*◌, ◌<◌, ◌≤◌, List, [], ◌∷◌, ◌++◌, map, length, fold, pos, Ok, Option, Some, None, Bool, true, false, nat_lt, cond, refl, sym, ap, ◌∙◌, arith, append-nil, append_assoc, zero, suc, ◌+ℤ◌}
 use Rattle.std.specs.List.{AllByRecursion, range_with_len}
 use Rattle.std.specs.Ordering.{match_ordering}
-use Rattle.std.proofs.lemmas.List.{map-append, length-map}
+use Rattle.std.proofs.lemmas.List.{map-append}
 use Rattle.std.proofs.lemmas.Bool.Decides.{nat_tests}
 use Rattle.std.proofs.lemmas.Grind.{div_ceil_times}
 use Rattle.sqlite.specs.declared.types.Value.TheVariants.{Null, Int}
-use Rattle.sqlite.specs.Order.{Row, value_cmp}
+use Rattle.sqlite.specs.Order.{Row}
 use Rattle.sqlite.specs.Table.{Table}
 use Rattle.sqlite.specs.Tree.{Trees, rowid, put_row}
 use Rattle.sqlite.specs.Edit.{next_rowid, id_in}
 use Rattle.sqlite.specs.State.{State as Connected, Executes}
-use Rattle.sql_tables.specs.Changes.{Changed}
 use Rattle.sql_tables.proofs.Writes.{cast_int, cast_null, IsOneRow, inserts_chosen}
-use Rattle.as2_mic.specs.Pieces.{piece_size, piece_count, piece_at}
+use Rattle.as2_mic.specs.Pieces.{piece_size, piece_at}
 use Rattle.as2_rows.specs.Contents.{Piece, piece_bytes, piece_of, pieces, piece_shown}
 use Rattle.as2_rows.specs.Rows.{whole}
 use Rattle.as2_store.specs.Tables.{store_schema, inbox_piece_table, inbox_piece_tree}

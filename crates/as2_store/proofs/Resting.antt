@@ -3,7 +3,6 @@ use Rattle.std.proofs.Common.{◌≡◌, sym, subst, ◌∙◌, false, true≢fa
 use Rattle.sqlite.specs.Steps.{FailsToCommit}
 use Rattle.sqlite.specs.declared.error.Error.{Error}
 use Rattle.sqlite.specs.Effect.{Database}
-use Rattle.sqlite.specs.Schema.{Schema}
 use Rattle.sqlite.specs.State.{State as Connected, Shows, IsUnchanged, IsRolledBack, KeepsCommit}
 use Rattle.as2_exchange.specs.State.{State}
 use Rattle.as2_store.specs.Tables.{no_schema}

@@ -1,7 +1,6 @@
 -- The row of an entry goes into the inbox.
 use Rattle.std.proofs.Common.{◌≡◌, ◌<◌, ◌^◌, ℕ, Option, Some, None, Ok, refl, pos, arith, w64, to_z, of_z}
 use Rattle.sqlite.specs.Values.{bound_value}
-use Rattle.sqlite.specs.declared.types.Value.TheVariants.{Null, Int}
 use Rattle.sqlite.specs.Kind.TheVariants.{Text, Blob}
 use Rattle.sqlite.specs.Cast.{cast}
 use Rattle.sqlite.specs.Tree.{put_row}

@@ -1,6 +1,4 @@
-use Rattle.std.proofs.Common.{◌≡◌, inl, inr, codes, Some, None, true, sym, ◌∙◌, [], ◌∷◌}
-use Rattle.sqlite.specs.Held.{state}
-use Rattle.as2_store.specs.Stands.{judged}
+use Rattle.std.proofs.Common.{◌≡◌, inl, inr, codes, Some, None, sym, ◌∙◌}
 use Rattle.as2_store.proofs.adopting.check.Goals as goal
 
 pub returns-in-None-clause-sound : goal.returns-in-None-clause-sound

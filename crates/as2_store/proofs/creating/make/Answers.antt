@@ -3,7 +3,7 @@ use Rattle.sqlite.specs.Held.{state}
 use Rattle.sqlite.specs.State.{HasCleanDisk}
 use Rattle.as2_exchange.specs.State.{empty}
 use Rattle.as2_store.specs.Tables.{no_schema}
-use Rattle.as2_store.specs.Stands.{Rests, IsBare}
+use Rattle.as2_store.specs.Stands.{Rests}
 use Rattle.as2_store.proofs.Resting.{rests_committed}
 use Rattle.as2_store.proofs.Beginning.{stands_empty}
 use Rattle.as2_store.proofs.creating.make.Goals as goal
