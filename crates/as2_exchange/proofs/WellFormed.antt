@@ -25,7 +25,7 @@ other_number n x h = grind (arith, nat_tests)
 no_greater : (n x : ℕ) → x < n → nat_lt n x ≡ false
 no_greater n x h = grind (arith, nat_tests)
 
-numbers_push : (n : ℕ) (ns : List ℕ) → AreNumbers n ns → AreNumbers (n + 1) (ns ++ n ∷ [])
+pub numbers_push : (n : ℕ) (ns : List ℕ) → AreNumbers n ns → AreNumbers (n + 1) (ns ++ n ∷ [])
 numbers_push n ns h = record {
   below = all_push (λ x. x < n + 1) ns n (all_weaken (λ x. x < n) (λ x. x < n + 1) (below_more n) ns h.below) (omega arith);
   distinct = distinct_push (λ a b. a == b) ns n h.distinct (all_weaken (λ x. x < n) (λ x. (x == n) ≡ false) (other_number n) ns h.below);

@@ -1,0 +1,14 @@
+mod Making
+mod Texts
+mod Quiet
+mod Resting
+mod Beginning
+mod Answering
+mod MetaRow
+mod Rising
+mod Piling
+mod Placing
+mod Writing
+mod Growing
+mod Looking
+mod Gathering

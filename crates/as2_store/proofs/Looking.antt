@@ -1,0 +1,88 @@
+-- What the queries of the inbox answer.
+use Rattle.std.proofs.Common.{◌≡◌, ℕ, ◌+◌, ◌<◌, List, [], ◌∷◌, ◌++◌, map, take, length, slice_get, get_or, Some, None, Bool, true, false, ◌&&◌, cond, refl, sym, ap, ap₂, ◌∙◌, negsuc, arith}
+use Rattle.std.specs.List.{filter, find}
+use Rattle.std.proofs.lemmas.List.{take_more, get_or-map, length-map, map-append}
+use Rattle.as2_rows.specs.declared.inbox.InRow.{InRow}
+use Rattle.as2_rows.specs.Summaries.{in_entry, in_summary}
+use Rattle.sqlite.specs.declared.types.Value.TheVariants.{Int, Blob}
+use Rattle.sqlite.specs.Order.{Row}
+use Rattle.sqlite.specs.Term.{Term, lit}
+use Rattle.sqlite.specs.Command.TheVariants.{Select}
+use Rattle.sqlite.specs.Listing.{understood, reads_listing}
+use Rattle.sqlite.specs.State.{State as Connected, Shown}
+use Rattle.sqlite.proofs.Callers.{IsPlain, command_of, reads_as}
+use Rattle.sql_tables.specs.Changes.{over_table, passes}
+use Rattle.sql_tables.proofs.Inside.{shown_open}
+use Rattle.sql_tables.proofs.Queries.{by_number, shows_entries, blobs_equal}
+use Rattle.as2_exchange.specs.State.{State}
+use Rattle.as2_exchange.specs.declared.inbox.InEntry.{InEntry}
+use Rattle.as2_names.specs.Identifiers.{value_of}
+use Rattle.as2_rows.specs.Rows.{in_row, in_shown}
+use Rattle.as2_store.specs.Tables.{store_schema, inbox_tree}
+use Rattle.as2_store.specs.Statements.{in_by_key_text, in_all_text}
+use Rattle.as2_store.specs.Stands.{Rests}
+use Rattle.as2_store.specs.Finding.{has_key}
+use Rattle.as2_store.proofs.Rising.{entries_rise}
+use Rattle.as2_store.proofs.Texts.{in_columns, in_names, key_terms, in_by_key_is, in_by_key_plain, in_by_key_unlisted, in_all_is, in_all_plain, in_all_unlisted}
+
+-- a query over the inbox, in the order of the numbers
+module _ (sql : List ℕ) (plain : IsPlain (understood store_schema sql)) (unlisted : reads_listing store_schema sql ≡ false) (terms : List Term)
+    (is : command_of (understood store_schema sql) ≡ Select (record { lets = []; body = over_table inbox_tree terms in_columns by_number (lit (Int (negsuc 0))) }) in_names) (params : Row)
+    (p : InEntry → Bool) (same : (e : InEntry) → passes terms params (in_row e) ≡ p e) where
+  reads_entries : (old new : Connected) (rows : List Row) → Shown sql params old new rows → (s : State) → Rests old s → rows ≡ map in_shown (filter p s.inbox)
+  reads_entries old new rows h s r =
+      let it = r.stands (shown_open sql params old new rows h) in
+      let read = reads_as sql params old new store_schema it.schema (Select (record { lets = []; body = over_table inbox_tree terms in_columns by_number (lit (Int (negsuc 0))) }) in_names) is plain unlisted rows h in
+      shows_entries inbox_tree terms in_columns (lit (Int (negsuc 0))) old.now.trees params rows in_row p in_shown same (λ _. refl) s.inbox it.entries.inbox
+      (entries_rise in_row (λ (e : InEntry). e.number) (λ _. refl) s.next_in s.inbox it.receipts.1) read.answer
+
+pub and_true : (b : Bool) → (b && true) ≡ b
+and_true true = refl
+and_true false = refl
+
+abbrev pub key_params : List ℕ → List ℕ → List ℕ → Row
+key_params sender receiver value = Blob sender ∷ Blob receiver ∷ Blob value ∷ []
+
+of_key : (sender receiver value : List ℕ) (e : InEntry) → passes key_terms (key_params sender receiver value) (in_row e) ≡ has_key sender receiver value e
+of_key sender receiver value e =
+    ap₂ ◌&&◌ (blobs_equal e.posted.sender sender) (ap₂ ◌&&◌ (blobs_equal e.posted.receiver receiver) (ap (λ b. b && true) (blobs_equal (value_of e.posted.id) value) ∙ and_true _))
+
+pub finds_key : (sender receiver value : List ℕ) (old new : Connected) (rows : List Row) → Shown in_by_key_text (key_params sender receiver value) old new rows → (s : State) → Rests old s
+    → rows ≡ map in_shown (filter (has_key sender receiver value) s.inbox)
+finds_key sender receiver value = reads_entries in_by_key_text in_by_key_plain in_by_key_unlisted key_terms in_by_key_is (key_params sender receiver value) (has_key sender receiver value) (of_key sender receiver value)
+
+every : (es : List InEntry) → filter (λ _. true) es ≡ es
+every [] = refl
+every (e ∷ es) = ap (λ l. e ∷ l) (every es)
+
+pub lists_all : (old new : Connected) (rows : List Row) → Shown in_all_text [] old new rows → (s : State) → Rests old s → rows ≡ map in_shown s.inbox
+lists_all old new rows h s r = reads_entries in_all_text in_all_plain in_all_unlisted [] in_all_is [] (λ _. true) (λ _. refl) old new rows h s r ∙ ap (map in_shown) (every s.inbox)
+
+-- ---- the first row
+
+pub none_first : (p : InEntry → Bool) (es : List InEntry) (rows : List Row) → rows ≡ map in_shown (filter p es) → slice_get rows 0 ≡ None → find p es ≡ None
+none_first p [] rows all none = refl
+none_first p (e ∷ es) rows all none = go (p e) all (λ shown. none_first p es rows shown none)
+  where
+    go : (t : Bool) → rows ≡ map in_shown (cond t (e ∷ filter p es) (filter p es)) → (rows ≡ map in_shown (filter p es) → find p es ≡ None) → cond t (Some e) (find p es) ≡ None
+    go true shown later = absurd (let f = ap (λ l. slice_get l 0) shown in cc)
+    go false shown later = later shown
+
+pub some_first : (p : InEntry → Bool) (es : List InEntry) (rows : List Row) (row : Row) → rows ≡ map in_shown (filter p es) → slice_get rows 0 ≡ Some row → (e : InEntry) × (find p es ≡ Some e) × (row ≡ in_shown e)
+some_first p [] rows row all got = absurd (let f = ap (λ l. slice_get l 0) all in cc)
+some_first p (e ∷ es) rows row all got = go (p e) all (λ shown. some_first p es rows row shown got)
+  where
+    go : (t : Bool) → rows ≡ map in_shown (cond t (e ∷ filter p es) (filter p es)) → (rows ≡ map in_shown (filter p es) → (x : InEntry) × (find p es ≡ Some x) × (row ≡ in_shown x))
+        → (x : InEntry) × (cond t (Some e) (find p es) ≡ Some x) × (row ≡ in_shown x)
+    go true shown later = (e, refl, (let f = ap (λ l. slice_get l 0) shown in cc))
+    go false shown later = later shown
+
+-- ---- all rows, one after another
+
+pub more_read : (rows : List Row) (es : List InEntry) (done : List InRow) (i : ℕ) (x : InRow) (d : Row) → rows ≡ map in_shown es → i < length rows → done ≡ map in_summary (take i es)
+    → ((e : InEntry) → get_or rows i d ≡ in_shown e → x ≡ in_summary e) → done ++ x ∷ [] ≡ map in_summary (take (i + 1) es)
+more_read rows es done i x d all within so_far is =
+    let short : i < length es = omega (arith, within, ap length all, length-map es in_shown) in
+    let here : get_or rows i d ≡ in_shown (get_or es i (in_entry x [])) = ap (λ l. get_or l i d) all ∙ get_or-map in_shown es i (in_entry x []) d short in
+    ap₂ (λ l y. l ++ y ∷ []) so_far (is (get_or es i (in_entry x [])) here)
+    ∙ sym (ap (map in_summary) (take_more es i (in_entry x []) short) ∙ map-append in_summary (take i es) (get_or es i (in_entry x []) ∷ []))

@@ -1,0 +1,134 @@
+-- What the texts that make tables mean.
+use Rattle.std.proofs.Common.{◌≡◌, Ok, refl}
+use Rattle.sqlite.specs.Compile.{table_defined_by, index_defined_by}
+use Rattle.sqlite.specs.Command.TheVariants.{CreateTable, CreateIndex}
+use Rattle.sqlite.specs.Schema.{Schema}
+use Rattle.sqlite.specs.Change.{created, indexed}
+use Rattle.sqlite.specs.Listing.{understood}
+use Rattle.sqlite.proofs.Callers.{IsPlain, command_of, statement_of}
+use Rattle.sqlite_tied.specs.Compute.{everything}
+use Rattle.as2_store.specs.Tables.{meta_text, inbox_text, inbox_piece_text, outbox_text, outbox_piece_text, evidence_text, waiting_text, waiting_due_text, meta_made, inbox_made, inbox_piece_made, outbox_made, outbox_piece_made, evidence_made, waiting_made, waiting_table, waiting_due_made, no_schema, inbox_schema, outbox_schema, store_schema}
+
+-- ---- the schemas between
+
+abbrev pub with_meta : Schema
+with_meta = created no_schema meta_made
+
+abbrev pub with_inbox : Schema
+with_inbox = created with_meta inbox_made
+
+abbrev pub with_outbox : Schema
+with_outbox = created inbox_schema outbox_made
+
+abbrev pub with_outbox_piece : Schema
+with_outbox_piece = created with_outbox outbox_piece_made
+
+abbrev pub with_waiting : Schema
+with_waiting = created outbox_schema waiting_made
+
+pub inbox_created : created with_inbox inbox_piece_made ≡ inbox_schema
+inbox_created = refl
+
+pub outbox_created : created with_outbox_piece evidence_made ≡ outbox_schema
+outbox_created = refl
+
+pub store_created : indexed with_waiting waiting_table waiting_due_made ≡ store_schema
+store_created = refl
+
+-- ---- the texts
+
+pub meta_is : table_defined_by meta_text ≡ Ok meta_made
+unfolding everything
+meta_is = refl
+
+pub meta_create : (command_of (understood no_schema meta_text) ≡ CreateTable) × (statement_of meta_text (understood no_schema meta_text) ≡ meta_text)
+unfolding understood everything
+meta_create = (refl, refl)
+
+pub meta_plain : IsPlain (understood no_schema meta_text)
+unfolding understood everything
+meta_plain = (refl, refl)
+
+pub inbox_is : table_defined_by inbox_text ≡ Ok inbox_made
+unfolding everything
+inbox_is = refl
+
+pub inbox_create : (command_of (understood with_meta inbox_text) ≡ CreateTable) × (statement_of inbox_text (understood with_meta inbox_text) ≡ inbox_text)
+unfolding understood everything
+inbox_create = (refl, refl)
+
+pub inbox_plain : IsPlain (understood with_meta inbox_text)
+unfolding understood everything
+inbox_plain = (refl, refl)
+
+pub inbox_piece_is : table_defined_by inbox_piece_text ≡ Ok inbox_piece_made
+unfolding everything
+inbox_piece_is = refl
+
+pub inbox_piece_create : (command_of (understood with_inbox inbox_piece_text) ≡ CreateTable) × (statement_of inbox_piece_text (understood with_inbox inbox_piece_text) ≡ inbox_piece_text)
+unfolding understood everything
+inbox_piece_create = (refl, refl)
+
+pub inbox_piece_plain : IsPlain (understood with_inbox inbox_piece_text)
+unfolding understood everything
+inbox_piece_plain = (refl, refl)
+
+pub outbox_is : table_defined_by outbox_text ≡ Ok outbox_made
+unfolding everything
+outbox_is = refl
+
+pub outbox_create : (command_of (understood inbox_schema outbox_text) ≡ CreateTable) × (statement_of outbox_text (understood inbox_schema outbox_text) ≡ outbox_text)
+unfolding understood everything
+outbox_create = (refl, refl)
+
+pub outbox_plain : IsPlain (understood inbox_schema outbox_text)
+unfolding understood everything
+outbox_plain = (refl, refl)
+
+pub outbox_piece_is : table_defined_by outbox_piece_text ≡ Ok outbox_piece_made
+unfolding everything
+outbox_piece_is = refl
+
+pub outbox_piece_create : (command_of (understood with_outbox outbox_piece_text) ≡ CreateTable) × (statement_of outbox_piece_text (understood with_outbox outbox_piece_text) ≡ outbox_piece_text)
+unfolding understood everything
+outbox_piece_create = (refl, refl)
+
+pub outbox_piece_plain : IsPlain (understood with_outbox outbox_piece_text)
+unfolding understood everything
+outbox_piece_plain = (refl, refl)
+
+pub evidence_is : table_defined_by evidence_text ≡ Ok evidence_made
+unfolding everything
+evidence_is = refl
+
+pub evidence_create : (command_of (understood with_outbox_piece evidence_text) ≡ CreateTable) × (statement_of evidence_text (understood with_outbox_piece evidence_text) ≡ evidence_text)
+unfolding understood everything
+evidence_create = (refl, refl)
+
+pub evidence_plain : IsPlain (understood with_outbox_piece evidence_text)
+unfolding understood everything
+evidence_plain = (refl, refl)
+
+pub waiting_is : table_defined_by waiting_text ≡ Ok waiting_made
+unfolding everything
+waiting_is = refl
+
+pub waiting_create : (command_of (understood outbox_schema waiting_text) ≡ CreateTable) × (statement_of waiting_text (understood outbox_schema waiting_text) ≡ waiting_text)
+unfolding understood everything
+waiting_create = (refl, refl)
+
+pub waiting_plain : IsPlain (understood outbox_schema waiting_text)
+unfolding understood everything
+waiting_plain = (refl, refl)
+
+pub waiting_due_is : index_defined_by waiting_table waiting_due_text ≡ Ok waiting_due_made
+unfolding everything
+waiting_due_is = refl
+
+pub waiting_due_create : (command_of (understood with_waiting waiting_due_text) ≡ CreateIndex 6) × (statement_of waiting_due_text (understood with_waiting waiting_due_text) ≡ waiting_due_text)
+unfolding understood everything
+waiting_due_create = (refl, refl)
+
+pub waiting_due_plain : IsPlain (understood with_waiting waiting_due_text)
+unfolding understood everything
+waiting_due_plain = (refl, refl)

@@ -1,0 +1,52 @@
+-- The rows of entries whose numbers rise, and where a row goes among them.
+use Rattle.std.proofs.Common.{◌≡◌, ℕ, ◌<◌, ◌==◌, List, [], ◌∷◌, ◌++◌, map, pos, nat_lt, Less, Greater, false, refl, sym, ap, subst₂, ◌∙◌, arith}
+use Rattle.std.specs.List.{AllByRecursion, IsDistinct}
+use Rattle.std.specs.Ordering.{match_ordering}
+use Rattle.std.proofs.lemmas.Int.{ints}
+use Rattle.std.proofs.lemmas.Bool.Decides.{nat_tests}
+use Rattle.sqlite.specs.declared.types.Value.TheVariants.{Int}
+use Rattle.sqlite.specs.Order.{Row, value_cmp}
+use Rattle.sqlite.specs.Tree.{rowid, put_row, IsTable, IsAscending}
+use Rattle.sqlite_value.proofs.OrderLemmas.{value_cmp-Int}
+use Rattle.sqlite_trees.proofs.ListLemmas.{ascending-map, ascending_from_map, ascending_weaker}
+use Rattle.sqlite_keyed.proofs.KeyedLemmas.{Less-from_lt}
+use Rattle.as2_exchange.specs.Invariants.{AreNumbers}
+
+-- a lower number is a lower rowid
+pub rises : (m n : ℕ) → m < n → value_cmp (Int (pos m)) (Int (pos n)) ≡ Less
+rises m n h = value_cmp-Int (pos m) (pos n) ∙ Less-from_lt (pos m) (pos n) (omega (arith, ints))
+
+falls : (m n : ℕ) → n < m → value_cmp (Int (pos m)) (Int (pos n)) ≡ Greater
+falls m n h = value_cmp-Int (pos m) (pos n) ∙ (grind (arith, ints))
+
+above : (n : ℕ) (ns : List ℕ) → AllByRecursion (λ m. (n == m) ≡ false) ns → AllByRecursion (λ m. nat_lt m n ≡ false) ns → AllByRecursion (λ m. n < m) ns
+above n [] other no_lower = tt
+above n (m ∷ ns) other no_lower = (one m other.0 no_lower.0, above n ns other.1 no_lower.1)
+  where
+    one : (m : ℕ) → (n == m) ≡ false → nat_lt m n ≡ false → n < m
+    one m other no_lower = grind (arith, nat_tests)
+
+rising : (ns : List ℕ) → IsDistinct (λ a b. a == b) ns → IsDistinct (λ a b. nat_lt b a) ns → IsAscending (λ a b. a < b) ns
+unfolding IsDistinct
+rising [] distinct in_order = tt
+rising (n ∷ ns) distinct in_order = (above n ns distinct.0 in_order.0, rising ns distinct.1 in_order.1)
+
+module _ {X : Type 0} (row : X → Row) (at : X → ℕ) (keyed : (x : X) → rowid (row x) ≡ Int (pos (at x))) where
+  -- entries in order of number are the rows of a table
+  pub entries_rise : (next : ℕ) (xs : List X) → AreNumbers next (map at xs) → IsTable (map row xs)
+  entries_rise next xs h =
+      ascending-map _ row xs (ascending_weaker (λ x y. at x < at y) (λ x y. value_cmp (rowid (row x)) (rowid (row y)) ≡ Less)
+      (λ x y less. subst₂ (λ a b. value_cmp a b ≡ Less) (sym (keyed x)) (sym (keyed y)) (rises (at x) (at y) less)) xs
+      (ascending_from_map (λ a b. a < b) at xs (rising (map at xs) h.distinct h.in_order)))
+
+  -- a row goes behind those of lower numbers, and before those of greater ones
+  pub puts_between : (x : X) (front back : List X) → AllByRecursion (λ q. at q < at x) front → AllByRecursion (λ q. at x < at q) back
+      → put_row (row x) (map row (front ++ back)) ≡ map row (front ++ x ∷ back)
+  puts_between x [] [] low high = refl
+  puts_between x [] (q ∷ back) low high =
+      ap (λ o. match_ordering o (row q ∷ put_row (row x) (map row back)) (row x ∷ map row back) (row x ∷ row q ∷ map row back))
+      (subst₂ (λ a b. value_cmp a b ≡ Greater) (sym (keyed q)) (sym (keyed x)) (falls (at q) (at x) high.0))
+  puts_between x (q ∷ front) back low high =
+      ap (λ o. match_ordering o (row q ∷ put_row (row x) (map row (front ++ back))) (row x ∷ map row (front ++ back)) (row x ∷ row q ∷ map row (front ++ back)))
+      (subst₂ (λ a b. value_cmp a b ≡ Less) (sym (keyed q)) (sym (keyed x)) (rises (at q) (at x) low.0))
+      ∙ ap (λ l. row q ∷ l) (puts_between x front back low.1 high)

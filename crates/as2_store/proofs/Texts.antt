@@ -1,0 +1,153 @@
+-- What the texts of the statements mean.
+use Rattle.std.proofs.Common.{◌≡◌, ℕ, List, [], ◌∷◌, codes, refl, pos, negsuc, false}
+use Rattle.sqlite.specs.declared.types.Value.TheVariants.{Null, Int, Text}
+use Rattle.sqlite.specs.Collation.TheVariants.{Binary}
+use Rattle.sqlite.specs.Term.{Term, lit, col, op2}
+use Rattle.sqlite.specs.Source.TheVariants.{Values}
+use Rattle.sqlite.specs.Command.{Command}
+use Rattle.sqlite.specs.Command.TheVariants.{Insert, Select, Update}
+use Rattle.sqlite.specs.Listing.{understood, reads_listing}
+use Rattle.sqlite.proofs.Callers.{IsPlain, command_of}
+use Rattle.sqlite_sql.specs.declared.ops.BinaryOp.TheVariants.{Compare}
+use Rattle.sqlite_sql.specs.declared.ops.CompareOp.TheVariants.{Eq}
+use Rattle.sqlite_tied.specs.Compute.{everything}
+use Rattle.sql_tables.specs.Changes.{over_table}
+use Rattle.sql_tables.proofs.Queries.{by_number}
+use Rattle.sql_tables.proofs.Changing.{update_program}
+use Rattle.as2_store.specs.Tables.{store_schema, meta_tree, inbox_tree, inbox_piece_tree}
+use Rattle.as2_store.specs.Statements.{meta_put_text, meta_read_text, receipt_text, in_put_text, in_piece_put_text, in_by_key_text, in_all_text, in_pieces_text, waiting_put_text}
+
+-- ---- the counters
+
+abbrev pub meta_put_terms : List Term
+meta_put_terms = lit Null ∷ lit (Text (codes "as2-station")) ∷ lit (Int (pos 1)) ∷ col 0 0 ∷ col 0 0 ∷ []
+
+pub meta_put_is : command_of (understood store_schema meta_put_text) ≡ Insert 0 (Values meta_put_terms 5)
+unfolding understood everything
+meta_put_is = refl
+
+pub meta_put_plain : IsPlain (understood store_schema meta_put_text)
+unfolding understood everything
+meta_put_plain = (refl, refl)
+
+abbrev pub meta_columns : List Term
+meta_columns = col 1 1 ∷ col 1 2 ∷ col 1 3 ∷ col 1 4 ∷ []
+
+abbrev pub meta_command : Command
+meta_command = Select (record { lets = []; body = over_table meta_tree [] meta_columns [] (lit (Int (negsuc 0))) }) (codes "kind" ∷ codes "version" ∷ codes "next_receipt" ∷ codes "next_document" ∷ [])
+
+pub meta_read_is : command_of (understood store_schema meta_read_text) ≡ meta_command
+unfolding understood everything
+meta_read_is = refl
+
+pub meta_read_plain : IsPlain (understood store_schema meta_read_text)
+unfolding understood everything
+meta_read_plain = (refl, refl)
+
+pub meta_read_unlisted : reads_listing store_schema meta_read_text ≡ false
+unfolding understood everything
+meta_read_unlisted = refl
+
+abbrev pub receipt_project : List Term
+receipt_project = col 1 0 ∷ col 1 1 ∷ col 1 2 ∷ col 0 0 ∷ col 1 4 ∷ []
+
+pub receipt_is : command_of (understood store_schema receipt_text) ≡ Update 0 (update_program meta_tree [] receipt_project)
+unfolding understood everything
+receipt_is = refl
+
+pub receipt_plain : IsPlain (understood store_schema receipt_text)
+unfolding understood everything
+receipt_plain = (refl, refl)
+
+-- ---- the inbox
+
+abbrev pub in_put_terms : List Term
+in_put_terms =
+    col 0 0 ∷ lit Null ∷ col 0 1 ∷ col 0 2 ∷ col 0 3 ∷ col 0 4 ∷ col 0 5 ∷ col 0 6 ∷ col 0 7 ∷ col 0 8 ∷ col 0 9 ∷ col 0 10 ∷ col 0 11 ∷ col 0 12 ∷ col 0 13 ∷ col 0 14 ∷ col 0 15 ∷ col 0 16 ∷ []
+
+pub in_put_is : command_of (understood store_schema in_put_text) ≡ Insert 1 (Values in_put_terms 18)
+unfolding understood everything
+in_put_is = refl
+
+pub in_put_plain : IsPlain (understood store_schema in_put_text)
+unfolding understood everything
+in_put_plain = (refl, refl)
+
+abbrev pub in_piece_put_terms : List Term
+in_piece_put_terms = lit Null ∷ col 0 0 ∷ col 0 1 ∷ col 0 2 ∷ []
+
+pub in_piece_put_is : command_of (understood store_schema in_piece_put_text) ≡ Insert 2 (Values in_piece_put_terms 4)
+unfolding understood everything
+in_piece_put_is = refl
+
+pub in_piece_put_plain : IsPlain (understood store_schema in_piece_put_text)
+unfolding understood everything
+in_piece_put_plain = (refl, refl)
+
+abbrev pub in_columns : List Term
+in_columns =
+    col 1 0 ∷ col 1 2 ∷ col 1 3 ∷ col 1 4 ∷ col 1 5 ∷ col 1 6 ∷ col 1 7 ∷ col 1 8 ∷ col 1 9 ∷ col 1 10 ∷ col 1 11 ∷ col 1 12 ∷ col 1 13 ∷ col 1 14 ∷ col 1 15 ∷ col 1 16 ∷ col 1 17 ∷ []
+
+abbrev pub in_names : List (List ℕ)
+in_names =
+    codes "number" ∷ codes "sender" ∷ codes "receiver" ∷ codes "identifier_value" ∷ codes "identifier" ∷ codes "content_type" ∷ codes "length" ∷ codes "moment" ∷ codes "outcome"
+    ∷ codes "how" ∷ codes "url" ∷ codes "digest" ∷ codes "mic" ∷ codes "mdn" ∷ codes "tries" ∷ codes "attempt" ∷ codes "due" ∷ []
+
+abbrev pub key_terms : List Term
+key_terms = op2 (Compare Eq Binary) (col 1 2) (col 0 0) ∷ op2 (Compare Eq Binary) (col 1 3) (col 0 1) ∷ op2 (Compare Eq Binary) (col 1 4) (col 0 2) ∷ []
+
+pub in_by_key_is : command_of (understood store_schema in_by_key_text) ≡ Select (record { lets = []; body = over_table inbox_tree key_terms in_columns by_number (lit (Int (negsuc 0))) }) in_names
+unfolding understood everything
+in_by_key_is = refl
+
+pub in_by_key_plain : IsPlain (understood store_schema in_by_key_text)
+unfolding understood everything
+in_by_key_plain = (refl, refl)
+
+pub in_by_key_unlisted : reads_listing store_schema in_by_key_text ≡ false
+unfolding understood everything
+in_by_key_unlisted = refl
+
+pub in_all_is : command_of (understood store_schema in_all_text) ≡ Select (record { lets = []; body = over_table inbox_tree [] in_columns by_number (lit (Int (negsuc 0))) }) in_names
+unfolding understood everything
+in_all_is = refl
+
+pub in_all_plain : IsPlain (understood store_schema in_all_text)
+unfolding understood everything
+in_all_plain = (refl, refl)
+
+pub in_all_unlisted : reads_listing store_schema in_all_text ≡ false
+unfolding understood everything
+in_all_unlisted = refl
+
+abbrev pub piece_terms : List Term
+piece_terms = op2 (Compare Eq Binary) (col 1 1) (col 0 0) ∷ []
+
+abbrev pub piece_columns : List Term
+piece_columns = col 1 1 ∷ col 1 2 ∷ col 1 3 ∷ []
+
+pub in_pieces_is : command_of (understood store_schema in_pieces_text)
+    ≡ Select (record { lets = []; body = over_table inbox_piece_tree piece_terms piece_columns by_number (lit (Int (negsuc 0))) }) (codes "number" ∷ codes "position" ∷ codes "bytes" ∷ [])
+unfolding understood everything
+in_pieces_is = refl
+
+pub in_pieces_plain : IsPlain (understood store_schema in_pieces_text)
+unfolding understood everything
+in_pieces_plain = (refl, refl)
+
+pub in_pieces_unlisted : reads_listing store_schema in_pieces_text ≡ false
+unfolding understood everything
+in_pieces_unlisted = refl
+
+-- ---- what waits
+
+abbrev pub waiting_put_terms : List Term
+waiting_put_terms = col 0 0 ∷ lit Null ∷ col 0 1 ∷ col 0 2 ∷ col 0 3 ∷ []
+
+pub waiting_put_is : command_of (understood store_schema waiting_put_text) ≡ Insert 6 (Values waiting_put_terms 5)
+unfolding understood everything
+waiting_put_is = refl
+
+pub waiting_put_plain : IsPlain (understood store_schema waiting_put_text)
+unfolding understood everything
+waiting_put_plain = (refl, refl)

@@ -1,0 +1,74 @@
+use Rattle.std.proofs.Common.{Ok, length, arith}
+use Rattle.sqlite.specs.Held.{state}
+use Rattle.sqlite.specs.State.{Executes}
+use Rattle.sql_tables.proofs.Inside.{kept, made}
+use Rattle.as2_rows.specs.Rows.{in_shown}
+use Rattle.as2_store.specs.Statements.{in_put_text}
+use Rattle.as2_store.proofs.MetaRow.{passed}
+use Rattle.as2_store.proofs.Placing.{bound_optional}
+use Rattle.as2_store.proofs.Writing.{puts_in, passed_outcome, passed_how, passed_mdn, passed_attempt, bound_url, bound_digest, bound_mic}
+use Rattle.as2_store.proofs.inbox.put_in.Goals as goal
+
+pub returns-in_err-execute-clause-kept : goal.returns-in_err-execute-clause-kept
+returns-in_err-execute-clause-kept g c clean = kept g.S.Store _ _ c.args.tx.now.conn.now c.execute.new.self.conn.now c.execute.result _ c.execute.ensures.ended (c.execute.ensures.runs clean)
+
+pub returns-clause-put : goal.returns-clause-put
+returns-clause-put g c clean has =
+    let old = state g.S.Store c.args.tx.now.conn.now in
+    let new = state g.S.Store c.execute.new.self.conn.now in
+    let e = c.args.entry.now in
+    let ran = (made g.S.Store _ _ c.args.tx.now.conn.now c.execute.new.self.conn.now c.execute.result _ c.execute.ensures.ended (c.execute.ensures.runs clean) c.in_ok-execute.field-0 c.in_ok-execute.was).2 in
+    let went : Executes in_put_text (in_shown e) old new (Ok c.in_ok-execute.field-0) =
+    rw (
+      c.params-to_sql.ensures,
+      c.params-to_sql-2.ensures,
+      c.params-to_sql-3.ensures,
+      c.params-to_sql-4.ensures,
+      c.params-to_sql-5.ensures,
+      c.params-to_sql-6.ensures,
+      c.params-to_sql-7.ensures,
+      c.params-to_sql-8.ensures,
+      c.params-to_sql-9.ensures,
+      c.params-to_sql-10.ensures,
+      c.params-to_sql-11.ensures,
+      c.params-to_sql-12.ensures,
+      c.params-to_sql-13.ensures,
+      c.params-to_sql-14.ensures,
+      c.params-to_sql-15.ensures,
+      c.params-to_sql-16.ensures,
+      c.params-to_sql-17.ensures,
+      c.bytes.ensures.bytes,
+      c.bytes-2.ensures.bytes,
+      c.as_bytes.ensures.value,
+      c.value.ensures,
+      c.as_bytes-2.ensures.value,
+      c.as_received.ensures.text,
+      c.as_slice.ensures,
+      c.whole-number.ensures,
+      c.whole-length.ensures,
+      c.len.ensures,
+      c.whole-moment.ensures,
+      c.seconds.ensures.seconds,
+      c.whole-tries.ensures,
+      c.whole_or_none-due.ensures,
+      c.outcome_code.ensures,
+      c.how_code.ensures,
+      c.url_of.ensures,
+      c.digest_of.ensures,
+      c.mic_of.ensures,
+      c.mdn_code.ensures,
+      c.attempt_code.ensures,
+      passed e.number c.requires.number,
+      passed (length e.posted.content) c.requires.fits.content,
+      passed e.moment (omega (arith, c.seconds.ensures.bound, c.seconds.ensures.seconds)),
+      passed e.tries c.requires.fits.tries,
+      passed_outcome e.posted.outcome,
+      passed_how e.posted.how,
+      passed_mdn e.mdn,
+      passed_attempt e.attempt,
+      bound_optional,
+      bound_url,
+      bound_digest,
+      bound_mic,
+    ) at ran in
+    puts_in old new e c.in_ok-execute.field-0 has went

@@ -1,0 +1,41 @@
+-- An entry more, and what the statements that add it leave.
+use Rattle.std.specs.Prelude.{◌≡◌, ◌≢◌, ℕ, ◌+◌, ◌<◌, ◌^◌, List, [], ◌∷◌, ◌++◌, length, Option, Some, None, IfSome}
+use Rattle.std.specs.List.{AllByRecursion}
+use Rattle.sqlite.specs.Tree.{put_row}
+use Rattle.sqlite.specs.State.{State as Connected}
+use Rattle.sql_tables.specs.Changes.{Changed}
+use Rattle.as2_exchange.specs.State.{State}
+use Rattle.as2_exchange.specs.declared.inbox.InEntry.{InEntry}
+use Rattle.as2_rows.specs.Contents.{Piece}
+use Rattle.as2_rows.specs.Waiting.{Waiting}
+use Rattle.as2_rows.specs.Rows.{meta_row}
+use Rattle.as2_store.specs.Tables.{store_schema, meta_tree, waiting_tree}
+use Rattle.as2_store.specs.Stands.{HasEntries, piece_rows, waiting_row}
+use Rattle.sqlite.specs.Effect.{Database}
+
+-- the state with an entry more in its inbox, under the next number
+abbrev pub with_received : State → InEntry → State
+with_received s e = record s { inbox = s.inbox ++ e ∷ []; next_in = s.next_in + 1 }
+
+-- the numbers of an entry fit into columns
+pub record Fits (e : InEntry) : Type 0 where
+  pub content : length e.posted.content < 2 ^ 63
+  pub tries : e.tries < 2 ^ 63
+  pub due : IfSome e.due (λ due. due < 2 ^ 63)
+
+-- pieces were put into a table behind those that were there, and the other tables are as they were
+pub record Appended (old new : Connected) (tree : ℕ) (ps : List Piece) : Type 0 where
+  pub schema_is : new.now.schema ≡ store_schema
+  pub pieces_are : (before : List Piece) → old.now.trees tree ≡ piece_rows before → new.now.trees tree ≡ piece_rows (before ++ ps)
+  pub others : AllByRecursion (λ t. t.tree ≢ tree → new.now.trees t.tree ≡ old.now.trees t.tree) store_schema.tables
+
+-- a row was put in for what waits, if something does
+abbrev pub Noted : Connected → Connected → Option Waiting → Type 0
+Noted old new None = new.now ≡ old.now
+Noted old new (Some w) = Changed old new store_schema waiting_tree (put_row (waiting_row w) (old.now.trees waiting_tree))
+
+-- the entry is in the tables, and the counter isn't raised yet
+pub record IsEntered (d : Database) (s : State) (e : InEntry) : Type 0 where
+  pub schema : d.schema ≡ store_schema
+  pub meta : d.trees meta_tree ≡ meta_row s.next_in s.next_out ∷ []
+  pub entries : HasEntries d (with_received s e)

@@ -1,0 +1,5 @@
+pub mod Tables
+pub mod Statements
+pub mod Stands
+pub mod Adding
+pub mod Finding

@@ -1,0 +1,117 @@
+-- What the tables stand for: a state of the exchange machine.
+use Rattle.std.specs.Prelude.{◌≡◌, ℕ, ◌+◌, ◌*◌, ◌==◌, List, [], ◌∷◌, ◌++◌, map, codes, bytes_eq, Option, Some, None, option_map, IsTrue, Bool, true, false, if◌then◌else◌}
+use Rattle.std.specs.List.{AllByRecursion, filter, filter_map, flat_map}
+use Rattle.sqlite.specs.declared.types.Value.TheVariants.{Null, Text}
+use Rattle.sqlite.specs.Order.{Row}
+use Rattle.sqlite.specs.Effect.{Database}
+use Rattle.sqlite.specs.Schema.{Schema}
+use Rattle.sqlite.specs.State.{State as Connected}
+use Rattle.as2_exchange.specs.State.{State, end_of_numbers}
+use Rattle.as2_exchange.specs.declared.inbox.InEntry.{InEntry}
+use Rattle.as2_exchange.specs.declared.outbox.OutEntry.{OutEntry}
+use Rattle.as2_exchange.specs.Invariants.{IsCounter, AreNumbers}
+use Rattle.as2_exchange.specs.declared.fault.StoreFault.{StoreFault}
+use Rattle.as2_exchange.specs.declared.fault.StoreFault.TheVariants.{Memory, Disk, Refused, Full, NotAStore, OtherVersion}
+use Rattle.as2_rows.specs.Rows.{whole, in_row, out_row, evidence_row, meta_row}
+use Rattle.as2_rows.specs.Contents.{Piece, pieces, piece_shown}
+use Rattle.as2_rows.specs.Waiting.{Waiting, waiting_in, waiting_out, waiting_shown, to_send, to_hear, to_end}
+use Rattle.as2_store.specs.Tables.{no_schema, store_schema, meta_tree, inbox_tree, inbox_piece_tree, outbox_tree, outbox_piece_tree, evidence_tree, waiting_tree}
+
+-- ---- contents
+
+-- rows under numbers of their own, from this one on
+abbrev pub numbered : ℕ → List Row → List Row
+numbered n [] = []
+numbered n (r ∷ rows) = (whole n ∷ r) ∷ numbered (n + 1) rows
+
+-- the pieces as they are stored: in the order in which they came, which is that of the entries
+abbrev pub piece_rows : List Piece → List Row
+piece_rows ps = numbered 1 (map piece_shown ps)
+
+abbrev pub inbox_pieces : List InEntry → List Piece
+inbox_pieces inbox = flat_map (λ e. pieces e.number e.posted.content) inbox
+
+abbrev pub outbox_pieces : List OutEntry → List Piece
+outbox_pieces outbox = flat_map (λ d. pieces d.number d.content) outbox
+
+-- ---- evidence
+
+-- a row for each document that has evidence
+abbrev pub evidence_rows : List OutEntry → List Row
+evidence_rows outbox = filter_map (λ d. option_map (evidence_row d.number) d.evidence) outbox
+
+-- ---- what waits
+
+-- where it stands: one kind after the other, each in order of number
+abbrev pub place : Waiting → ℕ
+place w = w.kind * end_of_numbers + w.number
+
+abbrev pub waiting_row : Waiting → Row
+waiting_row w = whole (place w) ∷ Null ∷ waiting_shown w
+
+-- what waits of this kind, in the outbox
+abbrev pub documents_waiting : ℕ → List OutEntry → List Waiting
+documents_waiting kind outbox = filter (λ w. w.kind == kind) (waiting_out outbox)
+
+-- all that waits, in the order of the places: documents to send, receipts to send, receipts awaited, last tries
+abbrev pub waiting : State → List Waiting
+waiting s = documents_waiting to_send s.outbox ++ (waiting_in s.inbox ++ (documents_waiting to_hear s.outbox ++ documents_waiting to_end s.outbox))
+
+-- ---- the state
+
+-- beside `meta`, the tables hold exactly the entries of this state
+pub record HasEntries (d : Database) (s : State) : Type 0 where
+  pub inbox : d.trees inbox_tree ≡ map in_row s.inbox
+  pub inbox_contents : d.trees inbox_piece_tree ≡ piece_rows (inbox_pieces s.inbox)
+  pub outbox : d.trees outbox_tree ≡ map out_row s.outbox
+  pub outbox_contents : d.trees outbox_piece_tree ≡ piece_rows (outbox_pieces s.outbox)
+  pub evidence : d.trees evidence_tree ≡ evidence_rows s.outbox
+  pub waits : d.trees waiting_tree ≡ map waiting_row (waiting s)
+
+-- the tables stand for this state: they are those of a store and no others, `meta` has the counters, and the counters are
+-- above all numbers
+pub record Stands (d : Database) (s : State) : Type 0 where
+  pub schema : d.schema ≡ store_schema
+  pub meta : d.trees meta_tree ≡ meta_row s.next_in s.next_out ∷ []
+  pub entries : HasEntries d s
+  pub receipts : IsCounter s.next_in × AreNumbers s.next_in (map (λ e. e.number) s.inbox)
+  pub documents : IsCounter s.next_out × AreNumbers s.next_out (map (λ d. d.number) s.outbox)
+
+-- outside a transaction the tables stand for this state, unless a fault of the disk has shut the connection
+pub record Rests (c : Connected) (s : State) : Type 0 where
+  pub autocommit : c.in_transaction ≡ false
+  pub stands : IsTrue c.is_open → Stands c.now s
+  pub committed : IsTrue c.is_open → c.committed ≡ c.now
+
+-- outside a transaction there is no table, unless a fault of the disk has shut the connection
+pub record IsBlank (c : Connected) : Type 0 where
+  pub autocommit : c.in_transaction ≡ false
+  pub no_table : IsTrue c.is_open → c.now.schema ≡ no_schema
+  pub committed : IsTrue c.is_open → c.committed ≡ c.now
+
+-- the tables of the schema are there, and no row
+pub record IsBare (d : Database) (schema : Schema) : Type 0 where
+  pub schema_is : d.schema ≡ schema
+  pub empty : AllByRecursion (λ t. d.trees t.tree ≡ []) schema.tables
+
+-- ---- faults
+
+-- a fault of memory, of the disk or of the database itself, which may come from any call
+abbrev pub may_come : StoreFault → Bool
+may_come Memory = true
+may_come Disk = true
+may_come Refused = true
+may_come Full = false
+may_come NotAStore = false
+may_come OtherVersion = false
+
+-- what kind and version say
+abbrev pub judged : List ℕ → ℕ → Option StoreFault
+judged kind version = if bytes_eq kind (codes "as2-station") then (if version == 1 then None else Some OtherVersion) else Some NotAStore
+
+-- a connection whose tables are those of a store, of some kind and version
+pub record Says (c : Connected) (kind : List ℕ) (version : ℕ) : Type 0 where
+  pub next_receipt : ℕ
+  pub next_document : ℕ
+  pub schema : c.now.schema ≡ store_schema
+  pub meta : c.now.trees meta_tree ≡ (whole 1 ∷ Text kind ∷ whole version ∷ whole next_receipt ∷ whole next_document ∷ []) ∷ []

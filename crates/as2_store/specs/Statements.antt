@@ -1,0 +1,35 @@
+-- The texts of the statements.
+use Rattle.std.specs.Prelude.{codes, List, ℕ}
+
+-- ---- the counters
+
+abbrev pub meta_put_text : List ℕ
+meta_put_text = codes "INSERT INTO meta (kind, version, next_receipt, next_document) VALUES ('as2-station', 1, ?1, ?1)"
+
+abbrev pub meta_read_text : List ℕ
+meta_read_text = codes "SELECT kind, version, next_receipt, next_document FROM meta"
+
+abbrev pub receipt_text : List ℕ
+receipt_text = codes "UPDATE meta SET next_receipt = ?1"
+
+-- ---- the inbox
+
+abbrev pub in_put_text : List ℕ
+in_put_text = codes "INSERT INTO inbox (number, sender, receiver, identifier_value, identifier, content_type, length, moment, outcome, how, url, digest, mic, mdn, tries, attempt, due) VALUES (?1, ?2, ?3, ?4, ?5, ?6, ?7, ?8, ?9, ?10, ?11, ?12, ?13, ?14, ?15, ?16, ?17)"
+
+abbrev pub in_piece_put_text : List ℕ
+in_piece_put_text = codes "INSERT INTO inbox_piece (number, position, bytes) VALUES (?1, ?2, ?3)"
+
+abbrev pub in_by_key_text : List ℕ
+in_by_key_text = codes "SELECT number, sender, receiver, identifier_value, identifier, content_type, length, moment, outcome, how, url, digest, mic, mdn, tries, attempt, due FROM inbox WHERE sender = ?1 AND receiver = ?2 AND identifier_value = ?3 ORDER BY number"
+
+abbrev pub in_all_text : List ℕ
+in_all_text = codes "SELECT number, sender, receiver, identifier_value, identifier, content_type, length, moment, outcome, how, url, digest, mic, mdn, tries, attempt, due FROM inbox ORDER BY number"
+
+abbrev pub in_pieces_text : List ℕ
+in_pieces_text = codes "SELECT number, position, bytes FROM inbox_piece WHERE number = ?1 ORDER BY rowid"
+
+-- ---- what waits
+
+abbrev pub waiting_put_text : List ℕ
+waiting_put_text = codes "INSERT INTO waiting (place, kind, number, due) VALUES (?1, ?2, ?3, ?4)"

@@ -1,0 +1,77 @@
+//! The rows of the contents.
+
+ghost use Rattle.std.specs.Prelude.{◌≡◌, [], ◌∷◌, ◌<◌, ◌^◌, false, Bool, Some, find, map, length, IfOk, OnOk};
+ghost use Rattle.sqlite.specs.Held.{state};
+ghost use Rattle.sqlite.specs.State.{HasCleanDisk, KeepsCommit};
+ghost use Rattle.as2_rows.specs.Contents.{pieces, piece_shown};
+ghost use Rattle.as2_exchange.specs.State.{State};
+ghost use Rattle.as2_exchange.specs.declared.inbox.InEntry.{InEntry as Entry};
+ghost use Rattle.as2_store.specs.Tables.{store_schema, inbox_piece_tree};
+ghost use Rattle.as2_store.specs.Adding.{Appended};
+ghost use Rattle.as2_store.specs.Stands.{Rests};
+
+use crate::numbers::whole;
+use as2_mic::Pieces;
+use sqlite::{Alter, Connection, Error, Row, Transaction, params};
+
+/// Puts in a piece of the content of an entry of the inbox.
+fn put_in_piece<S: Alter>(
+    tx: &mut Transaction<'_, S>,
+    number: u64,
+    position: u64,
+    bytes: &[u8],
+) -> Result<(), Error>
+    requires number { number < 2 ^ 63 }
+    requires position { position < 2 ^ 63 }
+    ensures same_reference { tx.new.conn.ghost_name ≡ tx.old.conn.ghost_name }
+    ensures clean { HasCleanDisk (state S.Store tx.new.conn.now) → HasCleanDisk (state S.Store tx.old.conn.now) }
+    ensures kept { HasCleanDisk (state S.Store tx.new.conn.now) → KeepsCommit (state S.Store tx.old.conn.now) (state S.Store tx.new.conn.now) }
+    ensures put { HasCleanDisk (state S.Store tx.new.conn.now) → OnOk result ((state S.Store tx.old.conn.now).now.schema ≡ store_schema
+        → Appended (state S.Store tx.old.conn.now) (state S.Store tx.new.conn.now) inbox_piece_tree (record { number = number; position = position; bytes = bytes.now } ∷ [])) }
+{
+    let number = whole(number);
+    let position = whole(position);
+    tx.execute(
+        "INSERT INTO inbox_piece (number, position, bytes) VALUES (?1, ?2, ?3)",
+        params![number, position, bytes],
+    )?;
+    Ok(())
+}
+
+/// Puts in all pieces of the content of an entry of the inbox.
+pub fn put_in_pieces<S: Alter>(
+    tx: &mut Transaction<'_, S>,
+    number: u64,
+    content: &Pieces,
+) -> Result<(), Error>
+    requires number { number < 2 ^ 63 }
+    requires length { length content.now < 2 ^ 63 }
+    ensures same_reference { tx.new.conn.ghost_name ≡ tx.old.conn.ghost_name }
+    ensures clean { HasCleanDisk (state S.Store tx.new.conn.now) → HasCleanDisk (state S.Store tx.old.conn.now) }
+    ensures kept { HasCleanDisk (state S.Store tx.new.conn.now) → KeepsCommit (state S.Store tx.old.conn.now) (state S.Store tx.new.conn.now) }
+    ensures put { HasCleanDisk (state S.Store tx.new.conn.now) → OnOk result ((state S.Store tx.old.conn.now).now.schema ≡ store_schema
+        → Appended (state S.Store tx.old.conn.now) (state S.Store tx.new.conn.now) inbox_piece_tree (pieces number content.now)) }
+{
+    let mut i = 0;
+    'pieces: while let Some(piece) = content.piece(i) {
+        put_in_piece(tx, number, i as u64, piece)?;
+        i += 1;
+    }
+    Ok(())
+}
+
+/// The rows of the content of an entry of the inbox, in order.
+pub fn in_piece_rows<S: Alter>(conn: &mut Connection<S>, number: u64) -> Result<Vec<Row>, Error>
+    requires { number < 2 ^ 63 }
+    ensures mode { conn.old.in_transaction ≡ false → conn.new.in_transaction ≡ false }
+    ensures clean { HasCleanDisk (state S.Store conn.new) → HasCleanDisk (state S.Store conn.old) }
+    ensures same { HasCleanDisk (state S.Store conn.new) → (s : State) → Rests (state S.Store conn.old) s → Rests (state S.Store conn.new) s }
+    ensures rows { HasCleanDisk (state S.Store conn.new) → IfOk result (λ rows. (s : State) → Rests (state S.Store conn.old) s → (p : Entry → Bool) (e : Entry) → find p s.inbox ≡ Some e → number ≡ e.number
+        → rows.items ≡ map piece_shown (pieces e.number e.posted.content)) }
+{
+    let number = whole(number);
+    conn.query_all(
+        "SELECT number, position, bytes FROM inbox_piece WHERE number = ?1 ORDER BY rowid",
+        params![number],
+    )
+}

@@ -1,0 +1,86 @@
+//! The one row of `meta`: the kind, the version, and the two counters.
+
+ghost use Rattle.std.specs.Prelude.{◌≡◌, ℕ, [], ◌∷◌, List, false, ◌<◌, ◌^◌, IsTrue, IfOk, IfErr, OnOk};
+ghost use Rattle.sqlite.specs.Held.{state};
+ghost use Rattle.sqlite.specs.State.{HasCleanDisk, KeepsCommit};
+ghost use Rattle.sqlite.specs.declared.types.Value.TheVariants.{Text};
+ghost use Rattle.sql_tables.specs.Changes.{Changed, IsOutside};
+ghost use Rattle.as2_exchange.specs.State.{State};
+ghost use Rattle.as2_rows.specs.Rows.{whole, meta_row, meta_shown};
+ghost use Rattle.as2_store.specs.Tables.{store_schema, meta_tree};
+ghost use Rattle.as2_store.specs.Stands.{Rests, Says, IsBare};
+
+use crate::numbers::whole;
+use sqlite::{Alter, Connection, Error, Row, Transaction, params};
+
+/// The numbers that the next entries get. One past 999,999,999,999 is never given.
+#[derive(Clone, Copy, Debug, PartialEq, Eq)]
+pub struct NextNumbers {
+    /// Of the inbox.
+    pub receipt: u64,
+    /// Of the outbox.
+    pub document: u64,
+}
+
+/// Puts in the row, with both counters at the first number.
+pub fn put_meta<S: Alter>(tx: &mut Transaction<'_, S>, first: u64) -> Result<(), Error>
+    requires { first < 2 ^ 63 }
+    ensures same_reference { tx.new.conn.ghost_name ≡ tx.old.conn.ghost_name }
+    ensures clean { HasCleanDisk (state S.Store tx.new.conn.now) → HasCleanDisk (state S.Store tx.old.conn.now) }
+    ensures kept { HasCleanDisk (state S.Store tx.new.conn.now) → KeepsCommit (state S.Store tx.old.conn.now) (state S.Store tx.new.conn.now) }
+    ensures open { HasCleanDisk (state S.Store tx.new.conn.now) → OnOk result (IsTrue (state S.Store tx.old.conn.now).is_open) }
+    ensures put { HasCleanDisk (state S.Store tx.new.conn.now) → OnOk result (IsBare (state S.Store tx.old.conn.now).now store_schema
+        → Changed (state S.Store tx.old.conn.now) (state S.Store tx.new.conn.now) store_schema meta_tree (meta_row first first ∷ [])) }
+{
+    let first = whole(first);
+    tx.execute(
+        "INSERT INTO meta (kind, version, next_receipt, next_document) VALUES ('as2-station', 1, ?1, ?1)",
+        params![first],
+    )?;
+    Ok(())
+}
+
+/// Sets the next number of a receipt.
+pub fn set_next_receipt<S: Alter>(tx: &mut Transaction<'_, S>, next: u64) -> Result<(), Error>
+    requires { next < 2 ^ 63 }
+    ensures same_reference { tx.new.conn.ghost_name ≡ tx.old.conn.ghost_name }
+    ensures clean { HasCleanDisk (state S.Store tx.new.conn.now) → HasCleanDisk (state S.Store tx.old.conn.now) }
+    ensures kept { HasCleanDisk (state S.Store tx.new.conn.now) → KeepsCommit (state S.Store tx.old.conn.now) (state S.Store tx.new.conn.now) }
+    ensures open { HasCleanDisk (state S.Store tx.new.conn.now) → OnOk result (IsTrue (state S.Store tx.old.conn.now).is_open) }
+    ensures inside { HasCleanDisk (state S.Store tx.new.conn.now) → OnOk result (IsTrue (state S.Store tx.new.conn.now).in_transaction) }
+    ensures put { HasCleanDisk (state S.Store tx.new.conn.now) → OnOk result ((state S.Store tx.old.conn.now).now.schema ≡ store_schema → (n m : ℕ) → (state S.Store tx.old.conn.now).now.trees meta_tree ≡ meta_row n m ∷ []
+        → Changed (state S.Store tx.old.conn.now) (state S.Store tx.new.conn.now) store_schema meta_tree (meta_row next m ∷ [])) }
+{
+    let next = whole(next);
+    tx.execute("UPDATE meta SET next_receipt = ?1", params![next])?;
+    Ok(())
+}
+
+/// The row as it is shown.
+pub fn meta_rows<S: Alter>(conn: &mut Connection<S>) -> Result<Vec<Row>, Error>
+    ensures mode { conn.old.in_transaction ≡ false → conn.new.in_transaction ≡ false }
+    ensures same { HasCleanDisk (state S.Store conn.new) → (s : State) → Rests (state S.Store conn.old) s → Rests (state S.Store conn.new) s }
+    ensures rows { HasCleanDisk (state S.Store conn.new) → IfOk result (λ rows. (s : State) → Rests (state S.Store conn.old) s → rows.items ≡ meta_shown s.next_in s.next_out ∷ []) }
+    ensures says { HasCleanDisk (state S.Store conn.new) → IfOk result (λ rows. (kind : List ℕ) (version : ℕ) → (it : Says (state S.Store conn.old) kind version)
+        → rows.items ≡ (Text kind ∷ whole version ∷ whole it.next_receipt ∷ whole it.next_document ∷ []) ∷ []) }
+    ensures fails { HasCleanDisk (state S.Store conn.new) → IfErr result (λ e. (s : State) → Rests (state S.Store conn.old) s → IsOutside e) }
+    ensures unsaid { HasCleanDisk (state S.Store conn.new) → IfErr result (λ e. (kind : List ℕ) (version : ℕ) → Says (state S.Store conn.old) kind version → IsOutside e) }
+{
+    conn.query_all(
+        "SELECT kind, version, next_receipt, next_document FROM meta",
+        &[],
+    )
+}
+
+/// The counters that the row shows.
+pub fn next_of(rows: &[Row]) -> Result<NextNumbers, Error>
+    ensures { IfOk result (λ next. (n m : ℕ) → rows.now ≡ meta_shown n m ∷ [] → (next.receipt ≡ n) × (next.document ≡ m)) }
+{
+    match rows.first() {
+        Some(row) => Ok(NextNumbers {
+            receipt: row.get(2)?,
+            document: row.get(3)?,
+        }),
+        None => Err(Error::QueryReturnedNoRows),
+    }
+}

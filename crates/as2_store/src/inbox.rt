@@ -1,0 +1,89 @@
+//! The rows of the inbox, without the contents.
+
+ghost use Rattle.std.specs.Prelude.{◌≡◌, ◌<◌, ◌^◌, false, map, filter, IsTrue, IfOk, OnOk};
+ghost use Rattle.sqlite.specs.Held.{state};
+ghost use Rattle.sqlite.specs.State.{HasCleanDisk, KeepsCommit};
+ghost use Rattle.sqlite.specs.Tree.{put_row};
+ghost use Rattle.sql_tables.specs.Changes.{Changed};
+ghost use Rattle.as2_rows.specs.Rows.{in_row, in_shown};
+ghost use Rattle.as2_exchange.specs.State.{State};
+ghost use Rattle.as2_store.specs.Tables.{store_schema, inbox_tree};
+ghost use Rattle.as2_store.specs.Adding.{Fits};
+ghost use Rattle.as2_store.specs.Stands.{Rests};
+ghost use Rattle.as2_store.specs.Finding.{has_key};
+
+use crate::numbers::{whole, whole_or_none};
+use as2_exchange::InEntry;
+use as2_rows::{attempt_code, digest_of, how_code, mdn_code, mic_of, outcome_code, url_of};
+use sqlite::{Alter, Connection, Error, Row, Transaction, params};
+
+/// Puts in the row of an entry.
+pub fn put_in<S: Alter>(tx: &mut Transaction<'_, S>, entry: &InEntry) -> Result<(), Error>
+    requires number { entry.now.number < 2 ^ 63 }
+    requires fits { Fits entry.now }
+    ensures same_reference { tx.new.conn.ghost_name ≡ tx.old.conn.ghost_name }
+    ensures clean { HasCleanDisk (state S.Store tx.new.conn.now) → HasCleanDisk (state S.Store tx.old.conn.now) }
+    ensures kept { HasCleanDisk (state S.Store tx.new.conn.now) → KeepsCommit (state S.Store tx.old.conn.now) (state S.Store tx.new.conn.now) }
+    ensures open { HasCleanDisk (state S.Store tx.new.conn.now) → OnOk result (IsTrue (state S.Store tx.old.conn.now).is_open) }
+    ensures put { HasCleanDisk (state S.Store tx.new.conn.now) → OnOk result ((state S.Store tx.old.conn.now).now.schema ≡ store_schema
+        → Changed (state S.Store tx.old.conn.now) (state S.Store tx.new.conn.now) store_schema inbox_tree (put_row (in_row entry.now) ((state S.Store tx.old.conn.now).now.trees inbox_tree))) }
+{
+    let posted = &entry.posted;
+    let number = whole(entry.number);
+    let length = whole(posted.content.len() as u64);
+    let moment = whole(entry.moment.seconds());
+    let tries = whole(entry.tries);
+    let due = whole_or_none(entry.due);
+    tx.execute(
+        "INSERT INTO inbox (number, sender, receiver, identifier_value, identifier, content_type, length, moment, outcome, how, url, digest, mic, mdn, tries, attempt, due) VALUES (?1, ?2, ?3, ?4, ?5, ?6, ?7, ?8, ?9, ?10, ?11, ?12, ?13, ?14, ?15, ?16, ?17)",
+        params![
+            number,
+            posted.sender.bytes(),
+            posted.receiver.bytes(),
+            posted.id.value().as_bytes(),
+            posted.id.as_received().as_bytes(),
+            posted.content_type.as_slice(),
+            length,
+            moment,
+            outcome_code(posted.outcome),
+            how_code(&posted.how),
+            url_of(&posted.how),
+            digest_of(&posted.mic),
+            mic_of(&posted.mic),
+            mdn_code(entry.mdn),
+            tries,
+            attempt_code(entry.attempt),
+            due
+        ],
+    )?;
+    Ok(())
+}
+
+/// The rows of the entries with this key.
+pub fn rows_by_key<S: Alter>(
+    conn: &mut Connection<S>,
+    sender: &[u8],
+    receiver: &[u8],
+    value: &[u8],
+) -> Result<Vec<Row>, Error>
+    ensures mode { conn.old.in_transaction ≡ false → conn.new.in_transaction ≡ false }
+    ensures same { HasCleanDisk (state S.Store conn.new) → (s : State) → Rests (state S.Store conn.old) s → Rests (state S.Store conn.new) s }
+    ensures rows { HasCleanDisk (state S.Store conn.new) → IfOk result (λ rows. (s : State) → Rests (state S.Store conn.old) s → rows.items ≡ map in_shown (filter (has_key sender.now receiver.now value.now) s.inbox)) }
+{
+    conn.query_all(
+        "SELECT number, sender, receiver, identifier_value, identifier, content_type, length, moment, outcome, how, url, digest, mic, mdn, tries, attempt, due FROM inbox WHERE sender = ?1 AND receiver = ?2 AND identifier_value = ?3 ORDER BY number",
+        params![sender, receiver, value],
+    )
+}
+
+/// The rows of all entries, in order of number.
+pub fn all_rows<S: Alter>(conn: &mut Connection<S>) -> Result<Vec<Row>, Error>
+    ensures mode { conn.old.in_transaction ≡ false → conn.new.in_transaction ≡ false }
+    ensures same { HasCleanDisk (state S.Store conn.new) → (s : State) → Rests (state S.Store conn.old) s → Rests (state S.Store conn.new) s }
+    ensures rows { HasCleanDisk (state S.Store conn.new) → IfOk result (λ rows. (s : State) → Rests (state S.Store conn.old) s → rows.items ≡ map in_shown s.inbox) }
+{
+    conn.query_all(
+        "SELECT number, sender, receiver, identifier_value, identifier, content_type, length, moment, outcome, how, url, digest, mic, mdn, tries, attempt, due FROM inbox ORDER BY number",
+        &[],
+    )
+}

@@ -1,0 +1,18 @@
+//! The records of the station in SQLite: the tables stand for a state of the exchange machine, and each call takes it to
+//! the named next one or leaves it.
+#![tactic(auto)]
+
+mod adding;
+mod adopting;
+mod contents;
+mod counters;
+mod creating;
+mod fault;
+mod finding;
+mod inbox;
+mod numbers;
+mod store;
+mod waiting;
+
+pub use counters::NextNumbers;
+pub use store::Store;

@@ -1,0 +1,45 @@
+//! Numbers as the database takes them.
+
+ghost use Rattle.std.specs.Prelude.{◌≡◌, ◌<◌, ◌^◌, pos, IfSome, IsTrue, length, option_map};
+ghost use Rattle.as2_store.specs.Adding.{Fits};
+
+use as2_exchange::InEntry;
+
+/// The greatest number that fits into a column.
+const MOST: u64 = 9_223_372_036_854_775_807;
+
+/// A number that fits into a column.
+pub fn whole(n: u64) -> i64
+    requires { n < 2 ^ 63 }
+    ensures { result ≡ pos n }
+{
+    n as i64
+}
+
+/// The same of a number that may be absent.
+pub fn whole_or_none(n: Option<u64>) -> Option<i64>
+    requires { IfSome n (λ n. n < 2 ^ 63) }
+    ensures { result ≡ option_map pos n }
+{
+    match n {
+        Some(n) => Some(whole(n)),
+        None => None,
+    }
+}
+
+/// Whether a number that may be absent fits into a column.
+fn may_stand(n: Option<u64>) -> bool
+    ensures { IsTrue result → IfSome n (λ n. n < 2 ^ 63) }
+{
+    match n {
+        Some(n) => n <= MOST,
+        None => true,
+    }
+}
+
+/// Whether the numbers of an entry fit into its columns.
+pub fn fits(entry: &InEntry) -> bool
+    ensures { IsTrue result → Fits entry.now }
+{
+    entry.posted.content.len() as u64 <= MOST && entry.tries <= MOST && may_stand(entry.due)
+}

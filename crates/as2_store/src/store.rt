@@ -1,0 +1,164 @@
+//! The store: its contracts speak of the state that the tables stand for, and of no row.
+
+ghost use Rattle.std.specs.Prelude.{◌≡◌, ◌⊎◌, ◌<◌, ◌≤◌, ℕ, List, map, find, None, Some, true, false, Err, IfOk, IfErr, OnOk, OnErr};
+ghost use Rattle.sqlite.specs.Held.{state};
+ghost use Rattle.sqlite.specs.State.{HasCleanDisk};
+ghost use Rattle.as2_exchange.specs.State.{State, empty, end_of_numbers};
+ghost use Rattle.as2_exchange.specs.declared.fault.StoreFault.TheVariants.{Full};
+ghost use Rattle.as2_rows.specs.Summaries.{in_summary};
+ghost use Rattle.as2_store.specs.Adding.{with_received};
+ghost use Rattle.as2_store.specs.Finding.{has_key};
+ghost use Rattle.as2_store.specs.Stands.{Rests, IsBlank, Says, judged, may_come};
+
+use crate::adding::add;
+use crate::adopting::check;
+use crate::counters::{NextNumbers, meta_rows, next_of};
+use crate::creating::make;
+use crate::fault::fault_of;
+use crate::finding::{entries_in, first_entry};
+use crate::inbox::{all_rows, rows_by_key};
+use crate::numbers::fits;
+use as2_exchange::{InEntry, StoreFault};
+use as2_names::AsName;
+use as2_rows::InRow;
+use sqlite::{Alter, Connection};
+use std::alloc::Global;
+use std::marker::Model;
+
+/// The records of a station, over a connection to memory, a file or a disk. It keeps nothing beside the tables.
+#[derive(Drop)]
+pub struct Store<S: Alter> {
+    conn: Connection<S>,
+}
+
+impl<S: Alter> Model for Store<S> {
+    ghost use Rattle.std.specs.Prelude.{◌≡◌, false};
+    ghost use Rattle.sqlite.specs.Held.{Held, held_code};
+
+    ghost Value = { Held S };
+
+    ghost coded = { held_code S.code };
+
+    ghost view = { λ s. s.conn };
+
+    ghost invariant = { λ s. s.conn.in_transaction ≡ false };
+}
+
+impl<S: Alter> Store<S> {
+    /// Makes a store without entries on a connection without tables; its first numbers are `first`. Answers Memory, Disk or
+    /// Refused, and then the connection has no tables.
+    pub fn create(
+        mut conn: Connection<S>,
+        first: u64,
+    ) -> Result<Store<S>, (Connection<S>, StoreFault)>
+        requires autocommit { conn.in_transaction ≡ false }
+        requires least { 1 ≤ first }
+        requires most { first < end_of_numbers }
+        ensures created { IfOk result (λ store. HasCleanDisk (state S.Store store) → IsBlank (state S.Store conn) → Rests (state S.Store store) (empty first)) }
+        ensures given_back { IfErr result (λ e. HasCleanDisk (state S.Store e.0) → IsBlank (state S.Store conn) → IsBlank (state S.Store e.0)) }
+        ensures fault { IfErr result (λ e. may_come e.1 ≡ true) }
+    {
+        match make(&mut conn, first) {
+            Ok(()) => Ok(Store { conn }),
+            Err(error) => Err((conn, fault_of(&error))),
+        }
+    }
+
+    /// Takes a connection whose tables are those of a store. Answers NotAStore where the table `meta` can't be read, or
+    /// doesn't hold one row with the kind of a store; OtherVersion where its version isn't 1; Memory, Disk or Refused.
+    pub fn adopt(mut conn: Connection<S>) -> Result<Store<S>, (Connection<S>, StoreFault)>
+        requires autocommit { conn.in_transaction ≡ false }
+        ensures adopted { IfOk result (λ store. HasCleanDisk (state S.Store store) → (s : State) → Rests (state S.Store conn) s → Rests (state S.Store store) s) }
+        ensures given_back { IfErr result (λ e. HasCleanDisk (state S.Store e.0) → (s : State) → Rests (state S.Store conn) s → Rests (state S.Store e.0) s) }
+        ensures fault { IfErr result (λ e. HasCleanDisk (state S.Store e.0) → (s : State) → Rests (state S.Store conn) s → may_come e.1 ≡ true) }
+        ensures of_this_version { IfOk result (λ store. HasCleanDisk (state S.Store store) → (kind : List ℕ) (version : ℕ) → Says (state S.Store conn) kind version → judged kind version ≡ None) }
+        ensures reason { IfErr result (λ e. HasCleanDisk (state S.Store e.0) → (kind : List ℕ) (version : ℕ) → Says (state S.Store conn) kind version → (may_come e.1 ≡ true) ⊎ (judged kind version ≡ Some e.1)) }
+    {
+        match check(&mut conn) {
+            Ok(()) => Ok(Store { conn }),
+            Err(fault) => Err((conn, fault)),
+        }
+    }
+
+    /// Gives the connection back.
+    pub fn into_connection(self) -> Connection<S>
+        ensures { result ≡ self }
+    {
+        let Store { conn } = self;
+        conn
+    }
+
+    /// The numbers that the next entries get.
+    pub fn next_numbers(&mut self) -> Result<NextNumbers, StoreFault>
+        ensures numbers { HasCleanDisk (state S.Store self.new) → IfOk result (λ next. (s : State) → Rests (state S.Store self.old) s → (next.receipt ≡ s.next_in) × (next.document ≡ s.next_out)) }
+        ensures same { HasCleanDisk (state S.Store self.new) → (s : State) → Rests (state S.Store self.old) s → Rests (state S.Store self.new) s }
+        ensures fault { IfErr result (λ f. may_come f ≡ true) }
+    {
+        let rows = match meta_rows(&mut self.conn) {
+            Ok(rows) => rows,
+            Err(error) => return Err(fault_of(&error)),
+        };
+        match next_of(&rows) {
+            Ok(next) => Ok(next),
+            Err(error) => Err(fault_of(&error)),
+        }
+    }
+
+    /// Adds an entry to the inbox. Its number is to be the next of a receipt, as `next_numbers` gives it. Answers Full exactly
+    /// where that is past 999,999,999,999; Memory, Disk or Refused. A fault leaves the state.
+    pub fn add_in(&mut self, entry: &InEntry) -> Result<(), StoreFault>
+        ensures added { HasCleanDisk (state S.Store self.new) → OnOk result ((s : State) → Rests (state S.Store self.old) s → entry.now.number ≡ s.next_in → Rests (state S.Store self.new) (with_received s entry.now)) }
+        ensures failed { HasCleanDisk (state S.Store self.new) → OnErr result ((s : State) → Rests (state S.Store self.old) s → Rests (state S.Store self.new) s) }
+        ensures full { IfErr result (λ f. f ≡ Full → end_of_numbers ≤ entry.now.number) }
+        ensures full_alone { end_of_numbers ≤ entry.now.number → result ≡ Err Full }
+        ensures fault { IfErr result (λ f. (f ≡ Full) ⊎ (may_come f ≡ true)) }
+    {
+        if entry.number > 999_999_999_999 {
+            return Err(StoreFault::Full);
+        }
+        if !fits(entry) {
+            return Err(StoreFault::Refused);
+        }
+        match add(&mut self.conn, entry) {
+            Ok(()) => Ok(()),
+            Err(error) => Err(fault_of(&error)),
+        }
+    }
+
+    /// The entry of the inbox that this sender posted to this receiver under an identifier of this value, if there is one.
+    pub fn find_in(
+        &mut self,
+        alloc: Global,
+        sender: &AsName,
+        receiver: &AsName,
+        id_value: &str,
+    ) -> Result<Option<InEntry>, StoreFault>
+        ensures found { HasCleanDisk (state S.Store self.new) → IfOk result (λ found. (s : State) → Rests (state S.Store self.old) s → found ≡ find (has_key sender.now receiver.now id_value.now) s.inbox) }
+        ensures same { HasCleanDisk (state S.Store self.new) → (s : State) → Rests (state S.Store self.old) s → Rests (state S.Store self.new) s }
+        ensures fault { IfErr result (λ f. may_come f ≡ true) }
+    {
+        let rows = match rows_by_key(
+            &mut self.conn,
+            sender.bytes(),
+            receiver.bytes(),
+            id_value.as_bytes(),
+        ) {
+            Ok(rows) => rows,
+            Err(error) => return Err(fault_of(&error)),
+        };
+        first_entry(&mut self.conn, alloc, &rows)
+    }
+
+    /// The entries of the inbox in order of number, each with the length of its content in place of the content.
+    pub fn list_in(&mut self, alloc: Global) -> Result<Vec<InRow>, StoreFault>
+        ensures entries { HasCleanDisk (state S.Store self.new) → IfOk result (λ entries. (s : State) → Rests (state S.Store self.old) s → entries.items ≡ map in_summary s.inbox) }
+        ensures same { HasCleanDisk (state S.Store self.new) → (s : State) → Rests (state S.Store self.old) s → Rests (state S.Store self.new) s }
+        ensures fault { IfErr result (λ f. may_come f ≡ true) }
+    {
+        let rows = match all_rows(&mut self.conn) {
+            Ok(rows) => rows,
+            Err(error) => return Err(fault_of(&error)),
+        };
+        entries_in(alloc, &rows)
+    }
+}

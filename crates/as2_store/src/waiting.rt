@@ -1,0 +1,70 @@
+//! The rows of what waits.
+
+ghost use Rattle.std.specs.Prelude.{◌≡◌, ◌≤◌, ◌<◌, ◌^◌, Some, None, false, IsTrue, IfSome, OnOk};
+ghost use Rattle.sqlite.specs.Held.{state};
+ghost use Rattle.sqlite.specs.State.{HasCleanDisk, KeepsCommit};
+ghost use Rattle.as2_exchange.specs.State.{end_of_numbers};
+ghost use Rattle.as2_rows.specs.Waiting.{in_waiting, to_answer};
+ghost use Rattle.as2_store.specs.Tables.{store_schema};
+ghost use Rattle.as2_store.specs.Adding.{Noted};
+
+use crate::numbers::{whole, whole_or_none};
+use as2_exchange::{Attempt, InEntry, MdnState};
+use sqlite::{Alter, Error, Transaction, params};
+
+/// The first number that is never given: the places of one kind lie so far apart.
+const END_OF_NUMBERS: u64 = 1_000_000_000_000;
+
+/// Puts in a row of what waits.
+fn put_waiting<S: Alter>(
+    tx: &mut Transaction<'_, S>,
+    kind: u64,
+    number: u64,
+    due: Option<u64>,
+) -> Result<(), Error>
+    requires kind { kind ≤ 4 }
+    requires number { number < end_of_numbers }
+    requires due { IfSome due (λ due. due < 2 ^ 63) }
+    ensures same_reference { tx.new.conn.ghost_name ≡ tx.old.conn.ghost_name }
+    ensures clean { HasCleanDisk (state S.Store tx.new.conn.now) → HasCleanDisk (state S.Store tx.old.conn.now) }
+    ensures kept { HasCleanDisk (state S.Store tx.new.conn.now) → KeepsCommit (state S.Store tx.old.conn.now) (state S.Store tx.new.conn.now) }
+    ensures put { HasCleanDisk (state S.Store tx.new.conn.now) → OnOk result ((state S.Store tx.old.conn.now).now.schema ≡ store_schema
+        → Noted (state S.Store tx.old.conn.now) (state S.Store tx.new.conn.now) (Some (record { kind = kind; number = number; due = due }))) }
+{
+    let place = whole(kind * END_OF_NUMBERS + number);
+    let kind = whole(kind);
+    let number = whole(number);
+    let due = whole_or_none(due);
+    tx.execute(
+        "INSERT INTO waiting (place, kind, number, due) VALUES (?1, ?2, ?3, ?4)",
+        params![place, kind, number, due],
+    )?;
+    Ok(())
+}
+
+/// Whether the receipt of an entry is to be sent.
+fn is_waiting(entry: &InEntry) -> bool
+    ensures to_answer { IsTrue result → in_waiting entry.now ≡ Some (record { kind = to_answer; number = entry.now.number; due = entry.now.due }) }
+    ensures nothing { result ≡ false → in_waiting entry.now ≡ None }
+{
+    match entry.mdn {
+        MdnState::Pending => matches!(entry.attempt, Attempt::Idle | Attempt::Running),
+        _ => false,
+    }
+}
+
+/// Puts in the row of an entry whose receipt is to be sent.
+pub fn put_in_waiting<S: Alter>(tx: &mut Transaction<'_, S>, entry: &InEntry) -> Result<(), Error>
+    requires number { entry.now.number < end_of_numbers }
+    requires due { IfSome entry.now.due (λ due. due < 2 ^ 63) }
+    ensures same_reference { tx.new.conn.ghost_name ≡ tx.old.conn.ghost_name }
+    ensures clean { HasCleanDisk (state S.Store tx.new.conn.now) → HasCleanDisk (state S.Store tx.old.conn.now) }
+    ensures kept { HasCleanDisk (state S.Store tx.new.conn.now) → KeepsCommit (state S.Store tx.old.conn.now) (state S.Store tx.new.conn.now) }
+    ensures put { HasCleanDisk (state S.Store tx.new.conn.now) → OnOk result ((state S.Store tx.old.conn.now).now.schema ≡ store_schema
+        → Noted (state S.Store tx.old.conn.now) (state S.Store tx.new.conn.now) (in_waiting entry.now)) }
+{
+    if is_waiting(entry) {
+        put_waiting(tx, 2, entry.number, entry.due)?;
+    }
+    Ok(())
+}

@@ -1,0 +1,11 @@
+pub mod Writes
+pub mod Queries
+pub mod Rewrites
+pub mod Changing
+pub mod Inside
+pub mod Creating
+pub mod Indexing
+pub mod Actions
+pub mod Counting
+pub mod Failing
+pub mod Deleting
