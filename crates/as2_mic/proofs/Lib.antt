@@ -1,4 +1,5 @@
 pub mod Cuts
 pub mod Fields
 pub mod Piecewise
+pub mod Sameness
 pub mod Texts

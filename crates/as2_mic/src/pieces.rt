@@ -1,5 +1,6 @@
 ghost use Rattle.std.specs.Prelude.{◌≡◌, ◌<◌, ◌≤◌, ◌+◌, ◌^◌, [], ◌∷◌, ◌++◌, length, take, IfOk, OnOk, OnErr};
 ghost use Rattle.std.specs.Option.{option_map};
+ghost use Rattle.std.specs.Str.{bytes_eq};
 ghost use Rattle.as2_mic.specs.Mic.{mic};
 ghost use Rattle.as2_mic.specs.Pieces.{AreWhole, IsKeptAs, content_of, piece_size, piece_count, piece_at};
 
@@ -157,6 +158,21 @@ impl Pieces {
             }
         }
         Ok(())
+    }
+
+    /// Whether both are the same bytes.
+    pub fn same_bytes(&self, other: &Pieces) -> bool
+        ensures { result ≡ bytes_eq self.now other.now }
+    {
+        if self.len() != other.len() {
+            return false;
+        }
+        for i in 0..self.count() {
+            if self.piece(i) != other.piece(i) {
+                return false;
+            }
+        }
+        true
     }
 
     /// All bytes in one piece of memory.

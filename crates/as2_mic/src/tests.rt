@@ -334,6 +334,22 @@ fn contents_in_pieces(rt: HostRuntime) -> Result<(), Fail> {
 }
 
 #[test]
+fn contents_are_the_same_however_they_were_cut(rt: HostRuntime) -> Result<(), Fail> {
+    let bytes = sample(rt.alloc(), 131_073)?;
+    let at_once = in_steps(rt.alloc(), bytes.as_slice(), 131_073)?;
+    let in_turn = in_steps(rt.alloc(), bytes.as_slice(), 1_000)?;
+    assert!(rt; at_once.same_bytes(&in_turn) && in_turn.same_bytes(&at_once));
+    let front = sample(rt.alloc(), 131_072)?;
+    let shorter = in_steps(rt.alloc(), front.as_slice(), 65_536)?;
+    assert!(rt; !at_once.same_bytes(&shorter) && !shorter.same_bytes(&at_once));
+    let whole = in_steps(rt.alloc(), front.as_slice(), 131_072)?;
+    assert!(rt; whole.same_bytes(&shorter));
+    let none = in_steps(rt.alloc(), b"", 1)?;
+    assert!(rt; none.same_bytes(&none) && !none.same_bytes(&whole));
+    Ok(())
+}
+
+#[test]
 fn refused_append_leaves_the_content(rt: HostRuntime) -> Result<(), Fail> {
     // Nothing fails in a plain run: `rt try --test --fail-alloc N` lets the Nth allocation fail.
     let more = sample(rt.alloc(), 200_000)?;

@@ -1,0 +1,44 @@
+//! Encodings that leave a content as it is.
+ghost use Rattle.std.specs.Prelude.{◌≡◌, codes};
+ghost use Rattle.as2_names.specs.Heads.{values};
+ghost use Rattle.as2_exchange.specs.Readings.{are_refused, is_plain_coding, is_plain_encoding};
+ghost use Rattle.as2_posts.specs.Documents.{is_encoded};
+
+use as2_names::{Head, Once};
+
+/// A transfer encoding that leaves the content as it is (RFC 2045, section 6.2).
+fn is_plain_encoding(text: &[u8]) -> bool
+    ensures { result ≡ is_plain_encoding text.now }
+{
+    text.eq_ignore_ascii_case(b"7bit")
+        || (text.eq_ignore_ascii_case(b"8bit") || text.eq_ignore_ascii_case(b"binary"))
+}
+
+/// `Content-Transfer-Encoding` stands there twice, or is none that leaves the content as it is.
+fn transfer_refused(head: &Head) -> bool
+    ensures { result ≡ are_refused is_plain_encoding (values (codes "content-transfer-encoding") head.now) }
+{
+    match head.value(b"content-transfer-encoding") {
+        Once::Absent => false,
+        Once::One(text) => !is_plain_encoding(text),
+        Once::Twice => true,
+    }
+}
+
+/// `Content-Encoding` stands there twice, or isn't the one that leaves the content as it is (RFC 9110, section 8.4).
+fn coding_refused(head: &Head) -> bool
+    ensures { result ≡ are_refused is_plain_coding (values (codes "content-encoding") head.now) }
+{
+    match head.value(b"content-encoding") {
+        Once::Absent => false,
+        Once::One(text) => !text.eq_ignore_ascii_case(b"identity"),
+        Once::Twice => true,
+    }
+}
+
+/// The content is encoded, which isn't undone here.
+pub(crate) fn is_encoded(head: &Head) -> bool
+    ensures { result ≡ is_encoded head.now }
+{
+    transfer_refused(head) || coding_refused(head)
+}

@@ -1,0 +1,20 @@
+//! What a post is, and what is answered to it: the exchange machine's reading of a head and a body, and its answers, with
+//! no store.
+#![tactic(auto)]
+
+mod answering;
+mod documents;
+mod encodings;
+mod entry;
+mod fields;
+mod opening;
+mod repeating;
+
+pub use answering::{answer_to, refused};
+pub use documents::document;
+pub use entry::{first_entry, is_queued_again};
+pub use opening::{Opened, open};
+pub use repeating::repeats;
+
+#[cfg(test)]
+mod tests;

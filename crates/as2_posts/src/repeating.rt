@@ -1,0 +1,42 @@
+//! Whether a post repeats an earlier one.
+ghost use Rattle.std.specs.Prelude.{◌≡◌};
+ghost use Rattle.as2_exchange.specs.Step.{how_eq, mic_eq, repeats};
+
+use as2_exchange::{How, Posted};
+use as2_mdn::ReportMic;
+
+fn how_eq(one: &How, other: &How) -> bool
+    ensures { result ≡ how_eq one.now other.now }
+{
+    match (one, other) {
+        (How::NoReceipt, How::NoReceipt) | (How::Sync, How::Sync) => true,
+        (How::Async(one), How::Async(other)) => one.as_slice() == other.as_slice(),
+        _ => false,
+    }
+}
+
+fn mic_eq(one: &Option<ReportMic>, other: &Option<ReportMic>) -> bool
+    ensures { result ≡ mic_eq one.now other.now }
+{
+    match (one, other) {
+        (None, None) => true,
+        (Some(one), Some(other)) => one.digest == other.digest
+            && one.text.bytes() == other.text.bytes(),
+        _ => false,
+    }
+}
+
+/// Whether all of the documents is the same, their identifiers' spelling too (RFC 4130, section 5.5; `Date` isn't looked
+/// at).
+pub fn repeats(one: &Posted, other: &Posted) -> bool
+    ensures { result ≡ repeats one.now other.now }
+{
+    one.sender.bytes() == other.sender.bytes()
+        && one.receiver.bytes() == other.receiver.bytes()
+        && one.id.as_received() == other.id.as_received()
+        && one.content_type.as_slice() == other.content_type.as_slice()
+        && one.content.same_bytes(&other.content)
+        && one.outcome == other.outcome
+        && how_eq(&one.how, &other.how)
+        && mic_eq(&one.mic, &other.mic)
+}
