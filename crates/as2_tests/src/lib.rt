@@ -1,0 +1,9 @@
+//! Tests that cross crates: posts as they are read, answered and recorded, over databases in memory and in files.
+#![tactic(auto)]
+
+#[cfg(test)]
+mod answers;
+#[cfg(test)]
+mod posts;
+#[cfg(test)]
+mod records;
