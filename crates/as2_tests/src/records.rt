@@ -1,8 +1,10 @@
 ghost use Rattle.std.specs.Prelude.{◌≡◌, ◌<◌, ◌≤◌, false};
 ghost use Rattle.as2_exchange.specs.State.{end_of_numbers};
 
-use crate::posts::entry;
-use as2_exchange::StoreFault;
+use crate::posts::{entry, posted};
+use as2_exchange::{Attempt, InEntry, MdnState, StoreFault};
+use as2_names::AsName;
+use as2_posts::repeats;
 use as2_store::Store;
 use sqlite::{Alter, Connection, MemStore};
 use std::alloc::Global;
@@ -69,6 +71,64 @@ fn entries_are_added_in_turn(rt: HostRuntime) -> Result<(), Fail> {
     add(rt.alloc(), &mut store, 3, "<m3@x>", whole.as_slice())?;
     add(rt.alloc(), &mut store, 4, "<m4@x>", more.as_slice())?;
     assert!(rt; next(&mut store) == Some((5, 1)));
+    Ok(())
+}
+
+/// The content of the entry that is found under that value, if one is.
+fn found<S: Alter>(alloc: Global, store: &mut Store<S>, id_value: &str) -> Option<InEntry> {
+    let sender = AsName::plain(b"Buyer").ok()?;
+    let receiver = AsName::plain(b"Supplier").ok()?;
+    store.find_in(alloc, &sender, &receiver, id_value).ok()?
+}
+
+/// The entry is the one that was added under that number, with these bytes.
+fn is_entry(alloc: Global, entry: &Option<InEntry>, number: u64, id: &str, bytes: &[u8]) -> bool {
+    match (entry, posted(alloc, id, bytes)) {
+        (Some(entry), Some(posted)) => {
+            entry.number == number
+                && repeats(&entry.posted, &posted)
+                && entry.moment.seconds() == 1000
+                && entry.mdn == MdnState::Sent
+                && entry.tries == 0
+                && entry.attempt == Attempt::Idle
+                && entry.due.is_none()
+        }
+        _ => false,
+    }
+}
+
+#[test]
+fn entries_are_found_as_they_were_added(rt: HostRuntime) -> Result<(), Fail> {
+    let Some(mut store) = new_store(rt.alloc(), 1) else {
+        return Err(Fail::from(StoreFault::Refused));
+    };
+    let more = Vec::from_elem(rt.alloc(), 7u8, 65_537)?;
+    add(rt.alloc(), &mut store, 1, "<m1@x>", b"abc")?;
+    add(rt.alloc(), &mut store, 2, "m2@x", more.as_slice())?;
+    add(rt.alloc(), &mut store, 3, "<m3@x>", b"")?;
+    let first = found(rt.alloc(), &mut store, "m1@x");
+    assert!(rt; is_entry(rt.alloc(), &first, 1, "<m1@x>", b"abc"));
+    let second = found(rt.alloc(), &mut store, "m2@x");
+    assert!(rt; is_entry(rt.alloc(), &second, 2, "m2@x", more.as_slice()));
+    let third = found(rt.alloc(), &mut store, "m3@x");
+    assert!(rt; is_entry(rt.alloc(), &third, 3, "<m3@x>", b""));
+    assert!(rt; found(rt.alloc(), &mut store, "m4@x").is_none());
+    Ok(())
+}
+
+#[test]
+fn entries_are_listed_in_order(rt: HostRuntime) -> Result<(), Fail> {
+    let Some(mut store) = new_store(rt.alloc(), 8) else {
+        return Err(Fail::from(StoreFault::Refused));
+    };
+    add(rt.alloc(), &mut store, 8, "<m2@x>", b"abc")?;
+    add(rt.alloc(), &mut store, 9, "<m1@x>", b"")?;
+    let listed = store.list_in(rt.alloc())?;
+    assert!(rt;
+        matches!(listed.as_slice(), [one, other]
+        if one.number == 8 && one.length == 3 && one.id.as_received() == "<m2@x>"
+        && other.number == 9 && other.length == 0 && other.id.as_received() == "<m1@x>")
+    );
     Ok(())
 }
 
@@ -169,11 +229,12 @@ fn a_file_is_adopted_again(rt: HostRuntime) -> Result<(), Fail> {
         Err((_, fault)) => return Err(Fail::from(fault)),
     }
     let conn = Connection::open(&rt, "records.db")?;
-    let next = match Store::adopt(conn) {
-        Ok(mut store) => next(&mut store),
+    let (next, entry) = match Store::adopt(conn) {
+        Ok(mut store) => (next(&mut store), found(rt.alloc(), &mut store, "m1@x")),
         Err((_, fault)) => return Err(Fail::from(fault)),
     };
     clear(&rt);
     assert!(rt; next == Some((2, 1)));
+    assert!(rt; is_entry(rt.alloc(), &entry, 1, "<m1@x>", b"abc"));
     Ok(())
 }
