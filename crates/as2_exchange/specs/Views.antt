@@ -7,7 +7,7 @@ use Rattle.as2_mdn.specs.Details.{state_of, name_of}
 use Rattle.as2_mdn.specs.declared.detail.State.{State as StateOf}
 use Rattle.as2_mdn.specs.declared.detail.State.TheVariants.{P, R, S, W, E}
 use Rattle.as2_exchange.specs.Agreement.{Text}
-use Rattle.as2_exchange.specs.Detail.{Detail, New, Sending, Awaiting, Retry, Attempt, Idle, Running, MdnState, Unasked, Pending, Sent}
+use Rattle.as2_exchange.specs.Detail.{Detail, New, Sending, Awaiting, Retry, TriesUsed, Overdue, Attempt, Idle, Running, MdnState, Unasked, Pending, Sent}
 use Rattle.as2_exchange.specs.Readings.{is_processed}
 use Rattle.as2_exchange.specs.Jobs.{bracketed}
 use Rattle.as2_exchange.specs.State.{State, InEntry, OutEntry, Evidence, document, received, is_settled}
@@ -180,6 +180,16 @@ is_under_way Sending = true
 is_under_way Retry = true
 is_under_way Awaiting = true
 is_under_way other = false
+
+-- no more is done for it: its receipt is overdue, or its tries are used up
+abbrev pub is_given_up : Detail → Bool
+is_given_up Overdue = true
+is_given_up TriesUsed = true
+is_given_up other = false
+
+-- how many documents are given up
+abbrev pub given_up : State → ℕ
+given_up s = count_by (λ d. is_given_up d.detail) s.outbox
 
 -- five counts, and a line for each document under way whose moment has come
 abbrev pub outstanding : State → ℕ → Text
