@@ -1,18 +1,18 @@
 -- In every state of a run, each receipt stands as its facts tell.
-use Rattle.std.proofs.Common.{◌≡◌, ⊎_elim, ℕ, ◌+◌, ◌<◌, Bool, true, false, not, ◌&&◌, ◌||◌, List, [], ◌∷◌, ◌++◌, map, Option, Some, None, refl, sym, ap, ◌∙◌, subst, append_assoc, arith}
+use Rattle.std.proofs.Common.{◌≡◌, ℕ, ◌+◌, Bool, true, false, not, ◌&&◌, ◌||◌, List, [], ◌∷◌, ◌++◌, Option, Some, None, refl, sym, ap, ◌∙◌, subst, append_assoc}
 use Rattle.std.specs.Prelude.{⊤, option_map, option_and_then, is_some, ◌==◌, if◌then◌else◌}
 use Rattle.std.specs.List.{find, filter_map, cons_option}
 use Rattle.std.specs.Option.{option_or}
-use Rattle.std.proofs.lemmas.Bool.{false≢true, cases_Bool}
+use Rattle.std.proofs.lemmas.Bool.{false≢true}
 use Rattle.std.proofs.lemmas.Option.{same_Some}
 use Rattle.std.proofs.lemmas.List.{append-nil}
 use Rattle.std.proofs.lemmas.List.Elements.{filter_map-append}
 use Rattle.std.proofs.lemmas.List.Folds.{find-append}
 use Rattle.as2_exchange.specs.Agreement.{Text, Agreements, Partner, is_organization, partner_of}
-use Rattle.as2_exchange.specs.Detail.{Unasked, Pending, Sent}
-use Rattle.as2_exchange.specs.Readings.{Head, MediaType, How, NoReceipt, Sync, Async, is_async, is_report, names_of, version_fits, type_of, id_of, ask_of, report_in}
+use Rattle.as2_exchange.specs.Detail.{Unasked, Sent}
+use Rattle.as2_exchange.specs.Readings.{Head, How, NoReceipt, Sync, Async, is_async, is_report, names_of, version_fits, type_of, id_of, ask_of, report_in}
 use Rattle.as2_exchange.specs.State.{Posted, InEntry, State, empty, lasting, same_key, document, received, received_as, change_received}
-use Rattle.as2_exchange.specs.Step.{Event, Post, Submit, Begin, Outcome, BeginMdn, OutcomeMdn, Tick, Answer, Refused, NoSuchNumber, TryAnswer, Reading, Refuses, IsReceipt, IsDocument, Line, BadNames, BadVersion, UnknownNames, BadType, UnreadableReceipt, BadId, BadAsk, needs, report_posted, document_posted, reading, post, step, record_post, repeats, queued_again, first_entry, is_pending, mdn_begun, mdn_closed, acted_in, Came, begun as begun_document, closed as closed_document}
+use Rattle.as2_exchange.specs.Step.{Event, Post, Submit, Begin, Outcome, BeginMdn, OutcomeMdn, Tick, Answer, Refused, NoSuchNumber, TryAnswer, Reading, Refuses, IsReceipt, IsDocument, Line, BadNames, BadVersion, UnknownNames, BadType, UnreadableReceipt, BadId, BadAsk, needs, reading, post, step, record_post, repeats, queued_again, first_entry, is_pending, mdn_begun, mdn_closed, acted_in, Came, begun as begun_document, closed as closed_document}
 use Rattle.as2_exchange.specs.Run.{Trace, Run, Answered, Failed, Done, accepted}
 use Rattle.as2_exchange.specs.Invariants.{IsCounter, IsWellFormed}
 use Rattle.as2_exchange.specs.History.{Fact, ATry, AnOutcome, is_job}
