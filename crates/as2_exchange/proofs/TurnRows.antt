@@ -1,13 +1,15 @@
 -- Worked rows of each refusal of an event, and of each turn that a document or a receipt takes.
 use Rattle.std.proofs.Common.{◌≡◌, ℕ, [], ◌∷◌, Option, Some, None, refl}
 use Rattle.std.specs.Prelude.{codes}
+use Rattle.as2_names.specs.Blanks.{without_blanks}
 use Rattle.as2_names.specs.Identifiers.{value_of as bare}
+use Rattle.as2_media.specs.Values.{between_quotes}
 use Rattle.as2_exchange.specs.Agreement.{Text, Agreements}
 use Rattle.as2_exchange.specs.Detail.{Detail, New, Sending, Awaiting, Retry, Processed, NoReceiptAsked, TriesUsed, Overdue, Attempt, Idle, Running, Last, Used, MdnState, Unasked, Pending, Sent}
-use Rattle.as2_exchange.specs.Readings.{How, NoReceipt as NoneAsked, Sync as AtOnce, Async as Later, document_job, receipt_job as receipt_sent, names_of, named_by}
+use Rattle.as2_exchange.specs.Readings.{How, NoReceipt as NoneAsked, Sync as AtOnce, Async as Later, document_job, receipt_job as receipt_sent, names_of, type_of, report_in, named_by}
 use Rattle.as2_exchange.specs.State.{State, InEntry, OutEntry, Evidence, empty}
 use Rattle.as2_exchange.specs.Step.{Begin, Outcome, Answer, NoAnswer, Reply, Job, Settled, Delivered, TryFailed, AlreadySettled, Submitted, Ticked, Refused, UnknownOrganization, UnknownPartner, NoSuchNumber, NotDue, AllSettled, NoOpenTry, TriesUsedUp, begun, closed, mdn_begun, mdn_closed, submit, tick, queued_again, first_entry, report, step}
-use Rattle.as2_exchange.proofs.Fixture.{buyer, fixture, abc, receipt_head, q, q_type_text, q_names, q_typed, q_read, q_says, document_of, m1, sha1_text}
+use Rattle.as2_exchange.proofs.Fixture.{buyer, fixture, abc, receipt_head, receipt_body, q, q_for_2, q_type_text, q_names, q_typed, q_read, q_says, document_of, m1, sha1_text}
 use Rattle.as2_exchange.proofs.Rows.{play, submit_to, job_1, no_head, return_address, due_1}
 
 -- ---- a Begin and an Outcome: which refusal is first
@@ -91,6 +93,14 @@ other_statuses = (refl, refl)
 settled_by_answer : closed fixture (Reply 299 (receipt_head (codes "Buyer")) q) 1001 (standing 1 Running (Some 1030) Sending None) ≡ (Settled Processed, standing 1 Idle None Processed (Some (record { moment = 1001; content_type = q_type_text; body = q })))
 unfolding closed named_by bare
 settled_by_answer = rw (q_names, q_typed, q_read, q_says) refl
+
+-- a receipt under another partner's name, one for another document, and one whose sender is given twice settle nothing; each
+-- is still an answer of success
+foreign_answers : (closed fixture (Reply 200 (receipt_head (codes "Depot")) q) 1001 (standing 1 Running (Some 1030) Sending None) ≡ (TryFailed, standing 1 Idle (Some 1031) Retry None))
+    × (closed fixture (Reply 200 (receipt_head (codes "Buyer")) q_for_2) 1001 (standing 1 Running (Some 1030) Sending None) ≡ (TryFailed, standing 1 Idle (Some 1031) Retry None))
+    × (closed fixture (Reply 200 ((codes "as2-from", codes "Depot") ∷ receipt_head (codes "Depot")) q) 1001 (record (standing 1 Running (Some 1030) Sending None) { partner = codes "Depot" }) ≡ (Delivered, record (standing 1 Idle (Some 1061) Awaiting None) { partner = codes "Depot" }))
+unfolding closed receipt_head receipt_body q q_for_2 names_of type_of report_in named_by without_blanks between_quotes bare
+foreign_answers = (refl, refl, refl)
 
 -- a receipt in the Outcome of a try that is closed is none
 late_outcome : play due_1 (empty 1) (submit_to buyer ∷ Begin 1 1000 ∷ Outcome 1 NoAnswer 1000 ∷ Outcome 1 (Reply 200 (receipt_head (codes "Buyer")) q) 1001 ∷ [])
