@@ -9,23 +9,24 @@ use Rattle.std.proofs.lemmas.List.{append-nil}
 use Rattle.std.proofs.lemmas.List.Elements.{filter_map-append}
 use Rattle.std.proofs.lemmas.List.Folds.{find-append}
 use Rattle.as2_exchange.specs.Agreement.{Text, Agreements, Partner, is_organization, partner_of}
-use Rattle.as2_exchange.specs.Detail.{Unasked, Sent}
+use Rattle.as2_exchange.specs.Detail.{Idle, Unasked, Sent}
 use Rattle.as2_exchange.specs.Readings.{Head, How, NoReceipt, Sync, Async, is_async, is_report, names_of, version_fits, type_of, id_of, ask_of, report_in}
 use Rattle.as2_exchange.specs.State.{Posted, InEntry, State, empty, lasting, same_key, document, received, received_as, change_received}
 use Rattle.as2_exchange.specs.Step.{Event, Post, Submit, Begin, Outcome, BeginMdn, OutcomeMdn, Tick, Answer, Refused, NoSuchNumber, TryAnswer, Reading, Refuses, IsReceipt, IsDocument, Line, BadNames, BadVersion, UnknownNames, BadType, UnreadableReceipt, BadId, BadAsk, needs, reading, post, step, record_post, repeats, queued_again, first_entry, is_pending, mdn_begun, mdn_closed, acted_in, Came, begun as begun_document, closed as closed_document}
 use Rattle.as2_exchange.specs.Run.{Trace, Run, Answered, Failed, Done, accepted}
 use Rattle.as2_exchange.specs.Invariants.{IsCounter, IsWellFormed}
-use Rattle.as2_exchange.specs.History.{Fact, ATry, AnOutcome, is_job}
+use Rattle.as2_exchange.specs.History.{Found, Fact, ATry, AnOutcome, is_job}
 use Rattle.as2_exchange.specs.ReceiptHistory.{ReceiptFact, APost, OfATry, receipt_fact, receipt_fact_of, sent_later, is_delivered, are_used, queued_by, since_queued, receipt_by, receipt_history, receipt_told}
 use Rattle.as2_exchange.proofs.Decisions.{same_number, number_is, is_some_value, apart_turned}
 use Rattle.as2_exchange.proofs.Finds.{find-map, find_passes, find_none, one_found}
 use Rattle.as2_exchange.proofs.Lists.{fold_last}
+use Rattle.as2_exchange.proofs.Places.{place}
 use Rattle.as2_exchange.proofs.Pushes.{done, with_fact}
 use Rattle.as2_exchange.proofs.Acts.{AreAgreed}
 use Rattle.as2_exchange.proofs.Repeats.{Left, fresh, repeated, clash, left_is, entries, Grows, step_grows, find-lasting, key_same, repeats_itself, acted_inbox, settle_inbox, submit_inbox, tick_inbox, queued_lasting, mdn_begun_lasting, mdn_closed_lasting}
 use Rattle.as2_exchange.proofs.Equal.{repeat_is, key_turned}
 use Rattle.as2_exchange.proofs.States.{step_formed, empty_formed}
-use Rattle.as2_exchange.proofs.Owed.{Owed, queued_owed, reposted_owed, with_try, begun_owed, closed_owed, never_begun, never_closed}
+use Rattle.as2_exchange.proofs.Owed.{Owed, more, queued_owed, reposted_owed, with_try, begun_owed, closed_owed, never_begun, never_closed}
 
 -- ---- facts
 
@@ -48,9 +49,9 @@ since-push p facts f = fold_last (queued_by p) None facts f
 -- ---- how a receipt stands
 
 abbrev StandsAs : How → Partner → List ReceiptFact → InEntry → Type 0
-StandsAs NoReceipt p facts e = (e.mdn ≡ Unasked) × (e.tries ≡ 0)
-StandsAs Sync p facts e = (e.mdn ≡ Sent) × (e.tries ≡ 0)
-StandsAs (Async url) p facts e = (since : List Fact) × (since_queued p facts ≡ Some since) × Owed p since e
+StandsAs NoReceipt p facts e = (e.mdn ≡ Unasked) × (e.tries ≡ 0) × (e.attempt ≡ Idle) × (e.due ≡ None)
+StandsAs Sync p facts e = (e.mdn ≡ Sent) × (e.tries ≡ 0) × (e.attempt ≡ Idle) × (e.due ≡ None)
+StandsAs (Async url) p facts e = (since : Found ℕ Fact) × (since_queued p facts ≡ Some since) × Owed p since e
 
 -- the entry of this number and document stands as the events tell
 record Stands (A : Agreements) (n : ℕ) (past : List Done) (q : Posted) (e : InEntry) : Type 0 where
@@ -75,12 +76,12 @@ stands_still A n past x q e none h = stands_on A n past x q e e h (λ p facts ag
 unqueued : (m : ℕ) (e : InEntry) → is_async e.posted.how ≡ false → queued_again m e ≡ e
 unqueued m e h = rw h refl
 
-reposted : (how : How) (p : Partner) (facts : List ReceiptFact) (m : ℕ) (e : InEntry) → e.posted.how ≡ how → StandsAs how p facts e → StandsAs how p (facts ++ APost ∷ []) (queued_again m e)
-reposted NoReceipt p facts m e is h = subst (StandsAs NoReceipt p (facts ++ APost ∷ [])) (sym (unqueued m e (ap is_async is))) h
-reposted Sync p facts m e is h = subst (StandsAs Sync p (facts ++ APost ∷ [])) (sym (unqueued m e (ap is_async is))) h
+reposted : (how : How) (p : Partner) (facts : List ReceiptFact) (m : ℕ) (e : InEntry) → e.posted.how ≡ how → StandsAs how p facts e → StandsAs how p (facts ++ APost m ∷ []) (queued_again m e)
+reposted NoReceipt p facts m e is h = subst (StandsAs NoReceipt p (facts ++ APost m ∷ [])) (sym (unqueued m e (ap is_async is))) h
+reposted Sync p facts m e is h = subst (StandsAs Sync p (facts ++ APost m ∷ [])) (sym (unqueued m e (ap is_async is))) h
 reposted (Async url) p facts m e is h = (
-  if is_delivered h.0 || are_used p h.0 then [] else h.0,
-  since-push p facts APost ∙ ap (λ (o : Option (List Fact)). queued_by p o APost) h.1,
+  if is_delivered h.0.after || are_used p h.0.after then place [] m else h.0,
+  since-push p facts (APost m) ∙ ap (λ (o : Option (Found ℕ Fact)). queued_by p o (APost m)) h.1,
   reposted_owed p h.0 m e (ap is_async is) h.2,
 )
 
@@ -90,11 +91,11 @@ reposted (Async url) p facts m e is h = (
 abbrev begin_fact : ℕ → Answer → Option ReceiptFact
 begin_fact m a = if is_job a then Some (OfATry (ATry m)) else None
 
-since_begun : (p : Partner) (facts : List ReceiptFact) (since : List Fact) (m : ℕ) (a : Answer) → since_queued p facts ≡ Some since → since_queued p (with_more facts (begin_fact m a)) ≡ Some (with_try since m a)
+since_begun : (p : Partner) (facts : List ReceiptFact) (since : Found ℕ Fact) (m : ℕ) (a : Answer) → since_queued p facts ≡ Some since → since_queued p (with_more facts (begin_fact m a)) ≡ Some (with_try since m a)
 since_begun p facts since m a is = by (is_job a)
   where
-    by : (b : Bool) → since_queued p (with_more facts (if b then Some (OfATry (ATry m)) else None)) ≡ Some (with_fact since (if b then Some (ATry m) else None))
-    by true = since-push p facts (OfATry (ATry m)) ∙ ap (λ (o : Option (List Fact)). queued_by p o (OfATry (ATry m))) is
+    by : (b : Bool) → since_queued p (with_more facts (if b then Some (OfATry (ATry m)) else None)) ≡ Some (place (with_fact since.after (if b then Some (ATry m) else None)) since.it)
+    by true = since-push p facts (OfATry (ATry m)) ∙ ap (λ (o : Option (Found ℕ Fact)). queued_by p o (OfATry (ATry m))) is
     by false = is
 
 begun : (A : Agreements) (how : How) (p : Partner) (facts : List ReceiptFact) (m : ℕ) (e : InEntry) → AreAgreed A e.posted.receiver e.posted.sender p → StandsAs how p facts e → StandsAs how p (with_more facts (begin_fact m (mdn_begun A m e).0)) (mdn_begun A m e).1
@@ -112,8 +113,8 @@ closed : (A : Agreements) (how : How) (p : Partner) (facts : List ReceiptFact) (
 closed A NoReceipt p facts got m e agreed h = subst (StandsAs NoReceipt p (facts ++ OfATry (AnOutcome m got) ∷ [])) (sym (never_closed A p got m e agreed (ap is_pending h.0))) h
 closed A Sync p facts got m e agreed h = subst (StandsAs Sync p (facts ++ OfATry (AnOutcome m got) ∷ [])) (sym (never_closed A p got m e agreed (ap is_pending h.0))) h
 closed A (Async url) p facts got m e agreed h = (
-  h.0 ++ AnOutcome m got ∷ [],
-  since-push p facts (OfATry (AnOutcome m got)) ∙ ap (λ (o : Option (List Fact)). queued_by p o (OfATry (AnOutcome m got))) h.1,
+  more h.0 (AnOutcome m got),
+  since-push p facts (OfATry (AnOutcome m got)) ∙ ap (λ (o : Option (Found ℕ Fact)). queued_by p o (OfATry (AnOutcome m got))) h.1,
   closed_owed A p h.0 got m e agreed h.2,
 )
 
@@ -227,15 +228,15 @@ gone_before s s' q grows none = by (received_as s q) refl
         absurd (cc)
 
 -- an event that isn't the first post of the document
-still_unposted : (A : Agreements) (n : ℕ) (q : Posted) (p : Partner) (past : List Done) (x : Done) → (receipt_fact A n q x ≡ Some APost → ⊥) → since_queued p (filter_map (receipt_fact A n q) past) ≡ None → since_queued p (filter_map (receipt_fact A n q) (past ++ x ∷ [])) ≡ None
+still_unposted : (A : Agreements) (n : ℕ) (q : Posted) (p : Partner) (past : List Done) (x : Done) → ((j : ℕ) → receipt_fact A n q x ≡ Some (APost j) → ⊥) → since_queued p (filter_map (receipt_fact A n q) past) ≡ None → since_queued p (filter_map (receipt_fact A n q) (past ++ x ∷ [])) ≡ None
 still_unposted A n q p past x never h = ap (since_queued p) (facts-push A n q past x) ∙ by (receipt_fact A n q x) never
   where
-    by : (o : Option ReceiptFact) → (o ≡ Some APost → ⊥) → since_queued p (with_more (filter_map (receipt_fact A n q) past) o) ≡ None
+    by : (o : Option ReceiptFact) → ((j : ℕ) → o ≡ Some (APost j) → ⊥) → since_queued p (with_more (filter_map (receipt_fact A n q) past) o) ≡ None
     by None never = h
-    by (Some APost) never = absurd (never refl)
-    by (Some (OfATry f)) never = since-push p (filter_map (receipt_fact A n q) past) (OfATry f) ∙ ap (λ (o : Option (List Fact)). queued_by p o (OfATry f)) h
+    by (Some (APost j)) never = absurd (never j refl)
+    by (Some (OfATry f)) never = since-push p (filter_map (receipt_fact A n q) past) (OfATry f) ∙ ap (λ (o : Option (Found ℕ Fact)). queued_by p o (OfATry f)) h
 
-unposted_on : (A : Agreements) (past : List Done) (s s' : State) (x : Done) → KeepsReceipts A past s → Grows s s' → ((q : Posted) (n : ℕ) → received_as s' q ≡ None → receipt_fact A n q x ≡ Some APost → ⊥) → (q : Posted) → received_as s' q ≡ None → (n : ℕ) (p : Partner) → since_queued p (filter_map (receipt_fact A n q) (past ++ x ∷ [])) ≡ None
+unposted_on : (A : Agreements) (past : List Done) (s s' : State) (x : Done) → KeepsReceipts A past s → Grows s s' → ((q : Posted) (n : ℕ) → received_as s' q ≡ None → (j : ℕ) → receipt_fact A n q x ≡ Some (APost j) → ⊥) → (q : Posted) → received_as s' q ≡ None → (n : ℕ) (p : Partner) → since_queued p (filter_map (receipt_fact A n q) (past ++ x ∷ [])) ≡ None
 unposted_on A past s s' x keeps grows never q none n p = still_unposted A n q p past x (never q n none) (keeps.unposted q (gone_before s s' q grows none) n p)
 
 -- an event that leaves the inbox, and is no fact of any receipt
@@ -243,7 +244,7 @@ quiet : (A : Agreements) (past : List Done) (s s' : State) (x : Done) → KeepsR
 quiet A past s s' x keeps formed grows same none = record {
   formed = formed;
   each = λ n e is. stands_still A n past x e.posted e (none n e.posted) (keeps.each n e (ap (find (λ (d : InEntry). d.number == n)) (sym same) ∙ is));
-  unposted = unposted_on A past s s' x keeps grows (λ q n gone h. let two : None ≡ Some APost = sym (none n q) ∙ h in absurd (cc));
+  unposted = unposted_on A past s s' x keeps grows (λ q n gone j h. let two : None ≡ Some (APost j) = sym (none n q) ∙ h in absurd (cc));
 }
 
 -- ---- a try of one receipt begins or ends
@@ -262,7 +263,7 @@ acted_entry A past s k act e d keeps kept silent moves found n x is true h =
     let of_x = subst (λ (z : InEntry). Stands A k (past ++ done e (act d).0 ∷ []) z.posted z) it of_it in
     subst (λ (j : ℕ). Stands A j (past ++ done e (act d).0 ∷ []) x.posted x) same of_x
 
-acted_receipts : (A : Agreements) (past : List Done) (s : State) (k : ℕ) (act : InEntry → Answer × InEntry) (e : Event) → KeepsReceipts A past s → ((z : InEntry) → lasting (act z).1 ≡ lasting z) → ((n : ℕ) (q : Posted) (a : Answer) → (k == n) ≡ false → receipt_fact A n q (done e a) ≡ None) → ((n : ℕ) (q : Posted) (a : Answer) → receipt_fact A n q (done e a) ≡ Some APost → ⊥) → ((z : InEntry) (p : Partner) (facts : List ReceiptFact) → AreAgreed A z.posted.receiver z.posted.sender p → StandsAs z.posted.how p facts z → StandsAs z.posted.how p (with_more facts (receipt_fact A k z.posted (done e (act z).0))) (act z).1) → (o : Option InEntry) → received s k ≡ o → IsWellFormed A (acted_in s k act o).1 → Grows s (acted_in s k act o).1 → KeepsReceipts A (past ++ done e (acted_in s k act o).0 ∷ []) (acted_in s k act o).1
+acted_receipts : (A : Agreements) (past : List Done) (s : State) (k : ℕ) (act : InEntry → Answer × InEntry) (e : Event) → KeepsReceipts A past s → ((z : InEntry) → lasting (act z).1 ≡ lasting z) → ((n : ℕ) (q : Posted) (a : Answer) → (k == n) ≡ false → receipt_fact A n q (done e a) ≡ None) → ((n : ℕ) (q : Posted) (a : Answer) (j : ℕ) → receipt_fact A n q (done e a) ≡ Some (APost j) → ⊥) → ((z : InEntry) (p : Partner) (facts : List ReceiptFact) → AreAgreed A z.posted.receiver z.posted.sender p → StandsAs z.posted.how p facts z → StandsAs z.posted.how p (with_more facts (receipt_fact A k z.posted (done e (act z).0))) (act z).1) → (o : Option InEntry) → received s k ≡ o → IsWellFormed A (acted_in s k act o).1 → Grows s (acted_in s k act o).1 → KeepsReceipts A (past ++ done e (acted_in s k act o).0 ∷ []) (acted_in s k act o).1
 acted_receipts A past s k act e keeps kept silent never moves None none formed grows = record {
   formed = formed;
   each = λ n d is. stands_still A n past (done e (Refused NoSuchNumber)) d.posted d (silent n d.posted (Refused NoSuchNumber) (absent n d is (k == n) refl)) (keeps.each n d is);
@@ -278,17 +279,17 @@ acted_receipts A past s k act e keeps kept silent never moves (Some d) found for
   unposted = unposted_on A past s (change_received s k (λ z. (act z).1)) (done e (act d).0) keeps grows (λ q n gone. never n q (act d).0);
 }
 
-no_post : (b : Bool) (f : Fact) → (if b then Some (OfATry f) else None) ≡ Some APost → ⊥
-no_post true f h = absurd (cc)
-no_post false f h = absurd (cc)
+no_post : (b : Bool) (f : Fact) (j : ℕ) → (if b then Some (OfATry f) else None) ≡ Some (APost j) → ⊥
+no_post true f j h = absurd (cc)
+no_post false f j h = absurd (cc)
 
 begin_silent : (A : Agreements) (k m n : ℕ) (q : Posted) (a : Answer) → (k == n) ≡ false → receipt_fact A n q (done (BeginMdn k m) a) ≡ None
 unfolding receipt_fact
 begin_silent A k m n q a apart = rw apart refl
 
-begin_never : (A : Agreements) (k m n : ℕ) (q : Posted) (a : Answer) → receipt_fact A n q (done (BeginMdn k m) a) ≡ Some APost → ⊥
+begin_never : (A : Agreements) (k m n : ℕ) (q : Posted) (a : Answer) (j : ℕ) → receipt_fact A n q (done (BeginMdn k m) a) ≡ Some (APost j) → ⊥
 unfolding receipt_fact
-begin_never A k m n q a h = no_post ((k == n) && is_job a) (ATry m) h
+begin_never A k m n q a j h = no_post ((k == n) && is_job a) (ATry m) j h
 
 begin_fact_is : (A : Agreements) (k m : ℕ) (q : Posted) (a : Answer) → receipt_fact A k q (done (BeginMdn k m) a) ≡ begin_fact m a
 unfolding receipt_fact
@@ -298,9 +299,9 @@ outcome_silent : (A : Agreements) (k : ℕ) (got : TryAnswer) (m n : ℕ) (q : P
 unfolding receipt_fact
 outcome_silent A k got m n q a apart = rw apart refl
 
-outcome_never : (A : Agreements) (k : ℕ) (got : TryAnswer) (m n : ℕ) (q : Posted) (a : Answer) → receipt_fact A n q (done (OutcomeMdn k got m) a) ≡ Some APost → ⊥
+outcome_never : (A : Agreements) (k : ℕ) (got : TryAnswer) (m n : ℕ) (q : Posted) (a : Answer) (j : ℕ) → receipt_fact A n q (done (OutcomeMdn k got m) a) ≡ Some (APost j) → ⊥
 unfolding receipt_fact
-outcome_never A k got m n q a h = no_post (k == n) (AnOutcome m got) h
+outcome_never A k got m n q a j h = no_post (k == n) (AnOutcome m got) j h
 
 outcome_fact_is : (A : Agreements) (k : ℕ) (got : TryAnswer) (m : ℕ) (q : Posted) (a : Answer) → receipt_fact A k q (done (OutcomeMdn k got m) a) ≡ Some (OfATry (AnOutcome m got))
 unfolding receipt_fact
@@ -320,37 +321,37 @@ outcome_receipts A past s k got m keeps formed grows =
 
 -- ---- a document is posted
 
--- what the post of q is to the receipt for p
-abbrev PostsFor : Agreements → Done → Posted → Type 0
-PostsFor A x q = (n : ℕ) (p : Posted) → receipt_fact A n p x ≡ (if repeats p q then Some APost else None)
+-- what the post of q at moment m is to the receipt for p
+abbrev PostsFor : Agreements → Done → ℕ → Posted → Type 0
+PostsFor A x m q = (n : ℕ) (p : Posted) → receipt_fact A n p x ≡ (if repeats p q then Some (APost m) else None)
 
-posts_for : (A : Agreements) (head : Head) (body : Text) (m : ℕ) (a : Answer) (q : Posted) → reading A head body ≡ IsDocument q → PostsFor A (done (Post head body m) a) q
+posts_for : (A : Agreements) (head : Head) (body : Text) (m : ℕ) (a : Answer) (q : Posted) → reading A head body ≡ IsDocument q → PostsFor A (done (Post head body m) a) m q
 unfolding receipt_fact
 posts_for A head body m a q is n p = rw is refl
 
-not_posted : (A : Agreements) (x : Done) (q : Posted) (n : ℕ) (p : Posted) → PostsFor A x q → repeats p q ≡ false → receipt_fact A n p x ≡ None
-not_posted A x q n p post h = post n p ∙ rw h refl
+not_posted : (A : Agreements) (x : Done) (m : ℕ) (q : Posted) (n : ℕ) (p : Posted) → PostsFor A x m q → repeats p q ≡ false → receipt_fact A n p x ≡ None
+not_posted A x m q n p post h = post n p ∙ rw h refl
 
-is_posted : (A : Agreements) (x : Done) (q : Posted) (n : ℕ) (p : Posted) → PostsFor A x q → repeats p q ≡ true → receipt_fact A n p x ≡ Some APost
-is_posted A x q n p post h = post n p ∙ rw h refl
+is_posted : (A : Agreements) (x : Done) (m : ℕ) (q : Posted) (n : ℕ) (p : Posted) → PostsFor A x m q → repeats p q ≡ true → receipt_fact A n p x ≡ Some (APost m)
+is_posted A x m q n p post h = post n p ∙ rw h refl
 
-post_repeats : (A : Agreements) (x : Done) (q : Posted) (n : ℕ) (p : Posted) → PostsFor A x q → receipt_fact A n p x ≡ Some APost → p ≡ q
-post_repeats A x q n p post h = by (repeats p q) refl (sym (post n p) ∙ h)
+post_repeats : (A : Agreements) (x : Done) (m : ℕ) (q : Posted) (n : ℕ) (p : Posted) → PostsFor A x m q → (j : ℕ) → receipt_fact A n p x ≡ Some (APost j) → p ≡ q
+post_repeats A x m q n p post j h = by (repeats p q) refl (sym (post n p) ∙ h)
   where
-    by : (b : Bool) → repeats p q ≡ b → (if b then Some APost else None) ≡ Some APost → p ≡ q
+    by : (b : Bool) → repeats p q ≡ b → (if b then Some (APost m) else None) ≡ Some (APost j) → p ≡ q
     by true is g = repeat_is p q is
     by false is g = absurd (cc)
 
 -- a receipt as it is first owed
-first_stands : (how : How) (p : Partner) (facts : List ReceiptFact) (n m : ℕ) (q : Posted) → q.how ≡ how → since_queued p facts ≡ Some [] → StandsAs how p facts (first_entry n m q)
-first_stands NoReceipt p facts n m q is since = (rw is refl, refl)
-first_stands Sync p facts n m q is since = (rw is refl, refl)
-first_stands (Async url) p facts n m q is since = ([], since, queued_owed p (first_entry n m q) (rw is refl) refl refl)
+first_stands : (how : How) (p : Partner) (facts : List ReceiptFact) (n m : ℕ) (q : Posted) → q.how ≡ how → since_queued p facts ≡ Some (place [] m) → StandsAs how p facts (first_entry n m q)
+first_stands NoReceipt p facts n m q is since = (rw is refl, refl, refl, rw is refl)
+first_stands Sync p facts n m q is since = (rw is refl, refl, refl, rw is refl)
+first_stands (Async url) p facts n m q is since = (place [] m, since, queued_owed p m (first_entry n m q) (rw is refl) refl refl (rw is refl))
 
 abbrev with_first : State → ℕ → Posted → State
 with_first s m q = record s { inbox = s.inbox ++ first_entry s.next_in m q ∷ []; next_in = s.next_in + 1 }
 
-fresh_receipts : (A : Agreements) (past : List Done) (s : State) (m : ℕ) (q : Posted) (x : Done) → KeepsReceipts A past s → PostsFor A x q → ((p : Partner) × AreAgreed A q.receiver q.sender p) → received_as s q ≡ None → IsWellFormed A (with_first s m q) → Grows s (with_first s m q) → KeepsReceipts A (past ++ x ∷ []) (with_first s m q)
+fresh_receipts : (A : Agreements) (past : List Done) (s : State) (m : ℕ) (q : Posted) (x : Done) → KeepsReceipts A past s → PostsFor A x m q → ((p : Partner) × AreAgreed A q.receiver q.sender p) → received_as s q ≡ None → IsWellFormed A (with_first s m q) → Grows s (with_first s m q) → KeepsReceipts A (past ++ x ∷ []) (with_first s m q)
 fresh_receipts A past s m q x keeps post known none formed grows = record {
   formed = formed;
   each = λ n e is. by n e (received s n) refl (sym (find-append (λ (d : InEntry). d.number == n) s.inbox (first_entry s.next_in m q ∷ [])) ∙ is);
@@ -369,9 +370,9 @@ fresh_receipts A past s m q x keeps post known none formed grows = record {
       agreed = known.1;
       stands = first_stands q.how known.0 (filter_map (receipt_fact A n q) (past ++ x ∷ [])) s.next_in m q refl
           (ap (since_queued known.0) (facts-push A n q past x)
-          ∙ ap (λ (o : Option ReceiptFact). since_queued known.0 (with_more (filter_map (receipt_fact A n q) past) o)) (is_posted A x q n q post (repeats_itself q))
-          ∙ since-push known.0 (filter_map (receipt_fact A n q) past) APost
-          ∙ ap (λ (o : Option (List Fact)). queued_by known.0 o APost) (keeps.unposted q none n known.0));
+          ∙ ap (λ (o : Option ReceiptFact). since_queued known.0 (with_more (filter_map (receipt_fact A n q) past) o)) (is_posted A x m q n q post (repeats_itself q))
+          ∙ since-push known.0 (filter_map (receipt_fact A n q) past) (APost m)
+          ∙ ap (λ (o : Option (Found ℕ Fact)). queued_by known.0 o (APost m)) (keeps.unposted q none n known.0));
     }
 
     new : (n : ℕ) (e : InEntry) (b : Bool) → (if b then Some (first_entry s.next_in m q) else None) ≡ Some e → Stands A n (past ++ x ∷ []) e.posted e
@@ -381,20 +382,20 @@ fresh_receipts A past s m q x keeps post known none formed grows = record {
     by : (n : ℕ) (e : InEntry) (o : Option InEntry) → received s n ≡ o → option_or o (find (λ (d : InEntry). d.number == n) (first_entry s.next_in m q ∷ [])) ≡ Some e → Stands A n (past ++ x ∷ []) e.posted e
     by n e (Some d) at h =
         subst (λ (z : InEntry). Stands A n (past ++ x ∷ []) z.posted z) (same_Some _ _ h)
-        (stands_still A n past x d.posted d (not_posted A x q n d.posted post (other n d at (repeats d.posted q) refl)) (keeps.each n d at))
+        (stands_still A n past x d.posted d (not_posted A x m q n d.posted post (other n d at (repeats d.posted q) refl)) (keeps.each n d at))
     by n e None at h = new n e (s.next_in == n) h
 
-    never : (p : Posted) (n : ℕ) → received_as (with_first s m q) p ≡ None → receipt_fact A n p x ≡ Some APost → ⊥
-    never p n gone h =
-        let it : p ≡ q = post_repeats A x q n p post h in
+    never : (p : Posted) (n : ℕ) → received_as (with_first s m q) p ≡ None → (j : ℕ) → receipt_fact A n p x ≡ Some (APost j) → ⊥
+    never p n gone j h =
+        let it : p ≡ q = post_repeats A x m q n p post j h in
         let there : received_as (with_first s m q) q ≡ Some (first_entry s.next_in m q) = find-append (λ (e : InEntry). same_key e.posted q) s.inbox (first_entry s.next_in m q ∷ []) ∙ rw (none, key_same q) refl in
         let two : None ≡ Some (first_entry s.next_in m q) = sym gone ∙ ap (received_as (with_first s m q)) it ∙ there in
         absurd (cc)
 
 -- a document that was posted before
-never_new : (A : Agreements) (s s' : State) (x : Done) (q : Posted) (d : InEntry) → PostsFor A x q → Grows s s' → received_as s q ≡ Some d → (p : Posted) (n : ℕ) → received_as s' p ≡ None → receipt_fact A n p x ≡ Some APost → ⊥
-never_new A s s' x q d post grows found p n gone h =
-    let it : p ≡ q = post_repeats A x q n p post h in
+never_new : (A : Agreements) (s s' : State) (x : Done) (m : ℕ) (q : Posted) (d : InEntry) → PostsFor A x m q → Grows s s' → received_as s q ≡ Some d → (p : Posted) (n : ℕ) → received_as s' p ≡ None → (j : ℕ) → receipt_fact A n p x ≡ Some (APost j) → ⊥
+never_new A s s' x m q d post grows found p n gone j h =
+    let it : p ≡ q = post_repeats A x m q n p post j h in
     let two : None ≡ Some d = sym (gone_before s s' p grows gone) ∙ ap (received_as s) it ∙ found in
     absurd (cc)
 
@@ -403,42 +404,42 @@ others_not : (A : Agreements) (s : State) (q : Posted) (d e : InEntry) (n : ℕ)
 others_not A s q d e n formed found is other false h = h
 others_not A s q d e n formed found is other true h = absurd (other (repeated_is A s q d e n formed found is h))
 
-repeated_entry : (A : Agreements) (past : List Done) (s : State) (m : ℕ) (q : Posted) (x : Done) (d : InEntry) → KeepsReceipts A past s → PostsFor A x q → received_as s q ≡ Some d → repeats d.posted q ≡ true → (n : ℕ) (e : InEntry) → received (change_received s d.number (queued_again m)) n ≡ Some e → (b : Bool) → (d.number == n) ≡ b → Stands A n (past ++ x ∷ []) e.posted e
+repeated_entry : (A : Agreements) (past : List Done) (s : State) (m : ℕ) (q : Posted) (x : Done) (d : InEntry) → KeepsReceipts A past s → PostsFor A x m q → received_as s q ≡ Some d → repeats d.posted q ≡ true → (n : ℕ) (e : InEntry) → received (change_received s d.number (queued_again m)) n ≡ Some e → (b : Bool) → (d.number == n) ≡ b → Stands A n (past ++ x ∷ []) e.posted e
 repeated_entry A past s m q x d keeps post found same n e is false h =
     let at : received s n ≡ Some e = sym (received-changed_other s d.number (queued_again m) n (queued_lasting m) (apart_turned d.number n d.number refl h)) ∙ is in
     let num : e.number ≡ n = received_number s n e at in
     stands_still A n past x e.posted e
-    (not_posted A x q n e.posted post (others_not A s q d e n keeps.formed found at (λ it. false≢true (sym h ∙ ap (λ (j : ℕ). d.number == j) (sym num ∙ ap (λ (z : InEntry). z.number) it) ∙ same_number d.number)) (repeats e.posted q) refl))
+    (not_posted A x m q n e.posted post (others_not A s q d e n keeps.formed found at (λ it. false≢true (sym h ∙ ap (λ (j : ℕ). d.number == j) (sym num ∙ ap (λ (z : InEntry). z.number) it) ∙ same_number d.number)) (repeats e.posted q) refl))
     (keeps.each n e at)
 repeated_entry A past s m q x d keeps post found same n e is true h =
     let num : d.number ≡ n = number_is d.number n h in
     let at : received s d.number ≡ Some d = found_by_key A s q d keeps.formed found in
     let it : queued_again m d ≡ e = same_Some _ _ (sym (received-changed_same s d.number (queued_again m) d (queued_lasting m) at) ∙ ap (received (change_received s d.number (queued_again m))) num ∙ is) in
     let posted : (queued_again m d).posted ≡ d.posted = ap (λ (z : ℕ × Posted). z.1) (queued_lasting m d) in
-    let stood = stands_on A d.number past x d.posted d (queued_again m d) (keeps.each d.number d at) (λ p facts agreed stands. subst (λ (o : Option ReceiptFact). StandsAs d.posted.how p (with_more facts o) (queued_again m d)) (sym (is_posted A x q d.number d.posted post same)) (reposted d.posted.how p facts m d refl stands)) in
+    let stood = stands_on A d.number past x d.posted d (queued_again m d) (keeps.each d.number d at) (λ p facts agreed stands. subst (λ (o : Option ReceiptFact). StandsAs d.posted.how p (with_more facts o) (queued_again m d)) (sym (is_posted A x m q d.number d.posted post same)) (reposted d.posted.how p facts m d refl stands)) in
     let of_it = subst (λ (p : Posted). Stands A d.number (past ++ x ∷ []) p (queued_again m d)) (sym posted) stood in
     let of_e = subst (λ (z : InEntry). Stands A d.number (past ++ x ∷ []) z.posted z) it of_it in
     subst (λ (j : ℕ). Stands A j (past ++ x ∷ []) e.posted e) num of_e
 
-repeated_receipts : (A : Agreements) (past : List Done) (s : State) (m : ℕ) (q : Posted) (x : Done) (d : InEntry) → KeepsReceipts A past s → PostsFor A x q → received_as s q ≡ Some d → repeats d.posted q ≡ true → IsWellFormed A (change_received s d.number (queued_again m)) → Grows s (change_received s d.number (queued_again m)) → KeepsReceipts A (past ++ x ∷ []) (change_received s d.number (queued_again m))
+repeated_receipts : (A : Agreements) (past : List Done) (s : State) (m : ℕ) (q : Posted) (x : Done) (d : InEntry) → KeepsReceipts A past s → PostsFor A x m q → received_as s q ≡ Some d → repeats d.posted q ≡ true → IsWellFormed A (change_received s d.number (queued_again m)) → Grows s (change_received s d.number (queued_again m)) → KeepsReceipts A (past ++ x ∷ []) (change_received s d.number (queued_again m))
 repeated_receipts A past s m q x d keeps post found same formed grows = record {
   formed = formed;
   each = λ n e is. repeated_entry A past s m q x d keeps post found same n e is (d.number == n) refl;
-  unposted = unposted_on A past s (change_received s d.number (queued_again m)) x keeps grows (never_new A s (change_received s d.number (queued_again m)) x q d post grows found);
+  unposted = unposted_on A past s (change_received s d.number (queued_again m)) x keeps grows (never_new A s (change_received s d.number (queued_again m)) x m q d post grows found);
 }
 
 clash_not : (A : Agreements) (s : State) (q : Posted) (d e : InEntry) (n : ℕ) → IsWellFormed A s → received_as s q ≡ Some d → repeats d.posted q ≡ false → received s n ≡ Some e → (b : Bool) → repeats e.posted q ≡ b → repeats e.posted q ≡ false
 clash_not A s q d e n formed found other is false h = h
 clash_not A s q d e n formed found other is true h = absurd (false≢true (sym other ∙ ap (λ (z : InEntry). repeats z.posted q) (sym (repeated_is A s q d e n formed found is h)) ∙ h))
 
-clash_receipts : (A : Agreements) (past : List Done) (s : State) (q : Posted) (x : Done) (d : InEntry) → KeepsReceipts A past s → PostsFor A x q → received_as s q ≡ Some d → repeats d.posted q ≡ false → Grows s s → KeepsReceipts A (past ++ x ∷ []) s
-clash_receipts A past s q x d keeps post found other grows = record {
+clash_receipts : (A : Agreements) (past : List Done) (s : State) (m : ℕ) (q : Posted) (x : Done) (d : InEntry) → KeepsReceipts A past s → PostsFor A x m q → received_as s q ≡ Some d → repeats d.posted q ≡ false → Grows s s → KeepsReceipts A (past ++ x ∷ []) s
+clash_receipts A past s m q x d keeps post found other grows = record {
   formed = keeps.formed;
-  each = λ n e is. stands_still A n past x e.posted e (not_posted A x q n e.posted post (clash_not A s q d e n keeps.formed found other is (repeats e.posted q) refl)) (keeps.each n e is);
-  unposted = unposted_on A past s s x keeps grows (never_new A s s x q d post grows found);
+  each = λ n e is. stands_still A n past x e.posted e (not_posted A x m q n e.posted post (clash_not A s q d e n keeps.formed found other is (repeats e.posted q) refl)) (keeps.each n e is);
+  unposted = unposted_on A past s s x keeps grows (never_new A s s x m q d post grows found);
 }
 
-left_receipts : (A : Agreements) (past : List Done) (s : State) (m : ℕ) (q : Posted) (x : Done) (y : Answer × State) → KeepsReceipts A past s → PostsFor A x q → ((p : Partner) × AreAgreed A q.receiver q.sender p) → Left A s m q (received_as s q) y → IsWellFormed A y.1 → Grows s y.1 → KeepsReceipts A (past ++ x ∷ []) y.1
+left_receipts : (A : Agreements) (past : List Done) (s : State) (m : ℕ) (q : Posted) (x : Done) (y : Answer × State) → KeepsReceipts A past s → PostsFor A x m q → ((p : Partner) × AreAgreed A q.receiver q.sender p) → Left A s m q (received_as s q) y → IsWellFormed A y.1 → Grows s y.1 → KeepsReceipts A (past ++ x ∷ []) y.1
 left_receipts A past s m q x y keeps post known (fresh none small is) formed grows =
     let at : y.1 ≡ with_first s m q = ap (λ (z : Answer × State). z.1) is in
     subst (KeepsReceipts A (past ++ x ∷ [])) (sym at) (fresh_receipts A past s m q x keeps post known none (subst (IsWellFormed A) at formed) (subst (Grows s) at grows))
@@ -446,7 +447,7 @@ left_receipts A past s m q x y keeps post known (repeated d there same is) forme
     let at : y.1 ≡ change_received s d.number (queued_again m) = ap (λ (z : Answer × State). z.1) is in
     subst (KeepsReceipts A (past ++ x ∷ [])) (sym at) (repeated_receipts A past s m q x d keeps post there same (subst (IsWellFormed A) at formed) (subst (Grows s) at grows))
 left_receipts A past s m q x y keeps post known (clash d there other is) formed grows =
-    subst (KeepsReceipts A (past ++ x ∷ [])) (sym is) (clash_receipts A past s q x d keeps post there other (subst (Grows s) is grows))
+    subst (KeepsReceipts A (past ++ x ∷ [])) (sym is) (clash_receipts A past s m q x d keeps post there other (subst (Grows s) is grows))
 
 -- ---- a step and a run
 
@@ -496,13 +497,13 @@ run_receipts A past old ((e, Failed fault) ∷ rest) new keeps run = run_receipt
 
 -- ---- the law
 
-stands_told : (how : How) (p : Partner) (facts : List ReceiptFact) (e : InEntry) → StandsAs how p facts e → receipt_by how (since_queued p facts) ≡ Some (receipt_told e)
-stands_told NoReceipt p facts e h = λ i. Some (record { mdn = sym h.0 i; tries = sym h.1 i })
-stands_told Sync p facts e h = λ i. Some (record { mdn = sym h.0 i; tries = sym h.1 i })
-stands_told (Async url) p facts e h = ap (option_map sent_later) h.1 ∙ (λ i. Some (record { mdn = sym h.2.state i; tries = sym h.2.count i }))
+stands_told : (how : How) (p : Partner) (facts : List ReceiptFact) (e : InEntry) → StandsAs how p facts e → receipt_by how p (since_queued p facts) ≡ Some (receipt_told e)
+stands_told NoReceipt p facts e h = λ i. Some (record { mdn = sym h.0 i; tries = sym h.1 i; attempt = sym h.2 i; due = sym h.3 i })
+stands_told Sync p facts e h = λ i. Some (record { mdn = sym h.0 i; tries = sym h.1 i; attempt = sym h.2 i; due = sym h.3 i })
+stands_told (Async url) p facts e h = ap (option_map (sent_later p)) h.1 ∙ (λ i. Some (record { mdn = sym h.2.state i; tries = sym h.2.count i; attempt = sym h.2.try i; due = sym h.2.wait i }))
 
 pub receipts_law : (A : Agreements) (first : ℕ) (trace : Trace) (s : State) → IsCounter first → Run A (empty first) trace s → (n : ℕ) (e : InEntry) → received s n ≡ Some e → receipt_history A (accepted trace) n e.posted ≡ Some (receipt_told e)
 receipts_law A first trace s h run n e is =
     let stands = (run_receipts A [] (empty first) trace s (nothing_received A first h) run).each n e is in
-    ap (λ (o : Option Partner). receipt_by e.posted.how (option_and_then (λ (p : Partner). since_queued p (filter_map (receipt_fact A n e.posted) (accepted trace))) o)) stands.agreed.theirs
+    ap (λ (o : Option Partner). option_and_then (λ (p : Partner). receipt_by e.posted.how p (since_queued p (filter_map (receipt_fact A n e.posted) (accepted trace)))) o) stands.agreed.theirs
     ∙ stands_told e.posted.how stands.partner (filter_map (receipt_fact A n e.posted) (accepted trace)) e stands.stands
