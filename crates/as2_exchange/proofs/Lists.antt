@@ -1,6 +1,6 @@
 -- One more element of a list, and elements that are changed.
 use Rattle.std.proofs.Common.{◌≡◌, Bool, true, false, List, [], ◌∷◌, ◌++◌, map, Some, None, refl}
-use Rattle.std.specs.Prelude.{cond}
+use Rattle.std.specs.Prelude.{cond, fold}
 use Rattle.std.specs.List.{AllByRecursion, IsDistinct, find}
 
 pub all_push : {X : Type 0} (P : X → Type 0) (xs : List X) (x : X) → AllByRecursion P xs → P x → AllByRecursion P (xs ++ x ∷ [])
@@ -37,3 +37,7 @@ none_found g test (x ∷ xs) h = by (test (g x)) refl h (none_found g test xs)
     by : (b : Bool) → test (g x) ≡ b → cond b (Some x) (find (λ y. test (g y)) xs) ≡ None → (find (λ y. test (g y)) xs ≡ None → AllByRecursion (λ y. test y ≡ false) (map g xs)) → AllByRecursion (λ y. test y ≡ false) (map g (x ∷ xs))
     by true is none rest = absurd (cc)
     by false is none rest = (is, rest none)
+
+pub fold_last : {X Y : Type 0} (f : Y → X → Y) (a : Y) (xs : List X) (x : X) → fold f a (xs ++ x ∷ []) ≡ f (fold f a xs) x
+fold_last f a [] x = refl
+fold_last f a (y ∷ xs) x = fold_last f (f a y) xs x

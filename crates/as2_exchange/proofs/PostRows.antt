@@ -50,6 +50,23 @@ refused_posts : (read [] ≡ Refuses 400 BadNames)
 unfolding reading names_of version_fits type_of is_report report_in id_of ask_of without_blanks between_quotes bare
 refused_posts = (refl, refl, refl, refl, refl, refl, refl, refl, refl, refl, refl, refl)
 
+-- where several lines fit, it is the first
+first_line_that_fits : (read (message (codes "2.0") [] (codes "<>") (codes "edi") (asks (codes "x"))) ≡ Refuses 400 BadNames)
+    × (read (message (codes "2.0") (codes "Nobody") (codes "<>") (codes "edi") (asks (codes "x"))) ≡ Refuses 400 BadVersion)
+    × (read (message (codes "1.0") (codes "Nobody") (codes "<>") (codes "edi") (asks (codes "x"))) ≡ Refuses 403 UnknownNames)
+    × (read (message (codes "1.9") (codes "Buyer") (codes "<>") (codes "edi") (asks (codes "x"))) ≡ Refuses 400 BadType)
+    × (read (message (codes "1.0") (codes "Buyer") (codes "<>") edi (asks (codes "x"))) ≡ Refuses 400 BadId)
+unfolding reading names_of version_fits type_of is_report id_of ask_of without_blanks between_quotes bare
+first_line_that_fits = (refl, refl, refl, refl, refl)
+
+-- a field that is given twice; a receiver that is no organization
+given_twice : (read (message (codes "1.0") (codes "Buyer") m1 edi ((codes "as2-version", codes "1.0") ∷ usual)) ≡ Refuses 400 BadVersion)
+    × (read (message (codes "1.0") (codes "Buyer") m1 edi ((codes "content-type", edi) ∷ usual)) ≡ Refuses 400 BadType)
+    × (read (message (codes "1.0") (codes "Buyer") m1 edi ((codes "disposition-notification-to", codes "a@x") ∷ usual)) ≡ Refuses 400 BadAsk)
+    × (read ((codes "as2-from", codes "Buyer") ∷ (codes "as2-to", codes "Buyer") ∷ []) ≡ Refuses 403 UnknownNames)
+unfolding reading names_of version_fits type_of is_report id_of ask_of without_blanks between_quotes bare
+given_twice = (refl, refl, refl, refl)
+
 -- the version may be absent, and so may the content type
 abbrev short_head : Head
 short_head = (codes "as2-from", codes "Buyer") ∷ (codes "as2-to", codes "Supplier") ∷ (codes "message-id", m1) ∷ []

@@ -144,7 +144,7 @@ post_formed A s m (IsDocument p) y good h e = record_formed A s m p y (document_
 
 -- ---- a step and a run
 
-step_formed : (A : Agreements) (s : State) (e : Event) (y : Answer × State) → IsWellFormed A s → step A s e ≡ Some y → IsWellFormed A y.1
+pub step_formed : (A : Agreements) (s : State) (e : Event) (y : Answer × State) → IsWellFormed A s → step A s e ≡ Some y → IsWellFormed A y.1
 step_formed A s (Post head body m) y h is = post_formed A s m (reading A head body) y (reading_good A head body) h is
 step_formed A s (Submit organization partner content m) y h is = submit_formed A s organization partner content m y h is
 step_formed A s (Begin n m) y h is = subst (λ (z : Answer × State). IsWellFormed A z.1) (same_Some _ y is) (acted_formed A s n (begun A m) (document s n) (begun_keeps A m) h)
@@ -153,7 +153,7 @@ step_formed A s (BeginMdn n m) y h is = subst (λ (z : Answer × State). IsWellF
 step_formed A s (OutcomeMdn n got m) y h is = subst (λ (z : Answer × State). IsWellFormed A z.1) (same_Some _ y is) (acted_in_formed A s n (mdn_closed A got m) (received s n) (mdn_closed_lasting A got m) h)
 step_formed A s (Tick m) y h is = subst (λ (z : Answer × State). IsWellFormed A z.1) (same_Some _ y is) (tick_formed A m s h)
 
-empty_formed : (A : Agreements) (first : ℕ) → IsCounter first → IsWellFormed A (empty first)
+pub empty_formed : (A : Agreements) (first : ℕ) → IsCounter first → IsWellFormed A (empty first)
 unfolding IsDistinct
 empty_formed A first h = record {
   received = record { counter = h; numbers = record { below = tt; distinct = tt; in_order = tt }; keys = tt; recorded = tt };

@@ -3,8 +3,9 @@ use Rattle.std.proofs.Common.{◌≡◌, ℕ, true, false, List, [], ◌∷◌, 
 use Rattle.std.specs.Prelude.{codes, option_map}
 use Rattle.std.specs.Fmt.{digits}
 use Rattle.as2_names.specs.Identifiers.{value_of as bare}
+use Rattle.as2_mdn.specs.declared.detail.State.TheVariants.{R, S}
 use Rattle.as2_exchange.specs.Agreement.{Text}
-use Rattle.as2_exchange.specs.Detail.{Processed, Idle}
+use Rattle.as2_exchange.specs.Detail.{Detail, New, Sending, Awaiting, Retry, Processed, Overdue, Attempt, Idle, Running, Last}
 use Rattle.as2_exchange.specs.Readings.{value_of}
 use Rattle.as2_exchange.specs.State.{State, OutEntry, empty}
 use Rattle.as2_exchange.specs.Step.{Event, Post, Begin, Outcome, BeginMdn, OutcomeMdn, NoAnswer, is_success, begun, closed, mdn_begun, mdn_closed, submit, record_post, answer_to}
@@ -56,6 +57,35 @@ list_and_show = (refl, refl, refl)
 nothing_outstanding : outstanding (empty 1) 1000 ≡ codes "documents not sent: 0\ndocuments in retry: 0\nreceipts awaited: 0\ndocuments in error: 0\nreceipts to send: 0\n"
 unfolding digits
 nothing_outstanding = refl
+
+-- a new document, one in retry, one awaited, one overdue and one whose first try is open
+abbrev standing : ℕ → ℕ → Attempt → Option ℕ → Detail → OutEntry
+standing n tries attempt due detail = record { number = n; organization = codes "Supplier"; partner = codes "Depot"; id = codes "out-1@station.example"; content = abc; moment = 1000; tries = tries; attempt = attempt; due = due; detail = detail; evidence = None }
+
+under_way : State
+under_way = record {
+  inbox = [];
+  outbox = standing 1 0 Idle (Some 1000) New ∷ standing 2 1 Idle (Some 1030) Retry ∷ standing 3 1 Idle (Some 1060) Awaiting ∷ standing 4 1 Idle None Overdue ∷ standing 5 1 Running (Some 1031) Sending ∷ [];
+  next_in = 1;
+  next_out = 6;
+}
+
+-- at 1030 the third isn't due yet, and the fourth and fifth wait for nothing or for later
+outstanding_at_1030 : outstanding under_way 1030 ≡ codes "documents not sent: 1\ndocuments in retry: 2\nreceipts awaited: 1\ndocuments in error: 1\nreceipts to send: 0\n           1 P  0 - new              Supplier -> Depot\n           2 R  1 - retry            Supplier -> Depot\n"
+unfolding under_way digits
+outstanding_at_1030 = refl
+
+-- the documents of one state, in order of number; and one document that is due
+listed_by_state : (list_out under_way (Some R) ≡ codes "           2 R  1 - retry            Supplier -> Depot\n           5 R  1 - sending          Supplier -> Depot\n")
+    × (list_out under_way (Some S) ≡ [])
+    × (show under_way 3 ≡ Some (codes "number: 3\nstate: P awaiting\ntries: 1\ndue: 1060\nfrom: Supplier\nto: Depot\nidentifier: <out-1@station.example>\ncontent: 3 bytes\nreceipt: -\n"))
+unfolding under_way digits
+listed_by_state = (refl, refl, refl)
+
+-- which of them may be begun, at two moments
+due_of_them : (next_at 1031 1030 (record under_way { outbox = standing 3 1 Idle (Some 1000) Awaiting ∷ standing 4 2 Last (Some 1000) Sending ∷ standing 5 1 Running (Some 1031) Sending ∷ [] }) ≡ (Some (Document 5), None))
+unfolding under_way
+due_of_them = refl
 
 -- a document is due when its retry is, and not a second before
 retry_is_next : (seen (next_at 1029 1030) (empty 1) (submit_to buyer ∷ Begin 1 1000 ∷ Outcome 1 NoAnswer 1000 ∷ []) ≡ Some (None, Some (Document 1)))

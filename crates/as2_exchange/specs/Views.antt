@@ -7,7 +7,7 @@ use Rattle.as2_mdn.specs.Details.{state_of, name_of}
 use Rattle.as2_mdn.specs.declared.detail.State.{State as StateOf}
 use Rattle.as2_mdn.specs.declared.detail.State.TheVariants.{P, R, S, W, E}
 use Rattle.as2_exchange.specs.Agreement.{Text}
-use Rattle.as2_exchange.specs.Detail.{Detail, New, Sending, Awaiting, Retry, Attempt, Idle, Running, MdnState, Unasked, Pending, Sent}
+use Rattle.as2_exchange.specs.Detail.{Detail, New, Sending, Awaiting, Retry, TriesUsed, Overdue, Attempt, Idle, Running, MdnState, Unasked, Pending, Sent}
 use Rattle.as2_exchange.specs.Readings.{is_processed}
 use Rattle.as2_exchange.specs.Jobs.{bracketed}
 use Rattle.as2_exchange.specs.State.{State, InEntry, OutEntry, Evidence, document, received, is_settled}
@@ -24,6 +24,7 @@ may_begin Retry attempt = true
 may_begin Sending Running = true
 may_begin detail attempt = false
 
+-- a try of the document may begin at this moment
 abbrev pub is_due_document : ℕ → OutEntry → Bool
 is_due_document m d = may_begin d.detail d.attempt && is_due m d.due
 
@@ -37,6 +38,7 @@ mdn_may_begin Pending Idle = true
 mdn_may_begin Pending Running = true
 mdn_may_begin mdn attempt = false
 
+-- a try of the receipt may begin at this moment
 abbrev pub is_due_receipt : ℕ → InEntry → Bool
 is_due_receipt m e = mdn_may_begin e.mdn e.attempt && is_due m e.due
 
@@ -54,7 +56,7 @@ abbrev pub least : List ℕ → Option ℕ
 least [] = None
 least (n ∷ ns) = Some (smaller n (least ns))
 
--- the number is one of them, and none is smaller; there is none exactly where there are none
+-- the number is one of them, and none is smaller; without a number, there are none
 abbrev pub IsLeast : List ℕ → Option ℕ → Type 0
 IsLeast ns None = ns ≡ []
 IsLeast ns (Some n) = IsTrue (list_any (λ k. k == n) ns) × AllByRecursion (λ k. n ≤ k) ns
@@ -127,15 +129,18 @@ abbrev pub is_in : Option StateOf → OutEntry → Bool
 is_in None d = true
 is_in (Some state) d = same_state state (state_of d.detail)
 
+-- the lines of these documents, in order of number
 abbrev pub list_out : State → Option StateOf → Text
 list_out s state = flat_map out_line (filter (is_in state) s.outbox)
 
 -- ---- the inbox
 
+-- processed, or in error
 abbrev pub processed_mark : Bool → Text
 processed_mark true = codes "S"
 processed_mark false = codes "E"
 
+-- no receipt asked, pending or sent
 abbrev pub mdn_mark : MdnState → Text
 mdn_mark Unasked = codes "-"
 mdn_mark Pending = codes "P"
@@ -151,6 +156,7 @@ in_line e =
     ++ codes " " ++ e.posted.id
     ++ codes "\n"
 
+-- the lines of all entries, in order of number
 abbrev pub list_in : State → Text
 list_in s = flat_map in_line s.inbox
 
@@ -180,6 +186,16 @@ is_under_way Sending = true
 is_under_way Retry = true
 is_under_way Awaiting = true
 is_under_way other = false
+
+-- no more is done for it: its receipt is overdue, or its tries are used up
+abbrev pub is_given_up : Detail → Bool
+is_given_up Overdue = true
+is_given_up TriesUsed = true
+is_given_up other = false
+
+-- how many documents are given up
+abbrev pub given_up : State → ℕ
+given_up s = count_by (λ d. is_given_up d.detail) s.outbox
 
 -- five counts, and a line for each document under way whose moment has come
 abbrev pub outstanding : State → ℕ → Text

@@ -1,3 +1,4 @@
+pub mod Confirming
 pub mod Cutting
 pub mod MicBytes
 pub mod Modes

@@ -1,9 +1,9 @@
 -- What a receipt says of a document's content (RFC 8098, section 3.2.6; RFC 4130, section 7.5).
-use Rattle.std.specs.Prelude.{ℕ, Bool, true, false, not, List, if◌then◌else◌, Option, Some, None}
+use Rattle.std.specs.Prelude.{◌≡◌, ℕ, Bool, true, false, not, List, [], if◌then◌else◌, IsTrue, Option, Some, None}
 use Rattle.as2_mic.specs.declared.field.Compared.{Compared}
-use Rattle.as2_mic.specs.declared.field.Compared.TheVariants.{UnknownAlg, Differs}
+use Rattle.as2_mic.specs.declared.field.Compared.TheVariants.{UnknownAlg, Same, Differs}
 use Rattle.as2_mic.specs.Field.{compared}
-use Rattle.as2_mdn.specs.Dispositions.{is_processed, has_modifier, has_error}
+use Rattle.as2_mdn.specs.Dispositions.{modifier_of, is_processed, has_modifier, has_error}
 use Rattle.as2_mdn.specs.Receipts.{ReceiptRead, Mic, Missing, Unreadable, Given}
 use Rattle.as2_mdn.specs.declared.detail.Detail.{Detail}
 use Rattle.as2_mdn.specs.declared.detail.Detail.TheVariants.{Processed, Warning, NoMic, UnknownMic, NotProcessed, ErrorModifier, MicDiffers}
@@ -44,3 +44,12 @@ judged disposition found =
 -- the verdict of a receipt on a content
 abbrev pub verdict_of : ReceiptRead → List ℕ → Detail
 verdict_of receipt content = judged receipt.disposition (mic_compared receipt.mic content)
+
+-- The receipt confirms the content: it says `processed`, without modifier, and gives a MIC that is the content's own under
+-- the digest that it names, whichever of the known ones.
+pub record Confirms (receipt : ReceiptRead) (content : List ℕ) : Type 0 where
+  pub field : List ℕ × List ℕ
+  pub processed : IsTrue (is_processed receipt.disposition)
+  pub unmodified : modifier_of receipt.disposition ≡ []
+  pub given : receipt.mic ≡ Given field
+  pub same : compared field content ≡ Same

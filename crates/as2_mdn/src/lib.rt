@@ -13,7 +13,7 @@ mod verdicts;
 
 pub use detail::{Detail, State};
 pub use disposition::{Disposition, DispositionFault};
-pub use laws::own_receipt;
+pub use laws::{own_receipt, success_confirms};
 pub use outcome::{Outcome, outcome_of};
 pub use receipt::{MicPart, Receipt};
 pub use report::{ReportMic, ReportOut, report_mic, write_head_fields, write_report};

@@ -1,0 +1,90 @@
+-- For which documents and receipts a request is handed out.
+use Rattle.std.proofs.Common.{◌≡◌, ℕ, ◌<◌, Bool, true, false, not, ◌||◌, Option, Some, None, refl, ap, arith}
+use Rattle.std.specs.Prelude.{IsSomeAnd, nat_le, if◌then◌else◌}
+use Rattle.std.specs.Option.{option_map_or}
+use Rattle.std.proofs.lemmas.Bool.Decides.{nat_tests}
+use Rattle.std.proofs.lemmas.Option.{same_Some}
+use Rattle.as2_exchange.specs.Agreement.{Text, Agreements, Partner, is_organization, partner_of}
+use Rattle.as2_exchange.specs.Detail.{MdnState, Unasked, Pending, Sent}
+use Rattle.as2_exchange.specs.Readings.{Job, document_job, receipt_job}
+use Rattle.as2_exchange.specs.State.{State, InEntry, OutEntry, document, received, is_settled}
+use Rattle.as2_exchange.specs.Step.{Answer, Job as AJob, Refused, NoSuchNumber, UnknownOrganization, UnknownPartner, AllSettled, TriesUsedUp, NotDue, Begin, BeginMdn, agreed, begun, waits, is_early, is_pending, mdn_begun, acted, acted_in, report, step}
+
+less : (n k : ℕ) → nat_le n k ≡ false → k < n
+less n k h = grind (arith, nat_tests)
+
+-- where the tests are taken one after the other, a request is handed out only where all of them fail
+abbrev granted : {E : Type 0} → E → E → Job → Bool → Bool → Bool → Answer × E
+granted e x given settled used early = if settled then (Refused AllSettled, e) else if used then (Refused TriesUsedUp, e) else if early then (Refused NotDue, e) else (AJob given, x)
+
+granted_by : {E : Type 0} (e x : E) (job given : Job) (settled used early : Bool) → (granted e x given settled used early).0 ≡ AJob job → (settled ≡ false) × (used ≡ false)
+granted_by e x job given true used early h = absurd (cc)
+granted_by e x job given false true early h = absurd (cc)
+granted_by e x job given false false true h = absurd (cc)
+granted_by e x job given false false false h = (refl, refl)
+
+-- and only to a partner that is agreed
+granted_to : {E : Type 0} (A : Agreements) (organization partner : Text) (e : E) (act : Partner → Answer × E) (job : Job) (P : Partner → Type 0) → ((p : Partner) → (act p).0 ≡ AJob job → P p) → (agreed A organization partner e act).0 ≡ AJob job → IsSomeAnd (partner_of A partner) P
+granted_to {E} A organization partner e act job P rest h = by (is_organization A organization) (partner_of A partner) h
+  where
+    given : Bool → Option Partner → Answer × E
+    given b o = if not b then (Refused UnknownOrganization, e) else option_map_or act o (Refused UnknownPartner, e)
+
+    by : (b : Bool) (o : Option Partner) → (given b o).0 ≡ AJob job → IsSomeAnd o P
+    by false o g = absurd (cc)
+    by true None g = absurd (cc)
+    by true (Some p) g = rest p g
+
+-- ---- a document
+
+abbrev Unsettled : OutEntry → Partner → Type 0
+Unsettled d p = (is_settled d ≡ false) × (d.tries < p.max_tries)
+
+begun_granted : (A : Agreements) (m : ℕ) (d : OutEntry) (job : Job) → (begun A m d).0 ≡ AJob job → IsSomeAnd (partner_of A d.partner) (Unsettled d)
+unfolding begun
+begun_granted A m d job h =
+    granted_to A d.organization d.partner d _ job (Unsettled d)
+    (λ p g. let is = granted_by d _ job (document_job A p d.organization d.id d.content) (is_settled d) (nat_le p.max_tries d.tries) (waits d.detail || is_early m d.due) g in (is.0, less p.max_tries d.tries is.1)) h
+
+-- both facts, taken apart
+parted : (d : OutEntry) (o : Option Partner) → IsSomeAnd o (Unsettled d) → (is_settled d ≡ false) × IsSomeAnd o (λ p. d.tries < p.max_tries)
+parted d None h = absurd h
+parted d (Some p) h = (h.0, h.1)
+
+pub document_granted : (A : Agreements) (s t : State) (n m : ℕ) (job : Job) → step A s (Begin n m) ≡ Some (AJob job, t) → (d : OutEntry) × (document s n ≡ Some d) × (is_settled d ≡ false) × IsSomeAnd (partner_of A d.partner) (λ p. d.tries < p.max_tries)
+document_granted A s t n m job h = by (document s n) refl (same_Some _ (AJob job, t) h)
+  where
+    by : (o : Option OutEntry) → document s n ≡ o → acted s n (begun A m) o ≡ (AJob job, t) → (d : OutEntry) × (document s n ≡ Some d) × (is_settled d ≡ false) × IsSomeAnd (partner_of A d.partner) (λ p. d.tries < p.max_tries)
+    by None at g = absurd (let first : Refused NoSuchNumber ≡ AJob job = ap (λ (y : Answer × State). y.0) g in cc)
+    by (Some d) at g =
+        let is = parted d (partner_of A d.partner) (begun_granted A m d job (ap (λ (y : Answer × State). y.0) g)) in
+        (d, at, is.0, is.1)
+
+-- ---- a receipt
+
+abbrev StillOwed : InEntry → Partner → Type 0
+StillOwed e p = (e.mdn ≡ Pending) × (e.tries < p.max_tries)
+
+is_owed : (x : MdnState) → not (is_pending x) ≡ false → x ≡ Pending
+is_owed Pending h = refl
+is_owed Unasked h = absurd (cc)
+is_owed Sent h = absurd (cc)
+
+mdn_begun_granted : (A : Agreements) (m : ℕ) (e : InEntry) (job : Job) → (mdn_begun A m e).0 ≡ AJob job → IsSomeAnd (partner_of A e.posted.sender) (StillOwed e)
+unfolding mdn_begun
+mdn_begun_granted A m e job h =
+    granted_to A e.posted.receiver e.posted.sender e _ job (StillOwed e)
+    (λ p g. let is = granted_by e _ job (receipt_job e.posted.how (report A e.number e.posted)) (not (is_pending e.mdn)) (nat_le p.max_tries e.tries) (is_early m e.due) g in (is_owed e.mdn is.0, less p.max_tries e.tries is.1)) h
+
+parted_receipt : (e : InEntry) (o : Option Partner) → IsSomeAnd o (StillOwed e) → (e.mdn ≡ Pending) × IsSomeAnd o (λ p. e.tries < p.max_tries)
+parted_receipt e None h = absurd h
+parted_receipt e (Some p) h = (h.0, h.1)
+
+pub receipt_granted : (A : Agreements) (s t : State) (n m : ℕ) (job : Job) → step A s (BeginMdn n m) ≡ Some (AJob job, t) → (e : InEntry) × (received s n ≡ Some e) × (e.mdn ≡ Pending) × IsSomeAnd (partner_of A e.posted.sender) (λ p. e.tries < p.max_tries)
+receipt_granted A s t n m job h = by (received s n) refl (same_Some _ (AJob job, t) h)
+  where
+    by : (o : Option InEntry) → received s n ≡ o → acted_in s n (mdn_begun A m) o ≡ (AJob job, t) → (e : InEntry) × (received s n ≡ Some e) × (e.mdn ≡ Pending) × IsSomeAnd (partner_of A e.posted.sender) (λ p. e.tries < p.max_tries)
+    by None at g = absurd (let first : Refused NoSuchNumber ≡ AJob job = ap (λ (y : Answer × State). y.0) g in cc)
+    by (Some e) at g =
+        let is = parted_receipt e (partner_of A e.posted.sender) (mdn_begun_granted A m e job (ap (λ (y : Answer × State). y.0) g)) in
+        (e, at, is.0, is.1)

@@ -1,0 +1,509 @@
+-- In every state of a run, each receipt stands as its facts tell.
+use Rattle.std.proofs.Common.{◌≡◌, ℕ, ◌+◌, Bool, true, false, not, ◌&&◌, ◌||◌, List, [], ◌∷◌, ◌++◌, Option, Some, None, refl, sym, ap, ◌∙◌, subst, append_assoc}
+use Rattle.std.specs.Prelude.{⊤, option_map, option_and_then, is_some, ◌==◌, if◌then◌else◌}
+use Rattle.std.specs.List.{find, filter_map, cons_option}
+use Rattle.std.specs.Option.{option_or}
+use Rattle.std.proofs.lemmas.Bool.{false≢true}
+use Rattle.std.proofs.lemmas.Option.{same_Some}
+use Rattle.std.proofs.lemmas.List.{append-nil}
+use Rattle.std.proofs.lemmas.List.Elements.{filter_map-append}
+use Rattle.std.proofs.lemmas.List.Folds.{find-append}
+use Rattle.as2_exchange.specs.Agreement.{Text, Agreements, Partner, is_organization, partner_of}
+use Rattle.as2_exchange.specs.Detail.{Idle, Unasked, Sent}
+use Rattle.as2_exchange.specs.Readings.{Head, How, NoReceipt, Sync, Async, is_async, is_report, names_of, version_fits, type_of, id_of, ask_of, report_in}
+use Rattle.as2_exchange.specs.State.{Posted, InEntry, State, empty, lasting, same_key, document, received, received_as, change_received}
+use Rattle.as2_exchange.specs.Step.{Event, Post, Submit, Begin, Outcome, BeginMdn, OutcomeMdn, Tick, Answer, Refused, NoSuchNumber, TryAnswer, Reading, Refuses, IsReceipt, IsDocument, Line, BadNames, BadVersion, UnknownNames, BadType, UnreadableReceipt, BadId, BadAsk, needs, reading, post, step, record_post, repeats, queued_again, first_entry, is_pending, mdn_begun, mdn_closed, acted_in, Came, begun as begun_document, closed as closed_document}
+use Rattle.as2_exchange.specs.Run.{Trace, Run, Answered, Failed, Done, accepted}
+use Rattle.as2_exchange.specs.Invariants.{IsCounter, IsWellFormed}
+use Rattle.as2_exchange.specs.History.{Found, Fact, ATry, AnOutcome, is_job}
+use Rattle.as2_exchange.specs.ReceiptHistory.{ReceiptFact, APost, OfATry, receipt_fact, receipt_fact_of, sent_later, is_delivered, are_used, queued_by, since_queued, receipt_by, receipt_history, receipt_told}
+use Rattle.as2_exchange.proofs.Decisions.{same_number, number_is, is_some_value, apart_turned}
+use Rattle.as2_exchange.proofs.Finds.{find-map, find_passes, find_none, one_found}
+use Rattle.as2_exchange.proofs.Lists.{fold_last}
+use Rattle.as2_exchange.proofs.Places.{place}
+use Rattle.as2_exchange.proofs.Pushes.{done, with_fact}
+use Rattle.as2_exchange.proofs.Acts.{AreAgreed}
+use Rattle.as2_exchange.proofs.Repeats.{Left, fresh, repeated, clash, left_is, entries, Grows, step_grows, find-lasting, key_same, repeats_itself, acted_inbox, settle_inbox, submit_inbox, tick_inbox, queued_lasting, mdn_begun_lasting, mdn_closed_lasting}
+use Rattle.as2_exchange.proofs.Equal.{repeat_is, key_turned}
+use Rattle.as2_exchange.proofs.States.{step_formed, empty_formed}
+use Rattle.as2_exchange.proofs.Owed.{Owed, more, queued_owed, reposted_owed, with_try, begun_owed, closed_owed, never_begun, never_closed}
+
+-- ---- facts
+
+-- the facts, and what one more event is
+abbrev with_more : List ReceiptFact → Option ReceiptFact → List ReceiptFact
+with_more facts None = facts
+with_more facts (Some f) = facts ++ f ∷ []
+
+facts-push : (A : Agreements) (n : ℕ) (q : Posted) (past : List Done) (x : Done) → filter_map (receipt_fact A n q) (past ++ x ∷ []) ≡ with_more (filter_map (receipt_fact A n q) past) (receipt_fact A n q x)
+facts-push A n q past x = filter_map-append (receipt_fact A n q) past (x ∷ []) ∙ by (receipt_fact A n q x)
+  where
+    by : (o : Option ReceiptFact) → filter_map (receipt_fact A n q) past ++ cons_option o [] ≡ with_more (filter_map (receipt_fact A n q) past) o
+    by None = append-nil (filter_map (receipt_fact A n q) past)
+    by (Some f) = refl
+
+since-push : (p : Partner) (facts : List ReceiptFact) (f : ReceiptFact) → since_queued p (facts ++ f ∷ []) ≡ queued_by p (since_queued p facts) f
+unfolding since_queued
+since-push p facts f = fold_last (queued_by p) None facts f
+
+-- ---- how a receipt stands
+
+abbrev StandsAs : How → Partner → List ReceiptFact → InEntry → Type 0
+StandsAs NoReceipt p facts e = (e.mdn ≡ Unasked) × (e.tries ≡ 0) × (e.attempt ≡ Idle) × (e.due ≡ None)
+StandsAs Sync p facts e = (e.mdn ≡ Sent) × (e.tries ≡ 0) × (e.attempt ≡ Idle) × (e.due ≡ None)
+StandsAs (Async url) p facts e = (since : Found ℕ Fact) × (since_queued p facts ≡ Some since) × Owed p since e
+
+-- the entry of this number and document stands as the events tell
+record Stands (A : Agreements) (n : ℕ) (past : List Done) (q : Posted) (e : InEntry) : Type 0 where
+  partner : Partner
+  agreed : AreAgreed A q.receiver q.sender partner
+  stands : StandsAs q.how partner (filter_map (receipt_fact A n q) past) e
+
+-- one more event, that leaves the entry so
+stands_on : (A : Agreements) (n : ℕ) (past : List Done) (x : Done) (q : Posted) (e later : InEntry) → Stands A n past q e → ((p : Partner) (facts : List ReceiptFact) → AreAgreed A q.receiver q.sender p → StandsAs q.how p facts e → StandsAs q.how p (with_more facts (receipt_fact A n q x)) later) → Stands A n (past ++ x ∷ []) q later
+stands_on A n past x q e later h moves = record {
+  partner = h.partner;
+  agreed = h.agreed;
+  stands = subst (λ (facts : List ReceiptFact). StandsAs q.how h.partner facts later) (sym (facts-push A n q past x)) (moves h.partner (filter_map (receipt_fact A n q) past) h.agreed h.stands);
+}
+
+-- one more event that is no fact of it
+stands_still : (A : Agreements) (n : ℕ) (past : List Done) (x : Done) (q : Posted) (e : InEntry) → receipt_fact A n q x ≡ None → Stands A n past q e → Stands A n (past ++ x ∷ []) q e
+stands_still A n past x q e none h = stands_on A n past x q e e h (λ p facts agreed stands. subst (λ (o : Option ReceiptFact). StandsAs q.how p (with_more facts o) e) (sym none) stands)
+
+-- ---- a repeat
+
+unqueued : (m : ℕ) (e : InEntry) → is_async e.posted.how ≡ false → queued_again m e ≡ e
+unqueued m e h = rw h refl
+
+reposted : (how : How) (p : Partner) (facts : List ReceiptFact) (m : ℕ) (e : InEntry) → e.posted.how ≡ how → StandsAs how p facts e → StandsAs how p (facts ++ APost m ∷ []) (queued_again m e)
+reposted NoReceipt p facts m e is h = subst (StandsAs NoReceipt p (facts ++ APost m ∷ [])) (sym (unqueued m e (ap is_async is))) h
+reposted Sync p facts m e is h = subst (StandsAs Sync p (facts ++ APost m ∷ [])) (sym (unqueued m e (ap is_async is))) h
+reposted (Async url) p facts m e is h = (
+  if is_delivered h.0.after || are_used p h.0.after then place [] m else h.0,
+  since-push p facts (APost m) ∙ ap (λ (o : Option (Found ℕ Fact)). queued_by p o (APost m)) h.1,
+  reposted_owed p h.0 m e (ap is_async is) h.2,
+)
+
+-- ---- a try begins
+
+-- what a BeginMdn that was answered so is to the receipt
+abbrev begin_fact : ℕ → Answer → Option ReceiptFact
+begin_fact m a = if is_job a then Some (OfATry (ATry m)) else None
+
+since_begun : (p : Partner) (facts : List ReceiptFact) (since : Found ℕ Fact) (m : ℕ) (a : Answer) → since_queued p facts ≡ Some since → since_queued p (with_more facts (begin_fact m a)) ≡ Some (with_try since m a)
+since_begun p facts since m a is = by (is_job a)
+  where
+    by : (b : Bool) → since_queued p (with_more facts (if b then Some (OfATry (ATry m)) else None)) ≡ Some (place (with_fact since.after (if b then Some (ATry m) else None)) since.it)
+    by true = since-push p facts (OfATry (ATry m)) ∙ ap (λ (o : Option (Found ℕ Fact)). queued_by p o (OfATry (ATry m))) is
+    by false = is
+
+begun : (A : Agreements) (how : How) (p : Partner) (facts : List ReceiptFact) (m : ℕ) (e : InEntry) → AreAgreed A e.posted.receiver e.posted.sender p → StandsAs how p facts e → StandsAs how p (with_more facts (begin_fact m (mdn_begun A m e).0)) (mdn_begun A m e).1
+begun A NoReceipt p facts m e agreed h = subst (StandsAs NoReceipt p (with_more facts (begin_fact m (mdn_begun A m e).0))) (sym (never_begun A p m e agreed (ap is_pending h.0))) h
+begun A Sync p facts m e agreed h = subst (StandsAs Sync p (with_more facts (begin_fact m (mdn_begun A m e).0))) (sym (never_begun A p m e agreed (ap is_pending h.0))) h
+begun A (Async url) p facts m e agreed h = (
+  with_try h.0 m (mdn_begun A m e).0,
+  since_begun p facts h.0 m (mdn_begun A m e).0 h.1,
+  begun_owed A p h.0 m e agreed h.2,
+)
+
+-- ---- a try ends
+
+closed : (A : Agreements) (how : How) (p : Partner) (facts : List ReceiptFact) (got : TryAnswer) (m : ℕ) (e : InEntry) → AreAgreed A e.posted.receiver e.posted.sender p → StandsAs how p facts e → StandsAs how p (facts ++ OfATry (AnOutcome m got) ∷ []) (mdn_closed A got m e).1
+closed A NoReceipt p facts got m e agreed h = subst (StandsAs NoReceipt p (facts ++ OfATry (AnOutcome m got) ∷ [])) (sym (never_closed A p got m e agreed (ap is_pending h.0))) h
+closed A Sync p facts got m e agreed h = subst (StandsAs Sync p (facts ++ OfATry (AnOutcome m got) ∷ [])) (sym (never_closed A p got m e agreed (ap is_pending h.0))) h
+closed A (Async url) p facts got m e agreed h = (
+  more h.0 (AnOutcome m got),
+  since-push p facts (OfATry (AnOutcome m got)) ∙ ap (λ (o : Option (Found ℕ Fact)). queued_by p o (OfATry (AnOutcome m got))) h.1,
+  closed_owed A p h.0 got m e agreed h.2,
+)
+
+-- ---- the names of a posted document are agreed
+
+IsKnown : Agreements → Reading → Type 0
+IsKnown A (Refuses status line) = ⊤
+IsKnown A (IsReceipt r) = ⊤
+IsKnown A (IsDocument q) = (p : Partner) × AreAgreed A q.receiver q.sender p
+
+needs_known : {X : Type 0} (A : Agreements) (o : Option X) (status : ℕ) (line : Line) (rest : X → Reading) → ((x : X) → IsKnown A (rest x)) → IsKnown A (needs o status line rest)
+unfolding IsKnown
+needs_known A None status line rest h = tt
+needs_known A (Some x) status line rest h = h x
+
+if_known : (A : Agreements) (b : Bool) (x y : Reading) → IsKnown A x → IsKnown A y → IsKnown A (if b then x else y)
+if_known A true x y h g = h
+if_known A false x y h g = g
+
+-- the agreements have both names, or the post is refused
+if_agreed : (A : Agreements) (ours theirs : Bool) (rest : Reading) → (ours ≡ true → theirs ≡ true → IsKnown A rest) → IsKnown A (if not (ours && theirs) then Refuses 403 UnknownNames else rest)
+unfolding IsKnown
+if_agreed A true true rest h = h refl refl
+if_agreed A true false rest h = tt
+if_agreed A false theirs rest h = tt
+
+agreed_names : (A : Agreements) (names : Text × Text) → is_organization A names.1 ≡ true → is_some (partner_of A names.0) ≡ true → (p : Partner) × AreAgreed A names.1 names.0 p
+agreed_names A names ours theirs = let known = is_some_value (partner_of A names.0) theirs in (known.0, record { ours = ours; theirs = known.1 })
+
+reading_known : (A : Agreements) (head : Head) (body : Text) → IsKnown A (reading A head body)
+unfolding reading IsKnown
+reading_known A head body =
+    needs_known A (names_of head) 400 BadNames _ (λ names.
+    if_known A (not (version_fits head)) (Refuses 400 BadVersion) _ tt
+    (if_agreed A (is_organization A names.1) (is_some (partner_of A names.0)) _ (λ ours theirs.
+    needs_known A (type_of head) 400 BadType _ (λ type.
+    if_known A (is_report type.0) _ _
+    (needs_known A (report_in type.0 body) 400 UnreadableReceipt _ (λ r. tt))
+    (needs_known A (id_of head) 400 BadId _ (λ id. needs_known A (ask_of head) 400 BadAsk _ (λ ask. agreed_names A names ours theirs)))))))
+
+document_known : (A : Agreements) (r : Reading) (q : Posted) → IsKnown A r → r ≡ IsDocument q → (p : Partner) × AreAgreed A q.receiver q.sender p
+unfolding IsKnown
+document_known A r q h is = subst (IsKnown A) is h
+
+-- ---- look-ups
+
+received_number : (s : State) (n : ℕ) (e : InEntry) → received s n ≡ Some e → e.number ≡ n
+received_number s n e h = number_is e.number n (find_passes (λ (x : InEntry). x.number == n) s.inbox e h)
+
+changed_number : (n : ℕ) (f : InEntry → InEntry) → ((e : InEntry) → lasting (f e) ≡ lasting e) → (e : InEntry) → (if e.number == n then f e else e).number ≡ e.number
+changed_number n f kept e = by (e.number == n)
+  where
+    by : (b : Bool) → (if b then f e else e).number ≡ e.number
+    by true = ap (λ (x : ℕ × Posted). x.0) (kept e)
+    by false = refl
+
+received-changed : (s : State) (n : ℕ) (f : InEntry → InEntry) (k : ℕ) → ((e : InEntry) → lasting (f e) ≡ lasting e) → received (change_received s n f) k ≡ option_map (λ (e : InEntry). if e.number == n then f e else e) (received s k)
+received-changed s n f k kept = find-map (λ (e : InEntry). e.number == k) (λ (e : InEntry). if e.number == n then f e else e) (λ e. ap (λ (j : ℕ). j == k) (changed_number n f kept e)) s.inbox
+
+received-changed_same : (s : State) (n : ℕ) (f : InEntry → InEntry) (e : InEntry) → ((d : InEntry) → lasting (f d) ≡ lasting d) → received s n ≡ Some e → received (change_received s n f) n ≡ Some (f e)
+received-changed_same s n f e kept h = received-changed s n f n kept ∙ rw (h, received_number s n e h, same_number) refl
+
+received-changed_other : (s : State) (n : ℕ) (f : InEntry → InEntry) (k : ℕ) → ((d : InEntry) → lasting (f d) ≡ lasting d) → (k == n) ≡ false → received (change_received s n f) k ≡ received s k
+received-changed_other s n f k kept apart = received-changed s n f k kept ∙ by (received s k) refl
+  where
+    by : (o : Option InEntry) → received s k ≡ o → option_map (λ (e : InEntry). if e.number == n then f e else e) o ≡ o
+    by None h = refl
+    by (Some e) h = rw (received_number s k e h, apart) refl
+
+-- the entry that a key finds is the one of its number
+found_by_key : (A : Agreements) (s : State) (q : Posted) (d : InEntry) → IsWellFormed A s → received_as s q ≡ Some d → received s d.number ≡ Some d
+found_by_key A s q d formed found = by (received s d.number) refl
+  where
+    by : (o : Option InEntry) → received s d.number ≡ o → o ≡ Some d
+    by None none = absurd (false≢true (sym (find_none (λ (e : InEntry). e.number == d.number) (λ (e : InEntry). same_key e.posted q) s.inbox d none found) ∙ same_number d.number))
+    by (Some e) is =
+        let num : e.number ≡ d.number = received_number s d.number e is in
+        ap Some (one_found (λ a b. a == b) (λ (x : InEntry). x.number) (λ (x : InEntry). x.number == d.number) (λ (x : InEntry). same_key x.posted q) s.inbox e d formed.received.numbers.distinct is found (rw num (same_number d.number)) (rw num (same_number d.number)))
+
+-- and the only one that the post repeats
+repeated_is : (A : Agreements) (s : State) (q : Posted) (d e : InEntry) (n : ℕ) → IsWellFormed A s → received_as s q ≡ Some d → received s n ≡ Some e → repeats e.posted q ≡ true → e ≡ d
+repeated_is A s q d e n formed found is same =
+    let it : e.posted ≡ q = repeat_is e.posted q same in
+    let key : same_key d.posted q ≡ true = find_passes (λ (x : InEntry). same_key x.posted q) s.inbox d found in
+    one_found same_key (λ (x : InEntry). x.posted) (λ (x : InEntry). x.number == n) (λ (x : InEntry). same_key x.posted q) s.inbox e d formed.received.keys is found
+    (rw it (key_turned d.posted q key)) (rw it key)
+
+-- ---- what a run keeps
+
+record KeepsReceipts (A : Agreements) (past : List Done) (s : State) : Type 0 where
+  formed : IsWellFormed A s
+  each : (n : ℕ) (e : InEntry) → received s n ≡ Some e → Stands A n past e.posted e
+  unposted : (q : Posted) → received_as s q ≡ None → (n : ℕ) (p : Partner) → since_queued p (filter_map (receipt_fact A n q) past) ≡ None
+
+-- what isn't there wasn't there
+gone_before : (s s' : State) (q : Posted) → Grows s s' → received_as s' q ≡ None → received_as s q ≡ None
+gone_before s s' q grows none = by (received_as s q) refl
+  where
+    key : ℕ × Posted → Bool
+    key z = same_key z.1 q
+
+    here : option_map lasting (received_as s' q) ≡ option_or (option_map lasting (received_as s q)) (find key grows.0)
+    here =
+        sym (find-lasting q s'.inbox) ∙ ap (find key) grows.1 ∙ find-append key (entries s) grows.0
+        ∙ ap (λ (o : Option (ℕ × Posted)). option_or o (find key grows.0)) (find-lasting q s.inbox)
+
+    by : (o : Option InEntry) → received_as s q ≡ o → o ≡ None
+    by None h = refl
+    by (Some e) h =
+        let two : None ≡ Some (lasting e) = sym (ap (option_map lasting) none) ∙ here ∙ ap (λ (o : Option InEntry). option_or (option_map lasting o) (find key grows.0)) h in
+        absurd (cc)
+
+-- an event that isn't the first post of the document
+still_unposted : (A : Agreements) (n : ℕ) (q : Posted) (p : Partner) (past : List Done) (x : Done) → ((j : ℕ) → receipt_fact A n q x ≡ Some (APost j) → ⊥) → since_queued p (filter_map (receipt_fact A n q) past) ≡ None → since_queued p (filter_map (receipt_fact A n q) (past ++ x ∷ [])) ≡ None
+still_unposted A n q p past x never h = ap (since_queued p) (facts-push A n q past x) ∙ by (receipt_fact A n q x) never
+  where
+    by : (o : Option ReceiptFact) → ((j : ℕ) → o ≡ Some (APost j) → ⊥) → since_queued p (with_more (filter_map (receipt_fact A n q) past) o) ≡ None
+    by None never = h
+    by (Some (APost j)) never = absurd (never j refl)
+    by (Some (OfATry f)) never = since-push p (filter_map (receipt_fact A n q) past) (OfATry f) ∙ ap (λ (o : Option (Found ℕ Fact)). queued_by p o (OfATry f)) h
+
+unposted_on : (A : Agreements) (past : List Done) (s s' : State) (x : Done) → KeepsReceipts A past s → Grows s s' → ((q : Posted) (n : ℕ) → received_as s' q ≡ None → (j : ℕ) → receipt_fact A n q x ≡ Some (APost j) → ⊥) → (q : Posted) → received_as s' q ≡ None → (n : ℕ) (p : Partner) → since_queued p (filter_map (receipt_fact A n q) (past ++ x ∷ [])) ≡ None
+unposted_on A past s s' x keeps grows never q none n p = still_unposted A n q p past x (never q n none) (keeps.unposted q (gone_before s s' q grows none) n p)
+
+-- an event that leaves the inbox, and is no fact of any receipt
+quiet : (A : Agreements) (past : List Done) (s s' : State) (x : Done) → KeepsReceipts A past s → IsWellFormed A s' → Grows s s' → s'.inbox ≡ s.inbox → ((n : ℕ) (q : Posted) → receipt_fact A n q x ≡ None) → KeepsReceipts A (past ++ x ∷ []) s'
+quiet A past s s' x keeps formed grows same none = record {
+  formed = formed;
+  each = λ n e is. stands_still A n past x e.posted e (none n e.posted) (keeps.each n e (ap (find (λ (d : InEntry). d.number == n)) (sym same) ∙ is));
+  unposted = unposted_on A past s s' x keeps grows (λ q n gone j h. let two : None ≡ Some (APost j) = sym (none n q) ∙ h in absurd (cc));
+}
+
+-- ---- a try of one receipt begins or ends
+
+-- the entry that the event acts on, or another one
+acted_entry : (A : Agreements) (past : List Done) (s : State) (k : ℕ) (act : InEntry → Answer × InEntry) (e : Event) (d : InEntry) → KeepsReceipts A past s → ((z : InEntry) → lasting (act z).1 ≡ lasting z) → ((n : ℕ) (q : Posted) (a : Answer) → (k == n) ≡ false → receipt_fact A n q (done e a) ≡ None) → ((z : InEntry) (p : Partner) (facts : List ReceiptFact) → AreAgreed A z.posted.receiver z.posted.sender p → StandsAs z.posted.how p facts z → StandsAs z.posted.how p (with_more facts (receipt_fact A k z.posted (done e (act z).0))) (act z).1) → received s k ≡ Some d → (n : ℕ) (x : InEntry) → received (change_received s k (λ z. (act z).1)) n ≡ Some x → (b : Bool) → (k == n) ≡ b → Stands A n (past ++ done e (act d).0 ∷ []) x.posted x
+acted_entry A past s k act e d keeps kept silent moves found n x is false h =
+    stands_still A n past (done e (act d).0) x.posted x (silent n x.posted (act d).0 h)
+    (keeps.each n x (sym (received-changed_other s k (λ z. (act z).1) n kept (apart_turned k n k refl h)) ∙ is))
+acted_entry A past s k act e d keeps kept silent moves found n x is true h =
+    let same : k ≡ n = number_is k n h in
+    let it : (act d).1 ≡ x = same_Some _ _ (sym (received-changed_same s k (λ z. (act z).1) d kept found) ∙ ap (received (change_received s k (λ z. (act z).1))) same ∙ is) in
+    let posted : (act d).1.posted ≡ d.posted = ap (λ (z : ℕ × Posted). z.1) (kept d) in
+    let stood = stands_on A k past (done e (act d).0) d.posted d (act d).1 (keeps.each k d found) (moves d) in
+    let of_it = subst (λ (q : Posted). Stands A k (past ++ done e (act d).0 ∷ []) q (act d).1) (sym posted) stood in
+    let of_x = subst (λ (z : InEntry). Stands A k (past ++ done e (act d).0 ∷ []) z.posted z) it of_it in
+    subst (λ (j : ℕ). Stands A j (past ++ done e (act d).0 ∷ []) x.posted x) same of_x
+
+acted_receipts : (A : Agreements) (past : List Done) (s : State) (k : ℕ) (act : InEntry → Answer × InEntry) (e : Event) → KeepsReceipts A past s → ((z : InEntry) → lasting (act z).1 ≡ lasting z) → ((n : ℕ) (q : Posted) (a : Answer) → (k == n) ≡ false → receipt_fact A n q (done e a) ≡ None) → ((n : ℕ) (q : Posted) (a : Answer) (j : ℕ) → receipt_fact A n q (done e a) ≡ Some (APost j) → ⊥) → ((z : InEntry) (p : Partner) (facts : List ReceiptFact) → AreAgreed A z.posted.receiver z.posted.sender p → StandsAs z.posted.how p facts z → StandsAs z.posted.how p (with_more facts (receipt_fact A k z.posted (done e (act z).0))) (act z).1) → (o : Option InEntry) → received s k ≡ o → IsWellFormed A (acted_in s k act o).1 → Grows s (acted_in s k act o).1 → KeepsReceipts A (past ++ done e (acted_in s k act o).0 ∷ []) (acted_in s k act o).1
+acted_receipts A past s k act e keeps kept silent never moves None none formed grows = record {
+  formed = formed;
+  each = λ n d is. stands_still A n past (done e (Refused NoSuchNumber)) d.posted d (silent n d.posted (Refused NoSuchNumber) (absent n d is (k == n) refl)) (keeps.each n d is);
+  unposted = unposted_on A past s s (done e (Refused NoSuchNumber)) keeps grows (λ q n gone. never n q (Refused NoSuchNumber));
+}
+  where
+    absent : (n : ℕ) (d : InEntry) → received s n ≡ Some d → (b : Bool) → (k == n) ≡ b → (k == n) ≡ false
+    absent n d is false h = h
+    absent n d is true h = absurd (let same : k ≡ n = number_is k n h in let two : None ≡ Some d = sym none ∙ ap (received s) same ∙ is in cc)
+acted_receipts A past s k act e keeps kept silent never moves (Some d) found formed grows = record {
+  formed = formed;
+  each = λ n x is. acted_entry A past s k act e d keeps kept silent moves found n x is (k == n) refl;
+  unposted = unposted_on A past s (change_received s k (λ z. (act z).1)) (done e (act d).0) keeps grows (λ q n gone. never n q (act d).0);
+}
+
+no_post : (b : Bool) (f : Fact) (j : ℕ) → (if b then Some (OfATry f) else None) ≡ Some (APost j) → ⊥
+no_post true f j h = absurd (cc)
+no_post false f j h = absurd (cc)
+
+begin_silent : (A : Agreements) (k m n : ℕ) (q : Posted) (a : Answer) → (k == n) ≡ false → receipt_fact A n q (done (BeginMdn k m) a) ≡ None
+unfolding receipt_fact
+begin_silent A k m n q a apart = rw apart refl
+
+begin_never : (A : Agreements) (k m n : ℕ) (q : Posted) (a : Answer) (j : ℕ) → receipt_fact A n q (done (BeginMdn k m) a) ≡ Some (APost j) → ⊥
+unfolding receipt_fact
+begin_never A k m n q a j h = no_post ((k == n) && is_job a) (ATry m) j h
+
+begin_fact_is : (A : Agreements) (k m : ℕ) (q : Posted) (a : Answer) → receipt_fact A k q (done (BeginMdn k m) a) ≡ begin_fact m a
+unfolding receipt_fact
+begin_fact_is A k m q a = ap (λ (b : Bool). if b && is_job a then Some (OfATry (ATry m)) else None) (same_number k)
+
+outcome_silent : (A : Agreements) (k : ℕ) (got : TryAnswer) (m n : ℕ) (q : Posted) (a : Answer) → (k == n) ≡ false → receipt_fact A n q (done (OutcomeMdn k got m) a) ≡ None
+unfolding receipt_fact
+outcome_silent A k got m n q a apart = rw apart refl
+
+outcome_never : (A : Agreements) (k : ℕ) (got : TryAnswer) (m n : ℕ) (q : Posted) (a : Answer) (j : ℕ) → receipt_fact A n q (done (OutcomeMdn k got m) a) ≡ Some (APost j) → ⊥
+unfolding receipt_fact
+outcome_never A k got m n q a j h = no_post (k == n) (AnOutcome m got) j h
+
+outcome_fact_is : (A : Agreements) (k : ℕ) (got : TryAnswer) (m : ℕ) (q : Posted) (a : Answer) → receipt_fact A k q (done (OutcomeMdn k got m) a) ≡ Some (OfATry (AnOutcome m got))
+unfolding receipt_fact
+outcome_fact_is A k got m q a = ap (λ (b : Bool). if b then Some (OfATry (AnOutcome m got)) else None) (same_number k)
+
+begin_receipts : (A : Agreements) (past : List Done) (s : State) (k m : ℕ) → KeepsReceipts A past s → let y = acted_in s k (mdn_begun A m) (received s k) in IsWellFormed A y.1 → Grows s y.1 → KeepsReceipts A (past ++ done (BeginMdn k m) y.0 ∷ []) y.1
+begin_receipts A past s k m keeps formed grows =
+    acted_receipts A past s k (mdn_begun A m) (BeginMdn k m) keeps (mdn_begun_lasting A m) (begin_silent A k m) (begin_never A k m)
+    (λ z p facts agreed h. subst (λ (o : Option ReceiptFact). StandsAs z.posted.how p (with_more facts o) (mdn_begun A m z).1) (sym (begin_fact_is A k m z.posted (mdn_begun A m z).0)) (begun A z.posted.how p facts m z agreed h))
+    (received s k) refl formed grows
+
+outcome_receipts : (A : Agreements) (past : List Done) (s : State) (k : ℕ) (got : TryAnswer) (m : ℕ) → KeepsReceipts A past s → let y = acted_in s k (mdn_closed A got m) (received s k) in IsWellFormed A y.1 → Grows s y.1 → KeepsReceipts A (past ++ done (OutcomeMdn k got m) y.0 ∷ []) y.1
+outcome_receipts A past s k got m keeps formed grows =
+    acted_receipts A past s k (mdn_closed A got m) (OutcomeMdn k got m) keeps (mdn_closed_lasting A got m) (outcome_silent A k got m) (outcome_never A k got m)
+    (λ z p facts agreed h. subst (λ (o : Option ReceiptFact). StandsAs z.posted.how p (with_more facts o) (mdn_closed A got m z).1) (sym (outcome_fact_is A k got m z.posted (mdn_closed A got m z).0)) (closed A z.posted.how p facts got m z agreed h))
+    (received s k) refl formed grows
+
+-- ---- a document is posted
+
+-- what the post of q at moment m is to the receipt for p
+abbrev PostsFor : Agreements → Done → ℕ → Posted → Type 0
+PostsFor A x m q = (n : ℕ) (p : Posted) → receipt_fact A n p x ≡ (if repeats p q then Some (APost m) else None)
+
+posts_for : (A : Agreements) (head : Head) (body : Text) (m : ℕ) (a : Answer) (q : Posted) → reading A head body ≡ IsDocument q → PostsFor A (done (Post head body m) a) m q
+unfolding receipt_fact
+posts_for A head body m a q is n p = rw is refl
+
+not_posted : (A : Agreements) (x : Done) (m : ℕ) (q : Posted) (n : ℕ) (p : Posted) → PostsFor A x m q → repeats p q ≡ false → receipt_fact A n p x ≡ None
+not_posted A x m q n p post h = post n p ∙ rw h refl
+
+is_posted : (A : Agreements) (x : Done) (m : ℕ) (q : Posted) (n : ℕ) (p : Posted) → PostsFor A x m q → repeats p q ≡ true → receipt_fact A n p x ≡ Some (APost m)
+is_posted A x m q n p post h = post n p ∙ rw h refl
+
+post_repeats : (A : Agreements) (x : Done) (m : ℕ) (q : Posted) (n : ℕ) (p : Posted) → PostsFor A x m q → (j : ℕ) → receipt_fact A n p x ≡ Some (APost j) → p ≡ q
+post_repeats A x m q n p post j h = by (repeats p q) refl (sym (post n p) ∙ h)
+  where
+    by : (b : Bool) → repeats p q ≡ b → (if b then Some (APost m) else None) ≡ Some (APost j) → p ≡ q
+    by true is g = repeat_is p q is
+    by false is g = absurd (cc)
+
+-- a receipt as it is first owed
+first_stands : (how : How) (p : Partner) (facts : List ReceiptFact) (n m : ℕ) (q : Posted) → q.how ≡ how → since_queued p facts ≡ Some (place [] m) → StandsAs how p facts (first_entry n m q)
+first_stands NoReceipt p facts n m q is since = (rw is refl, refl, refl, rw is refl)
+first_stands Sync p facts n m q is since = (rw is refl, refl, refl, rw is refl)
+first_stands (Async url) p facts n m q is since = (place [] m, since, queued_owed p m (first_entry n m q) (rw is refl) refl refl (rw is refl))
+
+abbrev with_first : State → ℕ → Posted → State
+with_first s m q = record s { inbox = s.inbox ++ first_entry s.next_in m q ∷ []; next_in = s.next_in + 1 }
+
+fresh_receipts : (A : Agreements) (past : List Done) (s : State) (m : ℕ) (q : Posted) (x : Done) → KeepsReceipts A past s → PostsFor A x m q → ((p : Partner) × AreAgreed A q.receiver q.sender p) → received_as s q ≡ None → IsWellFormed A (with_first s m q) → Grows s (with_first s m q) → KeepsReceipts A (past ++ x ∷ []) (with_first s m q)
+fresh_receipts A past s m q x keeps post known none formed grows = record {
+  formed = formed;
+  each = λ n e is. by n e (received s n) refl (sym (find-append (λ (d : InEntry). d.number == n) s.inbox (first_entry s.next_in m q ∷ [])) ∙ is);
+  unposted = unposted_on A past s (with_first s m q) x keeps grows never;
+}
+  where
+    other : (n : ℕ) (d : InEntry) → received s n ≡ Some d → (b : Bool) → repeats d.posted q ≡ b → repeats d.posted q ≡ false
+    other n d is false h = h
+    other n d is true h =
+        let key : same_key d.posted q ≡ false = find_none (λ (e : InEntry). same_key e.posted q) (λ (e : InEntry). e.number == n) s.inbox d none is in
+        absurd (false≢true (sym key ∙ ap (λ (p : Posted). same_key p q) (repeat_is d.posted q h) ∙ key_same q))
+
+    its_first : (n : ℕ) → Stands A n (past ++ x ∷ []) q (first_entry s.next_in m q)
+    its_first n = record {
+      partner = known.0;
+      agreed = known.1;
+      stands = first_stands q.how known.0 (filter_map (receipt_fact A n q) (past ++ x ∷ [])) s.next_in m q refl
+          (ap (since_queued known.0) (facts-push A n q past x)
+          ∙ ap (λ (o : Option ReceiptFact). since_queued known.0 (with_more (filter_map (receipt_fact A n q) past) o)) (is_posted A x m q n q post (repeats_itself q))
+          ∙ since-push known.0 (filter_map (receipt_fact A n q) past) (APost m)
+          ∙ ap (λ (o : Option (Found ℕ Fact)). queued_by known.0 o (APost m)) (keeps.unposted q none n known.0));
+    }
+
+    new : (n : ℕ) (e : InEntry) (b : Bool) → (if b then Some (first_entry s.next_in m q) else None) ≡ Some e → Stands A n (past ++ x ∷ []) e.posted e
+    new n e true h = subst (λ (z : InEntry). Stands A n (past ++ x ∷ []) z.posted z) (same_Some _ _ h) (its_first n)
+    new n e false h = absurd (cc)
+
+    by : (n : ℕ) (e : InEntry) (o : Option InEntry) → received s n ≡ o → option_or o (find (λ (d : InEntry). d.number == n) (first_entry s.next_in m q ∷ [])) ≡ Some e → Stands A n (past ++ x ∷ []) e.posted e
+    by n e (Some d) at h =
+        subst (λ (z : InEntry). Stands A n (past ++ x ∷ []) z.posted z) (same_Some _ _ h)
+        (stands_still A n past x d.posted d (not_posted A x m q n d.posted post (other n d at (repeats d.posted q) refl)) (keeps.each n d at))
+    by n e None at h = new n e (s.next_in == n) h
+
+    never : (p : Posted) (n : ℕ) → received_as (with_first s m q) p ≡ None → (j : ℕ) → receipt_fact A n p x ≡ Some (APost j) → ⊥
+    never p n gone j h =
+        let it : p ≡ q = post_repeats A x m q n p post j h in
+        let there : received_as (with_first s m q) q ≡ Some (first_entry s.next_in m q) = find-append (λ (e : InEntry). same_key e.posted q) s.inbox (first_entry s.next_in m q ∷ []) ∙ rw (none, key_same q) refl in
+        let two : None ≡ Some (first_entry s.next_in m q) = sym gone ∙ ap (received_as (with_first s m q)) it ∙ there in
+        absurd (cc)
+
+-- a document that was posted before
+never_new : (A : Agreements) (s s' : State) (x : Done) (m : ℕ) (q : Posted) (d : InEntry) → PostsFor A x m q → Grows s s' → received_as s q ≡ Some d → (p : Posted) (n : ℕ) → received_as s' p ≡ None → (j : ℕ) → receipt_fact A n p x ≡ Some (APost j) → ⊥
+never_new A s s' x m q d post grows found p n gone j h =
+    let it : p ≡ q = post_repeats A x m q n p post j h in
+    let two : None ≡ Some d = sym (gone_before s s' p grows gone) ∙ ap (received_as s) it ∙ found in
+    absurd (cc)
+
+-- no other entry is repeated
+others_not : (A : Agreements) (s : State) (q : Posted) (d e : InEntry) (n : ℕ) → IsWellFormed A s → received_as s q ≡ Some d → received s n ≡ Some e → (e ≡ d → ⊥) → (b : Bool) → repeats e.posted q ≡ b → repeats e.posted q ≡ false
+others_not A s q d e n formed found is other false h = h
+others_not A s q d e n formed found is other true h = absurd (other (repeated_is A s q d e n formed found is h))
+
+repeated_entry : (A : Agreements) (past : List Done) (s : State) (m : ℕ) (q : Posted) (x : Done) (d : InEntry) → KeepsReceipts A past s → PostsFor A x m q → received_as s q ≡ Some d → repeats d.posted q ≡ true → (n : ℕ) (e : InEntry) → received (change_received s d.number (queued_again m)) n ≡ Some e → (b : Bool) → (d.number == n) ≡ b → Stands A n (past ++ x ∷ []) e.posted e
+repeated_entry A past s m q x d keeps post found same n e is false h =
+    let at : received s n ≡ Some e = sym (received-changed_other s d.number (queued_again m) n (queued_lasting m) (apart_turned d.number n d.number refl h)) ∙ is in
+    let num : e.number ≡ n = received_number s n e at in
+    stands_still A n past x e.posted e
+    (not_posted A x m q n e.posted post (others_not A s q d e n keeps.formed found at (λ it. false≢true (sym h ∙ ap (λ (j : ℕ). d.number == j) (sym num ∙ ap (λ (z : InEntry). z.number) it) ∙ same_number d.number)) (repeats e.posted q) refl))
+    (keeps.each n e at)
+repeated_entry A past s m q x d keeps post found same n e is true h =
+    let num : d.number ≡ n = number_is d.number n h in
+    let at : received s d.number ≡ Some d = found_by_key A s q d keeps.formed found in
+    let it : queued_again m d ≡ e = same_Some _ _ (sym (received-changed_same s d.number (queued_again m) d (queued_lasting m) at) ∙ ap (received (change_received s d.number (queued_again m))) num ∙ is) in
+    let posted : (queued_again m d).posted ≡ d.posted = ap (λ (z : ℕ × Posted). z.1) (queued_lasting m d) in
+    let stood = stands_on A d.number past x d.posted d (queued_again m d) (keeps.each d.number d at) (λ p facts agreed stands. subst (λ (o : Option ReceiptFact). StandsAs d.posted.how p (with_more facts o) (queued_again m d)) (sym (is_posted A x m q d.number d.posted post same)) (reposted d.posted.how p facts m d refl stands)) in
+    let of_it = subst (λ (p : Posted). Stands A d.number (past ++ x ∷ []) p (queued_again m d)) (sym posted) stood in
+    let of_e = subst (λ (z : InEntry). Stands A d.number (past ++ x ∷ []) z.posted z) it of_it in
+    subst (λ (j : ℕ). Stands A j (past ++ x ∷ []) e.posted e) num of_e
+
+repeated_receipts : (A : Agreements) (past : List Done) (s : State) (m : ℕ) (q : Posted) (x : Done) (d : InEntry) → KeepsReceipts A past s → PostsFor A x m q → received_as s q ≡ Some d → repeats d.posted q ≡ true → IsWellFormed A (change_received s d.number (queued_again m)) → Grows s (change_received s d.number (queued_again m)) → KeepsReceipts A (past ++ x ∷ []) (change_received s d.number (queued_again m))
+repeated_receipts A past s m q x d keeps post found same formed grows = record {
+  formed = formed;
+  each = λ n e is. repeated_entry A past s m q x d keeps post found same n e is (d.number == n) refl;
+  unposted = unposted_on A past s (change_received s d.number (queued_again m)) x keeps grows (never_new A s (change_received s d.number (queued_again m)) x m q d post grows found);
+}
+
+clash_not : (A : Agreements) (s : State) (q : Posted) (d e : InEntry) (n : ℕ) → IsWellFormed A s → received_as s q ≡ Some d → repeats d.posted q ≡ false → received s n ≡ Some e → (b : Bool) → repeats e.posted q ≡ b → repeats e.posted q ≡ false
+clash_not A s q d e n formed found other is false h = h
+clash_not A s q d e n formed found other is true h = absurd (false≢true (sym other ∙ ap (λ (z : InEntry). repeats z.posted q) (sym (repeated_is A s q d e n formed found is h)) ∙ h))
+
+clash_receipts : (A : Agreements) (past : List Done) (s : State) (m : ℕ) (q : Posted) (x : Done) (d : InEntry) → KeepsReceipts A past s → PostsFor A x m q → received_as s q ≡ Some d → repeats d.posted q ≡ false → Grows s s → KeepsReceipts A (past ++ x ∷ []) s
+clash_receipts A past s m q x d keeps post found other grows = record {
+  formed = keeps.formed;
+  each = λ n e is. stands_still A n past x e.posted e (not_posted A x m q n e.posted post (clash_not A s q d e n keeps.formed found other is (repeats e.posted q) refl)) (keeps.each n e is);
+  unposted = unposted_on A past s s x keeps grows (never_new A s s x m q d post grows found);
+}
+
+left_receipts : (A : Agreements) (past : List Done) (s : State) (m : ℕ) (q : Posted) (x : Done) (y : Answer × State) → KeepsReceipts A past s → PostsFor A x m q → ((p : Partner) × AreAgreed A q.receiver q.sender p) → Left A s m q (received_as s q) y → IsWellFormed A y.1 → Grows s y.1 → KeepsReceipts A (past ++ x ∷ []) y.1
+left_receipts A past s m q x y keeps post known (fresh none small is) formed grows =
+    let at : y.1 ≡ with_first s m q = ap (λ (z : Answer × State). z.1) is in
+    subst (KeepsReceipts A (past ++ x ∷ [])) (sym at) (fresh_receipts A past s m q x keeps post known none (subst (IsWellFormed A) at formed) (subst (Grows s) at grows))
+left_receipts A past s m q x y keeps post known (repeated d there same is) formed grows =
+    let at : y.1 ≡ change_received s d.number (queued_again m) = ap (λ (z : Answer × State). z.1) is in
+    subst (KeepsReceipts A (past ++ x ∷ [])) (sym at) (repeated_receipts A past s m q x d keeps post there same (subst (IsWellFormed A) at formed) (subst (Grows s) at grows))
+left_receipts A past s m q x y keeps post known (clash d there other is) formed grows =
+    subst (KeepsReceipts A (past ++ x ∷ [])) (sym is) (clash_receipts A past s m q x d keeps post there other (subst (Grows s) is grows))
+
+-- ---- a step and a run
+
+refused_quiet : (A : Agreements) (head : Head) (body : Text) (m : ℕ) (a : Answer) (status : ℕ) (line : Line) → reading A head body ≡ Refuses status line → (n : ℕ) (q : Posted) → receipt_fact A n q (done (Post head body m) a) ≡ None
+unfolding receipt_fact
+refused_quiet A head body m a status line is n q = rw is refl
+
+receipt_quiet : (A : Agreements) (head : Head) (body : Text) (m : ℕ) (a : Answer) (r : Came) → reading A head body ≡ IsReceipt r → (n : ℕ) (q : Posted) → receipt_fact A n q (done (Post head body m) a) ≡ None
+unfolding receipt_fact
+receipt_quiet A head body m a r is n q = rw is refl
+
+other_quiet : (A : Agreements) (e : Event) (a : Answer) (n : ℕ) (q : Posted) → receipt_fact_of A n q a e ≡ None → receipt_fact A n q (done e a) ≡ None
+unfolding receipt_fact
+other_quiet A e a n q h = h
+
+post_receipts : (A : Agreements) (past : List Done) (s : State) (head : Head) (body : Text) (m : ℕ) (r : Reading) (y : Answer × State) → reading A head body ≡ r → KeepsReceipts A past s → post A s m r ≡ Some y → IsWellFormed A y.1 → Grows s y.1 → KeepsReceipts A (past ++ done (Post head body m) y.0 ∷ []) y.1
+unfolding record_post
+post_receipts A past s head body m (Refuses status line) y is keeps h formed grows = quiet A past s y.1 (done (Post head body m) y.0) keeps formed grows (ap (λ (z : Answer × State). z.1.inbox) (sym (same_Some _ y h))) (refused_quiet A head body m y.0 status line is)
+post_receipts A past s head body m (IsReceipt r) y is keeps h formed grows = quiet A past s y.1 (done (Post head body m) y.0) keeps formed grows (ap (λ (z : Answer × State). z.1.inbox) (sym (same_Some _ y h)) ∙ (settle_inbox s m r).0) (receipt_quiet A head body m y.0 r is)
+post_receipts A past s head body m (IsDocument q) y is keeps h formed grows = left_receipts A past s m q (done (Post head body m) y.0) y keeps (posts_for A head body m y.0 q is) (document_known A (reading A head body) q (reading_known A head body) is) (left_is A s m q (received_as s q) y h) formed grows
+
+step_receipts : (A : Agreements) (past : List Done) (s : State) (e : Event) (y : Answer × State) → KeepsReceipts A past s → step A s e ≡ Some y → IsWellFormed A y.1 → Grows s y.1 → KeepsReceipts A (past ++ done e y.0 ∷ []) y.1
+step_receipts A past s (Post head body m) y keeps h formed grows = post_receipts A past s head body m (reading A head body) y refl keeps h formed grows
+step_receipts A past s (Submit organization partner content m) y keeps h formed grows = quiet A past s y.1 _ keeps formed grows (submit_inbox A s organization partner content m y h) (λ n q. other_quiet A (Submit organization partner content m) y.0 n q refl)
+step_receipts A past s (Begin k m) y keeps h formed grows = quiet A past s y.1 _ keeps formed grows (ap (λ (z : Answer × State). z.1.inbox) (sym (same_Some _ y h)) ∙ acted_inbox s k (begun_document A m) (document s k)) (λ n q. other_quiet A (Begin k m) y.0 n q refl)
+step_receipts A past s (Outcome k got m) y keeps h formed grows = quiet A past s y.1 _ keeps formed grows (ap (λ (z : Answer × State). z.1.inbox) (sym (same_Some _ y h)) ∙ acted_inbox s k (closed_document A got m) (document s k)) (λ n q. other_quiet A (Outcome k got m) y.0 n q refl)
+step_receipts A past s (Tick m) y keeps h formed grows = quiet A past s y.1 _ keeps formed grows (ap (λ (z : Answer × State). z.1.inbox) (sym (same_Some _ y h)) ∙ tick_inbox m s) (λ n q. other_quiet A (Tick m) y.0 n q refl)
+step_receipts A past s (BeginMdn k m) y keeps h formed grows =
+    let at = same_Some _ y h in
+    subst (λ (z : Answer × State). KeepsReceipts A (past ++ done (BeginMdn k m) z.0 ∷ []) z.1) at
+    (begin_receipts A past s k m keeps (subst (λ (z : Answer × State). IsWellFormed A z.1) (sym at) formed) (subst (λ (z : Answer × State). Grows s z.1) (sym at) grows))
+step_receipts A past s (OutcomeMdn k got m) y keeps h formed grows =
+    let at = same_Some _ y h in
+    subst (λ (z : Answer × State). KeepsReceipts A (past ++ done (OutcomeMdn k got m) z.0 ∷ []) z.1) at
+    (outcome_receipts A past s k got m keeps (subst (λ (z : Answer × State). IsWellFormed A z.1) (sym at) formed) (subst (λ (z : Answer × State). Grows s z.1) (sym at) grows))
+
+nothing_received : (A : Agreements) (first : ℕ) → IsCounter first → KeepsReceipts A [] (empty first)
+unfolding since_queued
+nothing_received A first h = record { formed = empty_formed A first h; each = λ n e is. absurd (cc); unposted = λ q gone n p. refl }
+
+run_receipts : (A : Agreements) (past : List Done) (old : State) (trace : Trace) (new : State) → KeepsReceipts A past old → Run A old trace new → KeepsReceipts A (past ++ accepted trace) new
+run_receipts A past old [] new keeps run = rw (run, append-nil past) keeps
+run_receipts A past old ((e, Answered a) ∷ rest) new keeps run =
+    subst (λ (d : List Done). KeepsReceipts A d new) (append_assoc past (done e a ∷ []) (accepted rest))
+    (run_receipts A (past ++ done e a ∷ []) run.0 rest new (step_receipts A past old e (a, run.0) keeps run.1 (step_formed A old e (a, run.0) keeps.formed run.1) (step_grows A old e (a, run.0) run.1)) run.2)
+run_receipts A past old ((e, Failed fault) ∷ rest) new keeps run = run_receipts A past old rest new keeps run.1
+
+-- ---- the law
+
+stands_told : (how : How) (p : Partner) (facts : List ReceiptFact) (e : InEntry) → StandsAs how p facts e → receipt_by how p (since_queued p facts) ≡ Some (receipt_told e)
+stands_told NoReceipt p facts e h = λ i. Some (record { mdn = sym h.0 i; tries = sym h.1 i; attempt = sym h.2 i; due = sym h.3 i })
+stands_told Sync p facts e h = λ i. Some (record { mdn = sym h.0 i; tries = sym h.1 i; attempt = sym h.2 i; due = sym h.3 i })
+stands_told (Async url) p facts e h = ap (option_map (sent_later p)) h.1 ∙ (λ i. Some (record { mdn = sym h.2.state i; tries = sym h.2.count i; attempt = sym h.2.try i; due = sym h.2.wait i }))
+
+pub receipts_law : (A : Agreements) (first : ℕ) (trace : Trace) (s : State) → IsCounter first → Run A (empty first) trace s → (n : ℕ) (e : InEntry) → received s n ≡ Some e → receipt_history A (accepted trace) n e.posted ≡ Some (receipt_told e)
+receipts_law A first trace s h run n e is =
+    let stands = (run_receipts A [] (empty first) trace s (nothing_received A first h) run).each n e is in
+    ap (λ (o : Option Partner). option_and_then (λ (p : Partner). receipt_by e.posted.how p (since_queued p (filter_map (receipt_fact A n e.posted) (accepted trace)))) o) stands.agreed.theirs
+    ∙ stands_told e.posted.how stands.partner (filter_map (receipt_fact A n e.posted) (accepted trace)) e stands.stands

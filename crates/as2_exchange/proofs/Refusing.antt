@@ -1,0 +1,193 @@
+-- What is refused leaves the state as it was.
+use Rattle.std.proofs.Common.{◌≡◌, ℕ, ◌+◌, Bool, true, false, not, ◌&&◌, ◌||◌, List, [], ◌∷◌, ◌++◌, map, Option, Some, None, refl, sym, ap, ◌∙◌, subst}
+use Rattle.std.specs.Prelude.{option_and_then, is_some, ◌==◌, cond, if◌then◌else◌, nat_le, nat_lt, length}
+use Rattle.std.specs.Option.{option_map_or}
+use Rattle.std.specs.List.{AllByRecursion, IsDistinct, find}
+use Rattle.std.proofs.lemmas.Bool.{false≢true}
+use Rattle.std.proofs.lemmas.Option.{same_Some}
+use Rattle.as2_exchange.specs.Agreement.{Text, Agreements, Partner, Asked, NoReceipt, Sync, Async, is_organization, partner_of}
+use Rattle.as2_exchange.specs.Readings.{How, NoReceipt as NoneAsked, Sync as AtOnce, Async as Later, Outcome as WhatBecame, is_processed, named_by}
+use Rattle.as2_exchange.specs.State.{Posted, InEntry, OutEntry, State, end_of_numbers, document, document_named, received, received_as, change_document, change_received, is_settled}
+use Rattle.as2_exchange.specs.Step.{Event, Post, Submit, Begin, Outcome, BeginMdn, OutcomeMdn, Tick, Answer, Refused, Submitted, UnknownOrganization, UnknownPartner, TooLarge, TryAnswer, Came, Reading, Refuses, IsReceipt, IsDocument, is_refusal, agreed, begun, waits, is_early, closed, closed_by, if_for, came_back, is_idle, is_last, is_delivery, delivered, failed, mdn_begun, mdn_closed, is_pending, is_shut, acted, acted_in, reading, post, step, submit, new_document, settle, settle_for, settled, bears, record_post, recorded, repeats, queued_again, first_entry, answer_to, http, Nothing, Words, NotProcessed, IdUsedBefore, NoSuchMessage, tick}
+use Rattle.as2_exchange.specs.Invariants.{IsWellFormed}
+use Rattle.as2_exchange.proofs.Decisions.{number_is, apart_turned}
+
+-- ---- lists
+
+untouched : {X : Type 0} (number : X → ℕ) (f : X → X) (n : ℕ) (xs : List X) → AllByRecursion (λ k. (n == k) ≡ false) (map number xs) → map (λ x. if number x == n then f x else x) xs ≡ xs
+untouched number f n [] h = refl
+untouched number f n (x ∷ xs) h = λ i. kept i ∷ untouched number f n xs h.1 i
+  where
+    by : (b : Bool) → b ≡ false → (if b then f x else x) ≡ x
+    by true e = absurd (false≢true (sym e))
+    by false e = refl
+
+    kept : (if number x == n then f x else x) ≡ x
+    kept = by (number x == n) (apart_turned n (number x) n refl h.0)
+
+left_step : {X : Type 0} (number : X → ℕ) (f : X → X) (n : ℕ) (d x : X) (xs : List X) (b : Bool) → (number x == n) ≡ b → AllByRecursion (λ k. (number x == k) ≡ false) (map number xs) → (find (λ y. number y == n) xs ≡ Some d → f d ≡ d → map (λ y. if number y == n then f y else y) xs ≡ xs) → cond b (Some x) (find (λ y. number y == n) xs) ≡ Some d → f d ≡ d → ((if b then f x else x) ∷ map (λ y. if number y == n then f y else y) xs) ≡ x ∷ xs
+left_step number f n d x xs true is apart rest found same =
+    let this : x ≡ d = cc in
+    let fixed : f x ≡ x = subst (λ z. f z ≡ z) (sym this) same in
+    let others = untouched number f n xs (subst (λ j. AllByRecursion (λ k. (j == k) ≡ false) (map number xs)) (number_is (number x) n is) apart) in
+    λ i. fixed i ∷ others i
+left_step number f n d x xs false is apart rest found same = ap (λ ys. x ∷ ys) (rest found same)
+
+-- a change that leaves the only element of this number
+left_as_is : {X : Type 0} (number : X → ℕ) (f : X → X) (n : ℕ) (d : X) (xs : List X) → IsDistinct (λ a b. a == b) (map number xs) → find (λ x. number x == n) xs ≡ Some d → f d ≡ d → map (λ x. if number x == n then f x else x) xs ≡ xs
+unfolding IsDistinct
+left_as_is number f n d [] apart found same = refl
+left_as_is number f n d (x ∷ xs) apart found same = left_step number f n d x xs (number x == n) refl apart.0 (left_as_is number f n d xs apart.1) found same
+
+-- ---- acts
+
+Leaves : {E : Type 0} → E → Answer × E → Type 0
+Leaves e y = is_refusal y.0 ≡ true → y.1 ≡ e
+
+agreed_leaves : {E : Type 0} (A : Agreements) (organization partner : Text) (e : E) (act : Partner → Answer × E) → ((p : Partner) → Leaves e (act p)) → Leaves e (agreed A organization partner e act)
+unfolding Leaves
+agreed_leaves {E} A organization partner e act rest = by (is_organization A organization) (partner_of A partner)
+  where
+    given : Bool → Option Partner → Answer × E
+    given b o = if not b then (Refused UnknownOrganization, e) else option_map_or act o (Refused UnknownPartner, e)
+
+    by : (b : Bool) (o : Option Partner) → is_refusal (given b o).0 ≡ true → (given b o).1 ≡ e
+    by false o h = refl
+    by true None h = refl
+    by true (Some p) h = rest p h
+
+-- a test, and then the rest
+test_leaves : {E : Type 0} (e : E) (b : Bool) (a : Answer) (y : Answer × E) → Leaves e y → Leaves e (if b then (a, e) else y)
+unfolding Leaves
+test_leaves e true a y rest h = refl
+test_leaves e false a y rest h = rest h
+
+-- what is no refusal leaves what it likes
+acts : {E : Type 0} (e : E) (y : Answer × E) → is_refusal y.0 ≡ false → Leaves e y
+unfolding Leaves
+acts e y not_refused h = absurd (false≢true (sym not_refused ∙ h))
+
+either_acts : {E : Type 0} (e : E) (b : Bool) (x y : Answer × E) → Leaves e x → Leaves e y → Leaves e (if b then x else y)
+either_acts e true x y h g = h
+either_acts e false x y h g = g
+
+begun_leaves : (A : Agreements) (m : ℕ) (d : OutEntry) → Leaves d (begun A m d)
+unfolding begun
+begun_leaves A m d = agreed_leaves A d.organization d.partner d _
+    (λ p. test_leaves d (is_settled d) _ _
+    (test_leaves d (nat_le p.max_tries d.tries) _ _
+    (test_leaves d (waits d.detail || is_early m d.due) _ _ (acts d _ refl))))
+
+failed_leaves : (p : Partner) (m : ℕ) (d : OutEntry) → Leaves d (failed p m d)
+failed_leaves p m d = either_acts d (is_last d.attempt) _ _ (acts d _ refl) (acts d _ refl)
+
+delivered_leaves : (a : Asked) (p : Partner) (m : ℕ) (d : OutEntry) → Leaves d (delivered a p m d)
+delivered_leaves Async p m d = acts d _ refl
+delivered_leaves NoReceipt p m d = acts d _ refl
+delivered_leaves Sync p m d = failed_leaves p m d
+
+closed_by_leaves : (p : Partner) (got : TryAnswer) (m : ℕ) (d : OutEntry) (o : Option Came) → Leaves d (closed_by p got m d o)
+closed_by_leaves p got m d (Some r) = acts d _ refl
+closed_by_leaves p got m d None = either_acts d (is_delivery got) _ _ (delivered_leaves p.receipt p m d) (failed_leaves p m d)
+
+closed_leaves : (A : Agreements) (got : TryAnswer) (m : ℕ) (d : OutEntry) → Leaves d (closed A got m d)
+unfolding closed
+closed_leaves A got m d = agreed_leaves A d.organization d.partner d _
+    (λ p. test_leaves d (is_settled d) _ _
+    (test_leaves d (is_idle d.attempt) _ _ (closed_by_leaves p got m d (option_and_then (if_for d) (came_back got)))))
+
+mdn_begun_leaves : (A : Agreements) (m : ℕ) (e : InEntry) → Leaves e (mdn_begun A m e)
+unfolding mdn_begun
+mdn_begun_leaves A m e = agreed_leaves A e.posted.receiver e.posted.sender e _
+    (λ p. test_leaves e (not (is_pending e.mdn)) _ _
+    (test_leaves e (nat_le p.max_tries e.tries) _ _
+    (test_leaves e (is_early m e.due) _ _ (acts e _ refl))))
+
+mdn_closed_leaves : (A : Agreements) (got : TryAnswer) (m : ℕ) (e : InEntry) → Leaves e (mdn_closed A got m e)
+unfolding mdn_closed
+mdn_closed_leaves A got m e = agreed_leaves A e.posted.receiver e.posted.sender e _
+    (λ p. test_leaves e (not (is_pending e.mdn)) _ _
+    (test_leaves e (is_shut e.attempt) _ _
+    (either_acts e (is_delivery got) _ _ (acts e _ refl)
+    (either_acts e (is_last e.attempt) _ _ (acts e _ refl) (acts e _ refl)))))
+
+-- ---- a step
+
+acted_leaves : (A : Agreements) (s : State) (n : ℕ) (act : OutEntry → Answer × OutEntry) (o : Option OutEntry) → document s n ≡ o → ((d : OutEntry) → Leaves d (act d)) → IsWellFormed A s → Leaves s (acted s n act o)
+unfolding Leaves
+acted_leaves A s n act None found leaves formed h = refl
+acted_leaves A s n act (Some d) found leaves formed h = ap (λ (ds : List OutEntry). record s { outbox = ds }) (left_as_is (λ (x : OutEntry). x.number) (λ (x : OutEntry). (act x).1) n d s.outbox formed.sent.numbers.distinct found (leaves d h))
+
+acted_in_leaves : (A : Agreements) (s : State) (n : ℕ) (act : InEntry → Answer × InEntry) (o : Option InEntry) → received s n ≡ o → ((e : InEntry) → Leaves e (act e)) → IsWellFormed A s → Leaves s (acted_in s n act o)
+unfolding Leaves
+acted_in_leaves A s n act None found leaves formed h = refl
+acted_in_leaves A s n act (Some e) found leaves formed h = ap (λ (es : List InEntry). record s { inbox = es }) (left_as_is (λ (x : InEntry). x.number) (λ (x : InEntry). (act x).1) n e s.inbox formed.received.numbers.distinct found (leaves e h))
+
+submit_leaves : (A : Agreements) (s : State) (organization partner content : Text) (m : ℕ) (y : Answer × State) → submit A s organization partner content m ≡ Some y → Leaves s y
+unfolding submit Leaves
+submit_leaves A s organization partner content m y h =
+    by (not (is_organization A organization)) (not (is_some (partner_of A partner))) (nat_lt 1048576 (length content)) (nat_le end_of_numbers s.next_out) h
+  where
+    by : (b1 b2 b3 b4 : Bool) → (if b1 then Some (Refused UnknownOrganization, s) else if b2 then Some (Refused UnknownPartner, s) else if b3 then Some (Refused TooLarge, s) else if b4 then None else Some (Submitted s.next_out, record s { outbox = s.outbox ++ new_document A s.next_out organization partner content m ∷ []; next_out = s.next_out + 1 })) ≡ Some y → is_refusal y.0 ≡ true → y.1 ≡ s
+    by true b2 b3 b4 g r = ap (λ (z : Answer × State). z.1) (sym (same_Some _ y g))
+    by false true b3 b4 g r = ap (λ (z : Answer × State). z.1) (sym (same_Some _ y g))
+    by false false true b4 g r = ap (λ (z : Answer × State). z.1) (sym (same_Some _ y g))
+    by false false false true g r = absurd (cc)
+    by false false false false g r = absurd (false≢true (ap (λ (z : Answer × State). is_refusal z.0) (same_Some _ y g) ∙ r))
+
+-- a post is answered by a status
+with_line : (b : Bool) (became : WhatBecame) → is_refusal (if b then http 200 Nothing else http 400 (Words (NotProcessed became))) ≡ false
+with_line true became = refl
+with_line false became = refl
+
+answered_by : (A : Agreements) (n : ℕ) (p : Posted) (how : How) → p.how ≡ how → is_refusal (answer_to A n p) ≡ false
+unfolding answer_to
+answered_by A n p AtOnce is = rw is refl
+answered_by A n p (Later url) is = rw is refl
+answered_by A n p NoneAsked is = rw is (with_line (is_processed p.outcome) p.outcome)
+
+recorded_acts : (A : Agreements) (s : State) (m : ℕ) (p : Posted) (o : Option InEntry) (y : Answer × State) → recorded A s m p o ≡ Some y → is_refusal y.0 ≡ false
+recorded_acts A s m p (Some e) y h = by (repeats e.posted p) h
+  where
+    by : (b : Bool) → (if b then Some (answer_to A e.number e.posted, change_received s e.number (queued_again m)) else Some (http 409 (Words IdUsedBefore), s)) ≡ Some y → is_refusal y.0 ≡ false
+    by true g = ap (λ (z : Answer × State). is_refusal z.0) (sym (same_Some _ y g)) ∙ answered_by A e.number e.posted e.posted.how refl
+    by false g = ap (λ (z : Answer × State). is_refusal z.0) (sym (same_Some _ y g))
+recorded_acts A s m p None y h = by (nat_le end_of_numbers s.next_in) h
+  where
+    by : (b : Bool) → (if b then None else Some (answer_to A s.next_in p, record s { inbox = s.inbox ++ first_entry s.next_in m p ∷ []; next_in = s.next_in + 1 })) ≡ Some y → is_refusal y.0 ≡ false
+    by true g = absurd (cc)
+    by false g = ap (λ (z : Answer × State). is_refusal z.0) (sym (same_Some _ y g)) ∙ answered_by A s.next_in p p.how refl
+
+settle_acts : (s : State) (m : ℕ) (r : Came) (o : Option OutEntry) → is_refusal (settle_for s m r o).0 ≡ false
+settle_acts s m r None = refl
+settle_acts s m r (Some d) = by (not (bears r d.organization d.partner d.id && nat_le 1 d.tries)) (if is_settled d then s else change_document s d.number (settled m r))
+  where
+    given : Bool → State → Answer × State
+    given b t = if b then (http 404 (Words NoSuchMessage), s) else (http 200 Nothing, t)
+
+    by : (b : Bool) (t : State) → is_refusal (given b t).0 ≡ false
+    by true t = refl
+    by false t = refl
+
+post_acts : (A : Agreements) (s : State) (m : ℕ) (r : Reading) (y : Answer × State) → post A s m r ≡ Some y → is_refusal y.0 ≡ false
+unfolding settle record_post
+post_acts A s m (Refuses status line) y h = ap (λ (z : Answer × State). is_refusal z.0) (sym (same_Some _ y h))
+post_acts A s m (IsReceipt r) y h = ap (λ (z : Answer × State). is_refusal z.0) (sym (same_Some _ y h)) ∙ settle_acts s m r (document_named s (named_by r.receipt))
+post_acts A s m (IsDocument p) y h = recorded_acts A s m p (received_as s p) y h
+
+tick_acts : (m : ℕ) (s : State) → is_refusal (tick m s).0 ≡ false
+unfolding tick
+tick_acts m s = refl
+
+step_leaves : (A : Agreements) (s : State) (e : Event) (y : Answer × State) → IsWellFormed A s → step A s e ≡ Some y → Leaves s y
+step_leaves A s (Post head body m) y formed h = acts s y (post_acts A s m (reading A head body) y h)
+step_leaves A s (Submit organization partner content m) y formed h = submit_leaves A s organization partner content m y h
+step_leaves A s (Begin n m) y formed h = subst (Leaves s) (same_Some _ y h) (acted_leaves A s n (begun A m) (document s n) refl (begun_leaves A m) formed)
+step_leaves A s (Outcome n got m) y formed h = subst (Leaves s) (same_Some _ y h) (acted_leaves A s n (closed A got m) (document s n) refl (closed_leaves A got m) formed)
+step_leaves A s (BeginMdn n m) y formed h = subst (Leaves s) (same_Some _ y h) (acted_in_leaves A s n (mdn_begun A m) (received s n) refl (mdn_begun_leaves A m) formed)
+step_leaves A s (OutcomeMdn n got m) y formed h = subst (Leaves s) (same_Some _ y h) (acted_in_leaves A s n (mdn_closed A got m) (received s n) refl (mdn_closed_leaves A got m) formed)
+step_leaves A s (Tick m) y formed h = acts s y (ap (λ (z : Answer × State). is_refusal z.0) (sym (same_Some _ y h)) ∙ tick_acts m s)
+
+pub refused_leaves : (A : Agreements) (s t : State) (e : Event) (a : Answer) → IsWellFormed A s → step A s e ≡ Some (a, t) → is_refusal a ≡ true → t ≡ s
+unfolding Leaves
+refused_leaves A s t e a formed h refused = step_leaves A s e (a, t) formed h refused

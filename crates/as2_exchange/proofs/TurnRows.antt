@@ -1,0 +1,229 @@
+-- Worked rows of each refusal of an event, and of each turn that a document or a receipt takes.
+use Rattle.std.proofs.Common.{◌≡◌, ℕ, [], ◌∷◌, Option, Some, None, refl}
+use Rattle.std.specs.Prelude.{codes}
+use Rattle.as2_names.specs.Blanks.{without_blanks}
+use Rattle.as2_names.specs.Identifiers.{value_of as bare}
+use Rattle.as2_media.specs.Values.{between_quotes}
+use Rattle.as2_exchange.specs.Agreement.{Text, Agreements}
+use Rattle.as2_exchange.specs.Detail.{Detail, New, Sending, Awaiting, Retry, Processed, NoReceiptAsked, TriesUsed, Overdue, Attempt, Idle, Running, Last, Used, MdnState, Unasked, Pending, Sent}
+use Rattle.as2_exchange.specs.Readings.{How, NoReceipt as NoneAsked, Sync as AtOnce, Async as Later, document_job, receipt_job as receipt_sent, names_of, type_of, report_in, named_by}
+use Rattle.as2_exchange.specs.State.{State, InEntry, OutEntry, Evidence, empty}
+use Rattle.as2_exchange.specs.Step.{Begin, Outcome, Answer, NoAnswer, Reply, Job, Settled, Delivered, TryFailed, AlreadySettled, Submitted, Ticked, Refused, UnknownOrganization, UnknownPartner, NoSuchNumber, NotDue, AllSettled, NoOpenTry, TriesUsedUp, begun, closed, mdn_begun, mdn_closed, submit, tick, queued_again, first_entry, report, step}
+use Rattle.as2_exchange.proofs.Fixture.{buyer, fixture, abc, receipt_head, receipt_body, q, q_for_2, q_type_text, q_names, q_typed, q_read, q_says, document_of, m1, sha1_text}
+use Rattle.as2_exchange.proofs.Rows.{play, submit_to, job_1, no_head, return_address, due_1}
+
+-- ---- a Begin and an Outcome: which refusal is first
+
+-- the fixture without its organization, and without its partners
+abbrev no_organization : Agreements
+no_organization = record fixture { organizations = []; partners = [] }
+
+abbrev no_partner : Agreements
+no_partner = record fixture { partners = [] }
+
+abbrev some_evidence : Evidence
+some_evidence = record { moment = 1000; content_type = q_type_text; body = q }
+
+-- a document from Supplier to Buyer
+abbrev standing : ℕ → Attempt → Option ℕ → Detail → Option Evidence → OutEntry
+standing tries attempt due detail evidence = record { number = 1; organization = codes "Supplier"; partner = codes "Buyer"; id = codes "out-1@station.example"; content = abc; moment = 1000; tries = tries; attempt = attempt; due = due; detail = detail; evidence = evidence }
+
+-- a store with this document alone
+abbrev with_document : OutEntry → State
+with_document d = record { inbox = []; outbox = d ∷ []; next_in = 1; next_out = 2 }
+
+-- what a Begin of it at 1000 is answered
+abbrev begin_answer : Agreements → OutEntry → Answer
+begin_answer A d = (begun A 1000 d).0
+
+-- a settled one whose tries are used, which waits, and is due later
+abbrev settled_late : OutEntry
+settled_late = standing 2 Idle (Some 2000) Overdue (Some some_evidence)
+
+unknown_number_first : (step no_organization (with_document settled_late) (Begin 2 1000) ≡ Some (Refused NoSuchNumber, with_document settled_late))
+    × (step no_organization (with_document settled_late) (Outcome 2 NoAnswer 1000) ≡ Some (Refused NoSuchNumber, with_document settled_late))
+unknown_number_first = (refl, refl)
+
+begin_refusals : (begin_answer no_organization settled_late ≡ Refused UnknownOrganization)
+    × (begin_answer no_partner settled_late ≡ Refused UnknownPartner)
+    × (begin_answer fixture settled_late ≡ Refused AllSettled)
+    × (begin_answer fixture (standing 2 Idle (Some 2000) Overdue None) ≡ Refused TriesUsedUp)
+    × (begin_answer fixture (standing 2 Last (Some 2000) Sending None) ≡ Refused TriesUsedUp)
+    × (begin_answer fixture (standing 1 Idle None Overdue None) ≡ Refused NotDue)
+    × (begin_answer fixture (standing 1 Idle (Some 900) Awaiting None) ≡ Refused NotDue)
+    × (begin_answer fixture (standing 1 Idle None NoReceiptAsked None) ≡ Refused NotDue)
+    × (begin_answer fixture (standing 1 Idle (Some 1001) Retry None) ≡ Refused NotDue)
+    × (begin_answer fixture (standing 1 Idle (Some 1000) Retry None) ≡ Job (document_job fixture buyer (codes "Supplier") (codes "out-1@station.example") abc))
+unfolding begun
+begin_refusals = (refl, refl, refl, refl, refl, refl, refl, refl, refl, refl)
+
+-- the first try, and the last one
+begin_opens : ((begun fixture 1000 (standing 0 Idle (Some 1000) New None)).1 ≡ standing 1 Running (Some 1030) Sending None)
+    × ((begun fixture 1000 (standing 1 Running (Some 1000) Sending None)).1 ≡ standing 2 Last (Some 1030) Sending None)
+unfolding begun
+begin_opens = (refl, refl)
+
+-- what an Outcome without an answer is answered
+abbrev outcome_answer : Agreements → OutEntry → Answer
+outcome_answer A d = (closed A NoAnswer 1000 d).0
+
+outcome_refusals : (outcome_answer no_organization settled_late ≡ Refused UnknownOrganization)
+    × (outcome_answer no_partner settled_late ≡ Refused UnknownPartner)
+    × (outcome_answer fixture settled_late ≡ AlreadySettled)
+    × (outcome_answer fixture (standing 2 Idle None Overdue None) ≡ Refused NoOpenTry)
+unfolding closed
+outcome_refusals = (refl, refl, refl, refl)
+
+-- ---- an Outcome: what it leaves
+
+-- a try that failed, and the last one
+failures : ((closed fixture NoAnswer 1000 (standing 1 Running (Some 1030) Sending None)).1 ≡ standing 1 Idle (Some 1030) Retry None)
+    × ((closed fixture NoAnswer 1000 (standing 2 Last (Some 1030) Sending None)).1 ≡ standing 2 Idle None TriesUsed None)
+    × ((closed fixture NoAnswer 1000 (standing 2 Last None TriesUsed None)).1 ≡ standing 2 Idle None TriesUsed None)
+unfolding closed
+failures = (refl, refl, refl)
+
+-- whatever an answer with another status brings, the try failed
+other_statuses : ((closed fixture (Reply 404 (receipt_head (codes "Buyer")) q) 1000 (standing 1 Running (Some 1030) Sending None)) ≡ (TryFailed, standing 1 Idle (Some 1030) Retry None))
+    × ((closed fixture (Reply 300 (receipt_head (codes "Buyer")) q) 1000 (standing 1 Running (Some 1030) Sending None)) ≡ (TryFailed, standing 1 Idle (Some 1030) Retry None))
+unfolding closed
+other_statuses = (refl, refl)
+
+-- a receipt in the answer settles the document: the try is closed, nothing is waited for, and the receipt is kept as it came
+settled_by_answer : closed fixture (Reply 299 (receipt_head (codes "Buyer")) q) 1001 (standing 1 Running (Some 1030) Sending None) ≡ (Settled Processed, standing 1 Idle None Processed (Some (record { moment = 1001; content_type = q_type_text; body = q })))
+unfolding closed named_by bare
+settled_by_answer = rw (q_names, q_typed, q_read, q_says) refl
+
+-- a receipt under another partner's name, one for another document, and one whose sender is given twice settle nothing; each
+-- is still an answer of success
+foreign_answers : (closed fixture (Reply 200 (receipt_head (codes "Depot")) q) 1001 (standing 1 Running (Some 1030) Sending None) ≡ (TryFailed, standing 1 Idle (Some 1031) Retry None))
+    × (closed fixture (Reply 200 (receipt_head (codes "Buyer")) q_for_2) 1001 (standing 1 Running (Some 1030) Sending None) ≡ (TryFailed, standing 1 Idle (Some 1031) Retry None))
+    × (closed fixture (Reply 200 ((codes "as2-from", codes "Depot") ∷ receipt_head (codes "Depot")) q) 1001 (record (standing 1 Running (Some 1030) Sending None) { partner = codes "Depot" }) ≡ (Delivered, record (standing 1 Idle (Some 1061) Awaiting None) { partner = codes "Depot" }))
+unfolding closed receipt_head receipt_body q q_for_2 names_of type_of report_in named_by without_blanks between_quotes bare
+foreign_answers = (refl, refl, refl)
+
+-- a receipt in the Outcome of a try that is closed is none
+late_outcome : play due_1 (empty 1) (submit_to buyer ∷ Begin 1 1000 ∷ Outcome 1 NoAnswer 1000 ∷ Outcome 1 (Reply 200 (receipt_head (codes "Buyer")) q) 1001 ∷ [])
+    ≡ Some (Submitted 1 ∷ job_1 buyer ∷ TryFailed ∷ Refused NoOpenTry ∷ [], Some (Retry, Some 1030))
+unfolding play submit begun closed
+late_outcome = refl
+
+-- an answer of success without a receipt, by what is agreed with the partner
+abbrev delivery_to : Text → OutEntry → OutEntry
+delivery_to partner d = (closed fixture (Reply 200 no_head []) 1000 (record d { partner = partner })).1
+
+deliveries : (delivery_to (codes "Depot") (standing 1 Running (Some 1030) Sending None) ≡ record (standing 1 Idle (Some 1060) Awaiting None) { partner = codes "Depot" })
+    × (delivery_to (codes "A \"B\" \\ C") (standing 1 Running (Some 1030) Sending None) ≡ record (standing 1 Idle None NoReceiptAsked None) { partner = codes "A \"B\" \\ C" })
+    × (delivery_to (codes "Buyer") (standing 1 Running (Some 1030) Sending None) ≡ standing 1 Idle (Some 1030) Retry None)
+    × (delivery_to (codes "Buyer") (standing 2 Last (Some 1030) Sending None) ≡ standing 2 Idle None TriesUsed None)
+unfolding closed names_of
+deliveries = (refl, refl, refl, refl)
+
+-- ---- a Tick
+
+-- one document that awaits its receipt, one whose last try is open, and those that no Tick moves
+abbrev waiting : State
+waiting = record {
+  inbox = [];
+  outbox =
+      standing 1 Idle (Some 1060) Awaiting None
+      ∷ standing 2 Last (Some 1060) Sending None
+      ∷ standing 1 Running (Some 1030) Sending None
+      ∷ standing 1 Idle (Some 1030) Retry None
+      ∷ standing 0 Idle (Some 1000) New None
+      ∷ standing 2 Last None TriesUsed None
+      ∷ [];
+  next_in = 1;
+  next_out = 7;
+}
+
+-- both kinds expire at the moment at which they are due, and not a second before
+both_expire : (tick 1059 waiting ≡ (Ticked 0, waiting))
+    × (tick 1060 waiting ≡ (
+      Ticked 2,
+      record waiting {
+        outbox =
+            standing 1 Idle None Overdue None
+            ∷ standing 2 Last None TriesUsed None
+            ∷ standing 1 Running (Some 1030) Sending None
+            ∷ standing 1 Idle (Some 1030) Retry None
+            ∷ standing 0 Idle (Some 1000) New None
+            ∷ standing 2 Last None TriesUsed None
+            ∷ [];
+      },
+    ))
+unfolding tick
+both_expire = (refl, refl)
+
+-- ---- receipts that we send
+
+-- the entry of a post from Depot
+abbrev entry_asked : How → MdnState → ℕ → Attempt → Option ℕ → InEntry
+entry_asked how mdn tries attempt due = record { number = 1; posted = document_of (codes "Depot") m1 abc how sha1_text; moment = 1000; mdn = mdn; tries = tries; attempt = attempt; due = due }
+
+abbrev later : How
+later = Later return_address
+
+-- what a post that is new is kept as
+first_kept : (first_entry 1 1000 (document_of (codes "Depot") m1 abc later sha1_text) ≡ entry_asked later Pending 0 Idle (Some 1000))
+    × (first_entry 1 1000 (document_of (codes "Depot") m1 abc AtOnce sha1_text) ≡ entry_asked AtOnce Sent 0 Idle None)
+    × (first_entry 1 1000 (document_of (codes "Depot") m1 abc NoneAsked sha1_text) ≡ entry_asked NoneAsked Unasked 0 Idle None)
+first_kept = (refl, refl, refl)
+
+-- a repeat queues a receipt again that was sent, or is on or past its last try
+queued_by_repeat : (queued_again 2000 (entry_asked later Sent 1 Idle None) ≡ entry_asked later Pending 0 Idle (Some 2000))
+    × (queued_again 2000 (entry_asked later Pending 2 Last None) ≡ entry_asked later Pending 0 Idle (Some 2000))
+    × (queued_again 2000 (entry_asked later Pending 2 Used None) ≡ entry_asked later Pending 0 Idle (Some 2000))
+queued_by_repeat = (refl, refl, refl)
+
+-- and leaves one that is still tried, or wasn't asked for later
+left_by_repeat : (queued_again 2000 (entry_asked later Pending 1 Idle (Some 1030)) ≡ entry_asked later Pending 1 Idle (Some 1030))
+    × (queued_again 2000 (entry_asked later Pending 1 Running (Some 1030)) ≡ entry_asked later Pending 1 Running (Some 1030))
+    × (queued_again 2000 (entry_asked AtOnce Sent 0 Idle None) ≡ entry_asked AtOnce Sent 0 Idle None)
+    × (queued_again 2000 (entry_asked NoneAsked Unasked 0 Idle None) ≡ entry_asked NoneAsked Unasked 0 Idle None)
+left_by_repeat = (refl, refl, refl, refl)
+
+-- what a BeginMdn at 1000 is answered
+abbrev begin_mdn_answer : Agreements → InEntry → Answer
+begin_mdn_answer A e = (mdn_begun A 1000 e).0
+
+-- one that is sent, whose tries are used, and which is due later
+abbrev sent_late : InEntry
+sent_late = entry_asked later Sent 2 Idle (Some 2000)
+
+begin_mdn_refusals : (begin_mdn_answer no_organization sent_late ≡ Refused UnknownOrganization)
+    × (begin_mdn_answer no_partner sent_late ≡ Refused UnknownPartner)
+    × (begin_mdn_answer fixture sent_late ≡ Refused AllSettled)
+    × (begin_mdn_answer fixture (entry_asked NoneAsked Unasked 0 Idle None) ≡ Refused AllSettled)
+    × (begin_mdn_answer fixture (entry_asked later Pending 2 Used (Some 2000)) ≡ Refused TriesUsedUp)
+    × (begin_mdn_answer fixture (entry_asked later Pending 2 Last None) ≡ Refused TriesUsedUp)
+    × (begin_mdn_answer fixture (entry_asked later Pending 1 Idle (Some 1001)) ≡ Refused NotDue)
+    × (begin_mdn_answer fixture (entry_asked later Pending 1 Running (Some 1000)) ≡ Job (receipt_sent later (report fixture 1 (document_of (codes "Depot") m1 abc later sha1_text))))
+unfolding mdn_begun
+begin_mdn_refusals = (refl, refl, refl, refl, refl, refl, refl, refl)
+
+begin_mdn_opens : ((mdn_begun fixture 1000 (entry_asked later Pending 0 Idle (Some 1000))).1 ≡ entry_asked later Pending 1 Running (Some 1030))
+    × ((mdn_begun fixture 1000 (entry_asked later Pending 1 Running (Some 1000))).1 ≡ entry_asked later Pending 2 Last None)
+unfolding mdn_begun
+begin_mdn_opens = (refl, refl)
+
+-- what an OutcomeMdn without an answer is answered
+abbrev outcome_mdn_answer : Agreements → InEntry → Answer
+outcome_mdn_answer A e = (mdn_closed A NoAnswer 1000 e).0
+
+outcome_mdn_refusals : (outcome_mdn_answer no_organization sent_late ≡ Refused UnknownOrganization)
+    × (outcome_mdn_answer no_partner sent_late ≡ Refused UnknownPartner)
+    × (outcome_mdn_answer fixture sent_late ≡ AlreadySettled)
+    × (outcome_mdn_answer fixture (entry_asked NoneAsked Unasked 0 Idle None) ≡ AlreadySettled)
+    × (outcome_mdn_answer fixture (entry_asked later Pending 1 Idle (Some 1030)) ≡ Refused NoOpenTry)
+    × (outcome_mdn_answer fixture (entry_asked later Pending 2 Used None) ≡ Refused NoOpenTry)
+unfolding mdn_closed
+outcome_mdn_refusals = (refl, refl, refl, refl, refl, refl)
+
+-- a receipt arrived, or its try failed, the last one too
+receipt_outcomes : (mdn_closed fixture (Reply 204 no_head []) 1001 (entry_asked later Pending 1 Running (Some 1030)) ≡ (Delivered, entry_asked later Sent 1 Idle None))
+    × (mdn_closed fixture (Reply 200 no_head []) 1001 (entry_asked later Pending 2 Last None) ≡ (Delivered, entry_asked later Sent 2 Idle None))
+    × (mdn_closed fixture (Reply 302 no_head []) 1001 (entry_asked later Pending 1 Running (Some 1030)) ≡ (TryFailed, entry_asked later Pending 1 Idle (Some 1031)))
+    × (mdn_closed fixture NoAnswer 1001 (entry_asked later Pending 2 Last None) ≡ (TryFailed, entry_asked later Pending 2 Used None))
+unfolding mdn_closed
+receipt_outcomes = (refl, refl, refl, refl)

@@ -1,0 +1,67 @@
+-- What the answered events say of the tries of a document: whether one is open, and from which moment on something is due.
+use Rattle.std.specs.Prelude.{ℕ, ◌+◌, ◌&&◌, List, Option, Some, None, option_map, option_and_then, nat_le, if◌then◌else◌}
+use Rattle.std.specs.List.{list_any}
+use Rattle.as2_exchange.specs.Agreement.{Agreements, Partner, Asked, NoReceipt, Sync, Async, partner_of}
+use Rattle.as2_exchange.specs.Detail.{Attempt, Idle, Running, Last}
+use Rattle.as2_exchange.specs.State.{OutEntry}
+use Rattle.as2_exchange.specs.Step.{TryAnswer, Came, is_delivery}
+use Rattle.as2_exchange.specs.Run.{Done}
+use Rattle.as2_exchange.specs.History.{Found, Submission, Fact, concerns, first_of, last_of, try_in, outcome_in, tries, first_receipt, is_tick_from}
+
+-- a try, with what stands after it, and its Outcome
+abbrev pub Tried : Type 0
+Tried = Found ℕ Fact × Option (Found (ℕ × TryAnswer) Fact)
+
+abbrev pub with_outcome : Found ℕ Fact → Tried
+with_outcome t = (t, first_of outcome_in t.after)
+
+-- the last try, with its Outcome where it has one
+abbrev pub last_tried : List Fact → Option Tried
+last_tried facts = option_map with_outcome (last_of try_in facts)
+
+-- a try is open where it is the last one, has no Outcome, and no receipt came; by its number it is the last agreed one or not
+abbrev pub attempt_of : Partner → ℕ → Option (ℕ × Came) → Option Tried → Attempt
+attempt_of p tried (Some r) l = Idle
+attempt_of p tried None None = Idle
+attempt_of p tried None (Some (t, None)) = if nat_le p.max_tries tried then Last else Running
+attempt_of p tried None (Some (t, Some o)) = Idle
+
+-- after a try that failed at moment m: the next one, where there is one
+abbrev pub due_after_failure : Partner → ℕ → ℕ → Option ℕ
+due_after_failure p tried m = if nat_le p.max_tries tried then None else Some (m + p.retry_seconds)
+
+-- after an answer of success at moment m: an awaited receipt, until a Tick finds it overdue
+abbrev pub due_after_delivery : Asked → Partner → ℕ → ℕ → List Fact → Option ℕ
+due_after_delivery Async p tried m after = if list_any (is_tick_from (m + p.overdue_seconds)) after then None else Some (m + p.overdue_seconds)
+due_after_delivery NoReceipt p tried m after = None
+due_after_delivery Sync p tried m after = due_after_failure p tried m
+
+-- When something is due: nothing once a receipt came; the first try at the submission; the next try, or the end of the last
+-- one, after the last try at moment t; what its Outcome calls for after that.
+abbrev pub due_of : Submission → Partner → ℕ → Option (ℕ × Came) → Option Tried → Option ℕ
+due_of d p tried (Some r) l = None
+due_of d p tried None None = Some d.moment
+due_of d p tried None (Some (t, None)) = if nat_le p.max_tries tried && list_any (is_tick_from (t.it + p.retry_seconds)) t.after then None else Some (t.it + p.retry_seconds)
+due_of d p tried None (Some (t, Some o)) = if is_delivery o.it.1 then due_after_delivery p.receipt p tried o.it.0 o.after else due_after_failure p tried o.it.0
+
+-- ---- what a document waits for
+
+pub record Waiting : Type 0 where
+  pub attempt : Attempt
+  pub due : Option ℕ
+
+-- whether a try of it is open, and when something is due
+abbrev pub waiting : OutEntry → Waiting
+waiting d = record { attempt = d.attempt; due = d.due }
+
+-- the same, by the facts after its submission
+abbrev pub waiting_by : Agreements → ℕ → Submission → List Fact → Partner → Waiting
+waiting_by A k d facts p =
+    record {
+      attempt = attempt_of p (tries facts) (first_receipt A k d facts) (last_tried facts);
+      due = due_of d p (tries facts) (first_receipt A k d facts) (last_tried facts);
+    }
+
+-- What the answered events say of the tries of document k; nothing, where it was not submitted.
+abbrev pub waiting_history : Agreements → List Done → ℕ → Option Waiting
+waiting_history A done k = option_and_then (λ (c : Submission × List Fact). option_map (waiting_by A k c.0 c.1) (partner_of A c.0.partner)) (concerns A done k)
