@@ -8,8 +8,9 @@ workspace() {
     git init -q "$work"
     for crate in "$@"; do
         mkdir -p "$work/crates/$crate"
-        for part in src specs proofs; do
-            cp -r "$top/crates/$crate/$part" "$work/crates/$crate/"
+        for part in src specs proofs out; do
+            # out/ is the checker's kept work, where there is any
+            [ ! -d "$top/crates/$crate/$part" ] || cp -rp "$top/crates/$crate/$part" "$work/crates/$crate/"
         done
         grep "^$crate:" "$top/crates.txt" >> "$work/crates.txt"
     done
