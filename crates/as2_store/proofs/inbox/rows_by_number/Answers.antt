@@ -1,4 +1,4 @@
-use Rattle.std.proofs.Common.{◌<◌, ◌^◌, IfOk, IfErr, arith}
+use Rattle.std.proofs.Common.{IfOk, IfErr}
 use Rattle.sqlite.specs.Held.{state}
 use Rattle.sqlite.specs.State.{Shown, FailsToQuery}
 use Rattle.as2_store.specs.Statements.{in_by_number_text}
