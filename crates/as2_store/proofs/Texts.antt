@@ -15,7 +15,7 @@ use Rattle.sql_tables.specs.Changes.{over_table}
 use Rattle.sql_tables.proofs.Queries.{by_number}
 use Rattle.sql_tables.proofs.Changing.{update_program}
 use Rattle.as2_store.specs.Tables.{store_schema, meta_tree, inbox_tree, inbox_piece_tree}
-use Rattle.as2_store.specs.Statements.{meta_put_text, meta_read_text, receipt_text, in_put_text, in_piece_put_text, in_by_key_text, in_all_text, in_pieces_text, waiting_put_text}
+use Rattle.as2_store.specs.Statements.{meta_put_text, meta_read_text, receipt_text, in_put_text, in_piece_put_text, in_by_key_text, in_by_number_text, in_all_text, in_pieces_text, waiting_put_text}
 
 -- ---- the counters
 
@@ -107,6 +107,21 @@ in_by_key_plain = (refl, refl)
 pub in_by_key_unlisted : reads_listing store_schema in_by_key_text ≡ false
 unfolding understood everything
 in_by_key_unlisted = refl
+
+abbrev pub number_terms : List Term
+number_terms = op2 (Compare Eq Binary) (col 1 0) (col 0 0) ∷ []
+
+pub in_by_number_is : command_of (understood store_schema in_by_number_text) ≡ Select (record { lets = []; body = over_table inbox_tree number_terms in_columns by_number (lit (Int (negsuc 0))) }) in_names
+unfolding understood everything
+in_by_number_is = refl
+
+pub in_by_number_plain : IsPlain (understood store_schema in_by_number_text)
+unfolding understood everything
+in_by_number_plain = (refl, refl)
+
+pub in_by_number_unlisted : reads_listing store_schema in_by_number_text ≡ false
+unfolding understood everything
+in_by_number_unlisted = refl
 
 pub in_all_is : command_of (understood store_schema in_all_text) ≡ Select (record { lets = []; body = over_table inbox_tree [] in_columns by_number (lit (Int (negsuc 0))) }) in_names
 unfolding understood everything

@@ -23,6 +23,9 @@ in_piece_put_text = codes "INSERT INTO inbox_piece (number, position, bytes) VAL
 abbrev pub in_by_key_text : List ℕ
 in_by_key_text = codes "SELECT number, sender, receiver, identifier_value, identifier, content_type, length, moment, outcome, how, url, digest, mic, mdn, tries, attempt, due FROM inbox WHERE sender = ?1 AND receiver = ?2 AND identifier_value = ?3 ORDER BY number"
 
+abbrev pub in_by_number_text : List ℕ
+in_by_number_text = codes "SELECT number, sender, receiver, identifier_value, identifier, content_type, length, moment, outcome, how, url, digest, mic, mdn, tries, attempt, due FROM inbox WHERE number = ?1 ORDER BY number"
+
 abbrev pub in_all_text : List ℕ
 in_all_text = codes "SELECT number, sender, receiver, identifier_value, identifier, content_type, length, moment, outcome, how, url, digest, mic, mdn, tries, attempt, due FROM inbox ORDER BY number"
 

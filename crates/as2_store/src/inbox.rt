@@ -1,6 +1,6 @@
 //! The rows of the inbox, without the contents.
 
-ghost use Rattle.std.specs.Prelude.{◌≡◌, ◌<◌, ◌^◌, false, map, filter, IsTrue, IfOk, OnOk};
+ghost use Rattle.std.specs.Prelude.{◌≡◌, ◌<◌, ◌^◌, ◌==◌, false, map, filter, IsTrue, IfOk, OnOk};
 ghost use Rattle.sqlite.specs.Held.{state};
 ghost use Rattle.sqlite.specs.State.{HasCleanDisk, KeepsCommit};
 ghost use Rattle.sqlite.specs.Tree.{put_row};
@@ -12,7 +12,7 @@ ghost use Rattle.as2_store.specs.Adding.{Fits};
 ghost use Rattle.as2_store.specs.Stands.{Rests};
 ghost use Rattle.as2_store.specs.Finding.{has_key};
 
-use crate::numbers::{whole, whole_or_none};
+use crate::numbers::{asked, whole, whole_or_none};
 use as2_exchange::InEntry;
 use as2_rows::{attempt_code, digest_of, how_code, mdn_code, mic_of, outcome_code, url_of};
 use sqlite::{Alter, Connection, Error, Row, Transaction, params};
@@ -73,6 +73,20 @@ pub fn rows_by_key<S: Alter>(
     conn.query_all(
         "SELECT number, sender, receiver, identifier_value, identifier, content_type, length, moment, outcome, how, url, digest, mic, mdn, tries, attempt, due FROM inbox WHERE sender = ?1 AND receiver = ?2 AND identifier_value = ?3 ORDER BY number",
         params![sender, receiver, value],
+    )
+}
+
+/// The rows of the entry of this number.
+pub fn rows_by_number<S: Alter>(conn: &mut Connection<S>, number: u64) -> Result<Vec<Row>, Error>
+    ensures mode { conn.old.in_transaction ≡ false → conn.new.in_transaction ≡ false }
+    ensures same { HasCleanDisk (state S.Store conn.new) → (s : State) → Rests (state S.Store conn.old) s → Rests (state S.Store conn.new) s }
+    ensures rows { HasCleanDisk (state S.Store conn.new) → IfOk result (λ rows. (s : State) → Rests (state S.Store conn.old) s → rows.items ≡ map in_shown (filter (λ e. e.number == number) s.inbox)) }
+{
+    let wanted = asked(number);
+    let param = whole(wanted);
+    conn.query_all(
+        "SELECT number, sender, receiver, identifier_value, identifier, content_type, length, moment, outcome, how, url, digest, mic, mdn, tries, attempt, due FROM inbox WHERE number = ?1 ORDER BY number",
+        params![param],
     )
 }
 

@@ -1,6 +1,7 @@
 //! Numbers as the database takes them.
 
-ghost use Rattle.std.specs.Prelude.{◌≡◌, ◌<◌, ◌^◌, pos, IfSome, IsTrue, length, option_map};
+ghost use Rattle.std.specs.Prelude.{◌≡◌, ◌<◌, ◌≤◌, ◌^◌, pos, IfSome, IsTrue, length, option_map};
+ghost use Rattle.as2_exchange.specs.State.{end_of_numbers};
 ghost use Rattle.as2_store.specs.Adding.{Fits};
 
 use as2_exchange::InEntry;
@@ -42,4 +43,16 @@ pub fn fits(entry: &InEntry) -> bool
     ensures { IsTrue result → Fits entry.now }
 {
     entry.posted.content.len() as u64 <= MOST && entry.tries <= MOST && may_stand(entry.due)
+}
+
+/// The number, or else one that is never given in place of any other that is never given.
+pub fn asked(number: u64) -> u64
+    ensures beyond { end_of_numbers ≤ number → result ≡ end_of_numbers }
+    ensures within { number < end_of_numbers → result ≡ number }
+{
+    if number > 999_999_999_999 {
+        1_000_000_000_000
+    } else {
+        number
+    }
 }

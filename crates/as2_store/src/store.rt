@@ -3,7 +3,7 @@
 ghost use Rattle.std.specs.Prelude.{◌≡◌, ◌⊎◌, ◌<◌, ◌≤◌, ℕ, List, map, find, None, Some, true, false, Err, IfOk, IfErr, OnOk, OnErr};
 ghost use Rattle.sqlite.specs.Held.{state};
 ghost use Rattle.sqlite.specs.State.{HasCleanDisk};
-ghost use Rattle.as2_exchange.specs.State.{State, empty, end_of_numbers};
+ghost use Rattle.as2_exchange.specs.State.{State, empty, end_of_numbers, received};
 ghost use Rattle.as2_exchange.specs.declared.fault.StoreFault.TheVariants.{Full};
 ghost use Rattle.as2_rows.specs.Summaries.{in_summary};
 ghost use Rattle.as2_store.specs.Adding.{with_received};
@@ -16,7 +16,7 @@ use crate::counters::{NextNumbers, meta_rows, next_of};
 use crate::creating::make;
 use crate::fault::fault_of;
 use crate::finding::{entries_in, first_entry};
-use crate::inbox::{all_rows, rows_by_key};
+use crate::inbox::{all_rows, rows_by_key, rows_by_number};
 use crate::numbers::fits;
 use as2_exchange::{InEntry, StoreFault};
 use as2_names::AsName;
@@ -143,6 +143,23 @@ impl<S: Alter> Store<S> {
             receiver.bytes(),
             id_value.as_bytes(),
         ) {
+            Ok(rows) => rows,
+            Err(error) => return Err(fault_of(&error)),
+        };
+        first_entry(&mut self.conn, alloc, &rows)
+    }
+
+    /// The entry of the inbox of this number, if there is one.
+    pub fn find_in_number(
+        &mut self,
+        alloc: Global,
+        number: u64,
+    ) -> Result<Option<InEntry>, StoreFault>
+        ensures found { HasCleanDisk (state S.Store self.new) → IfOk result (λ found. (s : State) → Rests (state S.Store self.old) s → found ≡ received s number) }
+        ensures same { HasCleanDisk (state S.Store self.new) → (s : State) → Rests (state S.Store self.old) s → Rests (state S.Store self.new) s }
+        ensures fault { IfErr result (λ f. may_come f ≡ true) }
+    {
+        let rows = match rows_by_number(&mut self.conn, number) {
             Ok(rows) => rows,
             Err(error) => return Err(fault_of(&error)),
         };
