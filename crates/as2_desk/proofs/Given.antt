@@ -2,7 +2,7 @@
 use Rattle.std.proofs.Common.{◌≡◌, ℕ, List, Option, Some, None, refl, sym, ap, subst, ◌∙◌, codes}
 use Rattle.clap.specs.Walk.{Row, Text}
 use Rattle.as2_desk.specs.CommandLine.{command_in, values}
-use Rattle.as2_desk.specs.Options.{Asks, Give, Gives, NumberIs, SecondsAre}
+use Rattle.as2_desk.specs.Options.{Asks, Gives, NumberIs, SecondsAre}
 use Rattle.as2_desk.specs.declared.options.Posting.{Posting}
 use Rattle.as2_desk.specs.declared.options.Task.{Task}
 use Rattle.as2_desk.specs.declared.options.Task.TheVariants.{Check, Post}

@@ -8,7 +8,7 @@ use Rattle.std.proofs.lemmas.Bool.{true≢false, false≢true, lt-ltb}
 use Rattle.std.proofs.lemmas.Slice.Eq.{bytes_eq-Decides}
 use Rattle.std.proofs.lemmas.List.{take_all}
 use Rattle.std.proofs.Math.Seq.{take-add}
-use Rattle.as2_mic.specs.Pieces.{piece_at, piece_count, piece_size}
+use Rattle.as2_mic.specs.Pieces.{piece_at, piece_count}
 
 -- equal lists are found equal, and others aren't
 pub same : (xs ys : List ℕ) → xs ≡ ys → true ≡ bytes_eq xs ys

@@ -113,6 +113,9 @@ fn entries_are_found_as_they_were_added(rt: HostRuntime) -> Result<(), Fail> {
     let third = found(rt.alloc(), &mut store, "m3@x");
     assert!(rt; is_entry(rt.alloc(), &third, 3, "<m3@x>", b""));
     assert!(rt; found(rt.alloc(), &mut store, "m4@x").is_none());
+    let numbered = store.find_in_number(rt.alloc(), 2)?;
+    assert!(rt; is_entry(rt.alloc(), &numbered, 2, "m2@x", more.as_slice()));
+    assert!(rt; matches!(store.find_in_number(rt.alloc(), 4), Ok(None)));
     Ok(())
 }
 
