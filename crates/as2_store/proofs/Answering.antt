@@ -1,5 +1,5 @@
 -- What a query leaves, whether it answers or not.
-use Rattle.std.proofs.Common.{inl, inr, ℕ, List, Ok, Err, Result, refl, sym, subst, IfOk, IfErr}
+use Rattle.std.proofs.Common.{inl, inr, ℕ, List, Ok, Err, Result, refl, sym, subst, IfOk, IfErr, OnOk, IsTrue}
 use Rattle.sqlite.specs.Order.{Row}
 use Rattle.sqlite.specs.Listing.{understood}
 use Rattle.sqlite.specs.declared.error.Error.{Error}
@@ -26,6 +26,11 @@ module _ (sql : List ℕ) (plain : IsPlain (understood store_schema sql)) (param
   pub same_after : {V : Type 0} (items : V → List Row) (r : Result V Error) → IfOk r (λ v. Shown sql params old new (items v)) → IfErr r (FailsToQuery sql params old new) → (s : State) → Rests old s → Rests new s
   same_after items (Ok v) ok err = read_rests (items v) ok
   same_after items (Err e) ok err = fail_rests e err
+
+-- what was answered was answered over an open connection
+pub open_where : {V : Type 0} (sql : List ℕ) (params : Row) (old new : Connected) (items : V → List Row) (r : Result V Error) → IfOk r (λ v. Shown sql params old new (items v)) → OnOk r (IsTrue old.is_open)
+open_where sql params old new items (Ok v) ok = shown_open sql params old new (items v) ok
+open_where sql params old new items (Err e) ok = tt
 
 -- what holds of each answer holds of the result
 pub if_shown : {V : Type 0} (P Q : V → Type 0) → ((v : V) → P v → Q v) → (r : Result V Error) → IfOk r P → IfOk r Q

@@ -1,6 +1,6 @@
 //! The store: its contracts speak of the state that the tables stand for, and of no row.
 
-ghost use Rattle.std.specs.Prelude.{◌≡◌, ◌⊎◌, ◌<◌, ◌≤◌, ℕ, List, map, find, None, Some, true, false, Err, IfOk, IfErr, OnOk, OnErr};
+ghost use Rattle.std.specs.Prelude.{◌≡◌, ◌⊎◌, ◌<◌, ◌≤◌, ℕ, List, map, find, None, Some, true, false, Err, IsTrue, IfOk, IfErr, OnOk, OnErr};
 ghost use Rattle.sqlite.specs.Held.{state};
 ghost use Rattle.sqlite.specs.State.{HasCleanDisk};
 ghost use Rattle.as2_exchange.specs.State.{State, empty, end_of_numbers, received};
@@ -90,6 +90,8 @@ impl<S: Alter> Store<S> {
 
     /// The numbers that the next entries get.
     pub fn next_numbers(&mut self) -> Result<NextNumbers, StoreFault>
+        ensures clean { HasCleanDisk (state S.Store self.new) → HasCleanDisk (state S.Store self.old) }
+        ensures open { HasCleanDisk (state S.Store self.new) → OnOk result (IsTrue (state S.Store self.old).is_open) }
         ensures numbers { HasCleanDisk (state S.Store self.new) → IfOk result (λ next. (s : State) → Rests (state S.Store self.old) s → (next.receipt ≡ s.next_in) × (next.document ≡ s.next_out)) }
         ensures same { HasCleanDisk (state S.Store self.new) → (s : State) → Rests (state S.Store self.old) s → Rests (state S.Store self.new) s }
         ensures fault { IfErr result (λ f. may_come f ≡ true) }
@@ -107,6 +109,8 @@ impl<S: Alter> Store<S> {
     /// Adds an entry to the inbox. Its number is to be the next of a receipt, as `next_numbers` gives it. Answers Full exactly
     /// where that is past 999,999,999,999; Memory, Disk or Refused. A fault leaves the state.
     pub fn add_in(&mut self, entry: &InEntry) -> Result<(), StoreFault>
+        ensures clean { HasCleanDisk (state S.Store self.new) → HasCleanDisk (state S.Store self.old) }
+        ensures open { HasCleanDisk (state S.Store self.new) → OnOk result (IsTrue (state S.Store self.old).is_open) }
         ensures added { HasCleanDisk (state S.Store self.new) → OnOk result ((s : State) → Rests (state S.Store self.old) s → entry.now.number ≡ s.next_in → Rests (state S.Store self.new) (with_received s entry.now)) }
         ensures failed { HasCleanDisk (state S.Store self.new) → OnErr result ((s : State) → Rests (state S.Store self.old) s → Rests (state S.Store self.new) s) }
         ensures full { IfErr result (λ f. f ≡ Full → end_of_numbers ≤ entry.now.number) }
@@ -133,6 +137,8 @@ impl<S: Alter> Store<S> {
         receiver: &AsName,
         id_value: &str,
     ) -> Result<Option<InEntry>, StoreFault>
+        ensures clean { HasCleanDisk (state S.Store self.new) → HasCleanDisk (state S.Store self.old) }
+        ensures open { HasCleanDisk (state S.Store self.new) → OnOk result (IsTrue (state S.Store self.old).is_open) }
         ensures found { HasCleanDisk (state S.Store self.new) → IfOk result (λ found. (s : State) → Rests (state S.Store self.old) s → found ≡ find (has_key sender.now receiver.now id_value.now) s.inbox) }
         ensures same { HasCleanDisk (state S.Store self.new) → (s : State) → Rests (state S.Store self.old) s → Rests (state S.Store self.new) s }
         ensures fault { IfErr result (λ f. may_come f ≡ true) }
@@ -155,6 +161,8 @@ impl<S: Alter> Store<S> {
         alloc: Global,
         number: u64,
     ) -> Result<Option<InEntry>, StoreFault>
+        ensures clean { HasCleanDisk (state S.Store self.new) → HasCleanDisk (state S.Store self.old) }
+        ensures open { HasCleanDisk (state S.Store self.new) → OnOk result (IsTrue (state S.Store self.old).is_open) }
         ensures found { HasCleanDisk (state S.Store self.new) → IfOk result (λ found. (s : State) → Rests (state S.Store self.old) s → found ≡ received s number) }
         ensures same { HasCleanDisk (state S.Store self.new) → (s : State) → Rests (state S.Store self.old) s → Rests (state S.Store self.new) s }
         ensures fault { IfErr result (λ f. may_come f ≡ true) }
@@ -168,6 +176,8 @@ impl<S: Alter> Store<S> {
 
     /// The entries of the inbox in order of number, each with the length of its content in place of the content.
     pub fn list_in(&mut self, alloc: Global) -> Result<Vec<InRow>, StoreFault>
+        ensures clean { HasCleanDisk (state S.Store self.new) → HasCleanDisk (state S.Store self.old) }
+        ensures open { HasCleanDisk (state S.Store self.new) → OnOk result (IsTrue (state S.Store self.old).is_open) }
         ensures entries { HasCleanDisk (state S.Store self.new) → IfOk result (λ entries. (s : State) → Rests (state S.Store self.old) s → entries.items ≡ map in_summary s.inbox) }
         ensures same { HasCleanDisk (state S.Store self.new) → (s : State) → Rests (state S.Store self.old) s → Rests (state S.Store self.new) s }
         ensures fault { IfErr result (λ f. may_come f ≡ true) }

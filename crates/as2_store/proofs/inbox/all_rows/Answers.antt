@@ -3,7 +3,7 @@ use Rattle.sqlite.specs.Held.{state}
 use Rattle.sqlite.specs.State.{Shown, FailsToQuery}
 use Rattle.as2_store.specs.Statements.{in_all_text}
 use Rattle.as2_store.proofs.Texts.{in_all_plain}
-use Rattle.as2_store.proofs.Answering.{same_after, if_shown}
+use Rattle.as2_store.proofs.Answering.{same_after, open_where, if_shown}
 use Rattle.as2_store.proofs.Looking.{lists_all}
 use Rattle.as2_store.proofs.inbox.all_rows.Goals as goal
 
@@ -14,6 +14,9 @@ returns-clause-same g c clean =
     let ok : IfOk c.query_all.result (λ rows. Shown in_all_text [] old new rows.items) = c.query_all.ensures.ok clean in
     let err : IfErr c.query_all.result (FailsToQuery in_all_text [] old new) = c.query_all.ensures.err clean in
     same_after in_all_text in_all_plain [] old new (λ rows. rows.items) c.query_all.result ok err
+
+pub returns-clause-open : goal.returns-clause-open
+returns-clause-open g c clean = open_where _ _ (state g.S.Store c.args.conn.now) (state g.S.Store c.query_all.new.self) (λ rows. rows.items) c.query_all.result (c.query_all.ensures.ok clean)
 
 pub returns-clause-rows : goal.returns-clause-rows
 returns-clause-rows g c clean =

@@ -3,7 +3,7 @@ use Rattle.sqlite.specs.Held.{state}
 use Rattle.sqlite.specs.State.{Shown, FailsToQuery}
 use Rattle.as2_store.specs.Statements.{in_by_key_text}
 use Rattle.as2_store.proofs.Texts.{in_by_key_plain}
-use Rattle.as2_store.proofs.Answering.{same_after, if_shown}
+use Rattle.as2_store.proofs.Answering.{same_after, open_where, if_shown}
 use Rattle.as2_store.proofs.Looking.{finds_key, key_params}
 use Rattle.as2_store.proofs.inbox.rows_by_key.Goals as goal
 
@@ -16,6 +16,9 @@ returns-clause-same g c clean =
     let err : IfErr c.query_all.result (FailsToQuery in_by_key_text (key_params c.args.sender.now c.args.receiver.now c.args.value.now) old new) =
     rw (c.params-to_sql.ensures, c.params-to_sql-2.ensures, c.params-to_sql-3.ensures) at (c.query_all.ensures.err clean) in
     same_after in_by_key_text in_by_key_plain (key_params c.args.sender.now c.args.receiver.now c.args.value.now) old new (λ rows. rows.items) c.query_all.result ok err
+
+pub returns-clause-open : goal.returns-clause-open
+returns-clause-open g c clean = open_where _ _ (state g.S.Store c.args.conn.now) (state g.S.Store c.query_all.new.self) (λ rows. rows.items) c.query_all.result (c.query_all.ensures.ok clean)
 
 pub returns-clause-rows : goal.returns-clause-rows
 returns-clause-rows g c clean =

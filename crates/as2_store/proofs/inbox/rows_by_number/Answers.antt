@@ -4,7 +4,7 @@ use Rattle.sqlite.specs.State.{Shown, FailsToQuery}
 use Rattle.as2_store.specs.Statements.{in_by_number_text}
 use Rattle.as2_store.proofs.MetaRow.{passed}
 use Rattle.as2_store.proofs.Texts.{in_by_number_plain}
-use Rattle.as2_store.proofs.Answering.{same_after, if_shown}
+use Rattle.as2_store.proofs.Answering.{same_after, open_where, if_shown}
 use Rattle.as2_store.proofs.Looking.{finds_number, by_number_params, asked_small}
 use Rattle.as2_store.proofs.inbox.rows_by_number.Goals as goal
 
@@ -17,6 +17,9 @@ returns-clause-same g c clean =
     let ok : IfOk c.query_all.result (λ rows. Shown in_by_number_text (by_number_params w) old new rows.items) = rw (c.params-to_sql.ensures, c.whole-param.ensures, passed w fits) at (c.query_all.ensures.ok clean) in
     let err : IfErr c.query_all.result (FailsToQuery in_by_number_text (by_number_params w) old new) = rw (c.params-to_sql.ensures, c.whole-param.ensures, passed w fits) at (c.query_all.ensures.err clean) in
     same_after in_by_number_text in_by_number_plain (by_number_params w) old new (λ rows. rows.items) c.query_all.result ok err
+
+pub returns-clause-open : goal.returns-clause-open
+returns-clause-open g c clean = open_where _ _ (state g.S.Store c.args.conn.now) (state g.S.Store c.query_all.new.self) (λ rows. rows.items) c.query_all.result (c.query_all.ensures.ok clean)
 
 pub returns-clause-rows : goal.returns-clause-rows
 returns-clause-rows g c clean =
