@@ -156,7 +156,7 @@ fn read_part(part: Part<'_>) -> Result<Receipt<'_>, ReportFault>
 }
 
 /// The receipt that a body of that media type tells.
-fn read<'a>(media: &MediaType<'a>, body: &'a [u8]) -> Result<Receipt<'a>, ReportFault>
+fn read<'a>(media: &MediaType<'_>, body: &'a [u8]) -> Result<Receipt<'a>, ReportFault>
     ensures { result ≡ reading media.now body.now }
 {
     if media.kind() != Kind::Report {
@@ -173,7 +173,7 @@ fn read<'a>(media: &MediaType<'a>, body: &'a [u8]) -> Result<Receipt<'a>, Report
 
 /// Reads the report that answers a document (RFC 6522, section 3; RFC 8098, section 3; RFC 4130, section 7.4). Its first
 /// part isn't read, nor is anything behind its second.
-pub fn read_report<'a>(media: &MediaType<'a>, body: &'a [u8]) -> Result<Receipt<'a>, ReportFault>
+pub fn read_report<'a>(media: &MediaType<'_>, body: &'a [u8]) -> Result<Receipt<'a>, ReportFault>
     // What is read stands in the report.
     ensures found { IfOk result (IsReport media.now body.now) }
     // What stands in the report is read.
