@@ -34,7 +34,7 @@ left_step number f n d x xs true is apart rest found same =
 left_step number f n d x xs false is apart rest found same = ap (λ ys. x ∷ ys) (rest found same)
 
 -- a change that leaves the only element of this number
-left_as_is : {X : Type 0} (number : X → ℕ) (f : X → X) (n : ℕ) (d : X) (xs : List X) → IsDistinct (λ a b. a == b) (map number xs) → find (λ x. number x == n) xs ≡ Some d → f d ≡ d → map (λ x. if number x == n then f x else x) xs ≡ xs
+pub left_as_is : {X : Type 0} (number : X → ℕ) (f : X → X) (n : ℕ) (d : X) (xs : List X) → IsDistinct (λ a b. a == b) (map number xs) → find (λ x. number x == n) xs ≡ Some d → f d ≡ d → map (λ x. if number x == n then f x else x) xs ≡ xs
 unfolding IsDistinct
 left_as_is number f n d [] apart found same = refl
 left_as_is number f n d (x ∷ xs) apart found same = left_step number f n d x xs (number x == n) refl apart.0 (left_as_is number f n d xs apart.1) found same

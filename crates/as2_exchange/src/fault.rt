@@ -1,3 +1,8 @@
+ghost use Rattle.std.specs.Prelude.{◌≡◌};
+ghost use Rattle.as2_exchange.specs.declared.fault.StoreFault.TheVariants.{Memory as OutOfMemory};
+
+use as2_names::Memory;
+
 /// Why a store couldn't answer. A fault changes nothing.
 #[derive(Clone, Copy, Debug, PartialEq, Eq)]
 pub enum StoreFault {
@@ -13,4 +18,12 @@ pub enum StoreFault {
     NotAStore,
     /// The store is of another version.
     OtherVersion,
+}
+
+impl From<Memory> for StoreFault {
+    ghost from_gives = { λ _ fault. fault ≡ OutOfMemory };
+
+    fn from(_memory: Memory) -> StoreFault {
+        StoreFault::Memory
+    }
 }
