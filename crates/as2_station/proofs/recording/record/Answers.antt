@@ -1,0 +1,42 @@
+use Rattle.std.proofs.Common.{◌≡◌, ◌∙◌, sym, Some, None}
+use Rattle.as2_exchange.specs.Step.{record_post}
+use Rattle.as2_exchange.specs.Readings.{value_of}
+use Rattle.as2_exchange.specs.State.{received_as}
+use Rattle.as2_exchange.specs.declared.inbox.InEntry.{InEntry}
+use Rattle.as2_station.proofs.Numbers.{found_number}
+use Rattle.as2_station.proofs.Results.{from_ok, from_err}
+use Rattle.as2_station.proofs.recording.record.Goals as goal
+
+pub returns-in-Some-clause-answered : goal.returns-in-Some-clause-answered
+unfolding record_post value_of
+returns-in-Some-clause-answered g c clean =
+    let was = c.record_again.ensures.clean clean in
+    from_ok c.record_again.result _ _ (c.record_again.ensures.answered clean) (λ a told s r alone.
+    let found : received_as s c.args.posted ≡ Some c.in-Some.entry = sym (rw c.value.ensures at (c.in_ok-entry.ensures.found was s r)) ∙ c.in-Some.is in
+    let numbers = (r.stands (c.in_ok-entry.ensures.open was)).receipts.1 in
+    rw found (told s (c.find_in.ensures.same was s r) alone numbers
+    (found_number (λ (e : InEntry). e.number) _ s.inbox c.in-Some.entry numbers.distinct found)))
+
+pub returns-in-Some-clause-failed : goal.returns-in-Some-clause-failed
+unfolding record_post value_of
+returns-in-Some-clause-failed g c clean =
+    let was = c.record_again.ensures.clean clean in
+    from_err c.record_again.result _ _ (c.record_again.ensures.failed clean) (λ f told s r.
+    let found : received_as s c.args.posted ≡ Some c.in-Some.entry = sym (rw c.value.ensures at (c.in_ok-entry.ensures.found was s r)) ∙ c.in-Some.is in
+    rw found (told s (c.find_in.ensures.same was s r)))
+
+pub returns-in-None-clause-answered : goal.returns-in-None-clause-answered
+unfolding record_post value_of
+returns-in-None-clause-answered g c clean =
+    let was = c.record_first.ensures.clean clean in
+    from_ok c.record_first.result _ _ (c.record_first.ensures.answered clean) (λ a told s r alone.
+    let found : received_as s c.args.posted ≡ None = sym (rw c.value.ensures at (c.in_ok-entry.ensures.found was s r)) ∙ c.in-None.is in
+    rw found (told s (c.find_in.ensures.same was s r) alone))
+
+pub returns-in-None-clause-failed : goal.returns-in-None-clause-failed
+unfolding record_post value_of
+returns-in-None-clause-failed g c clean =
+    let was = c.record_first.ensures.clean clean in
+    from_err c.record_first.result _ _ (c.record_first.ensures.failed clean) (λ f told s r.
+    let found : received_as s c.args.posted ≡ None = sym (rw c.value.ensures at (c.in_ok-entry.ensures.found was s r)) ∙ c.in-None.is in
+    rw found (told s (c.find_in.ensures.same was s r)))

@@ -1,0 +1,17 @@
+-- The lines that refuse a post by its head alone.
+use Rattle.std.specs.Prelude.{Bool, true, false}
+use Rattle.as2_exchange.specs.declared.answer.Line.{Line}
+use Rattle.as2_exchange.specs.declared.answer.Line.TheVariants.{BadNames, BadVersion, UnknownNames, BadType, UnreadableReceipt, NoSuchMessage, BadId, BadAsk, IdUsedBefore, NotProcessed}
+
+-- it is about names, version or content type
+abbrev pub is_of_head : Line → Bool
+is_of_head BadNames = true
+is_of_head BadVersion = true
+is_of_head UnknownNames = true
+is_of_head BadType = true
+is_of_head UnreadableReceipt = false
+is_of_head NoSuchMessage = false
+is_of_head BadId = false
+is_of_head BadAsk = false
+is_of_head IdUsedBefore = false
+is_of_head (NotProcessed outcome) = false

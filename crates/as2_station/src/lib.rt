@@ -1,0 +1,9 @@
+//! The station: the exchange machine over its records. Each event is a step of the machine, and the tables then stand for
+//! the state that it leaves; or it is a fault of the store, and the tables stand for the state before.
+#![tactic(auto)]
+
+mod receiving;
+mod recording;
+mod station;
+
+pub use station::Station;

@@ -1,0 +1,80 @@
+//! Documents that are posted: each is recorded once.
+ghost use Rattle.std.specs.Prelude.{◌≡◌, [], Some, None, map, IfOk, IfErr};
+ghost use Rattle.sqlite.specs.Held.{state};
+ghost use Rattle.sqlite.specs.State.{HasCleanDisk};
+ghost use Rattle.as2_exchange.specs.Invariants.{AreNumbers};
+ghost use Rattle.as2_exchange.specs.State.{State, received};
+ghost use Rattle.as2_exchange.specs.Step.{record_post, recorded};
+ghost use Rattle.as2_exchange.specs.declared.answer.Answer.TheVariants.{Http};
+ghost use Rattle.as2_store.specs.Stands.{Rests};
+ghost use Rattle.as2_station.specs.Steps.{Answers, Fails, Left};
+
+use as2_agreement::Agreements;
+use as2_exchange::{HttpAnswer, InEntry, Line, Posted, StoreFault};
+use as2_names::Moment;
+use as2_posts::{answer_to, first_entry, is_queued_again, refused, repeats};
+use as2_store::Store;
+use sqlite::Alter;
+use std::alloc::Global;
+
+/// Takes a document whose key an entry has: a repeat of the entry's document is answered as that was, and any other is
+/// refused.
+fn record_again<S: Alter>(
+    store: &mut Store<S>,
+    alloc: Global,
+    agreements: &Agreements,
+    entry: &InEntry,
+    posted: &Posted,
+    moment: Moment,
+) -> Result<HttpAnswer, StoreFault>
+    ensures clean { HasCleanDisk (state S.Store store.new) → HasCleanDisk (state S.Store store.old) }
+    ensures answered { HasCleanDisk (state S.Store store.new) → IfOk result (λ a. (s : State) → Rests (state S.Store store.old) s → s.outbox ≡ [] → AreNumbers s.next_in (map (λ e. e.number) s.inbox) → received s entry.now.number ≡ Some entry.now
+        → Left (state S.Store store.new) (recorded agreements.now s moment posted.now (Some entry.now)) (Http a)) }
+    ensures failed { HasCleanDisk (state S.Store store.new) → IfErr result (λ f. Fails (λ s. recorded agreements.now s moment posted.now (Some entry.now)) (state S.Store store.old) (state S.Store store.new) f) }
+{
+    if !repeats(&entry.posted, posted) {
+        return Ok(refused(Line::IdUsedBefore));
+    }
+    let answer = answer_to(alloc, agreements, entry.number, &entry.posted)?;
+    if is_queued_again(entry) {
+        return Err(StoreFault::Refused);
+    }
+    Ok(answer)
+}
+
+/// Takes a document whose key no entry has, under the next number.
+fn record_first<S: Alter>(
+    store: &mut Store<S>,
+    alloc: Global,
+    agreements: &Agreements,
+    posted: Posted,
+    moment: Moment,
+) -> Result<HttpAnswer, StoreFault>
+    ensures clean { HasCleanDisk (state S.Store store.new) → HasCleanDisk (state S.Store store.old) }
+    ensures answered { HasCleanDisk (state S.Store store.new) → IfOk result (λ a. Answers (λ s. recorded agreements.now s moment posted None) (state S.Store store.old) (state S.Store store.new) (Http a)) }
+    ensures failed { HasCleanDisk (state S.Store store.new) → IfErr result (λ f. Fails (λ s. recorded agreements.now s moment posted None) (state S.Store store.old) (state S.Store store.new) f) }
+{
+    let number = store.next_numbers()?.receipt;
+    let answer = answer_to(alloc, agreements, number, &posted)?;
+    store.add_in(&first_entry(number, moment, posted))?;
+    Ok(answer)
+}
+
+/// Takes a document: it repeats one, clashes with one, or is new.
+#[tactic(auto, unfolding(as2_exchange::specs::Step::record_post))]
+pub fn record<S: Alter>(
+    store: &mut Store<S>,
+    alloc: Global,
+    agreements: &Agreements,
+    posted: Posted,
+    moment: Moment,
+) -> Result<HttpAnswer, StoreFault>
+    ensures clean { HasCleanDisk (state S.Store store.new) → HasCleanDisk (state S.Store store.old) }
+    ensures answered { HasCleanDisk (state S.Store store.new) → IfOk result (λ a. Answers (λ s. record_post agreements.now s moment posted) (state S.Store store.old) (state S.Store store.new) (Http a)) }
+    ensures failed { HasCleanDisk (state S.Store store.new) → IfErr result (λ f. Fails (λ s. record_post agreements.now s moment posted) (state S.Store store.old) (state S.Store store.new) f) }
+{
+    match store.find_in(alloc, &posted.sender, &posted.receiver, posted.id.value())? {
+        Some(entry) => record_again(store, alloc, agreements, &entry, &posted, moment),
+        None => record_first(store, alloc, agreements, posted, moment),
+    }
+}

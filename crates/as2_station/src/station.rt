@@ -1,0 +1,121 @@
+//! The station, event by event.
+ghost use Rattle.std.specs.Prelude.{◌≡◌, ℕ, List, Some, Ok, true, IfOk, IfErr};
+ghost use Rattle.sqlite.specs.Held.{state};
+ghost use Rattle.sqlite.specs.State.{HasCleanDisk};
+ghost use Rattle.as2_exchange.specs.Step.{Refuses, post, reading, step};
+ghost use Rattle.as2_exchange.specs.declared.event.Event.TheVariants.{Post};
+ghost use Rattle.as2_exchange.specs.declared.answer.Answer.TheVariants.{Http};
+ghost use Rattle.as2_exchange.specs.declared.answer.Line.{Line as TheLine};
+ghost use Rattle.as2_posts.specs.Answers.{refusal};
+ghost use Rattle.as2_posts.specs.Openings.{read_further};
+ghost use Rattle.as2_station.specs.Heads.{is_of_head};
+ghost use Rattle.as2_station.specs.Steps.{Answers, Fails};
+
+use crate::receiving::receive;
+use crate::recording::record;
+use as2_agreement::Agreements;
+use as2_exchange::{Answer, Event, HttpAnswer, StoreFault};
+use as2_mic::Pieces;
+use as2_names::{Head, Moment};
+use as2_posts::{Opened, document, open, refused};
+use as2_store::Store;
+use sqlite::Alter;
+use std::alloc::Global;
+use std::marker::Model;
+
+/// The station over its records. It keeps nothing beside the tables.
+#[derive(Drop)]
+pub struct Station<S: Alter> {
+    store: Store<S>,
+}
+
+impl<S: Alter> Model for Station<S> {
+    ghost use Rattle.sqlite.specs.Held.{Held, held_code};
+
+    ghost Value = { Held S };
+
+    ghost coded = { held_code S.code };
+
+    ghost view = { λ s. s.store };
+}
+
+impl<S: Alter> Station<S> {
+    /// The station over these records.
+    pub fn new(store: Store<S>) -> Station<S>
+        ensures { result ≡ store }
+    {
+        Station { store }
+    }
+
+    /// Gives the records back.
+    pub fn into_store(self) -> Store<S>
+        ensures { result ≡ self }
+    {
+        let Station { store } = self;
+        store
+    }
+
+    /// Takes a post whose head is in order as far as its content type.
+    fn take(
+        &mut self,
+        alloc: Global,
+        agreements: &Agreements,
+        opened: Opened<'_>,
+        head: &Head,
+        body: Pieces,
+        moment: Moment,
+    ) -> Result<HttpAnswer, StoreFault>
+        ensures clean { HasCleanDisk (state S.Store self.new) → HasCleanDisk (state S.Store self.old) }
+        ensures answered { HasCleanDisk (state S.Store self.new) → IfOk result (λ a. Answers (λ s. post agreements.now s moment (read_further (opened.entry.from, opened.entry.to) (opened.entry.media, opened.entry.content_type.now) head.now body)) (state S.Store self.old) (state S.Store self.new) (Http a)) }
+        ensures failed { HasCleanDisk (state S.Store self.new) → IfErr result (λ f. Fails (λ s. post agreements.now s moment (read_further (opened.entry.from, opened.entry.to) (opened.entry.media, opened.entry.content_type.now) head.now body)) (state S.Store self.old) (state S.Store self.new) f) }
+    {
+        if opened.is_report() {
+            return Ok(receive(&opened, &body)?);
+        }
+        match document(alloc, opened, head, body)? {
+            Ok(posted) => record(&mut self.store, alloc, agreements, posted, moment),
+            Err(line) => Ok(refused(line)),
+        }
+    }
+
+    /// Takes a post. One that its names, version or content type refuse takes neither memory nor the store. A fault of the
+    /// store may come in place of any other answer, and nothing is changed then; Full where no number is left.
+    pub fn post(
+        &mut self,
+        alloc: Global,
+        agreements: &Agreements,
+        head: &Head,
+        body: Pieces,
+        moment: Moment,
+    ) -> Result<HttpAnswer, StoreFault>
+        ensures clean { HasCleanDisk (state S.Store self.new) → HasCleanDisk (state S.Store self.old) }
+        ensures answered { HasCleanDisk (state S.Store self.new) → IfOk result (λ a. Answers (λ s. step agreements.now s (Post head.now body moment)) (state S.Store self.old) (state S.Store self.new) (Http a)) }
+        ensures failed { HasCleanDisk (state S.Store self.new) → IfErr result (λ f. Fails (λ s. step agreements.now s (Post head.now body moment)) (state S.Store self.old) (state S.Store self.new) f) }
+        ensures of_head { (status : ℕ) (line : TheLine) → reading agreements.now head.now body ≡ Refuses status line → is_of_head line ≡ true → (result ≡ Ok (refusal line)) × (self.new ≡ self.old) }
+    {
+        match open(agreements, head) {
+            Ok(opened) => self.take(alloc, agreements, opened, head, body, moment),
+            Err(line) => Ok(refused(line)),
+        }
+    }
+
+    /// Takes an event. A post is taken as `post` takes it; every other event is Refused for now. A fault of the store may come
+    /// in place of any answer, and nothing is changed then; Full where no number is left.
+    pub fn step(
+        &mut self,
+        alloc: Global,
+        agreements: &Agreements,
+        event: Event,
+    ) -> Result<Answer, StoreFault>
+        ensures clean { HasCleanDisk (state S.Store self.new) → HasCleanDisk (state S.Store self.old) }
+        ensures answered { HasCleanDisk (state S.Store self.new) → IfOk result (Answers (λ s. step agreements.now s event) (state S.Store self.old) (state S.Store self.new)) }
+        ensures failed { HasCleanDisk (state S.Store self.new) → IfErr result (Fails (λ s. step agreements.now s event) (state S.Store self.old) (state S.Store self.new)) }
+    {
+        match event {
+            Event::Post { head, body, moment } => {
+                Ok(Answer::Http(self.post(alloc, agreements, &head, body, moment)?))
+            }
+            _ => Err(StoreFault::Refused),
+        }
+    }
+}
