@@ -4,5 +4,5 @@ pub mod Judging
 pub mod Framed
 pub mod Alone
 pub mod Arriving
-pub mod Lines
 pub mod Dated
+pub mod Phrases

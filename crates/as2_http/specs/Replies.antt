@@ -3,7 +3,7 @@ use Rattle.std.specs.Prelude.{◌≡◌, ℕ, Bool, List, [], ◌++◌, length, 
 use Rattle.http.specs.StatusCode.{reason_phrase}
 use Rattle.httpdate.specs.Date.{unix_secs, date_text}
 use Rattle.httpdate.specs.declared.date.HttpDate.{HttpDate as Date}
-use Rattle.as2_mdn.specs.Reports.{line, report_text, head_fields}
+use Rattle.as2_mdn.specs.Reports.{line, head_fields_of}
 use Rattle.as2_http.specs.Answers.{Answer, Body, Nothing, Line, Report}
 use Rattle.as2_http.specs.declared.framing.Refusal.{Refusal}
 use Rattle.as2_http.specs.declared.framing.Refusal.TheVariants.{BadHead, TransferCoding, BadLength, TooLarge, NoLength}
@@ -21,7 +21,7 @@ phrase status = unwrap_or (reason_phrase status) []
 abbrev pub content : Body → List ℕ
 content Nothing = []
 content (Line text) = text ++ codes "\n"
-content (Report out) = report_text out
+content (Report out bytes) = bytes
 
 -- the head fields of a line of n bytes
 abbrev pub line_fields : ℕ → List ℕ
@@ -31,7 +31,7 @@ line_fields n = line (codes "Content-Type: text/plain\r\nContent-Length: ") (dec
 abbrev pub content_fields : Body → List ℕ
 content_fields Nothing = codes "Content-Length: 0\r\n"
 content_fields (Line text) = line_fields (length (content (Line text)))
-content_fields (Report out) = head_fields out
+content_fields (Report out bytes) = head_fields_of out (length bytes)
 
 abbrev pub status_line : ℕ → List ℕ
 status_line status = codes "HTTP/1.1 " ++ decimal status ++ codes " " ++ phrase status ++ codes "\r\n"

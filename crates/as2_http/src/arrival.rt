@@ -1,14 +1,14 @@
 //! The first request of a stream, as it comes.
-ghost use Rattle.std.specs.Prelude.{◌≡◌, ◌≢◌, List, ℕ, Some, IsTrue, false};
+ghost use Rattle.std.specs.Prelude.{◌≡◌, ◌≢◌, List, ℕ, Some, IsTrue, false, IfOk};
 ghost use Rattle.as2_http.specs.Arrivals.{Arrives, LeavesUnread, is_decided};
-ghost use Rattle.as2_http.specs.Requests.{IsOpen};
+ghost use Rattle.as2_http.specs.Requests.{IsOpen, is_head};
 
-use crate::body::Body;
 use crate::framing::{Method, Refusal, Refused, Target};
 use crate::head_text::blank_length;
 use crate::input::{Input, NoHead, Stop};
 use crate::request::{NotJudged, judge};
-use as2_text::Head;
+use as2_mic::Pieces;
+use as2_text::{Head, Memory};
 use std::alloc::Global;
 use std::io::Read;
 
@@ -22,7 +22,7 @@ pub struct Request {
     /// The fields of its head.
     pub fields: Head,
     /// As many bytes as its head says.
-    pub body: Body,
+    pub body: Pieces,
     /// No further request is read behind this one.
     pub last: bool,
 }
@@ -66,6 +66,25 @@ fn stopped(stop: Stop, text: &[u8]) -> Arrival
     }
 }
 
+/// A refused head, by the reason and its method.
+fn refused(reason: Refusal, method: Method) -> Arrival
+    ensures { result ≡ Arrival.Refused (record { reason = reason; to_head = is_head method }) }
+{
+    Arrival::Refused(Refused {
+        reason,
+        to_head: method.is_head(),
+    })
+}
+
+/// A body, as it is kept.
+fn kept(alloc: Global, bytes: &[u8]) -> Result<Pieces, Memory>
+    ensures { IfOk result (λ body. body ≡ bytes.now) }
+{
+    let mut body = Pieces::new(alloc);
+    body.append(bytes)?;
+    Ok(body)
+}
+
 /// Reads the first request of a stream, and no more than the reads that it takes.
 pub fn read_first<R: Read>(alloc: Global, reader: &mut R) -> Arrival
     // What arrives is what the whole input begins with.
@@ -89,22 +108,20 @@ pub fn read_first<R: Read>(alloc: Global, reader: &mut R) -> Arrival
     };
     let length = match judged.length {
         Ok(length) => length,
-        Err(reason) => {
-            return Arrival::Refused(Refused {
-                reason,
-                to_head: judged.method.is_head(),
-            });
-        }
+        Err(reason) => return refused(reason, judged.method),
     };
     let end = place.end + length;
     if let Err(stop) = input.to_length(reader, end) {
         return stopped(stop, &input.text);
     }
+    let Ok(body) = kept(alloc, &input.text[place.end..end]) else {
+        return Arrival::Memory;
+    };
     Arrival::Request(Request {
         method: judged.method,
         target: judged.target,
         fields: judged.fields,
-        body: Body::of(input.text, place.end, end),
+        body,
         last: judged.last,
     })
 }

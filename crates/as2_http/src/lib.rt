@@ -3,7 +3,6 @@
 
 mod answer;
 mod arrival;
-mod body;
 mod framing;
 mod head_text;
 mod input;
@@ -13,7 +12,6 @@ mod request;
 
 pub use answer::{HttpAnswer, HttpBody};
 pub use arrival::{Arrival, Request, read_first};
-pub use body::Body;
 pub use framing::{Method, Refusal, Refused, Target};
 pub use laws::{one_arrival, one_refusal, one_reply_text, one_request};
 pub use reply::{Form, refusal, write_reply};

@@ -1,13 +1,12 @@
 //! The texts of replies (RFC 9112, section 4).
 ghost use Rattle.std.specs.Prelude.{◌≡◌, ◌++◌, List, ℕ, [], if◌then◌else◌, length, IfOk, OnOk};
-ghost use Rattle.http.specs.StatusCode.{IsStatusCode};
 ghost use Rattle.as2_mdn.specs.Reports.{line};
-ghost use Rattle.as2_http.specs.Answers.{body_of};
-ghost use Rattle.as2_http.specs.Replies.{IsDateOf, IsReply, content, content_fields, phrase, refusal, reply, reply_start, status_line};
+ghost use Rattle.as2_http.specs.Answers.{Line, body_of};
+ghost use Rattle.as2_http.specs.Replies.{IsDateOf, IsReply, content, content_fields, line_fields, phrase, refusal, reply, reply_start, status_line};
 
 use crate::answer::{HttpAnswer, HttpBody};
 use crate::framing::Refusal;
-use as2_mdn::{write_head_fields, write_report};
+use as2_mdn::write_head_fields;
 use as2_text::{Memory, Moment};
 use http::StatusCode;
 use httpdate::HttpDate;
@@ -32,15 +31,14 @@ fn date_of(moment: Moment) -> [u8; 29]
         .to_bytes()
 }
 
-/// The reason phrase of a status code.
+/// The reason phrase of a status, where it has one.
 fn phrase(status: u16) -> &'static str
-    requires { IsStatusCode status }
     ensures { result.now ≡ phrase status }
 {
-    StatusCode::from_u16(status)
-        .unwrap()
-        .canonical_reason()
-        .unwrap_or("")
+    match StatusCode::from_u16(status) {
+        Ok(code) => code.canonical_reason().unwrap_or(""),
+        Err(_) => "",
+    }
 }
 
 /// Appends the bytes where the condition holds.
@@ -65,7 +63,6 @@ fn add_line(text: &mut Vec<u8>, start: &[u8], value: &[u8]) -> Result<(), AllocE
 
 /// The status line.
 fn status_line(alloc: Global, status: u16) -> Result<Vec<u8>, AllocError>
-    requires { IsStatusCode status }
     ensures { IfOk result (λ text. text.items ≡ status_line status) }
 {
     let mut text = Vec::from_slice(alloc, b"HTTP/1.1 ")?;
@@ -78,7 +75,6 @@ fn status_line(alloc: Global, status: u16) -> Result<Vec<u8>, AllocError>
 
 /// What stands before the body's fields.
 fn start(alloc: Global, date: &[u8], closes: bool, status: u16) -> Result<Vec<u8>, AllocError>
-    requires { IsStatusCode status }
     ensures { IfOk result (λ text. text.items ≡ reply_start date.now closes status) }
 {
     let mut text = status_line(alloc, status)?;
@@ -88,34 +84,40 @@ fn start(alloc: Global, date: &[u8], closes: bool, status: u16) -> Result<Vec<u8
     Ok(text)
 }
 
-/// The bytes of a body.
-fn content(alloc: Global, body: &HttpBody) -> Result<Vec<u8>, Memory>
-    ensures { IfOk result (λ bytes. bytes.items ≡ content (body_of body.now)) }
+/// Appends the head fields of a line of that many bytes.
+fn add_line_fields(text: &mut Vec<u8>, size: usize) -> Result<(), AllocError>
+    ensures { OnOk result (text.new.items ≡ text.old.items ++ line_fields size) }
 {
-    match body {
-        HttpBody::Nothing => Ok(Vec::new(alloc)),
-        HttpBody::Line(line) => {
-            let mut bytes = Vec::from_slice(alloc, line.as_bytes())?;
-            bytes.extend_from_slice(b"\n")?;
-            Ok(bytes)
-        }
-        HttpBody::Report(out) => write_report(alloc, out),
-    }
+    add_line(
+        text,
+        b"Content-Type: text/plain\r\nContent-Length: ",
+        Buffer::new().format(size).as_bytes(),
+    )
 }
 
-/// Appends the head fields of a body of that many bytes.
-fn add_fields(alloc: Global, text: &mut Vec<u8>, body: &HttpBody, size: usize) -> Result<(), Memory>
-    requires { size ≡ length (content (body_of body.now)) }
-    ensures { OnOk result (text.new.items ≡ text.old.items ++ content_fields (body_of body.now)) }
+/// Appends the head fields of a body.
+fn add_fields(alloc: Global, text: &mut Vec<u8>, body: HttpBody<'_>) -> Result<(), Memory>
+    ensures { OnOk result (text.new.items ≡ text.old.items ++ content_fields (body_of body.entry)) }
 {
     match body {
         HttpBody::Nothing => text.extend_from_slice(b"Content-Length: 0\r\n")?,
-        HttpBody::Line(_) => add_line(
-            text,
-            b"Content-Type: text/plain\r\nContent-Length: ",
-            Buffer::new().format(size).as_bytes(),
-        )?,
-        HttpBody::Report(out) => write_head_fields(alloc, text, out, size)?,
+        HttpBody::Line(line) => add_line_fields(text, line.len() + 1)?,
+        HttpBody::Report { out, bytes } => write_head_fields(alloc, text, out, bytes.len())?,
+    }
+    Ok(())
+}
+
+/// Appends the bytes of a body.
+fn add_content(text: &mut Vec<u8>, body: HttpBody<'_>) -> Result<(), AllocError>
+    ensures { OnOk result (text.new.items ≡ text.old.items ++ content (body_of body.entry)) }
+{
+    match body {
+        HttpBody::Nothing => {}
+        HttpBody::Line(line) => {
+            text.extend_from_slice(line.as_bytes())?;
+            text.extend_from_slice(b"\n")?;
+        }
+        HttpBody::Report { bytes, .. } => text.extend_from_slice(bytes)?,
     }
     Ok(())
 }
@@ -125,27 +127,38 @@ pub fn write_reply(
     alloc: Global,
     moment: Moment,
     form: Form,
-    answer: &HttpAnswer,
+    answer: &HttpAnswer<'_>,
 ) -> Result<Vec<u8>, Memory>
     ensures { IfOk result (λ text. IsReply moment form answer.now text.items) }
 {
-    let body = content(alloc, answer.body())?;
-    let mut text = start(alloc, &date_of(moment), form.closes, answer.status())?;
-    add_fields(alloc, &mut text, answer.body(), body.len())?;
+    let mut text = start(alloc, &date_of(moment), form.closes, answer.status)?;
+    add_fields(alloc, &mut text, answer.body)?;
     text.extend_from_slice(b"\r\n")?;
-    add_if(&mut text, !form.to_head, &body)?;
+    if !form.to_head {
+        add_content(&mut text, answer.body)?;
+    }
     Ok(text)
 }
 
+/// An answer of one line.
+fn line(status: u16, text: &'static str) -> HttpAnswer<'static>
+    ensures { result ≡ record { status = status; body = Line text.now } }
+{
+    HttpAnswer {
+        status,
+        body: HttpBody::Line(text),
+    }
+}
+
 /// The answer to bytes that no request begins with.
-pub fn refusal(reason: Refusal) -> HttpAnswer
+pub fn refusal(reason: Refusal) -> HttpAnswer<'static>
     ensures { result ≡ refusal reason }
 {
     match reason {
-        Refusal::BadHead => HttpAnswer::line(400, "bad request head"),
-        Refusal::TransferCoding => HttpAnswer::line(501, "transfer coding not supported"),
-        Refusal::BadLength => HttpAnswer::line(400, "bad Content-Length"),
-        Refusal::TooLarge => HttpAnswer::line(413, "body too large"),
-        Refusal::NoLength => HttpAnswer::line(411, "length required"),
+        Refusal::BadHead => line(400, "bad request head"),
+        Refusal::TransferCoding => line(501, "transfer coding not supported"),
+        Refusal::BadLength => line(400, "bad Content-Length"),
+        Refusal::TooLarge => line(413, "body too large"),
+        Refusal::NoLength => line(411, "length required"),
     }
 }

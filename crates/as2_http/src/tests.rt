@@ -58,7 +58,7 @@ fn summary(arrival: &Arrival) -> Seen {
         Arrival::Request(request) => Seen::Request {
             method: request.method,
             target: request.target,
-            body: request.body.bytes().len(),
+            body: request.body.len(),
             last: request.last,
         },
         Arrival::Refused(refused) => Seen::Refused(*refused),

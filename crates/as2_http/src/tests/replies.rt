@@ -1,5 +1,5 @@
-use crate::{Form, HttpAnswer, Refusal, refusal, write_reply};
-use as2_mdn::{Outcome, ReportOut};
+use crate::{Form, HttpAnswer, HttpBody, Refusal, refusal, write_reply};
+use as2_mdn::{Outcome, ReportOut, write_report};
 use as2_text::{AsName, Domain, MessageId, Moment};
 use std::test::Fail;
 
@@ -18,10 +18,24 @@ const TO_HEAD: Form = Form {
     to_head: true,
 };
 
+fn nothing(status: u16) -> HttpAnswer<'static> {
+    HttpAnswer {
+        status,
+        body: HttpBody::Nothing,
+    }
+}
+
+fn line(status: u16, text: &'static str) -> HttpAnswer<'static> {
+    HttpAnswer {
+        status,
+        body: HttpBody::Line(text),
+    }
+}
+
 #[derive(Drop)]
 struct Case {
     form: Form,
-    answer: HttpAnswer,
+    answer: HttpAnswer<'static>,
     text: &'static str,
 }
 
@@ -29,31 +43,31 @@ fn cases() -> [Case; 6] {
     [
         Case {
             form: PLAIN,
-            answer: HttpAnswer::nothing(200),
+            answer: nothing(200),
             text: "HTTP/1.1 200 OK\r\nDate: Thu, 01 Jan 1970 00:16:40 GMT\r\nContent-Length: 0\r\n\r\n",
         },
         Case {
             form: PLAIN,
-            answer: HttpAnswer::line(404, "no such path"),
+            answer: line(404, "no such path"),
             text: "HTTP/1.1 404 Not Found\r\nDate: Thu, 01 Jan 1970 00:16:40 GMT\r\n\
 Content-Type: text/plain\r\nContent-Length: 13\r\n\r\nno such path\n",
         },
         // The reply to HEAD says of its body what that to GET says, and leaves it out.
         Case {
             form: TO_HEAD,
-            answer: HttpAnswer::line(405, "only POST"),
+            answer: line(405, "only POST"),
             text: "HTTP/1.1 405 Method Not Allowed\r\nDate: Thu, 01 Jan 1970 00:16:40 GMT\r\nAllow: POST\r\n\
 Content-Type: text/plain\r\nContent-Length: 10\r\n\r\n",
         },
         Case {
             form: PLAIN,
-            answer: HttpAnswer::line(405, "only POST"),
+            answer: line(405, "only POST"),
             text: "HTTP/1.1 405 Method Not Allowed\r\nDate: Thu, 01 Jan 1970 00:16:40 GMT\r\nAllow: POST\r\n\
 Content-Type: text/plain\r\nContent-Length: 10\r\n\r\nonly POST\n",
         },
         Case {
             form: CLOSING,
-            answer: HttpAnswer::nothing(202),
+            answer: nothing(202),
             text: "HTTP/1.1 202 Accepted\r\nDate: Thu, 01 Jan 1970 00:16:40 GMT\r\nConnection: close\r\n\
 Content-Length: 0\r\n\r\n",
         },
@@ -124,17 +138,15 @@ fn refusals_close(rt: HostRuntime) -> Result<(), Fail> {
 fn phrases(rt: HostRuntime) -> Result<(), Fail> {
     let moment = Moment::new(1000).ok_or("no moment")?;
     for (answer, start) in [
-        (HttpAnswer::nothing(200), "HTTP/1.1 200 OK\r\n"),
-        (HttpAnswer::nothing(202), "HTTP/1.1 202 Accepted\r\n"),
-        (HttpAnswer::nothing(400), "HTTP/1.1 400 Bad Request\r\n"),
-        (HttpAnswer::nothing(403), "HTTP/1.1 403 Forbidden\r\n"),
-        (HttpAnswer::nothing(409), "HTTP/1.1 409 Conflict\r\n"),
-        (
-            HttpAnswer::nothing(503),
-            "HTTP/1.1 503 Service Unavailable\r\n",
-        ),
+        (nothing(200), "HTTP/1.1 200 OK\r\n"),
+        (nothing(202), "HTTP/1.1 202 Accepted\r\n"),
+        (nothing(400), "HTTP/1.1 400 Bad Request\r\n"),
+        (nothing(403), "HTTP/1.1 403 Forbidden\r\n"),
+        (nothing(409), "HTTP/1.1 409 Conflict\r\n"),
+        (nothing(503), "HTTP/1.1 503 Service Unavailable\r\n"),
         // A code without a phrase.
-        (HttpAnswer::nothing(999), "HTTP/1.1 999 \r\n"),
+        (nothing(999), "HTTP/1.1 999 \r\n"),
+        (nothing(1000), "HTTP/1.1 1000 \r\n"),
     ] {
         let text = write_reply(rt.alloc(), moment, PLAIN, &answer)?;
         assert!(rt; str::from_utf8(&text)?.starts_with(start));
@@ -155,7 +167,7 @@ fn dates(rt: HostRuntime) -> Result<(), Fail> {
         ),
     ] {
         let moment = Moment::new(seconds).ok_or("no moment")?;
-        let text = write_reply(rt.alloc(), moment, PLAIN, &HttpAnswer::nothing(200))?;
+        let text = write_reply(rt.alloc(), moment, PLAIN, &nothing(200))?;
         assert!(rt; str::from_utf8(&text)?.contains(line));
     }
     Ok(())
@@ -198,7 +210,15 @@ fn report(rt: HostRuntime) -> Result<(), Fail> {
         outcome: Outcome::DecompressionFailed,
         mic: None,
     };
-    let text = write_reply(rt.alloc(), moment, PLAIN, &HttpAnswer::report(200, out))?;
+    let bytes = write_report(rt.alloc(), &out)?;
+    let answer = HttpAnswer {
+        status: 200,
+        body: HttpBody::Report {
+            out: &out,
+            bytes: &bytes,
+        },
+    };
+    let text = write_reply(rt.alloc(), moment, PLAIN, &answer)?;
     assert_eq!(rt; str::from_utf8(&text)?, REPORT);
     Ok(())
 }

@@ -1,7 +1,10 @@
-use Rattle.std.proofs.Common.{rules, arith, refl, sym, subst, ap, ◌∙◌, ◌+◌, drop, slice_range, Err, Result, ℕ}
+use Rattle.std.proofs.Common.{rules, arith, refl, sym, subst, ap, ◌∙◌, ◌+◌, List, drop, slice_range, Err, Result, ℕ}
 use Rattle.as2_http.specs.Inputs.{IsHeadless}
 use Rattle.as2_http.specs.Requests.{too_long, no_head, framing, bad_head, is_head, Frames}
+use Rattle.as2_http.specs.Arrivals.{Arrives}
+use Rattle.as2_http.specs.declared.arrival.Arrival.{Arrival}
 use Rattle.as2_http.specs.declared.framing.Refusal.{Refusal}
+use Rattle.as2_http.specs.declared.framing.Refused.{Refused}
 use Rattle.as2_http.specs.declared.input.NoHead.{NoHead}
 use Rattle.as2_http.specs.declared.request.NotJudged.{NotJudged}
 use Rattle.as2_http.proofs.Framed.{judged_frames, judged_open}
@@ -52,12 +55,14 @@ returns-in-Err-clause-arrives g c = λ input known.
     let t = c.to_head.new.self.text.items in
     let p = c.in-Ok-to_head.place in
     let q = judged_text t c.deref-2.result.now p.start p.end c.in-Ok-judge.judged c.deref-2.ensures.value c.in-Ok-judge.ensures.found in
-    refuses_input input t (g.R.Read.remaining c.to_head.new.reader) (record { reason = c.in-Err.reason; to_head = c.is_head.result })
+    let r : Refused = record { reason = c.in-Err.reason; to_head = is_head c.in-Ok-judge.judged.method } in
+    subst (λ (a : Arrival). Arrives input a) (sym c.refused.ensures)
+    (refuses_input input t (g.R.Read.remaining c.to_head.new.reader) r
     (came IsHeadless c.in-Ok.input.text.items t (g.R.Read.remaining c.args.reader.now) (g.R.Read.remaining c.to_head.new.reader) c.in-Ok.ensures c.in-Ok-to_head.ensures.reads input known)
     (framing q.head c.in-Ok-judge.judged.fields (drop p.end t)
     (subst (λ (l : Result ℕ Refusal). Frames t q.head c.in-Ok-judge.judged.fields (drop p.end t) l) c.in-Err.is
     (judged_frames t p.start p.end c.in-Ok-judge.judged c.in-Ok-to_head.ensures.found q))
-    (c.is_head.ensures ∙ ap is_head q.method))
+    (ap is_head q.method)))
 
 pub returns-in-Err-clause-unread : goal.returns-in-Err-clause-unread
 returns-in-Err-clause-unread g c = λ input known decided.
@@ -85,8 +90,9 @@ returns-clause-arrives g c =
     let j = c.in-Ok-judge.judged in
     let q = judged_text t c.deref-2.result.now p.start p.end j c.deref-2.ensures.value c.in-Ok-judge.ensures.found in
     whole_request c.in-Ok.input.text.items t c.to_length.new.self.text.items (g.R.Read.remaining c.args.reader.now) (g.R.Read.remaining c.to_head.new.reader) (g.R.Read.remaining c.to_length.new.reader)
-    p.start p.end c.in-Ok-length.length j (record { method = j.method; target = j.target; fields = j.fields; body = c.of.result; last = j.last }) c.in-Ok.ensures c.in-Ok-to_head.ensures.reads
-    c.in-Ok-to_head.ensures.found q c.in-Ok-length.is c.in_default-to_length.ensures.reads (search rules) refl refl refl c.of.ensures refl
+    p.start p.end c.in-Ok-length.length j (record { method = j.method; target = j.target; fields = j.fields; body = c.in-Ok-kept.body; last = j.last }) c.in-Ok.ensures c.in-Ok-to_head.ensures.reads
+    c.in-Ok-to_head.ensures.found q c.in-Ok-length.is c.in_default-to_length.ensures.reads (search rules) refl refl refl
+    (c.in-Ok-kept.ensures ∙ ap (λ (x : List ℕ). slice_range x p.end (p.end + c.in-Ok-length.length)) c.deref-3.ensures.value) refl
 
 pub returns-clause-unread : goal.returns-clause-unread
 returns-clause-unread g c = λ input known decided.
