@@ -12,3 +12,7 @@ mod Writing
 mod Growing
 mod Looking
 mod Gathering
+mod Splitting
+mod Renewing
+mod Resetting
+pub mod Repeating

@@ -75,7 +75,7 @@ asked_small n w beyond within = elim (cases_Bool (nat_le end_of_numbers n)) [
   | inr low ↦ let under : n < end_of_numbers = grind (arith, nat_tests) in omega (arith, under, within under)
 ]
 
-same_tests : (n w : ℕ) → (end_of_numbers ≤ n → w ≡ end_of_numbers) → (n < end_of_numbers → w ≡ n) → (es : List InEntry) → AllByRecursion (λ m. m < end_of_numbers) (map (λ (e : InEntry). e.number) es)
+pub same_tests : (n w : ℕ) → (end_of_numbers ≤ n → w ≡ end_of_numbers) → (n < end_of_numbers → w ≡ n) → (es : List InEntry) → AllByRecursion (λ m. m < end_of_numbers) (map (λ (e : InEntry). e.number) es)
     → AllByRecursion (λ (e : InEntry). (e.number == w) ≡ (e.number == n)) es
 same_tests n w beyond within [] all = tt
 same_tests n w beyond within (e ∷ es) all = (same_test n w e.number beyond within all.0, same_tests n w beyond within es all.1)

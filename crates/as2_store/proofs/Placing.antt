@@ -50,7 +50,7 @@ puts_waiting old new w count has h =
 
 -- ---- kinds and numbers of what waits
 
-abbrev IsOf : ℕ → ℕ → Waiting → Type 0
+abbrev pub IsOf : ℕ → ℕ → Waiting → Type 0
 IsOf kind next w = (w.kind ≡ kind) × (w.number < next)
 
 small_out : (next n : ℕ) (due : Option ℕ) (o : Option ℕ) (rest : List Waiting) → n < next → AllByRecursion (λ w. w.number < next) rest
@@ -71,7 +71,7 @@ small_in next n due Pending Used rest small all = all
 small_in next n due Unasked a rest small all = all
 small_in next n due Sent a rest small all = all
 
-ins_small : (next : ℕ) (es : List InEntry) → AllByRecursion (λ n. n < next) (map (λ (e : InEntry). e.number) es) → AllByRecursion (IsOf to_answer next) (waiting_in es)
+pub ins_small : (next : ℕ) (es : List InEntry) → AllByRecursion (λ n. n < next) (map (λ (e : InEntry). e.number) es) → AllByRecursion (IsOf to_answer next) (waiting_in es)
 ins_small next [] all = tt
 ins_small next (e ∷ es) all = small_in next e.number e.due e.mdn e.attempt (waiting_in es) all.0 (ins_small next es all.1)
 
@@ -92,10 +92,10 @@ abbrev pub noted_rows : Option Waiting → List Row → List Row
 noted_rows None rows = rows
 noted_rows (Some w) rows = put_row (waiting_row w) rows
 
-abbrev IsLast : ℕ → Waiting → Type 0
+abbrev pub IsLast : ℕ → Waiting → Type 0
 IsLast n w = (w.kind ≡ to_answer) × (w.number ≡ n)
 
-last_of : (m : MdnState) (a : Attempt) (n : ℕ) (due : Option ℕ) → IfSome (option_map (λ kind. record { kind = kind; number = n; due = due }) (in_kind m a)) (IsLast n)
+pub last_of : (m : MdnState) (a : Attempt) (n : ℕ) (due : Option ℕ) → IfSome (option_map (λ kind. record { kind = kind; number = n; due = due }) (in_kind m a)) (IsLast n)
 last_of Pending Idle n due = (refl, refl)
 last_of Pending Running n due = (refl, refl)
 last_of Pending Last n due = tt

@@ -26,7 +26,7 @@ above n (m ∷ ns) other no_lower = (one m other.0 no_lower.0, above n ns other.
     one : (m : ℕ) → (n == m) ≡ false → nat_lt m n ≡ false → n < m
     one m other no_lower = grind (arith, nat_tests)
 
-rising : (ns : List ℕ) → IsDistinct (λ a b. a == b) ns → IsDistinct (λ a b. nat_lt b a) ns → IsAscending (λ a b. a < b) ns
+pub rising : (ns : List ℕ) → IsDistinct (λ a b. a == b) ns → IsDistinct (λ a b. nat_lt b a) ns → IsAscending (λ a b. a < b) ns
 unfolding IsDistinct
 rising [] distinct in_order = tt
 rising (n ∷ ns) distinct in_order = (above n ns distinct.0 in_order.0, rising ns distinct.1 in_order.1)

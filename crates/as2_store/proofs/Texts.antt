@@ -5,7 +5,7 @@ use Rattle.sqlite.specs.Collation.TheVariants.{Binary}
 use Rattle.sqlite.specs.Term.{Term, lit, col, op2}
 use Rattle.sqlite.specs.Source.TheVariants.{Values}
 use Rattle.sqlite.specs.Command.{Command}
-use Rattle.sqlite.specs.Command.TheVariants.{Insert, Select, Update}
+use Rattle.sqlite.specs.Command.TheVariants.{Insert, Select, Update, Delete}
 use Rattle.sqlite.specs.Listing.{understood, reads_listing}
 use Rattle.sqlite.proofs.Callers.{IsPlain, command_of}
 use Rattle.sqlite_sql.specs.declared.ops.BinaryOp.TheVariants.{Compare}
@@ -14,8 +14,9 @@ use Rattle.sqlite_tied.specs.Compute.{everything}
 use Rattle.sql_tables.specs.Changes.{over_table}
 use Rattle.sql_tables.proofs.Queries.{by_number}
 use Rattle.sql_tables.proofs.Changing.{update_program}
-use Rattle.as2_store.specs.Tables.{store_schema, meta_tree, inbox_tree, inbox_piece_tree}
-use Rattle.as2_store.specs.Statements.{meta_put_text, meta_read_text, receipt_text, in_put_text, in_piece_put_text, in_by_key_text, in_by_number_text, in_all_text, in_pieces_text, waiting_put_text}
+use Rattle.sql_tables.proofs.Deleting.{delete_program}
+use Rattle.as2_store.specs.Tables.{store_schema, meta_tree, inbox_tree, inbox_piece_tree, waiting_tree}
+use Rattle.as2_store.specs.Statements.{meta_put_text, meta_read_text, receipt_text, in_put_text, in_piece_put_text, in_by_key_text, in_by_number_text, in_all_text, in_pieces_text, in_requeue_text, waiting_put_text, waiting_take_text}
 
 -- ---- the counters
 
@@ -154,6 +155,19 @@ pub in_pieces_unlisted : reads_listing store_schema in_pieces_text ≡ false
 unfolding understood everything
 in_pieces_unlisted = refl
 
+abbrev pub requeue_project : List Term
+requeue_project =
+    col 1 0 ∷ lit Null ∷ col 1 2 ∷ col 1 3 ∷ col 1 4 ∷ col 1 5 ∷ col 1 6 ∷ col 1 7 ∷ col 1 8 ∷ col 1 9 ∷ col 1 10 ∷ col 1 11 ∷ col 1 12 ∷ col 1 13
+    ∷ lit (Int (pos 2)) ∷ lit (Int (pos 0)) ∷ lit (Int (pos 1)) ∷ col 0 1 ∷ []
+
+pub in_requeue_is : command_of (understood store_schema in_requeue_text) ≡ Update 1 (update_program inbox_tree number_terms requeue_project)
+unfolding understood everything
+in_requeue_is = refl
+
+pub in_requeue_plain : IsPlain (understood store_schema in_requeue_text)
+unfolding understood everything
+in_requeue_plain = (refl, refl)
+
 -- ---- what waits
 
 abbrev pub waiting_put_terms : List Term
@@ -166,3 +180,11 @@ waiting_put_is = refl
 pub waiting_put_plain : IsPlain (understood store_schema waiting_put_text)
 unfolding understood everything
 waiting_put_plain = (refl, refl)
+
+pub waiting_take_is : command_of (understood store_schema waiting_take_text) ≡ Delete 6 (delete_program waiting_tree number_terms)
+unfolding understood everything
+waiting_take_is = refl
+
+pub waiting_take_plain : IsPlain (understood store_schema waiting_take_text)
+unfolding understood everything
+waiting_take_plain = (refl, refl)

@@ -25,16 +25,16 @@ use Rattle.as2_store.specs.Statements.{in_put_text}
 use Rattle.as2_store.proofs.Placing.{cast_optional}
 use Rattle.as2_store.proofs.Texts.{in_put_terms, in_put_is, in_put_plain}
 
-cast_url : (how : How) → cast Blob (url_value how) ≡ url_value how
+pub cast_url : (how : How) → cast Blob (url_value how) ≡ url_value how
 cast_url NoReceipt = refl
 cast_url Sync = refl
 cast_url (Async url) = refl
 
-cast_digest : (mic : Option ReportMic) → cast Text (digest_value mic) ≡ digest_value mic
+pub cast_digest : (mic : Option ReportMic) → cast Text (digest_value mic) ≡ digest_value mic
 cast_digest None = refl
 cast_digest (Some mic) = refl
 
-cast_mic : (mic : Option ReportMic) → cast Blob (mic_value mic) ≡ mic_value mic
+pub cast_mic : (mic : Option ReportMic) → cast Blob (mic_value mic) ≡ mic_value mic
 cast_mic None = refl
 cast_mic (Some mic) = refl
 

@@ -3,3 +3,4 @@ pub mod Statements
 pub mod Stands
 pub mod Adding
 pub mod Finding
+pub mod Requeuing

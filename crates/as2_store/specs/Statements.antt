@@ -32,7 +32,13 @@ in_all_text = codes "SELECT number, sender, receiver, identifier_value, identifi
 abbrev pub in_pieces_text : List ℕ
 in_pieces_text = codes "SELECT number, position, bytes FROM inbox_piece WHERE number = ?1 ORDER BY rowid"
 
+abbrev pub in_requeue_text : List ℕ
+in_requeue_text = codes "UPDATE inbox SET mdn = 2, tries = 0, attempt = 1, due = ?2 WHERE number = ?1"
+
 -- ---- what waits
 
 abbrev pub waiting_put_text : List ℕ
 waiting_put_text = codes "INSERT INTO waiting (place, kind, number, due) VALUES (?1, ?2, ?3, ?4)"
+
+abbrev pub waiting_take_text : List ℕ
+waiting_take_text = codes "DELETE FROM waiting WHERE place = ?1"

@@ -11,6 +11,7 @@ mod fault;
 mod finding;
 mod inbox;
 mod numbers;
+mod requeuing;
 mod store;
 mod waiting;
 

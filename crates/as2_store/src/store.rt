@@ -3,11 +3,12 @@
 ghost use Rattle.std.specs.Prelude.{◌≡◌, ◌⊎◌, ◌<◌, ◌≤◌, ℕ, List, map, find, None, Some, true, false, Err, IsTrue, IfOk, IfErr, OnOk, OnErr};
 ghost use Rattle.sqlite.specs.Held.{state};
 ghost use Rattle.sqlite.specs.State.{HasCleanDisk};
-ghost use Rattle.as2_exchange.specs.State.{State, empty, end_of_numbers, received};
+ghost use Rattle.as2_exchange.specs.State.{State, empty, end_of_numbers, received, change_received};
 ghost use Rattle.as2_exchange.specs.declared.fault.StoreFault.TheVariants.{Full};
 ghost use Rattle.as2_rows.specs.Summaries.{in_summary};
 ghost use Rattle.as2_store.specs.Adding.{with_received};
 ghost use Rattle.as2_store.specs.Finding.{has_key};
+ghost use Rattle.as2_store.specs.Requeuing.{requeued};
 ghost use Rattle.as2_store.specs.Stands.{Rests, IsBlank, Says, judged, may_come};
 
 use crate::adding::add;
@@ -18,8 +19,9 @@ use crate::fault::fault_of;
 use crate::finding::{entries_in, first_entry};
 use crate::inbox::{all_rows, rows_by_key, rows_by_number};
 use crate::numbers::fits;
+use crate::requeuing::requeue;
 use as2_exchange::{InEntry, StoreFault};
-use as2_names::AsName;
+use as2_names::{AsName, Moment};
 use as2_rows::InRow;
 use sqlite::{Alter, Connection};
 use std::alloc::Global;
@@ -124,6 +126,21 @@ impl<S: Alter> Store<S> {
             return Err(StoreFault::Refused);
         }
         match add(&mut self.conn, entry) {
+            Ok(()) => Ok(()),
+            Err(error) => Err(fault_of(&error)),
+        }
+    }
+
+    /// Sets the receipt of the entry of the inbox of this number, if there is one, to be sent from this moment on, with all
+    /// tries left. Answers Memory, Disk or Refused, and then the state stays.
+    pub fn requeue_mdn(&mut self, number: u64, moment: Moment) -> Result<(), StoreFault>
+        ensures clean { HasCleanDisk (state S.Store self.new) → HasCleanDisk (state S.Store self.old) }
+        ensures open { HasCleanDisk (state S.Store self.new) → OnOk result (IsTrue (state S.Store self.old).is_open) }
+        ensures requeued { HasCleanDisk (state S.Store self.new) → OnOk result ((s : State) → Rests (state S.Store self.old) s → Rests (state S.Store self.new) (change_received s number (requeued moment))) }
+        ensures failed { HasCleanDisk (state S.Store self.new) → OnErr result ((s : State) → Rests (state S.Store self.old) s → Rests (state S.Store self.new) s) }
+        ensures fault { IfErr result (λ f. may_come f ≡ true) }
+    {
+        match requeue(&mut self.conn, number, moment) {
             Ok(()) => Ok(()),
             Err(error) => Err(fault_of(&error)),
         }

@@ -1,12 +1,15 @@
 //! The rows of what waits.
 
-ghost use Rattle.std.specs.Prelude.{◌≡◌, ◌≤◌, ◌<◌, ◌^◌, Some, None, false, IsTrue, IfSome, OnOk};
+ghost use Rattle.std.specs.Prelude.{◌≡◌, ◌≤◌, ◌<◌, ◌^◌, Some, None, false, List, map, IsTrue, IfSome, OnOk};
 ghost use Rattle.sqlite.specs.Held.{state};
 ghost use Rattle.sqlite.specs.State.{HasCleanDisk, KeepsCommit};
+ghost use Rattle.sql_tables.specs.Changes.{Changed};
 ghost use Rattle.as2_exchange.specs.State.{end_of_numbers};
-ghost use Rattle.as2_rows.specs.Waiting.{in_waiting, to_answer};
-ghost use Rattle.as2_store.specs.Tables.{store_schema};
+ghost use Rattle.as2_rows.specs.Waiting.{Waiting, in_waiting, to_answer};
+ghost use Rattle.as2_store.specs.Tables.{store_schema, waiting_tree};
+ghost use Rattle.as2_store.specs.Stands.{waiting_row};
 ghost use Rattle.as2_store.specs.Adding.{Noted};
+ghost use Rattle.as2_store.specs.Requeuing.{Holds, Renewed, not_at};
 
 use crate::numbers::{whole, whole_or_none};
 use as2_exchange::{Attempt, InEntry, MdnState};
@@ -23,11 +26,12 @@ fn put_waiting<S: Alter>(
     due: Option<u64>,
 ) -> Result<(), Error>
     requires kind { kind ≤ 4 }
-    requires number { number < end_of_numbers }
+    requires number { number ≤ end_of_numbers }
     requires due { IfSome due (λ due. due < 2 ^ 63) }
     ensures same_reference { tx.new.conn.ghost_name ≡ tx.old.conn.ghost_name }
     ensures clean { HasCleanDisk (state S.Store tx.new.conn.now) → HasCleanDisk (state S.Store tx.old.conn.now) }
     ensures kept { HasCleanDisk (state S.Store tx.new.conn.now) → KeepsCommit (state S.Store tx.old.conn.now) (state S.Store tx.new.conn.now) }
+    ensures inside { HasCleanDisk (state S.Store tx.new.conn.now) → OnOk result (IsTrue (state S.Store tx.new.conn.now).in_transaction) }
     ensures put { HasCleanDisk (state S.Store tx.new.conn.now) → OnOk result ((state S.Store tx.old.conn.now).now.schema ≡ store_schema
         → Noted (state S.Store tx.old.conn.now) (state S.Store tx.new.conn.now) (Some (record { kind = kind; number = number; due = due }))) }
 {
@@ -39,6 +43,20 @@ fn put_waiting<S: Alter>(
         "INSERT INTO waiting (place, kind, number, due) VALUES (?1, ?2, ?3, ?4)",
         params![place, kind, number, due],
     )?;
+    Ok(())
+}
+
+/// Takes out the row of what waits at this place.
+fn take_waiting<S: Alter>(tx: &mut Transaction<'_, S>, place: u64) -> Result<(), Error>
+    requires { place < 2 ^ 63 }
+    ensures same_reference { tx.new.conn.ghost_name ≡ tx.old.conn.ghost_name }
+    ensures clean { HasCleanDisk (state S.Store tx.new.conn.now) → HasCleanDisk (state S.Store tx.old.conn.now) }
+    ensures kept { HasCleanDisk (state S.Store tx.new.conn.now) → KeepsCommit (state S.Store tx.old.conn.now) (state S.Store tx.new.conn.now) }
+    ensures put { HasCleanDisk (state S.Store tx.new.conn.now) → OnOk result ((ws : List Waiting) → Holds (state S.Store tx.old.conn.now).now ws
+        → Changed (state S.Store tx.old.conn.now) (state S.Store tx.new.conn.now) store_schema waiting_tree (map waiting_row (not_at place ws))) }
+{
+    let place = whole(place);
+    tx.execute("DELETE FROM waiting WHERE place = ?1", params![place])?;
     Ok(())
 }
 
@@ -66,5 +84,21 @@ pub fn put_in_waiting<S: Alter>(tx: &mut Transaction<'_, S>, entry: &InEntry) ->
     if is_waiting(entry) {
         put_waiting(tx, 2, entry.number, entry.due)?;
     }
+    Ok(())
+}
+
+/// Puts in the row of a receipt that is to be sent from this moment on, in place of the one that it has, if it has one.
+pub fn wait_anew<S: Alter>(tx: &mut Transaction<'_, S>, number: u64, due: u64) -> Result<(), Error>
+    requires number { number ≤ end_of_numbers }
+    requires due { due < 2 ^ 63 }
+    ensures same_reference { tx.new.conn.ghost_name ≡ tx.old.conn.ghost_name }
+    ensures clean { HasCleanDisk (state S.Store tx.new.conn.now) → HasCleanDisk (state S.Store tx.old.conn.now) }
+    ensures kept { HasCleanDisk (state S.Store tx.new.conn.now) → KeepsCommit (state S.Store tx.old.conn.now) (state S.Store tx.new.conn.now) }
+    ensures inside { HasCleanDisk (state S.Store tx.new.conn.now) → OnOk result (IsTrue (state S.Store tx.new.conn.now).in_transaction) }
+    ensures put { HasCleanDisk (state S.Store tx.new.conn.now) → OnOk result ((ws : List Waiting) → Holds (state S.Store tx.old.conn.now).now ws
+        → Renewed (state S.Store tx.old.conn.now) (state S.Store tx.new.conn.now) (record { kind = to_answer; number = number; due = Some due }) ws) }
+{
+    take_waiting(tx, 2 * END_OF_NUMBERS + number)?;
+    put_waiting(tx, 2, number, Some(due))?;
     Ok(())
 }

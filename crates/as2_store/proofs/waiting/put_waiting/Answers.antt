@@ -1,7 +1,7 @@
 use Rattle.std.proofs.Common.{Ok, arith, ◌*◌, ◌+◌}
 use Rattle.sqlite.specs.Held.{state}
 use Rattle.sqlite.specs.State.{Executes}
-use Rattle.sql_tables.proofs.Inside.{kept, made}
+use Rattle.sql_tables.proofs.Inside.{kept, made, stays}
 use Rattle.as2_rows.specs.Waiting.{Waiting}
 use Rattle.as2_store.specs.Statements.{waiting_put_text}
 use Rattle.as2_store.proofs.MetaRow.{passed}
@@ -33,3 +33,6 @@ returns-clause-put g c clean has =
       bound_optional,
     ) at ran in
     puts_waiting old new w c.in_ok-execute.field-0 has went
+
+pub returns-clause-inside : goal.returns-clause-inside
+returns-clause-inside g c clean = stays g.S.Store _ _ c.args.tx.now.conn.now c.execute.new.self.conn.now c.execute.result _ c.execute.ensures.ended (c.execute.ensures.runs clean) c.in_ok-execute.field-0 c.in_ok-execute.was

@@ -1,0 +1,32 @@
+-- A receipt is to be sent anew, and what the statements that say so leave.
+use Rattle.std.specs.Prelude.{◌≡◌, ◌≢◌, ◌==◌, ℕ, List, map, filter, not, Some}
+use Rattle.std.specs.List.{AllByRecursion}
+use Rattle.sqlite.specs.Effect.{Database}
+use Rattle.sqlite.specs.State.{State as Connected}
+use Rattle.sqlite.specs.Tree.{put_row, IsTable}
+use Rattle.as2_exchange.specs.declared.inbox.InEntry.{InEntry}
+use Rattle.as2_exchange.specs.declared.inbox.MdnState.TheVariants.{Pending}
+use Rattle.as2_exchange.specs.declared.attempt.Attempt.TheVariants.{Idle}
+use Rattle.as2_rows.specs.Waiting.{Waiting}
+use Rattle.as2_store.specs.Tables.{store_schema, waiting_tree}
+use Rattle.as2_store.specs.Stands.{place, waiting_row}
+
+-- the entry with its receipt to be sent from this moment on, and with all tries left
+abbrev pub requeued : ℕ → InEntry → InEntry
+requeued m e = record e { mdn = Pending; tries = 0; attempt = Idle; due = Some m }
+
+-- what waits, in order of the places
+pub record Holds (d : Database) (ws : List Waiting) : Type 0 where
+  pub schema : d.schema ≡ store_schema
+  pub rows : d.trees waiting_tree ≡ map waiting_row ws
+  pub in_order : IsTable (map waiting_row ws)
+
+-- what stands at another place
+abbrev pub not_at : ℕ → List Waiting → List Waiting
+not_at p ws = filter (λ w. not (place w == p)) ws
+
+-- this waits, in place of what stood at its place, and the other tables are as they were
+pub record Renewed (old new : Connected) (w : Waiting) (ws : List Waiting) : Type 0 where
+  pub schema_is : new.now.schema ≡ store_schema
+  pub rows_are : new.now.trees waiting_tree ≡ put_row (waiting_row w) (map waiting_row (not_at (place w) ws))
+  pub others : AllByRecursion (λ t. t.tree ≢ waiting_tree → new.now.trees t.tree ≡ old.now.trees t.tree) store_schema.tables
