@@ -14,7 +14,7 @@ use Rattle.as2_exchange.proofs.Decisions.{number_is, apart_turned}
 
 -- ---- lists
 
-untouched : {X : Type 0} (number : X → ℕ) (f : X → X) (n : ℕ) (xs : List X) → AllByRecursion (λ k. (n == k) ≡ false) (map number xs) → map (λ x. if number x == n then f x else x) xs ≡ xs
+pub untouched : {X : Type 0} (number : X → ℕ) (f : X → X) (n : ℕ) (xs : List X) → AllByRecursion (λ k. (n == k) ≡ false) (map number xs) → map (λ x. if number x == n then f x else x) xs ≡ xs
 untouched number f n [] h = refl
 untouched number f n (x ∷ xs) h = λ i. kept i ∷ untouched number f n xs h.1 i
   where

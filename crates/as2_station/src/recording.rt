@@ -1,12 +1,12 @@
 //! Documents that are posted: each is recorded once.
-ghost use Rattle.std.specs.Prelude.{◌≡◌, [], Some, None, map, IfOk, IfErr};
+ghost use Rattle.std.specs.Prelude.{◌≡◌, [], Some, None, true, map, IfOk, IfErr, OnOk, OnErr};
 ghost use Rattle.sqlite.specs.Held.{state};
 ghost use Rattle.sqlite.specs.State.{HasCleanDisk};
 ghost use Rattle.as2_exchange.specs.Invariants.{AreNumbers};
-ghost use Rattle.as2_exchange.specs.State.{State, received};
-ghost use Rattle.as2_exchange.specs.Step.{record_post, recorded};
+ghost use Rattle.as2_exchange.specs.State.{State, change_received, received};
+ghost use Rattle.as2_exchange.specs.Step.{queued_again, record_post, recorded};
 ghost use Rattle.as2_exchange.specs.declared.answer.Answer.TheVariants.{Http};
-ghost use Rattle.as2_store.specs.Stands.{Rests};
+ghost use Rattle.as2_store.specs.Stands.{Rests, may_come};
 ghost use Rattle.as2_station.specs.Steps.{Answers, Fails, Left};
 
 use as2_agreement::Agreements;
@@ -16,6 +16,24 @@ use as2_posts::{answer_to, first_entry, is_queued_again, refused, repeats};
 use as2_store::Store;
 use sqlite::Alter;
 use std::alloc::Global;
+
+/// Queues the receipt of the entry again, where a repeat of its document does so.
+fn queue_again<S: Alter>(
+    store: &mut Store<S>,
+    entry: &InEntry,
+    moment: Moment,
+) -> Result<(), StoreFault>
+    ensures clean { HasCleanDisk (state S.Store store.new) → HasCleanDisk (state S.Store store.old) }
+    ensures queued { HasCleanDisk (state S.Store store.new) → OnOk result ((s : State) → Rests (state S.Store store.old) s → AreNumbers s.next_in (map (λ e. e.number) s.inbox) → received s entry.now.number ≡ Some entry.now
+        → Rests (state S.Store store.new) (change_received s entry.now.number (queued_again moment))) }
+    ensures failed { HasCleanDisk (state S.Store store.new) → OnErr result ((s : State) → Rests (state S.Store store.old) s → Rests (state S.Store store.new) s) }
+    ensures fault { IfErr result (λ f. may_come f ≡ true) }
+{
+    if !is_queued_again(entry) {
+        return Ok(());
+    }
+    store.requeue_mdn(entry.number, moment)
+}
 
 /// Takes a document whose key an entry has: a repeat of the entry's document is answered as that was, and any other is
 /// refused.
@@ -36,9 +54,7 @@ fn record_again<S: Alter>(
         return Ok(refused(Line::IdUsedBefore));
     }
     let answer = answer_to(alloc, agreements, entry.number, &entry.posted)?;
-    if is_queued_again(entry) {
-        return Err(StoreFault::Refused);
-    }
+    queue_again(store, entry, moment)?;
     Ok(answer)
 }
 

@@ -1,5 +1,5 @@
 //! The station, event by event.
-ghost use Rattle.std.specs.Prelude.{◌≡◌, ℕ, List, Some, Ok, true, IfOk, IfErr};
+ghost use Rattle.std.specs.Prelude.{◌≡◌, ℕ, List, Some, Ok, true, length, IfOk, IfErr, OnErr};
 ghost use Rattle.sqlite.specs.Held.{state};
 ghost use Rattle.sqlite.specs.State.{HasCleanDisk};
 ghost use Rattle.as2_exchange.specs.Step.{Refuses, post, reading, step};
@@ -10,13 +10,14 @@ ghost use Rattle.as2_posts.specs.Answers.{refusal};
 ghost use Rattle.as2_posts.specs.Openings.{read_further};
 ghost use Rattle.as2_station.specs.Heads.{is_of_head};
 ghost use Rattle.as2_station.specs.Steps.{Answers, Fails};
+ghost use Rattle.as2_station.specs.Traces.{Plays, trace};
 
 use crate::receiving::receive;
 use crate::recording::record;
 use as2_agreement::Agreements;
 use as2_exchange::{Answer, Event, HttpAnswer, StoreFault};
 use as2_mic::Pieces;
-use as2_names::{Head, Moment};
+use as2_names::{Head, Memory, Moment};
 use as2_posts::{Opened, document, open, refused};
 use as2_store::Store;
 use sqlite::Alter;
@@ -117,5 +118,25 @@ impl<S: Alter> Station<S> {
             }
             _ => Err(StoreFault::Refused),
         }
+    }
+
+    /// Takes the events one after the other: each is answered, or is a fault of the store and changes nothing. Memory means
+    /// that nothing has happened.
+    pub fn play(
+        &mut self,
+        alloc: Global,
+        agreements: &Agreements,
+        events: Vec<Event>,
+    ) -> Result<Vec<Result<Answer, StoreFault>>, Memory>
+        ensures clean { HasCleanDisk (state S.Store self.new) → HasCleanDisk (state S.Store self.old) }
+        ensures each { IfOk result (λ said. length said.items ≡ length events.items) }
+        ensures played { HasCleanDisk (state S.Store self.new) → IfOk result (λ said. Plays agreements.now (trace events.items said.items) (state S.Store self.old) (state S.Store self.new)) }
+        ensures nothing { OnErr result (self.new ≡ self.old) }
+    {
+        let mut said = Vec::with_capacity(alloc, events.len())?;
+        'events: for event in events {
+            said.push_reserved(self.step(alloc, agreements, event));
+        }
+        Ok(said)
     }
 }

@@ -1,0 +1,28 @@
+use Rattle.std.proofs.Common.{◌+◌, ◌++◌, [], ◌∷◌, ◌∙◌, length, sym, ap, subst, append_assoc, arith}
+use Rattle.std.proofs.lemmas.List.{length-append}
+use Rattle.sqlite.specs.Held.{state}
+use Rattle.as2_station.specs.Traces.{Plays, trace}
+use Rattle.as2_station.proofs.Playing.{plays_more, trace_more}
+use Rattle.as2_station.proofs.station.Station.play.Goals as goal
+
+pub events-preserved : goal.events-preserved
+events-preserved g c =
+    let was = c.events.invariant in
+    let next = c.in-Some.ensures.steps.0 in
+    let pushed = c.push_reserved.ensures.items in
+    let longer = ap length pushed ∙ length-append c.events.said.items (c.step.result ∷ []) in
+    let shorter = ap length next in
+    let more = ap (λ l. c.events.yielded ++ l) next ∙ sym (append_assoc c.events.yielded (c.in-Some.event ∷ []) c.next.new.self.rest.items) in
+    let told =
+    ap (λ rs. trace (c.events.yielded ++ c.in-Some.event ∷ []) rs) pushed
+    ∙ trace_more c.events.yielded c.events.said.items c.in-Some.event c.step.result was.2
+    in (
+      was.0,
+      was.1 ∙ more,
+      longer ∙ ap (λ n. n + 1) was.2 ∙ sym (length-append c.events.yielded (c.in-Some.event ∷ [])),
+      omega (arith),
+      λ clean. was.4 (c.step.ensures.clean clean),
+      λ clean. subst (λ t. Plays c.args.agreements.now t (state g.S.Store c.args.self.now) (state g.S.Store c.step.new.self)) (sym told)
+          (plays_more c.args.agreements.now (trace c.events.yielded c.events.said.items) c.in-Some.event c.step.result (state g.S.Store c.args.self.now) (state g.S.Store c.events.self) (state g.S.Store c.step.new.self)
+          (was.5 (c.step.ensures.clean clean)) (c.step.ensures.answered clean) (c.step.ensures.failed clean)),
+    )
