@@ -1,6 +1,6 @@
 -- The pieces of one entry, found among those of all.
 use Rattle.std.proofs.Common.{◌≡◌, ℕ, ◌+◌, ◌<◌, ◌==◌, List, [], ◌∷◌, ◌++◌, map, Some, Bool, true, false, ◌&&◌, cond, refl, sym, ap, ap₂, subst, ◌∙◌, pos, negsuc, codes, Less, arith, append-nil}
-use Rattle.std.specs.List.{AllByRecursion, IsDistinct, filter, find, range_with_len}
+use Rattle.std.specs.List.{AllByRecursion, IsDistinct, filter, find, flat_map, range_with_len}
 use Rattle.std.proofs.lemmas.Bool.Decides.{nat_tests}
 use Rattle.std.proofs.lemmas.List.Elements.{filter-append}
 use Rattle.sqlite.specs.declared.types.Value.TheVariants.{Int}
@@ -9,22 +9,24 @@ use Rattle.sqlite.specs.Term.{lit}
 use Rattle.sqlite.specs.Tree.{rowid, IsTable}
 use Rattle.sqlite.specs.Command.{Command}
 use Rattle.sqlite.specs.Command.TheVariants.{Select}
+use Rattle.sqlite.specs.Listing.{understood, reads_listing}
 use Rattle.sqlite.specs.State.{State as Connected, Shown}
-use Rattle.sqlite.proofs.Callers.{reads_as}
+use Rattle.sqlite.proofs.Callers.{IsPlain, command_of, reads_as}
 use Rattle.sql_tables.specs.Changes.{over_table, passes, shown_of, chosen}
 use Rattle.sql_tables.proofs.Inside.{shown_open}
 use Rattle.sql_tables.proofs.Queries.{by_number, in_order, numbers_equal}
 use Rattle.as2_exchange.specs.State.{State}
 use Rattle.as2_exchange.specs.declared.inbox.InEntry.{InEntry}
+use Rattle.as2_exchange.specs.declared.outbox.OutEntry.{OutEntry}
 use Rattle.as2_rows.specs.Rows.{whole}
 use Rattle.as2_rows.specs.Contents.{Piece, pieces, piece_of, piece_shown}
 use Rattle.as2_mic.specs.Pieces.{piece_count}
-use Rattle.as2_store.specs.Tables.{store_schema, inbox_piece_tree}
-use Rattle.as2_store.specs.Statements.{in_pieces_text}
-use Rattle.as2_store.specs.Stands.{Rests, numbered, inbox_pieces}
+use Rattle.as2_store.specs.Tables.{store_schema, inbox_piece_tree, outbox_piece_tree}
+use Rattle.as2_store.specs.Statements.{in_pieces_text, out_pieces_text}
+use Rattle.as2_store.specs.Stands.{Rests, numbered, piece_rows}
 use Rattle.as2_store.proofs.Rising.{rises}
-use Rattle.as2_store.proofs.Looking.{and_true}
-use Rattle.as2_store.proofs.Texts.{piece_terms, piece_columns, in_pieces_is, in_pieces_plain, in_pieces_unlisted}
+use Rattle.as2_store.proofs.Showing.{and_true, found_all}
+use Rattle.as2_store.proofs.Texts.{piece_terms, piece_columns, in_pieces_is, in_pieces_plain, in_pieces_unlisted, out_pieces_is, out_pieces_plain, out_pieces_unlisted}
 
 -- ---- the rows of a table
 
@@ -71,52 +73,62 @@ drops_other m n content (k ∷ ks) other = go (m == n) other (drops_other m n co
     go true is rest = absurd cc
     go false is rest = rest
 
-turned : (m n : ℕ) → (n == m) ≡ false → (m == n) ≡ false
+pub turned : (m n : ℕ) → (n == m) ≡ false → (m == n) ≡ false
 turned m n other = grind (arith, nat_tests)
-
-drops_others : (n : ℕ) (es : List InEntry) → AllByRecursion (λ m. (n == m) ≡ false) (map (λ (e : InEntry). e.number) es) → filter (λ p. p.number == n) (inbox_pieces es) ≡ []
-drops_others n [] other = refl
-drops_others n (e ∷ es) other =
-    filter-append (λ p. p.number == n) (pieces e.number e.posted.content) (inbox_pieces es)
-    ∙ ap₂ (λ a b. a ++ b) (drops_other e.number n e.posted.content (range_with_len 0 (piece_count e.posted.content)) (turned e.number n other.0)) (drops_others n es other.1)
-
-found_all : (P : ℕ → Type 0) (p : InEntry → Bool) (es : List InEntry) (e : InEntry) → AllByRecursion P (map (λ (x : InEntry). x.number) es) → find p es ≡ Some e → P e.number
-found_all P p [] e all found = absurd cc
-found_all P p (x ∷ es) e all found = go (p x) found (found_all P p es e all.1)
-  where
-    go : (t : Bool) → cond t (Some x) (find p es) ≡ Some e → (find p es ≡ Some e → P e.number) → P e.number
-    go true is later = let same : x ≡ e = cc in subst (λ (y : InEntry). P y.number) same all.0
-    go false is later = later is
 
 abbrev own : ℕ → List Piece → List Piece
 own n ps = filter (λ q. q.number == n) ps
 
-gathered : (x e : InEntry) (p : InEntry → Bool) (es : List InEntry) (t : Bool) → AllByRecursion (λ m. (x.number == m) ≡ false) (map (λ (y : InEntry). y.number) es) → cond t (Some x) (find p es) ≡ Some e
-    → (find p es ≡ Some e → own e.number (inbox_pieces es) ≡ pieces e.number e.posted.content) → own e.number (pieces x.number x.posted.content) ++ own e.number (inbox_pieces es) ≡ pieces e.number e.posted.content
-gathered x e p es true other is later =
-    let same : x ≡ e = cc in
-    subst (λ (y : InEntry). own y.number (pieces x.number x.posted.content) ++ own y.number (inbox_pieces es) ≡ pieces y.number y.posted.content) same
-    (ap₂ (λ a b. a ++ b) (keeps_own x.number x.posted.content (range_with_len 0 (piece_count x.posted.content))) (drops_others x.number es other) ∙ append-nil (pieces x.number x.posted.content))
-gathered x e p es false other is later =
-    ap₂ (λ a b. a ++ b) (drops_other x.number e.number x.posted.content (range_with_len 0 (piece_count x.posted.content)) (found_all (λ m. (x.number == m) ≡ false) p es e other is)) (later is)
+module _ {X : Type 0} (number : X → ℕ) (content : X → List ℕ) where
+  abbrev pub all_pieces : List X → List Piece
+  all_pieces xs = flat_map (λ x. pieces (number x) (content x)) xs
 
-pub gathers : (p : InEntry → Bool) (es : List InEntry) (e : InEntry) → IsDistinct (λ a b. a == b) (map (λ (x : InEntry). x.number) es) → find p es ≡ Some e → own e.number (inbox_pieces es) ≡ pieces e.number e.posted.content
-unfolding IsDistinct
-gathers p [] e distinct found = absurd cc
-gathers p (x ∷ es) e distinct found =
-    filter-append (λ q. q.number == e.number) (pieces x.number x.posted.content) (inbox_pieces es) ∙ gathered x e p es (p x) distinct.0 found (gathers p es e distinct.1)
+  drops_others : (n : ℕ) (xs : List X) → AllByRecursion (λ m. (n == m) ≡ false) (map number xs) → own n (all_pieces xs) ≡ []
+  drops_others n [] other = refl
+  drops_others n (x ∷ xs) other =
+      filter-append (λ p. p.number == n) (pieces (number x) (content x)) (all_pieces xs)
+      ∙ ap₂ (λ a b. a ++ b) (drops_other (number x) n (content x) (range_with_len 0 (piece_count (content x))) (turned (number x) n other.0)) (drops_others n xs other.1)
 
-abbrev pieces_command : Command
-pieces_command = Select (record { lets = []; body = over_table inbox_piece_tree piece_terms piece_columns by_number (lit (Int (negsuc 0))) }) (codes "number" ∷ codes "position" ∷ codes "bytes" ∷ [])
+  gathered : (x e : X) (p : X → Bool) (xs : List X) (t : Bool) → AllByRecursion (λ m. (number x == m) ≡ false) (map number xs) → cond t (Some x) (find p xs) ≡ Some e
+      → (find p xs ≡ Some e → own (number e) (all_pieces xs) ≡ pieces (number e) (content e)) → own (number e) (pieces (number x) (content x)) ++ own (number e) (all_pieces xs) ≡ pieces (number e) (content e)
+  gathered x e p xs true other is later =
+      let same : x ≡ e = cc in
+      subst (λ y. own (number y) (pieces (number x) (content x)) ++ own (number y) (all_pieces xs) ≡ pieces (number y) (content y)) same
+      (ap₂ (λ a b. a ++ b) (keeps_own (number x) (content x) (range_with_len 0 (piece_count (content x)))) (drops_others (number x) xs other) ∙ append-nil (pieces (number x) (content x)))
+  gathered x e p xs false other is later =
+      ap₂ (λ a b. a ++ b) (drops_other (number x) (number e) (content x) (range_with_len 0 (piece_count (content x))) (found_all number (λ m. (number x == m) ≡ false) p xs e other is)) (later is)
 
-pub finds_pieces : (old new : Connected) (n : ℕ) (rows : List Row) → Shown in_pieces_text (number_params n) old new rows → (s : State) → Rests old s → (p : InEntry → Bool) (e : InEntry) → find p s.inbox ≡ Some e → n ≡ e.number
+  gathers : (p : X → Bool) (xs : List X) (e : X) → IsDistinct (λ a b. a == b) (map number xs) → find p xs ≡ Some e → own (number e) (all_pieces xs) ≡ pieces (number e) (content e)
+  unfolding IsDistinct
+  gathers p [] e distinct found = absurd cc
+  gathers p (x ∷ xs) e distinct found =
+      filter-append (λ q. q.number == number e) (pieces (number x) (content x)) (all_pieces xs) ∙ gathered x e p xs (p x) distinct.0 found (gathers p xs e distinct.1)
+
+abbrev pieces_command : ℕ → Command
+pieces_command tree = Select (record { lets = []; body = over_table tree piece_terms piece_columns by_number (lit (Int (negsuc 0))) }) (codes "number" ∷ codes "position" ∷ codes "bytes" ∷ [])
+
+-- a query of the pieces of the entry of a number
+module _ (sql : List ℕ) (tree : ℕ) (is : command_of (understood store_schema sql) ≡ pieces_command tree) (plain : IsPlain (understood store_schema sql)) (unlisted : reads_listing store_schema sql ≡ false)
+    {X : Type 0} (number : X → ℕ) (content : X → List ℕ) where
+  finds_pieces : (old new : Connected) (n : ℕ) (rows : List Row) → Shown sql (number_params n) old new rows → old.now.schema ≡ store_schema → (xs : List X) → old.now.trees tree ≡ piece_rows (all_pieces number content xs)
+      → IsDistinct (λ a b. a == b) (map number xs) → (p : X → Bool) (e : X) → find p xs ≡ Some e → n ≡ number e → rows ≡ map piece_shown (pieces (number e) (content e))
+  finds_pieces old new n rows h has xs are distinct p e found same =
+      let ps = all_pieces number content xs in
+      let read = reads_as sql (number_params n) old new store_schema has (pieces_command tree) is plain unlisted rows h in
+      in_order tree piece_terms piece_columns (lit (Int (negsuc 0))) old.now.trees (number_params n) rows (subst IsTable (sym are) (numbered_rise 1 (map piece_shown ps))) read.answer
+      ∙ ap (λ l. map (shown_of piece_columns (number_params n)) (chosen piece_terms (number_params n) l)) are
+      ∙ shown_pieces 1 n ps
+      ∙ ap (λ k. map piece_shown (filter (λ q. q.number == k) ps)) same
+      ∙ ap (map piece_shown) (gathers number content p xs e distinct found)
+
+pub finds_in_pieces : (old new : Connected) (n : ℕ) (rows : List Row) → Shown in_pieces_text (number_params n) old new rows → (s : State) → Rests old s → (p : InEntry → Bool) (e : InEntry) → find p s.inbox ≡ Some e → n ≡ e.number
     → rows ≡ map piece_shown (pieces e.number e.posted.content)
-finds_pieces old new n rows h s r p e found is =
+finds_in_pieces old new n rows h s r =
     let it = r.stands (shown_open in_pieces_text (number_params n) old new rows h) in
-    let ps = inbox_pieces s.inbox in
-    let read = reads_as in_pieces_text (number_params n) old new store_schema it.schema pieces_command in_pieces_is in_pieces_plain in_pieces_unlisted rows h in
-    in_order inbox_piece_tree piece_terms piece_columns (lit (Int (negsuc 0))) old.now.trees (number_params n) rows (subst IsTable (sym it.entries.inbox_contents) (numbered_rise 1 (map piece_shown ps))) read.answer
-    ∙ ap (λ l. map (shown_of piece_columns (number_params n)) (chosen piece_terms (number_params n) l)) it.entries.inbox_contents
-    ∙ shown_pieces 1 n ps
-    ∙ ap (λ k. map piece_shown (filter (λ q. q.number == k) ps)) is
-    ∙ ap (map piece_shown) (gathers p s.inbox e it.receipts.1.distinct found)
+    finds_pieces in_pieces_text inbox_piece_tree in_pieces_is in_pieces_plain in_pieces_unlisted (λ (e : InEntry). e.number) (λ e. e.posted.content) old new n rows h it.schema s.inbox it.entries.inbox_contents it.receipts.1.distinct
+
+pub finds_out_pieces : (old new : Connected) (n : ℕ) (rows : List Row) → Shown out_pieces_text (number_params n) old new rows → (s : State) → Rests old s → (p : OutEntry → Bool) (d : OutEntry) → find p s.outbox ≡ Some d → n ≡ d.number
+    → rows ≡ map piece_shown (pieces d.number d.content)
+finds_out_pieces old new n rows h s r =
+    let it = r.stands (shown_open out_pieces_text (number_params n) old new rows h) in
+    finds_pieces out_pieces_text outbox_piece_tree out_pieces_is out_pieces_plain out_pieces_unlisted (λ (d : OutEntry). d.number) (λ d. d.content) old new n rows h it.schema s.outbox it.entries.outbox_contents it.documents.1.distinct

@@ -10,9 +10,11 @@ mod Piling
 mod Placing
 mod Writing
 mod Growing
+mod Showing
 mod Looking
 mod Gathering
 mod Splitting
 mod Renewing
 mod Resetting
 pub mod Repeating
+mod Settling

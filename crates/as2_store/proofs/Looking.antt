@@ -1,6 +1,6 @@
 -- What the queries of the inbox answer.
-use Rattle.std.proofs.Common.{◌≡◌, ℕ, pos, ◌+◌, ◌<◌, ◌≤◌, ◌^◌, ◌==◌, nat_le, inl, inr, List, [], ◌∷◌, ◌++◌, map, take, length, slice_get, get_or, Some, None, Bool, true, false, ◌&&◌, cond, refl, sym, ap, ap₂, ◌∙◌, negsuc, arith}
-use Rattle.std.specs.List.{filter, find}
+use Rattle.std.proofs.Common.{◌≡◌, ℕ, pos, ◌+◌, ◌<◌, ◌≤◌, ◌^◌, ◌==◌, nat_le, inl, inr, List, [], ◌∷◌, ◌++◌, map, take, length, get_or, Bool, true, false, ◌&&◌, refl, sym, ap, ap₂, ◌∙◌, negsuc, arith}
+use Rattle.std.specs.List.{filter}
 use Rattle.std.proofs.lemmas.List.{take_more, get_or-map, length-map, map-append}
 use Rattle.as2_rows.specs.declared.inbox.InRow.{InRow}
 use Rattle.as2_rows.specs.Summaries.{in_entry, in_summary}
@@ -15,10 +15,10 @@ use Rattle.sqlite.specs.Term.{Term, lit}
 use Rattle.sqlite.specs.Command.TheVariants.{Select}
 use Rattle.sqlite.specs.Listing.{understood, reads_listing}
 use Rattle.sqlite.specs.State.{State as Connected, Shown}
-use Rattle.sqlite.proofs.Callers.{IsPlain, command_of, reads_as}
+use Rattle.sqlite.proofs.Callers.{IsPlain, command_of}
 use Rattle.sql_tables.specs.Changes.{over_table, passes}
 use Rattle.sql_tables.proofs.Inside.{shown_open}
-use Rattle.sql_tables.proofs.Queries.{by_number, shows_entries, blobs_equal, numbers_equal}
+use Rattle.sql_tables.proofs.Queries.{by_number, blobs_equal, numbers_equal}
 use Rattle.as2_exchange.specs.State.{State, end_of_numbers}
 use Rattle.as2_exchange.specs.declared.inbox.InEntry.{InEntry}
 use Rattle.as2_names.specs.Identifiers.{value_of}
@@ -28,6 +28,7 @@ use Rattle.as2_store.specs.Statements.{in_by_key_text, in_by_number_text, in_all
 use Rattle.as2_store.specs.Stands.{Rests}
 use Rattle.as2_store.specs.Finding.{has_key}
 use Rattle.as2_store.proofs.Rising.{entries_rise}
+use Rattle.as2_store.proofs.Showing.{reads_rows, and_true}
 use Rattle.as2_store.proofs.Texts.{in_columns, in_names, key_terms, number_terms, in_by_number_is, in_by_number_plain, in_by_number_unlisted, in_by_key_is, in_by_key_plain, in_by_key_unlisted, in_all_is, in_all_plain, in_all_unlisted}
 
 -- a query over the inbox, in the order of the numbers
@@ -37,13 +38,8 @@ module _ (sql : List ℕ) (plain : IsPlain (understood store_schema sql)) (unlis
   reads_entries : (old new : Connected) (rows : List Row) → Shown sql params old new rows → (s : State) → Rests old s → rows ≡ map in_shown (filter p s.inbox)
   reads_entries old new rows h s r =
       let it = r.stands (shown_open sql params old new rows h) in
-      let read = reads_as sql params old new store_schema it.schema (Select (record { lets = []; body = over_table inbox_tree terms in_columns by_number (lit (Int (negsuc 0))) }) in_names) is plain unlisted rows h in
-      shows_entries inbox_tree terms in_columns (lit (Int (negsuc 0))) old.now.trees params rows in_row p in_shown same (λ _. refl) s.inbox it.entries.inbox
-      (entries_rise in_row (λ (e : InEntry). e.number) (λ _. refl) s.next_in s.inbox it.receipts.1) read.answer
-
-pub and_true : (b : Bool) → (b && true) ≡ b
-and_true true = refl
-and_true false = refl
+      reads_rows sql plain unlisted inbox_tree terms in_columns in_names is params in_row in_shown (λ _. refl) p same old new rows h it.schema s.inbox it.entries.inbox
+      (entries_rise in_row (λ (e : InEntry). e.number) (λ _. refl) s.next_in s.inbox it.receipts.1)
 
 abbrev pub key_params : List ℕ → List ℕ → List ℕ → Row
 key_params sender receiver value = Blob sender ∷ Blob receiver ∷ Blob value ∷ []
@@ -94,25 +90,6 @@ every (e ∷ es) = ap (λ l. e ∷ l) (every es)
 
 pub lists_all : (old new : Connected) (rows : List Row) → Shown in_all_text [] old new rows → (s : State) → Rests old s → rows ≡ map in_shown s.inbox
 lists_all old new rows h s r = reads_entries in_all_text in_all_plain in_all_unlisted [] in_all_is [] (λ _. true) (λ _. refl) old new rows h s r ∙ ap (map in_shown) (every s.inbox)
-
--- ---- the first row
-
-pub none_first : (p : InEntry → Bool) (es : List InEntry) (rows : List Row) → rows ≡ map in_shown (filter p es) → slice_get rows 0 ≡ None → find p es ≡ None
-none_first p [] rows all none = refl
-none_first p (e ∷ es) rows all none = go (p e) all (λ shown. none_first p es rows shown none)
-  where
-    go : (t : Bool) → rows ≡ map in_shown (cond t (e ∷ filter p es) (filter p es)) → (rows ≡ map in_shown (filter p es) → find p es ≡ None) → cond t (Some e) (find p es) ≡ None
-    go true shown later = absurd (let f = ap (λ l. slice_get l 0) shown in cc)
-    go false shown later = later shown
-
-pub some_first : (p : InEntry → Bool) (es : List InEntry) (rows : List Row) (row : Row) → rows ≡ map in_shown (filter p es) → slice_get rows 0 ≡ Some row → (e : InEntry) × (find p es ≡ Some e) × (row ≡ in_shown e)
-some_first p [] rows row all got = absurd (let f = ap (λ l. slice_get l 0) all in cc)
-some_first p (e ∷ es) rows row all got = go (p e) all (λ shown. some_first p es rows row shown got)
-  where
-    go : (t : Bool) → rows ≡ map in_shown (cond t (e ∷ filter p es) (filter p es)) → (rows ≡ map in_shown (filter p es) → (x : InEntry) × (find p es ≡ Some x) × (row ≡ in_shown x))
-        → (x : InEntry) × (cond t (Some e) (find p es) ≡ Some x) × (row ≡ in_shown x)
-    go true shown later = (e, refl, (let f = ap (λ l. slice_get l 0) shown in cc))
-    go false shown later = later shown
 
 -- ---- all rows, one after another
 

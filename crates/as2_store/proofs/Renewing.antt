@@ -1,12 +1,11 @@
 -- What waits, in order of the places; and a receipt put there in place of what stood at its place.
-use Rattle.std.proofs.Common.{◌≡◌, ℕ, ◌<◌, ◌==◌, ◌&&◌, List, [], ◌∷◌, ◌++◌, map, Option, option_map, Some, None, IfSome, true, false, not, cond, Ok, Less, refl, sym, ap, ap₂, subst, pos, ◌∙◌, arith, append_assoc}
+use Rattle.std.proofs.Common.{◌≡◌, ℕ, ◌<◌, ◌==◌, ◌&&◌, List, [], ◌∷◌, ◌++◌, map, Option, option_map, Some, None, IfSome, true, false, not, cond, Ok, refl, sym, ap, ap₂, subst, pos, ◌∙◌, arith, append_assoc}
 use Rattle.std.specs.List.{AllByRecursion, filter_map, cons_option}
 use Rattle.std.proofs.lemmas.Bool.Decides.{nat_tests}
 use Rattle.std.proofs.lemmas.List.Elements.{filter-append, filter_agree}
-use Rattle.sqlite.specs.Order.{value_cmp}
-use Rattle.sqlite.specs.Tree.{rowid, put_row, IsTable, IsAscending}
+use Rattle.sqlite.specs.Tree.{put_row, IsTable, IsAscending}
 use Rattle.sqlite.specs.State.{State as Connected, Executes}
-use Rattle.sqlite_trees.proofs.ListLemmas.{all-append, all_weaker, all_both, filter_all, ascending-append, ascending-filter, ascending-map, ascending_weaker}
+use Rattle.sqlite_trees.proofs.ListLemmas.{all-append, all_weaker, all_both, filter_all, ascending-append, ascending-filter}
 use Rattle.sql_tables.specs.Changes.{Changed, passes}
 use Rattle.sql_tables.proofs.Queries.{numbers_equal}
 use Rattle.sql_tables.proofs.Deleting.{deletes}
@@ -19,9 +18,9 @@ use Rattle.as2_store.specs.Statements.{waiting_take_text}
 use Rattle.as2_store.specs.Stands.{place, waiting_row, documents_waiting}
 use Rattle.as2_store.specs.Requeuing.{Holds, not_at}
 use Rattle.as2_store.proofs.MetaRow.{one_param}
-use Rattle.as2_store.proofs.Rising.{rises, puts_between}
+use Rattle.as2_store.proofs.Rising.{given_rise, ordered_rise, puts_between}
 use Rattle.as2_store.proofs.Placing.{IsOf, IsLast}
-use Rattle.as2_store.proofs.Looking.{and_true}
+use Rattle.as2_store.proofs.Showing.{and_true}
 use Rattle.as2_store.proofs.Quiet.{quiet}
 use Rattle.as2_store.proofs.Texts.{number_terms, waiting_take_is, waiting_take_plain}
 
@@ -40,23 +39,6 @@ IsUnder v w = v.number < w.number
 
 abbrev IsBefore : Waiting → Waiting → Type 0
 IsBefore v w = place v < place w
-
-module _ {X : Type 0} (f : X → Option Waiting) (at : X → ℕ) (kept : (x : X) → IfSome (f x) (λ w. w.number ≡ at x)) where
-  above : (n : ℕ) (xs : List X) → AllByRecursion (λ x. n < at x) xs → AllByRecursion (λ w. n < w.number) (filter_map f xs)
-  above n [] all = tt
-  above n (x ∷ xs) all = go (f x) (kept x) (above n xs all.1)
-    where
-      go : (o : Option Waiting) → IfSome o (λ w. w.number ≡ at x) → AllByRecursion (λ w. n < w.number) (filter_map f xs) → AllByRecursion (λ w. n < w.number) (cons_option o (filter_map f xs))
-      go None is rest = rest
-      go (Some w) is rest = (omega (arith, is, all.0), rest)
-
-  gathered : (xs : List X) → IsAscending (λ x y. at x < at y) xs → IsAscending IsUnder (filter_map f xs)
-  gathered [] up = tt
-  gathered (x ∷ xs) up = go (f x) (kept x) (gathered xs up.1)
-    where
-      go : (o : Option Waiting) → IfSome o (λ w. w.number ≡ at x) → IsAscending IsUnder (filter_map f xs) → IsAscending IsUnder (cons_option o (filter_map f xs))
-      go None is rest = rest
-      go (Some w) is rest = (above w.number xs (subst (λ n. AllByRecursion (λ y. n < at y) xs) (sym is) up.0), rest)
 
 named : (n : ℕ) (due : Option ℕ) (o : Option ℕ) → IfSome (option_map (λ kind. record { kind = kind; number = n; due = due }) o) (λ (w : Waiting). w.number ≡ n)
 named n due None = tt
@@ -79,14 +61,11 @@ then kind xs ys of up behind later =
     ascending-append IsBefore xs ys (by_place kind end_of_numbers xs of up) later
     (all_weaker (IsOf kind end_of_numbers) (λ x. AllByRecursion (IsBefore x) ys) (λ x is. all_weaker (IsPast kind) (IsBefore x) (λ y far. omega (arith, is.0, is.1, far)) ys behind) xs of)
 
-pub table_of : (ws : List Waiting) → IsAscending IsBefore ws → IsTable (map waiting_row ws)
-table_of ws up = ascending-map _ waiting_row ws (ascending_weaker IsBefore (λ v w. value_cmp (rowid (waiting_row v)) (rowid (waiting_row w)) ≡ Less) (λ v w less. rises (place v) (place w) less) ws up)
-
 pub documents_rise : (kind : ℕ) (ds : List OutEntry) → IsAscending (λ (x y : OutEntry). x.number < y.number) ds → IsAscending IsUnder (documents_waiting kind ds)
-documents_rise kind ds up = ascending-filter IsUnder (λ w. w.kind == kind) (filter_map out_waiting ds) (gathered out_waiting (λ (d : OutEntry). d.number) (λ d. named d.number d.due (out_kind d.detail d.attempt)) ds up)
+documents_rise kind ds up = ascending-filter IsUnder (λ w. w.kind == kind) (filter_map out_waiting ds) (given_rise out_waiting (λ (d : OutEntry). d.number) (λ (w : Waiting). w.number) (λ d. named d.number d.due (out_kind d.detail d.attempt)) ds up)
 
 pub receipts_rise : (es : List InEntry) → IsAscending (λ (x y : InEntry). x.number < y.number) es → IsAscending IsUnder (waiting_in es)
-receipts_rise es up = gathered in_waiting (λ (e : InEntry). e.number) (λ e. named e.number e.due (in_kind e.mdn e.attempt)) es up
+receipts_rise es up = given_rise in_waiting (λ (e : InEntry). e.number) (λ (w : Waiting). w.number) (λ e. named e.number e.due (in_kind e.mdn e.attempt)) es up
 
 pub places_rise : (send answer hear end : List Waiting) → AllByRecursion (IsOf to_send end_of_numbers) send → AllByRecursion (IsOf to_answer end_of_numbers) answer → AllByRecursion (IsOf to_hear end_of_numbers) hear
     → AllByRecursion (IsOf to_end end_of_numbers) end → IsAscending IsUnder send → IsAscending IsUnder answer → IsAscending IsUnder hear → IsAscending IsUnder end → IsTable (map waiting_row (send ++ (answer ++ (hear ++ end))))
@@ -95,7 +74,7 @@ places_rise send answer hear end s a h e us ua uh ue =
     let ends = past to_answer to_end end_of_numbers (omega arith) end e in
     let last = all-append (IsPast to_answer) hear end hears ends in
     let lasts = all_weaker (IsPast to_answer) (IsPast to_send) (λ w far. omega (arith, far)) (hear ++ end) last in
-    table_of (send ++ (answer ++ (hear ++ end)))
+    ordered_rise waiting_row place (λ _. refl) (send ++ (answer ++ (hear ++ end)))
     (then to_send send (answer ++ (hear ++ end)) s us (all-append (IsPast to_send) answer (hear ++ end) (past to_send to_answer end_of_numbers (omega arith) answer a) lasts)
     (then to_answer answer (hear ++ end) a ua last
     (then to_hear hear end h uh (past to_hear to_end end_of_numbers (omega arith) end e) (by_place to_end end_of_numbers end e ue))))

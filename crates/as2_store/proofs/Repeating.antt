@@ -1,19 +1,18 @@
 -- What a repeat of a document makes of the state, where it has its receipt sent anew and where it doesn't.
-use Rattle.std.proofs.Common.{◌≡◌, ℕ, ◌<◌, ◌&&◌, Some, true, false, cond, map, sym, ap, ◌∙◌}
+use Rattle.std.proofs.Common.{◌≡◌, ℕ, ◌&&◌, Some, true, false, cond, sym, ap, ◌∙◌}
 use Rattle.sqlite.specs.Effect.{Database}
 use Rattle.sqlite.specs.Tree.{IsAscending}
-use Rattle.sqlite_trees.proofs.ListLemmas.{ascending_from_map}
 use Rattle.as2_exchange.specs.Readings.{is_async}
 use Rattle.as2_exchange.specs.State.{State, received, change_received}
 use Rattle.as2_exchange.specs.Step.{is_done_with, queued_again}
 use Rattle.as2_exchange.specs.declared.inbox.InEntry.{InEntry}
 use Rattle.as2_store.specs.Stands.{Stands}
 use Rattle.as2_store.specs.Requeuing.{requeued}
-use Rattle.as2_store.proofs.Rising.{rising}
+use Rattle.as2_store.proofs.Rising.{numbers_rise}
 use Rattle.as2_store.proofs.Splitting.{IsBelow, same_change, changed_by_nothing}
 
 inbox_rises : (d : Database) (s : State) → Stands d s → IsAscending IsBelow s.inbox
-inbox_rises d s it = ascending_from_map (λ a b. a < b) (λ (e : InEntry). e.number) s.inbox (rising (map (λ (e : InEntry). e.number) s.inbox) it.receipts.1.distinct it.receipts.1.in_order)
+inbox_rises d s it = numbers_rise (λ (e : InEntry). e.number) s.next_in s.inbox it.receipts.1
 
 -- the receipt is asynchronous and done with
 pub sent_anew : (d : Database) (s : State) → Stands d s → (n m : ℕ) (e : InEntry) → received s n ≡ Some e → (is_async e.posted.how && is_done_with e.mdn e.attempt) ≡ true

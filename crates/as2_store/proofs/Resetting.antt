@@ -6,7 +6,7 @@ use Rattle.sqlite.specs.declared.types.Value.TheVariants.{Int}
 use Rattle.sqlite.specs.Order.{Row}
 use Rattle.sqlite.specs.Tree.{put_row}
 use Rattle.sqlite.specs.State.{State as Connected, Executes}
-use Rattle.sqlite_trees.proofs.ListLemmas.{ascending_from_map, filter_same, all-map, all_from_map}
+use Rattle.sqlite_trees.proofs.ListLemmas.{filter_same, all-map, all_from_map}
 use Rattle.sql_tables.specs.Changes.{Changed, passes}
 use Rattle.sql_tables.proofs.Changing.{updates}
 use Rattle.sql_tables.proofs.Queries.{numbers_equal}
@@ -23,10 +23,11 @@ use Rattle.as2_store.specs.Tables.{store_schema, inbox_table, inbox_tree}
 use Rattle.as2_store.specs.Statements.{in_requeue_text}
 use Rattle.as2_store.specs.Stands.{Stands, place, waiting_row, documents_waiting, waiting, inbox_pieces, piece_rows}
 use Rattle.as2_store.specs.Requeuing.{requeued, not_at, Holds, Renewed}
-use Rattle.as2_store.proofs.Rising.{rising, entries_rise}
+use Rattle.as2_store.proofs.Rising.{numbers_rise, entries_rise}
 use Rattle.as2_store.proofs.Placing.{IsLast, documents_of, ins_small, last_of}
 use Rattle.as2_store.proofs.Writing.{cast_url, cast_digest, cast_mic}
-use Rattle.as2_store.proofs.Looking.{and_true, same_tests}
+use Rattle.as2_store.proofs.Showing.{and_true}
+use Rattle.as2_store.proofs.Looking.{same_tests}
 use Rattle.as2_store.proofs.Quiet.{quiet}
 use Rattle.as2_store.proofs.Texts.{number_terms, requeue_project, in_requeue_is, in_requeue_plain}
 use Rattle.as2_store.proofs.Splitting.{Split, split, at_one, changed, changed_none, changed_split, none_numbered}
@@ -71,8 +72,8 @@ pub holds : (a b : Connected) (s : State) → Stands a.now s → (rows : List Ro
 holds a b s it rows one =
     let outs = below_end s.next_out it.documents.0.most (map (λ (d : OutEntry). d.number) s.outbox) it.documents.1.below in
     let ins = below_end s.next_in it.receipts.0.most (map (λ (e : InEntry). e.number) s.inbox) it.receipts.1.below in
-    let ds = ascending_from_map (λ a b. a < b) (λ (d : OutEntry). d.number) s.outbox (rising (map (λ (d : OutEntry). d.number) s.outbox) it.documents.1.distinct it.documents.1.in_order) in
-    let es = ascending_from_map (λ a b. a < b) (λ (e : InEntry). e.number) s.inbox (rising (map (λ (e : InEntry). e.number) s.inbox) it.receipts.1.distinct it.receipts.1.in_order) in
+    let ds = numbers_rise (λ (d : OutEntry). d.number) s.next_out s.outbox it.documents.1 in
+    let es = numbers_rise (λ (e : InEntry). e.number) s.next_in s.inbox it.receipts.1 in
     record {
       schema = one.schema_is;
       rows = one.others.1.1.1.1.1.1.0 (λ e. omega arith) ∙ it.entries.waits;
@@ -130,7 +131,7 @@ pub stands_requeued : (a b c : Connected) (s : State) (n w m : ℕ) → (n < end
     → Changed a b store_schema inbox_tree (map in_row (change_received s n (requeued m)).inbox) → Renewed b c (to_send_from w m) (waiting s) → Stands c.now (change_received s n (requeued m))
 stands_requeued a b c s n w m within it some one two =
     let has = it.entries in
-    let es = ascending_from_map (λ a b. a < b) (λ (e : InEntry). e.number) s.inbox (rising (map (λ (e : InEntry). e.number) s.inbox) it.receipts.1.distinct it.receipts.1.in_order) in
+    let es = numbers_rise (λ (e : InEntry). e.number) s.next_in s.inbox it.receipts.1 in
     let found = split n s.inbox es some in
     let below = at_one (λ e. e.number < s.next_in) found.front found.one found.back (subst (AllByRecursion (λ (e : InEntry). e.number < s.next_in)) found.whole (all_from_map (λ k. k < s.next_in) (λ (e : InEntry). e.number) s.inbox it.receipts.1.below)) in
     let small : n < end_of_numbers = omega (arith, below, found.here, it.receipts.0.most) in

@@ -1,6 +1,6 @@
 -- The rows of entries whose numbers rise, and where a row goes among them.
-use Rattle.std.proofs.Common.{◌≡◌, ℕ, ◌<◌, ◌==◌, List, [], ◌∷◌, ◌++◌, map, pos, nat_lt, Less, Greater, false, refl, sym, ap, subst₂, ◌∙◌, arith}
-use Rattle.std.specs.List.{AllByRecursion, IsDistinct}
+use Rattle.std.proofs.Common.{◌≡◌, ℕ, ◌<◌, ◌==◌, List, [], ◌∷◌, ◌++◌, map, Option, Some, None, IfSome, pos, nat_lt, Less, Greater, false, refl, sym, ap, subst, subst₂, ◌∙◌, arith}
+use Rattle.std.specs.List.{AllByRecursion, IsDistinct, filter_map, cons_option}
 use Rattle.std.specs.Ordering.{match_ordering}
 use Rattle.std.proofs.lemmas.Int.{ints}
 use Rattle.std.proofs.lemmas.Bool.Decides.{nat_tests}
@@ -26,18 +26,41 @@ above n (m ∷ ns) other no_lower = (one m other.0 no_lower.0, above n ns other.
     one : (m : ℕ) → (n == m) ≡ false → nat_lt m n ≡ false → n < m
     one m other no_lower = grind (arith, nat_tests)
 
-pub rising : (ns : List ℕ) → IsDistinct (λ a b. a == b) ns → IsDistinct (λ a b. nat_lt b a) ns → IsAscending (λ a b. a < b) ns
+rising : (ns : List ℕ) → IsDistinct (λ a b. a == b) ns → IsDistinct (λ a b. nat_lt b a) ns → IsAscending (λ a b. a < b) ns
 unfolding IsDistinct
 rising [] distinct in_order = tt
 rising (n ∷ ns) distinct in_order = (above n ns distinct.0 in_order.0, rising ns distinct.1 in_order.1)
 
+pub numbers_rise : {X : Type 0} (at : X → ℕ) (next : ℕ) (xs : List X) → AreNumbers next (map at xs) → IsAscending (λ x y. at x < at y) xs
+numbers_rise at next xs h = ascending_from_map (λ a b. a < b) at xs (rising (map at xs) h.distinct h.in_order)
+
+-- what some of the entries give rises as they do
+module _ {X Y : Type 0} (f : X → Option Y) (at : X → ℕ) (of : Y → ℕ) (kept : (x : X) → IfSome (f x) (λ y. of y ≡ at x)) where
+  given_above : (n : ℕ) (xs : List X) → AllByRecursion (λ x. n < at x) xs → AllByRecursion (λ y. n < of y) (filter_map f xs)
+  given_above n [] all = tt
+  given_above n (x ∷ xs) all = go (f x) (kept x) (given_above n xs all.1)
+    where
+      go : (o : Option Y) → IfSome o (λ y. of y ≡ at x) → AllByRecursion (λ y. n < of y) (filter_map f xs) → AllByRecursion (λ y. n < of y) (cons_option o (filter_map f xs))
+      go None is rest = rest
+      go (Some y) is rest = (omega (arith, is, all.0), rest)
+
+  pub given_rise : (xs : List X) → IsAscending (λ x y. at x < at y) xs → IsAscending (λ y z. of y < of z) (filter_map f xs)
+  given_rise [] up = tt
+  given_rise (x ∷ xs) up = go (f x) (kept x) (given_rise xs up.1)
+    where
+      go : (o : Option Y) → IfSome o (λ y. of y ≡ at x) → IsAscending (λ y z. of y < of z) (filter_map f xs) → IsAscending (λ y z. of y < of z) (cons_option o (filter_map f xs))
+      go None is rest = rest
+      go (Some y) is rest = (given_above (of y) xs (subst (λ n. AllByRecursion (λ x. n < at x) xs) (sym is) up.0), rest)
+
 module _ {X : Type 0} (row : X → Row) (at : X → ℕ) (keyed : (x : X) → rowid (row x) ≡ Int (pos (at x))) where
   -- entries in order of number are the rows of a table
-  pub entries_rise : (next : ℕ) (xs : List X) → AreNumbers next (map at xs) → IsTable (map row xs)
-  entries_rise next xs h =
+  pub ordered_rise : (xs : List X) → IsAscending (λ x y. at x < at y) xs → IsTable (map row xs)
+  ordered_rise xs up =
       ascending-map _ row xs (ascending_weaker (λ x y. at x < at y) (λ x y. value_cmp (rowid (row x)) (rowid (row y)) ≡ Less)
-      (λ x y less. subst₂ (λ a b. value_cmp a b ≡ Less) (sym (keyed x)) (sym (keyed y)) (rises (at x) (at y) less)) xs
-      (ascending_from_map (λ a b. a < b) at xs (rising (map at xs) h.distinct h.in_order)))
+      (λ x y less. subst₂ (λ a b. value_cmp a b ≡ Less) (sym (keyed x)) (sym (keyed y)) (rises (at x) (at y) less)) xs up)
+
+  pub entries_rise : (next : ℕ) (xs : List X) → AreNumbers next (map at xs) → IsTable (map row xs)
+  entries_rise next xs h = ordered_rise xs (numbers_rise at next xs h)
 
   -- a row goes behind those of lower numbers, and before those of greater ones
   pub puts_between : (x : X) (front back : List X) → AllByRecursion (λ q. at q < at x) front → AllByRecursion (λ q. at x < at q) back

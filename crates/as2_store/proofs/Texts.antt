@@ -15,8 +15,8 @@ use Rattle.sql_tables.specs.Changes.{over_table}
 use Rattle.sql_tables.proofs.Queries.{by_number}
 use Rattle.sql_tables.proofs.Changing.{update_program}
 use Rattle.sql_tables.proofs.Deleting.{delete_program}
-use Rattle.as2_store.specs.Tables.{store_schema, meta_tree, inbox_tree, inbox_piece_tree, waiting_tree}
-use Rattle.as2_store.specs.Statements.{meta_put_text, meta_read_text, receipt_text, in_put_text, in_piece_put_text, in_by_key_text, in_by_number_text, in_all_text, in_pieces_text, in_requeue_text, waiting_put_text, waiting_take_text}
+use Rattle.as2_store.specs.Tables.{store_schema, meta_tree, inbox_tree, inbox_piece_tree, outbox_tree, outbox_piece_tree, evidence_tree, waiting_tree}
+use Rattle.as2_store.specs.Statements.{meta_put_text, meta_read_text, receipt_text, in_put_text, in_piece_put_text, in_by_key_text, in_by_number_text, in_all_text, in_pieces_text, in_requeue_text, out_by_id_text, out_pieces_text, evidence_by_number_text, waiting_put_text, waiting_take_text}
 
 -- ---- the counters
 
@@ -167,6 +167,62 @@ in_requeue_is = refl
 pub in_requeue_plain : IsPlain (understood store_schema in_requeue_text)
 unfolding understood everything
 in_requeue_plain = (refl, refl)
+
+-- ---- the outbox
+
+abbrev pub out_columns : List Term
+out_columns = col 1 0 ∷ col 1 2 ∷ col 1 3 ∷ col 1 4 ∷ col 1 5 ∷ col 1 6 ∷ col 1 7 ∷ col 1 8 ∷ col 1 9 ∷ col 1 10 ∷ []
+
+abbrev pub out_names : List (List ℕ)
+out_names =
+    codes "number" ∷ codes "organization" ∷ codes "partner" ∷ codes "identifier" ∷ codes "length" ∷ codes "moment" ∷ codes "tries" ∷ codes "attempt" ∷ codes "due" ∷ codes "detail" ∷ []
+
+abbrev pub id_terms : List Term
+id_terms = op2 (Compare Eq Binary) (col 1 4) (col 0 0) ∷ []
+
+pub out_by_id_is : command_of (understood store_schema out_by_id_text) ≡ Select (record { lets = []; body = over_table outbox_tree id_terms out_columns by_number (lit (Int (negsuc 0))) }) out_names
+unfolding understood everything
+out_by_id_is = refl
+
+pub out_by_id_plain : IsPlain (understood store_schema out_by_id_text)
+unfolding understood everything
+out_by_id_plain = (refl, refl)
+
+pub out_by_id_unlisted : reads_listing store_schema out_by_id_text ≡ false
+unfolding understood everything
+out_by_id_unlisted = refl
+
+pub out_pieces_is : command_of (understood store_schema out_pieces_text)
+    ≡ Select (record { lets = []; body = over_table outbox_piece_tree piece_terms piece_columns by_number (lit (Int (negsuc 0))) }) (codes "number" ∷ codes "position" ∷ codes "bytes" ∷ [])
+unfolding understood everything
+out_pieces_is = refl
+
+pub out_pieces_plain : IsPlain (understood store_schema out_pieces_text)
+unfolding understood everything
+out_pieces_plain = (refl, refl)
+
+pub out_pieces_unlisted : reads_listing store_schema out_pieces_text ≡ false
+unfolding understood everything
+out_pieces_unlisted = refl
+
+abbrev pub evidence_columns : List Term
+evidence_columns = col 1 0 ∷ col 1 2 ∷ col 1 3 ∷ col 1 4 ∷ []
+
+abbrev pub evidence_names : List (List ℕ)
+evidence_names = codes "number" ∷ codes "moment" ∷ codes "content_type" ∷ codes "body" ∷ []
+
+pub evidence_by_number_is : command_of (understood store_schema evidence_by_number_text)
+    ≡ Select (record { lets = []; body = over_table evidence_tree number_terms evidence_columns by_number (lit (Int (negsuc 0))) }) evidence_names
+unfolding understood everything
+evidence_by_number_is = refl
+
+pub evidence_by_number_plain : IsPlain (understood store_schema evidence_by_number_text)
+unfolding understood everything
+evidence_by_number_plain = (refl, refl)
+
+pub evidence_by_number_unlisted : reads_listing store_schema evidence_by_number_text ≡ false
+unfolding understood everything
+evidence_by_number_unlisted = refl
 
 -- ---- what waits
 

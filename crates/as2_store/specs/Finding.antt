@@ -1,8 +1,21 @@
--- Which entry of the inbox is looked for.
-use Rattle.std.specs.Prelude.{ℕ, List, Bool, ◌&&◌, bytes_eq}
+-- Which entry is looked for, and what is shown of a document that is found.
+use Rattle.std.specs.Prelude.{ℕ, List, [], ◌∷◌, Option, Some, None, Bool, ◌&&◌, bytes_eq}
 use Rattle.as2_names.specs.Identifiers.{value_of}
+use Rattle.sqlite.specs.Order.{Row}
 use Rattle.as2_exchange.specs.declared.inbox.InEntry.{InEntry}
+use Rattle.as2_exchange.specs.declared.outbox.Evidence.{Evidence}
+use Rattle.as2_exchange.specs.declared.outbox.OutEntry.{OutEntry}
+use Rattle.as2_rows.specs.Rows.{evidence_shown}
 
 -- it was posted by this sender to this receiver, under an identifier of this value
 abbrev pub has_key : List ℕ → List ℕ → List ℕ → InEntry → Bool
 has_key sender receiver value e = bytes_eq e.posted.sender sender && (bytes_eq e.posted.receiver receiver && bytes_eq (value_of e.posted.id) value)
+
+-- it has an identifier of this value
+abbrev pub has_id : List ℕ → OutEntry → Bool
+has_id value d = bytes_eq d.id value
+
+-- the rows of a document's evidence, as a query shows them
+abbrev pub shown_evidence : ℕ → Option Evidence → List Row
+shown_evidence number None = []
+shown_evidence number (Some e) = evidence_shown number e ∷ []

@@ -35,6 +35,17 @@ in_pieces_text = codes "SELECT number, position, bytes FROM inbox_piece WHERE nu
 abbrev pub in_requeue_text : List ℕ
 in_requeue_text = codes "UPDATE inbox SET mdn = 2, tries = 0, attempt = 1, due = ?2 WHERE number = ?1"
 
+-- ---- the outbox
+
+abbrev pub out_by_id_text : List ℕ
+out_by_id_text = codes "SELECT number, organization, partner, identifier, length, moment, tries, attempt, due, detail FROM outbox WHERE identifier = ?1 ORDER BY number"
+
+abbrev pub out_pieces_text : List ℕ
+out_pieces_text = codes "SELECT number, position, bytes FROM outbox_piece WHERE number = ?1 ORDER BY rowid"
+
+abbrev pub evidence_by_number_text : List ℕ
+evidence_by_number_text = codes "SELECT number, moment, content_type, body FROM evidence WHERE number = ?1 ORDER BY number"
+
 -- ---- what waits
 
 abbrev pub waiting_put_text : List ℕ

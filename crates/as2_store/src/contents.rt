@@ -6,6 +6,7 @@ ghost use Rattle.sqlite.specs.State.{HasCleanDisk, KeepsCommit};
 ghost use Rattle.as2_rows.specs.Contents.{pieces, piece_shown};
 ghost use Rattle.as2_exchange.specs.State.{State};
 ghost use Rattle.as2_exchange.specs.declared.inbox.InEntry.{InEntry as Entry};
+ghost use Rattle.as2_exchange.specs.declared.outbox.OutEntry.{OutEntry as Document};
 ghost use Rattle.as2_store.specs.Tables.{store_schema, inbox_piece_tree};
 ghost use Rattle.as2_store.specs.Adding.{Appended};
 ghost use Rattle.as2_store.specs.Stands.{Rests};
@@ -72,6 +73,22 @@ pub fn in_piece_rows<S: Alter>(conn: &mut Connection<S>, number: u64) -> Result<
     let number = whole(number);
     conn.query_all(
         "SELECT number, position, bytes FROM inbox_piece WHERE number = ?1 ORDER BY rowid",
+        params![number],
+    )
+}
+
+/// The rows of the content of a document, in order.
+pub fn out_piece_rows<S: Alter>(conn: &mut Connection<S>, number: u64) -> Result<Vec<Row>, Error>
+    requires { number < 2 ^ 63 }
+    ensures mode { conn.old.in_transaction ≡ false → conn.new.in_transaction ≡ false }
+    ensures clean { HasCleanDisk (state S.Store conn.new) → HasCleanDisk (state S.Store conn.old) }
+    ensures same { HasCleanDisk (state S.Store conn.new) → (s : State) → Rests (state S.Store conn.old) s → Rests (state S.Store conn.new) s }
+    ensures rows { HasCleanDisk (state S.Store conn.new) → IfOk result (λ rows. (s : State) → Rests (state S.Store conn.old) s → (p : Document → Bool) (d : Document) → find p s.outbox ≡ Some d → number ≡ d.number
+        → rows.items ≡ map piece_shown (pieces d.number d.content)) }
+{
+    let number = whole(number);
+    conn.query_all(
+        "SELECT number, position, bytes FROM outbox_piece WHERE number = ?1 ORDER BY rowid",
         params![number],
     )
 }

@@ -3,7 +3,7 @@
 ghost use Rattle.std.specs.Prelude.{◌≡◌, ◌⊎◌, ◌<◌, ◌≤◌, ℕ, List, map, find, None, Some, true, false, Err, IsTrue, IfOk, IfErr, OnOk, OnErr};
 ghost use Rattle.sqlite.specs.Held.{state};
 ghost use Rattle.sqlite.specs.State.{HasCleanDisk};
-ghost use Rattle.as2_exchange.specs.State.{State, empty, end_of_numbers, received, change_received};
+ghost use Rattle.as2_exchange.specs.State.{State, empty, end_of_numbers, document_named, received, change_received};
 ghost use Rattle.as2_exchange.specs.declared.fault.StoreFault.TheVariants.{Full};
 ghost use Rattle.as2_rows.specs.Summaries.{in_summary};
 ghost use Rattle.as2_store.specs.Adding.{with_received};
@@ -15,12 +15,14 @@ use crate::adding::add;
 use crate::adopting::check;
 use crate::counters::{NextNumbers, meta_rows, next_of};
 use crate::creating::make;
+use crate::documents::first_document;
 use crate::fault::fault_of;
 use crate::finding::{entries_in, first_entry};
 use crate::inbox::{all_rows, rows_by_key, rows_by_number};
 use crate::numbers::fits;
+use crate::outbox::rows_by_id;
 use crate::requeuing::requeue;
-use as2_exchange::{InEntry, StoreFault};
+use as2_exchange::{InEntry, OutEntry, StoreFault};
 use as2_names::{AsName, Moment};
 use as2_rows::InRow;
 use sqlite::{Alter, Connection};
@@ -189,6 +191,26 @@ impl<S: Alter> Store<S> {
             Err(error) => return Err(fault_of(&error)),
         };
         first_entry(&mut self.conn, alloc, &rows)
+    }
+
+    /// The document of the outbox with an identifier of this value, if there is one, with its content and its evidence.
+    /// Answers Memory, Disk or Refused.
+    pub fn find_out_by_id(
+        &mut self,
+        alloc: Global,
+        id_value: &str,
+    ) -> Result<Option<OutEntry>, StoreFault>
+        ensures clean { HasCleanDisk (state S.Store self.new) → HasCleanDisk (state S.Store self.old) }
+        ensures open { HasCleanDisk (state S.Store self.new) → OnOk result (IsTrue (state S.Store self.old).is_open) }
+        ensures found { HasCleanDisk (state S.Store self.new) → IfOk result (λ found. (s : State) → Rests (state S.Store self.old) s → found ≡ document_named s id_value.now) }
+        ensures same { HasCleanDisk (state S.Store self.new) → (s : State) → Rests (state S.Store self.old) s → Rests (state S.Store self.new) s }
+        ensures fault { IfErr result (λ f. may_come f ≡ true) }
+    {
+        let rows = match rows_by_id(&mut self.conn, id_value.as_bytes()) {
+            Ok(rows) => rows,
+            Err(error) => return Err(fault_of(&error)),
+        };
+        first_document(&mut self.conn, alloc, &rows)
     }
 
     /// The entries of the inbox in order of number, each with the length of its content in place of the content.

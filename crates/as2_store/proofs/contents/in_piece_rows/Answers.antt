@@ -5,7 +5,7 @@ use Rattle.as2_store.specs.Statements.{in_pieces_text}
 use Rattle.as2_store.proofs.MetaRow.{passed}
 use Rattle.as2_store.proofs.Texts.{in_pieces_plain}
 use Rattle.as2_store.proofs.Answering.{same_after, if_shown}
-use Rattle.as2_store.proofs.Gathering.{finds_pieces, number_params}
+use Rattle.as2_store.proofs.Gathering.{finds_in_pieces, number_params}
 use Rattle.as2_store.proofs.contents.in_piece_rows.Goals as goal
 
 pub returns-clause-same : goal.returns-clause-same
@@ -21,4 +21,4 @@ returns-clause-rows g c clean =
     let old = state g.S.Store c.args.conn.now in
     let new = state g.S.Store c.query_all.new.self in
     let ok : IfOk c.query_all.result (λ rows. Shown in_pieces_text (number_params c.args.number) old new rows.items) = rw (c.params-to_sql.ensures, c.whole-number.ensures, passed c.args.number c.requires) at (c.query_all.ensures.ok clean) in
-    if_shown _ _ (λ rows shown. finds_pieces old new c.args.number rows.items shown) c.query_all.result ok
+    if_shown _ _ (λ rows shown. finds_in_pieces old new c.args.number rows.items shown) c.query_all.result ok
