@@ -1,5 +1,5 @@
 -- What the queries of the outbox and of the evidence answer.
-use Rattle.std.proofs.Common.{◌≡◌, ℕ, ◌==◌, List, [], ◌∷◌, map, slice_get, Option, option_map, Some, None, IfSome, Bool, true, false, ◌&&◌, cond, refl, ap, subst, ◌∙◌, arith}
+use Rattle.std.proofs.Common.{◌≡◌, ℕ, ◌==◌, List, [], ◌∷◌, map, slice_get, Option, option_map, Some, None, IfSome, Bool, true, false, ◌&&◌, cond, refl, ap, ap₂, subst, ◌∙◌, arith}
 use Rattle.std.specs.List.{AllByRecursion, IsDistinct, filter, filter_map, find, cons_option}
 use Rattle.std.proofs.lemmas.Bool.Decides.{nat_tests}
 use Rattle.sqlite.specs.declared.types.Value.TheVariants.{Blob}
@@ -11,8 +11,9 @@ use Rattle.as2_exchange.specs.State.{State}
 use Rattle.as2_exchange.specs.declared.outbox.Evidence.{Evidence}
 use Rattle.as2_exchange.specs.declared.outbox.OutEntry.{OutEntry}
 use Rattle.as2_rows.specs.Rows.{out_row, out_shown, evidence_row, evidence_shown}
-use Rattle.as2_rows.specs.Summaries.{evidence_of}
+use Rattle.as2_rows.specs.Summaries.{evidence_of, out_entry, out_summary}
 use Rattle.as2_rows.specs.declared.evidence.EvidenceRow.{EvidenceRow}
+use Rattle.as2_rows.specs.declared.outbox.OutRow.{OutRow}
 use Rattle.as2_store.specs.Tables.{outbox_tree, evidence_tree}
 use Rattle.as2_store.specs.Statements.{out_by_id_text, evidence_by_number_text}
 use Rattle.as2_store.specs.Stands.{Rests, evidence_rows}
@@ -116,3 +117,8 @@ no_evidence n (Some e) rows all none = absurd (let f = ap (λ l. slice_get l 0) 
 pub some_evidence : (n : ℕ) (o : Option Evidence) (rows : List Row) (row : Row) → rows ≡ shown_evidence n o → slice_get rows 0 ≡ Some row → (e : Evidence) × (o ≡ Some e) × (row ≡ evidence_shown n e)
 some_evidence n None rows row all got = absurd (let f = ap (λ l. slice_get l 0) all in cc)
 some_evidence n (Some e) rows row all got = (e, refl, (let f = ap (λ l. slice_get l 0) all in cc))
+
+-- ---- the document that is put together
+
+pub document_is : (r : OutRow) (content : List ℕ) (e : Option Evidence) (d : OutEntry) → r ≡ out_summary d → content ≡ d.content → e ≡ d.evidence → out_entry r content e ≡ d
+document_is r content e d row whole settled = ap₂ (λ x y. out_entry x y e) row whole ∙ ap (out_entry (out_summary d) d.content) settled

@@ -1,7 +1,8 @@
-use Rattle.std.proofs.Common.{rules, ◌≡◌, ◌∙◌, sym, ap, ap₂, Some, None, slice_get}
+use Rattle.std.proofs.Common.{rules, ◌≡◌, ◌∙◌, sym, ap, Some, None, slice_get}
 use Rattle.as2_rows.specs.Rows.{out_shown}
-use Rattle.as2_rows.specs.Summaries.{out_entry, out_summary}
+use Rattle.as2_rows.specs.Summaries.{out_summary}
 use Rattle.as2_store.proofs.Showing.{none_first, some_first}
+use Rattle.as2_store.proofs.Settling.{document_is}
 use Rattle.as2_store.proofs.documents.first_document.Goals as goal
 
 pub returns-in_default-clause-found : goal.returns-in_default-clause-found
@@ -18,4 +19,5 @@ returns-clause-found g c clean s r p all =
     let content = c.in_ok-content.ensures.content was s r p it.0 it.1 (ap (λ x. x.number) summary) in
     let then = c.content_of.ensures.same was s r in
     let evidence = c.in_ok-evidence.ensures.evidence clean s then p it.0 it.1 (ap (λ x. x.number) summary) in
-    ap Some (c.with_content.ensures ∙ ap₂ (λ x y. out_entry x y c.in_ok-evidence.evidence) summary content ∙ ap (out_entry (out_summary it.0) it.0.content) evidence) ∙ sym it.1
+    let whole = document_is c.in-Ok.row c.in_ok-content.content c.in_ok-evidence.evidence it.0 summary content evidence in
+    ap Some (c.with_content.ensures ∙ whole) ∙ sym it.1
