@@ -3,14 +3,12 @@ ghost use Rattle.std.specs.Prelude.{◌≡◌, ◌<◌, ◌^◌, ◌++◌, IfOk,
 ghost use Rattle.as2_names.specs.Identifiers.{IsIdentifier};
 ghost use Rattle.as2_names.specs.Names.{IsName, spelling};
 ghost use Rattle.as2_mic.specs.Mic.{IsMicText};
-ghost use Rattle.as2_text.specs.ReceiptRequests.{request_of};
 ghost use Rattle.as2_mdn.specs.Laws.{HasMicText, IsItsReport, IsOut};
-ghost use Rattle.as2_mdn.specs.Outcomes.{report_mic};
 ghost use Rattle.as2_mdn.specs.Reports.{as2_fields_text, boundary_text, content_type_text, explanation_text, head_fields_of, line, mic_line, mic_text, notification_text, report_id_text, report_text};
 
 use crate::outcome::Outcome;
-use as2_mic::{Alg, MicText, mic_of};
-use as2_text::{AsName, Domain, Memory, MessageId, ReceiptAsk};
+use as2_mic::{Alg, MicText};
+use as2_text::{AsName, Domain, Memory, MessageId};
 use itoa::Buffer;
 use std::alloc::{AllocError, Global};
 
@@ -21,24 +19,6 @@ pub struct ReportMic {
     pub digest: Alg,
     /// The base64 text of the digest's value (RFC 4130, section 7.3.1).
     pub text: MicText,
-}
-
-/// The MIC of a content that has that outcome: under the first known digest of those that are asked for, or else under
-/// SHA-1. Only a processed document has one.
-pub fn report_mic(outcome: Outcome, ask: &ReceiptAsk<'_>, content: &[u8]) -> Option<ReportMic>
-    ensures { result ≡ report_mic outcome (request_of ask.now) content.now }
-{
-    if outcome != Outcome::Processed {
-        return None;
-    }
-    let digest = match Alg::first_of(ask.digests) {
-        Some(digest) => digest,
-        None => Alg::Sha1,
-    };
-    Some(ReportMic {
-        digest,
-        text: mic_of(digest, content),
-    })
 }
 
 /// What a report tells of the document that it answers (RFC 8098, section 3.2).

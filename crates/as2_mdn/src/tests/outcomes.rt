@@ -1,5 +1,4 @@
-use crate::{Outcome, outcome_of, report_mic};
-use as2_mic::Alg;
+use crate::{Outcome, outcome_of};
 use as2_text::{How, Kind, ReceiptAsk};
 use std::test::Fail;
 
@@ -160,40 +159,6 @@ fn the_first_line_that_fits(rt: HostRuntime) -> Result<(), Fail> {
             outcome_of(kind, refused, &ask(digests, required, other)),
             want
         );
-    }
-    Ok(())
-}
-
-// The MICs of `abc` are outside vectors: the digests of RFC 1321 and FIPS 180, as base64.
-#[test]
-fn mics_of_processed_documents(rt: HostRuntime) -> Result<(), Fail> {
-    const SHA1: (Alg, &[u8]) = (Alg::Sha1, b"qZk+NkcGgWq6PiVxeFDCbJzQ2J0=");
-    const MD5: (Alg, &[u8]) = (Alg::Md5, b"kAFQmDzST7DWlj99KOF/cg==");
-    const MICS: [(&[u8], (Alg, &[u8])); 6] = [
-        (b"", SHA1),
-        (b"sha1", SHA1),
-        (b"md5", MD5),
-        (b"sha-999, md5, sha1", MD5),
-        (b"SHA-1, md5", SHA1),
-        (b"sha-999", SHA1),
-    ];
-    for (digests, want) in MICS {
-        match report_mic(Outcome::Processed, &ask(digests, false, false), b"abc") {
-            Some(mic) => {
-                assert!(rt; mic.digest == want.0);
-                assert!(rt; mic.text.bytes() == want.1);
-            }
-            None => assert!(rt; false),
-        }
-    }
-    for outcome in [
-        Outcome::DecryptionFailed,
-        Outcome::DecompressionFailed,
-        Outcome::AuthenticationFailed,
-        Outcome::UnsupportedFormat,
-        Outcome::UnsupportedMicAlgorithms,
-    ] {
-        assert!(rt; report_mic(outcome, &ask(b"sha1", false, false), b"abc").is_none());
     }
     Ok(())
 }
