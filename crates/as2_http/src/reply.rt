@@ -1,12 +1,11 @@
 //! The texts of replies (RFC 9112, section 4).
 ghost use Rattle.std.specs.Prelude.{◌≡◌, ◌++◌, List, ℕ, [], if◌then◌else◌, length, IfOk, OnOk};
-ghost use Rattle.as2_mdn.specs.Reports.{line};
 ghost use Rattle.as2_http.specs.Answers.{Line, body_of};
 ghost use Rattle.as2_http.specs.Replies.{IsDateOf, IsReply, content, content_fields, line_fields, phrase, refusal, reply, reply_start, status_line};
 
 use crate::answer::{HttpAnswer, HttpBody};
 use crate::framing::Refusal;
-use as2_mdn::write_head_fields;
+use as2_mdn::{add_line, write_head_fields};
 use as2_text::{Memory, Moment};
 use http::StatusCode;
 use httpdate::HttpDate;
@@ -48,16 +47,6 @@ fn add_if(text: &mut Vec<u8>, condition: bool, bytes: &[u8]) -> Result<(), Alloc
     if condition {
         text.extend_from_slice(bytes)?;
     }
-    Ok(())
-}
-
-/// Appends the start, the value and CRLF.
-fn add_line(text: &mut Vec<u8>, start: &[u8], value: &[u8]) -> Result<(), AllocError>
-    ensures { OnOk result (text.new.items ≡ text.old.items ++ line start.now value.now) }
-{
-    text.extend_from_slice(start)?;
-    text.extend_from_slice(value)?;
-    text.extend_from_slice(b"\r\n")?;
     Ok(())
 }
 

@@ -16,7 +16,7 @@ pub use disposition::{Disposition, DispositionFault};
 pub use laws::{own_receipt, success_confirms};
 pub use outcome::{Outcome, outcome_of};
 pub use receipt::{MicPart, Receipt};
-pub use report::{ReportMic, ReportOut, write_head_fields, write_report};
+pub use report::{ReportMic, ReportOut, add_line, write_head_fields, write_report};
 pub use report_reader::{ReportFault, read_report};
 pub use verdicts::{verdict, verdict_pieces};
 

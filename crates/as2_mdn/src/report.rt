@@ -40,8 +40,8 @@ pub struct ReportOut {
     pub mic: Option<ReportMic>,
 }
 
-/// Appends a line: its start, its value and CRLF.
-fn add_line(text: &mut Vec<u8>, start: &[u8], value: &[u8]) -> Result<(), AllocError>
+/// Appends a line: its start, its value and CRLF. Where memory runs out, a part of it may be appended.
+pub fn add_line(text: &mut Vec<u8>, start: &[u8], value: &[u8]) -> Result<(), AllocError>
     ensures { OnOk result (text.new.items ≡ text.old.items ++ line start.now value.now) }
 {
     text.extend_from_slice(start)?;
