@@ -2,7 +2,7 @@ ghost use Rattle.std.specs.Prelude.{◌≡◌, ℕ, List, Ok, IfOk, option_map};
 ghost use Rattle.std.specs.Str.{str_eq_ignore_ascii_case};
 ghost use Rattle.as2_names.specs.Ascii.{slash};
 ghost use Rattle.as2_names.specs.Cuts.{cut_at};
-ghost use Rattle.as2_mdn.specs.Dispositions.{IsDisposition, reading, type_and_modifier, given_modifier, has_modifier, has_error, begins_with, is_processed, is_action_mode, is_sending_mode, is_word};
+ghost use Rattle.as2_mdn.specs.Dispositions.{IsDisposition, reading, type_and_modifier, given_modifier, has_modifier, has_error, begins_with, is_processed, is_action_mode, is_sending_mode};
 
 use as2_names::{cut_at, without_blanks_and_line_ends};
 use std::marker::Model;
@@ -34,18 +34,11 @@ impl<'a> Model for Disposition<'a> {
     ghost view = { λ d. (d.disposition_type.now, d.modifier.now) };
 }
 
-/// Whether the text is the word, without regard to case.
-fn is_word(text: &[u8], word: &[u8]) -> bool
-    ensures { result ≡ is_word text.now word.now }
-{
-    text.eq_ignore_ascii_case(word)
-}
-
 /// Whether the text begins with the word, without regard to case.
 fn begins_with(text: &[u8], word: &[u8]) -> bool
     ensures { result ≡ begins_with text.now word.now }
 {
-    word.len() <= text.len() && is_word(&text[..word.len()], word)
+    word.len() <= text.len() && text[..word.len()].eq_ignore_ascii_case(word)
 }
 
 /// Whether the text is an action mode.
@@ -53,7 +46,7 @@ fn is_action_mode(text: &[u8]) -> bool
     ensures { result ≡ is_action_mode text.now }
 {
     let mode = without_blanks_and_line_ends(text);
-    is_word(mode, b"manual-action") || is_word(mode, b"automatic-action")
+    mode.eq_ignore_ascii_case(b"manual-action") || mode.eq_ignore_ascii_case(b"automatic-action")
 }
 
 /// Whether the text is a sending mode.
@@ -61,7 +54,8 @@ fn is_sending_mode(text: &[u8]) -> bool
     ensures { result ≡ is_sending_mode text.now }
 {
     let mode = without_blanks_and_line_ends(text);
-    is_word(mode, b"MDN-sent-manually") || is_word(mode, b"MDN-sent-automatically")
+    mode.eq_ignore_ascii_case(b"MDN-sent-manually")
+        || mode.eq_ignore_ascii_case(b"MDN-sent-automatically")
 }
 
 /// The type and the modifier of the text behind the `;`.
@@ -119,7 +113,7 @@ impl<'a> Disposition<'a> {
     pub fn is_processed(&self) -> bool
         ensures { result ≡ is_processed self.now }
     {
-        is_word(self.disposition_type, b"processed")
+        self.disposition_type.eq_ignore_ascii_case(b"processed")
     }
 
     /// The modifier: all that stands behind the type's `/`, without the blanks and line ends at its ends; none where

@@ -1,5 +1,4 @@
 ghost use Rattle.std.specs.Prelude.{◌≡◌};
-ghost use Rattle.std.specs.Str.{str_eq_ignore_ascii_case};
 ghost use Rattle.as2_mic.specs.Algs.{alg_named, alg_name, first_of};
 
 use as2_names::{cut_at, without_blanks};
@@ -16,21 +15,14 @@ pub enum Alg {
     Sha1,
 }
 
-/// Whether the text is the word, without regard to case.
-fn is_word(text: &[u8], word: &[u8]) -> bool
-    ensures { result ≡ str_eq_ignore_ascii_case text.now word.now }
-{
-    text.eq_ignore_ascii_case(word)
-}
-
 impl Alg {
     /// The digest of that name, without regard to case.
     pub fn named(name: &[u8]) -> Option<Alg>
         ensures { result ≡ alg_named name.now }
     {
-        if is_word(name, b"sha1") || is_word(name, b"sha-1") {
+        if name.eq_ignore_ascii_case(b"sha1") || name.eq_ignore_ascii_case(b"sha-1") {
             Some(Alg::Sha1)
-        } else if is_word(name, b"md5") {
+        } else if name.eq_ignore_ascii_case(b"md5") {
             Some(Alg::Md5)
         } else {
             None
