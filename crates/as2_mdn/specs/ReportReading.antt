@@ -38,8 +38,8 @@ abbrev pub is_notification : Media → Bool
 is_notification media = media_is_type (codes "message") (codes "disposition-notification") media
 
 -- the encoding leaves the content as it is (RFC 2045, section 6.2)
-abbrev pub is_identity : List ℕ → Bool
-is_identity encoding =
+abbrev pub is_plain_encoding : List ℕ → Bool
+is_plain_encoding encoding =
     str_eq_ignore_ascii_case encoding (codes "7bit")
     || str_eq_ignore_ascii_case encoding (codes "8bit")
     || str_eq_ignore_ascii_case encoding (codes "binary")
@@ -54,7 +54,7 @@ pub record IsTyped (texts : List (List ℕ)) : Type 0 where
 
 -- nothing says how the content is encoded, or one value that leaves it as it is
 abbrev pub IsUnencoded : List (List ℕ) → Type 0
-IsUnencoded texts = (texts ≡ []) ⊎ ((encoding : List ℕ) × (texts ≡ encoding ∷ []) × IsTrue (is_identity encoding))
+IsUnencoded texts = (texts ≡ []) ⊎ ((encoding : List ℕ) × (texts ≡ encoding ∷ []) × IsTrue (is_plain_encoding encoding))
 
 -- the head of a notification
 pub record IsNotificationHead (head : List ℕ) : Type 0 where
@@ -191,7 +191,7 @@ is_type_of_notification other = false
 -- no value is given, or one that leaves the content as it is
 abbrev pub leaves_content : Once → Bool
 leaves_content Absent = true
-leaves_content (One encoding) = is_identity encoding
+leaves_content (One encoding) = is_plain_encoding encoding
 leaves_content Twice = false
 
 -- the receipt that a part tells

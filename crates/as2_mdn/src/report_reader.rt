@@ -3,7 +3,7 @@ ghost use Rattle.std.specs.Prelude.{◌≡◌, IfOk, Ok};
 ghost use Rattle.as2_media.specs.MediaTypes.{reading as type_reading};
 ghost use Rattle.as2_parts.specs.Parts.{part_text};
 ghost use Rattle.as2_mdn.specs.Receipts.{ReceiptRead, mic_of};
-ghost use Rattle.as2_mdn.specs.ReportReading.{IsReport, body_reading, content_reading, disposed, identified, is_identity, is_media_of_notification, is_type_of_notification, leaves_content, mic_once, once_in, once_of, part_reading, reading};
+ghost use Rattle.as2_mdn.specs.ReportReading.{IsReport, body_reading, content_reading, disposed, identified, is_plain_encoding, is_media_of_notification, is_type_of_notification, leaves_content, mic_once, once_in, once_of, part_reading, reading};
 
 use crate::{Disposition, MicPart, Receipt};
 use as2_mic::MicField;
@@ -51,9 +51,9 @@ fn once_in<'a>(text: &'a [u8], name: &[u8]) -> Found<'a>
     }
 }
 
-/// Whether the encoding leaves a content as it is (RFC 2045, section 6.2).
-fn is_identity(encoding: &[u8]) -> bool
-    ensures { result ≡ is_identity encoding.now }
+/// Whether the transfer encoding leaves a content as it is (RFC 2045, section 6.2).
+pub fn is_plain_encoding(encoding: &[u8]) -> bool
+    ensures { result ≡ is_plain_encoding encoding.now }
 {
     encoding.eq_ignore_ascii_case(b"7bit")
         || encoding.eq_ignore_ascii_case(b"8bit")
@@ -86,7 +86,7 @@ fn leaves_content(encoding: Found<'_>) -> bool
 {
     match encoding {
         Found::Absent => true,
-        Found::One(encoding) => is_identity(encoding),
+        Found::One(encoding) => is_plain_encoding(encoding),
         Found::Twice => false,
     }
 }

@@ -5,9 +5,10 @@ use Rattle.as2_names.specs.Heads.{values}
 use Rattle.as2_names.specs.Identifiers as identifiers
 use Rattle.as2_text.specs.ReceiptRequests as requests
 use Rattle.as2_text.specs.ReceiptRequests.{Request}
+use Rattle.as2_mdn.specs.ReportReading.{is_plain_encoding}
 use Rattle.as2_exchange.specs.declared.answer.Line.{Line}
 use Rattle.as2_exchange.specs.Agreement.{Text}
-use Rattle.as2_exchange.specs.Readings.{Head, are_refused, is_plain_coding, is_plain_encoding}
+use Rattle.as2_exchange.specs.Readings.{Head, are_refused, is_plain_coding}
 use Rattle.as2_exchange.specs.declared.inbox.Posted.{Posted}
 use Rattle.as2_exchange.specs.Step.{Reading, Refuses, IsDocument}
 use Rattle.as2_posts.specs.Openings.{status_of}

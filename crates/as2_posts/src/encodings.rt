@@ -1,18 +1,12 @@
 //! Encodings that leave a content as it is.
 ghost use Rattle.std.specs.Prelude.{◌≡◌, codes};
 ghost use Rattle.as2_names.specs.Heads.{values};
-ghost use Rattle.as2_exchange.specs.Readings.{are_refused, is_plain_coding, is_plain_encoding};
+ghost use Rattle.as2_exchange.specs.Readings.{are_refused, is_plain_coding};
+ghost use Rattle.as2_mdn.specs.ReportReading.{is_plain_encoding};
 ghost use Rattle.as2_posts.specs.Documents.{is_encoded};
 
+use as2_mdn::is_plain_encoding;
 use as2_names::{Head, Once};
-
-/// A transfer encoding that leaves the content as it is (RFC 2045, section 6.2).
-fn is_plain_encoding(text: &[u8]) -> bool
-    ensures { result ≡ is_plain_encoding text.now }
-{
-    text.eq_ignore_ascii_case(b"7bit")
-        || (text.eq_ignore_ascii_case(b"8bit") || text.eq_ignore_ascii_case(b"binary"))
-}
 
 /// `Content-Transfer-Encoding` stands there twice, or is none that leaves the content as it is.
 fn transfer_refused(head: &Head) -> bool
