@@ -1,9 +1,8 @@
 // The keys of an organization's and of a partner's entry.
 ghost use Rattle.std.specs.Prelude.{◌≡◌, IfOk};
-ghost use Rattle.std.specs.List.{list_all, list_any};
+ghost use Rattle.std.specs.List.{list_any};
 ghost use Rattle.std.specs.Str.{bytes_eq};
 ghost use Rattle.toml.specs.View.{table_view};
-ghost use Rattle.as2_names.specs.Ascii.{is_printable};
 ghost use Rattle.as2_agreement.specs.Values.{IsAddress, IsContentType, is_address, is_content_type, is_document_type};
 ghost use Rattle.as2_media.specs.MediaTypes.{reading};
 ghost use Rattle.as2_agreement.specs.Agreements.{names};
@@ -15,7 +14,7 @@ use crate::partner::{Asked, Organization, Partner};
 use crate::values::text_at;
 use as2_media::{Kind, MediaType};
 use as2_mic::Alg;
-use as2_names::AsName;
+use as2_names::{AsName, all_printable};
 use as2_text::Url;
 use toml::Table;
 
@@ -127,12 +126,6 @@ pub(crate) fn digest_at(entry: &Table) -> Result<Alg, AgreementFault>
         Some(alg) => Ok(alg),
         None => Err(AgreementFault::WrongKind(Key::Digest)),
     }
-}
-
-fn all_printable(text: &[u8]) -> bool
-    ensures { result ≡ list_all is_printable text.now }
-{
-    text.iter().all(|b| matches!(*b, b' '..=b'~'))
 }
 
 /// Whether the text is the media type of a document.

@@ -14,6 +14,7 @@ mod number;
 mod options;
 mod trim;
 
+pub use ascii::all_printable;
 pub use blanks::{is_blank, without_blanks};
 pub use cut::cut_at;
 pub use domain::{Domain, is_domain};
