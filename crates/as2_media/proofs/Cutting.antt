@@ -1,11 +1,12 @@
 -- Texts that are cut at a byte.
-use Rattle.std.proofs.Common.{◌≡◌, eq-eqb, ℕ, Bool, true, false, List, [], ◌∷◌, ◌++◌, length, Some, None, refl, sym, ap, ◌∙◌, inl, inr}
+use Rattle.std.proofs.Common.{◌≡◌, ℕ, Bool, true, false, List, [], ◌∷◌, ◌++◌, length, Some, None, refl, sym, ap, ◌∙◌, arith, inl, inr}
 use Rattle.std.specs.Prelude.{◌&&◌, ◌==◌, not}
 use Rattle.std.specs.List.{list_all}
 use Rattle.std.proofs.lemmas.Bool.{cases_Bool, and_parts, and_from, eqb-true}
+use Rattle.as2_names.specs.Cuts.{Lacks, cut_at}
 use Rattle.as2_names.specs.Trim.{falls_off, all_fall_off}
+use Rattle.as2_names.proofs.Cuts.{lacks_front, cut_some, cut_none}
 use Rattle.as2_media.specs.Bytes.{is_token_byte, is_token}
-use Rattle.as2_media.specs.Cuts.{before, behind}
 use Rattle.as2_media.specs.Parameters.{IsPadded}
 use Rattle.as2_media.proofs.Padding.{is_margin, stays}
 
@@ -18,53 +19,17 @@ pub not_false : (x : Bool) → not x ≡ true → x ≡ false
 not_false true h = absurd cc
 not_false false h = refl
 
-pub before_free : (mark : ℕ) (text rest : List ℕ) → is_free mark text ≡ true → before mark (text ++ mark ∷ rest) ≡ text
-before_free mark [] rest h = rw (eq-eqb mark mark refl) refl
-before_free mark (b ∷ text) rest h =
-    let p = and_parts (not (b == mark)) (is_free mark text) h in
-    rw (not_false (b == mark) p.0) (ap (λ (x : List ℕ). b ∷ x) (before_free mark text rest p.1))
+free_lacks : (mark : ℕ) (text : List ℕ) → is_free mark text ≡ true → Lacks mark text
+free_lacks mark [] h = λ k d lt. absurd (omega (arith, lt))
+free_lacks mark (b ∷ rest) h =
+    let p = and_parts (not (b == mark)) (is_free mark rest) h in
+    lacks_front mark b rest (not_false (b == mark) p.0) (free_lacks mark rest p.1)
 
-pub behind_free : (mark : ℕ) (text rest : List ℕ) → is_free mark text ≡ true → behind mark (text ++ mark ∷ rest) ≡ Some rest
-behind_free mark [] rest h = rw (eq-eqb mark mark refl) refl
-behind_free mark (b ∷ text) rest h =
-    let p = and_parts (not (b == mark)) (is_free mark text) h in
-    rw (not_false (b == mark) p.0) (behind_free mark text rest p.1)
+pub cut_free : (mark : ℕ) (text rest : List ℕ) → is_free mark text ≡ true → cut_at mark (text ++ mark ∷ rest) ≡ Some (text, rest)
+cut_free mark text rest h = cut_some mark (text ++ mark ∷ rest) text rest (record { whole = refl; first = free_lacks mark text h })
 
-pub before_all : (mark : ℕ) (text : List ℕ) → is_free mark text ≡ true → before mark text ≡ text
-before_all mark [] h = refl
-before_all mark (b ∷ text) h =
-    let p = and_parts (not (b == mark)) (is_free mark text) h in
-    rw (not_false (b == mark) p.0) (ap (λ (x : List ℕ). b ∷ x) (before_all mark text p.1))
-
-pub behind_none : (mark : ℕ) (text : List ℕ) → is_free mark text ≡ true → behind mark text ≡ None
-behind_none mark [] h = refl
-behind_none mark (b ∷ text) h =
-    let p = and_parts (not (b == mark)) (is_free mark text) h in
-    rw (not_false (b == mark) p.0) (behind_none mark text p.1)
-
--- what is cut at a byte is what stands before it, the byte, and what stands behind it
-pub cut_whole : (mark : ℕ) (text rest : List ℕ) → behind mark text ≡ Some rest → text ≡ before mark text ++ mark ∷ rest
-cut_whole mark [] rest h = absurd cc
-cut_whole mark (b ∷ text) rest h =
-    elim (cases_Bool (b == mark)) [
-      | inl same ↦
-          let e : Some text ≡ Some rest = rw same at h in
-          let r : text ≡ rest = cc in
-          rw (same, eqb-true b mark same, r) refl
-      | inr other ↦
-          let e : behind mark text ≡ Some rest = rw other at h in
-          rw other (ap (λ (x : List ℕ). b ∷ x) (cut_whole mark text rest e))
-    ]
-
-pub before_none : (mark : ℕ) (text : List ℕ) → behind mark text ≡ None → before mark text ≡ text
-before_none mark [] h = refl
-before_none mark (b ∷ text) h =
-    elim (cases_Bool (b == mark)) [
-      | inl same ↦ absurd (let e : Some text ≡ None = rw same at h in cc)
-      | inr other ↦
-          let e : behind mark text ≡ None = rw other at h in
-          rw other (ap (λ (x : List ℕ). b ∷ x) (before_none mark text e))
-    ]
+pub cut_nowhere : (mark : ℕ) (text : List ℕ) → is_free mark text ≡ true → cut_at mark text ≡ None
+cut_nowhere mark text h = cut_none mark text (free_lacks mark text h)
 
 -- ---- texts without the mark
 

@@ -5,16 +5,16 @@ use Rattle.std.specs.List.{list_all}
 use Rattle.std.proofs.lemmas.Bool.{and_parts, ne_eqb}
 use Rattle.std.proofs.lemmas.List.{nil_from_length}
 use Rattle.as2_names.specs.Ascii.{quote, equals_sign, slash, semicolon}
+use Rattle.as2_names.specs.Cuts.{cut_at}
 use Rattle.as2_names.specs.Trim.{all_fall_off, trimmed}
 use Rattle.as2_media.specs.Bytes.{is_bare_byte, is_token}
-use Rattle.as2_media.specs.Cuts.{before, behind, segments_of}
 use Rattle.as2_media.specs.Values.{IsBare, SpellsValue, value_of}
-use Rattle.as2_media.specs.Parameters.{IsPadded, SpellsParameter, Spell, parameter, parameters, given_value}
-use Rattle.as2_media.specs.MediaTypes.{Media, IsMediaType, behind_semicolons, reading, essence}
+use Rattle.as2_media.specs.Parameters.{IsPadded, SpellsParameter, Spell, parameter, parameter_of, parameters}
+use Rattle.as2_media.specs.MediaTypes.{Media, IsMediaType, behind_semicolons, reading, reading_of, essence, media_of}
 use Rattle.as2_media.proofs.Padding.{padded_trimmed, blank_trimmed}
 use Rattle.as2_media.proofs.Fronts.{nothing_kept}
 use Rattle.as2_media.proofs.Solid.{token_solid, tokens_solid, value_solid}
-use Rattle.as2_media.proofs.Cutting.{is_free, not_false, other_byte, before_free, behind_free, before_all, behind_none, token_free, padded_free, free_append}
+use Rattle.as2_media.proofs.Cutting.{is_free, not_false, other_byte, cut_free, cut_nowhere, token_free, padded_free, free_append}
 use Rattle.as2_media.proofs.Segments.{segments_joined}
 use Rattle.as2_media.proofs.Quotes.{between_quoted, between_none, quoted_again}
 
@@ -36,11 +36,11 @@ value_again text value s =
 parameter_again : (text : List ℕ) (p : List ℕ × List ℕ) → SpellsParameter text p → parameter text ≡ Some p
 parameter_again text p s =
     let free = padded_free equals_sign s.left p.0 refl s.named (token_free equals_sign p.0 refl s.token) in
-    let name : trimmed (before equals_sign text) ≡ p.0 = ap (λ (x : List ℕ). trimmed (before equals_sign x)) s.whole ∙ ap trimmed (before_free equals_sign s.left s.right free) ∙ padded_trimmed s.left p.0 s.named (token_solid p.0 s.token) in
-    let given : behind equals_sign text ≡ Some s.right = ap (behind equals_sign) s.whole ∙ behind_free equals_sign s.left s.right free in
+    let cut : cut_at equals_sign text ≡ Some (s.left, s.right) = ap (cut_at equals_sign) s.whole ∙ cut_free equals_sign s.left s.right free in
+    let name : trimmed s.left ≡ p.0 = padded_trimmed s.left p.0 s.named (token_solid p.0 s.token) in
     let spelled : trimmed s.right ≡ s.spelled = padded_trimmed s.right s.spelled s.given (value_solid s.spelled p.1 s.spells) in
-    let value : given_value (behind equals_sign text) ≡ Some p.1 = ap given_value given ∙ ap value_of spelled ∙ value_again s.spelled p.1 s.spells in
-    rw (name, s.token, value) refl
+    let value : value_of (trimmed s.right) ≡ Some p.1 = ap value_of spelled ∙ value_again s.spelled p.1 s.spells in
+    ap parameter_of cut ∙ rw (name, s.token, value) refl
 
 -- a text with `=` is not of blanks alone
 equals_stays : (left right : List ℕ) → all_fall_off (left ++ equals_sign ∷ right) ≡ true → equals_sign ≡ 0
@@ -74,7 +74,7 @@ essence_again : (text type_name subtype : List ℕ) → IsPadded text (type_name
 essence_again text type_name subtype p t s =
     let inner : trimmed text ≡ type_name ++ slash ∷ subtype = padded_trimmed text (type_name ++ slash ∷ subtype) p (tokens_solid type_name slash subtype t (token_solid subtype s)) in
     let free = token_free slash type_name refl t in
-    rw (inner, before_free slash type_name subtype free, behind_free slash type_name subtype free, t, s) refl
+    rw (inner, cut_free slash type_name subtype free, t, s) refl
 
 -- the text before the first `;`, and the segments behind it
 essence_free : (text type_name subtype : List ℕ) → IsPadded text (type_name ++ slash ∷ subtype) → is_token type_name ≡ true → is_token subtype ≡ true → is_free semicolon text ≡ true
@@ -82,17 +82,15 @@ essence_free text type_name subtype p t s =
     padded_free semicolon text (type_name ++ slash ∷ subtype) refl p
     (free_append semicolon type_name (slash ∷ subtype) (token_free semicolon type_name refl t) (token_free semicolon subtype refl s))
 
-cut_before : (front : List ℕ) (texts : List (List ℕ)) → is_free semicolon front ≡ true → before semicolon (front ++ behind_semicolons texts) ≡ front
-cut_before front [] f = rw (append-nil front) (before_all semicolon front f)
-cut_before front (text ∷ texts) f = before_free semicolon front (text ++ behind_semicolons texts) f
-
-cut_behind : (front : List ℕ) (texts : List (List ℕ)) (ps : List (List ℕ × List ℕ)) → is_free semicolon front ≡ true → Spell texts ps → segments_of (behind semicolon (front ++ behind_semicolons texts)) ≡ texts
-cut_behind front [] ps f s = rw (append-nil front) (ap segments_of (behind_none semicolon front f))
-cut_behind front (text ∷ texts) ps f s = ap segments_of (behind_free semicolon front (text ++ behind_semicolons texts) f) ∙ segments_joined text texts ps s
+reading_joined : (front : List ℕ) (texts : List (List ℕ)) (ps : List (List ℕ × List ℕ)) → is_free semicolon front ≡ true → Spell texts ps → reading (front ++ behind_semicolons texts) ≡ media_of (essence front) (parameters 8 texts)
+reading_joined front [] ps f s = ap reading (append-nil front) ∙ ap (reading_of front) (cut_nowhere semicolon front f)
+reading_joined front (text ∷ texts) ps f s =
+    ap (reading_of (front ++ behind_semicolons (text ∷ texts))) (cut_free semicolon front (text ++ behind_semicolons texts) f)
+    ∙ ap (λ (x : List (List ℕ)). media_of (essence front) (parameters 8 x)) (segments_joined text texts ps s)
 
 pub again : (text : List ℕ) (media : Media) → IsMediaType text media → reading text ≡ Ok media
 again text media m =
     let free = essence_free m.essence media.type_name media.subtype m.is m.type_token m.subtype_token in
-    let front : essence (before semicolon text) ≡ Ok (media.type_name, media.subtype) = ap (λ (x : List ℕ). essence (before semicolon x)) m.whole ∙ ap essence (cut_before m.essence m.texts free) ∙ essence_again m.essence media.type_name media.subtype m.is m.type_token m.subtype_token in
-    let back : parameters 8 (segments_of (behind semicolon text)) ≡ Ok media.parameters = ap (λ (x : List ℕ). parameters 8 (segments_of (behind semicolon x))) m.whole ∙ ap (parameters 8) (cut_behind m.essence m.texts media.parameters free m.spell) ∙ parameters_again 8 m.texts media.parameters m.spell m.few in
-    rw (front, back) refl
+    let front : essence m.essence ≡ Ok (media.type_name, media.subtype) = essence_again m.essence media.type_name media.subtype m.is m.type_token m.subtype_token in
+    let back : parameters 8 m.texts ≡ Ok media.parameters = parameters_again 8 m.texts media.parameters m.spell m.few in
+    ap reading m.whole ∙ reading_joined m.essence m.texts media.parameters free m.spell ∙ rw (front, back) refl

@@ -5,16 +5,18 @@ use Rattle.std.specs.List.{list_all}
 use Rattle.std.proofs.lemmas.Bool.{cases_Bool, and_parts, eqb-true, eqb-false}
 use Rattle.std.proofs.lemmas.List.{nil_from_length}
 use Rattle.as2_names.specs.Ascii.{equals_sign, slash, semicolon}
+use Rattle.as2_names.specs.Cuts.{cut_at}
 use Rattle.as2_names.specs.Trim.{trimmed}
+use Rattle.as2_names.proofs.Cuts.{cut_found}
 use Rattle.as2_media.specs.declared.cuts.Place.TheVariants.{Outside}
 use Rattle.as2_media.specs.declared.fault.TypeFault.{TypeFault}
 use Rattle.as2_media.specs.Bytes.{is_bare_byte, is_token}
-use Rattle.as2_media.specs.Cuts.{before, behind, segments_of}
+use Rattle.as2_media.specs.Cuts.{segments}
 use Rattle.as2_media.specs.Values.{SpellsValue, is_quoted_text, between_quotes, value_among, value_of}
-use Rattle.as2_media.specs.Parameters.{IsPadded, SpellsParameter, Spell, parameter, parameters, with_name, given_value, and_then}
-use Rattle.as2_media.specs.MediaTypes.{Media, IsMediaType, behind_semicolons, reading, essence, tokens, media_of}
+use Rattle.as2_media.specs.Parameters.{IsPadded, SpellsParameter, Spell, parameter, parameter_of, parameters, with_name, and_then}
+use Rattle.as2_media.specs.MediaTypes.{Media, IsMediaType, behind_semicolons, reading, reading_of, essence, tokens, media_of}
 use Rattle.as2_media.proofs.Fronts.{trimmed_padded, trimmed_again, nothing_kept}
-use Rattle.as2_media.proofs.Cutting.{not_false, cut_whole, before_none}
+use Rattle.as2_media.proofs.Cutting.{not_false}
 use Rattle.as2_media.proofs.Segments.{joined_segments}
 use Rattle.as2_media.proofs.Quotes.{quotes_whole, quoted_found}
 
@@ -44,29 +46,25 @@ named_found name text (Some value) p v h =
     let e : (name, value) ≡ p = cc in
     (ap (λ (x : List ℕ × List ℕ). x.0) e, v ∙ ap (λ (x : List ℕ × List ℕ). Some x.1) e)
 
-given_found : (name : List ℕ) (right : Option (List ℕ)) (p : List ℕ × List ℕ) → with_name name (given_value right) ≡ Some p
-    → (text : List ℕ) × (right ≡ Some text) × (name ≡ p.0) × (value_of (trimmed text) ≡ Some p.1)
-given_found name None p h = absurd cc
-given_found name (Some text) p h =
-    let n = named_found name text (value_of (trimmed text)) p refl h in
-    (text, refl, n.0, n.1)
+parameter_of_found : (text : List ℕ) (cut : Option (List ℕ × List ℕ)) (p : List ℕ × List ℕ) → cut_at equals_sign text ≡ cut → parameter_of cut ≡ Some p → SpellsParameter text p
+parameter_of_found text None p e h = absurd cc
+parameter_of_found text (Some cut) p e h =
+    let g = given (is_token (trimmed cut.0)) (with_name (trimmed cut.0) (value_of (trimmed cut.1))) p h in
+    let n = named_found (trimmed cut.0) cut.1 (value_of (trimmed cut.1)) p refl g.1 in
+    let padded : IsPadded cut.0 (trimmed cut.0) = trimmed_padded cut.0 in
+    record {
+      left = cut.0;
+      right = cut.1;
+      spelled = trimmed cut.1;
+      whole = (cut_found equals_sign text cut e).whole;
+      token = rw (← n.0) g.0;
+      named = rw (← n.0) padded;
+      spells = value_found (trimmed cut.1) p.1 (trimmed_again cut.1) n.1;
+      given = trimmed_padded cut.1;
+    }
 
 parameter_found : (text : List ℕ) (p : List ℕ × List ℕ) → parameter text ≡ Some p → SpellsParameter text p
-parameter_found text p h =
-    let left = before equals_sign text in
-    let g = given (is_token (trimmed left)) (with_name (trimmed left) (given_value (behind equals_sign text))) p h in
-    let r = given_found (trimmed left) (behind equals_sign text) p g.1 in
-    let padded : IsPadded left (trimmed left) = trimmed_padded left in
-    record {
-      left = left;
-      right = r.0;
-      spelled = trimmed r.0;
-      whole = cut_whole equals_sign text r.0 r.1;
-      token = rw (← r.2) g.0;
-      named = rw (← r.2) padded;
-      spells = value_found (trimmed r.0) p.1 (trimmed_again r.0) r.3;
-      given = trimmed_padded r.0;
-    }
+parameter_found text p h = parameter_of_found text (cut_at equals_sign text) p refl h
 
 -- the parameters that are read, of which there are no more than there is room for
 record Reads (room : ℕ) (texts : List (List ℕ)) (ps : List (List ℕ × List ℕ)) : Type 0 where
@@ -107,15 +105,14 @@ parameters_found room (text ∷ texts) ps h =
 
 -- ---- the whole
 
-tokens_found : (type_name : List ℕ) (subtype : Option (List ℕ)) (e : List ℕ × List ℕ) → tokens type_name subtype ≡ Ok e
-    → (subtype ≡ Some e.1) × (type_name ≡ e.0) × (is_token e.0 ≡ true) × (is_token e.1 ≡ true)
-tokens_found type_name None e h = absurd cc
-tokens_found type_name (Some subtype) e h =
-    elim (cases_Bool (is_token type_name && is_token subtype)) [
+tokens_found : (cut : Option (List ℕ × List ℕ)) (e : List ℕ × List ℕ) → tokens cut ≡ Ok e → (cut ≡ Some e) × (is_token e.0 ≡ true) × (is_token e.1 ≡ true)
+tokens_found None e h = absurd cc
+tokens_found (Some cut) e h =
+    elim (cases_Bool (is_token cut.0 && is_token cut.1)) [
       | inl both ↦
-          let same : (type_name, subtype) ≡ e = let ok : Ok (type_name, subtype) ≡ Ok e = rw both at h in cc in
-          let p = and_parts (is_token type_name) (is_token subtype) both in
-          (ap (λ (x : List ℕ × List ℕ). Some x.1) same, ap (λ (x : List ℕ × List ℕ). x.0) same, rw (← same) p.0, rw (← same) p.1)
+          let same : cut ≡ e = let ok : Ok cut ≡ Ok e = rw both at h in cc in
+          let p = and_parts (is_token cut.0) (is_token cut.1) both in
+          (ap (λ (x : List ℕ × List ℕ). Some x) same, rw (← same) p.0, rw (← same) p.1)
       | inr other ↦ absurd (let bad : Err _ ≡ Ok e = rw other at h in cc)
     ]
 
@@ -128,28 +125,32 @@ media_found (Ok e) (Ok ps) media h =
     let same : record { type_name = e.0; subtype = e.1; parameters = ps } ≡ media = cc in
     (ap (λ (m : Media). Ok (m.type_name, m.subtype)) same, ap (λ (m : Media). Ok m.parameters) same)
 
-whole_of : (text : List ℕ) (rest : Option (List ℕ)) → behind semicolon text ≡ rest → text ≡ before semicolon text ++ behind_semicolons (segments_of rest)
-whole_of text None h = rw (before_none semicolon text h) (sym (append-nil text))
-whole_of text (Some rest) h = cut_whole semicolon text rest h ∙ ap (λ (x : List ℕ). before semicolon text ++ x) (sym (joined_segments Outside rest))
-
-found : (text : List ℕ) (media : Media) → reading text ≡ Ok media → IsMediaType text media
-found text media h =
-    let front = before semicolon text in
-    let m = media_found (essence front) (parameters 8 (segments_of (behind semicolon text))) media h in
-    let t = tokens_found (before slash (trimmed front)) (behind slash (trimmed front)) (media.type_name, media.subtype) m.0 in
-    let inner : trimmed front ≡ media.type_name ++ slash ∷ media.subtype = cut_whole slash (trimmed front) media.subtype t.0 ∙ ap (λ (x : List ℕ). x ++ slash ∷ media.subtype) t.1 in
+found_in : (text front : List ℕ) (texts : List (List ℕ)) (media : Media) → text ≡ front ++ behind_semicolons texts → media_of (essence front) (parameters 8 texts) ≡ Ok media → IsMediaType text media
+found_in text front texts media whole h =
+    let m = media_found (essence front) (parameters 8 texts) media h in
+    let t = tokens_found (cut_at slash (trimmed front)) (media.type_name, media.subtype) m.0 in
+    let inner : trimmed front ≡ media.type_name ++ slash ∷ media.subtype = (cut_found slash (trimmed front) (media.type_name, media.subtype) t.0).whole in
     let padded : IsPadded front (trimmed front) = trimmed_padded front in
-    let r = parameters_found 8 (segments_of (behind semicolon text)) media.parameters m.1 in
+    let r = parameters_found 8 texts media.parameters m.1 in
     record {
       essence = front;
-      texts = segments_of (behind semicolon text);
-      whole = whole_of text (behind semicolon text) refl;
+      texts = texts;
+      whole = whole;
       is = rw inner at padded;
-      type_token = t.2;
-      subtype_token = t.3;
+      type_token = t.1;
+      subtype_token = t.2;
       spell = r.spell;
       few = r.few;
     }
+
+found_of : (text : List ℕ) (cut : Option (List ℕ × List ℕ)) (media : Media) → cut_at semicolon text ≡ cut → reading_of text cut ≡ Ok media → IsMediaType text media
+found_of text None media e h = found_in text text [] media (sym (append-nil text)) h
+found_of text (Some cut) media e h =
+    found_in text cut.0 (segments Outside cut.1) media
+    ((cut_found semicolon text cut e).whole ∙ ap (λ (x : List ℕ). cut.0 ++ x) (sym (joined_segments Outside cut.1))) h
+
+found : (text : List ℕ) (media : Media) → reading text ≡ Ok media → IsMediaType text media
+found text media h = found_of text (cut_at semicolon text) media refl h
 
 pub found_by : (text : List ℕ) (r : Result Media TypeFault) → r ≡ reading text → IfOk r (IsMediaType text)
 found_by text (Ok media) e = found text media (sym e)

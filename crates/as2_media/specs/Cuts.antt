@@ -1,18 +1,8 @@
--- Texts that are cut at a byte, and at each `;` outside quotes.
+-- Texts that are cut at each `;` outside quotes.
 use Rattle.std.specs.Prelude.{ℕ, Bool, false, ◌==◌, List, [], ◌∷◌, ◌++◌, if◌then◌else◌, Option, Some, None}
 use Rattle.as2_names.specs.Ascii.{quote, semicolon, backslash}
 use Rattle.as2_media.specs.declared.cuts.Place.{Place}
 use Rattle.as2_media.specs.declared.cuts.Place.TheVariants.{Outside, Quoted, Escaped}
-
--- the text before its first such byte
-abbrev pub before : ℕ → List ℕ → List ℕ
-before mark [] = []
-before mark (b ∷ rest) = if b == mark then [] else b ∷ before mark rest
-
--- the text behind its first such byte, where there is one
-abbrev pub behind : ℕ → List ℕ → Option (List ℕ)
-behind mark [] = None
-behind mark (b ∷ rest) = if b == mark then Some rest else behind mark rest
 
 -- the place behind a byte
 abbrev pub next : Place → ℕ → Place

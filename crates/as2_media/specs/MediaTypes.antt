@@ -1,12 +1,14 @@
 -- Media types (RFC 2045, section 5.1): which text is which media type, and the first fault of a text that is none.
-use Rattle.std.specs.Prelude.{◌≡◌, ℕ, ◌≤◌, Bool, ◌&&◌, List, ◌∷◌, ◌++◌, length, if◌then◌else◌, IsTrue, Option, Some, None, Result, Ok, Err}
+use Rattle.std.specs.Prelude.{◌≡◌, ℕ, ◌≤◌, Bool, ◌&&◌, List, [], ◌∷◌, ◌++◌, length, if◌then◌else◌, IsTrue, Option, Some, None, Result, Ok, Err}
 use Rattle.std.specs.List.{flat_map}
 use Rattle.std.specs.Str.{str_eq_ignore_ascii_case}
 use Rattle.as2_names.specs.Ascii.{slash, semicolon}
+use Rattle.as2_names.specs.Cuts.{cut_at}
 use Rattle.as2_names.specs.Trim.{trimmed}
 use Rattle.as2_media.specs.Bytes.{is_token}
-use Rattle.as2_media.specs.Cuts.{before, behind, segments_of}
+use Rattle.as2_media.specs.Cuts.{segments}
 use Rattle.as2_media.specs.Parameters.{IsPadded, Spell, parameters}
+use Rattle.as2_media.specs.declared.cuts.Place.TheVariants.{Outside}
 use Rattle.as2_media.specs.declared.fault.TypeFault.{TypeFault}
 use Rattle.as2_media.specs.declared.fault.TypeFault.TheVariants as fault
 
@@ -42,20 +44,25 @@ media_is_type type_name subtype media = is_type type_name subtype (media.type_na
 
 -- ---- reading
 
--- the type and the subtype, where both are tokens
-abbrev pub tokens : List ℕ → Option (List ℕ) → Result (List ℕ × List ℕ) TypeFault
-tokens type_name None = Err fault.NoSlash
-tokens type_name (Some subtype) = if is_token type_name && is_token subtype then Ok (type_name, subtype) else Err fault.BadToken
+-- the type and the subtype before and behind the `/`, where both are tokens
+abbrev pub tokens : Option (List ℕ × List ℕ) → Result (List ℕ × List ℕ) TypeFault
+tokens None = Err fault.NoSlash
+tokens (Some cut) = if is_token cut.0 && is_token cut.1 then Ok cut else Err fault.BadToken
 
 -- the type and the subtype that the text before the first `;` gives
 abbrev pub essence : List ℕ → Result (List ℕ × List ℕ) TypeFault
-essence text = tokens (before slash (trimmed text)) (behind slash (trimmed text))
+essence text = tokens (cut_at slash (trimmed text))
 
 abbrev pub media_of : Result (List ℕ × List ℕ) TypeFault → Result (List (List ℕ × List ℕ)) TypeFault → Result Media TypeFault
 media_of (Err e) parameters = Err e
 media_of (Ok essence) (Err e) = Err e
 media_of (Ok essence) (Ok parameters) = Ok (record { type_name = essence.0; subtype = essence.1; parameters = parameters })
 
+-- the media type of a text that is cut at its first `;`, or has none
+abbrev pub reading_of : List ℕ → Option (List ℕ × List ℕ) → Result Media TypeFault
+reading_of text None = media_of (essence text) (Ok [])
+reading_of text (Some cut) = media_of (essence cut.0) (parameters 8 (segments Outside cut.1))
+
 -- the media type that a text is, or its first fault
 abbrev pub reading : List ℕ → Result Media TypeFault
-reading text = media_of (essence (before semicolon text)) (parameters 8 (segments_of (behind semicolon text)))
+reading text = reading_of text (cut_at semicolon text)

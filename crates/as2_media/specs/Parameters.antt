@@ -2,9 +2,9 @@
 use Rattle.std.specs.Prelude.{◌≡◌, ℕ, zero, suc, ◌-◌, ◌⊎◌, ◌==◌, List, [], ◌∷◌, ◌++◌, length, if◌then◌else◌, IsTrue, Option, Some, None, Result, Ok, Err}
 use Rattle.std.specs.Str.{str_eq_ignore_ascii_case}
 use Rattle.as2_names.specs.Ascii.{equals_sign}
+use Rattle.as2_names.specs.Cuts.{cut_at}
 use Rattle.as2_names.specs.Trim.{trimmed, all_fall_off}
 use Rattle.as2_media.specs.Bytes.{is_token}
-use Rattle.as2_media.specs.Cuts.{before, behind}
 use Rattle.as2_media.specs.Values.{SpellsValue, value_of}
 use Rattle.as2_media.specs.declared.fault.TypeFault.{TypeFault}
 use Rattle.as2_media.specs.declared.fault.TypeFault.TheVariants as fault
@@ -55,17 +55,15 @@ abbrev pub with_name : List ℕ → Option (List ℕ) → Option (List ℕ × Li
 with_name name None = None
 with_name name (Some value) = Some (name, value)
 
--- the value that the text behind `=` gives
-abbrev pub given_value : Option (List ℕ) → Option (List ℕ)
-given_value None = None
-given_value (Some text) = value_of (trimmed text)
+-- the parameter whose name and value stand before and behind the `=`
+abbrev pub parameter_of : Option (List ℕ × List ℕ) → Option (List ℕ × List ℕ)
+parameter_of None = None
+parameter_of (Some cut) =
+    if is_token (trimmed cut.0) then with_name (trimmed cut.0) (value_of (trimmed cut.1)) else None
 
 -- the parameter that a text spells
 abbrev pub parameter : List ℕ → Option (List ℕ × List ℕ)
-parameter text =
-    if is_token (trimmed (before equals_sign text))
-    then with_name (trimmed (before equals_sign text)) (given_value (behind equals_sign text))
-    else None
+parameter text = parameter_of (cut_at equals_sign text)
 
 -- these parameters stand before those
 abbrev pub with_front : List (List ℕ × List ℕ) → Result (List (List ℕ × List ℕ)) TypeFault → Result (List (List ℕ × List ℕ)) TypeFault

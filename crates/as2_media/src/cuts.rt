@@ -1,6 +1,6 @@
-// Texts that are cut in two: at the first byte of a value, and at the first `;` outside quotes.
-ghost use Rattle.std.specs.Prelude.{◌≡◌, ℕ, List, ◌∷◌, option_map};
-ghost use Rattle.as2_media.specs.Cuts.{before, behind, next, segments, segments_of};
+// Texts that are cut in two at the first `;` outside quotes.
+ghost use Rattle.std.specs.Prelude.{◌≡◌, ◌∷◌, option_map};
+ghost use Rattle.as2_media.specs.Cuts.{next, segments, segments_of};
 ghost use Rattle.as2_media.specs.declared.cuts.Place.TheVariants.{Outside};
 
 /// Where a byte of a text stands.
@@ -12,19 +12,6 @@ enum Place {
     Quoted,
     /// Between quotes, behind a backslash.
     Escaped,
-}
-
-/// The text before the first such byte, and the text behind it; all of the text where there is none.
-pub(crate) fn cut_at(text: &[u8], mark: u8) -> (&[u8], Option<&[u8]>)
-    ensures before { result.0.now ≡ before mark text.now }
-    ensures behind { option_map (λ t. t.now) result.1 ≡ behind mark text.now }
-{
-    for (i, b) in text.iter().enumerate() {
-        if *b == mark {
-            return (&text[..i], Some(&text[i + 1..]));
-        }
-    }
-    (text, None)
 }
 
 /// The place behind a byte.

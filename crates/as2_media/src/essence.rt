@@ -2,10 +2,9 @@
 ghost use Rattle.std.specs.Prelude.{◌≡◌};
 ghost use Rattle.as2_media.specs.MediaTypes.{essence, is_type};
 
-use crate::cuts::cut_at;
 use crate::fault::TypeFault;
 use crate::token::is_token;
-use as2_names::without_blanks_and_line_ends;
+use as2_names::{cut_at, without_blanks_and_line_ends};
 use std::marker::Model;
 
 /// A type and a subtype.
@@ -28,10 +27,9 @@ impl<'a> Essence<'a> {
     pub(crate) fn parse(text: &'a [u8]) -> Result<Essence<'a>, TypeFault>
         ensures { result ≡ essence text.now }
     {
-        let (type_name, subtype) = cut_at(without_blanks_and_line_ends(text), b'/');
-        match subtype {
+        match cut_at(without_blanks_and_line_ends(text), b'/') {
             None => Err(TypeFault::NoSlash),
-            Some(subtype) if is_token(type_name) && is_token(subtype) => {
+            Some((type_name, subtype)) if is_token(type_name) && is_token(subtype) => {
                 Ok(Essence { type_name, subtype })
             }
             Some(_) => Err(TypeFault::BadToken),

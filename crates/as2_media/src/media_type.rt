@@ -1,14 +1,16 @@
 // Media types.
 ghost use Rattle.std.specs.Prelude.{◌≡◌, ℕ, IfOk, Ok, Option, option_map};
-ghost use Rattle.as2_media.specs.MediaTypes.{Media, IsMediaType, reading, media_is_type};
+ghost use Rattle.as2_media.specs.MediaTypes.{Media, IsMediaType, reading, essence, media_of, media_is_type};
+ghost use Rattle.as2_media.specs.Parameters.{parameters};
+ghost use Rattle.as2_media.specs.Cuts.{segments_of};
 ghost use Rattle.as2_media.specs.Kinds.{kind_of, secured, says, boundary_of, is_boundary_byte, is_boundary};
 ghost use Rattle.std.specs.List.{list_all};
 
-use crate::cuts::cut_at;
 use crate::essence::Essence;
 use crate::fault::TypeFault;
 use crate::kind::Kind;
 use crate::parameters::Parameters;
+use as2_names::cut_at;
 use std::marker::Model;
 
 /// A media type: type, subtype and at most eight parameters (RFC 2045, section 5.1). Its parts are slices of the field
@@ -46,10 +48,10 @@ fn is_boundary(text: &[u8]) -> bool
     !text.is_empty() && text.len() <= 70 && all_boundary_bytes(text) && text[text.len() - 1] != b' '
 }
 
-fn read(field: &[u8]) -> Result<MediaType<'_>, TypeFault>
-    ensures { result ≡ reading field.now }
+/// The media type of the text before the first `;`, and of what stands behind it where there is one.
+fn media_type<'a>(text: &'a [u8], behind: Option<&'a [u8]>) -> Result<MediaType<'a>, TypeFault>
+    ensures { result ≡ media_of (essence text.now) (parameters 8 (segments_of (option_map (λ t. t.now) behind.entry))) }
 {
-    let (text, behind) = cut_at(field, b';');
     let essence = match Essence::parse(text) {
         Ok(essence) => essence,
         Err(fault) => return Err(fault),
@@ -60,6 +62,15 @@ fn read(field: &[u8]) -> Result<MediaType<'_>, TypeFault>
             parameters,
         }),
         Err(fault) => Err(fault),
+    }
+}
+
+fn read(field: &[u8]) -> Result<MediaType<'_>, TypeFault>
+    ensures { result ≡ reading field.now }
+{
+    match cut_at(field, b';') {
+        None => media_type(field, None),
+        Some((text, behind)) => media_type(text, Some(behind)),
     }
 }
 

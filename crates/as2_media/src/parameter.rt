@@ -3,10 +3,9 @@ ghost use Rattle.std.specs.Prelude.{◌≡◌};
 ghost use Rattle.std.specs.Str.{str_eq_ignore_ascii_case};
 ghost use Rattle.as2_media.specs.Parameters.{parameter};
 
-use crate::cuts::cut_at;
 use crate::token::is_token;
 use crate::value::value_of;
-use as2_names::without_blanks_and_line_ends;
+use as2_names::{cut_at, without_blanks_and_line_ends};
 use std::marker::Model;
 
 /// A parameter: its name, and its value as it stands between quotes where it has them.
@@ -29,18 +28,13 @@ impl<'a> Parameter<'a> {
     pub(crate) fn parse(segment: &'a [u8]) -> Option<Parameter<'a>>
         ensures { result ≡ parameter segment.now }
     {
-        let (before, behind) = cut_at(segment, b'=');
+        let (before, behind) = cut_at(segment, b'=')?;
         let name = without_blanks_and_line_ends(before);
         if !is_token(name) {
             return None;
         }
-        match behind {
-            None => None,
-            Some(behind) => match value_of(without_blanks_and_line_ends(behind)) {
-                None => None,
-                Some(value) => Some(Parameter { name, value }),
-            },
-        }
+        let value = value_of(without_blanks_and_line_ends(behind))?;
+        Some(Parameter { name, value })
     }
 
     /// Whether it has that name, without regard to case.
