@@ -16,5 +16,4 @@ mod Gathering
 mod Splitting
 mod Renewing
 mod Resetting
-pub mod Repeating
 mod Settling

@@ -1,7 +1,7 @@
 -- An entry of the inbox found by its number: those before it have lower numbers, those behind it greater ones.
-use Rattle.std.proofs.Common.{◌≡◌, ◌≢◌, ℕ, ◌<◌, ◌==◌, List, [], ◌∷◌, ◌++◌, map, length, Some, Bool, true, false, cond, refl, sym, ap, ap₂, subst, ◌∙◌, arith}
+use Rattle.std.proofs.Common.{◌≡◌, ◌≢◌, ℕ, ◌<◌, ◌==◌, List, [], ◌∷◌, ◌++◌, map, length, Bool, true, false, cond, refl, ap, ap₂, subst, ◌∙◌, arith}
 use Rattle.std.proofs.lemmas.List.{map-append}
-use Rattle.std.specs.List.{AllByRecursion, filter, find}
+use Rattle.std.specs.List.{AllByRecursion, filter}
 use Rattle.std.proofs.lemmas.Bool.Decides.{nat_tests}
 use Rattle.sqlite.specs.Tree.{IsAscending}
 use Rattle.as2_exchange.specs.declared.inbox.InEntry.{InEntry}
@@ -79,26 +79,3 @@ none_numbered n (e ∷ es) none = go (e.number == n) refl none (λ less. none_nu
         → ((e.number == n) ≡ false) × AllByRecursion (λ (x : InEntry). (x.number == n) ≡ false) es
     go true is none later = absurd (omega (arith, none))
     go false is none later = (is, later none)
-
--- ---- two changes that make the same of the entry found
-
-pub same_change : (n : ℕ) (f g : InEntry → InEntry) (es : List InEntry) → IsAscending IsBelow es → (e : InEntry) → find (λ (x : InEntry). x.number == n) es ≡ Some e → f e ≡ g e → changed n f es ≡ changed n g es
-same_change n f g [] up e found same = refl
-same_change n f g (x ∷ es) up e found same = go (x.number == n) refl found (λ later. same_change n f g es up.1 e later same)
-  where
-    go : (t : Bool) → (x.number == n) ≡ t → cond t (Some x) (find (λ (y : InEntry). y.number == n) es) ≡ Some e → (find (λ (y : InEntry). y.number == n) es ≡ Some e → changed n f es ≡ changed n g es)
-        → cond t (f x) x ∷ changed n f es ≡ cond t (g x) x ∷ changed n g es
-    go true is found later =
-        let here : x.number ≡ n = grind (arith, nat_tests) in
-        let it : x ≡ e = cc in
-        let others = other_above n es (subst (λ k. AllByRecursion (λ (y : InEntry). k < y.number) es) here up.0) in
-        ap₂ ◌∷◌ (ap f it ∙ same ∙ ap g (sym it)) (changed_none n f es others ∙ sym (changed_none n g es others))
-    go false is found later = ap (λ l. x ∷ l) (later found)
-
-pub changed_by_nothing : (n : ℕ) (es : List InEntry) → changed n (λ e. e) es ≡ es
-changed_by_nothing n [] = refl
-changed_by_nothing n (e ∷ es) = ap₂ ◌∷◌ (by_case (e.number == n)) (changed_by_nothing n es)
-  where
-    by_case : (t : Bool) → cond t e e ≡ e
-    by_case true = refl
-    by_case false = refl
