@@ -198,7 +198,7 @@ impl<S: Alter> Store<S> {
     pub fn find_out_by_id(
         &mut self,
         alloc: Global,
-        id_value: &str,
+        id_value: &[u8],
     ) -> Result<Option<OutEntry>, StoreFault>
         ensures clean { HasCleanDisk (state S.Store self.new) → HasCleanDisk (state S.Store self.old) }
         ensures open { HasCleanDisk (state S.Store self.new) → OnOk result (IsTrue (state S.Store self.old).is_open) }
@@ -206,7 +206,7 @@ impl<S: Alter> Store<S> {
         ensures same { HasCleanDisk (state S.Store self.new) → (s : State) → Rests (state S.Store self.old) s → Rests (state S.Store self.new) s }
         ensures fault { IfErr result (λ f. may_come f ≡ true) }
     {
-        let rows = match rows_by_id(&mut self.conn, id_value.as_bytes()) {
+        let rows = match rows_by_id(&mut self.conn, id_value) {
             Ok(rows) => rows,
             Err(error) => return Err(fault_of(&error)),
         };

@@ -8,7 +8,7 @@ pub returns-clause-found : goal.returns-clause-found
 returns-clause-found g c clean =
     let was = c.first_document.ensures.clean clean in
     if_ok _ _ (λ found told s r.
-    let rows : c.in-Ok.rows.items ≡ map out_shown (filter (has_id c.args.id_value.now) s.outbox) = rw c.as_bytes.ensures.value at (c.in-Ok.ensures.rows was s (rw c.self.view_is r)) in
+    let rows : c.in-Ok.rows.items ≡ map out_shown (filter (has_id c.args.id_value.now) s.outbox) = c.in-Ok.ensures.rows was s (rw c.self.view_is r) in
     told s (c.in-Ok.ensures.same was s (rw c.self.view_is r)) (has_id c.args.id_value.now) (c.deref.ensures.value ∙ rows)) c.first_document.result (c.first_document.ensures.found clean)
 
 pub returns-clause-same : goal.returns-clause-same
