@@ -16,4 +16,5 @@ mod Gathering
 mod Splitting
 mod Renewing
 mod Resetting
-mod Settling
+mod Recalling
+mod Ending

@@ -4,7 +4,8 @@ use Rattle.std.specs.List.{AllByRecursion, cons_option}
 use Rattle.std.proofs.lemmas.List.Elements.{filter_map-append}
 use Rattle.sqlite.specs.declared.types.Value.TheVariants.{Int}
 use Rattle.sqlite.specs.Order.{Row}
-use Rattle.sqlite.specs.Tree.{put_row}
+use Rattle.sqlite.specs.Effect.{Database}
+use Rattle.sqlite.specs.Tree.{put_row, IsTable}
 use Rattle.sqlite.specs.State.{State as Connected, Executes}
 use Rattle.sqlite_trees.proofs.ListLemmas.{filter_same, all-map, all_from_map}
 use Rattle.sql_tables.specs.Changes.{Changed, passes}
@@ -68,19 +69,22 @@ requeues n w m count beyond within old new s it h =
 below_end : (next : ℕ) → next ≤ end_of_numbers → (ns : List ℕ) → AllByRecursion (λ n. n < next) ns → AllByRecursion (λ n. n < end_of_numbers) ns
 below_end next most ns all = all_weaken (λ n. n < next) (λ n. n < end_of_numbers) (λ n less. omega (arith, less, most)) ns all
 
-pub holds : (a b : Connected) (s : State) → Stands a.now s → (rows : List Row) → Changed a b store_schema inbox_tree rows → Holds b.now (waiting s)
-holds a b s it rows one =
-    let outs = below_end s.next_out it.documents.0.most (map (λ (d : OutEntry). d.number) s.outbox) it.documents.1.below in
+pub places_in_order : (d : Database) (s : State) → Stands d s → IsTable (map waiting_row (waiting s))
+places_in_order d s it =
+    let outs = below_end s.next_out it.documents.0.most (map (λ (x : OutEntry). x.number) s.outbox) it.documents.1.below in
     let ins = below_end s.next_in it.receipts.0.most (map (λ (e : InEntry). e.number) s.inbox) it.receipts.1.below in
-    let ds = numbers_rise (λ (d : OutEntry). d.number) s.next_out s.outbox it.documents.1 in
+    let ds = numbers_rise (λ (x : OutEntry). x.number) s.next_out s.outbox it.documents.1 in
     let es = numbers_rise (λ (e : InEntry). e.number) s.next_in s.inbox it.receipts.1 in
-    record {
-      schema = one.schema_is;
-      rows = one.others.1.1.1.1.1.1.0 (λ e. omega arith) ∙ it.entries.waits;
-      in_order = places_rise (documents_waiting to_send s.outbox) (waiting_in s.inbox) (documents_waiting to_hear s.outbox) (documents_waiting to_end s.outbox)
-          (documents_of to_send end_of_numbers s.outbox outs) (ins_small end_of_numbers s.inbox ins) (documents_of to_hear end_of_numbers s.outbox outs) (documents_of to_end end_of_numbers s.outbox outs)
-          (documents_rise to_send s.outbox ds) (receipts_rise s.inbox es) (documents_rise to_hear s.outbox ds) (documents_rise to_end s.outbox ds);
-    }
+    places_rise (documents_waiting to_send s.outbox) (waiting_in s.inbox) (documents_waiting to_hear s.outbox) (documents_waiting to_end s.outbox)
+    (documents_of to_send end_of_numbers s.outbox outs) (ins_small end_of_numbers s.inbox ins) (documents_of to_hear end_of_numbers s.outbox outs) (documents_of to_end end_of_numbers s.outbox outs)
+    (documents_rise to_send s.outbox ds) (receipts_rise s.inbox es) (documents_rise to_hear s.outbox ds) (documents_rise to_end s.outbox ds)
+
+pub holds : (a b : Connected) (s : State) → Stands a.now s → (rows : List Row) → Changed a b store_schema inbox_tree rows → Holds b.now (waiting s)
+holds a b s it rows one = record {
+  schema = one.schema_is;
+  rows = one.others.1.1.1.1.1.1.0 (λ e. omega arith) ∙ it.entries.waits;
+  in_order = places_in_order a.now s it;
+}
 
 behind : (n : ℕ) (es : List InEntry) → AllByRecursion (λ (e : InEntry). n < e.number) es → AllByRecursion (λ v. (v.kind ≡ to_answer) × (n < v.number)) (waiting_in es)
 behind n [] all = tt

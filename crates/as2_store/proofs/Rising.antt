@@ -16,7 +16,7 @@ use Rattle.as2_exchange.specs.Invariants.{AreNumbers}
 pub rises : (m n : ℕ) → m < n → value_cmp (Int (pos m)) (Int (pos n)) ≡ Less
 rises m n h = value_cmp-Int (pos m) (pos n) ∙ Less-from_lt (pos m) (pos n) (omega (arith, ints))
 
-falls : (m n : ℕ) → n < m → value_cmp (Int (pos m)) (Int (pos n)) ≡ Greater
+pub falls : (m n : ℕ) → n < m → value_cmp (Int (pos m)) (Int (pos n)) ≡ Greater
 falls m n h = value_cmp-Int (pos m) (pos n) ∙ (grind (arith, ints))
 
 above : (n : ℕ) (ns : List ℕ) → AllByRecursion (λ m. (n == m) ≡ false) ns → AllByRecursion (λ m. nat_lt m n ≡ false) ns → AllByRecursion (λ m. n < m) ns

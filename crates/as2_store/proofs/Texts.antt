@@ -9,14 +9,14 @@ use Rattle.sqlite.specs.Command.TheVariants.{Insert, Select, Update, Delete}
 use Rattle.sqlite.specs.Listing.{understood, reads_listing}
 use Rattle.sqlite.proofs.Callers.{IsPlain, command_of}
 use Rattle.sqlite_sql.specs.declared.ops.BinaryOp.TheVariants.{Compare}
-use Rattle.sqlite_sql.specs.declared.ops.CompareOp.TheVariants.{Eq}
+use Rattle.sqlite_sql.specs.declared.ops.CompareOp.TheVariants.{Eq, Ne}
 use Rattle.sqlite_tied.specs.Compute.{everything}
 use Rattle.sql_tables.specs.Changes.{over_table}
 use Rattle.sql_tables.proofs.Queries.{by_number}
 use Rattle.sql_tables.proofs.Changing.{update_program}
 use Rattle.sql_tables.proofs.Deleting.{delete_program}
 use Rattle.as2_store.specs.Tables.{store_schema, meta_tree, inbox_tree, inbox_piece_tree, outbox_tree, outbox_piece_tree, evidence_tree, waiting_tree}
-use Rattle.as2_store.specs.Statements.{meta_put_text, meta_read_text, receipt_text, in_put_text, in_piece_put_text, in_by_key_text, in_by_number_text, in_all_text, in_pieces_text, in_requeue_text, out_by_id_text, out_pieces_text, evidence_by_number_text, waiting_put_text, waiting_take_text}
+use Rattle.as2_store.specs.Statements.{meta_put_text, meta_read_text, receipt_text, in_put_text, in_piece_put_text, in_by_key_text, in_by_number_text, in_all_text, in_pieces_text, in_requeue_text, out_by_id_text, out_pieces_text, evidence_by_number_text, evidence_put_text, out_settle_text, waiting_put_text, waiting_take_text, document_take_text}
 
 -- ---- the counters
 
@@ -224,6 +224,29 @@ pub evidence_by_number_unlisted : reads_listing store_schema evidence_by_number_
 unfolding understood everything
 evidence_by_number_unlisted = refl
 
+abbrev pub evidence_put_terms : List Term
+evidence_put_terms = col 0 0 ∷ lit Null ∷ col 0 1 ∷ col 0 2 ∷ col 0 3 ∷ []
+
+pub evidence_put_is : command_of (understood store_schema evidence_put_text) ≡ Insert 5 (Values evidence_put_terms 5)
+unfolding understood everything
+evidence_put_is = refl
+
+pub evidence_put_plain : IsPlain (understood store_schema evidence_put_text)
+unfolding understood everything
+evidence_put_plain = (refl, refl)
+
+abbrev pub settle_project : List Term
+settle_project =
+    col 1 0 ∷ lit Null ∷ col 1 2 ∷ col 1 3 ∷ col 1 4 ∷ col 1 5 ∷ col 1 6 ∷ col 1 7 ∷ lit (Int (pos 1)) ∷ lit Null ∷ col 0 1 ∷ []
+
+pub out_settle_is : command_of (understood store_schema out_settle_text) ≡ Update 3 (update_program outbox_tree number_terms settle_project)
+unfolding understood everything
+out_settle_is = refl
+
+pub out_settle_plain : IsPlain (understood store_schema out_settle_text)
+unfolding understood everything
+out_settle_plain = (refl, refl)
+
 -- ---- what waits
 
 abbrev pub waiting_put_terms : List Term
@@ -244,3 +267,14 @@ waiting_take_is = refl
 pub waiting_take_plain : IsPlain (understood store_schema waiting_take_text)
 unfolding understood everything
 waiting_take_plain = (refl, refl)
+
+abbrev pub document_terms : List Term
+document_terms = op2 (Compare Eq Binary) (col 1 3) (col 0 0) ∷ op2 (Compare Ne Binary) (col 1 2) (lit (Int (pos 2))) ∷ []
+
+pub document_take_is : command_of (understood store_schema document_take_text) ≡ Delete 6 (delete_program waiting_tree document_terms)
+unfolding understood everything
+document_take_is = refl
+
+pub document_take_plain : IsPlain (understood store_schema document_take_text)
+unfolding understood everything
+document_take_plain = (refl, refl)

@@ -4,3 +4,4 @@ pub mod Stands
 pub mod Adding
 pub mod Finding
 pub mod Requeuing
+pub mod Settling

@@ -46,6 +46,12 @@ out_pieces_text = codes "SELECT number, position, bytes FROM outbox_piece WHERE 
 abbrev pub evidence_by_number_text : List ℕ
 evidence_by_number_text = codes "SELECT number, moment, content_type, body FROM evidence WHERE number = ?1 ORDER BY number"
 
+abbrev pub evidence_put_text : List ℕ
+evidence_put_text = codes "INSERT INTO evidence (number, moment, content_type, body) VALUES (?1, ?2, ?3, ?4)"
+
+abbrev pub out_settle_text : List ℕ
+out_settle_text = codes "UPDATE outbox SET attempt = 1, due = NULL, detail = ?2 WHERE number = ?1"
+
 -- ---- what waits
 
 abbrev pub waiting_put_text : List ℕ
@@ -53,3 +59,6 @@ waiting_put_text = codes "INSERT INTO waiting (place, kind, number, due) VALUES 
 
 abbrev pub waiting_take_text : List ℕ
 waiting_take_text = codes "DELETE FROM waiting WHERE place = ?1"
+
+abbrev pub document_take_text : List ℕ
+document_take_text = codes "DELETE FROM waiting WHERE number = ?1 AND kind <> 2"

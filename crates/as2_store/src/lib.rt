@@ -14,6 +14,7 @@ mod inbox;
 mod numbers;
 mod outbox;
 mod requeuing;
+mod settling;
 mod store;
 mod waiting;
 

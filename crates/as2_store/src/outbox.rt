@@ -2,15 +2,19 @@
 
 ghost use Rattle.std.specs.Prelude.{◌≡◌, ◌<◌, ◌^◌, Bool, false, Some, find, map, filter, IsTrue, IfOk, OnOk};
 ghost use Rattle.sqlite.specs.Held.{state};
-ghost use Rattle.sqlite.specs.State.{HasCleanDisk};
+ghost use Rattle.sqlite.specs.State.{HasCleanDisk, KeepsCommit};
+ghost use Rattle.sqlite.specs.Tree.{put_row};
+ghost use Rattle.sql_tables.specs.Changes.{Changed};
 ghost use Rattle.as2_exchange.specs.State.{State};
 ghost use Rattle.as2_exchange.specs.declared.outbox.OutEntry.{OutEntry as Document};
-ghost use Rattle.as2_rows.specs.Rows.{out_shown};
+ghost use Rattle.as2_rows.specs.Rows.{out_shown, evidence_row};
 ghost use Rattle.as2_store.specs.Finding.{has_id, shown_evidence};
 ghost use Rattle.as2_store.specs.Stands.{Rests};
+ghost use Rattle.as2_store.specs.Tables.{store_schema, evidence_tree};
 
 use crate::numbers::whole;
-use sqlite::{Alter, Connection, Error, Row, params};
+use as2_exchange::Evidence;
+use sqlite::{Alter, Connection, Error, Row, Transaction, params};
 
 /// The rows of the documents with an identifier of this value.
 pub fn rows_by_id<S: Alter>(conn: &mut Connection<S>, value: &[u8]) -> Result<Vec<Row>, Error>
@@ -40,4 +44,28 @@ pub fn evidence_rows<S: Alter>(conn: &mut Connection<S>, number: u64) -> Result<
         "SELECT number, moment, content_type, body FROM evidence WHERE number = ?1 ORDER BY number",
         params![number],
     )
+}
+
+/// Puts in the row of the evidence of the document of this number; `body` is its report in one piece.
+pub fn put_evidence<S: Alter>(
+    tx: &mut Transaction<'_, S>,
+    number: u64,
+    evidence: &Evidence,
+    body: &[u8],
+) -> Result<(), Error>
+    requires number { number < 2 ^ 63 }
+    requires body { body.now ≡ evidence.now.body }
+    ensures same_reference { tx.new.conn.ghost_name ≡ tx.old.conn.ghost_name }
+    ensures clean { HasCleanDisk (state S.Store tx.new.conn.now) → HasCleanDisk (state S.Store tx.old.conn.now) }
+    ensures kept { HasCleanDisk (state S.Store tx.new.conn.now) → KeepsCommit (state S.Store tx.old.conn.now) (state S.Store tx.new.conn.now) }
+    ensures put { HasCleanDisk (state S.Store tx.new.conn.now) → OnOk result ((state S.Store tx.old.conn.now).now.schema ≡ store_schema
+        → Changed (state S.Store tx.old.conn.now) (state S.Store tx.new.conn.now) store_schema evidence_tree (put_row (evidence_row number evidence.now) ((state S.Store tx.old.conn.now).now.trees evidence_tree))) }
+{
+    let number = whole(number);
+    let moment = whole(evidence.moment.seconds());
+    tx.execute(
+        "INSERT INTO evidence (number, moment, content_type, body) VALUES (?1, ?2, ?3, ?4)",
+        params![number, moment, evidence.content_type.as_slice(), body],
+    )?;
+    Ok(())
 }

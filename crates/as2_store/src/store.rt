@@ -3,12 +3,15 @@
 ghost use Rattle.std.specs.Prelude.{◌≡◌, ◌⊎◌, ◌<◌, ◌≤◌, ℕ, List, map, find, None, Some, true, false, Err, IsTrue, IfOk, IfErr, OnOk, OnErr};
 ghost use Rattle.sqlite.specs.Held.{state};
 ghost use Rattle.sqlite.specs.State.{HasCleanDisk};
-ghost use Rattle.as2_exchange.specs.State.{State, empty, end_of_numbers, document_named, received, change_received};
+ghost use Rattle.as2_exchange.specs.State.{State, empty, end_of_numbers, document, document_named, change_document, is_settled, received, change_received};
+ghost use Rattle.as2_exchange.specs.Invariants.{is_by_receipt};
+ghost use Rattle.as2_exchange.specs.declared.outbox.OutEntry.{OutEntry as Document};
 ghost use Rattle.as2_exchange.specs.declared.fault.StoreFault.TheVariants.{Full};
 ghost use Rattle.as2_rows.specs.Summaries.{in_summary};
 ghost use Rattle.as2_store.specs.Adding.{with_received};
 ghost use Rattle.as2_store.specs.Finding.{has_key};
 ghost use Rattle.as2_store.specs.Requeuing.{requeued};
+ghost use Rattle.as2_store.specs.Settling.{settled_as};
 ghost use Rattle.as2_store.specs.Stands.{Rests, IsBlank, Says, judged, may_come};
 
 use crate::adding::add;
@@ -22,7 +25,9 @@ use crate::inbox::{all_rows, rows_by_key, rows_by_number};
 use crate::numbers::fits;
 use crate::outbox::rows_by_id;
 use crate::requeuing::requeue;
-use as2_exchange::{InEntry, OutEntry, StoreFault};
+use crate::settling::settle;
+use as2_exchange::{Evidence, InEntry, OutEntry, StoreFault};
+use as2_mdn::Detail;
 use as2_names::{AsName, Moment};
 use as2_rows::InRow;
 use sqlite::{Alter, Connection};
@@ -143,6 +148,31 @@ impl<S: Alter> Store<S> {
         ensures fault { IfErr result (λ f. may_come f ≡ true) }
     {
         match requeue(&mut self.conn, number, moment) {
+            Ok(()) => Ok(()),
+            Err(error) => Err(fault_of(&error)),
+        }
+    }
+
+    /// Settles the document of this number by a receipt: it gets this detail and this evidence, no try of it is open, and
+    /// nothing of it waits any more. It is to be a document that no receipt has settled yet, and the detail one that a receipt
+    /// gives. Answers Memory, Disk or Refused, and then the state stays.
+    pub fn settle(
+        &mut self,
+        number: u64,
+        detail: Detail,
+        evidence: &Evidence,
+    ) -> Result<(), StoreFault>
+        ensures clean { HasCleanDisk (state S.Store self.new) → HasCleanDisk (state S.Store self.old) }
+        ensures open { HasCleanDisk (state S.Store self.new) → OnOk result (IsTrue (state S.Store self.old).is_open) }
+        ensures settled { HasCleanDisk (state S.Store self.new) → OnOk result ((s : State) → Rests (state S.Store self.old) s → is_by_receipt detail ≡ true → (d : Document) → document s number ≡ Some d → is_settled d ≡ false
+            → Rests (state S.Store self.new) (change_document s number (settled_as detail evidence.now))) }
+        ensures failed { HasCleanDisk (state S.Store self.new) → OnErr result ((s : State) → Rests (state S.Store self.old) s → Rests (state S.Store self.new) s) }
+        ensures fault { IfErr result (λ f. may_come f ≡ true) }
+    {
+        let Ok(body) = evidence.body.joined() else {
+            return Err(StoreFault::Memory);
+        };
+        match settle(&mut self.conn, number, detail, evidence, &body) {
             Ok(()) => Ok(()),
             Err(error) => Err(fault_of(&error)),
         }

@@ -10,6 +10,7 @@ ghost use Rattle.as2_store.specs.Tables.{store_schema, waiting_tree};
 ghost use Rattle.as2_store.specs.Stands.{waiting_row};
 ghost use Rattle.as2_store.specs.Adding.{Noted};
 ghost use Rattle.as2_store.specs.Requeuing.{Holds, Renewed, not_at};
+ghost use Rattle.as2_store.specs.Settling.{without_document};
 
 use crate::numbers::{whole, whole_or_none};
 use as2_exchange::{Attempt, InEntry, MdnState};
@@ -100,5 +101,23 @@ pub fn wait_anew<S: Alter>(tx: &mut Transaction<'_, S>, number: u64, due: u64) -
 {
     take_waiting(tx, 2 * END_OF_NUMBERS + number)?;
     put_waiting(tx, 2, number, Some(due))?;
+    Ok(())
+}
+
+/// Takes out what the document of this number waits for. A receipt of the same number stays.
+pub fn take_document<S: Alter>(tx: &mut Transaction<'_, S>, number: u64) -> Result<(), Error>
+    requires { number < 2 ^ 63 }
+    ensures same_reference { tx.new.conn.ghost_name ≡ tx.old.conn.ghost_name }
+    ensures clean { HasCleanDisk (state S.Store tx.new.conn.now) → HasCleanDisk (state S.Store tx.old.conn.now) }
+    ensures kept { HasCleanDisk (state S.Store tx.new.conn.now) → KeepsCommit (state S.Store tx.old.conn.now) (state S.Store tx.new.conn.now) }
+    ensures inside { HasCleanDisk (state S.Store tx.new.conn.now) → OnOk result (IsTrue (state S.Store tx.new.conn.now).in_transaction) }
+    ensures put { HasCleanDisk (state S.Store tx.new.conn.now) → OnOk result ((ws : List Waiting) → Holds (state S.Store tx.old.conn.now).now ws
+        → Changed (state S.Store tx.old.conn.now) (state S.Store tx.new.conn.now) store_schema waiting_tree (map waiting_row (without_document number ws))) }
+{
+    let number = whole(number);
+    tx.execute(
+        "DELETE FROM waiting WHERE number = ?1 AND kind <> 2",
+        params![number],
+    )?;
     Ok(())
 }

@@ -1,5 +1,5 @@
 use Rattle.std.proofs.Common.{rules, ◌≡◌, ◌∙◌, sym, ap, Some, None, slice_get}
-use Rattle.as2_store.proofs.Settling.{no_evidence, some_evidence}
+use Rattle.as2_store.proofs.Recalling.{no_evidence, some_evidence}
 use Rattle.as2_store.proofs.documents.evidence_of.Goals as goal
 
 pub returns-in_default-clause-evidence : goal.returns-in_default-clause-evidence

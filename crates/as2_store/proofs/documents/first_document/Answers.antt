@@ -2,7 +2,7 @@ use Rattle.std.proofs.Common.{rules, ◌≡◌, ◌∙◌, sym, ap, Some, None, 
 use Rattle.as2_rows.specs.Rows.{out_shown}
 use Rattle.as2_rows.specs.Summaries.{out_summary}
 use Rattle.as2_store.proofs.Showing.{none_first, some_first}
-use Rattle.as2_store.proofs.Settling.{document_is}
+use Rattle.as2_store.proofs.Recalling.{document_is}
 use Rattle.as2_store.proofs.documents.first_document.Goals as goal
 
 pub returns-in_default-clause-found : goal.returns-in_default-clause-found

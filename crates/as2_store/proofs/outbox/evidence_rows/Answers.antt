@@ -6,7 +6,7 @@ use Rattle.as2_store.proofs.MetaRow.{passed}
 use Rattle.as2_store.proofs.Texts.{evidence_by_number_plain}
 use Rattle.as2_store.proofs.Answering.{same_after, if_shown}
 use Rattle.as2_store.proofs.Looking.{by_number_params}
-use Rattle.as2_store.proofs.Settling.{finds_evidence}
+use Rattle.as2_store.proofs.Recalling.{finds_evidence}
 use Rattle.as2_store.proofs.outbox.evidence_rows.Goals as goal
 
 pub returns-clause-same : goal.returns-clause-same

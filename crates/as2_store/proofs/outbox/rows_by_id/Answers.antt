@@ -4,7 +4,7 @@ use Rattle.sqlite.specs.State.{Shown, FailsToQuery}
 use Rattle.as2_store.specs.Statements.{out_by_id_text}
 use Rattle.as2_store.proofs.Texts.{out_by_id_plain}
 use Rattle.as2_store.proofs.Answering.{same_after, open_where, if_shown}
-use Rattle.as2_store.proofs.Settling.{finds_id, id_params}
+use Rattle.as2_store.proofs.Recalling.{finds_id, id_params}
 use Rattle.as2_store.proofs.outbox.rows_by_id.Goals as goal
 
 pub returns-clause-same : goal.returns-clause-same
