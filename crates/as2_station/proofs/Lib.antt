@@ -1,3 +1,4 @@
 mod Numbers
 mod Playing
 mod Results
+mod Settling

@@ -24,14 +24,14 @@ run_failed A s mid ((x, Failed g) ∷ told) e f run may = (run.0, run_failed A s
 -- one event more, with what was said to it
 pub plays_more : (A : Agreements) (told : Trace) (e : Event) (r : Result Answer StoreFault) (old mid new : Connected) → Plays A told old mid
     → IfOk r (Answers (λ s. step A s e) mid new) → IfErr r (Fails (λ s. step A s e) mid new) → Plays A (told ++ (e, said r) ∷ []) old new
-plays_more A told e (Ok a) old mid new before ok err s rests alone =
-    let was = before s rests alone in
-    let now = ok was.end was.rests was.sends_nothing in
-    record { end = now.next; run = run_answered A s was.end now.next told e a was.run now.step; rests = now.rests; sends_nothing = now.sends_nothing }
-plays_more A told e (Err f) old mid new before ok err s rests alone =
-    let was = before s rests alone in
+plays_more A told e (Ok a) old mid new before ok err s rests =
+    let was = before s rests in
+    let now = ok was.end was.rests in
+    record { end = now.next; run = run_answered A s was.end now.next told e a was.run now.step; rests = now.rests }
+plays_more A told e (Err f) old mid new before ok err s rests =
+    let was = before s rests in
     let now = err was.end was.rests in
-    record { end = was.end; run = run_failed A s was.end told e f was.run now.1; rests = now.0; sends_nothing = was.sends_nothing }
+    record { end = was.end; run = run_failed A s was.end told e f was.run now.1; rests = now.0 }
 
 -- the trace of one event more
 pub trace_more : (es : List Event) (rs : List (Result Answer StoreFault)) (e : Event) (r : Result Answer StoreFault) → length rs ≡ length es → trace (es ++ e ∷ []) (rs ++ r ∷ []) ≡ trace es rs ++ (e, said r) ∷ []

@@ -1,5 +1,5 @@
 -- A step of the machine, as the tables show it.
-use Rattle.std.specs.Prelude.{◌≡◌, [], Option, Some, None}
+use Rattle.std.specs.Prelude.{◌≡◌, Option, Some, None}
 use Rattle.sqlite.specs.State.{State as Connected}
 use Rattle.as2_exchange.specs.State.{State}
 use Rattle.as2_exchange.specs.declared.answer.Answer.{Answer}
@@ -16,12 +16,10 @@ pub record Left (c : Connected) (came : Option (Answer × State)) (a : Answer) :
   pub next : State
   pub step : came ≡ Some (a, next)
   pub rests : Rests c next
-  pub sends_nothing : next.outbox ≡ []
 
--- Where the tables stood for a state, the machine answers so, and the tables stand for the state that it leaves. For now
--- that is said of states without documents to partners.
+-- where the tables stood for a state, the machine answers so, and the tables stand for the state that it leaves
 abbrev pub Answers : Machine → Connected → Connected → Answer → Type 0
-Answers machine old new a = (s : State) → Rests old s → s.outbox ≡ [] → Left new (machine s) a
+Answers machine old new a = (s : State) → Rests old s → Left new (machine s) a
 
 -- the tables stand for the state that they stood for; and there is no number left where the fault says so
 abbrev pub Fails : Machine → Connected → Connected → StoreFault → Type 0

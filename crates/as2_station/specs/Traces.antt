@@ -1,5 +1,5 @@
 -- Events with what was said to each.
-use Rattle.std.specs.Prelude.{◌≡◌, List, [], map, zip, Result, Ok, Err}
+use Rattle.std.specs.Prelude.{List, map, zip, Result, Ok, Err}
 use Rattle.as2_exchange.specs.declared.event.Event.{Event}
 use Rattle.as2_exchange.specs.declared.answer.Answer.{Answer}
 use Rattle.as2_exchange.specs.declared.fault.StoreFault.{StoreFault}
@@ -23,8 +23,7 @@ pub record Played (A : Agreements) (told : Trace) (s : State) (c : Connected) : 
   pub end : State
   pub run : Run A s told end
   pub rests : Rests c end
-  pub sends_nothing : end.outbox ≡ []
 
 -- it is one from each state that the tables stood for
 abbrev pub Plays : Agreements → Trace → Connected → Connected → Type 0
-Plays A told old new = (s : State) → Rests old s → s.outbox ≡ [] → Played A told s new
+Plays A told old new = (s : State) → Rests old s → Played A told s new

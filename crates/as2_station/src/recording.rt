@@ -1,5 +1,5 @@
 //! Documents that are posted: each is recorded once.
-ghost use Rattle.std.specs.Prelude.{◌≡◌, [], Some, None, true, map, IfOk, IfErr, OnOk, OnErr};
+ghost use Rattle.std.specs.Prelude.{◌≡◌, Some, None, true, map, IfOk, IfErr, OnOk, OnErr};
 ghost use Rattle.sqlite.specs.Held.{state};
 ghost use Rattle.sqlite.specs.State.{HasCleanDisk};
 ghost use Rattle.as2_exchange.specs.Invariants.{AreNumbers};
@@ -46,7 +46,7 @@ fn record_again<S: Alter>(
     moment: Moment,
 ) -> Result<HttpAnswer, StoreFault>
     ensures clean { HasCleanDisk (state S.Store store.new) → HasCleanDisk (state S.Store store.old) }
-    ensures answered { HasCleanDisk (state S.Store store.new) → IfOk result (λ a. (s : State) → Rests (state S.Store store.old) s → s.outbox ≡ [] → AreNumbers s.next_in (map (λ e. e.number) s.inbox) → received s entry.now.number ≡ Some entry.now
+    ensures answered { HasCleanDisk (state S.Store store.new) → IfOk result (λ a. (s : State) → Rests (state S.Store store.old) s → AreNumbers s.next_in (map (λ e. e.number) s.inbox) → received s entry.now.number ≡ Some entry.now
         → Left (state S.Store store.new) (recorded agreements.now s moment posted.now (Some entry.now)) (Http a)) }
     ensures failed { HasCleanDisk (state S.Store store.new) → IfErr result (λ f. Fails (λ s. recorded agreements.now s moment posted.now (Some entry.now)) (state S.Store store.old) (state S.Store store.new) f) }
 {

@@ -71,7 +71,7 @@ impl<S: Alter> Station<S> {
         ensures failed { HasCleanDisk (state S.Store self.new) → IfErr result (λ f. Fails (λ s. post agreements.now s moment (read_further (opened.entry.from, opened.entry.to) (opened.entry.media, opened.entry.content_type.now) head.now body)) (state S.Store self.old) (state S.Store self.new) f) }
     {
         if opened.is_report() {
-            return Ok(receive(&opened, &body)?);
+            return receive(&mut self.store, alloc, &opened, body, moment);
         }
         match document(alloc, opened, head, body)? {
             Ok(posted) => record(&mut self.store, alloc, agreements, posted, moment),
