@@ -34,8 +34,9 @@ path_one : (o : Option Text) (a b : Text) → o ≡ Some a → o ≡ Some b → 
 path_one o a b x y = cc
 
 -- so what holds of what was read holds of all that the words ask for
-pub given_one : (words : List Text) (clock : Option ℕ) (path other : Text) (task later : Task) (P : Text → Task → Type 0)
-    → Gives words clock path task → Gives words clock other later → P path task → P other later
-given_one words clock path other task later P x y p =
-    subst (λ (t : Task). P other t) (task_one (values words) (command_in words) clock task later x.given.asked y.given.asked)
-    (subst (λ (t : Text). P t task) (path_one _ path other x.given.agreements y.given.agreements) p)
+pub given_one : (words : List Text) (clock : Option ℕ) (path other store base : Text) (task later : Task) (P : Text → Text → Task → Type 0)
+    → Gives words clock path store task → Gives words clock other base later → P path store task → P other base later
+given_one words clock path other store base task later P x y p =
+    subst (λ (t : Task). P other base t) (task_one (values words) (command_in words) clock task later x.given.asked y.given.asked)
+    (subst (λ (b : Text). P other b task) (path_one _ store base x.given.records y.given.records)
+    (subst (λ (t : Text). P t store task) (path_one _ path other x.given.agreements y.given.agreements) p))

@@ -20,7 +20,7 @@ needed name = record (option name) { required = true }
 abbrev pub number : Text → ℕ → ℕ → Rule
 number name low high = record (option name) { parser = Some (Unsigned low high) }
 
--- the number of the first receipt, 1 where it isn't given
+-- the first number of a store that is made, 1 where it isn't given
 abbrev pub first : Rule
 first = record (number (codes "first") 1 999999999999) { defaults = codes "1" ∷ [] }
 
@@ -34,7 +34,7 @@ program = on_top (λ s. record s { has_version = true; subcommand_required = tru
     (new_app (codes "as2desk"))
 
 abbrev pub options : App
-options = with_rule (with_rule (with_rule program (needed (codes "agreements"))) first) moment
+options = with_rule (with_rule (with_rule (with_rule program (needed (codes "agreements"))) (needed (codes "store"))) first) moment
 
 -- as2desk OPTIONS check, as2desk OPTIONS post
 abbrev pub command_line : App

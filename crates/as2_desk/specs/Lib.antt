@@ -4,6 +4,7 @@ pub mod Statuses
 pub mod Refusals
 pub mod FileContents
 pub mod FileAgreements
+pub mod Stores
 pub mod PostAnswers
 pub mod FirstPath
 pub mod Laws

@@ -1,8 +1,9 @@
 -- What a command line asks for.
-use Rattle.std.specs.Prelude.{◌≡◌, ◌<◌, ◌≤◌, ◌^◌, ℕ, List, [], Option, Some, None, codes, ⊤}
+use Rattle.std.specs.Prelude.{◌≡◌, ◌<◌, ◌≤◌, ℕ, List, [], Option, Some, None, codes, ⊤, ◌&&◌, nat_le, nat_lt, if◌then◌else◌}
 use Rattle.std.specs.Str.Parse.{IsNumeral, digits_value, without_leading_plus}
 use Rattle.as2_names.specs.Moments.{last_moment}
 use Rattle.clap.specs.Words.{Row, Text, first_of, one_of}
+use Rattle.as2_exchange.specs.State.{end_of_numbers}
 use Rattle.as2_desk.specs.CommandLine.{command_in, faults, values}
 use Rattle.as2_desk.specs.declared.options.Posting.{Posting}
 use Rattle.as2_desk.specs.declared.options.Task.{Task}
@@ -28,28 +29,34 @@ abbrev pub SecondsAre : Option Text → Option ℕ → ℕ → Type 0
 SecondsAre (Some text) clock n = Says text n
 SecondsAre None clock n = clock ≡ Some n
 
--- the number of the receipt and the moment that the values give a post
+-- the first number of a new store and the moment that the values give a post
 pub record AsksPost (values : List Row) (clock : Option ℕ) (posting : Posting) : Type 0 where
   pub number : NumberIs (one_of (codes "first") values) posting.first
   pub seconds : SecondsAre (one_of (codes "moment") values) clock posting.moment
-  pub small : posting.first < 2 ^ 64
+  pub least : 1 ≤ posting.first
+  pub most : posting.first < end_of_numbers
   pub early : posting.moment ≤ last_moment
+
+-- the number, where an entry may have it
+abbrev pub first_number : ℕ → Option ℕ
+first_number n = if nat_le 1 n && nat_lt n end_of_numbers then Some n else None
 
 -- what the command and the values ask for; a check needs no moment
 abbrev pub Asks : List Row → Option Text → Option ℕ → Task → Type 0
 Asks values command clock Check = command ≡ Some (codes "check")
 Asks values command clock (Post posting) = (command ≡ Some (codes "post")) × AsksPost values clock posting
 
--- the path of the file of agreements, and what is asked for
-pub record Give (values : List Row) (command : Option Text) (clock : Option ℕ) (path : Text) (task : Task) : Type 0 where
+-- the paths of the file of agreements and of the store, and what is asked for
+pub record Give (values : List Row) (command : Option Text) (clock : Option ℕ) (path store : Text) (task : Task) : Type 0 where
   pub agreements : first_of (codes "agreements") values ≡ Some path
+  pub records : first_of (codes "store") values ≡ Some store
   pub asked : Asks values command clock task
 
 -- the same of the words of a command line
-pub record Gives (words : List Text) (clock : Option ℕ) (path : Text) (task : Task) : Type 0 where
+pub record Gives (words : List Text) (clock : Option ℕ) (path store : Text) (task : Task) : Type 0 where
   pub read : faults words ≡ []
-  pub given : Give (values words) (command_in words) clock path task
+  pub given : Give (values words) (command_in words) clock path store task
 
 -- the words ask for nothing
 abbrev pub GivesNone : List Text → Option ℕ → Type 0
-GivesNone words clock = (path : Text) (task : Task) → ¬ Gives words clock path task
+GivesNone words clock = (path store : Text) (task : Task) → ¬ Gives words clock path store task

@@ -3,7 +3,9 @@ use Rattle.std.specs.Prelude.{ℕ, List, ◌++◌, Option, Some, None, codes}
 use Rattle.as2_agreement.specs.Keys.{fault_key, fault_name, key_name}
 use Rattle.as2_agreement.specs.declared.fault.AgreementFault.{AgreementFault}
 use Rattle.as2_agreement.specs.declared.key.Key.{Key}
-use Rattle.as2_desk.specs.Statuses.{end_name}
+use Rattle.as2_exchange.specs.declared.fault.StoreFault.{StoreFault}
+use Rattle.as2_exchange.specs.declared.fault.StoreFault.TheVariants as store_fault
+use Rattle.as2_desk.specs.Statuses.{end_name, failed, refused}
 use Rattle.as2_desk.specs.declared.first_path.Served.{Served}
 use Rattle.as2_desk.specs.declared.first_path.Served.TheVariants as end
 use Rattle.as2_desk.specs.declared.refusal.Refusal.{Refusal}
@@ -21,13 +23,31 @@ fault_line name (Some key) = codes "agreements: " ++ (name ++ (codes " " ++ (key
 abbrev pub agreements_line : AgreementFault → List ℕ
 agreements_line fault = fault_line (fault_name fault) (fault_key fault)
 
+abbrev pub store_fault_name : StoreFault → List ℕ
+store_fault_name store_fault.Memory = codes "Memory"
+store_fault_name store_fault.Disk = codes "Disk"
+store_fault_name store_fault.Refused = codes "Refused"
+store_fault_name store_fault.Full = codes "Full"
+store_fault_name store_fault.NotAStore = codes "NotAStore"
+store_fault_name store_fault.OtherVersion = codes "OtherVersion"
+
+-- `store: NAME`
+abbrev pub store_line : StoreFault → List ℕ
+store_line fault = codes "store: " ++ (store_fault_name fault ++ codes "\n")
+
 -- the line of a refusal
 abbrev pub line : Refusal → List ℕ
 line refusal.CannotRead = refused_line (codes "CannotRead")
 line refusal.CannotWrite = refused_line (codes "CannotWrite")
 line refusal.Memory = refused_line (codes "Memory")
 line (refusal.Agreements fault) = agreements_line fault
+line (refusal.Store fault) = store_line fault
 line (refusal.Stream ended) = refused_line (end_name ended)
+
+-- the exit status that goes with it
+abbrev pub refusal_status : Refusal → ℕ
+refusal_status (refusal.Store fault) = failed
+refusal_status other = refused
 
 -- what there is to say of the end of a stream: nothing where it is in good order
 abbrev pub end_line : Served → List ℕ

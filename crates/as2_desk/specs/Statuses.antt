@@ -13,6 +13,9 @@ refused = 1
 abbrev pub faulty : ℕ
 faulty = 2
 
+abbrev pub failed : ℕ
+failed = 3
+
 -- only an end in good order is no refusal
 abbrev pub status_of : Served → ℕ
 status_of end.Closed = done

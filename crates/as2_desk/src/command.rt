@@ -10,6 +10,8 @@ use std::alloc::{AllocError, Global};
 
 pub(crate) const AGREEMENTS: &str = "agreements";
 
+pub(crate) const STORE: &str = "store";
+
 pub(crate) const FIRST: &str = "first";
 
 pub(crate) const MOMENT: &str = "moment";
@@ -19,21 +21,23 @@ pub(crate) const CHECK: &str = "check";
 pub(crate) const POST: &str = "post";
 
 const EXAMPLES: &str = "\
-Options stand before the command. '--agreements' must be given, and has no default.
+Options stand before the command. '--agreements' and '--store' must be given, and have no default.
 
-Exit status: 0 done; 1 refused, and one line on standard error says why; 2 a faulty command line.
+Exit status: 0 done; 1 refused, and one line on standard error says why; 2 a faulty command line;
+3 the store failed, and one line on standard error says how.
 
 Examples:
-  as2desk --agreements agreements.toml check
-  as2desk --agreements agreements.toml post < plain-post.http";
+  as2desk --agreements agreements.toml --store station.db check
+  as2desk --agreements agreements.toml --store station.db post < plain-post.http";
 
 const CHECK_HELP: &str = "\
-Prints one line, 'organizations A, partners B', and reads nothing but the file of agreements.
+Prints one line, 'organizations A, partners B', and reads nothing but the file of agreements: the
+store stays closed, and isn't made where it is absent.
 Where that has a fault, the first one is said on standard error, and the key where it has one:
 'agreements: WrongKind receipt'. The exit status is then 1.
 
 Example:
-  as2desk --agreements agreements.toml check";
+  as2desk --agreements agreements.toml --store station.db check";
 
 const POST_HELP: &str = "\
 Standard input is one HTTP request, as a partner sends it: a document or a receipt. The reply on
@@ -41,8 +45,11 @@ standard output has the receipt in it where the document asks for one. A reply t
 403, is a reply too: the exit status is 0. It is 1, and 'refused: NAME' is said on standard error,
 where the input is no whole request, or can't be read, or the reply can't be written.
 
+The document is recorded in the store, and answered the same when it is posted again. A store that
+can't be opened is told before anything is read: 'store: NAME' on standard error, exit status 3.
+
 Example:
-  as2desk --agreements agreements.toml --moment 1000 post < plain-post.http";
+  as2desk --agreements agreements.toml --store station.db --moment 1000 post < plain-post.http";
 
 /// The command line that the program reads.
 pub(crate) fn command<'a>(alloc: Global) -> Result<Command<'a>, AllocError>
@@ -54,8 +61,15 @@ pub(crate) fn command<'a>(alloc: Global) -> Result<Command<'a>, AllocError>
         "FILE",
         "Agreements, a TOML file: the station's names, its partners and their terms",
     );
+    let store = needed(
+        alloc,
+        STORE,
+        "FILE",
+        "Records, an SQLite file, made where it is absent; ':memory:' keeps none",
+    );
     program(alloc)
         .arg(agreements)?
+        .arg(store)?
         .arg(first(alloc))?
         .arg(moment(alloc))?
         .subcommand(check(alloc))?
@@ -98,7 +112,7 @@ fn first<'a>(alloc: Global) -> Arg<'a>
     ensures rule { rule_of result ≡ first }
     ensures local { result.global ≡ false }
 {
-    let help = "Number of the receipt that 'post' writes: 1 to 999999999999";
+    let help = "First number of a store that is made: 1 to 999999999999";
     option(alloc, FIRST, "N", help)
         .default_value("1")
         .value_parser(value_parser!(u64).range(1..=999_999_999_999))

@@ -6,11 +6,13 @@ ghost use Rattle.clap.specs.Words.{HasKind, app_of, found_of, kind_of, rows_of, 
 ghost use Rattle.clap.specs.declared.error.kind.ErrorKind.TheVariants.{OutOfMemory, ValueValidation};
 ghost use Rattle.as2_desk.specs.CommandLine.{AsksForHelp, IsHelp, command_in, command_line, faults, values};
 ghost use Rattle.as2_desk.specs.Options.{Gives, GivesNone};
-ghost use Rattle.as2_desk.specs.Refusals.{end_line, line};
-ghost use Rattle.as2_desk.specs.Runs.{Counts, Ends, Posts, Runs};
-ghost use Rattle.as2_desk.specs.Statuses.{done, faulty, refused, status_of};
+ghost use Rattle.as2_desk.specs.Refusals.{end_line};
+ghost use Rattle.as2_desk.specs.Runs.{Counts, Ends, Fails, Posts, Refuses, Runs, Stopped};
+ghost use Rattle.as2_desk.specs.Statuses.{done, failed, faulty, refused, status_of};
+ghost use Rattle.as2_desk.specs.Stores.{Holds, Kept, kept_at};
 ghost use Rattle.as2_desk.specs.declared.options.Task.{Task as TheTask};
-ghost use Rattle.as2_desk.specs.declared.refusal.Refusal.TheVariants.{Memory};
+ghost use Rattle.as2_exchange.specs.declared.fault.StoreFault.{StoreFault as TheFault};
+ghost use Rattle.as2_desk.specs.declared.refusal.Refusal.TheVariants.{Memory, Store as Failing};
 
 use crate::agreed::agreements_in;
 use crate::check::write_counts;
@@ -18,37 +20,44 @@ use crate::command::command;
 use crate::files::ReadFiles;
 use crate::first_path::{Served, first_post};
 use crate::options::{OptionFault, Options, Posting, Task};
-use crate::refusal::{Refusal, is_said};
-use crate::status::{DONE, FAULTY, REFUSED, Ran};
+use crate::refusal::{Refusal, is_said, status_of};
+use crate::status::{DONE, FAULTY, Ran};
+use crate::stores::{OpenStores, records_in, records_in_memory};
 use as2_agreement::Agreements;
+use as2_exchange::StoreFault;
+use as2_store::Store;
 use clap::error::ErrorKind;
 use clap::{ArgMatches, Command, Error};
+use sqlite::Alter;
 use std::alloc::{AllocError, Global};
 use std::io::{Read, Write};
 
 /// Runs the command line `words`, which begin with the program's name. `clock` is the moment where the options give
-/// none, in seconds since 1970, if it can be told. The agreements are read from `files`. What the command has to say
-/// goes to `output`; why something was refused or is faulty, to `errors`.
-pub fn run<F: ReadFiles, R: Read, W: Write, E: Write>(
+/// none, in seconds since 1970, if it can be told. The agreements are read from `files`; a store is opened from `stores`,
+/// or in memory where its path is `:memory:`. What the command has to say goes to `output`; why something was refused or
+/// is faulty, to `errors`.
+pub fn run<F: ReadFiles, O: OpenStores, R: Read, W: Write, E: Write>(
     alloc: Global,
     words: &[&str],
     clock: Option<u64>,
     files: &F,
+    stores: &O,
     input: &mut R,
     output: &mut W,
     errors: &mut E,
 ) -> Ran
-    ensures status { (result.status ≡ done) ⊎ ((result.status ≡ refused) ⊎ (result.status ≡ faulty)) }
+    ensures status { (result.status ≡ done) ⊎ ((result.status ≡ refused) ⊎ ((result.status ≡ faulty) ⊎ (result.status ≡ failed))) }
     // Words that ask for something are no faulty command line.
-    ensures given { (path : List ℕ) (task : TheTask) → Gives (texts words.entry.now) clock path task → result.status ≢ faulty }
-    // It is done over the agreements of the file that they name, or the refusal is told that stands in their place; where
+    ensures given { (path store : List ℕ) (task : TheTask) → Gives (texts words.entry.now) clock path store task → result.status ≢ faulty }
+    // It is done over the agreements and the store that they name, or the refusal is told that stands in their place; where
     // memory for the words was wanting nothing is read or written.
-    ensures runs { (path : List ℕ) (task : TheTask)
-        → Gives (texts words.entry.now) clock path task
-        → Runs (F.content files.now path) task (R.remaining input.old) (R.remaining input.new) (input.new ≡ input.old) (output.new ≡ output.old)
+    ensures runs { (path store : List ℕ) (task : TheTask)
+        → Gives (texts words.entry.now) clock path store task
+        → Runs (F.content files.now path) (kept_at store (O.kept stores.now store)) task
+        (R.remaining input.old) (R.remaining input.new) (input.new ≡ input.old) (output.new ≡ output.old)
         (Appends (W.contents output.old) (W.contents output.new)) (Appends (E.contents errors.old) (E.contents errors.new)) result
         ⊎ ((input.new ≡ input.old) × (output.new ≡ output.old)
-        × Ends refused (line Memory) (Appends (E.contents errors.old) (E.contents errors.new)) result) }
+        × Refuses Memory (Appends (E.contents errors.old) (E.contents errors.new)) result) }
     // Words that ask for nothing run nothing.
     ensures unread { GivesNone (texts words.entry.now) clock → input.new ≡ input.old }
     // They are faulty, unless they ask for the help or the version; memory may be wanting to say so.
@@ -56,9 +65,12 @@ pub fn run<F: ReadFiles, R: Read, W: Write, E: Write>(
         → ((result.status ≡ faulty) ⊎ (result.status ≡ refused)) × (output.new ≡ output.old) }
     // A faulty command line reads and writes nothing.
     ensures untouched { result.status ≡ faulty → (input.new ≡ input.old) × (output.new ≡ output.old) }
+    // Neither does a store with a fault, and that is told.
+    ensures store { result.status ≡ failed → Stopped (input.new ≡ input.old) (output.new ≡ output.old)
+        (Appends (E.contents errors.old) (E.contents errors.new)) result }
 {
     match options(alloc, words, clock) {
-        Ok(options) => carry_out(alloc, &options, files, input, output, errors),
+        Ok(options) => carry_out(alloc, &options, files, stores, input, output, errors),
         Err(error) => tell(alloc, &error, output, errors),
     }
 }
@@ -69,7 +81,7 @@ fn options<'a>(
     words: &'a [&'a str],
     clock: Option<u64>,
 ) -> Result<Options<'a>, Error>
-    ensures given { IfOk result (λ o. Gives (texts words.entry.now) clock o.agreements.now o.task) }
+    ensures given { IfOk result (λ o. Gives (texts words.entry.now) clock o.agreements.now o.store.now o.task) }
     ensures none { IfErr result (λ e. kind_of e ≢ OutOfMemory → GivesNone (texts words.entry.now) clock) }
     ensures help { IfErr result (λ e. IsHelp (kind_of e) → AsksForHelp (texts words.entry.now)) }
 {
@@ -105,25 +117,36 @@ fn explained(
 }
 
 /// Does what is asked for, over the agreements.
-fn carry_out<F: ReadFiles, R: Read, W: Write, E: Write>(
+fn carry_out<F: ReadFiles, O: OpenStores, R: Read, W: Write, E: Write>(
     alloc: Global,
     options: &Options<'_>,
     files: &F,
+    stores: &O,
     input: &mut R,
     output: &mut W,
     errors: &mut E,
 ) -> Ran
-    ensures status { (result.status ≡ done) ⊎ (result.status ≡ refused) }
-    ensures runs { Runs (F.content files.now options.now.agreements.now) options.now.task
+    ensures status { (result.status ≡ done) ⊎ ((result.status ≡ refused) ⊎ (result.status ≡ failed)) }
+    ensures runs { Runs (F.content files.now options.now.agreements.now) (kept_at options.now.store.now (O.kept stores.now options.now.store.now)) options.now.task
         (R.remaining input.old) (R.remaining input.new) (input.new ≡ input.old) (output.new ≡ output.old)
         (Appends (W.contents output.old) (W.contents output.new)) (Appends (E.contents errors.old) (E.contents errors.new)) result }
+    ensures store { result.status ≡ failed → Stopped (input.new ≡ input.old) (output.new ≡ output.old)
+        (Appends (E.contents errors.old) (E.contents errors.new)) result }
 {
-    match agreements_in(alloc, files, options.agreements) {
-        Err(refusal) => refuse(refusal, errors),
-        Ok(agreements) => match options.task {
-            Task::Check => check(&agreements, output, errors),
-            Task::Post(posting) => post(alloc, &agreements, posting, input, output, errors),
-        },
+    let agreements = match agreements_in(alloc, files, options.agreements) {
+        Ok(agreements) => agreements,
+        Err(refusal) => return refuse(refusal, errors),
+    };
+    match options.task {
+        Task::Check => check(&agreements, output, errors),
+        Task::Post(posting) if options.store == ":memory:" => {
+            let records = records_in_memory(alloc, posting.first);
+            post(alloc, &agreements, posting, records, input, output, errors)
+        }
+        Task::Post(posting) => {
+            let records = records_in(alloc, stores, options.store, posting.first);
+            post(alloc, &agreements, posting, records, input, output, errors)
+        }
     }
 }
 
@@ -142,22 +165,33 @@ fn check<W: Write, E: Write>(agreements: &Agreements, output: &mut W, errors: &m
     }
 }
 
-/// Answers the first post of the input.
-fn post<R: Read, W: Write, E: Write>(
+/// Answers the first post of the input, where there are records to answer it from.
+fn post<S: Alter + Drop, R: Read, W: Write, E: Write>(
     alloc: Global,
     agreements: &Agreements,
     posting: Posting,
+    records: Result<Store<S>, StoreFault>,
     input: &mut R,
     output: &mut W,
     errors: &mut E,
 ) -> Ran
-    ensures status { (result.status ≡ done) ⊎ (result.status ≡ refused) }
-    ensures posts { Posts agreements.now posting (R.remaining input.old) (R.remaining input.new)
+    ensures status { (result.status ≡ done) ⊎ ((result.status ≡ refused) ⊎ (result.status ≡ failed)) }
+    ensures posts { (kept : Kept) → Holds S.Store kept posting.first records
+        → ((input.new ≡ input.old) × (output.new ≡ output.old)
+        × Fails kept posting.first (Appends (E.contents errors.old) (E.contents errors.new)) result)
+        ⊎ Posts agreements.now posting (R.remaining input.old) (R.remaining input.new)
         (Appends (W.contents output.old) (W.contents output.new)) (Appends (E.contents errors.old) (E.contents errors.new)) result }
+    ensures store { result.status ≡ failed → Stopped (input.new ≡ input.old) (output.new ≡ output.old)
+        (Appends (E.contents errors.old) (E.contents errors.new)) result }
 {
-    let Posting { first, moment } = posting;
-    let end = first_post(alloc, agreements, moment, first, input, output);
-    tell_end(end, errors)
+    match records {
+        Ok(_store) => {
+            let Posting { first, moment } = posting;
+            let end = first_post(alloc, agreements, moment, first.get(), input, output);
+            tell_end(end, errors)
+        }
+        Err(fault) => refuse(Refusal::Store(fault), errors),
+    }
 }
 
 /// Tells the end of a stream.
@@ -175,10 +209,12 @@ fn tell_end<E: Write>(end: Served, errors: &mut E) -> Ran
 
 /// Says that something was refused.
 fn refuse<E: Write>(refusal: Refusal, errors: &mut E) -> Ran
-    ensures { Ends refused (line refusal) (Appends (E.contents errors.old) (E.contents errors.new)) result }
+    ensures told { Refuses refusal (Appends (E.contents errors.old) (E.contents errors.new)) result }
+    ensures status { (result.status ≡ refused) ⊎ (result.status ≡ failed) }
+    ensures store { result.status ≡ failed → (fault : TheFault) × (refusal ≡ Failing fault) }
 {
     Ran {
-        status: REFUSED,
+        status: status_of(refusal),
         told: is_said(refusal, errors),
     }
 }
@@ -190,7 +226,7 @@ fn tell<W: Write, E: Write>(alloc: Global, error: &Error, output: &mut W, errors
         → ((result.status ≡ faulty) ⊎ (result.status ≡ refused)) × (output.new ≡ output.old) }
     ensures help { IsHelp (kind_of error.now) → result.status ≢ faulty }
     // Want of memory is told as such, or the error is another.
-    ensures memory { ((output.new ≡ output.old) × Ends refused (line Memory) (Appends (E.contents errors.old) (E.contents errors.new)) result)
+    ensures memory { ((output.new ≡ output.old) × Refuses Memory (Appends (E.contents errors.old) (E.contents errors.new)) result)
         ⊎ (kind_of error.now ≢ OutOfMemory) }
 {
     if error.kind() == ErrorKind::OutOfMemory {

@@ -7,18 +7,22 @@ mod check;
 mod command;
 mod desk;
 mod files;
+mod first_number;
 mod first_path;
 mod laws;
 mod options;
 mod parties;
 mod refusal;
 mod status;
+mod stores;
 
+pub use as2_exchange::StoreFault;
 pub use desk::run;
 pub use files::{FileFault, ReadFiles};
 pub use first_path::{Served, first_post};
 pub use laws::one_reply;
 pub use status::Ran;
+pub use stores::{OpenStores, Opening, opening_fault};
 
 #[cfg(test)]
 mod tests;

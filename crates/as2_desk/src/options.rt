@@ -1,20 +1,22 @@
 //! What a command line asks for.
 ghost use Rattle.std.specs.Prelude.{◌≡◌, ◌<◌, ◌≤◌, ◌^◌, ℕ, List, codes, Option, Some, option_map, IfOk, IfErr};
 ghost use Rattle.as2_names.specs.Moments.{last_moment};
+ghost use Rattle.as2_exchange.specs.State.{end_of_numbers};
 ghost use Rattle.clap.specs.Words.{first_of, found_of, one_of, rows_of, subcommand_name_of};
 ghost use Rattle.as2_desk.specs.Options.{Asks, Give, NumberIs, SecondsAre, Tells};
 ghost use Rattle.as2_desk.specs.declared.options.Task.{Task as TheTask};
 
-use crate::command::{AGREEMENTS, CHECK, FIRST, MOMENT, POST};
+use crate::command::{AGREEMENTS, CHECK, FIRST, MOMENT, POST, STORE};
+use crate::first_number::FirstNumber;
 use as2_text::Moment;
 use clap::ArgMatches;
 use std::fmt;
 
-/// What a post is answered with besides the agreements.
+/// What a post is answered with besides the agreements and the records.
 #[derive(Clone, Copy)]
 pub(crate) struct Posting {
-    /// The number of the receipt.
-    pub(crate) first: u64,
+    /// The first number of a store that is made.
+    pub(crate) first: FirstNumber,
     pub(crate) moment: Moment,
 }
 
@@ -32,6 +34,8 @@ pub(crate) enum Task {
 pub(crate) struct Options<'a> {
     /// The path of the file of agreements.
     pub(crate) agreements: &'a str,
+    /// The path of the store, or `:memory:`.
+    pub(crate) store: &'a str,
     pub(crate) task: Task,
 }
 
@@ -52,15 +56,22 @@ impl<'a> Options<'a> {
         found: &ArgMatches<'a>,
         clock: Option<u64>,
     ) -> Result<Options<'a>, OptionFault<'a>>
-        ensures given { IfOk result (λ o. Give (rows_of (found_of found.now)) (subcommand_name_of found.now) clock o.agreements.now o.task) }
-        ensures none { IfErr result (λ _. (path : List ℕ) (task : TheTask)
-            → ¬ Give (rows_of (found_of found.now)) (subcommand_name_of found.now) clock path task) }
+        ensures given { IfOk result (λ o. Give (rows_of (found_of found.now)) (subcommand_name_of found.now) clock o.agreements.now o.store.now o.task) }
+        ensures none { IfErr result (λ _. (path store : List ℕ) (task : TheTask)
+            → ¬ Give (rows_of (found_of found.now)) (subcommand_name_of found.now) clock path store task) }
     {
         let Some(agreements) = text(found, AGREEMENTS) else {
             return Err(OptionFault::NoValue(AGREEMENTS));
         };
+        let Some(store) = text(found, STORE) else {
+            return Err(OptionFault::NoValue(STORE));
+        };
         let task = asked(found, clock)?;
-        Ok(Options { agreements, task })
+        Ok(Options {
+            agreements,
+            store,
+            task,
+        })
     }
 }
 
@@ -91,7 +102,7 @@ fn asked_post<'a>(found: &ArgMatches<'a>, clock: Option<u64>) -> Result<Task, Op
     ensures none { IfErr result (λ _. (task : TheTask)
         → ¬ Asks (rows_of (found_of found.now)) (subcommand_name_of found.now) clock task) }
 {
-    let first = number(found, FIRST)?.ok_or(OptionFault::NoValue(FIRST))?;
+    let first = first(found)?;
     let moment = moment(found, clock)?;
     Ok(Task::Post(Posting { first, moment }))
 }
@@ -107,6 +118,18 @@ fn number<'a>(found: &ArgMatches<'a>, option: &'a str) -> Result<Option<u64>, Op
     match found.try_get_one::<u64>(option) {
         Ok(number) => Ok(number),
         Err(_) => Err(OptionFault::NoValue(option)),
+    }
+}
+
+/// The first number that the option says.
+fn first<'a>(found: &ArgMatches<'a>) -> Result<FirstNumber, OptionFault<'a>>
+    ensures given { IfOk result (NumberIs (one_of (codes "first") (rows_of (found_of found.now)))) }
+    ensures none { IfErr result (λ _. (n : ℕ) → 1 ≤ n → n < end_of_numbers
+        → ¬ NumberIs (one_of (codes "first") (rows_of (found_of found.now))) n) }
+{
+    match number(found, FIRST)?.and_then(FirstNumber::new) {
+        Some(first) => Ok(first),
+        None => Err(OptionFault::NoValue(FIRST)),
     }
 }
 

@@ -1,11 +1,12 @@
 //! Why something was refused, in one line on standard error.
 ghost use Rattle.std.specs.Prelude.{◌≡◌, OnOk, true};
 ghost use Rattle.std.specs.Io.KnownBytes.{Appends};
-ghost use Rattle.as2_desk.specs.Refusals.{agreements_line, line, refused_line};
+ghost use Rattle.as2_desk.specs.Refusals.{agreements_line, line, refusal_status, refused_line, store_fault_name, store_line};
 
 use crate::first_path::Served;
-use crate::status::end_name;
+use crate::status::{FAILED, REFUSED, end_name};
 use as2_agreement::AgreementFault;
+use as2_exchange::StoreFault;
 use std::io;
 use std::io::Write;
 
@@ -20,8 +21,34 @@ pub(crate) enum Refusal {
     Memory,
     /// The agreements have a fault.
     Agreements(AgreementFault),
+    /// The store has a fault.
+    Store(StoreFault),
     /// A stream came to another end than `Closed`.
     Stream(Served),
+}
+
+/// The exit status that goes with a refusal.
+pub(crate) fn status_of(refusal: Refusal) -> u8
+    ensures { result ≡ refusal_status refusal }
+{
+    match refusal {
+        Refusal::Store(_) => FAILED,
+        _ => REFUSED,
+    }
+}
+
+/// The name of a fault, as it is spelled in `StoreFault`.
+fn store_fault_name(fault: StoreFault) -> &'static str
+    ensures { result.now ≡ store_fault_name fault }
+{
+    match fault {
+        StoreFault::Memory => "Memory",
+        StoreFault::Disk => "Disk",
+        StoreFault::Refused => "Refused",
+        StoreFault::Full => "Full",
+        StoreFault::NotAStore => "NotAStore",
+        StoreFault::OtherVersion => "OtherVersion",
+    }
 }
 
 /// Writes `refused: NAME`.
@@ -42,6 +69,14 @@ fn say_agreements<E: Write>(fault: AgreementFault, errors: &mut E) -> io::Result
     }
 }
 
+/// Writes `store: NAME`.
+fn say_store<E: Write>(fault: StoreFault, errors: &mut E) -> io::Result<()>
+    ensures { OnOk result (Appends (E.contents errors.old) (E.contents errors.new) (store_line fault)) }
+{
+    let name = store_fault_name(fault);
+    write!(errors, "store: {name}\n")
+}
+
 /// Writes the line of a refusal.
 fn say<E: Write>(refusal: Refusal, errors: &mut E) -> io::Result<()>
     ensures { OnOk result (Appends (E.contents errors.old) (E.contents errors.new) (line refusal)) }
@@ -51,6 +86,7 @@ fn say<E: Write>(refusal: Refusal, errors: &mut E) -> io::Result<()>
         Refusal::CannotWrite => say_refused("CannotWrite", errors),
         Refusal::Memory => say_refused("Memory", errors),
         Refusal::Agreements(fault) => say_agreements(fault, errors),
+        Refusal::Store(fault) => say_store(fault, errors),
         Refusal::Stream(end) => say_refused(end_name(end), errors),
     }
 }

@@ -7,7 +7,7 @@ use crate::first_path::Served;
 /// How a command line ended.
 #[derive(Clone, Copy, Debug, PartialEq, Eq)]
 pub struct Ran {
-    /// The exit status: 0 done, 1 refused, 2 a faulty command line.
+    /// The exit status: 0 done, 1 refused, 2 a faulty command line, 3 a fault of the store.
     pub status: u8,
     /// Whether all that there was to say on standard error could be written.
     pub told: bool,
@@ -19,6 +19,8 @@ pub(crate) const DONE: u8 = 0;
 pub(crate) const REFUSED: u8 = 1;
 /// The command line is faulty, and nothing was begun.
 pub(crate) const FAULTY: u8 = 2;
+/// The store has a fault, and which is said on standard error.
+pub(crate) const FAILED: u8 = 3;
 
 /// The name of `end`, as it is spelled in `Served`.
 pub(crate) fn end_name(end: Served) -> &'static str

@@ -4,14 +4,15 @@ mod command_lines;
 mod file;
 mod posts;
 mod receipts;
+mod stores;
 mod streams;
 
 use crate::run;
-use file::OneFile;
+use file::{NoStore, OneFile};
 use std::alloc::{AllocError, Global};
 use std::io::{Error, ErrorKind, Read, Result as IoResult, Write};
 
-const FIXTURE: &[&str] = &["--agreements", "agreements.toml"];
+const FIXTURE: &[&str] = &["--agreements", "agreements.toml", "--store", ":memory:"];
 
 /// The agreements of `examples/agreements.toml`, without its comments.
 const AGREEMENTS: &str = r#"
@@ -132,6 +133,7 @@ fn run_words<'a, R: Read, W: Write>(
         words.as_slice(),
         Some(2000),
         &files,
+        &NoStore,
         input,
         output,
         errors,

@@ -2,8 +2,10 @@
 #![tactic(auto)]
 
 ghost use Rattle.as2_desk.specs.FileContents.{untold};
+ghost use Rattle.as2_desk.specs.Stores.{untold as not_told};
 
-use as2_desk::{FileFault, ReadFiles};
+use as2_desk::{FileFault, OpenStores, Opening, ReadFiles, StoreFault, opening_fault};
+use sqlite::{Connection, File, FileStore};
 use std::alloc::Global;
 use std::process::ExitCode;
 use std::time::SystemTime;
@@ -23,6 +25,27 @@ impl ReadFiles for FileSystem<'_> {
             Ok(bytes) => Ok(bytes),
             Err(error) if error.kind() == io::ErrorKind::OutOfMemory => Err(FileFault::Memory),
             Err(_) => Err(FileFault::CannotRead),
+        }
+    }
+}
+
+impl OpenStores for FileSystem<'_> {
+    type Kind = FileStore<File>;
+
+    ghost kept = { λ _ _. not_told };
+
+    fn open_store(
+        &self,
+        _alloc: Global,
+        path: &str,
+    ) -> Result<Opening<FileStore<File>>, StoreFault> {
+        let Ok(is_there) = fs::exists(self.rt, path) else {
+            return Err(StoreFault::Disk);
+        };
+        match Connection::open(self.rt, path) {
+            Ok(conn) if is_there => Ok(Opening::Found(conn)),
+            Ok(conn) => Ok(Opening::New(conn)),
+            Err(error) => Err(opening_fault(&error)),
         }
     }
 }
@@ -47,11 +70,13 @@ fn main(rt: HostRuntime) -> io::Result<ExitCode> {
     for word in &words {
         texts.push(word.as_str())?;
     }
+    let files = FileSystem { rt: &rt };
     let ran = as2_desk::run(
         rt.alloc(),
         texts.as_slice(),
         clock(&rt),
-        &FileSystem { rt: &rt },
+        &files,
+        &files,
         &mut rt.stdin(),
         &mut rt.stdout(),
         &mut rt.stderr(),

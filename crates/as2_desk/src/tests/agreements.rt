@@ -1,5 +1,5 @@
 //! Command lines over files of agreements.
-use super::file::OneFile;
+use super::file::{NoStore, OneFile};
 use super::{
     AGREEMENTS, AT_1000, Broken, Change, FIXTURE, NOTHING, Outcome, POST, RECEIPT, changed,
     run_words,
@@ -31,6 +31,7 @@ fn over<'a>(
         words.as_slice(),
         Some(2000),
         &files,
+        &NoStore,
         &mut input,
         &mut output,
         &mut errors,
@@ -206,8 +207,22 @@ fn an_agreed_name_has_at_most_128_letters(rt: HostRuntime) -> Result<(), Fail> {
 #[test]
 fn a_file_that_cannot_be_read_is_refused(rt: HostRuntime) -> Result<(), Fail> {
     const WORDS: [&[&str]; 2] = [
-        &["--agreements", "other.toml", "check"],
-        &["--agreements", "other.toml", "--moment", "1000", "post"],
+        &[
+            "--agreements",
+            "other.toml",
+            "--store",
+            "station.db",
+            "check",
+        ],
+        &[
+            "--agreements",
+            "other.toml",
+            "--store",
+            "station.db",
+            "--moment",
+            "1000",
+            "post",
+        ],
     ];
     for words in WORDS {
         let mut output = Vec::new(rt.alloc());
@@ -290,13 +305,21 @@ fn what_cannot_be_said_is_told_to_the_caller(rt: HostRuntime) -> Result<(), Fail
         path: "agreements.toml",
         bytes: b"=",
     };
-    let words = ["as2desk", "--agreements", "agreements.toml", "check"];
+    let words = [
+        "as2desk",
+        "--agreements",
+        "agreements.toml",
+        "--store",
+        "station.db",
+        "check",
+    ];
     let mut output = Vec::new(rt.alloc());
     let ran = run(
         rt.alloc(),
         words.as_slice(),
         None,
         &files,
+        &NoStore,
         &mut b"".as_slice(),
         &mut output,
         &mut Broken,

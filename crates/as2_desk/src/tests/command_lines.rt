@@ -1,5 +1,5 @@
 //! Command lines, with no input.
-use super::file::OneFile;
+use super::file::{NoStore, OneFile};
 use super::{AGREEMENTS, Broken, FIXTURE, joined, run_words};
 use crate::run;
 use std::test::Fail;
@@ -18,7 +18,7 @@ struct Case {
 const HELP: &str = "\
 An AS2 station: takes documents from partners and answers with receipts
 
-Usage: as2desk [OPTIONS] --agreements <FILE> <COMMAND>
+Usage: as2desk [OPTIONS] --agreements <FILE> --store <FILE> <COMMAND>
 
 Commands:
   check  Reads the agreements and prints how many organizations and partners they have
@@ -26,40 +26,43 @@ Commands:
 
 Options:
       --agreements <FILE>  Agreements, a TOML file: the station's names, its partners and their terms
-      --first <N>          Number of the receipt that 'post' writes: 1 to 999999999999 [default: 1]
+      --store <FILE>       Records, an SQLite file, made where it is absent; ':memory:' keeps none
+      --first <N>          First number of a store that is made: 1 to 999999999999 [default: 1]
       --moment <SECONDS>   Moment of 'post', in seconds since 1970: 0 to 253402300799 [default: the clock]
   -h, --help               Print help
   -V, --version            Print version
 
-Options stand before the command. '--agreements' must be given, and has no default.
+Options stand before the command. '--agreements' and '--store' must be given, and have no default.
 
-Exit status: 0 done; 1 refused, and one line on standard error says why; 2 a faulty command line.
+Exit status: 0 done; 1 refused, and one line on standard error says why; 2 a faulty command line;
+3 the store failed, and one line on standard error says how.
 
 Examples:
-  as2desk --agreements agreements.toml check
-  as2desk --agreements agreements.toml post < plain-post.http
+  as2desk --agreements agreements.toml --store station.db check
+  as2desk --agreements agreements.toml --store station.db post < plain-post.http
 ";
 
 const CHECK_HELP: &str = "\
 Reads the agreements and prints how many organizations and partners they have
 
-Usage: as2desk --agreements <FILE> check
+Usage: as2desk --agreements <FILE> --store <FILE> check
 
 Options:
   -h, --help  Print help
 
-Prints one line, 'organizations A, partners B', and reads nothing but the file of agreements.
+Prints one line, 'organizations A, partners B', and reads nothing but the file of agreements: the
+store stays closed, and isn't made where it is absent.
 Where that has a fault, the first one is said on standard error, and the key where it has one:
 'agreements: WrongKind receipt'. The exit status is then 1.
 
 Example:
-  as2desk --agreements agreements.toml check
+  as2desk --agreements agreements.toml --store station.db check
 ";
 
 const POST_HELP: &str = "\
 Answers the post on standard input with a reply on standard output
 
-Usage: as2desk --agreements <FILE> post
+Usage: as2desk --agreements <FILE> --store <FILE> post
 
 Options:
   -h, --help  Print help
@@ -69,25 +72,28 @@ standard output has the receipt in it where the document asks for one. A reply t
 403, is a reply too: the exit status is 0. It is 1, and 'refused: NAME' is said on standard error,
 where the input is no whole request, or can't be read, or the reply can't be written.
 
+The document is recorded in the store, and answered the same when it is posted again. A store that
+can't be opened is told before anything is read: 'store: NAME' on standard error, exit status 3.
+
 Example:
-  as2desk --agreements agreements.toml --moment 1000 post < plain-post.http
+  as2desk --agreements agreements.toml --store station.db --moment 1000 post < plain-post.http
 ";
 
 // The forms of these texts are those of `clap`.
 const USAGE: &str = "
 
-Usage: as2desk [OPTIONS] --agreements <FILE> <COMMAND>";
+Usage: as2desk [OPTIONS] --agreements <FILE> --store <FILE> <COMMAND>";
 
 const POST_USAGE: &str = "
 
-Usage: as2desk --agreements <FILE> post";
+Usage: as2desk --agreements <FILE> --store <FILE> post";
 
 const HINT: &str = "
 
 For more information, try '--help'.
 ";
 
-const CASES: [Case; 25] = [
+const CASES: [Case; 26] = [
     Case {
         options: FIXTURE,
         rest: &["post"],
@@ -150,7 +156,7 @@ const CASES: [Case; 25] = [
         output: "",
         errors: &[
             "error: unexpected argument '--colour' found",
-            "\n\nUsage: as2desk --agreements <FILE> <COMMAND>",
+            "\n\nUsage: as2desk --agreements <FILE> --store <FILE> <COMMAND>",
             HINT,
         ],
     },
@@ -288,7 +294,17 @@ const CASES: [Case; 25] = [
         status: 2,
         output: "",
         errors: &[
-            "error: the following required arguments were not provided:\n  --agreements <FILE>\n\nUsage: as2desk --agreements <FILE> <COMMAND>",
+            "error: the following required arguments were not provided:\n  --agreements <FILE>\n  --store <FILE>\n\nUsage: as2desk --agreements <FILE> --store <FILE> <COMMAND>",
+            HINT,
+        ],
+    },
+    Case {
+        options: &["--agreements", "agreements.toml"],
+        rest: &["check"],
+        status: 2,
+        output: "",
+        errors: &[
+            "error: the following required arguments were not provided:\n  --store <FILE>\n\nUsage: as2desk --agreements <FILE> --store <FILE> <COMMAND>",
             HINT,
         ],
     },
@@ -299,7 +315,7 @@ const CASES: [Case; 25] = [
         output: "",
         errors: &[
             "error: unexpected argument '--organization' found",
-            "\n\nUsage: as2desk --agreements <FILE> <COMMAND>",
+            "\n\nUsage: as2desk --agreements <FILE> --store <FILE> <COMMAND>",
             HINT,
         ],
     },
@@ -320,7 +336,7 @@ const CASES: [Case; 25] = [
         status: 2,
         output: "",
         errors: &[
-            "error: unexpected argument 'more' found\n\nUsage: as2desk --agreements <FILE> check",
+            "error: unexpected argument 'more' found\n\nUsage: as2desk --agreements <FILE> --store <FILE> check",
             HINT,
         ],
     },
@@ -384,7 +400,14 @@ fn a_moment_is_wanted_where_the_clock_tells_none(rt: HostRuntime) -> Result<(), 
         (None, "check", 0, ""),
         (Some(253_402_300_800), "check", 0, ""),
     ] {
-        let words = ["as2desk", "--agreements", "agreements.toml", command];
+        let words = [
+            "as2desk",
+            "--agreements",
+            "agreements.toml",
+            "--store",
+            ":memory:",
+            command,
+        ];
         let mut output = Vec::new(rt.alloc());
         let mut errors = Vec::new(rt.alloc());
         let mut input = b"".as_slice();
@@ -393,6 +416,7 @@ fn a_moment_is_wanted_where_the_clock_tells_none(rt: HostRuntime) -> Result<(), 
             words.as_slice(),
             clock,
             &files,
+            &NoStore,
             &mut input,
             &mut output,
             &mut errors,

@@ -8,8 +8,9 @@ pub returns : goal.returns
 returns c =
     let one = c.in_ok-arg.ensures.shape c.needed-agreements.ensures.local
     ∙ ap₂ with_rule c.program.ensures c.needed-agreements.ensures.rule in
-    let two = c.in_ok-arg-2.ensures.shape c.first.ensures.local ∙ ap₂ with_rule one c.first.ensures.rule in
-    let three = c.in_ok-arg-3.ensures.shape c.moment.ensures.local ∙ ap₂ with_rule two c.moment.ensures.rule in
-    let four = c.in_ok-subcommand.ensures.shape c.check.ensures.local ∙ ap₂ with_subcommand three c.check.ensures.shape in
+    let two = c.in_ok-arg-2.ensures.shape c.needed-store.ensures.local ∙ ap₂ with_rule one c.needed-store.ensures.rule in
+    let three = c.in_ok-arg-3.ensures.shape c.first.ensures.local ∙ ap₂ with_rule two c.first.ensures.rule in
+    let four = c.in_ok-arg-4.ensures.shape c.moment.ensures.local ∙ ap₂ with_rule three c.moment.ensures.rule in
+    let five = c.in_ok-subcommand.ensures.shape c.check.ensures.local ∙ ap₂ with_subcommand four c.check.ensures.shape in
     IfOk-weaker c.subcommand-2.result _ _
-    (λ r adds. adds.shape c.post.ensures.local ∙ ap₂ with_subcommand four c.post.ensures.shape) c.subcommand-2.ensures
+    (λ r adds. adds.shape c.post.ensures.local ∙ ap₂ with_subcommand five c.post.ensures.shape) c.subcommand-2.ensures

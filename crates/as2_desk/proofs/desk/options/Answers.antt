@@ -7,8 +7,8 @@ use Rattle.as2_desk.proofs.desk.options.Goals as goal
 
 -- what the words give is what was found
 pub returns-clause-none : goal.returns-clause-none
-returns-clause-none c = λ known path task gives.
+returns-clause-none c = λ known path store task gives.
     let found = c.in_ok-found.ensures.found in
-    let named = subst (λ (o : Option Text). Give (values (texts c.args.words.now)) o c.args.clock path task) (sym found.2) gives.given in
-    c.in-Err.ensures.none path task
-    (subst (λ (v : List Row). Give v (subcommand_name_of c.in_ok-found.found) c.args.clock path task) (sym found.1) named)
+    let named = subst (λ (o : Option Text). Give (values (texts c.args.words.now)) o c.args.clock path store task) (sym found.2) gives.given in
+    c.in-Err.ensures.none path store task
+    (subst (λ (v : List Row). Give v (subcommand_name_of c.in_ok-found.found) c.args.clock path store task) (sym found.1) named)

@@ -3,6 +3,7 @@ use Rattle.std.specs.Io.KnownBytes.{Appends}
 use Rattle.clap.specs.Walk.{Text, texts}
 use Rattle.as2_desk.proofs.Given.{given_one}
 use Rattle.as2_desk.specs.Runs.{Runs}
+use Rattle.as2_desk.specs.Stores.{kept_at}
 use Rattle.as2_desk.specs.Statuses.{faulty, refused}
 use Rattle.as2_desk.specs.declared.options.Task.{Task}
 use Rattle.as2_desk.proofs.desk.run.Goals as goal
@@ -11,13 +12,13 @@ use Rattle.as2_desk.proofs.desk.run.Goals as goal
 pub returns-in-Ok-clause-unread : goal.returns-in-Ok-clause-unread
 returns-in-Ok-clause-unread g c = λ none.
     let read = c.in-Ok.options in
-    absurd (none read.agreements.now read.task c.in-Ok.ensures.given)
+    absurd (none read.agreements.now read.store.now read.task c.in-Ok.ensures.given)
 
 pub returns-in-Ok-clause-runs : goal.returns-in-Ok-clause-runs
-returns-in-Ok-clause-runs g c = λ path task gives.
+returns-in-Ok-clause-runs g c = λ path store task gives.
     let read = c.in-Ok.options in
-    inl (given_one (texts c.args.words.now) c.args.clock read.agreements.now path read.task task
-    (λ (p : Text) (t : Task). Runs (g.F.ReadFiles.content c.args.files.now p) t
+    inl (given_one (texts c.args.words.now) c.args.clock read.agreements.now path read.store.now store read.task task
+    (λ (p b : Text) (t : Task). Runs (g.F.ReadFiles.content c.args.files.now p) (kept_at b (g.O.OpenStores.kept c.args.stores.now b)) t
     (g.R.Read.remaining c.args.input.now) (g.R.Read.remaining c.carry_out.new.input)
     (c.carry_out.new.input ≡ c.args.input.now) (c.carry_out.new.output ≡ c.args.output.now)
     (Appends (g.W.Write.contents c.args.output.now) (g.W.Write.contents c.carry_out.new.output))
@@ -26,13 +27,19 @@ returns-in-Ok-clause-runs g c = λ path task gives.
 
 -- here memory was wanting, since the words ask for something
 pub returns-in-Err-clause-given : goal.returns-in-Err-clause-given
-returns-in-Err-clause-given g c = λ path task gives is_faulty. elim c.tell.ensures.memory [
+returns-in-Err-clause-given g c = λ path store task gives is_faulty. elim c.tell.ensures.memory [
   | inl wanting ↦ let bad : refused ≡ faulty = sym wanting.1.ended ∙ is_faulty in omega arith
-  | inr other ↦ c.in-Err.ensures.none other path task gives
+  | inr other ↦ c.in-Err.ensures.none other path store task gives
 ]
 
 pub returns-in-Err-clause-runs : goal.returns-in-Err-clause-runs
-returns-in-Err-clause-runs g c = λ path task gives. elim c.tell.ensures.memory [
+returns-in-Err-clause-runs g c = λ path store task gives. elim c.tell.ensures.memory [
   | inl wanting ↦ inr (refl, wanting.0, wanting.1)
-  | inr other ↦ absurd (c.in-Err.ensures.none other path task gives)
+  | inr other ↦ absurd (c.in-Err.ensures.none other path store task gives)
 ]
+
+-- here the words ask for something
+pub returns-in-Ok-clause-none : goal.returns-in-Ok-clause-none
+returns-in-Ok-clause-none g c = λ none _.
+    let read = c.in-Ok.options in
+    absurd (none read.agreements.now read.store.now read.task c.in-Ok.ensures.given)
