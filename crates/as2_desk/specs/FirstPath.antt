@@ -1,4 +1,4 @@
--- What is written for the first request of an input, how the stream ends, and what stays unread.
+-- What is written for the first request of an input, how the stream ends, what it leaves, and what stays unread.
 use Rattle.std.specs.Prelude.{◌≡◌, ℕ, ◌⊎◌, List, [], Option, true, false, ⊤}
 use Rattle.std.specs.Io.KnownBytes.{Appends}
 use Rattle.as2_http.specs.Answers.{Answer}
@@ -9,10 +9,12 @@ use Rattle.as2_http.specs.Replies.{IsReply, refusal}
 use Rattle.as2_http.specs.declared.arrival.Request.{Request}
 use Rattle.as2_http.specs.declared.framing.Refused.{Refused}
 use Rattle.as2_http.specs.declared.reply.Form.{Form}
-use Rattle.as2_desk.specs.PostAnswers.{answer}
 use Rattle.as2_agreement.specs.Agreements.{AgreedValues}
+use Rattle.as2_exchange.specs.State.{State}
+use Rattle.as2_desk.specs.Responses.{Responds, answer_of}
 use Rattle.as2_desk.specs.declared.first_path.Served.{Served}
 use Rattle.as2_desk.specs.declared.first_path.Served.TheVariants.{Closed, Truncated, BadFraming, ReadFault, WriteFault, Memory, TooLong}
+use Rattle.as2_desk.specs.declared.response.Response.{Response}
 
 -- the form of the reply to a request
 abbrev pub form_of : Request → Form
@@ -22,13 +24,19 @@ form_of r = record { closes = false; to_head = is_head r.method }
 abbrev pub refusal_form : Refused → Form
 refusal_form refused = record { closes = true; to_head = refused.to_head }
 
--- the input begins with a request, the text is its reply, and no more was read than that took
-pub record Replies (agreements : AgreedValues) (moment number : ℕ) (input : List ℕ) (after : Option (List ℕ)) (text : List ℕ) : Type 0 where
+-- the input begins with a request, this is what it gets in the state s, and t is left; no more was read than that took
+pub record Gets (agreements : AgreedValues) (moment : ℕ) (s t : State) (input : List ℕ) (after : Option (List ℕ)) : Type 0 where
   pub request : Request
   pub rest : List ℕ
   pub begins : Begins input request rest
-  pub reply : IsReply moment (form_of request) (answer agreements number request) text
+  pub response : Response
+  pub responds : Responds agreements moment s request response t
   pub unread : LeavesUnread input after
+
+-- the text is the reply to that
+pub record Replies (agreements : AgreedValues) (moment : ℕ) (s t : State) (input : List ℕ) (after : Option (List ℕ)) (text : List ℕ) : Type 0 where
+  pub gets : Gets agreements moment s t input after
+  pub reply : IsReply moment (form_of gets.request) (answer_of gets.response) text
 
 -- the input begins with no request, the text is the reply that says why, and no more was read than that took
 pub record Refusal (moment : ℕ) (input : List ℕ) (after : Option (List ℕ)) (text : List ℕ) : Type 0 where
@@ -37,16 +45,20 @@ pub record Refusal (moment : ℕ) (input : List ℕ) (after : Option (List ℕ))
   pub reply : IsReply moment (refusal_form refused) (refusal refused.reason) text
   pub unread : LeavesUnread input after
 
--- the text that is written for the input, and the end that goes with it; of a write that failed nothing is said
-abbrev pub FirstPath : AgreedValues → ℕ → ℕ → List ℕ → Option (List ℕ) → Served → List ℕ → Type 0
-FirstPath agreements moment number input after Closed text =
-    Replies agreements moment number input after text ⊎ (IsOpen input × (unblank input ≡ []) × (text ≡ []))
-FirstPath agreements moment number input after Truncated text = IsOpen input × ¬ (unblank input ≡ []) × (text ≡ [])
-FirstPath agreements moment number input after BadFraming text = Refusal moment input after text
-FirstPath agreements moment number input after ReadFault text = text ≡ []
-FirstPath agreements moment number input after Memory text = text ≡ []
-FirstPath agreements moment number input after TooLong text = text ≡ []
-FirstPath agreements moment number input after WriteFault text = ⊤
+-- nothing is changed but by a whole request
+abbrev pub Leaves : AgreedValues → ℕ → State → State → List ℕ → Option (List ℕ) → Type 0
+Leaves agreements moment s t input after = (t ≡ s) ⊎ Gets agreements moment s t input after
+
+-- the text that is written for the input in the state s, the end that goes with it, and the state t that is left; what a write that failed wrote is not said
+abbrev pub FirstPath : AgreedValues → ℕ → State → State → List ℕ → Option (List ℕ) → Served → List ℕ → Type 0
+FirstPath agreements moment s t input after Closed text =
+    Replies agreements moment s t input after text ⊎ (IsOpen input × (unblank input ≡ []) × (text ≡ []) × (t ≡ s))
+FirstPath agreements moment s t input after Truncated text = IsOpen input × ¬ (unblank input ≡ []) × (text ≡ []) × (t ≡ s)
+FirstPath agreements moment s t input after BadFraming text = Refusal moment input after text × (t ≡ s)
+FirstPath agreements moment s t input after ReadFault text = (text ≡ []) × (t ≡ s)
+FirstPath agreements moment s t input after TooLong text = (text ≡ []) × (t ≡ s)
+FirstPath agreements moment s t input after Memory text = (text ≡ []) × Leaves agreements moment s t input after
+FirstPath agreements moment s t input after WriteFault text = Leaves agreements moment s t input after
 
 -- P, unless a write failed
 abbrev pub UnlessWriteFault : Served → Type 0 → Type 0
@@ -57,6 +69,11 @@ UnlessWriteFault BadFraming P = P
 UnlessWriteFault ReadFault P = P
 UnlessWriteFault Memory P = P
 UnlessWriteFault TooLong P = P
+
+-- such a text was written, where no write failed
+abbrev pub Serves : AgreedValues → ℕ → State → State → List ℕ → Option (List ℕ) → (List ℕ → Type 0) → Served → Type 0
+Serves agreements moment s t input after Wrote end =
+    (text : List ℕ) × FirstPath agreements moment s t input after end text × UnlessWriteFault end (Wrote text)
 
 -- the answer was written as its reply, and the end is that one; where memory was wanting nothing was written
 abbrev pub Sent : ℕ → Form → Answer → Option (List ℕ) → Option (List ℕ) → Served → Served → Type 0

@@ -5,7 +5,7 @@ pub mod Refusals
 pub mod FileContents
 pub mod FileAgreements
 pub mod Stores
-pub mod PostAnswers
+pub mod Responses
 pub mod FirstPath
 pub mod Laws
 pub mod Checks

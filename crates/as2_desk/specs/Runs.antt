@@ -1,20 +1,20 @@
 -- What the program comes to where the words ask for something. Of the streams these are told: what the reader had left and has
 -- left, that nothing was read (Unread) or written (Unwritten), and which text was written on standard output (Wrote) and on
 -- standard error (Said).
-use Rattle.std.specs.Prelude.{◌≡◌, ◌⊎◌, ℕ, List, Option, Some, Ok, Err, true, IfSome}
+use Rattle.std.specs.Prelude.{◌≡◌, ◌⊎◌, ℕ, List, Option, [], Some, Ok, Err, true, IfSome}
 use Rattle.as2_agreement.specs.Agreements.{AgreedValues}
 use Rattle.as2_desk.specs.Checks.{counts_line}
 use Rattle.as2_desk.specs.FileAgreements.{Opened, Opens}
 use Rattle.as2_desk.specs.FileContents.{Content}
-use Rattle.as2_desk.specs.FirstPath.{FirstPath, UnlessWriteFault}
+use Rattle.as2_desk.specs.FirstPath.{Serves}
 use Rattle.as2_desk.specs.Refusals.{end_line, line, refusal_status}
 use Rattle.as2_desk.specs.Statuses.{done, status_of}
 use Rattle.as2_desk.specs.Stores.{Kept, stands_for}
+use Rattle.as2_exchange.specs.State.{State}
 use Rattle.as2_exchange.specs.declared.fault.StoreFault.{StoreFault}
 use Rattle.as2_store.specs.Stands.{may_come}
 use Rattle.as2_desk.specs.declared.refusal.Refusal.{Refusal}
 use Rattle.as2_desk.specs.declared.first_path.Served.{Served}
-use Rattle.as2_desk.specs.declared.options.Posting.{Posting}
 use Rattle.as2_desk.specs.declared.options.Task.{Task}
 use Rattle.as2_desk.specs.declared.options.Task.TheVariants.{Check, Post}
 use Rattle.as2_desk.specs.declared.refusal.Refusal.TheVariants.{CannotWrite, Store}
@@ -34,11 +34,12 @@ abbrev pub Counts : AgreedValues → (List ℕ → Type 0) → (List ℕ → Typ
 Counts agreements Wrote Said ran =
     (Wrote (counts_line agreements) × (ran.status ≡ done)) ⊎ Refuses CannotWrite Said ran
 
--- what was written, where the reader tells its bytes, is the text for the input; status and line tell the end
-pub record Posts (agreements : AgreedValues) (posting : Posting) (before after : Option (List ℕ)) (Wrote Said : List ℕ → Type 0) (ran : Ran) : Type 0 where
+-- what was written, where the reader tells its bytes and the state is known that the tables stood for, is the text for the input in
+-- that state; for now that is said of states without documents to partners. Status and line tell the end.
+pub record Posts (agreements : AgreedValues) (moment : ℕ) (known : Option State) (before after : Option (List ℕ)) (Wrote Said : List ℕ → Type 0) (ran : Ran) : Type 0 where
   pub end : Served
-  pub path : (input : List ℕ) → before ≡ Some input → UnlessWriteFault end
-      ((text : List ℕ) × FirstPath agreements posting.moment posting.first input after end text × Wrote text)
+  pub serves : IfSome known (λ s. s.outbox ≡ [] → (input : List ℕ) → before ≡ Some input
+      → (t : State) × Serves agreements moment s t input after Wrote end)
   pub told : Ends (status_of end) (end_line end) Said ran
 
 -- no store could be opened, for a fault that may come of any call where it is known what was kept
@@ -56,7 +57,7 @@ abbrev pub Comes : Opened → Kept → Task → Option (List ℕ) → Option (Li
 Comes (Err refusal) kept task before after Unread Unwritten Wrote Said ran = Unread × Unwritten × Refuses refusal Said ran
 Comes (Ok agreements) kept Check before after Unread Unwritten Wrote Said ran = Unread × Counts agreements Wrote Said ran
 Comes (Ok agreements) kept (Post posting) before after Unread Unwritten Wrote Said ran =
-    (Unread × Unwritten × Fails kept posting.first Said ran) ⊎ Posts agreements posting before after Wrote Said ran
+    (Unread × Unwritten × Fails kept posting.first Said ran) ⊎ Posts agreements posting.moment (stands_for kept posting.first) before after Wrote Said ran
 
 -- the file comes to agreements or to a refusal, and the task to what follows from them
 pub record Runs (content : Content) (kept : Kept) (task : Task) (before after : Option (List ℕ)) (Unread Unwritten : Type 0) (Wrote Said : List ℕ → Type 0) (ran : Ran) : Type 0 where

@@ -9,7 +9,7 @@ ghost use Rattle.as2_desk.specs.Options.{Gives, GivesNone};
 ghost use Rattle.as2_desk.specs.Refusals.{end_line};
 ghost use Rattle.as2_desk.specs.Runs.{Counts, Ends, Fails, Posts, Refuses, Runs, Stopped};
 ghost use Rattle.as2_desk.specs.Statuses.{done, failed, faulty, refused, status_of};
-ghost use Rattle.as2_desk.specs.Stores.{Holds, Kept, kept_at};
+ghost use Rattle.as2_desk.specs.Stores.{Holds, Kept, kept_at, stands_for};
 ghost use Rattle.as2_desk.specs.declared.options.Task.{Task as TheTask};
 ghost use Rattle.as2_exchange.specs.declared.fault.StoreFault.{StoreFault as TheFault};
 ghost use Rattle.as2_desk.specs.declared.refusal.Refusal.TheVariants.{Memory, Store as Failing};
@@ -25,6 +25,7 @@ use crate::status::{DONE, FAULTY, Ran};
 use crate::stores::{OpenStores, records_in, records_in_memory};
 use as2_agreement::Agreements;
 use as2_exchange::StoreFault;
+use as2_station::Station;
 use as2_store::Store;
 use clap::error::ErrorKind;
 use clap::{ArgMatches, Command, Error};
@@ -179,15 +180,22 @@ fn post<S: Alter + Drop, R: Read, W: Write, E: Write>(
     ensures posts { (kept : Kept) → Holds S.Store kept posting.first records
         → ((input.new ≡ input.old) × (output.new ≡ output.old)
         × Fails kept posting.first (Appends (E.contents errors.old) (E.contents errors.new)) result)
-        ⊎ Posts agreements.now posting (R.remaining input.old) (R.remaining input.new)
+        ⊎ Posts agreements.now posting.moment (stands_for kept posting.first) (R.remaining input.old) (R.remaining input.new)
         (Appends (W.contents output.old) (W.contents output.new)) (Appends (E.contents errors.old) (E.contents errors.new)) result }
     ensures store { result.status ≡ failed → Stopped (input.new ≡ input.old) (output.new ≡ output.old)
         (Appends (E.contents errors.old) (E.contents errors.new)) result }
 {
     match records {
-        Ok(_store) => {
-            let Posting { first, moment } = posting;
-            let end = first_post(alloc, agreements, moment, first.get(), input, output);
+        Ok(store) => {
+            let mut station = Station::new(store);
+            let end = first_post(
+                alloc,
+                agreements,
+                posting.moment,
+                &mut station,
+                input,
+                output,
+            );
             tell_end(end, errors)
         }
         Err(fault) => refuse(Refusal::Store(fault), errors),

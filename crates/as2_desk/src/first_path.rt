@@ -1,12 +1,18 @@
 //! The answer to the first request of a stream.
-ghost use Rattle.std.specs.Prelude.{◌≡◌, List, ℕ, Some};
+ghost use Rattle.std.specs.Prelude.{◌≡◌, List, ℕ, [], Some};
 ghost use Rattle.std.specs.Io.KnownBytes.{Appends};
-ghost use Rattle.as2_desk.specs.FirstPath.{FirstPath, Sent, UnlessWriteFault};
+ghost use Rattle.sqlite.specs.Held.{state};
+ghost use Rattle.sqlite.specs.State.{HasCleanDisk};
+ghost use Rattle.as2_exchange.specs.State.{State};
+ghost use Rattle.as2_store.specs.Stands.{Rests};
+ghost use Rattle.as2_desk.specs.FirstPath.{Sent, Serves};
 
-use crate::answer::answer;
+use crate::response::respond;
 use as2_agreement::Agreements;
 use as2_http::{Arrival, Form, HttpAnswer, read_first, refusal, write_reply};
+use as2_station::Station;
 use as2_text::Moment;
+use sqlite::Alter;
 use std::alloc::Global;
 use std::io::{Read, Write};
 
@@ -34,7 +40,7 @@ fn send<W: Write>(
     alloc: Global,
     moment: Moment,
     form: Form,
-    answer: &HttpAnswer,
+    answer: &HttpAnswer<'_>,
     writer: &mut W,
     end: Served,
 ) -> Served
@@ -49,19 +55,21 @@ fn send<W: Write>(
     end
 }
 
-/// Reads the first request of `reader` and writes its reply: that to a post follows the agreements. `number` is the
-/// number of the receipt. The rest of the input stays unread.
-pub fn first_post<R: Read, W: Write>(
+/// Reads the first request of `reader` and writes its reply: a post is taken by the station, over the agreements. The rest
+/// of the input stays unread.
+pub fn first_post<S: Alter, R: Read, W: Write>(
     alloc: Global,
     agreements: &Agreements,
     moment: Moment,
-    number: u64,
+    station: &mut Station<S>,
     reader: &mut R,
     writer: &mut W,
 ) -> Served
-    ensures { (input : List ℕ) → R.remaining reader.old ≡ Some input → UnlessWriteFault result
-        ((text : List ℕ) × FirstPath agreements.now moment number input (R.remaining reader.new) result text
-        × Appends (W.contents writer.old) (W.contents writer.new) text) }
+    ensures clean { HasCleanDisk (state S.Store station.new) → HasCleanDisk (state S.Store station.old) }
+    ensures serves { HasCleanDisk (state S.Store station.new) → (s : State) → Rests (state S.Store station.old) s → s.outbox ≡ []
+        → (input : List ℕ) → R.remaining reader.old ≡ Some input
+        → (t : State) × Rests (state S.Store station.new) t
+        × Serves agreements.now moment s t input (R.remaining reader.new) (Appends (W.contents writer.old) (W.contents writer.new)) result }
 {
     match read_first(alloc, reader) {
         Arrival::Request(request) => {
@@ -69,10 +77,15 @@ pub fn first_post<R: Read, W: Write>(
                 closes: false,
                 to_head: request.method.is_head(),
             };
-            match answer(alloc, agreements, number, &request) {
-                Ok(answer) => send(alloc, moment, form, &answer, writer, Served::Closed),
-                Err(_) => Served::Memory,
-            }
+            let response = respond(alloc, agreements, moment, station, request);
+            send(
+                alloc,
+                moment,
+                form,
+                &response.answer(),
+                writer,
+                Served::Closed,
+            )
         }
         Arrival::Refused(refused) => {
             let form = Form {

@@ -2,7 +2,6 @@
 #![tactic(auto)]
 
 mod agreed;
-mod answer;
 mod check;
 mod command;
 mod desk;
@@ -11,8 +10,8 @@ mod first_number;
 mod first_path;
 mod laws;
 mod options;
-mod parties;
 mod refusal;
+mod response;
 mod status;
 mod stores;
 

@@ -84,14 +84,12 @@ Content-Length: 20\r
 bad receipt request
 ";
 
-/// What later versions answer to a request for an asynchronous receipt.
-const NOT_YET: &str = "\
-HTTP/1.1 503 Service Unavailable\r
+/// The receipt is asked for by a post of its own.
+const ACCEPTED: &str = "\
+HTTP/1.1 202 Accepted\r
 Date: Thu, 01 Jan 1970 00:16:40 GMT\r
-Content-Type: text/plain\r
-Content-Length: 18\r
+Content-Length: 0\r
 \r
-not supported yet
 ";
 
 const CASES: [Case; 57] = [
@@ -304,7 +302,7 @@ const CASES: [Case; 57] = [
             ASKS,
             "Disposition-Notification-To: a@x\r\nReceipt-Delivery-Option: http://127.0.0.1:8082/mdn\r\n",
         )],
-        reply: NOT_YET,
+        reply: ACCEPTED,
     },
     Case {
         changes: &[(OPTIONS, "")],

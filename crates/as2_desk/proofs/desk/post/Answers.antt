@@ -1,14 +1,19 @@
-use Rattle.std.proofs.Common.{ℕ, List, inr, subst}
-use Rattle.std.specs.Io.KnownBytes.{Appends}
-use Rattle.as2_desk.specs.FirstPath.{FirstPath, UnlessWriteFault}
+use Rattle.std.proofs.Common.{Option, Some, None, IfSome, inr, sym, subst}
+use Rattle.sqlite.specs.Held.{Held, state}
+use Rattle.as2_store.specs.Stands.{Rests}
+use Rattle.as2_exchange.specs.State.{State}
+use Rattle.as2_desk.specs.Stores.{Holds, stands_for}
 use Rattle.as2_desk.proofs.desk.post.Goals as goal
+
+each : (P Q : State → Type 0) (known : Option State) → IfSome known P → ((s : State) → P s → Q s) → IfSome known Q
+each P Q None p f = tt
+each P Q (Some s) p f = f s p
 
 -- the store is open
 pub returns-in-Ok-clause-posts : goal.returns-in-Ok-clause-posts
 returns-in-Ok-clause-posts g c = λ kept holds. inr (record {
   end = c.first_post-end.result;
-  path = λ input known. subst (λ (n : ℕ). UnlessWriteFault c.first_post-end.result
-      ((text : List ℕ) × FirstPath c.args.agreements.now c.args.posting.moment n input (g.R.Read.remaining c.first_post-end.new.reader) c.first_post-end.result text
-      × Appends (g.W.Write.contents c.args.output.now) (g.W.Write.contents c.first_post-end.new.writer) text)) c.get.ensures.value (c.first_post-end.ensures input known);
+  serves = each _ _ (stands_for kept c.args.posting.first) (subst (Holds g.S.Store kept c.args.posting.first) c.in-Ok.is holds) (λ s stands outbox input known.
+      let served = c.first_post-end.ensures.serves (stands.0 c.first_post-end.new.station) s (subst (λ (h : Held g.row.S.Denot). Rests (state g.S.Store h) s) (sym c.new-station.ensures) stands.1) outbox input known in (served.0, served.2));
   told = c.tell_end.ensures;
 })
