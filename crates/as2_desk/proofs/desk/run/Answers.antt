@@ -1,4 +1,4 @@
-use Rattle.std.proofs.Common.{◌≡◌, ◌∙◌, sym, refl, arith, inl, inr}
+use Rattle.std.proofs.Common.{◌≡◌, ◌⊎◌, ◌∙◌, sym, refl, arith, inl, inr}
 use Rattle.std.specs.Io.KnownBytes.{Appends}
 use Rattle.clap.specs.Walk.{Text, texts}
 use Rattle.as2_desk.proofs.Given.{given_one}
@@ -42,4 +42,4 @@ returns-in-Err-clause-runs g c = λ path store task gives. elim c.tell.ensures.m
 pub returns-in-Ok-clause-none : goal.returns-in-Ok-clause-none
 returns-in-Ok-clause-none g c = λ none _.
     let read = c.in-Ok.options in
-    absurd (none read.agreements.now read.store.now read.task c.in-Ok.ensures.given)
+    absurd {A = ((c.carry_out.result.status ≡ faulty) ⊎ (c.carry_out.result.status ≡ refused)) × (c.carry_out.new.output ≡ c.args.output.now)} (none read.agreements.now read.store.now read.task c.in-Ok.ensures.given)
