@@ -1,7 +1,7 @@
 -- What the program comes to where the words ask for something. Of the streams these are told: what the reader had left and has
 -- left, that nothing was read (Unread) or written (Unwritten), and which text was written on standard output (Wrote) and on
 -- standard error (Said).
-use Rattle.std.specs.Prelude.{◌≡◌, ◌⊎◌, ℕ, List, Option, [], Some, Ok, Err, true, IfSome}
+use Rattle.std.specs.Prelude.{◌≡◌, ◌⊎◌, ℕ, List, Option, Some, Ok, Err, true, IfSome}
 use Rattle.as2_agreement.specs.Agreements.{AgreedValues}
 use Rattle.as2_desk.specs.Checks.{counts_line}
 use Rattle.as2_desk.specs.FileAgreements.{Opened, Opens}
@@ -35,10 +35,10 @@ Counts agreements Wrote Said ran =
     (Wrote (counts_line agreements) × (ran.status ≡ done)) ⊎ Refuses CannotWrite Said ran
 
 -- what was written, where the reader tells its bytes and the state is known that the tables stood for, is the text for the input in
--- that state; for now that is said of states without documents to partners. Status and line tell the end.
+-- that state. Status and line tell the end.
 pub record Posts (agreements : AgreedValues) (moment : ℕ) (known : Option State) (before after : Option (List ℕ)) (Wrote Said : List ℕ → Type 0) (ran : Ran) : Type 0 where
   pub end : Served
-  pub serves : IfSome known (λ s. s.outbox ≡ [] → (input : List ℕ) → before ≡ Some input
+  pub serves : IfSome known (λ s. (input : List ℕ) → before ≡ Some input
       → (t : State) × Serves agreements moment s t input after Wrote end)
   pub told : Ends (status_of end) (end_line end) Said ran
 

@@ -69,7 +69,7 @@ fn reply<S: Alter, W: Write>(
     writer: &mut W,
 ) -> Served
     ensures clean { HasCleanDisk (state S.Store station.new) → HasCleanDisk (state S.Store station.old) }
-    ensures sent { HasCleanDisk (state S.Store station.new) → (s : State) → Rests (state S.Store station.old) s → s.outbox ≡ []
+    ensures sent { HasCleanDisk (state S.Store station.new) → (s : State) → Rests (state S.Store station.old) s
         → (t : State) × Rests (state S.Store station.new) t × ((response : TheResponse) × Responds agreements.now moment s request response t
         × Sent moment (form_of request) (answer_of response) (W.contents writer.old) (W.contents writer.new) Closed result) }
 {
@@ -117,7 +117,7 @@ pub fn first_post<S: Alter, R: Read, W: Write>(
     writer: &mut W,
 ) -> Served
     ensures clean { HasCleanDisk (state S.Store station.new) → HasCleanDisk (state S.Store station.old) }
-    ensures serves { HasCleanDisk (state S.Store station.new) → (s : State) → Rests (state S.Store station.old) s → s.outbox ≡ []
+    ensures serves { HasCleanDisk (state S.Store station.new) → (s : State) → Rests (state S.Store station.old) s
         → (input : List ℕ) → R.remaining reader.old ≡ Some input
         → (t : State) × Rests (state S.Store station.new) t
         × Serves agreements.now moment s t input (R.remaining reader.new) (Appends (W.contents writer.old) (W.contents writer.new)) result }

@@ -90,7 +90,7 @@ pub(crate) fn respond<S: Alter>(
     request: Request,
 ) -> Response
     ensures clean { HasCleanDisk (state S.Store station.new) → HasCleanDisk (state S.Store station.old) }
-    ensures responds { HasCleanDisk (state S.Store station.new) → (s : State) → Rests (state S.Store station.old) s → s.outbox ≡ []
+    ensures responds { HasCleanDisk (state S.Store station.new) → (s : State) → Rests (state S.Store station.old) s
         → (t : State) × Rests (state S.Store station.new) t × Responds agreements.now moment s request result t }
 {
     let Request {

@@ -13,7 +13,7 @@ each P Q (Some s) p f = f s p
 pub returns-in-Ok-clause-posts : goal.returns-in-Ok-clause-posts
 returns-in-Ok-clause-posts g c = λ kept holds. inr (record {
   end = c.first_post-end.result;
-  serves = each _ _ (stands_for kept c.args.posting.first) (subst (Holds g.S.Store kept c.args.posting.first) c.in-Ok.is holds) (λ s stands outbox input known.
-      let served = c.first_post-end.ensures.serves (stands.0 c.first_post-end.new.station) s (subst (λ (h : Held g.row.S.Denot). Rests (state g.S.Store h) s) (sym c.new-station.ensures) stands.1) outbox input known in (served.0, served.2));
+  serves = each _ _ (stands_for kept c.args.posting.first) (subst (Holds g.S.Store kept c.args.posting.first) c.in-Ok.is holds) (λ s stands input known.
+      let served = c.first_post-end.ensures.serves (stands.0 c.first_post-end.new.station) s (subst (λ (h : Held g.row.S.Denot). Rests (state g.S.Store h) s) (sym c.new-station.ensures) stands.1) input known in (served.0, served.2));
   told = c.tell_end.ensures;
 })

@@ -4,9 +4,9 @@ use Rattle.as2_desk.proofs.Sending.{request_sent, refusal_sent}
 use Rattle.as2_desk.proofs.first_path.first_post.Goals as goal
 
 pub returns-in-Request-clause-serves : goal.returns-in-Request-clause-serves
-returns-in-Request-clause-serves g c = λ clean s rests outbox input known.
+returns-in-Request-clause-serves g c = λ clean s rests input known.
     let arrived = c.in-Request.ensures.arrives input known in
-    let left = c.reply.ensures.sent clean s rests outbox in (
+    let left = c.reply.ensures.sent clean s rests in (
       left.0,
       left.1,
       request_sent c.args.agreements.now c.args.moment s left.0 input (g.R.Read.remaining c.read_first.new.reader) (g.W.Write.contents c.args.writer.now) (g.W.Write.contents c.reply.new.writer) c.reply.result
@@ -15,7 +15,7 @@ returns-in-Request-clause-serves g c = λ clean s rests outbox input known.
     )
 
 pub returns-in-Refused-clause-serves : goal.returns-in-Refused-clause-serves
-returns-in-Refused-clause-serves g c = λ clean s rests outbox input known. (
+returns-in-Refused-clause-serves g c = λ clean s rests input known. (
   s,
   rests,
   refusal_sent c.args.agreements.now c.args.moment s input (g.R.Read.remaining c.read_first.new.reader) (g.W.Write.contents c.args.writer.now) (g.W.Write.contents c.refuse.new.writer)
@@ -23,11 +23,11 @@ returns-in-Refused-clause-serves g c = λ clean s rests outbox input known. (
 )
 
 pub returns-in-Closed-clause-serves : goal.returns-in-Closed-clause-serves
-returns-in-Closed-clause-serves g c = λ clean s rests outbox input known.
+returns-in-Closed-clause-serves g c = λ clean s rests input known.
     let a = c.in-Closed.ensures.arrives input known in
     (s, rests, ([], inr (a.0, a.1, refl, refl), Appends-nil (g.W.Write.contents c.args.writer.now)))
 
 pub returns-in-Truncated-clause-serves : goal.returns-in-Truncated-clause-serves
-returns-in-Truncated-clause-serves g c = λ clean s rests outbox input known.
+returns-in-Truncated-clause-serves g c = λ clean s rests input known.
     let a = c.in-Truncated.ensures.arrives input known in
     (s, rests, ([], (a.0, a.1, refl, refl), Appends-nil (g.W.Write.contents c.args.writer.now)))

@@ -6,8 +6,8 @@ use Rattle.as2_desk.specs.declared.first_path.Served.TheVariants.{Closed}
 use Rattle.as2_desk.proofs.first_path.reply.Goals as goal
 
 pub returns-clause-sent : goal.returns-clause-sent
-returns-clause-sent g c = λ clean s rests outbox.
-    let left = c.respond-response.ensures.responds clean s rests outbox in
+returns-clause-sent g c = λ clean s rests.
+    let left = c.respond-response.ensures.responds clean s rests in
     let sent = λ (to_head : Bool) (a : Answer).
     Sent c.args.moment (record { closes = false; to_head = to_head }) a (g.W.Write.contents c.args.writer.now) (g.W.Write.contents c.send.new.writer) Closed c.send.result in (
       left.0,
