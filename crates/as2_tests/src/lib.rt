@@ -4,6 +4,10 @@
 #[cfg(test)]
 mod answers;
 #[cfg(test)]
+mod files;
+#[cfg(test)]
 mod posts;
 #[cfg(test)]
 mod records;
+#[cfg(test)]
+mod stores;

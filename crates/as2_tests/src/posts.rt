@@ -1,14 +1,67 @@
 use as2_exchange::{InEntry, Posted};
 use as2_media::MediaType;
 use as2_mic::Pieces;
-use as2_names::{AsName, Head, Moment};
+use as2_names::{AsName, Head, HeadFault, Memory, Moment};
 use as2_posts::{Opened, document, first_entry};
 use std::alloc::Global;
 
-/// The fields of a plain post.
-pub const FIELDS: [(&str, &str); 5] = [
+/// The agreements of a station: an organization, and a partner for each kind of receipt.
+pub const AGREEMENTS: &str = "domain = \"station.example\"\n\
+return_url = \"http://127.0.0.1:8080/as2\"\n\
+[[organization]]\n\
+name = \"Supplier\"\n\
+[[partner]]\n\
+name = \"Buyer\"\n\
+url = \"http://127.0.0.1:8081/as2\"\n\
+receipt = \"sync\"\n\
+digest = \"sha1\"\n\
+content_type = \"application/edi-x12\"\n\
+max_tries = 2\n\
+retry_seconds = 30\n\
+overdue_seconds = 60\n\
+[[partner]]\n\
+name = \"Depot\"\n\
+url = \"http://127.0.0.1:8082/as2\"\n\
+receipt = \"async\"\n\
+digest = \"sha1\"\n\
+content_type = \"application/edi-x12\"\n\
+max_tries = 2\n\
+retry_seconds = 30\n\
+overdue_seconds = 60\n\
+[[partner]]\n\
+name = 'A \"B\" \\ C'\n\
+url = \"http://127.0.0.1:8083/as2\"\n\
+receipt = \"none\"\n\
+digest = \"sha1\"\n\
+content_type = \"application/edi-x12\"\n\
+max_tries = 2\n\
+retry_seconds = 30\n\
+overdue_seconds = 60\n";
+
+/// The report on the content `abc` that the plain post brings.
+pub const REPORT: &str = "--as2-mdn-1\r\n\
+Content-Type: text/plain\r\n\
+\r\n\
+Receipt 1 for the message named below.\r\n\
+Outcome: processed\r\n\
+\r\n\
+--as2-mdn-1\r\n\
+Content-Type: message/disposition-notification\r\n\
+\r\n\
+Reporting-UA: as2-station\r\n\
+Final-Recipient: rfc822; Supplier\r\n\
+Original-Message-ID: <m1@x>\r\n\
+Disposition: automatic-action/MDN-sent-automatically; processed\r\n\
+Received-content-MIC: qZk+NkcGgWq6PiVxeFDCbJzQ2J0=, sha1\r\n\
+\r\n\
+--as2-mdn-1--\r\n";
+
+/// The fields of the plain post.
+const FIELDS: [(&str, &str); 7] = [
+    ("AS2-Version", "1.0"),
     ("AS2-From", "Buyer"),
     ("AS2-To", "Supplier"),
+    ("Message-ID", "<m1@x>"),
     ("Content-Type", "application/edi-x12"),
     ("Disposition-Notification-To", "a@x"),
     (
@@ -17,32 +70,77 @@ pub const FIELDS: [(&str, &str); 5] = [
     ),
 ];
 
-/// The head of a plain post under that identifier.
-pub fn head(alloc: Global, id: &str) -> Option<Head> {
-    let mut head = Head::new(alloc);
-    for (name, value) in &FIELDS {
-        head.append(name.as_bytes(), value.as_bytes()).ok()?;
+/// A field's name and value.
+pub type Change = (&'static str, &'static str);
+
+/// The value that the changes give to a field of that name, if they do.
+fn changed(changes: &[Change], name: &str) -> Option<&'static str> {
+    for (field, value) in changes {
+        if *field == name {
+            return Some(value);
+        }
     }
-    head.append(b"Message-ID", id.as_bytes()).ok()?;
-    Some(head)
+    None
+}
+
+/// The plain post has a field of that name.
+fn is_plain(name: &str) -> bool {
+    for (field, _) in &FIELDS {
+        if *field == name {
+            return true;
+        }
+    }
+    false
+}
+
+/// Adds the fields that the plain post hasn't.
+fn append_others(head: &mut Head, changes: &[Change]) -> Result<(), HeadFault> {
+    for (name, value) in changes {
+        if !is_plain(name) {
+            head.append(name.as_bytes(), value.as_bytes())?;
+        }
+    }
+    Ok(())
+}
+
+/// The head of the plain post with these changes: a field of it has the changed value, or is left out where that is empty; a
+/// field that it hasn't comes last.
+pub fn head(alloc: Global, changes: &[Change]) -> Result<Head, HeadFault> {
+    let mut head = Head::new(alloc);
+    for (name, plain) in &FIELDS {
+        let value = match changed(changes, name) {
+            Some(value) => value,
+            None => plain,
+        };
+        if !value.is_empty() {
+            head.append(name.as_bytes(), value.as_bytes())?;
+        }
+    }
+    append_others(&mut head, changes)?;
+    Ok(head)
+}
+
+/// The bytes as a body.
+pub fn body(alloc: Global, bytes: &[u8]) -> Result<Pieces, Memory> {
+    let mut body = Pieces::new(alloc);
+    body.append(bytes)?;
+    Ok(body)
 }
 
 /// The document that Buyer posts to Supplier under that identifier.
-pub fn posted(alloc: Global, id: &str, bytes: &[u8]) -> Option<Posted> {
-    let head = head(alloc, id)?;
-    let mut content = Pieces::new(alloc);
-    content.append(bytes).ok()?;
+pub fn posted(alloc: Global, id: &'static str, bytes: &[u8]) -> Option<Posted> {
+    let head = head(alloc, &[("Message-ID", id)]).ok()?;
     let opened = Opened {
         from: AsName::plain(b"Buyer").ok()?,
         to: AsName::plain(b"Supplier").ok()?,
         media: MediaType::parse(b"application/edi-x12").ok()?,
         content_type: b"application/edi-x12",
     };
-    document(alloc, opened, &head, content).ok()?.ok()
+    document(alloc, opened, &head, body(alloc, bytes).ok()?).ok()?.ok()
 }
 
 /// Its entry under that number, posted at moment 1000.
-pub fn entry(alloc: Global, number: u64, id: &str, bytes: &[u8]) -> Option<InEntry> {
+pub fn entry(alloc: Global, number: u64, id: &'static str, bytes: &[u8]) -> Option<InEntry> {
     let moment = Moment::new(1000)?;
     Some(first_entry(number, moment, posted(alloc, id, bytes)?))
 }

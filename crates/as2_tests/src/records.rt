@@ -1,44 +1,10 @@
-ghost use Rattle.std.specs.Prelude.{◌≡◌, ◌<◌, ◌≤◌, false};
-ghost use Rattle.as2_exchange.specs.State.{end_of_numbers};
+ghost use Rattle.std.specs.Prelude.{◌≡◌, false};
 
-use crate::posts::{entry, posted};
-use as2_exchange::{Attempt, InEntry, MdnState, StoreFault};
-use as2_names::AsName;
-use as2_posts::repeats;
+use crate::stores::{add, found, is_entry, new_store, next};
+use as2_exchange::StoreFault;
 use as2_store::Store;
-use sqlite::{Alter, Connection, MemStore};
-use std::alloc::Global;
-use std::fs;
+use sqlite::{Connection, MemStore};
 use std::test::Fail;
-
-/// A new store in memory whose first numbers are `first`.
-fn new_store(alloc: Global, first: u64) -> Option<Store<MemStore>>
-    requires least { 1 ≤ first }
-    requires most { first < end_of_numbers }
-{
-    let conn = Connection::open_in_memory(alloc).ok()?;
-    Store::create(conn, first).ok()
-}
-
-/// What is answered where that entry is added.
-fn add<S: Alter>(
-    alloc: Global,
-    store: &mut Store<S>,
-    number: u64,
-    id: &str,
-    bytes: &[u8],
-) -> Result<(), StoreFault> {
-    match entry(alloc, number, id, bytes) {
-        Some(entry) => store.add_in(&entry),
-        None => Err(StoreFault::Memory),
-    }
-}
-
-/// The next receipt number and the next document number.
-fn next<S: Alter>(store: &mut Store<S>) -> Option<(u64, u64)> {
-    let next = store.next_numbers().ok()?;
-    Some((next.receipt, next.document))
-}
 
 /// Why no store is adopted.
 fn refusal(conn: Connection<MemStore>) -> Option<StoreFault>
@@ -72,29 +38,6 @@ fn entries_are_added_in_turn(rt: HostRuntime) -> Result<(), Fail> {
     add(rt.alloc(), &mut store, 4, "<m4@x>", more.as_slice())?;
     assert!(rt; next(&mut store) == Some((5, 1)));
     Ok(())
-}
-
-/// The content of the entry that is found under that value, if one is.
-fn found<S: Alter>(alloc: Global, store: &mut Store<S>, id_value: &str) -> Option<InEntry> {
-    let sender = AsName::plain(b"Buyer").ok()?;
-    let receiver = AsName::plain(b"Supplier").ok()?;
-    store.find_in(alloc, &sender, &receiver, id_value).ok()?
-}
-
-/// The entry is the one that was added under that number, with these bytes.
-fn is_entry(alloc: Global, entry: &Option<InEntry>, number: u64, id: &str, bytes: &[u8]) -> bool {
-    match (entry, posted(alloc, id, bytes)) {
-        (Some(entry), Some(posted)) => {
-            entry.number == number
-                && repeats(&entry.posted, &posted)
-                && entry.moment.seconds() == 1000
-                && entry.mdn == MdnState::Sent
-                && entry.tries == 0
-                && entry.attempt == Attempt::Idle
-                && entry.due.is_none()
-        }
-        _ => false,
-    }
 }
 
 #[test]
@@ -212,32 +155,5 @@ fn a_store_is_made_once(rt: HostRuntime) -> Result<(), Fail> {
             Err(_) => assert!(rt; false),
         }
     }
-    Ok(())
-}
-
-/// Takes the store's files away, if they are there.
-fn clear(rt: &HostRuntime) {
-    let _ = fs::remove_file(rt, "records.db");
-    let _ = fs::remove_file(rt, "records.db-wal");
-}
-
-#[test]
-fn a_file_is_adopted_again(rt: HostRuntime) -> Result<(), Fail> {
-    clear(&rt);
-    let conn = Connection::open(&rt, "records.db")?;
-    match Store::create(conn, 1) {
-        Ok(mut store) => {
-            add(rt.alloc(), &mut store, 1, "<m1@x>", b"abc")?;
-        }
-        Err((_, fault)) => return Err(Fail::from(fault)),
-    }
-    let conn = Connection::open(&rt, "records.db")?;
-    let (next, entry) = match Store::adopt(conn) {
-        Ok(mut store) => (next(&mut store), found(rt.alloc(), &mut store, "m1@x")),
-        Err((_, fault)) => return Err(Fail::from(fault)),
-    };
-    clear(&rt);
-    assert!(rt; next == Some((2, 1)));
-    assert!(rt; is_entry(rt.alloc(), &entry, 1, "<m1@x>", b"abc"));
     Ok(())
 }

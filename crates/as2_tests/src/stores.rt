@@ -1,0 +1,68 @@
+ghost use Rattle.std.specs.Prelude.{◌≤◌, ◌<◌};
+ghost use Rattle.as2_exchange.specs.State.{end_of_numbers};
+
+use crate::posts::{entry, posted};
+use as2_exchange::{Attempt, InEntry, MdnState, StoreFault};
+use as2_names::AsName;
+use as2_posts::repeats;
+use as2_store::Store;
+use sqlite::{Alter, Connection, MemStore};
+use std::alloc::Global;
+
+/// A new store in memory whose first numbers are `first`.
+pub fn new_store(alloc: Global, first: u64) -> Option<Store<MemStore>>
+    requires least { 1 ≤ first }
+    requires most { first < end_of_numbers }
+{
+    let conn = Connection::open_in_memory(alloc).ok()?;
+    Store::create(conn, first).ok()
+}
+
+/// What is answered where that entry is added.
+pub fn add<S: Alter>(
+    alloc: Global,
+    store: &mut Store<S>,
+    number: u64,
+    id: &str,
+    bytes: &[u8],
+) -> Result<(), StoreFault> {
+    match entry(alloc, number, id, bytes) {
+        Some(entry) => store.add_in(&entry),
+        None => Err(StoreFault::Memory),
+    }
+}
+
+/// The next receipt number and the next document number.
+pub fn next<S: Alter>(store: &mut Store<S>) -> Option<(u64, u64)> {
+    let next = store.next_numbers().ok()?;
+    Some((next.receipt, next.document))
+}
+
+/// The content of the entry that is found under that value, if one is.
+pub fn found<S: Alter>(alloc: Global, store: &mut Store<S>, id_value: &str) -> Option<InEntry> {
+    let sender = AsName::plain(b"Buyer").ok()?;
+    let receiver = AsName::plain(b"Supplier").ok()?;
+    store.find_in(alloc, &sender, &receiver, id_value).ok()?
+}
+
+/// The entry is the one that was added under that number, with these bytes.
+pub fn is_entry(
+    alloc: Global,
+    entry: &Option<InEntry>,
+    number: u64,
+    id: &str,
+    bytes: &[u8],
+) -> bool {
+    match (entry, posted(alloc, id, bytes)) {
+        (Some(entry), Some(posted)) => {
+            entry.number == number
+                && repeats(&entry.posted, &posted)
+                && entry.moment.seconds() == 1000
+                && entry.mdn == MdnState::Sent
+                && entry.tries == 0
+                && entry.attempt == Attempt::Idle
+                && entry.due.is_none()
+        }
+        _ => false,
+    }
+}
