@@ -34,9 +34,11 @@ fn is_as_made(rt: &HostRuntime, file: &str) -> Result<bool, Fail> {
     let mut store = adopt(rt, file)?;
     let entry = found(rt.alloc(), &mut store, "m1@x");
     let listed = store.list_in(rt.alloc())?;
-    Ok(listed.len() == 1
-        && next(&mut store) == Some((2, 1))
-        && is_entry(rt.alloc(), &entry, 1, "<m1@x>", b"abc"))
+    Ok(
+        listed.len() == 1
+            && next(&mut store) == Some((2, 1))
+            && is_entry(rt.alloc(), &entry, 1, "<m1@x>", b"abc"),
+    )
 }
 
 /// Why no store is made in that file.

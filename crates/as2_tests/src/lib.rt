@@ -10,4 +10,6 @@ mod posts;
 #[cfg(test)]
 mod records;
 #[cfg(test)]
+mod station_posts;
+#[cfg(test)]
 mod stores;

@@ -136,7 +136,9 @@ pub fn posted(alloc: Global, id: &'static str, bytes: &[u8]) -> Option<Posted> {
         media: MediaType::parse(b"application/edi-x12").ok()?,
         content_type: b"application/edi-x12",
     };
-    document(alloc, opened, &head, body(alloc, bytes).ok()?).ok()?.ok()
+    document(alloc, opened, &head, body(alloc, bytes).ok()?)
+        .ok()?
+        .ok()
 }
 
 /// Its entry under that number, posted at moment 1000.

@@ -23,7 +23,7 @@ pub fn add<S: Alter>(
     alloc: Global,
     store: &mut Store<S>,
     number: u64,
-    id: &str,
+    id: &'static str,
     bytes: &[u8],
 ) -> Result<(), StoreFault> {
     match entry(alloc, number, id, bytes) {
@@ -50,7 +50,7 @@ pub fn is_entry(
     alloc: Global,
     entry: &Option<InEntry>,
     number: u64,
-    id: &str,
+    id: &'static str,
     bytes: &[u8],
 ) -> bool {
     match (entry, posted(alloc, id, bytes)) {

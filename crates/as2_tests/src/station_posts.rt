@@ -1,0 +1,413 @@
+ghost use Rattle.std.specs.Prelude.{◌≤◌, ◌<◌};
+ghost use Rattle.as2_exchange.specs.State.{end_of_numbers};
+
+use crate::posts::{AGREEMENTS, Change, REPORT, body, head};
+use crate::stores::new_store;
+use as2_agreement::Agreements;
+use as2_exchange::{Answer, Event, HttpAnswer, HttpBody, MdnState, StoreFault};
+use as2_names::Moment;
+use as2_station::Station;
+use sqlite::MemStore;
+use std::alloc::Global;
+use std::test::Fail;
+
+/// The SHA-1 digest of `abc`.
+const SHA1: &str = "qZk+NkcGgWq6PiVxeFDCbJzQ2J0=";
+
+/// What a post is answered by.
+#[derive(Clone, Copy)]
+enum Wanted {
+    /// 200 and the report of that number on that identifier, with that outcome; a processed one has that SHA-1 digest.
+    Report(u64, &'static str, &'static str, &'static str),
+    /// That status and that line of text.
+    Line(u16, &'static str),
+    /// That status without a body.
+    Status(u16),
+    /// No number is left.
+    Full,
+}
+
+/// A post of the changed plain head with that body, and its answer.
+#[derive(Clone, Copy)]
+struct Row {
+    changes: &'static [Change],
+    body: &'static str,
+    answer: Wanted,
+}
+
+/// The plain post, where it is the first.
+const PLAIN: Row = Row {
+    changes: &[],
+    body: "abc",
+    answer: Wanted::Report(1, "<m1@x>", "processed", SHA1),
+};
+
+/// The line that holds the MIC of a processed document.
+fn mic_line(alloc: Global, outcome: &str, mic: &str) -> Result<String, Fail> {
+    if outcome != "processed" {
+        return Ok(String::new(alloc));
+    }
+    Ok(format!(in alloc; "Received-content-MIC: {mic}, sha1\r\n")?)
+}
+
+/// The report of that number on that identifier.
+fn report(alloc: Global, number: u64, id: &str, outcome: &str, mic: &str) -> Result<String, Fail> {
+    let mic = mic_line(alloc, outcome, mic)?;
+    Ok(format!(in alloc;
+        "--as2-mdn-{number}\r\nContent-Type: text/plain\r\n\r\nReceipt {number} for the message named below.\r\nOutcome: {outcome}\r\n\r\n--as2-mdn-{number}\r\nContent-Type: message/disposition-notification\r\n\r\nReporting-UA: as2-station\r\nFinal-Recipient: rfc822; Supplier\r\nOriginal-Message-ID: {id}\r\nDisposition: automatic-action/MDN-sent-automatically; {outcome}\r\n{mic}\r\n--as2-mdn-{number}--\r\n"
+    )?)
+}
+
+/// The answer is 200 and a report of that number with that text.
+fn is_report(answer: &HttpAnswer, number: u64, text: &str) -> bool {
+    match &answer.body {
+        HttpBody::Report { out, bytes } => {
+            answer.status == 200
+                && out.number == number
+                && out.domain.bytes() == b"station.example".as_slice()
+                && bytes.as_slice() == text.as_bytes()
+        }
+        _ => false,
+    }
+}
+
+/// The answer is the wanted one.
+fn is_wanted(alloc: Global, answer: &HttpAnswer, wanted: &Wanted) -> Result<bool, Fail> {
+    match wanted {
+        Wanted::Report(number, id, outcome, mic) => {
+            let text = report(alloc, *number, id, outcome, mic)?;
+            Ok(is_report(answer, *number, text.as_str()))
+        }
+        Wanted::Line(status, text) => Ok(
+            answer.status == *status
+                && matches!(&answer.body, HttpBody::Words(line) if line.text() == *text),
+        ),
+        Wanted::Status(status) => {
+            Ok(answer.status == *status && matches!(&answer.body, HttpBody::Nothing))
+        }
+        Wanted::Full => Ok(false),
+    }
+}
+
+/// Posts it at moment 1000; whether it is answered as wanted.
+fn is_answered(
+    alloc: Global,
+    station: &mut Station<MemStore>,
+    agreements: &Agreements,
+    row: &Row,
+) -> Result<bool, Fail> {
+    let head = head(alloc, row.changes)?;
+    let body = body(alloc, row.body.as_bytes())?;
+    let Some(moment) = Moment::new(1000) else {
+        return Ok(false);
+    };
+    match station.post(alloc, agreements, &head, body, moment) {
+        Ok(answer) => is_wanted(alloc, &answer, &row.answer),
+        Err(fault) => Ok(fault == StoreFault::Full && matches!(&row.answer, Wanted::Full)),
+    }
+}
+
+/// The inbox has these entries: the number of each, and how its receipt stands.
+fn has_entries(
+    alloc: Global,
+    station: Station<MemStore>,
+    entries: &[(u64, MdnState)],
+) -> Result<bool, Fail> {
+    let mut store = station.into_store();
+    let listed = store.list_in(alloc)?;
+    let mut found = Vec::new(alloc);
+    for entry in &listed {
+        found.push((entry.number, entry.mdn))?;
+    }
+    Ok(found.as_slice() == entries)
+}
+
+/// Posts the rows in turn to a new store whose first number is `first`, and looks at the entries that they leave.
+fn check(alloc: Global, first: u64, rows: &[Row], entries: &[(u64, MdnState)]) -> Result<(), Fail>
+    requires least { 1 ≤ first }
+    requires most { first < end_of_numbers }
+{
+    let agreements = Agreements::read(alloc, AGREEMENTS)?;
+    let Some(store) = new_store(alloc, first) else {
+        return Err(Fail::new("no store"));
+    };
+    let mut station = Station::new(store);
+    for (at, row) in rows.iter().enumerate() {
+        if !is_answered(alloc, &mut station, &agreements, row)? {
+            return Err(Fail::new(format_args!("post {at} is answered otherwise")));
+        }
+    }
+    if !has_entries(alloc, station, entries)? {
+        return Err(Fail::new("the entries are others"));
+    }
+    Ok(())
+}
+
+#[test]
+fn the_plain_report_is_spelled_so(rt: HostRuntime) -> Result<(), Fail> {
+    let text = report(rt.alloc(), 1, "<m1@x>", "processed", SHA1)?;
+    assert!(rt; text.as_str() == REPORT);
+    Ok(())
+}
+
+#[test]
+fn repeat_and_conflict(rt: HostRuntime) -> Result<(), Fail> {
+    const ROWS: [Row; 5] = [
+        PLAIN,
+        PLAIN,
+        Row {
+            changes: &[],
+            body: "abd",
+            answer: Wanted::Line(409, "message identifier used before"),
+        },
+        Row {
+            changes: &[("Content-Type", "text/plain")],
+            body: "abc",
+            answer: Wanted::Line(409, "message identifier used before"),
+        },
+        Row {
+            changes: &[("Date", "Thu, 01 Jan 1970 00:00:01 GMT")],
+            ..PLAIN
+        },
+    ];
+    check(rt.alloc(), 1, &ROWS, &[(1, MdnState::Sent)])
+}
+
+#[test]
+fn compressed_and_enveloped(rt: HostRuntime) -> Result<(), Fail> {
+    const ROWS: [Row; 2] = [
+        Row {
+            changes: &[(
+                "Content-Type",
+                "application/pkcs7-mime; smime-type=compressed-data",
+            )],
+            body: "abc",
+            answer: Wanted::Report(1, "<m1@x>", "processed/error: decompression-failed", ""),
+        },
+        Row {
+            changes: &[
+                ("Message-ID", "<m2@x>"),
+                ("Content-Type", "application/pkcs7-mime"),
+            ],
+            body: "abc",
+            answer: Wanted::Report(2, "<m2@x>", "processed/error: decryption-failed", ""),
+        },
+    ];
+    check(
+        rt.alloc(),
+        1,
+        &ROWS,
+        &[(1, MdnState::Sent), (2, MdnState::Sent)],
+    )
+}
+
+#[test]
+fn signed_and_unsupported(rt: HostRuntime) -> Result<(), Fail> {
+    const PROTOCOL: Change = (
+        "Disposition-Notification-Options",
+        "signed-receipt-protocol=required, pkcs7-signature",
+    );
+    const ROWS: [Row; 3] = [
+        Row {
+            changes: &[(
+                "Content-Type",
+                "multipart/signed; protocol=\"application/pkcs7-signature\"; micalg=sha1; boundary=\"b\"",
+            )],
+            body: "abc",
+            answer: Wanted::Report(1, "<m1@x>", "processed/error: authentication-failed", ""),
+        },
+        Row {
+            changes: &[("Message-ID", "<m2@x>"), PROTOCOL],
+            body: "abc",
+            answer: Wanted::Report(2, "<m2@x>", "failed/failure: unsupported format", ""),
+        },
+        Row {
+            changes: &[
+                ("Message-ID", "<m3@x>"),
+                ("Disposition-Notification-To", ""),
+                PROTOCOL,
+            ],
+            body: "abc",
+            answer: Wanted::Status(200),
+        },
+    ];
+    check(
+        rt.alloc(),
+        1,
+        &ROWS,
+        &[
+            (1, MdnState::Sent),
+            (2, MdnState::Sent),
+            (3, MdnState::Unasked),
+        ],
+    )
+}
+
+#[test]
+fn mic_algorithms(rt: HostRuntime) -> Result<(), Fail> {
+    const ROWS: [Row; 2] = [
+        Row {
+            changes: &[(
+                "Disposition-Notification-Options",
+                "signed-receipt-micalg=required, sha-384",
+            )],
+            body: "abc",
+            answer: Wanted::Report(
+                1,
+                "<m1@x>",
+                "failed/failure: unsupported MIC-algorithms",
+                "",
+            ),
+        },
+        Row {
+            changes: &[
+                ("Message-ID", "<m2@x>"),
+                (
+                    "Disposition-Notification-Options",
+                    "signed-receipt-micalg=optional, sha-384",
+                ),
+            ],
+            body: "abc",
+            answer: Wanted::Report(2, "<m2@x>", "processed", SHA1),
+        },
+    ];
+    check(
+        rt.alloc(),
+        1,
+        &ROWS,
+        &[(1, MdnState::Sent), (2, MdnState::Sent)],
+    )
+}
+
+#[test]
+fn identifier_spelling(rt: HostRuntime) -> Result<(), Fail> {
+    const ROWS: [Row; 2] = [
+        Row {
+            changes: &[("Message-ID", "m1@x")],
+            body: "abc",
+            answer: Wanted::Report(1, "m1@x", "processed", SHA1),
+        },
+        Row {
+            changes: &[],
+            body: "abc",
+            answer: Wanted::Line(409, "message identifier used before"),
+        },
+    ];
+    check(rt.alloc(), 1, &ROWS, &[(1, MdnState::Sent)])
+}
+
+#[test]
+fn two_partners_use_one_identifier(rt: HostRuntime) -> Result<(), Fail> {
+    const ROWS: [Row; 2] = [
+        PLAIN,
+        Row {
+            changes: &[("AS2-From", "Depot")],
+            body: "abc",
+            answer: Wanted::Report(2, "<m1@x>", "processed", SHA1),
+        },
+    ];
+    check(
+        rt.alloc(),
+        1,
+        &ROWS,
+        &[(1, MdnState::Sent), (2, MdnState::Sent)],
+    )
+}
+
+#[test]
+fn a_receipt_that_comes_later(rt: HostRuntime) -> Result<(), Fail> {
+    const LATER: Row = Row {
+        changes: &[
+            ("AS2-From", "Depot"),
+            ("Receipt-Delivery-Option", "http://127.0.0.1:8082/mdn"),
+        ],
+        body: "abc",
+        answer: Wanted::Status(202),
+    };
+    check(rt.alloc(), 1, &[LATER, LATER], &[(1, MdnState::Pending)])
+}
+
+#[test]
+fn last_number(rt: HostRuntime) -> Result<(), Fail> {
+    const LAST: Row = Row {
+        changes: &[],
+        body: "abc",
+        answer: Wanted::Report(999_999_999_999, "<m1@x>", "processed", SHA1),
+    };
+    const ROWS: [Row; 3] = [
+        LAST,
+        Row {
+            changes: &[("Message-ID", "<m2@x>")],
+            body: "abc",
+            answer: Wanted::Full,
+        },
+        LAST,
+    ];
+    check(
+        rt.alloc(),
+        999_999_999_999,
+        &ROWS,
+        &[(999_999_999_999, MdnState::Sent)],
+    )
+}
+
+/// Posts a content of so many letters `a` twice; whether the same report answers both.
+fn is_kept(alloc: Global, agreements: &Agreements, length: usize, mic: &str) -> Result<bool, Fail> {
+    let (Some(store), Some(moment)) = (new_store(alloc, 1), Moment::new(1000)) else {
+        return Ok(false);
+    };
+    let mut station = Station::new(store);
+    let head = head(alloc, &[])?;
+    let content = Vec::from_elem(alloc, b'a', length)?;
+    let text = report(alloc, 1, "<m1@x>", "processed", mic)?;
+    let one = body(alloc, content.as_slice())?;
+    let first = station.post(alloc, agreements, &head, one, moment)?;
+    let other = body(alloc, content.as_slice())?;
+    let second = station.post(alloc, agreements, &head, other, moment)?;
+    Ok(is_report(&first, 1, text.as_str()) && is_report(&second, 1, text.as_str()))
+}
+
+#[test]
+fn contents_of_every_size_are_kept(rt: HostRuntime) -> Result<(), Fail> {
+    const SIZES: [(usize, &str); 4] = [
+        (0, "2jmj7l5rSw0yVb/vlWAYkK/YBwk="),
+        (65_536, "edtYiLXTjhCvvb0UoZzRyqkETGU="),
+        (65_537, "WGqqUoZRlHGHzADR9vbUb9Yi0wQ="),
+        (1_048_576, "RUAn1k47hVc1VS1CIw7qHL1kX6A="),
+    ];
+    let agreements = Agreements::read(rt.alloc(), AGREEMENTS)?;
+    for (length, mic) in &SIZES {
+        assert!(rt; is_kept(rt.alloc(), &agreements, *length, mic)?);
+    }
+    Ok(())
+}
+
+/// The event of a plain post with that body.
+fn post(alloc: Global, bytes: &str) -> Result<Event, Fail> {
+    let Some(moment) = Moment::new(1000) else {
+        return Err(Fail::new("no moment"));
+    };
+    Ok(Event::Post {
+        head: head(alloc, &[])?,
+        body: body(alloc, bytes.as_bytes())?,
+        moment,
+    })
+}
+
+/// The event was answered with that status.
+fn has_status(answer: &Result<Answer, StoreFault>, status: u16) -> bool {
+    matches!(answer, Ok(Answer::Http(answer)) if answer.status == status)
+}
+
+#[test]
+fn a_post_is_a_step(rt: HostRuntime) -> Result<(), Fail> {
+    let agreements = Agreements::read(rt.alloc(), AGREEMENTS)?;
+    let Some(store) = new_store(rt.alloc(), 1) else {
+        return Err(Fail::new("no store"));
+    };
+    let mut station = Station::new(store);
+    let again = station.step(rt.alloc(), &agreements, post(rt.alloc(), "abc")?);
+    assert!(rt; has_status(&again, 200));
+    assert!(rt; has_entries(rt.alloc(), station, &[(1, MdnState::Sent)])?);
+    Ok(())
+}
