@@ -29,14 +29,14 @@ enum Wanted {
 
 /// A post of the changed plain head with that body, and its answer.
 #[derive(Clone, Copy)]
-struct Row {
-    changes: &'static [Change],
+struct Row<'a> {
+    changes: &'a [Change],
     body: &'static str,
     answer: Wanted,
 }
 
 /// The plain post, where it is the first.
-const PLAIN: Row = Row {
+const PLAIN: Row<'static> = Row {
     changes: &[],
     body: "abc",
     answer: Wanted::Report(1, "<m1@x>", "processed", SHA1),
@@ -94,7 +94,7 @@ fn is_answered(
     alloc: Global,
     station: &mut Station<MemStore>,
     agreements: &Agreements,
-    row: &Row,
+    row: &Row<'_>,
 ) -> Result<bool, Fail> {
     let head = head(alloc, row.changes)?;
     let body = body(alloc, row.body.as_bytes())?;
@@ -123,7 +123,12 @@ fn has_entries(
 }
 
 /// Posts the rows in turn to a new store whose first number is `first`, and looks at the entries that they leave.
-fn check(alloc: Global, first: u64, rows: &[Row], entries: &[(u64, MdnState)]) -> Result<(), Fail>
+fn check(
+    alloc: Global,
+    first: u64,
+    rows: &[Row<'_>],
+    entries: &[(u64, MdnState)],
+) -> Result<(), Fail>
     requires least { 1 ≤ first }
     requires most { first < end_of_numbers }
 {
@@ -151,8 +156,34 @@ fn the_plain_report_is_spelled_so(rt: HostRuntime) -> Result<(), Fail> {
 }
 
 #[test]
+fn refused_heads(rt: HostRuntime) -> Result<(), Fail> {
+    const REFUSALS: [(Change, u16, &str); 7] = [
+        (("as2-to", "Supplier"), 400, "bad AS2 names"),
+        (("AS2-From", ""), 400, "bad AS2 names"),
+        (("AS2-Version", "2.0"), 400, "bad AS2-Version"),
+        (("AS2-From", "Nobody"), 403, "unknown AS2 names"),
+        (("content-type", "text/plain"), 400, "bad Content-Type"),
+        (("Message-ID", ""), 400, "bad Message-ID"),
+        (
+            ("Receipt-Delivery-Option", "later"),
+            400,
+            "bad receipt request",
+        ),
+    ];
+    for (change, status, line) in &REFUSALS {
+        let row = Row {
+            changes: &[*change],
+            body: "abc",
+            answer: Wanted::Line(*status, line),
+        };
+        check(rt.alloc(), 1, &[row], &[])?;
+    }
+    Ok(())
+}
+
+#[test]
 fn repeat_and_conflict(rt: HostRuntime) -> Result<(), Fail> {
-    const ROWS: [Row; 5] = [
+    const ROWS: [Row<'static>; 5] = [
         PLAIN,
         PLAIN,
         Row {
@@ -175,7 +206,7 @@ fn repeat_and_conflict(rt: HostRuntime) -> Result<(), Fail> {
 
 #[test]
 fn compressed_and_enveloped(rt: HostRuntime) -> Result<(), Fail> {
-    const ROWS: [Row; 2] = [
+    const ROWS: [Row<'static>; 2] = [
         Row {
             changes: &[(
                 "Content-Type",
@@ -207,7 +238,7 @@ fn signed_and_unsupported(rt: HostRuntime) -> Result<(), Fail> {
         "Disposition-Notification-Options",
         "signed-receipt-protocol=required, pkcs7-signature",
     );
-    const ROWS: [Row; 3] = [
+    const ROWS: [Row<'static>; 3] = [
         Row {
             changes: &[(
                 "Content-Type",
@@ -245,7 +276,7 @@ fn signed_and_unsupported(rt: HostRuntime) -> Result<(), Fail> {
 
 #[test]
 fn mic_algorithms(rt: HostRuntime) -> Result<(), Fail> {
-    const ROWS: [Row; 2] = [
+    const ROWS: [Row<'static>; 2] = [
         Row {
             changes: &[(
                 "Disposition-Notification-Options",
@@ -281,7 +312,7 @@ fn mic_algorithms(rt: HostRuntime) -> Result<(), Fail> {
 
 #[test]
 fn identifier_spelling(rt: HostRuntime) -> Result<(), Fail> {
-    const ROWS: [Row; 2] = [
+    const ROWS: [Row<'static>; 2] = [
         Row {
             changes: &[("Message-ID", "m1@x")],
             body: "abc",
@@ -298,7 +329,7 @@ fn identifier_spelling(rt: HostRuntime) -> Result<(), Fail> {
 
 #[test]
 fn two_partners_use_one_identifier(rt: HostRuntime) -> Result<(), Fail> {
-    const ROWS: [Row; 2] = [
+    const ROWS: [Row<'static>; 2] = [
         PLAIN,
         Row {
             changes: &[("AS2-From", "Depot")],
@@ -316,7 +347,7 @@ fn two_partners_use_one_identifier(rt: HostRuntime) -> Result<(), Fail> {
 
 #[test]
 fn a_receipt_that_comes_later(rt: HostRuntime) -> Result<(), Fail> {
-    const LATER: Row = Row {
+    const LATER: Row<'static> = Row {
         changes: &[
             ("AS2-From", "Depot"),
             ("Receipt-Delivery-Option", "http://127.0.0.1:8082/mdn"),
@@ -329,12 +360,12 @@ fn a_receipt_that_comes_later(rt: HostRuntime) -> Result<(), Fail> {
 
 #[test]
 fn last_number(rt: HostRuntime) -> Result<(), Fail> {
-    const LAST: Row = Row {
+    const LAST: Row<'static> = Row {
         changes: &[],
         body: "abc",
         answer: Wanted::Report(999_999_999_999, "<m1@x>", "processed", SHA1),
     };
-    const ROWS: [Row; 3] = [
+    const ROWS: [Row<'static>; 3] = [
         LAST,
         Row {
             changes: &[("Message-ID", "<m2@x>")],
@@ -400,12 +431,21 @@ fn has_status(answer: &Result<Answer, StoreFault>, status: u16) -> bool {
 }
 
 #[test]
-fn a_post_is_a_step(rt: HostRuntime) -> Result<(), Fail> {
+fn posts_are_played_in_turn(rt: HostRuntime) -> Result<(), Fail> {
     let agreements = Agreements::read(rt.alloc(), AGREEMENTS)?;
     let Some(store) = new_store(rt.alloc(), 1) else {
         return Err(Fail::new("no store"));
     };
     let mut station = Station::new(store);
+    let mut events = Vec::new(rt.alloc());
+    events.push(post(rt.alloc(), "abc")?)?;
+    events.push(post(rt.alloc(), "abd")?)?;
+    events.push(post(rt.alloc(), "abc")?)?;
+    let answers = station.play(rt.alloc(), &agreements, events)?;
+    assert!(rt;
+        matches!(answers.as_slice(), [first, clash, again]
+        if has_status(first, 200) && has_status(clash, 409) && has_status(again, 200))
+    );
     let again = station.step(rt.alloc(), &agreements, post(rt.alloc(), "abc")?);
     assert!(rt; has_status(&again, 200));
     assert!(rt; has_entries(rt.alloc(), station, &[(1, MdnState::Sent)])?);

@@ -38,11 +38,20 @@ pub fn next<S: Alter>(store: &mut Store<S>) -> Option<(u64, u64)> {
     Some((next.receipt, next.document))
 }
 
-/// The content of the entry that is found under that value, if one is.
-pub fn found<S: Alter>(alloc: Global, store: &mut Store<S>, id_value: &str) -> Option<InEntry> {
+/// The partner that posts, and the organization that it posts to.
+fn names() -> Option<(AsName, AsName)> {
     let sender = AsName::plain(b"Buyer").ok()?;
     let receiver = AsName::plain(b"Supplier").ok()?;
-    store.find_in(alloc, &sender, &receiver, id_value).ok()?
+    Some((sender, receiver))
+}
+
+/// The entry that is found under that value, if one is.
+pub fn found<S: Alter>(alloc: Global, store: &mut Store<S>, id_value: &str) -> Option<InEntry> {
+    let (sender, receiver) = names()?;
+    match store.find_in(alloc, &sender, &receiver, id_value) {
+        Ok(entry) => entry,
+        Err(_) => None,
+    }
 }
 
 /// The entry is the one that was added under that number, with these bytes.
