@@ -8,14 +8,14 @@ use std::alloc::Global;
 use std::fs;
 use std::test::Fail;
 
-/// Takes a store's files away, if they are there.
-fn clear(rt: &HostRuntime, file: &str, log: &str) {
-    let _ = fs::remove_file(rt, file);
-    let _ = fs::remove_file(rt, log);
+/// Makes a store of one entry in that file, and closes it.
+fn make(rt: &HostRuntime, file: &str) -> Result<(), Fail> {
+    let conn = Connection::open(rt, file)?;
+    Ok(fill(rt.alloc(), conn)?)
 }
 
 /// Makes a store of one entry.
-fn make<S: Alter + Drop>(alloc: Global, conn: Connection<S>) -> Result<(), StoreFault>
+fn fill<S: Alter + Drop>(alloc: Global, conn: Connection<S>) -> Result<(), StoreFault>
     requires { conn.in_transaction ≡ false }
 {
     match Store::create(conn, 1) {
@@ -24,8 +24,24 @@ fn make<S: Alter + Drop>(alloc: Global, conn: Connection<S>) -> Result<(), Store
     }
 }
 
-/// The store has the one entry that `make` gave it, and its next numbers.
-fn is_as_made<S: Alter>(alloc: Global, store: &mut Store<S>) -> bool {
+/// The store in that file is as it was made.
+fn is_as_made(rt: &HostRuntime, file: &str) -> Result<bool, Fail> {
+    let conn = Connection::open(rt, file)?;
+    Ok(is_filled(rt.alloc(), conn))
+}
+
+/// The tables are those of a store with one entry.
+fn is_filled<S: Alter + Drop>(alloc: Global, conn: Connection<S>) -> bool
+    requires { conn.in_transaction ≡ false }
+{
+    match Store::adopt(conn) {
+        Ok(mut store) => has_one_entry(alloc, &mut store),
+        Err(_) => false,
+    }
+}
+
+/// The store has the entry that `fill` gave it, no other, and the next numbers.
+fn has_one_entry<S: Alter>(alloc: Global, store: &mut Store<S>) -> bool {
     let entry = found(alloc, store, "m1@x");
     let Ok(listed) = store.list_in(alloc) else {
         return false;
@@ -33,18 +49,14 @@ fn is_as_made<S: Alter>(alloc: Global, store: &mut Store<S>) -> bool {
     listed.len() == 1 && next(store) == Some((2, 1)) && is_entry(alloc, &entry, 1, "<m1@x>", b"abc")
 }
 
-/// The tables are those of a store, which is as it was made.
-fn is_kept<S: Alter + Drop>(alloc: Global, conn: Connection<S>) -> bool
-    requires { conn.in_transaction ≡ false }
-{
-    match Store::adopt(conn) {
-        Ok(mut store) => is_as_made(alloc, &mut store),
-        Err(_) => false,
-    }
+/// Why the store in that file isn't made anew.
+fn refusal(rt: &HostRuntime, file: &str) -> Result<Option<StoreFault>, Fail> {
+    let conn = Connection::open(rt, file)?;
+    Ok(refusal_of(conn))
 }
 
-/// Why no store is made where there is one already.
-fn refusal<S: Alter + Drop>(conn: Connection<S>) -> Option<StoreFault>
+/// Why no store is made where there is one.
+fn refusal_of<S: Alter + Drop>(conn: Connection<S>) -> Option<StoreFault>
     requires { conn.in_transaction ≡ false }
 {
     let store = Store::adopt(conn).ok()?;
@@ -54,11 +66,17 @@ fn refusal<S: Alter + Drop>(conn: Connection<S>) -> Option<StoreFault>
     }
 }
 
+/// Takes a store's files away, if they are there.
+fn clear(rt: &HostRuntime, file: &str, log: &str) {
+    let _ = fs::remove_file(rt, file);
+    let _ = fs::remove_file(rt, log);
+}
+
 #[test]
 fn a_file_is_adopted_again(rt: HostRuntime) -> Result<(), Fail> {
     clear(&rt, "adopted.db", "adopted.db-wal");
-    make(rt.alloc(), Connection::open(&rt, "adopted.db")?)?;
-    assert!(rt; is_kept(rt.alloc(), Connection::open(&rt, "adopted.db")?));
+    make(&rt, "adopted.db")?;
+    assert!(rt; is_as_made(&rt, "adopted.db")?);
     clear(&rt, "adopted.db", "adopted.db-wal");
     Ok(())
 }
@@ -66,10 +84,9 @@ fn a_file_is_adopted_again(rt: HostRuntime) -> Result<(), Fail> {
 #[test]
 fn an_adopted_file_is_not_made_anew(rt: HostRuntime) -> Result<(), Fail> {
     clear(&rt, "kept.db", "kept.db-wal");
-    make(rt.alloc(), Connection::open(&rt, "kept.db")?)?;
-    let fault = refusal(Connection::open(&rt, "kept.db")?);
-    assert!(rt; fault == Some(StoreFault::Refused));
-    assert!(rt; is_kept(rt.alloc(), Connection::open(&rt, "kept.db")?));
+    make(&rt, "kept.db")?;
+    assert!(rt; refusal(&rt, "kept.db")? == Some(StoreFault::Refused));
+    assert!(rt; is_as_made(&rt, "kept.db")?);
     clear(&rt, "kept.db", "kept.db-wal");
     Ok(())
 }
