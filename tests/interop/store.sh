@@ -2,9 +2,10 @@
 # Runs as2desk over a store in a file, and reads the file's tables with SQLite's own program, `sqlite3`. The plain post is
 # posted twice: both answers have the bytes of the program's stored run. A third post asks for its receipt later. The rows of
 # the tables are then those of the two entries, and a post after `sqlite3` has had the file is answered as before. Prints a
-# line for each comparison; the status is 1 where one fails.
+# line for each comparison; the status is 1 where one fails. The program is ./as2desk, or the file that the argument names.
 set -eu
 top=$(cd "$(dirname "$0")/../.." && pwd)
+program=$(realpath "${1:-$top/as2desk}")
 work=$(mktemp -d)
 trap 'rm -rf "$work"' EXIT
 cd "$work"
@@ -12,7 +13,7 @@ status=0
 
 # Posts standard input at that moment.
 post() {
-    "$top/as2desk" --agreements "$top/examples/agreements.toml" --store station.db --moment "$1" post
+    "$program" --agreements "$top/examples/agreements.toml" --store station.db --moment "$1" post
 }
 
 # The rows that a query shows.

@@ -1,6 +1,6 @@
 ghost use Rattle.std.specs.Prelude.{◌≡◌, false};
 
-use crate::stores::{add, found, is_entry, next};
+use crate::stores::{add, is_found, next};
 use as2_exchange::StoreFault;
 use as2_store::Store;
 use sqlite::{Alter, Connection};
@@ -42,11 +42,10 @@ fn is_filled<S: Alter + Drop>(alloc: Global, conn: Connection<S>) -> bool
 
 /// The store has the entry that `fill` gave it, no other, and the next numbers.
 fn has_one_entry<S: Alter>(alloc: Global, store: &mut Store<S>) -> bool {
-    let entry = found(alloc, store, "m1@x");
     let Ok(listed) = store.list_in(alloc) else {
         return false;
     };
-    listed.len() == 1 && next(store) == Some((2, 1)) && is_entry(alloc, &entry, 1, "<m1@x>", b"abc")
+    listed.len() == 1 && next(store) == Some((2, 1)) && is_found(alloc, store, 1, "<m1@x>", b"abc")
 }
 
 /// Why the store in that file isn't made anew.

@@ -1,9 +1,10 @@
 ghost use Rattle.std.specs.Prelude.{◌≡◌, false};
 
-use crate::stores::{add, found, is_entry, new_store, next};
+use crate::stores::{add, is_entry, is_found, new_store, next};
 use as2_exchange::StoreFault;
 use as2_store::Store;
-use sqlite::{Connection, MemStore};
+use sqlite::{Alter, Connection, MemStore};
+use std::alloc::Global;
 use std::test::Fail;
 
 /// Why no store is adopted.
@@ -40,24 +41,49 @@ fn entries_are_added_in_turn(rt: HostRuntime) -> Result<(), Fail> {
     Ok(())
 }
 
+/// Adds three entries.
+fn fill<S: Alter>(alloc: Global, store: &mut Store<S>, more: &[u8]) -> Result<(), StoreFault> {
+    add(alloc, store, 1, "<m1@x>", b"abc")?;
+    add(alloc, store, 2, "m2@x", more)?;
+    add(alloc, store, 3, "<m3@x>", b"")
+}
+
 #[test]
 fn entries_are_found_as_they_were_added(rt: HostRuntime) -> Result<(), Fail> {
     let Some(mut store) = new_store(rt.alloc(), 1) else {
         return Err(Fail::from(StoreFault::Refused));
     };
     let more = Vec::from_elem(rt.alloc(), 7u8, 65_537)?;
-    add(rt.alloc(), &mut store, 1, "<m1@x>", b"abc")?;
-    add(rt.alloc(), &mut store, 2, "m2@x", more.as_slice())?;
-    add(rt.alloc(), &mut store, 3, "<m3@x>", b"")?;
-    let first = found(rt.alloc(), &mut store, "m1@x");
-    assert!(rt; is_entry(rt.alloc(), &first, 1, "<m1@x>", b"abc"));
-    let second = found(rt.alloc(), &mut store, "m2@x");
-    assert!(rt; is_entry(rt.alloc(), &second, 2, "m2@x", more.as_slice()));
-    let third = found(rt.alloc(), &mut store, "m3@x");
-    assert!(rt; is_entry(rt.alloc(), &third, 3, "<m3@x>", b""));
-    assert!(rt; found(rt.alloc(), &mut store, "m4@x").is_none());
-    let numbered = store.find_in_number(rt.alloc(), 2)?;
-    assert!(rt; is_entry(rt.alloc(), &numbered, 2, "m2@x", more.as_slice()));
+    fill(rt.alloc(), &mut store, more.as_slice())?;
+    assert!(rt; is_found(rt.alloc(), &mut store, 1, "<m1@x>", b"abc"));
+    assert!(rt; is_found(rt.alloc(), &mut store, 2, "m2@x", more.as_slice()));
+    assert!(rt; is_found(rt.alloc(), &mut store, 3, "<m3@x>", b""));
+    assert!(rt; !is_found(rt.alloc(), &mut store, 4, "<m4@x>", b""));
+    Ok(())
+}
+
+/// The entry of that number is the one that was added under it.
+fn is_numbered<S: Alter>(
+    alloc: Global,
+    store: &mut Store<S>,
+    number: u64,
+    id: &'static str,
+    bytes: &[u8],
+) -> bool {
+    match store.find_in_number(alloc, number) {
+        Ok(Some(entry)) => is_entry(alloc, &entry, number, id, bytes),
+        _ => false,
+    }
+}
+
+#[test]
+fn entries_are_found_by_number(rt: HostRuntime) -> Result<(), Fail> {
+    let Some(mut store) = new_store(rt.alloc(), 1) else {
+        return Err(Fail::from(StoreFault::Refused));
+    };
+    fill(rt.alloc(), &mut store, b"more")?;
+    assert!(rt; is_numbered(rt.alloc(), &mut store, 2, "m2@x", b"more"));
+    assert!(rt; is_numbered(rt.alloc(), &mut store, 3, "<m3@x>", b""));
     assert!(rt; matches!(store.find_in_number(rt.alloc(), 4), Ok(None)));
     Ok(())
 }

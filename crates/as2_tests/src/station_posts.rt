@@ -11,13 +11,13 @@ use sqlite::MemStore;
 use std::alloc::Global;
 use std::test::Fail;
 
-/// The SHA-1 digest of `abc`.
-const SHA1: &str = "qZk+NkcGgWq6PiVxeFDCbJzQ2J0=";
+/// The line that holds the SHA-1 MIC of `abc`.
+const MIC: &str = "Received-content-MIC: qZk+NkcGgWq6PiVxeFDCbJzQ2J0=, sha1\r\n";
 
 /// What a post is answered by.
 #[derive(Clone, Copy)]
 enum Wanted {
-    /// 200 and the report of that number on that identifier, with that outcome; a processed one has that SHA-1 digest.
+    /// 200 and the report of that number on that identifier, with that outcome and that line of the MIC.
     Report(u64, &'static str, &'static str, &'static str),
     /// That status and that line of text.
     Line(u16, &'static str),
@@ -31,28 +31,19 @@ enum Wanted {
 #[derive(Clone, Copy)]
 struct Row<'a> {
     changes: &'a [Change],
-    body: &'static str,
+    body: &'a [u8],
     answer: Wanted,
 }
 
 /// The plain post, where it is the first.
 const PLAIN: Row<'static> = Row {
     changes: &[],
-    body: "abc",
-    answer: Wanted::Report(1, "<m1@x>", "processed", SHA1),
+    body: b"abc",
+    answer: Wanted::Report(1, "<m1@x>", "processed", MIC),
 };
-
-/// The line that holds the MIC of a processed document.
-fn mic_line(alloc: Global, outcome: &str, mic: &str) -> Result<String, Fail> {
-    if outcome != "processed" {
-        return Ok(String::new(alloc));
-    }
-    Ok(format!(in alloc; "Received-content-MIC: {mic}, sha1\r\n")?)
-}
 
 /// The report of that number on that identifier.
 fn report(alloc: Global, number: u64, id: &str, outcome: &str, mic: &str) -> Result<String, Fail> {
-    let mic = mic_line(alloc, outcome, mic)?;
     Ok(format!(in alloc;
         "--as2-mdn-{number}\r\nContent-Type: text/plain\r\n\r\nReceipt {number} for the message named below.\r\nOutcome: {outcome}\r\n\r\n--as2-mdn-{number}\r\nContent-Type: message/disposition-notification\r\n\r\nReporting-UA: as2-station\r\nFinal-Recipient: rfc822; Supplier\r\nOriginal-Message-ID: {id}\r\nDisposition: automatic-action/MDN-sent-automatically; {outcome}\r\n{mic}\r\n--as2-mdn-{number}--\r\n"
     )?)
@@ -97,7 +88,7 @@ fn is_answered(
     row: &Row<'_>,
 ) -> Result<bool, Fail> {
     let head = head(alloc, row.changes)?;
-    let body = body(alloc, row.body.as_bytes())?;
+    let body = body(alloc, row.body)?;
     let Some(moment) = Moment::new(1000) else {
         return Ok(false);
     };
@@ -115,14 +106,30 @@ fn has_entries(
 ) -> Result<bool, Fail> {
     let mut store = station.into_store();
     let listed = store.list_in(alloc)?;
-    let mut found = Vec::new(alloc);
-    for entry in &listed {
-        found.push((entry.number, entry.mdn))?;
+    let mut same = listed.len() == entries.len();
+    for (entry, (number, mdn)) in listed.iter().zip(entries) {
+        same = same && entry.number == *number && entry.mdn == *mdn;
     }
-    Ok(found.as_slice() == entries)
+    Ok(same)
 }
 
-/// Posts the rows in turn to a new store whose first number is `first`, and looks at the entries that they leave.
+/// Posts the rows in turn.
+fn answer_all(
+    alloc: Global,
+    station: &mut Station<MemStore>,
+    agreements: &Agreements,
+    rows: &[Row<'_>],
+) -> Result<(), Fail> {
+    for (at, row) in rows.iter().enumerate() {
+        if !is_answered(alloc, station, agreements, row)? {
+            return Err(Fail::new(at));
+        }
+    }
+    Ok(())
+}
+
+/// Posts the rows in turn to a new store whose first number is `first`, and looks at the entries that they leave. Fails with
+/// the place of the first row that is answered otherwise.
 fn check(
     alloc: Global,
     first: u64,
@@ -137,20 +144,17 @@ fn check(
         return Err(Fail::new("no store"));
     };
     let mut station = Station::new(store);
-    for (at, row) in rows.iter().enumerate() {
-        if !is_answered(alloc, &mut station, &agreements, row)? {
-            return Err(Fail::new(format_args!("post {at} is answered otherwise")));
-        }
+    answer_all(alloc, &mut station, &agreements, rows)?;
+    if has_entries(alloc, station, entries)? {
+        Ok(())
+    } else {
+        Err(Fail::new("other entries"))
     }
-    if !has_entries(alloc, station, entries)? {
-        return Err(Fail::new("the entries are others"));
-    }
-    Ok(())
 }
 
 #[test]
 fn the_plain_report_is_spelled_so(rt: HostRuntime) -> Result<(), Fail> {
-    let text = report(rt.alloc(), 1, "<m1@x>", "processed", SHA1)?;
+    let text = report(rt.alloc(), 1, "<m1@x>", "processed", MIC)?;
     assert!(rt; text.as_str() == REPORT);
     Ok(())
 }
@@ -173,7 +177,7 @@ fn refused_heads(rt: HostRuntime) -> Result<(), Fail> {
     for (change, status, line) in &REFUSALS {
         let row = Row {
             changes: &[*change],
-            body: "abc",
+            body: b"abc",
             answer: Wanted::Line(*status, line),
         };
         check(rt.alloc(), 1, &[row], &[])?;
@@ -188,12 +192,12 @@ fn repeat_and_conflict(rt: HostRuntime) -> Result<(), Fail> {
         PLAIN,
         Row {
             changes: &[],
-            body: "abd",
+            body: b"abd",
             answer: Wanted::Line(409, "message identifier used before"),
         },
         Row {
             changes: &[("Content-Type", "text/plain")],
-            body: "abc",
+            body: b"abc",
             answer: Wanted::Line(409, "message identifier used before"),
         },
         Row {
@@ -206,13 +210,13 @@ fn repeat_and_conflict(rt: HostRuntime) -> Result<(), Fail> {
 
 #[test]
 fn compressed_and_enveloped(rt: HostRuntime) -> Result<(), Fail> {
-    const ROWS: [Row<'static>; 2] = [
+    const ROWS: [Row<'static>; 3] = [
         Row {
             changes: &[(
                 "Content-Type",
                 "application/pkcs7-mime; smime-type=compressed-data",
             )],
-            body: "abc",
+            body: b"abc",
             answer: Wanted::Report(1, "<m1@x>", "processed/error: decompression-failed", ""),
         },
         Row {
@@ -220,15 +224,28 @@ fn compressed_and_enveloped(rt: HostRuntime) -> Result<(), Fail> {
                 ("Message-ID", "<m2@x>"),
                 ("Content-Type", "application/pkcs7-mime"),
             ],
-            body: "abc",
+            body: b"abc",
             answer: Wanted::Report(2, "<m2@x>", "processed/error: decryption-failed", ""),
+        },
+        Row {
+            changes: &[
+                ("Message-ID", "<m3@x>"),
+                ("Content-Type", "application/pkcs7-mime"),
+                ("Disposition-Notification-To", ""),
+            ],
+            body: b"abc",
+            answer: Wanted::Line(400, "processed/error: decryption-failed"),
         },
     ];
     check(
         rt.alloc(),
         1,
         &ROWS,
-        &[(1, MdnState::Sent), (2, MdnState::Sent)],
+        &[
+            (1, MdnState::Sent),
+            (2, MdnState::Sent),
+            (3, MdnState::Unasked),
+        ],
     )
 }
 
@@ -244,12 +261,12 @@ fn signed_and_unsupported(rt: HostRuntime) -> Result<(), Fail> {
                 "Content-Type",
                 "multipart/signed; protocol=\"application/pkcs7-signature\"; micalg=sha1; boundary=\"b\"",
             )],
-            body: "abc",
+            body: b"abc",
             answer: Wanted::Report(1, "<m1@x>", "processed/error: authentication-failed", ""),
         },
         Row {
             changes: &[("Message-ID", "<m2@x>"), PROTOCOL],
-            body: "abc",
+            body: b"abc",
             answer: Wanted::Report(2, "<m2@x>", "failed/failure: unsupported format", ""),
         },
         Row {
@@ -258,7 +275,7 @@ fn signed_and_unsupported(rt: HostRuntime) -> Result<(), Fail> {
                 ("Disposition-Notification-To", ""),
                 PROTOCOL,
             ],
-            body: "abc",
+            body: b"abc",
             answer: Wanted::Status(200),
         },
     ];
@@ -282,7 +299,7 @@ fn mic_algorithms(rt: HostRuntime) -> Result<(), Fail> {
                 "Disposition-Notification-Options",
                 "signed-receipt-micalg=required, sha-384",
             )],
-            body: "abc",
+            body: b"abc",
             answer: Wanted::Report(
                 1,
                 "<m1@x>",
@@ -298,8 +315,8 @@ fn mic_algorithms(rt: HostRuntime) -> Result<(), Fail> {
                     "signed-receipt-micalg=optional, sha-384",
                 ),
             ],
-            body: "abc",
-            answer: Wanted::Report(2, "<m2@x>", "processed", SHA1),
+            body: b"abc",
+            answer: Wanted::Report(2, "<m2@x>", "processed", MIC),
         },
     ];
     check(
@@ -315,12 +332,12 @@ fn identifier_spelling(rt: HostRuntime) -> Result<(), Fail> {
     const ROWS: [Row<'static>; 2] = [
         Row {
             changes: &[("Message-ID", "m1@x")],
-            body: "abc",
-            answer: Wanted::Report(1, "m1@x", "processed", SHA1),
+            body: b"abc",
+            answer: Wanted::Report(1, "m1@x", "processed", MIC),
         },
         Row {
             changes: &[],
-            body: "abc",
+            body: b"abc",
             answer: Wanted::Line(409, "message identifier used before"),
         },
     ];
@@ -333,8 +350,8 @@ fn two_partners_use_one_identifier(rt: HostRuntime) -> Result<(), Fail> {
         PLAIN,
         Row {
             changes: &[("AS2-From", "Depot")],
-            body: "abc",
-            answer: Wanted::Report(2, "<m1@x>", "processed", SHA1),
+            body: b"abc",
+            answer: Wanted::Report(2, "<m1@x>", "processed", MIC),
         },
     ];
     check(
@@ -352,7 +369,7 @@ fn a_receipt_that_comes_later(rt: HostRuntime) -> Result<(), Fail> {
             ("AS2-From", "Depot"),
             ("Receipt-Delivery-Option", "http://127.0.0.1:8082/mdn"),
         ],
-        body: "abc",
+        body: b"abc",
         answer: Wanted::Status(202),
     };
     check(rt.alloc(), 1, &[LATER, LATER], &[(1, MdnState::Pending)])
@@ -362,14 +379,14 @@ fn a_receipt_that_comes_later(rt: HostRuntime) -> Result<(), Fail> {
 fn last_number(rt: HostRuntime) -> Result<(), Fail> {
     const LAST: Row<'static> = Row {
         changes: &[],
-        body: "abc",
-        answer: Wanted::Report(999_999_999_999, "<m1@x>", "processed", SHA1),
+        body: b"abc",
+        answer: Wanted::Report(999_999_999_999, "<m1@x>", "processed", MIC),
     };
     const ROWS: [Row<'static>; 3] = [
         LAST,
         Row {
             changes: &[("Message-ID", "<m2@x>")],
-            body: "abc",
+            body: b"abc",
             answer: Wanted::Full,
         },
         LAST,
@@ -382,45 +399,46 @@ fn last_number(rt: HostRuntime) -> Result<(), Fail> {
     )
 }
 
-/// Posts a content of so many letters `a` twice; whether the same report answers both.
-fn is_kept(alloc: Global, agreements: &Agreements, length: usize, mic: &str) -> Result<bool, Fail> {
-    let (Some(store), Some(moment)) = (new_store(alloc, 1), Moment::new(1000)) else {
-        return Ok(false);
-    };
-    let mut station = Station::new(store);
-    let head = head(alloc, &[])?;
-    let content = Vec::from_elem(alloc, b'a', length)?;
-    let text = report(alloc, 1, "<m1@x>", "processed", mic)?;
-    let one = body(alloc, content.as_slice())?;
-    let first = station.post(alloc, agreements, &head, one, moment)?;
-    let other = body(alloc, content.as_slice())?;
-    let second = station.post(alloc, agreements, &head, other, moment)?;
-    Ok(is_report(&first, 1, text.as_str()) && is_report(&second, 1, text.as_str()))
-}
-
 #[test]
 fn contents_of_every_size_are_kept(rt: HostRuntime) -> Result<(), Fail> {
     const SIZES: [(usize, &str); 4] = [
-        (0, "2jmj7l5rSw0yVb/vlWAYkK/YBwk="),
-        (65_536, "edtYiLXTjhCvvb0UoZzRyqkETGU="),
-        (65_537, "WGqqUoZRlHGHzADR9vbUb9Yi0wQ="),
-        (1_048_576, "RUAn1k47hVc1VS1CIw7qHL1kX6A="),
+        (
+            0,
+            "Received-content-MIC: 2jmj7l5rSw0yVb/vlWAYkK/YBwk=, sha1\r\n",
+        ),
+        (
+            65_536,
+            "Received-content-MIC: edtYiLXTjhCvvb0UoZzRyqkETGU=, sha1\r\n",
+        ),
+        (
+            65_537,
+            "Received-content-MIC: WGqqUoZRlHGHzADR9vbUb9Yi0wQ=, sha1\r\n",
+        ),
+        (
+            1_048_576,
+            "Received-content-MIC: RUAn1k47hVc1VS1CIw7qHL1kX6A=, sha1\r\n",
+        ),
     ];
-    let agreements = Agreements::read(rt.alloc(), AGREEMENTS)?;
     for (length, mic) in &SIZES {
-        assert!(rt; is_kept(rt.alloc(), &agreements, *length, mic)?);
+        let content = Vec::from_elem(rt.alloc(), b'a', *length)?;
+        let row = Row {
+            changes: &[],
+            body: content.as_slice(),
+            answer: Wanted::Report(1, "<m1@x>", "processed", mic),
+        };
+        check(rt.alloc(), 1, &[row, row], &[(1, MdnState::Sent)])?;
     }
     Ok(())
 }
 
 /// The event of a plain post with that body.
-fn post(alloc: Global, bytes: &str) -> Result<Event, Fail> {
+fn post(alloc: Global, bytes: &[u8]) -> Result<Event, Fail> {
     let Some(moment) = Moment::new(1000) else {
         return Err(Fail::new("no moment"));
     };
     Ok(Event::Post {
         head: head(alloc, &[])?,
-        body: body(alloc, bytes.as_bytes())?,
+        body: body(alloc, bytes)?,
         moment,
     })
 }
@@ -430,6 +448,16 @@ fn has_status(answer: &Result<Answer, StoreFault>, status: u16) -> bool {
     matches!(answer, Ok(Answer::Http(answer)) if answer.status == status)
 }
 
+/// A post, a clash and a repeat.
+fn events(alloc: Global) -> Result<Vec<Event>, Fail> {
+    let posts = [
+        post(alloc, b"abc")?,
+        post(alloc, b"abd")?,
+        post(alloc, b"abc")?,
+    ];
+    Ok(Vec::from_array(alloc, posts)?)
+}
+
 #[test]
 fn posts_are_played_in_turn(rt: HostRuntime) -> Result<(), Fail> {
     let agreements = Agreements::read(rt.alloc(), AGREEMENTS)?;
@@ -437,16 +465,13 @@ fn posts_are_played_in_turn(rt: HostRuntime) -> Result<(), Fail> {
         return Err(Fail::new("no store"));
     };
     let mut station = Station::new(store);
-    let mut events = Vec::new(rt.alloc());
-    events.push(post(rt.alloc(), "abc")?)?;
-    events.push(post(rt.alloc(), "abd")?)?;
-    events.push(post(rt.alloc(), "abc")?)?;
+    let events = events(rt.alloc())?;
     let answers = station.play(rt.alloc(), &agreements, events)?;
     assert!(rt;
         matches!(answers.as_slice(), [first, clash, again]
         if has_status(first, 200) && has_status(clash, 409) && has_status(again, 200))
     );
-    let again = station.step(rt.alloc(), &agreements, post(rt.alloc(), "abc")?);
+    let again = station.step(rt.alloc(), &agreements, post(rt.alloc(), b"abc")?);
     assert!(rt; has_status(&again, 200));
     assert!(rt; has_entries(rt.alloc(), station, &[(1, MdnState::Sent)])?);
     Ok(())

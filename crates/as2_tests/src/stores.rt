@@ -3,7 +3,7 @@ ghost use Rattle.as2_exchange.specs.State.{end_of_numbers};
 
 use crate::posts::{entry, posted};
 use as2_exchange::{Attempt, InEntry, MdnState, StoreFault};
-use as2_names::AsName;
+use as2_names::{AsName, MessageId};
 use as2_posts::repeats;
 use as2_store::Store;
 use sqlite::{Alter, Connection, MemStore};
@@ -45,25 +45,34 @@ fn names() -> Option<(AsName, AsName)> {
     Some((sender, receiver))
 }
 
-/// The entry that is found under that value, if one is.
-pub fn found<S: Alter>(alloc: Global, store: &mut Store<S>, id_value: &str) -> Option<InEntry> {
-    let (sender, receiver) = names()?;
-    match store.find_in(alloc, &sender, &receiver, id_value) {
-        Ok(entry) => entry,
-        Err(_) => None,
+/// The entry that has the value of that identifier is the one that was added under the number.
+pub fn is_found<S: Alter>(
+    alloc: Global,
+    store: &mut Store<S>,
+    number: u64,
+    id: &'static str,
+    bytes: &[u8],
+) -> bool {
+    let (Some((sender, receiver)), Ok(id_value)) = (names(), MessageId::parse(alloc, id.as_bytes()))
+    else {
+        return false;
+    };
+    match store.find_in(alloc, &sender, &receiver, id_value.value()) {
+        Ok(Some(entry)) => is_entry(alloc, &entry, number, id, bytes),
+        _ => false,
     }
 }
 
 /// The entry is the one that was added under that number, with these bytes.
 pub fn is_entry(
     alloc: Global,
-    entry: &Option<InEntry>,
+    entry: &InEntry,
     number: u64,
     id: &'static str,
     bytes: &[u8],
 ) -> bool {
-    match (entry, posted(alloc, id, bytes)) {
-        (Some(entry), Some(posted)) => {
+    match posted(alloc, id, bytes) {
+        Some(posted) => {
             entry.number == number
                 && repeats(&entry.posted, &posted)
                 && entry.moment.seconds() == 1000
@@ -72,6 +81,6 @@ pub fn is_entry(
                 && entry.attempt == Attempt::Idle
                 && entry.due.is_none()
         }
-        _ => false,
+        None => false,
     }
 }
