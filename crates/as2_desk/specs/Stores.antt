@@ -23,7 +23,7 @@ pub data Kept : Type 0 where
   -- a store whose tables stand for this state, on a medium that returns what is written
   records : State → Kept
 
--- what stands under a path where `:memory:` is a store that isn't kept
+-- the same, where nothing is ever kept under `:memory:`
 abbrev pub kept_at : List ℕ → Kept → Kept
 kept_at path kept = if bytes_eq path (codes ":memory:") then nothing else kept
 

@@ -1,4 +1,5 @@
-//! The command line of the station: `as2desk` as a function over words, files, a reader and two writers.
+//! The command line of the station: `as2desk` as a function over words, files, stores, a reader and two
+//! writers.
 #![tactic(auto)]
 
 mod agreed;

@@ -26,13 +26,13 @@ pub trait OpenStores {
     // What is kept under each path, as far as it is told.
     ghost kept: { Self → List ℕ → Kept };
 
-    /// Opens what is kept under that path, or makes it.
+    /// Opens what is kept under that path, or makes it. Answers NotAStore for what is no database, Memory, Disk or Refused.
     fn open_store(&self, alloc: Global, path: &str) -> Result<Opening<Self::Kind>, StoreFault>
         ensures autocommit { IfOk result (λ o. (connection_of o).in_transaction ≡ false) }
         ensures opened { Gives Self.Kind.Store (kept self.now path.now) result };
 }
 
-/// The fault that an error in opening a file is: a file of another form is no store.
+/// The fault that an error in opening a file is: a file that is no database is no store.
 pub fn opening_fault(error: &Error) -> StoreFault
     ensures { result ≡ opening_fault error.now }
 {
