@@ -16,7 +16,7 @@ const MIC: &str = "Received-content-MIC: qZk+NkcGgWq6PiVxeFDCbJzQ2J0=, sha1\r\n"
 
 /// What a post is answered by.
 #[derive(Clone, Copy)]
-enum Wanted {
+pub enum Wanted {
     /// 200 and the report of that number on that identifier, with that outcome and that line of the MIC.
     Report(u64, &'static str, &'static str, &'static str),
     /// That status and that line of text.
@@ -29,10 +29,10 @@ enum Wanted {
 
 /// A post of the changed plain head with that body, and its answer.
 #[derive(Clone, Copy)]
-struct Row<'a> {
-    changes: &'a [Change],
-    body: &'a [u8],
-    answer: Wanted,
+pub struct Row<'a> {
+    pub changes: &'a [Change],
+    pub body: &'a [u8],
+    pub answer: Wanted,
 }
 
 /// The plain post, where it is the first.
@@ -114,7 +114,7 @@ fn has_entries(
 }
 
 /// Posts the rows in turn.
-fn answer_all(
+pub fn answer_all(
     alloc: Global,
     station: &mut Station<MemStore>,
     agreements: &Agreements,

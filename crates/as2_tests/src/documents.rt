@@ -1,0 +1,159 @@
+use crate::posts::AGREEMENTS;
+use crate::station_posts::{Row, Wanted, answer_all};
+use crate::stores::{add, new_store, next};
+use as2_agreement::Agreements;
+use as2_exchange::{Attempt, MdnState, OutEntry, StoreFault};
+use as2_mdn::Detail;
+use as2_names::Moment;
+use as2_station::Station;
+use as2_store::Store;
+use sqlite::MemStore;
+use std::alloc::Global;
+use std::test::Fail;
+
+/// Two documents from Supplier to Buyer, of the contents `abc` and `abd`: a try of the first is open, the second is new.
+const DOCUMENTS: &str = "INSERT INTO outbox VALUES \
+(1, x'537570706c696572', x'4275796572', x'6f75742d314073746174696f6e2e6578616d706c65', 3, 1000, 1, 2, 1030, 2), \
+(2, x'537570706c696572', x'4275796572', x'6f75742d324073746174696f6e2e6578616d706c65', 3, 1000, 0, 1, 1000, 1); \
+INSERT INTO outbox_piece VALUES (1, 0, x'616263'), (2, 0, x'616264'); \
+INSERT INTO waiting VALUES (1000000000001, 1, 1, 1030), (1000000000002, 1, 2, 1000); \
+UPDATE meta SET next_document = 3";
+
+/// Buyer's receipt for the first, with the MD5 MIC of `abc`.
+const RECEIPT: &[u8] = b"--as2-mdn-7\r\n\
+Content-Type: text/plain\r\n\
+\r\n\
+Receipt 7 for the message named below.\r\n\
+Outcome: processed\r\n\
+\r\n\
+--as2-mdn-7\r\n\
+Content-Type: message/disposition-notification\r\n\
+\r\n\
+Reporting-UA: as2-station\r\n\
+Final-Recipient: rfc822; Buyer\r\n\
+Original-Message-ID: <out-1@station.example>\r\n\
+Disposition: automatic-action/MDN-sent-automatically; processed\r\n\
+Received-content-MIC: kAFQmDzST7DWlj99KOF/cg==, md5\r\n\
+\r\n\
+--as2-mdn-7--\r\n";
+
+/// The type of a receipt's body.
+const RECEIPT_TYPE: &str =
+    "multipart/report; report-type=disposition-notification; boundary=\"as2-mdn-7\"";
+
+/// A store with those documents.
+fn store_of_documents(alloc: Global) -> Option<Store<MemStore>> {
+    let mut conn = new_store(alloc, 1)?.into_connection();
+    conn.execute_batch(DOCUMENTS).ok()?;
+    if !conn.is_autocommit() {
+        return None;
+    }
+    Store::adopt(conn).ok()
+}
+
+/// The document with that identifier, if there is one.
+fn document(
+    alloc: Global,
+    store: &mut Store<MemStore>,
+    id_value: &str,
+) -> Result<Option<OutEntry>, StoreFault> {
+    store.find_out_by_id(alloc, id_value.as_bytes())
+}
+
+#[test]
+fn documents_are_found_by_their_identifiers(rt: HostRuntime) -> Result<(), Fail> {
+    let Some(mut store) = store_of_documents(rt.alloc()) else {
+        return Err(Fail::new("no store"));
+    };
+    let first = document(rt.alloc(), &mut store, "out-1@station.example")?;
+    assert!(rt;
+        matches!(&first, Some(d) if d.number == 1 && d.content.piece(0) == Some(b"abc".as_slice())
+        && d.tries == 1 && d.attempt == Attempt::Running && d.due == Some(1030)
+        && d.detail == Detail::Sending && d.evidence.is_none())
+    );
+    let second = document(rt.alloc(), &mut store, "out-2@station.example")?;
+    assert!(rt; matches!(&second, Some(d) if d.number == 2 && d.detail == Detail::New));
+    let third = document(rt.alloc(), &mut store, "out-3@station.example")?;
+    assert!(rt; third.is_none());
+    Ok(())
+}
+
+/// The document stands as processed, and has the receipt as its evidence.
+fn is_settled(document: &Option<OutEntry>) -> bool {
+    let Some(document) = document else {
+        return false;
+    };
+    let Some(evidence) = &document.evidence else {
+        return false;
+    };
+    document.detail == Detail::Processed
+        && document.attempt == Attempt::Idle
+        && document.due.is_none()
+        && document.tries == 1
+        && evidence.moment.seconds() == 1000
+        && evidence.content_type.as_slice() == RECEIPT_TYPE.as_bytes()
+        && evidence.body.piece(0) == Some(RECEIPT)
+}
+
+#[test]
+fn a_posted_receipt_settles_its_document_once(rt: HostRuntime) -> Result<(), Fail> {
+    const ROWS: [Row<'static>; 5] = [
+        Row {
+            changes: &[("Content-Type", RECEIPT_TYPE), ("AS2-From", "Depot")],
+            body: RECEIPT,
+            answer: Wanted::Line(404, "no such message"),
+        },
+        Row {
+            changes: &[("Content-Type", RECEIPT_TYPE)],
+            body: RECEIPT,
+            answer: Wanted::Status(200),
+        },
+        Row {
+            changes: &[("Content-Type", RECEIPT_TYPE)],
+            body: RECEIPT,
+            answer: Wanted::Status(200),
+        },
+        Row {
+            changes: &[("Content-Type", RECEIPT_TYPE), ("AS2-From", "Depot")],
+            body: RECEIPT,
+            answer: Wanted::Line(404, "no such message"),
+        },
+        Row {
+            changes: &[("Content-Type", RECEIPT_TYPE)],
+            body: b"abc",
+            answer: Wanted::Line(400, "unreadable receipt"),
+        },
+    ];
+    assert!(rt; RECEIPT.len() == 406);
+    let agreements = Agreements::read(rt.alloc(), AGREEMENTS)?;
+    let Some(store) = store_of_documents(rt.alloc()) else {
+        return Err(Fail::new("no store"));
+    };
+    let mut station = Station::new(store);
+    answer_all(rt.alloc(), &mut station, &agreements, &ROWS)?;
+    let mut store = station.into_store();
+    let settled = document(rt.alloc(), &mut store, "out-1@station.example")?;
+    assert!(rt; is_settled(&settled));
+    let other = document(rt.alloc(), &mut store, "out-2@station.example")?;
+    assert!(rt; matches!(&other, Some(d) if d.detail == Detail::New && d.due == Some(1000)));
+    Ok(())
+}
+
+#[test]
+fn a_receipt_is_queued_anew(rt: HostRuntime) -> Result<(), Fail> {
+    let (Some(mut store), Some(moment)) = (new_store(rt.alloc(), 1), Moment::new(5000)) else {
+        return Err(Fail::new("no store"));
+    };
+    add(rt.alloc(), &mut store, 1, "<m1@x>", b"abc")?;
+    add(rt.alloc(), &mut store, 2, "<m2@x>", b"abd")?;
+    store.requeue_mdn(2, moment)?;
+    store.requeue_mdn(9, moment)?;
+    let listed = store.list_in(rt.alloc())?;
+    assert!(rt;
+        matches!(listed.as_slice(), [one, other]
+        if one.mdn == MdnState::Sent && one.due.is_none()
+        && other.mdn == MdnState::Pending && other.tries == 0 && other.due == Some(5000))
+    );
+    assert!(rt; next(&mut store) == Some((3, 1)));
+    Ok(())
+}
