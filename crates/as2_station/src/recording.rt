@@ -1,11 +1,12 @@
 //! Documents that are posted: each is recorded once.
-ghost use Rattle.std.specs.Prelude.{◌≡◌, Some, None, true, map, IfOk, IfErr, OnOk, OnErr};
+ghost use Rattle.std.specs.Prelude.{◌≡◌, ◌⊎◌, Some, None, true, map, IfOk, IfErr, OnOk, OnErr};
 ghost use Rattle.sqlite.specs.Held.{state};
 ghost use Rattle.sqlite.specs.State.{HasCleanDisk};
 ghost use Rattle.as2_exchange.specs.Invariants.{AreNumbers};
 ghost use Rattle.as2_exchange.specs.State.{State, change_received, received};
 ghost use Rattle.as2_exchange.specs.Step.{queued_again, record_post, recorded};
 ghost use Rattle.as2_exchange.specs.declared.answer.Answer.TheVariants.{Http};
+ghost use Rattle.as2_exchange.specs.declared.fault.StoreFault.TheVariants.{Full};
 ghost use Rattle.as2_store.specs.Stands.{Rests, may_come};
 ghost use Rattle.as2_station.specs.Steps.{Answers, Fails, Left};
 
@@ -49,6 +50,7 @@ fn record_again<S: Alter>(
     ensures answered { HasCleanDisk (state S.Store store.new) → IfOk result (λ a. (s : State) → Rests (state S.Store store.old) s → AreNumbers s.next_in (map (λ e. e.number) s.inbox) → received s entry.now.number ≡ Some entry.now
         → Left (state S.Store store.new) (recorded agreements.now s moment posted.now (Some entry.now)) (Http a)) }
     ensures failed { HasCleanDisk (state S.Store store.new) → IfErr result (λ f. Fails (λ s. recorded agreements.now s moment posted.now (Some entry.now)) (state S.Store store.old) (state S.Store store.new) f) }
+    ensures fault { IfErr result (λ f. (f ≡ Full) ⊎ (may_come f ≡ true)) }
 {
     if !repeats(&entry.posted, posted) {
         return Ok(refused(Line::IdUsedBefore));
@@ -69,6 +71,7 @@ fn record_first<S: Alter>(
     ensures clean { HasCleanDisk (state S.Store store.new) → HasCleanDisk (state S.Store store.old) }
     ensures answered { HasCleanDisk (state S.Store store.new) → IfOk result (λ a. Answers (λ s. recorded agreements.now s moment posted None) (state S.Store store.old) (state S.Store store.new) (Http a)) }
     ensures failed { HasCleanDisk (state S.Store store.new) → IfErr result (λ f. Fails (λ s. recorded agreements.now s moment posted None) (state S.Store store.old) (state S.Store store.new) f) }
+    ensures fault { IfErr result (λ f. (f ≡ Full) ⊎ (may_come f ≡ true)) }
 {
     let number = store.next_numbers()?.receipt;
     let answer = answer_to(alloc, agreements, number, &posted)?;
@@ -88,6 +91,7 @@ pub fn record<S: Alter>(
     ensures clean { HasCleanDisk (state S.Store store.new) → HasCleanDisk (state S.Store store.old) }
     ensures answered { HasCleanDisk (state S.Store store.new) → IfOk result (λ a. Answers (λ s. record_post agreements.now s moment posted) (state S.Store store.old) (state S.Store store.new) (Http a)) }
     ensures failed { HasCleanDisk (state S.Store store.new) → IfErr result (λ f. Fails (λ s. record_post agreements.now s moment posted) (state S.Store store.old) (state S.Store store.new) f) }
+    ensures fault { IfErr result (λ f. (f ≡ Full) ⊎ (may_come f ≡ true)) }
 {
     match store.find_in(alloc, &posted.sender, &posted.receiver, posted.id.value())? {
         Some(entry) => record_again(store, alloc, agreements, &entry, &posted, moment),

@@ -1,13 +1,16 @@
 //! The station, event by event.
-ghost use Rattle.std.specs.Prelude.{◌≡◌, ℕ, List, Some, Ok, true, length, IfOk, IfErr, OnErr};
+ghost use Rattle.std.specs.Prelude.{◌≡◌, ◌⊎◌, ℕ, List, Some, Ok, true, length, IfOk, IfErr, OnErr};
 ghost use Rattle.sqlite.specs.Held.{state};
 ghost use Rattle.sqlite.specs.State.{HasCleanDisk};
 ghost use Rattle.as2_exchange.specs.Step.{Refuses, post, reading, step};
 ghost use Rattle.as2_exchange.specs.declared.event.Event.TheVariants.{Post};
 ghost use Rattle.as2_exchange.specs.declared.answer.Answer.TheVariants.{Http};
 ghost use Rattle.as2_exchange.specs.declared.answer.Line.{Line as TheLine};
+ghost use Rattle.as2_exchange.specs.declared.fault.StoreFault.TheVariants.{Full};
+ghost use Rattle.as2_exchange.specs.Readings.{Head as TheHead};
 ghost use Rattle.as2_posts.specs.Answers.{refusal};
 ghost use Rattle.as2_posts.specs.Openings.{read_further};
+ghost use Rattle.as2_store.specs.Stands.{may_come};
 ghost use Rattle.as2_station.specs.Heads.{is_of_head};
 ghost use Rattle.as2_station.specs.Steps.{Answers, Fails};
 ghost use Rattle.as2_station.specs.Traces.{Plays, trace};
@@ -69,6 +72,7 @@ impl<S: Alter> Station<S> {
         ensures clean { HasCleanDisk (state S.Store self.new) → HasCleanDisk (state S.Store self.old) }
         ensures answered { HasCleanDisk (state S.Store self.new) → IfOk result (λ a. Answers (λ s. post agreements.now s moment (read_further (opened.entry.from, opened.entry.to) (opened.entry.media, opened.entry.content_type.now) head.now body)) (state S.Store self.old) (state S.Store self.new) (Http a)) }
         ensures failed { HasCleanDisk (state S.Store self.new) → IfErr result (λ f. Fails (λ s. post agreements.now s moment (read_further (opened.entry.from, opened.entry.to) (opened.entry.media, opened.entry.content_type.now) head.now body)) (state S.Store self.old) (state S.Store self.new) f) }
+        ensures fault { IfErr result (λ f. (f ≡ Full) ⊎ (may_come f ≡ true)) }
     {
         if opened.is_report() {
             return receive(&mut self.store, alloc, &opened, body, moment);
@@ -92,6 +96,7 @@ impl<S: Alter> Station<S> {
         ensures clean { HasCleanDisk (state S.Store self.new) → HasCleanDisk (state S.Store self.old) }
         ensures answered { HasCleanDisk (state S.Store self.new) → IfOk result (λ a. Answers (λ s. step agreements.now s (Post head.now body moment)) (state S.Store self.old) (state S.Store self.new) (Http a)) }
         ensures failed { HasCleanDisk (state S.Store self.new) → IfErr result (λ f. Fails (λ s. step agreements.now s (Post head.now body moment)) (state S.Store self.old) (state S.Store self.new) f) }
+        ensures fault { IfErr result (λ f. (f ≡ Full) ⊎ (may_come f ≡ true)) }
         ensures of_head { (status : ℕ) (line : TheLine) → reading agreements.now head.now body ≡ Refuses status line → is_of_head line ≡ true → (result ≡ Ok (refusal line)) × (self.new ≡ self.old) }
     {
         match open(agreements, head) {
@@ -101,7 +106,7 @@ impl<S: Alter> Station<S> {
     }
 
     /// Takes an event. A post is taken as `post` takes it; every other event is Refused for now. A fault of the store may come
-    /// in place of any answer, and nothing is changed then; Full where no number is left.
+    /// in place of any answer but those that a head alone decides, and nothing is changed then; Full where no number is left.
     pub fn step(
         &mut self,
         alloc: Global,
@@ -111,6 +116,9 @@ impl<S: Alter> Station<S> {
         ensures clean { HasCleanDisk (state S.Store self.new) → HasCleanDisk (state S.Store self.old) }
         ensures answered { HasCleanDisk (state S.Store self.new) → IfOk result (Answers (λ s. step agreements.now s event) (state S.Store self.old) (state S.Store self.new)) }
         ensures failed { HasCleanDisk (state S.Store self.new) → IfErr result (Fails (λ s. step agreements.now s event) (state S.Store self.old) (state S.Store self.new)) }
+        ensures fault { IfErr result (λ f. (f ≡ Full) ⊎ (may_come f ≡ true)) }
+        ensures of_head { (head : TheHead) (body : List ℕ) (moment status : ℕ) (line : TheLine) → event ≡ Post head body moment → reading agreements.now head body ≡ Refuses status line → is_of_head line ≡ true
+            → (result ≡ Ok (Http (refusal line))) × (self.new ≡ self.old) }
     {
         match event {
             Event::Post { head, body, moment } => {
