@@ -12,13 +12,12 @@ use Rattle.as2_http.specs.declared.framing.Target.TheVariants.{Station, Other as
 use Rattle.as2_agreement.specs.Agreements.{AgreedValues}
 use Rattle.as2_exchange.specs.State.{State}
 use Rattle.as2_exchange.specs.Step.{step}
-use Rattle.as2_exchange.specs.declared.event.Event.{Event}
 use Rattle.as2_exchange.specs.declared.answer.Answer.{Answer}
 use Rattle.as2_exchange.specs.declared.answer.HttpAnswer.{HttpAnswer}
 use Rattle.as2_exchange.specs.declared.answer.Answer.TheVariants.{Http}
 use Rattle.as2_desk.specs.FirstPath.{Replies, Refusal, form_of, refusal_form}
 use Rattle.as2_desk.specs.Laws.{OneReply, TellsFault}
-use Rattle.as2_desk.specs.Responses.{RespondsTo, Responds, Takes, answer_of}
+use Rattle.as2_desk.specs.Responses.{RespondsTo, Responds, Takes, answer_of, posted}
 use Rattle.as2_desk.specs.declared.first_path.Served.TheVariants.{Closed, Truncated, BadFraming, ReadFault, WriteFault, Memory, TooLong}
 use Rattle.as2_desk.specs.declared.response.Response.{Response}
 use Rattle.as2_desk.specs.declared.response.Response.TheVariants.{Answered, Failed, OnlyPost, NoPath}
@@ -37,21 +36,21 @@ answers_once a b e = cc
 steps_once : (came : Option (Answer × State)) (a b : HttpAnswer) (t u : State) → came ≡ Some (Http a, t) → came ≡ Some (Http b, u) → (Answered a ≡ Answered b) × (t ≡ u)
 steps_once came a b t u x y = let both = some_once (Http a, t) (Http b, u) (sym x ∙ y) in (answers_once a b (ap (λ p. p.0) both), ap (λ p. p.1) both)
 
-takes_once : (A : AgreedValues) (e : Event) (s : State) (x y : Response) (t u : State) → Takes A e s x t → Takes A e s y u → IsNoFault x → IsNoFault y → (x ≡ y) × (t ≡ u)
-takes_once A e s (Answered a) (Answered b) t u x y _ _ = steps_once (step A s e) a b t u x y
-takes_once A e s (Answered a) (Failed f) t u x y _ failed = absurd failed
-takes_once A e s (Answered a) OnlyPost t u x y _ _ = absurd y
-takes_once A e s (Answered a) NoPath t u x y _ _ = absurd y
-takes_once A e s (Failed f) b t u x y failed _ = absurd failed
-takes_once A e s OnlyPost b t u x y _ _ = absurd x
-takes_once A e s NoPath b t u x y _ _ = absurd x
+takes_once : (A : AgreedValues) (moment : ℕ) (s : State) (r : Request) (x y : Response) (t u : State) → Takes A moment s r x t → Takes A moment s r y u → IsNoFault x → IsNoFault y → (x ≡ y) × (t ≡ u)
+takes_once A moment s r (Answered a) (Answered b) t u x y _ _ = steps_once (step A s (posted r moment)) a b t u x y
+takes_once A moment s r (Answered a) (Failed f) t u x y _ failed = absurd failed
+takes_once A moment s r (Answered a) OnlyPost t u x y _ _ = absurd y
+takes_once A moment s r (Answered a) NoPath t u x y _ _ = absurd y
+takes_once A moment s r (Failed f) b t u x y failed _ = absurd failed
+takes_once A moment s r OnlyPost b t u x y _ _ = absurd x
+takes_once A moment s r NoPath b t u x y _ _ = absurd x
 
-responds_once : (A : AgreedValues) (e : Event) (s : State) (m : Method) (at : Target) (x y : Response) (t u : State)
-    → RespondsTo m at A e s x t → RespondsTo m at A e s y u → IsNoFault x → IsNoFault y → (x ≡ y) × (t ≡ u)
-responds_once A e s Post Station x y t u p q a b = takes_once A e s x y t u p q a b
-responds_once A e s Post OtherTarget x y t u p q a b = (p.0 ∙ sym q.0, p.1 ∙ sym q.1)
-responds_once A e s Head at x y t u p q a b = (p.0 ∙ sym q.0, p.1 ∙ sym q.1)
-responds_once A e s OtherMethod at x y t u p q a b = (p.0 ∙ sym q.0, p.1 ∙ sym q.1)
+responds_once : (A : AgreedValues) (moment : ℕ) (s : State) (r : Request) (m : Method) (at : Target) (x y : Response) (t u : State)
+    → RespondsTo m at A moment s r x t → RespondsTo m at A moment s r y u → IsNoFault x → IsNoFault y → (x ≡ y) × (t ≡ u)
+responds_once A moment s r Post Station x y t u p q a b = takes_once A moment s r x y t u p q a b
+responds_once A moment s r Post OtherTarget x y t u p q a b = (p.0 ∙ sym q.0, p.1 ∙ sym q.1)
+responds_once A moment s r Head at x y t u p q a b = (p.0 ∙ sym q.0, p.1 ∙ sym q.1)
+responds_once A moment s r OtherMethod at x y t u p q a b = (p.0 ∙ sym q.0, p.1 ∙ sym q.1)
 
 no_fault : (moment : ℕ) (r : Request) (x : Response) (text : List ℕ) → IsReply moment (form_of r) (answer_of x) text → ¬ TellsFault moment text → IsNoFault x
 no_fault moment r (Answered a) text reply tells = tt
@@ -66,7 +65,7 @@ replies_once agreements moment s t u input after later text same r q n k =
     let one = begins_with_one input r.gets.request q.gets.request r.gets.rest q.gets.rest r.gets.begins q.gets.begins in
     let other : Responds agreements moment s r.gets.request q.gets.response u =
     subst (λ (x : Request). Responds agreements moment s x q.gets.response u) (sym one.0) q.gets.responds in
-    let gets = responds_once agreements _ s r.gets.request.method r.gets.request.target r.gets.response q.gets.response t u r.gets.responds other
+    let gets = responds_once agreements moment s r.gets.request r.gets.request.method r.gets.request.target r.gets.response q.gets.response t u r.gets.responds other
     (no_fault moment r.gets.request r.gets.response text r.reply n) (no_fault moment q.gets.request q.gets.response same q.reply k) in (
       replies_in_one_way moment (form_of r.gets.request) (answer_of r.gets.response) text same r.reply
           (subst (λ (x : Request). IsReply moment (form_of x) (answer_of r.gets.response) same) (sym one.0)

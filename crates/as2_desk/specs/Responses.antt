@@ -1,10 +1,12 @@
 -- What a request gets in a state of the station, and the state that it leaves.
-use Rattle.std.specs.Prelude.{◌≡◌, ℕ, List, Some, codes}
+use Rattle.std.specs.Prelude.{◌≡◌, ℕ, List, Some, codes, true}
 use Rattle.as2_agreement.specs.Agreements.{AgreedValues}
 use Rattle.as2_exchange.specs.Lines.{line_text}
 use Rattle.as2_exchange.specs.Run.{MayFail}
 use Rattle.as2_exchange.specs.State.{State}
-use Rattle.as2_exchange.specs.Step.{step}
+use Rattle.as2_exchange.specs.Step.{Refuses, reading, step}
+use Rattle.as2_exchange.specs.declared.answer.Line.{Line as TheLine}
+use Rattle.as2_station.specs.Heads.{is_of_head}
 use Rattle.as2_exchange.specs.declared.event.Event.{Event}
 use Rattle.as2_exchange.specs.declared.answer.Answer.TheVariants.{Http}
 use Rattle.as2_exchange.specs.declared.answer.HttpBody.{HttpBody}
@@ -46,20 +48,28 @@ answer_of NoPath = line 404 (codes "no such path")
 
 -- ---- what a request gets
 
--- an event is a step of the machine, or a fault that changes nothing
-abbrev pub Takes : AgreedValues → Event → State → Response → State → Type 0
-Takes A e s (Answered answer) t = step A s e ≡ Some (Http answer, t)
-Takes A e s (Failed fault) t = MayFail A s e fault × (t ≡ s)
-Takes A e s OnlyPost t = ⊥
-Takes A e s NoPath t = ⊥
+-- the head of a post doesn't decide its answer
+abbrev pub IsPastHead : AgreedValues → Request → Type 0
+IsPastHead A r = (status : ℕ) (line : TheLine) → reading A r.fields r.body ≡ Refuses status line → ¬ (is_of_head line ≡ true)
+
+-- a post at this moment, as an event
+abbrev pub posted : Request → ℕ → Event
+posted r moment = event.Post r.fields r.body moment
+
+-- the post is a step of the machine; or there is a fault, which changes nothing, and never stands in place of what the head decides
+abbrev pub Takes : AgreedValues → ℕ → State → Request → Response → State → Type 0
+Takes A moment s r (Answered answer) t = step A s (posted r moment) ≡ Some (Http answer, t)
+Takes A moment s r (Failed fault) t = MayFail A s (posted r moment) fault × (t ≡ s) × IsPastHead A r
+Takes A moment s r OnlyPost t = ⊥
+Takes A moment s r NoPath t = ⊥
 
 -- a post to the station's path is an event; any other request changes nothing
-abbrev pub RespondsTo : Method → Target → AgreedValues → Event → State → Response → State → Type 0
-RespondsTo Post Station A e s response t = Takes A e s response t
-RespondsTo Post OtherTarget A e s response t = (response ≡ NoPath) × (t ≡ s)
-RespondsTo Head target A e s response t = (response ≡ OnlyPost) × (t ≡ s)
-RespondsTo OtherMethod target A e s response t = (response ≡ OnlyPost) × (t ≡ s)
+abbrev pub RespondsTo : Method → Target → AgreedValues → ℕ → State → Request → Response → State → Type 0
+RespondsTo Post Station A moment s r response t = Takes A moment s r response t
+RespondsTo Post OtherTarget A moment s r response t = (response ≡ NoPath) × (t ≡ s)
+RespondsTo Head target A moment s r response t = (response ≡ OnlyPost) × (t ≡ s)
+RespondsTo OtherMethod target A moment s r response t = (response ≡ OnlyPost) × (t ≡ s)
 
 -- at this moment and in the state s the request gets this response, and leaves t
 abbrev pub Responds : AgreedValues → ℕ → State → Request → Response → State → Type 0
-Responds A moment s r response t = RespondsTo r.method r.target A (event.Post r.fields r.body moment) s response t
+Responds A moment s r response t = RespondsTo r.method r.target A moment s r response t

@@ -40,7 +40,7 @@ impl OpenStores for FileSystem<'_> {
         path: &str,
     ) -> Result<Opening<FileStore<File>>, StoreFault> {
         let Ok(is_there) = fs::exists(self.rt, path) else {
-            return Err(StoreFault::Disk);
+            return Err(StoreFault::Refused);
         };
         match Connection::open(self.rt, path) {
             Ok(conn) if is_there => Ok(Opening::Found(conn)),
