@@ -8,7 +8,7 @@ exec python3 - "$top/crates/as2desk/out/as2desk" "$top/examples/plain-post.http"
 import os, statistics, subprocess, sys, tempfile, time
 
 program, plain, agreements = sys.argv[1:]
-OPTIONS = ["--agreements", agreements, "--moment", "1000", "post"]
+OPTIONS = ["--agreements", agreements, "--store", ":memory:", "--moment", "1000", "post"]
 SIZE = 1_048_576
 
 

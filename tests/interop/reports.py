@@ -11,7 +11,7 @@ import subprocess
 import sys
 
 TOP = pathlib.Path(__file__).resolve().parents[2]
-OPTIONS = ["--agreements", str(TOP / "examples" / "agreements.toml"), "--first", "42", "--moment", "1000", "post"]
+OPTIONS = ["--agreements", str(TOP / "examples" / "agreements.toml"), "--store", ":memory:", "--first", "42", "--moment", "1000", "post"]
 PARTNER = '"A \\"B\\" \\\\ C"'
 CONTENT = b"UNB+UNOA:1+SENDER+RECEIVER'\r\n\x00\xff"
 IDENTIFIER = "<a.b+c=d@x.example>"
