@@ -1,3 +1,4 @@
+//! The first number of a store.
 ghost use Rattle.std.specs.Prelude.{◌≡◌, ◌<◌, ◌≤◌, ℕ};
 ghost use Rattle.as2_exchange.specs.State.{end_of_numbers};
 ghost use Rattle.as2_desk.specs.Options.{first_number};

@@ -1,3 +1,4 @@
+//! Documents to a partner, as they are found, and settled by receipts that are posted.
 use crate::posts::AGREEMENTS;
 use crate::station_posts::{Row, Wanted, answer_all};
 use crate::stores::{add, new_store, next};
@@ -95,42 +96,44 @@ fn is_settled(document: &Option<OutEntry>) -> bool {
         && evidence.body.piece(0) == Some(RECEIPT)
 }
 
+/// Posts of receipts: for no document of those names, for the first, again, and one that is unreadable.
+const RECEIPTS: [Row<'static>; 5] = [
+    Row {
+        changes: &[("Content-Type", RECEIPT_TYPE), ("AS2-From", "Depot")],
+        body: RECEIPT,
+        answer: Wanted::Line(404, "no such message"),
+    },
+    Row {
+        changes: &[("Content-Type", RECEIPT_TYPE)],
+        body: RECEIPT,
+        answer: Wanted::Status(200),
+    },
+    Row {
+        changes: &[("Content-Type", RECEIPT_TYPE)],
+        body: RECEIPT,
+        answer: Wanted::Status(200),
+    },
+    Row {
+        changes: &[("Content-Type", RECEIPT_TYPE), ("AS2-From", "Depot")],
+        body: RECEIPT,
+        answer: Wanted::Line(404, "no such message"),
+    },
+    Row {
+        changes: &[("Content-Type", RECEIPT_TYPE)],
+        body: b"abc",
+        answer: Wanted::Line(400, "unreadable receipt"),
+    },
+];
+
 #[test]
 fn a_posted_receipt_settles_its_document_once(rt: HostRuntime) -> Result<(), Fail> {
-    const ROWS: [Row<'static>; 5] = [
-        Row {
-            changes: &[("Content-Type", RECEIPT_TYPE), ("AS2-From", "Depot")],
-            body: RECEIPT,
-            answer: Wanted::Line(404, "no such message"),
-        },
-        Row {
-            changes: &[("Content-Type", RECEIPT_TYPE)],
-            body: RECEIPT,
-            answer: Wanted::Status(200),
-        },
-        Row {
-            changes: &[("Content-Type", RECEIPT_TYPE)],
-            body: RECEIPT,
-            answer: Wanted::Status(200),
-        },
-        Row {
-            changes: &[("Content-Type", RECEIPT_TYPE), ("AS2-From", "Depot")],
-            body: RECEIPT,
-            answer: Wanted::Line(404, "no such message"),
-        },
-        Row {
-            changes: &[("Content-Type", RECEIPT_TYPE)],
-            body: b"abc",
-            answer: Wanted::Line(400, "unreadable receipt"),
-        },
-    ];
     assert!(rt; RECEIPT.len() == 406);
     let agreements = Agreements::read(rt.alloc(), AGREEMENTS)?;
     let Some(store) = store_of_documents(rt.alloc()) else {
         return Err(Fail::new("no store"));
     };
     let mut station = Station::new(store);
-    answer_all(rt.alloc(), &mut station, &agreements, &ROWS)?;
+    answer_all(rt.alloc(), &mut station, &agreements, &RECEIPTS)?;
     let mut store = station.into_store();
     let settled = document(rt.alloc(), &mut store, "out-1@station.example")?;
     assert!(rt; is_settled(&settled));

@@ -1,3 +1,4 @@
+//! Stores in files, closed and opened again.
 ghost use Rattle.std.specs.Prelude.{◌≡◌, false};
 
 use crate::stores::{add, is_found, next};

@@ -1,3 +1,4 @@
+//! The plain post, and posts that differ from it.
 use as2_exchange::{InEntry, Posted};
 use as2_media::MediaType;
 use as2_mic::Pieces;

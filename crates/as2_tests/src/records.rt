@@ -1,3 +1,4 @@
+//! Stores in memory: entries, numbers, and databases that are no store.
 ghost use Rattle.std.specs.Prelude.{◌≡◌, false};
 
 use crate::stores::{add, is_entry, is_found, new_store, next};

@@ -1,3 +1,4 @@
+//! Posts to a station, their answers, and the entries that they leave.
 ghost use Rattle.std.specs.Prelude.{◌≤◌, ◌<◌};
 ghost use Rattle.as2_exchange.specs.State.{end_of_numbers};
 

@@ -1,3 +1,4 @@
+//! Stores in memory, and what they hold.
 ghost use Rattle.std.specs.Prelude.{◌≤◌, ◌<◌};
 ghost use Rattle.as2_exchange.specs.State.{end_of_numbers};
 

@@ -204,27 +204,29 @@ fn an_agreed_name_has_at_most_128_letters(rt: HostRuntime) -> Result<(), Fail> {
     Ok(())
 }
 
+/// Words that name another file of agreements.
+const OTHER_FILE: [&[&str]; 2] = [
+    &[
+        "--agreements",
+        "other.toml",
+        "--store",
+        "station.db",
+        "check",
+    ],
+    &[
+        "--agreements",
+        "other.toml",
+        "--store",
+        "station.db",
+        "--moment",
+        "1000",
+        "post",
+    ],
+];
+
 #[test]
 fn a_file_that_cannot_be_read_is_refused(rt: HostRuntime) -> Result<(), Fail> {
-    const WORDS: [&[&str]; 2] = [
-        &[
-            "--agreements",
-            "other.toml",
-            "--store",
-            "station.db",
-            "check",
-        ],
-        &[
-            "--agreements",
-            "other.toml",
-            "--store",
-            "station.db",
-            "--moment",
-            "1000",
-            "post",
-        ],
-    ];
-    for words in WORDS {
+    for words in OTHER_FILE {
         let mut output = Vec::new(rt.alloc());
         let mut errors = Vec::new(rt.alloc());
         let mut input = POST.as_bytes();
