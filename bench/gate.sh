@@ -1,15 +1,7 @@
 #!/bin/sh
-# How long the gate takes, step by step: runs `rt ci` and prints each of its own lines with the seconds since its
-# start, then the whole. The whole output is kept in the file that the first argument names, if there is one.
-set -u
+# What the gate costs: runs `rt ci`, prints each of its own lines with the seconds since its start, and then the processor
+# minutes of each crate's proofs, tests, edits and runs. The whole output is kept in the file that the first argument names,
+# if there is one. On two processors: `taskset -c 0,1 bench/gate.sh`.
+set -eu
 cd "$(dirname "$0")/.."
-log=${1:-/dev/null}
-start=$(date +%s)
-rt ci 2>&1 | tee "$log" | while IFS= read -r line; do
-    case $line in
-    "rt: "* | *" passed, "*" failed"*)
-        printf '%6d s  %s\n' "$(($(date +%s) - start))" "$line"
-        ;;
-    esac
-done
-printf '%6d s  in all\n' "$(($(date +%s) - start))"
+exec python3 bench/gate.py "$@"
