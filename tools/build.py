@@ -174,7 +174,8 @@ def build(tasks, done, voice):
             done.add(task.crate)
             voice.say(f"{'built' if task.crate == PROGRAM else 'proved'} {task.crate}", len(done))
         if running and voice.is_silent():
-            voice.say(f"proving {', '.join(it.crate for it in running)}", len(done))
+            what = "building" if running[0].crate == PROGRAM else "proving"
+            voice.say(f"{what} {', '.join(it.crate for it in running)}", len(done))
     return None
 
 
