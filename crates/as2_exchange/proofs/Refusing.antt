@@ -9,7 +9,7 @@ use Rattle.as2_exchange.specs.Agreement.{Text, Agreements, Partner, Asked, NoRec
 use Rattle.as2_exchange.specs.Readings.{How, NoReceipt as NoneAsked, Sync as AtOnce, Async as Later, Outcome as WhatBecame, is_processed, named_by}
 use Rattle.as2_exchange.specs.State.{Posted, InEntry, OutEntry, State, end_of_numbers, document, document_named, received, received_as, change_document, change_received, is_settled}
 use Rattle.as2_exchange.specs.Step.{Event, Post, Submit, Begin, Outcome, BeginMdn, OutcomeMdn, Tick, Answer, Refused, Submitted, UnknownOrganization, UnknownPartner, TooLarge, TryAnswer, Came, Reading, Refuses, IsReceipt, IsDocument, is_refusal, agreed, begun, waits, is_early, closed, closed_by, if_for, came_back, is_idle, is_last, is_delivery, delivered, failed, mdn_begun, mdn_closed, is_pending, is_shut, acted, acted_in, reading, post, step, submit, new_document, settle, settle_for, settled, bears, record_post, recorded, repeats, queued_again, first_entry, answer_to, http, Nothing, Words, NotProcessed, IdUsedBefore, NoSuchMessage, tick}
-use Rattle.as2_exchange.specs.Invariants.{IsWellFormed}
+use Rattle.as2_exchange.specs.Invariants.{HasDistinctNumbers}
 use Rattle.as2_exchange.proofs.Decisions.{number_is, apart_turned}
 
 -- ---- lists
@@ -113,15 +113,15 @@ mdn_closed_leaves A got m e = agreed_leaves A e.posted.receiver e.posted.sender 
 
 -- ---- a step
 
-acted_leaves : (A : Agreements) (s : State) (n : ℕ) (act : OutEntry → Answer × OutEntry) (o : Option OutEntry) → document s n ≡ o → ((d : OutEntry) → Leaves d (act d)) → IsWellFormed A s → Leaves s (acted s n act o)
+acted_leaves : (A : Agreements) (s : State) (n : ℕ) (act : OutEntry → Answer × OutEntry) (o : Option OutEntry) → document s n ≡ o → ((d : OutEntry) → Leaves d (act d)) → HasDistinctNumbers s → Leaves s (acted s n act o)
 unfolding Leaves
-acted_leaves A s n act None found leaves formed h = refl
-acted_leaves A s n act (Some d) found leaves formed h = ap (λ (ds : List OutEntry). record s { outbox = ds }) (left_as_is (λ (x : OutEntry). x.number) (λ (x : OutEntry). (act x).1) n d s.outbox formed.sent.numbers.distinct found (leaves d h))
+acted_leaves A s n act None found leaves apart h = refl
+acted_leaves A s n act (Some d) found leaves apart h = ap (λ (ds : List OutEntry). record s { outbox = ds }) (left_as_is (λ (x : OutEntry). x.number) (λ (x : OutEntry). (act x).1) n d s.outbox apart.sent found (leaves d h))
 
-acted_in_leaves : (A : Agreements) (s : State) (n : ℕ) (act : InEntry → Answer × InEntry) (o : Option InEntry) → received s n ≡ o → ((e : InEntry) → Leaves e (act e)) → IsWellFormed A s → Leaves s (acted_in s n act o)
+acted_in_leaves : (A : Agreements) (s : State) (n : ℕ) (act : InEntry → Answer × InEntry) (o : Option InEntry) → received s n ≡ o → ((e : InEntry) → Leaves e (act e)) → HasDistinctNumbers s → Leaves s (acted_in s n act o)
 unfolding Leaves
-acted_in_leaves A s n act None found leaves formed h = refl
-acted_in_leaves A s n act (Some e) found leaves formed h = ap (λ (es : List InEntry). record s { inbox = es }) (left_as_is (λ (x : InEntry). x.number) (λ (x : InEntry). (act x).1) n e s.inbox formed.received.numbers.distinct found (leaves e h))
+acted_in_leaves A s n act None found leaves apart h = refl
+acted_in_leaves A s n act (Some e) found leaves apart h = ap (λ (es : List InEntry). record s { inbox = es }) (left_as_is (λ (x : InEntry). x.number) (λ (x : InEntry). (act x).1) n e s.inbox apart.received found (leaves e h))
 
 submit_leaves : (A : Agreements) (s : State) (organization partner content : Text) (m : ℕ) (y : Answer × State) → submit A s organization partner content m ≡ Some y → Leaves s y
 unfolding submit Leaves
@@ -179,15 +179,15 @@ tick_acts : (m : ℕ) (s : State) → is_refusal (tick m s).0 ≡ false
 unfolding tick
 tick_acts m s = refl
 
-step_leaves : (A : Agreements) (s : State) (e : Event) (y : Answer × State) → IsWellFormed A s → step A s e ≡ Some y → Leaves s y
-step_leaves A s (Post head body m) y formed h = acts s y (post_acts A s m (reading A head body) y h)
-step_leaves A s (Submit organization partner content m) y formed h = submit_leaves A s organization partner content m y h
-step_leaves A s (Begin n m) y formed h = subst (Leaves s) (same_Some _ y h) (acted_leaves A s n (begun A m) (document s n) refl (begun_leaves A m) formed)
-step_leaves A s (Outcome n got m) y formed h = subst (Leaves s) (same_Some _ y h) (acted_leaves A s n (closed A got m) (document s n) refl (closed_leaves A got m) formed)
-step_leaves A s (BeginMdn n m) y formed h = subst (Leaves s) (same_Some _ y h) (acted_in_leaves A s n (mdn_begun A m) (received s n) refl (mdn_begun_leaves A m) formed)
-step_leaves A s (OutcomeMdn n got m) y formed h = subst (Leaves s) (same_Some _ y h) (acted_in_leaves A s n (mdn_closed A got m) (received s n) refl (mdn_closed_leaves A got m) formed)
-step_leaves A s (Tick m) y formed h = acts s y (ap (λ (z : Answer × State). is_refusal z.0) (sym (same_Some _ y h)) ∙ tick_acts m s)
+step_leaves : (A : Agreements) (s : State) (e : Event) (y : Answer × State) → HasDistinctNumbers s → step A s e ≡ Some y → Leaves s y
+step_leaves A s (Post head body m) y apart h = acts s y (post_acts A s m (reading A head body) y h)
+step_leaves A s (Submit organization partner content m) y apart h = submit_leaves A s organization partner content m y h
+step_leaves A s (Begin n m) y apart h = subst (Leaves s) (same_Some _ y h) (acted_leaves A s n (begun A m) (document s n) refl (begun_leaves A m) apart)
+step_leaves A s (Outcome n got m) y apart h = subst (Leaves s) (same_Some _ y h) (acted_leaves A s n (closed A got m) (document s n) refl (closed_leaves A got m) apart)
+step_leaves A s (BeginMdn n m) y apart h = subst (Leaves s) (same_Some _ y h) (acted_in_leaves A s n (mdn_begun A m) (received s n) refl (mdn_begun_leaves A m) apart)
+step_leaves A s (OutcomeMdn n got m) y apart h = subst (Leaves s) (same_Some _ y h) (acted_in_leaves A s n (mdn_closed A got m) (received s n) refl (mdn_closed_leaves A got m) apart)
+step_leaves A s (Tick m) y apart h = acts s y (ap (λ (z : Answer × State). is_refusal z.0) (sym (same_Some _ y h)) ∙ tick_acts m s)
 
-pub refused_leaves : (A : Agreements) (s t : State) (e : Event) (a : Answer) → IsWellFormed A s → step A s e ≡ Some (a, t) → is_refusal a ≡ true → t ≡ s
+pub refused_leaves : (A : Agreements) (s t : State) (e : Event) (a : Answer) → HasDistinctNumbers s → step A s e ≡ Some (a, t) → is_refusal a ≡ true → t ≡ s
 unfolding Leaves
-refused_leaves A s t e a formed h refused = step_leaves A s e (a, t) formed h refused
+refused_leaves A s t e a apart h refused = step_leaves A s e (a, t) apart h refused

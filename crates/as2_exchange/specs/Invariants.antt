@@ -64,3 +64,8 @@ pub record IsOutbox (A : Agreements) (next : ℕ) (outbox : List OutEntry) : Typ
 pub record IsWellFormed (A : Agreements) (s : State) : Type 0 where
   pub received : IsInbox s.next_in s.inbox
   pub sent : IsOutbox A s.next_out s.outbox
+
+-- no two entries of a box have the same number
+pub record HasDistinctNumbers (s : State) : Type 0 where
+  pub received : IsDistinct (λ a b. a == b) (map (λ e. e.number) s.inbox)
+  pub sent : IsDistinct (λ a b. a == b) (map (λ d. d.number) s.outbox)

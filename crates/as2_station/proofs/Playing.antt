@@ -9,7 +9,7 @@ use Rattle.as2_exchange.specs.declared.event.Event.{Event}
 use Rattle.as2_exchange.specs.declared.answer.Answer.{Answer}
 use Rattle.as2_exchange.specs.declared.fault.StoreFault.{StoreFault}
 use Rattle.as2_station.specs.Steps.{Answers, Fails}
-use Rattle.as2_station.specs.Traces.{said, trace, Plays}
+use Rattle.as2_station.specs.Traces.{said, trace, Plays, IsSaidTo, AreSaidTo}
 
 run_answered : (A : Agreements) (s mid end : State) (told : Trace) (e : Event) (a : Answer) → Run A s told mid → step A mid e ≡ Some (a, end) → Run A s (told ++ (e, Answered a) ∷ []) end
 run_answered A s mid end [] e a run is = (end, subst (λ (x : State). step A x e ≡ Some (a, end)) run is, refl)
@@ -39,3 +39,10 @@ trace_more [] [] e r same = refl
 trace_more [] (q ∷ rs) e r same = absurd (omega (arith))
 trace_more (x ∷ es) [] e r same = absurd (omega (arith))
 trace_more (x ∷ es) (q ∷ rs) e r same = ap (λ (l : Trace). (x, said q) ∷ l) (trace_more es rs e r (omega (arith)))
+
+-- one event more, with what was said to it
+pub said_more : (A : Agreements) (es : List Event) (rs : List (Result Answer StoreFault)) (e : Event) (r : Result Answer StoreFault) → AreSaidTo A es rs → IsSaidTo A e r → AreSaidTo A (es ++ e ∷ []) (rs ++ r ∷ [])
+said_more A [] [] e r before last = (last, tt)
+said_more A [] (q ∷ rs) e r before last = absurd before
+said_more A (x ∷ es) [] e r before last = absurd before
+said_more A (x ∷ es) (q ∷ rs) e r before last = (before.0, said_more A es rs e r before.1 last)

@@ -1,7 +1,15 @@
 -- Events with what was said to each.
-use Rattle.std.specs.Prelude.{List, map, zip, Result, Ok, Err}
+use Rattle.std.specs.Prelude.{◌≡◌, ℕ, List, [], ◌∷◌, map, zip, Result, Ok, Err, IfErr, true, ⊤}
 use Rattle.as2_exchange.specs.declared.event.Event.{Event}
+use Rattle.as2_exchange.specs.declared.event.Event.TheVariants.{Post}
 use Rattle.as2_exchange.specs.declared.answer.Answer.{Answer}
+use Rattle.as2_exchange.specs.declared.answer.Answer.TheVariants.{Http}
+use Rattle.as2_exchange.specs.declared.answer.Line.{Line}
+use Rattle.as2_exchange.specs.Readings.{Head}
+use Rattle.as2_exchange.specs.Step.{Refuses, reading}
+use Rattle.as2_posts.specs.Answers.{refusal}
+use Rattle.as2_station.specs.Heads.{is_of_head}
+use Rattle.as2_station.specs.Steps.{IsStepFault}
 use Rattle.as2_exchange.specs.declared.fault.StoreFault.{StoreFault}
 use Rattle.as2_exchange.specs.Run.{Said, Answered, Failed, Trace, Run}
 use Rattle.sqlite.specs.State.{State as Connected}
@@ -27,3 +35,16 @@ pub record Played (A : Agreements) (told : Trace) (s : State) (c : Connected) : 
 -- it is one from each state that the tables stood for
 abbrev pub Plays : Agreements → Trace → Connected → Connected → Type 0
 Plays A told old new = (s : State) → Rests old s → Played A told s new
+
+-- what may be said to an event: the line that the head of a post decides alone, and nothing else then; else an answer, or a
+-- fault of a step
+pub record IsSaidTo (A : Agreements) (e : Event) (r : Result Answer StoreFault) : Type 0 where
+  pub fault : IfErr r IsStepFault
+  pub of_head : (head : Head) (body : List ℕ) (moment status : ℕ) (line : Line) → e ≡ Post head body moment → reading A head body ≡ Refuses status line → is_of_head line ≡ true → r ≡ Ok (Http (refusal line))
+
+-- each event has what was said to it, in their order
+abbrev pub AreSaidTo : Agreements → List Event → List (Result Answer StoreFault) → Type 0
+AreSaidTo A [] [] = ⊤
+AreSaidTo A [] (r ∷ rs) = ⊥
+AreSaidTo A (e ∷ es) [] = ⊥
+AreSaidTo A (e ∷ es) (r ∷ rs) = IsSaidTo A e r × AreSaidTo A es rs

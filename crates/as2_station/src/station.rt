@@ -1,5 +1,5 @@
 //! The station, event by event.
-ghost use Rattle.std.specs.Prelude.{◌≡◌, ◌⊎◌, ℕ, List, Some, Ok, true, length, IfOk, IfErr, OnErr};
+ghost use Rattle.std.specs.Prelude.{◌≡◌, ℕ, List, Some, Ok, true, IfOk, IfErr, OnErr};
 ghost use Rattle.sqlite.specs.Held.{state};
 ghost use Rattle.sqlite.specs.State.{HasCleanDisk};
 ghost use Rattle.as2_exchange.specs.Step.{Refuses, post, reading, step};
@@ -10,10 +10,9 @@ ghost use Rattle.as2_exchange.specs.declared.fault.StoreFault.TheVariants.{Full}
 ghost use Rattle.as2_exchange.specs.Readings.{Head as TheHead};
 ghost use Rattle.as2_posts.specs.Answers.{refusal};
 ghost use Rattle.as2_posts.specs.Openings.{read_further};
-ghost use Rattle.as2_store.specs.Stands.{may_come};
 ghost use Rattle.as2_station.specs.Heads.{is_of_head};
-ghost use Rattle.as2_station.specs.Steps.{Answers, Fails};
-ghost use Rattle.as2_station.specs.Traces.{Plays, trace};
+ghost use Rattle.as2_station.specs.Steps.{Answers, Fails, IsStepFault};
+ghost use Rattle.as2_station.specs.Traces.{AreSaidTo, Plays, trace};
 
 use crate::receiving::receive;
 use crate::recording::record;
@@ -72,7 +71,7 @@ impl<S: Alter> Station<S> {
         ensures clean { HasCleanDisk (state S.Store self.new) → HasCleanDisk (state S.Store self.old) }
         ensures answered { HasCleanDisk (state S.Store self.new) → IfOk result (λ a. Answers (λ s. post agreements.now s moment (read_further (opened.entry.from, opened.entry.to) (opened.entry.media, opened.entry.content_type.now) head.now body)) (state S.Store self.old) (state S.Store self.new) (Http a)) }
         ensures failed { HasCleanDisk (state S.Store self.new) → IfErr result (λ f. Fails (λ s. post agreements.now s moment (read_further (opened.entry.from, opened.entry.to) (opened.entry.media, opened.entry.content_type.now) head.now body)) (state S.Store self.old) (state S.Store self.new) f) }
-        ensures fault { IfErr result (λ f. (f ≡ Full) ⊎ (may_come f ≡ true)) }
+        ensures fault { IfErr result IsStepFault }
     {
         if opened.is_report() {
             return receive(&mut self.store, alloc, &opened, body, moment);
@@ -96,7 +95,7 @@ impl<S: Alter> Station<S> {
         ensures clean { HasCleanDisk (state S.Store self.new) → HasCleanDisk (state S.Store self.old) }
         ensures answered { HasCleanDisk (state S.Store self.new) → IfOk result (λ a. Answers (λ s. step agreements.now s (Post head.now body moment)) (state S.Store self.old) (state S.Store self.new) (Http a)) }
         ensures failed { HasCleanDisk (state S.Store self.new) → IfErr result (λ f. Fails (λ s. step agreements.now s (Post head.now body moment)) (state S.Store self.old) (state S.Store self.new) f) }
-        ensures fault { IfErr result (λ f. (f ≡ Full) ⊎ (may_come f ≡ true)) }
+        ensures fault { IfErr result IsStepFault }
         ensures of_head { (status : ℕ) (line : TheLine) → reading agreements.now head.now body ≡ Refuses status line → is_of_head line ≡ true → (result ≡ Ok (refusal line)) × (self.new ≡ self.old) }
     {
         match open(agreements, head) {
@@ -116,7 +115,7 @@ impl<S: Alter> Station<S> {
         ensures clean { HasCleanDisk (state S.Store self.new) → HasCleanDisk (state S.Store self.old) }
         ensures answered { HasCleanDisk (state S.Store self.new) → IfOk result (Answers (λ s. step agreements.now s event) (state S.Store self.old) (state S.Store self.new)) }
         ensures failed { HasCleanDisk (state S.Store self.new) → IfErr result (Fails (λ s. step agreements.now s event) (state S.Store self.old) (state S.Store self.new)) }
-        ensures fault { IfErr result (λ f. (f ≡ Full) ⊎ (may_come f ≡ true)) }
+        ensures fault { IfErr result IsStepFault }
         ensures of_head { (head : TheHead) (body : List ℕ) (moment status : ℕ) (line : TheLine) → event ≡ Post head body moment → reading agreements.now head body ≡ Refuses status line → is_of_head line ≡ true
             → (result ≡ Ok (Http (refusal line))) × (self.new ≡ self.old) }
     {
@@ -137,7 +136,7 @@ impl<S: Alter> Station<S> {
         events: Vec<Event>,
     ) -> Result<Vec<Result<Answer, StoreFault>>, Memory>
         ensures clean { HasCleanDisk (state S.Store self.new) → HasCleanDisk (state S.Store self.old) }
-        ensures each { IfOk result (λ said. length said.items ≡ length events.items) }
+        ensures each { IfOk result (λ said. AreSaidTo agreements.now events.items said.items) }
         ensures played { HasCleanDisk (state S.Store self.new) → IfOk result (λ said. Plays agreements.now (trace events.items said.items) (state S.Store self.old) (state S.Store self.new)) }
         ensures nothing { OnErr result (self.new ≡ self.old) }
     {

@@ -1,8 +1,8 @@
 use Rattle.std.proofs.Common.{◌+◌, ◌++◌, [], ◌∷◌, ◌∙◌, length, sym, ap, subst, append_assoc, arith}
 use Rattle.std.proofs.lemmas.List.{length-append}
 use Rattle.sqlite.specs.Held.{state}
-use Rattle.as2_station.specs.Traces.{Plays, trace}
-use Rattle.as2_station.proofs.Playing.{plays_more, trace_more}
+use Rattle.as2_station.specs.Traces.{AreSaidTo, IsSaidTo, Plays, trace}
+use Rattle.as2_station.proofs.Playing.{plays_more, trace_more, said_more}
 use Rattle.as2_station.proofs.station.Station.play.Goals as goal
 
 pub events-preserved : goal.events-preserved
@@ -16,7 +16,11 @@ events-preserved g c =
     let told =
     ap (λ rs. trace (c.events.yielded ++ c.in-Some.event ∷ []) rs) pushed
     ∙ trace_more c.events.yielded c.events.said.items c.in-Some.event c.step.result was.2
-    in (
+    in
+    let reply : IsSaidTo c.args.agreements.now c.in-Some.event c.step.result = record {
+      fault = c.step.ensures.fault;
+      of_head = λ head body moment status line is reads head_line. (c.step.ensures.of_head head body moment status line is reads head_line).0;
+    } in (
       was.0,
       was.1 ∙ more,
       longer ∙ ap (λ n. n + 1) was.2 ∙ sym (length-append c.events.yielded (c.in-Some.event ∷ [])),
@@ -25,4 +29,5 @@ events-preserved g c =
       λ clean. subst (λ t. Plays c.args.agreements.now t (state g.S.Store c.args.self.now) (state g.S.Store c.step.new.self)) (sym told)
           (plays_more c.args.agreements.now (trace c.events.yielded c.events.said.items) c.in-Some.event c.step.result (state g.S.Store c.args.self.now) (state g.S.Store c.events.self) (state g.S.Store c.step.new.self)
           (was.5 (c.step.ensures.clean clean)) (c.step.ensures.answered clean) (c.step.ensures.failed clean)),
+      subst (λ rs. AreSaidTo c.args.agreements.now (c.events.yielded ++ c.in-Some.event ∷ []) rs) (sym pushed) (said_more c.args.agreements.now c.events.yielded c.events.said.items c.in-Some.event c.step.result was.6 reply),
     )
