@@ -16,6 +16,3 @@ pub use fault::AgreementFault;
 pub use key::Key;
 pub use partner::{Asked, Organization, Partner};
 pub use texts::{ContentType, UrlText};
-
-#[cfg(test)]
-mod tests;

@@ -23,6 +23,3 @@ pub use first_path::{Served, first_post};
 pub use laws::one_reply;
 pub use status::Ran;
 pub use stores::{OpenStores, Opening, opening_fault};
-
-#[cfg(test)]
-mod tests;

@@ -1,7 +1,7 @@
 //! Command lines, with no input.
 use super::file::{NoStore, OneFile};
 use super::{AGREEMENTS, Broken, FIXTURE, joined, run_words};
-use crate::run;
+use as2_desk::run;
 use std::test::Fail;
 
 /// A command line, and what it comes to.

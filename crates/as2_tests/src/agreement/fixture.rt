@@ -1,5 +1,5 @@
 use super::FIXTURE;
-use crate::{Agreements, Asked};
+use as2_agreement::{Agreements, Asked};
 use as2_mic::Alg;
 use as2_names::AsName;
 use std::test::Fail;

@@ -4,7 +4,7 @@ ghost use Rattle.std.specs.Str.{bytes_eq};
 ghost use Rattle.as2_desk.specs.FileContents.{file, unreadable};
 ghost use Rattle.as2_desk.specs.Stores.{untold};
 
-use crate::{FileFault, OpenStores, Opening, ReadFiles, StoreFault};
+use as2_desk::{FileFault, OpenStores, Opening, ReadFiles, StoreFault};
 use sqlite::{Connection, MemStore};
 use std::alloc::Global;
 

@@ -7,7 +7,7 @@ mod receipts;
 mod stores;
 mod streams;
 
-use crate::run;
+use as2_desk::run;
 use file::{NoStore, OneFile};
 use std::alloc::{AllocError, Global};
 use std::io::{Error, ErrorKind, Read, Result as IoResult, Write};

@@ -1,4 +1,4 @@
-use crate::{AgreementFault, Agreements};
+use as2_agreement::{AgreementFault, Agreements};
 use std::alloc::Global;
 use std::test::Fail;
 

@@ -1,6 +1,6 @@
 use super::{fault_of, fault_with};
-use crate::AgreementFault::{BadName, BadUrl, OutOfRange, TooMany, WrongKind};
-use crate::{AgreementFault, Agreements, Key};
+use as2_agreement::AgreementFault::{BadName, BadUrl, OutOfRange, TooMany, WrongKind};
+use as2_agreement::{AgreementFault, Agreements, Key};
 use std::alloc::Global;
 use std::test::Fail;
 

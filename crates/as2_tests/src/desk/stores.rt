@@ -1,7 +1,7 @@
 //! Stores that are opened, and that aren't.
 use super::file::{Bare, NoStore, OneFile};
 use super::{AGREEMENTS, POST, changed};
-use crate::{OpenStores, first_post, run};
+use as2_desk::{OpenStores, first_post, run};
 use as2_agreement::Agreements;
 use as2_station::Station;
 use as2_store::Store;

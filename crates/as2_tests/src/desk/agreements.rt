@@ -4,7 +4,7 @@ use super::{
     AGREEMENTS, AT_1000, Broken, Change, FIXTURE, NOTHING, Outcome, POST, RECEIPT, changed,
     run_words,
 };
-use crate::run;
+use as2_desk::run;
 use std::alloc::{AllocError, Global};
 use std::test::Fail;
 

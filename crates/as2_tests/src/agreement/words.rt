@@ -1,4 +1,4 @@
-use crate::{AgreementFault, Key};
+use as2_agreement::{AgreementFault, Key};
 use std::test::Fail;
 
 // A fault, its word and its key's spelling.

@@ -1,8 +1,8 @@
 use super::{fault_of, fault_with};
-use crate::AgreementFault::{
+use as2_agreement::AgreementFault::{
     BadName, BadUrl, Missing, NameTwice, NoReturnUrl, NotToml, OutOfRange, WrongKind,
 };
-use crate::{AgreementFault, Key};
+use as2_agreement::{AgreementFault, Key};
 use std::test::Fail;
 
 // A text and its fault.
