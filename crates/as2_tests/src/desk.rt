@@ -1,63 +1,64 @@
+//! Command lines over a file, stores and streams in memory: how they are run, and what they come to.
 // Expected values are the worked ones of the project's profile, and follow from its formats.
 mod agreements;
 mod command_lines;
-mod file;
+mod memory;
 mod posts;
 mod receipts;
 mod stores;
 mod streams;
 
-use as2_desk::run;
-use file::{NoStore, OneFile};
+use crate::agreements::AGREED;
+use crate::texts::{NOTHING, Text, joined};
+use as2_desk::{Ran, run};
+use memory::{Input, OneFile, Paper, Stores};
 use std::alloc::{AllocError, Global};
-use std::io::{Error, ErrorKind, Read, Result as IoResult, Write};
+use std::process::Abort;
+
+/// A command line, what it is run over, and what it comes to.
+#[derive(Clone, Copy)]
+struct Case {
+    clock: Option<u64>,
+    /// The file `agreements.toml`, and its last bytes where they are no text.
+    agreements: Text,
+    ending: &'static [u8],
+    stores: Stores,
+    options: &'static [&'static str],
+    rest: &'static [&'static str],
+    /// Standard input, and the parts behind it.
+    input: Text,
+    behind: &'static [Text],
+    broken: Broken,
+    status: u8,
+    output: Text,
+    /// The parts of the text.
+    errors: &'static [&'static str],
+    is_told: bool,
+    /// What is left at least: bytes of the part that was read last, and parts behind it.
+    left: (usize, usize),
+}
+
+/// The stream whose every call fails.
+#[derive(Clone, Copy, PartialEq, Eq)]
+enum Broken {
+    Nothing,
+    Input,
+    Output,
+    Errors,
+}
 
 const FIXTURE: &[&str] = &["--agreements", "agreements.toml", "--store", ":memory:"];
-
-/// The agreements of `examples/agreements.toml`, without its comments.
-const AGREEMENTS: &str = r#"
-domain = "station.example"
-return_url = "http://127.0.0.1:8080/as2"
-
-[[organization]]
-name = "Supplier"
-
-[[partner]]
-name = "Buyer"
-url = "http://127.0.0.1:8081/as2"
-receipt = "sync"
-digest = "sha1"
-content_type = "application/edi-x12"
-max_tries = 2
-retry_seconds = 30
-overdue_seconds = 60
-
-[[partner]]
-name = "Depot"
-url = "http://127.0.0.1:8082/as2"
-receipt = "async"
-digest = "sha1"
-content_type = "application/edi-x12"
-max_tries = 2
-retry_seconds = 30
-overdue_seconds = 60
-
-[[partner]]
-name = 'A "B" \ C'
-url = "http://127.0.0.1:8083/as2"
-receipt = "none"
-digest = "sha1"
-content_type = "application/edi-x12"
-max_tries = 2
-retry_seconds = 30
-overdue_seconds = 60
-"#;
 
 /// Behind the fixture's options: the command, at the moment 1000.
 const AT_1000: &[&str] = &["--moment", "1000", "post"];
 
 /// The plain post.
-const POST: &str = "\
+const POST: Text = Text {
+    plain: POST_TEXT,
+    ..NOTHING
+};
+
+const POST_TEXT: &str = "\
 POST /as2 HTTP/1.1\r
 Host: 127.0.0.1:8080\r
 AS2-Version: 1.0\r
@@ -72,7 +73,12 @@ Content-Length: 3\r
 abc";
 
 /// Its reply at the moment 1000.
-const RECEIPT: &str = "\
+const RECEIPT: Text = Text {
+    plain: RECEIPT_TEXT,
+    ..NOTHING
+};
+
+const RECEIPT_TEXT: &str = "\
 HTTP/1.1 200 OK\r
 Date: Thu, 01 Jan 1970 00:16:40 GMT\r
 AS2-Version: 1.0\r
@@ -101,104 +107,121 @@ Received-content-MIC: qZk+NkcGgWq6PiVxeFDCbJzQ2J0=, sha1\r
 ";
 
 /// The reply to a document whose receipt isn't asked for.
-const NOTHING: &str = "\
+const TAKEN: &str = "\
 HTTP/1.1 200 OK\r
 Date: Thu, 01 Jan 1970 00:16:40 GMT\r
 Content-Length: 0\r
 \r
 ";
 
-/// A part of a text, and what stands in its place.
-type Change = (&'static str, &'static str);
-
-/// Runs a command line over the agreements, where the clock tells 2000.
-fn run_words<'a, R: Read, W: Write>(
-    alloc: Global,
-    options: &'a [&'a str],
-    rest: &'a [&'a str],
-    input: &mut R,
-    output: &mut W,
-    errors: &mut Vec<u8>,
-) -> Result<u8, AllocError> {
-    let mut words = Vec::new(alloc);
-    words.push("as2desk")?;
-    words.extend_from_slice(options)?;
-    words.extend_from_slice(rest)?;
-    let files = OneFile {
-        path: "agreements.toml",
-        bytes: AGREEMENTS.as_bytes(),
-    };
-    let ran = run(
-        alloc,
-        words.as_slice(),
-        Some(2000),
-        &files,
-        &NoStore,
-        input,
-        output,
-        errors,
-    );
-    Ok(ran.status)
-}
+/// The plain post at the moment 1000, where the clock tells 2000.
+const PLAIN: Case = Case {
+    clock: Some(2000),
+    agreements: AGREED,
+    ending: b"",
+    stores: Stores::Broken,
+    options: FIXTURE,
+    rest: AT_1000,
+    input: POST,
+    behind: &[],
+    broken: Broken::Nothing,
+    status: 0,
+    output: RECEIPT,
+    errors: &[],
+    is_told: true,
+    left: (0, 0),
+};
 
 /// What a command line came to.
 #[derive(Drop)]
 struct Outcome {
-    status: u8,
+    ran: Ran,
     output: Vec<u8>,
     errors: Vec<u8>,
+    left: (usize, usize),
 }
 
-/// Runs a command line with that input.
-fn posted<'a>(
+fn file_of(alloc: Global, case: &Case) -> Result<Vec<u8>, AllocError> {
+    let mut bytes = case.agreements.made(alloc)?.into_bytes();
+    bytes.extend_from_slice(case.ending)?;
+    Ok(bytes)
+}
+
+fn words_of(alloc: Global, case: &Case) -> Result<Vec<&'static str>, AllocError> {
+    let mut words = Vec::new(alloc);
+    words.push("as2desk")?;
+    words.extend_from_slice(case.options)?;
+    words.extend_from_slice(case.rest)?;
+    Ok(words)
+}
+
+fn parts_of(alloc: Global, case: &Case) -> Result<Vec<String>, AllocError> {
+    let mut parts = Vec::new(alloc);
+    parts.push(case.input.made(alloc)?)?;
+    for part in case.behind {
+        parts.push(part.made(alloc)?)?;
+    }
+    Ok(parts)
+}
+
+fn outcome_of(alloc: Global, case: &Case) -> Result<Outcome, AllocError> {
+    let bytes = file_of(alloc, case)?;
+    let words = words_of(alloc, case)?;
+    let parts = parts_of(alloc, case)?;
+    Ok(outcome_over(
+        alloc,
+        case,
+        bytes.as_slice(),
+        words.as_slice(),
+        parts.as_slice(),
+    ))
+}
+
+fn outcome_over(
     alloc: Global,
-    options: &'a [&'a str],
-    rest: &'a [&'a str],
-    input: &str,
-) -> Result<Outcome, AllocError> {
-    let mut input = input.as_bytes();
-    let mut output = Vec::new(alloc);
-    let mut errors = Vec::new(alloc);
-    let status = run_words(alloc, options, rest, &mut input, &mut output, &mut errors)?;
-    Ok(Outcome {
-        status,
-        output,
-        errors,
-    })
-}
-
-fn joined(alloc: Global, parts: &[&str]) -> Result<String, AllocError> {
-    let mut text = String::new(alloc);
-    for part in parts {
-        text.push_str(part)?;
-    }
-    Ok(text)
-}
-
-fn changed(alloc: Global, text: &str, changes: &[Change]) -> Result<String, AllocError> {
-    let mut now = joined(alloc, [text].as_slice())?;
-    for change in changes {
-        now = now.replace(alloc, change.0, change.1)?;
-    }
-    Ok(now)
-}
-
-/// A reader and a writer whose every call fails.
-#[derive(Drop)]
-struct Broken;
-
-impl Read for Broken {
-    fn read(&mut self, _buf: &mut [u8]) -> IoResult<usize> {
-        Err(Error::from(ErrorKind::BrokenPipe))
+    case: &Case,
+    bytes: &[u8],
+    words: &[&str],
+    parts: &[String],
+) -> Outcome {
+    let files = OneFile {
+        path: "agreements.toml",
+        bytes,
+    };
+    let mut input = Input::new(parts, case.broken == Broken::Input);
+    let mut output = Paper::new(alloc, case.broken == Broken::Output);
+    let mut errors = Paper::new(alloc, case.broken == Broken::Errors);
+    let ran = run(
+        alloc,
+        words,
+        case.clock,
+        &files,
+        &case.stores,
+        &mut input,
+        &mut output,
+        &mut errors,
+    );
+    Outcome {
+        ran,
+        output: output.bytes,
+        errors: errors.bytes,
+        left: input.left(),
     }
 }
 
-impl Write for Broken {
-    fn write(&mut self, _buf: &[u8]) -> IoResult<usize> {
-        Err(Error::from(ErrorKind::BrokenPipe))
-    }
+/// Runs the command line, and compares what it comes to.
+fn check(rt: &impl Abort, alloc: Global, case: &Case) -> Result<(), AllocError> {
+    let outcome = outcome_of(alloc, case)?;
+    let output = case.output.made(alloc)?;
+    let errors = joined(alloc, case.errors)?;
+    compare(rt, case, &outcome, output.as_str(), errors.as_str());
+    Ok(())
+}
 
-    fn flush(&mut self) -> IoResult<()> {
-        Ok(())
-    }
+fn compare(rt: &impl Abort, case: &Case, outcome: &Outcome, output: &str, errors: &str) {
+    assert_eq!(rt; str::from_utf8(outcome.errors.as_slice()), Ok(errors));
+    assert_eq!(rt; str::from_utf8(outcome.output.as_slice()), Ok(output));
+    assert_eq!(rt; outcome.ran.status, case.status);
+    assert_eq!(rt; outcome.ran.told, case.is_told);
+    assert!(rt; outcome.left.0 >= case.left.0 && outcome.left.1 >= case.left.1);
 }

@@ -1,5 +1,5 @@
 //! Documents to a partner, as they are found, and settled by receipts that are posted.
-use crate::posts::AGREEMENTS;
+use crate::agreements::AGREEMENTS;
 use crate::station_posts::{Row, Wanted, answer_all};
 use crate::stores::{add, new_store, next};
 use as2_agreement::Agreements;

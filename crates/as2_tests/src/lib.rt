@@ -2,7 +2,7 @@
 #![tactic(auto)]
 
 #[cfg(test)]
-mod agreement;
+mod agreements;
 #[cfg(test)]
 mod desk;
 #[cfg(test)]
@@ -17,3 +17,5 @@ mod records;
 mod station_posts;
 #[cfg(test)]
 mod stores;
+#[cfg(test)]
+mod texts;

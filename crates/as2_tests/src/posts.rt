@@ -6,39 +6,6 @@ use as2_names::{AsName, Head, HeadFault, Memory, Moment};
 use as2_posts::{Opened, document, first_entry};
 use std::alloc::Global;
 
-/// The agreements of a station: an organization, and a partner for each kind of receipt.
-pub const AGREEMENTS: &str = "domain = \"station.example\"\n\
-return_url = \"http://127.0.0.1:8080/as2\"\n\
-[[organization]]\n\
-name = \"Supplier\"\n\
-[[partner]]\n\
-name = \"Buyer\"\n\
-url = \"http://127.0.0.1:8081/as2\"\n\
-receipt = \"sync\"\n\
-digest = \"sha1\"\n\
-content_type = \"application/edi-x12\"\n\
-max_tries = 2\n\
-retry_seconds = 30\n\
-overdue_seconds = 60\n\
-[[partner]]\n\
-name = \"Depot\"\n\
-url = \"http://127.0.0.1:8082/as2\"\n\
-receipt = \"async\"\n\
-digest = \"sha1\"\n\
-content_type = \"application/edi-x12\"\n\
-max_tries = 2\n\
-retry_seconds = 30\n\
-overdue_seconds = 60\n\
-[[partner]]\n\
-name = 'A \"B\" \\ C'\n\
-url = \"http://127.0.0.1:8083/as2\"\n\
-receipt = \"none\"\n\
-digest = \"sha1\"\n\
-content_type = \"application/edi-x12\"\n\
-max_tries = 2\n\
-retry_seconds = 30\n\
-overdue_seconds = 60\n";
-
 /// The report on the content `abc` that the plain post brings.
 pub const REPORT: &str = "--as2-mdn-1\r\n\
 Content-Type: text/plain\r\n\

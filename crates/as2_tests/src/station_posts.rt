@@ -2,7 +2,8 @@
 ghost use Rattle.std.specs.Prelude.{◌≤◌, ◌<◌};
 ghost use Rattle.as2_exchange.specs.State.{end_of_numbers};
 
-use crate::posts::{AGREEMENTS, Change, REPORT, body, head};
+use crate::agreements::AGREEMENTS;
+use crate::posts::{Change, REPORT, body, head};
 use crate::stores::new_store;
 use as2_agreement::Agreements;
 use as2_exchange::{Answer, Event, HttpAnswer, HttpBody, MdnState, StoreFault};

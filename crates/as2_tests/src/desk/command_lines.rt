@@ -1,12 +1,11 @@
 //! Command lines, with no input.
-use super::file::{NoStore, OneFile};
-use super::{AGREEMENTS, Broken, FIXTURE, joined, run_words};
-use as2_desk::run;
+use super::{Broken, Case, FIXTURE, PLAIN, check};
+use crate::texts::{NOTHING, Text};
 use std::test::Fail;
 
 /// A command line, and what it comes to.
 #[derive(Clone, Copy)]
-struct Case {
+struct Line {
     options: &'static [&'static str],
     rest: &'static [&'static str],
     status: u8,
@@ -80,7 +79,7 @@ Example:
 ";
 
 // The forms of these texts are those of `clap`.
-const USAGE: &str = "
+pub(super) const USAGE: &str = "
 
 Usage: as2desk [OPTIONS] --agreements <FILE> --store <FILE> <COMMAND>";
 
@@ -88,20 +87,20 @@ const POST_USAGE: &str = "
 
 Usage: as2desk --agreements <FILE> --store <FILE> post";
 
-const HINT: &str = "
+pub(super) const HINT: &str = "
 
 For more information, try '--help'.
 ";
 
-const CASES: [Case; 26] = [
-    Case {
+const LINES: &[Line] = &[
+    Line {
         options: FIXTURE,
         rest: &["post"],
         status: 0,
         output: "",
         errors: &[],
     },
-    Case {
+    Line {
         options: FIXTURE,
         rest: &[
             "--moment",
@@ -114,42 +113,42 @@ const CASES: [Case; 26] = [
         output: "",
         errors: &[],
     },
-    Case {
+    Line {
         options: FIXTURE,
         rest: &["--help"],
         status: 0,
         output: HELP,
         errors: &[],
     },
-    Case {
+    Line {
         options: &[],
         rest: &["-h"],
         status: 0,
         output: HELP,
         errors: &[],
     },
-    Case {
+    Line {
         options: FIXTURE,
         rest: &["check", "--help"],
         status: 0,
         output: CHECK_HELP,
         errors: &[],
     },
-    Case {
+    Line {
         options: &[],
         rest: &["post", "--help"],
         status: 0,
         output: POST_HELP,
         errors: &[],
     },
-    Case {
+    Line {
         options: &[],
         rest: &["--version"],
         status: 0,
         output: "as2desk 0.1.0\n",
         errors: &[],
     },
-    Case {
+    Line {
         options: FIXTURE,
         rest: &["--colour", "post"],
         status: 2,
@@ -160,7 +159,7 @@ const CASES: [Case; 26] = [
             HINT,
         ],
     },
-    Case {
+    Line {
         options: FIXTURE,
         rest: &["--first"],
         status: 2,
@@ -170,7 +169,7 @@ const CASES: [Case; 26] = [
             HINT,
         ],
     },
-    Case {
+    Line {
         options: FIXTURE,
         rest: &["--first", "0", "post"],
         status: 2,
@@ -180,7 +179,7 @@ const CASES: [Case; 26] = [
             HINT,
         ],
     },
-    Case {
+    Line {
         options: FIXTURE,
         rest: &["--first", "1000000000000", "post"],
         status: 2,
@@ -190,7 +189,7 @@ const CASES: [Case; 26] = [
             HINT,
         ],
     },
-    Case {
+    Line {
         options: FIXTURE,
         rest: &["--first", "one", "post"],
         status: 2,
@@ -200,7 +199,7 @@ const CASES: [Case; 26] = [
             HINT,
         ],
     },
-    Case {
+    Line {
         options: FIXTURE,
         rest: &["--first", "1", "--first", "2", "post"],
         status: 2,
@@ -211,7 +210,7 @@ const CASES: [Case; 26] = [
             HINT,
         ],
     },
-    Case {
+    Line {
         options: FIXTURE,
         rest: &["--moment", "253402300800", "post"],
         status: 2,
@@ -221,7 +220,7 @@ const CASES: [Case; 26] = [
             HINT,
         ],
     },
-    Case {
+    Line {
         options: FIXTURE,
         rest: &["--moment", "noon", "post"],
         status: 2,
@@ -231,7 +230,7 @@ const CASES: [Case; 26] = [
             HINT,
         ],
     },
-    Case {
+    Line {
         options: FIXTURE,
         rest: &["--moment=-1", "post"],
         status: 2,
@@ -241,7 +240,7 @@ const CASES: [Case; 26] = [
             HINT,
         ],
     },
-    Case {
+    Line {
         options: FIXTURE,
         rest: &[],
         status: 2,
@@ -252,7 +251,7 @@ const CASES: [Case; 26] = [
             HINT,
         ],
     },
-    Case {
+    Line {
         options: FIXTURE,
         rest: &["past"],
         status: 2,
@@ -263,21 +262,21 @@ const CASES: [Case; 26] = [
             HINT,
         ],
     },
-    Case {
+    Line {
         options: FIXTURE,
         rest: &["help"],
         status: 2,
         output: "",
         errors: &["error: unrecognized subcommand 'help'", USAGE, HINT],
     },
-    Case {
+    Line {
         options: FIXTURE,
         rest: &["post", "more"],
         status: 2,
         output: "",
         errors: &["error: unexpected argument 'more' found", POST_USAGE, HINT],
     },
-    Case {
+    Line {
         options: FIXTURE,
         rest: &["post", "--first", "1"],
         status: 2,
@@ -288,7 +287,7 @@ const CASES: [Case; 26] = [
             HINT,
         ],
     },
-    Case {
+    Line {
         options: &[],
         rest: &["post"],
         status: 2,
@@ -298,7 +297,7 @@ const CASES: [Case; 26] = [
             HINT,
         ],
     },
-    Case {
+    Line {
         options: &["--agreements", "agreements.toml"],
         rest: &["check"],
         status: 2,
@@ -308,7 +307,7 @@ const CASES: [Case; 26] = [
             HINT,
         ],
     },
-    Case {
+    Line {
         options: FIXTURE,
         rest: &["--organization", "Supplier", "post"],
         status: 2,
@@ -319,7 +318,7 @@ const CASES: [Case; 26] = [
             HINT,
         ],
     },
-    Case {
+    Line {
         options: FIXTURE,
         rest: &["--agreements", "other.toml", "post"],
         status: 2,
@@ -330,7 +329,7 @@ const CASES: [Case; 26] = [
             HINT,
         ],
     },
-    Case {
+    Line {
         options: FIXTURE,
         rest: &["check", "more"],
         status: 2,
@@ -344,85 +343,91 @@ const CASES: [Case; 26] = [
 
 #[test]
 fn each_command_line_is_answered(rt: HostRuntime) -> Result<(), Fail> {
-    for case in CASES {
-        let mut output = Vec::new(rt.alloc());
-        let mut errors = Vec::new(rt.alloc());
-        let status = run_words(
-            rt.alloc(),
-            case.options,
-            case.rest,
-            &mut b"".as_slice(),
-            &mut output,
-            &mut errors,
-        )?;
-        let told = joined(rt.alloc(), case.errors)?;
-        assert_eq!(rt; std::str::from_utf8(errors.as_slice())?, told.as_str());
-        assert_eq!(rt; std::str::from_utf8(output.as_slice())?, case.output);
-        assert_eq!(rt; status, case.status);
+    for line in LINES {
+        let case = Case {
+            options: line.options,
+            rest: line.rest,
+            input: NOTHING,
+            status: line.status,
+            output: Text {
+                plain: line.output,
+                ..NOTHING
+            },
+            errors: line.errors,
+            ..PLAIN
+        };
+        check(&rt, rt.alloc(), &case)?;
     }
     Ok(())
 }
 
-#[test]
-fn help_that_cannot_be_written_is_refused(rt: HostRuntime) -> Result<(), Fail> {
-    let mut errors = Vec::new(rt.alloc());
-    let status = run_words(
-        rt.alloc(),
-        FIXTURE,
-        ["--help"].as_slice(),
-        &mut b"".as_slice(),
-        &mut Broken,
-        &mut errors,
-    )?;
-    assert_eq!(rt; status, 1);
-    assert_eq!(rt;
-        std::str::from_utf8(errors.as_slice())?,
-        "refused: CannotWrite\n"
-    );
-    Ok(())
-}
+/// No moment is given.
+const WITHOUT_MOMENT: Case = Case {
+    clock: None,
+    rest: &["post"],
+    input: NOTHING,
+    status: 2,
+    output: NOTHING,
+    errors: &[
+        "error: the clock tells no moment from 0 to 253402300799, and '--moment <SECONDS>' gives none",
+        USAGE,
+        HINT,
+    ],
+    ..PLAIN
+};
+
+/// A check needs none.
+const CHECK: Case = Case {
+    clock: None,
+    rest: &["check"],
+    input: NOTHING,
+    output: Text {
+        plain: "organizations 1, partners 3\n",
+        ..NOTHING
+    },
+    ..PLAIN
+};
+
+const CLOCKS: &[Case] = &[
+    WITHOUT_MOMENT,
+    Case {
+        clock: Some(253_402_300_800),
+        ..WITHOUT_MOMENT
+    },
+    CHECK,
+    Case {
+        clock: Some(253_402_300_800),
+        ..CHECK
+    },
+];
 
 #[test]
 fn a_moment_is_wanted_where_the_clock_tells_none(rt: HostRuntime) -> Result<(), Fail> {
-    let files = OneFile {
-        path: "agreements.toml",
-        bytes: AGREEMENTS.as_bytes(),
-    };
-    // A check needs none.
-    for (clock, command, status, told) in [
-        (None, "post", 2, "error: the clock tells no moment"),
-        (
-            Some(253_402_300_800),
-            "post",
-            2,
-            "error: the clock tells no moment",
-        ),
-        (None, "check", 0, ""),
-        (Some(253_402_300_800), "check", 0, ""),
-    ] {
-        let words = [
-            "as2desk",
-            "--agreements",
-            "agreements.toml",
-            "--store",
-            ":memory:",
-            command,
-        ];
-        let mut output = Vec::new(rt.alloc());
-        let mut errors = Vec::new(rt.alloc());
-        let mut input = b"".as_slice();
-        let ran = run(
-            rt.alloc(),
-            words.as_slice(),
-            clock,
-            &files,
-            &NoStore,
-            &mut input,
-            &mut output,
-            &mut errors,
-        );
-        assert_eq!(rt; ran.status, status);
-        assert!(rt; errors.as_slice().starts_with(told.as_bytes()));
+    for case in CLOCKS {
+        check(&rt, rt.alloc(), case)?;
+    }
+    Ok(())
+}
+
+/// Words whose output can't be written.
+const UNWRITTEN: &[(&[&str], &[&str])] = &[
+    (&["--help"], &["refused: CannotWrite\n"]),
+    (&["check"], &["refused: CannotWrite\n"]),
+    (&["--moment", "1000", "post"], &["refused: WriteFault\n"]),
+];
+
+#[test]
+fn output_that_cannot_be_written_is_refused(rt: HostRuntime) -> Result<(), Fail> {
+    for &(rest, errors) in UNWRITTEN {
+        let case = Case {
+            rest,
+            broken: Broken::Output,
+            status: 1,
+            output: NOTHING,
+            errors,
+            ..PLAIN
+        };
+        check(&rt, rt.alloc(), &case)?;
     }
     Ok(())
 }

@@ -1,5 +1,6 @@
 //! What a post says, and the answer that it gets.
-use super::{AT_1000, Change, FIXTURE, NOTHING, POST, RECEIPT, changed, joined, posted};
+use super::{Case, PLAIN, POST, RECEIPT, RECEIPT_TEXT, TAKEN, check};
+use crate::texts::{Change, NOTHING, Text};
 use std::test::Fail;
 
 // The lines of the plain post.
@@ -11,18 +12,11 @@ const TO: &str = "AS2-To: Supplier\r\n";
 
 const ID: &str = "Message-ID: <m1@x>\r\n";
 
-const TYPE: &str = "Content-Type: application/edi-x12\r\n";
+pub(super) const TYPE: &str = "Content-Type: application/edi-x12\r\n";
 
-const ASKS: &str = "Disposition-Notification-To: a@x\r\n";
+pub(super) const ASKS: &str = "Disposition-Notification-To: a@x\r\n";
 
 const OPTIONS: &str = "Disposition-Notification-Options: signed-receipt-micalg=optional, sha1\r\n";
-
-/// What is changed in the plain post, and the reply.
-#[derive(Clone, Copy)]
-struct Case {
-    changes: &'static [Change],
-    reply: &'static str,
-}
 
 /// `AS2-From` or `AS2-To` is absent, twice or unreadable.
 const BAD_NAMES: &str = "\
@@ -92,360 +86,299 @@ Content-Length: 0\r
 \r
 ";
 
-const CASES: [Case; 57] = [
+// What is changed in the plain post, and the reply.
+const POSTS: &[(&[Change], &str)] = &[
     // The names.
-    Case {
-        changes: &[(FROM, "")],
-        reply: BAD_NAMES,
-    },
-    Case {
-        changes: &[(FROM, "AS2-From: Buyer\r\nAS2-From: Buyer\r\n")],
-        reply: BAD_NAMES,
-    },
-    Case {
-        changes: &[(FROM, "AS2-From: a b\r\n")],
-        reply: BAD_NAMES,
-    },
-    Case {
-        changes: &[(FROM, "AS2-From:\r\n")],
-        reply: BAD_NAMES,
-    },
-    Case {
-        changes: &[(TO, "")],
-        reply: BAD_NAMES,
-    },
-    Case {
-        changes: &[(TO, "AS2-To: Supplier\r\nAS2-To: Other\r\n")],
-        reply: BAD_NAMES,
-    },
-    Case {
-        changes: &[(TO, "AS2-To: \"Supplier\r\n")],
-        reply: BAD_NAMES,
-    },
-    Case {
-        changes: &[(FROM, "AS2-From: \"Buyer\"\r\n")],
-        reply: RECEIPT,
-    },
-    Case {
-        changes: &[(FROM, "as2-from:Buyer \r\n")],
-        reply: RECEIPT,
-    },
-    Case {
-        changes: &[(FROM, "AS2-From: Nobody\r\n")],
-        reply: UNKNOWN_NAMES,
-    },
-    Case {
-        changes: &[(FROM, "AS2-From: buyer\r\n")],
-        reply: UNKNOWN_NAMES,
-    },
-    Case {
-        changes: &[(TO, "AS2-To: Buyer\r\n")],
-        reply: UNKNOWN_NAMES,
-    },
-    Case {
-        changes: &[(TO, "AS2-To: Nobody\r\n")],
-        reply: UNKNOWN_NAMES,
-    },
-    Case {
-        changes: &[(FROM, "AS2-From: Supplier\r\n")],
-        reply: UNKNOWN_NAMES,
-    },
+    (&[(FROM, "")], BAD_NAMES),
+    (
+        &[(FROM, "AS2-From: Buyer\r\nAS2-From: Buyer\r\n")],
+        BAD_NAMES,
+    ),
+    (&[(FROM, "AS2-From: a b\r\n")], BAD_NAMES),
+    (&[(FROM, "AS2-From:\r\n")], BAD_NAMES),
+    (&[(TO, "")], BAD_NAMES),
+    (&[(TO, "AS2-To: Supplier\r\nAS2-To: Other\r\n")], BAD_NAMES),
+    (&[(TO, "AS2-To: \"Supplier\r\n")], BAD_NAMES),
+    (&[(FROM, "AS2-From: \"Buyer\"\r\n")], RECEIPT_TEXT),
+    (&[(FROM, "as2-from:Buyer \r\n")], RECEIPT_TEXT),
+    (&[(FROM, "AS2-From: Nobody\r\n")], UNKNOWN_NAMES),
+    (&[(FROM, "AS2-From: buyer\r\n")], UNKNOWN_NAMES),
+    (&[(TO, "AS2-To: Buyer\r\n")], UNKNOWN_NAMES),
+    (&[(TO, "AS2-To: Nobody\r\n")], UNKNOWN_NAMES),
+    (&[(FROM, "AS2-From: Supplier\r\n")], UNKNOWN_NAMES),
     // The version.
-    Case {
-        changes: &[(VERSION, "AS2-Version: 2.0\r\n")],
-        reply: BAD_VERSION,
-    },
-    Case {
-        changes: &[(VERSION, "AS2-Version: 1.10\r\n")],
-        reply: BAD_VERSION,
-    },
-    Case {
-        changes: &[(VERSION, "AS2-Version: 1.\r\n")],
-        reply: BAD_VERSION,
-    },
-    Case {
-        changes: &[(VERSION, "AS2-Version: 1.x\r\n")],
-        reply: BAD_VERSION,
-    },
-    Case {
-        changes: &[(VERSION, "AS2-Version: 1.0\r\nAS2-Version: 1.0\r\n")],
-        reply: BAD_VERSION,
-    },
-    Case {
-        changes: &[(VERSION, "AS2-Version: 1.9\r\n")],
-        reply: RECEIPT,
-    },
-    Case {
-        changes: &[(VERSION, "")],
-        reply: RECEIPT,
-    },
+    (&[(VERSION, "AS2-Version: 2.0\r\n")], BAD_VERSION),
+    (&[(VERSION, "AS2-Version: 1.10\r\n")], BAD_VERSION),
+    (&[(VERSION, "AS2-Version: 1.\r\n")], BAD_VERSION),
+    (&[(VERSION, "AS2-Version: 1.x\r\n")], BAD_VERSION),
+    (
+        &[(VERSION, "AS2-Version: 1.0\r\nAS2-Version: 1.0\r\n")],
+        BAD_VERSION,
+    ),
+    (&[(VERSION, "AS2-Version: 1.9\r\n")], RECEIPT_TEXT),
+    (&[(VERSION, "")], RECEIPT_TEXT),
     // The media type.
-    Case {
-        changes: &[(TYPE, "")],
-        reply: RECEIPT,
-    },
-    Case {
-        changes: &[(
+    (&[(TYPE, "")], RECEIPT_TEXT),
+    (
+        &[(
             TYPE,
             "Content-Type: application/edi-x12\r\nContent-Type: application/edi-x12\r\n",
         )],
-        reply: BAD_TYPE,
-    },
-    Case {
-        changes: &[(TYPE, "Content-Type: application\r\n")],
-        reply: BAD_TYPE,
-    },
-    Case {
-        changes: &[(TYPE, "Content-Type:\r\n")],
-        reply: BAD_TYPE,
-    },
-    Case {
-        changes: &[(TYPE, "Content-Type: application/edi-x12; name\r\n")],
-        reply: BAD_TYPE,
-    },
-    Case {
-        changes: &[(TYPE, "Content-Type: text/plain\r\n")],
-        reply: RECEIPT,
-    },
-    Case {
-        changes: &[(TYPE, "Content-Type: application/edi-x12; name=order\r\n")],
-        reply: RECEIPT,
-    },
-    Case {
-        changes: &[(TYPE, "Content-Type: application/EDI-X12\r\n")],
-        reply: RECEIPT,
-    },
+        BAD_TYPE,
+    ),
+    (&[(TYPE, "Content-Type: application\r\n")], BAD_TYPE),
+    (&[(TYPE, "Content-Type:\r\n")], BAD_TYPE),
+    (
+        &[(TYPE, "Content-Type: application/edi-x12; name\r\n")],
+        BAD_TYPE,
+    ),
+    (&[(TYPE, "Content-Type: text/plain\r\n")], RECEIPT_TEXT),
+    (
+        &[(TYPE, "Content-Type: application/edi-x12; name=order\r\n")],
+        RECEIPT_TEXT,
+    ),
+    (
+        &[(TYPE, "Content-Type: application/EDI-X12\r\n")],
+        RECEIPT_TEXT,
+    ),
     // The identifier.
-    Case {
-        changes: &[(ID, "")],
-        reply: BAD_ID,
-    },
-    Case {
-        changes: &[(ID, "Message-ID: <m1@x>\r\nMessage-ID: <m2@x>\r\n")],
-        reply: BAD_ID,
-    },
-    Case {
-        changes: &[(ID, "Message-ID:\r\n")],
-        reply: BAD_ID,
-    },
-    Case {
-        changes: &[(ID, "Message-ID: <>\r\n")],
-        reply: BAD_ID,
-    },
+    (&[(ID, "")], BAD_ID),
+    (
+        &[(ID, "Message-ID: <m1@x>\r\nMessage-ID: <m2@x>\r\n")],
+        BAD_ID,
+    ),
+    (&[(ID, "Message-ID:\r\n")], BAD_ID),
+    (&[(ID, "Message-ID: <>\r\n")], BAD_ID),
     // Encodings.
-    Case {
-        changes: &[(
+    (
+        &[(
             TYPE,
             "Content-Type: application/edi-x12\r\nContent-Transfer-Encoding: Binary\r\n",
         )],
-        reply: RECEIPT,
-    },
-    Case {
-        changes: &[(
+        RECEIPT_TEXT,
+    ),
+    (
+        &[(
             TYPE,
             "Content-Type: application/edi-x12\r\nContent-Encoding: Identity\r\n",
         )],
-        reply: RECEIPT,
-    },
-    Case {
-        changes: &[
+        RECEIPT_TEXT,
+    ),
+    (
+        &[
             (ASKS, ""),
             (
                 TYPE,
                 "Content-Type: application/edi-x12\r\nContent-Encoding: identity\r\n",
             ),
         ],
-        reply: NOTHING,
-    },
+        TAKEN,
+    ),
     // The request for a receipt.
-    Case {
-        changes: &[(ASKS, "")],
-        reply: NOTHING,
-    },
-    Case {
-        changes: &[(ASKS, ""), (OPTIONS, "")],
-        reply: NOTHING,
-    },
-    Case {
-        changes: &[
+    (&[(ASKS, "")], TAKEN),
+    (&[(ASKS, ""), (OPTIONS, "")], TAKEN),
+    (
+        &[
             (ASKS, ""),
             (
                 OPTIONS,
                 "Disposition-Notification-Options: signed-receipt-micalg=optional, sha1\r\nDisposition-Notification-Options: signed-receipt-micalg=optional, sha1\r\n",
             ),
         ],
-        reply: NOTHING,
-    },
-    Case {
-        changes: &[
+        TAKEN,
+    ),
+    (
+        &[
             (ASKS, ""),
             (
                 OPTIONS,
                 "Receipt-Delivery-Option: http://127.0.0.1:8082/mdn\r\n",
             ),
         ],
-        reply: NOTHING,
-    },
-    Case {
-        changes: &[(ASKS, "Disposition-Notification-To:\r\n")],
-        reply: RECEIPT,
-    },
-    Case {
-        changes: &[(
+        TAKEN,
+    ),
+    (&[(ASKS, "Disposition-Notification-To:\r\n")], RECEIPT_TEXT),
+    (
+        &[(
             ASKS,
             "Disposition-Notification-To: a@x\r\nDisposition-Notification-To: a@x\r\n",
         )],
-        reply: BAD_REQUEST,
-    },
-    Case {
-        changes: &[(
+        BAD_REQUEST,
+    ),
+    (
+        &[(
             ASKS,
             "Disposition-Notification-To: a@x\r\nReceipt-Delivery-Option: http://127.0.0.1:8082/mdn\r\n",
         )],
-        reply: ACCEPTED,
-    },
-    Case {
-        changes: &[(OPTIONS, "")],
-        reply: RECEIPT,
-    },
-    Case {
-        changes: &[(
+        ACCEPTED,
+    ),
+    (&[(OPTIONS, "")], RECEIPT_TEXT),
+    (
+        &[(
             OPTIONS,
             "Disposition-Notification-Options: signed-receipt-micalg=optional, sha1\r\nDisposition-Notification-Options: signed-receipt-micalg=optional, sha1\r\n",
         )],
-        reply: BAD_REQUEST,
-    },
-    Case {
-        changes: &[("optional, sha1", "optional")],
-        reply: BAD_REQUEST,
-    },
-    Case {
-        changes: &[("optional, sha1", "optional,sha1")],
-        reply: RECEIPT,
-    },
-    Case {
-        changes: &[("optional, sha1", "required, sha1")],
-        reply: RECEIPT,
-    },
-    Case {
-        changes: &[("optional, sha1", "optional, sha-384, SHA-1")],
-        reply: RECEIPT,
-    },
-    Case {
-        changes: &[(
+        BAD_REQUEST,
+    ),
+    (&[("optional, sha1", "optional")], BAD_REQUEST),
+    (&[("optional, sha1", "optional,sha1")], RECEIPT_TEXT),
+    (&[("optional, sha1", "required, sha1")], RECEIPT_TEXT),
+    (
+        &[("optional, sha1", "optional, sha-384, SHA-1")],
+        RECEIPT_TEXT,
+    ),
+    (
+        &[(
             ASKS,
             "Disposition-Notification-To: a@x\r\nReceipt-Delivery-Option: https://127.0.0.1/mdn\r\n",
         )],
-        reply: BAD_REQUEST,
-    },
+        BAD_REQUEST,
+    ),
     // The order of faults.
-    Case {
-        changes: &[(VERSION, "AS2-Version: 2.0\r\n"), (FROM, "")],
-        reply: BAD_NAMES,
-    },
-    Case {
-        changes: &[
+    (&[(VERSION, "AS2-Version: 2.0\r\n"), (FROM, "")], BAD_NAMES),
+    (
+        &[
             (VERSION, "AS2-Version: 2.0\r\n"),
             (FROM, "AS2-From: Nobody\r\n"),
         ],
-        reply: BAD_VERSION,
-    },
-    Case {
-        changes: &[
+        BAD_VERSION,
+    ),
+    (
+        &[
             (FROM, "AS2-From: Nobody\r\n"),
             (TYPE, "Content-Type: plain\r\n"),
         ],
-        reply: UNKNOWN_NAMES,
-    },
-    Case {
-        changes: &[(TYPE, "Content-Type: plain\r\n"), (ID, "")],
-        reply: BAD_TYPE,
-    },
-    Case {
-        changes: &[
+        UNKNOWN_NAMES,
+    ),
+    (&[(TYPE, "Content-Type: plain\r\n"), (ID, "")], BAD_TYPE),
+    (
+        &[
             (ID, ""),
             (
                 TYPE,
                 "Content-Type: application/edi-x12\r\nContent-Encoding: gzip\r\n",
             ),
         ],
-        reply: BAD_ID,
-    },
-    Case {
-        changes: &[(ID, ""), ("optional, sha1", "optional")],
-        reply: BAD_ID,
-    },
-    Case {
-        changes: &[(ID, ""), (ASKS, "")],
-        reply: BAD_ID,
-    },
+        BAD_ID,
+    ),
+    (&[(ID, ""), ("optional, sha1", "optional")], BAD_ID),
+    (&[(ID, ""), (ASKS, "")], BAD_ID),
 ];
 
 #[test]
 fn each_post_is_answered(rt: HostRuntime) -> Result<(), Fail> {
-    for case in CASES {
-        let post = changed(rt.alloc(), POST, case.changes)?;
-        let ran = posted(rt.alloc(), FIXTURE, AT_1000, post.as_str())?;
-        assert_eq!(rt; std::str::from_utf8(ran.output.as_slice())?, case.reply);
-        assert_eq!(rt; std::str::from_utf8(ran.errors.as_slice())?, "");
-        assert_eq!(rt; ran.status, 0);
+    for &(changes, reply) in POSTS {
+        let case = Case {
+            input: Text { changes, ..POST },
+            output: Text {
+                plain: reply,
+                ..NOTHING
+            },
+            ..PLAIN
+        };
+        check(&rt, rt.alloc(), &case)?;
     }
     Ok(())
 }
 
-/// The spellings of the partners' names.
-const PARTNERS: [&str; 3] = ["Buyer", "Depot", "\"A \\\"B\\\" \\\\ C\""];
+/// A name of so many letters.
+const LONG_NAME: Text = Text {
+    changes: &[(FROM, "AS2-From: *\r\n")],
+    ..POST
+};
 
-#[test]
-fn each_partner_is_answered_by_its_name(rt: HostRuntime) -> Result<(), Fail> {
-    for name in PARTNERS {
-        let from = joined(rt.alloc(), ["AS2-From: ", name, "\r\n"].as_slice())?;
-        let post = POST.replace(rt.alloc(), FROM, from.as_str())?;
-        let ran = posted(rt.alloc(), FIXTURE, AT_1000, post.as_str())?;
-        let to = joined(rt.alloc(), ["AS2-To: ", name, "\r\n"].as_slice())?;
-        let reply = RECEIPT.replace(rt.alloc(), "AS2-To: Buyer\r\n", to.as_str())?;
-        assert_eq!(rt; std::str::from_utf8(ran.output.as_slice())?, reply.as_str());
-        assert_eq!(rt; ran.status, 0);
-    }
-    Ok(())
-}
+const CASES: &[Case] = &[
+    // The spellings of the partners' names.
+    Case {
+        input: Text {
+            changes: &[(FROM, "AS2-From: Buyer\r\n")],
+            ..POST
+        },
+        output: Text {
+            changes: &[("AS2-To: Buyer\r\n", "AS2-To: Buyer\r\n")],
+            ..RECEIPT
+        },
+        ..PLAIN
+    },
+    Case {
+        input: Text {
+            changes: &[(FROM, "AS2-From: Depot\r\n")],
+            ..POST
+        },
+        output: Text {
+            changes: &[("AS2-To: Buyer\r\n", "AS2-To: Depot\r\n")],
+            ..RECEIPT
+        },
+        ..PLAIN
+    },
+    Case {
+        input: Text {
+            changes: &[(FROM, "AS2-From: \"A \\\"B\\\" \\\\ C\"\r\n")],
+            ..POST
+        },
+        output: Text {
+            changes: &[("AS2-To: Buyer\r\n", "AS2-To: \"A \\\"B\\\" \\\\ C\"\r\n")],
+            ..RECEIPT
+        },
+        ..PLAIN
+    },
+    // A name has at most 128 letters.
+    Case {
+        input: Text {
+            entries: ("x", 128),
+            ..LONG_NAME
+        },
+        output: Text {
+            plain: UNKNOWN_NAMES,
+            ..NOTHING
+        },
+        ..PLAIN
+    },
+    Case {
+        input: Text {
+            entries: ("x", 129),
+            ..LONG_NAME
+        },
+        output: Text {
+            plain: BAD_NAMES,
+            ..NOTHING
+        },
+        ..PLAIN
+    },
+    // The identifier is named as received: two brackets less.
+    Case {
+        input: Text {
+            changes: &[(ID, "Message-ID: m1@x\r\n")],
+            ..POST
+        },
+        output: Text {
+            changes: &[("<m1@x>", "m1@x"), ("397", "395")],
+            ..RECEIPT
+        },
+        ..PLAIN
+    },
+    // The first number: eleven digits more in four places of the body.
+    Case {
+        rest: &["--moment", "1000", "--first", "999999999999", "post"],
+        output: LAST_RECEIPT,
+        ..PLAIN
+    },
+];
 
-#[test]
-fn a_name_has_at_most_128_letters(rt: HostRuntime) -> Result<(), Fail> {
-    for (letters, reply) in [(128, UNKNOWN_NAMES), (129, BAD_NAMES)] {
-        let name = "x".repeat(rt.alloc(), letters)?;
-        let from = joined(rt.alloc(), ["AS2-From: ", name.as_str(), "\r\n"].as_slice())?;
-        let post = POST.replace(rt.alloc(), FROM, from.as_str())?;
-        let ran = posted(rt.alloc(), FIXTURE, AT_1000, post.as_str())?;
-        assert_eq!(rt; std::str::from_utf8(ran.output.as_slice())?, reply);
-    }
-    Ok(())
-}
-
-#[test]
-fn the_identifier_is_named_as_received(rt: HostRuntime) -> Result<(), Fail> {
-    let post = POST.replace(rt.alloc(), ID, "Message-ID: m1@x\r\n")?;
-    let ran = posted(rt.alloc(), FIXTURE, AT_1000, post.as_str())?;
-    // Two brackets less.
-    let changes = [("<m1@x>", "m1@x"), ("397", "395")];
-    let reply = changed(rt.alloc(), RECEIPT, changes.as_slice())?;
-    assert_eq!(rt; std::str::from_utf8(ran.output.as_slice())?, reply.as_str());
-    assert_eq!(rt; ran.status, 0);
-    Ok(())
-}
-
-#[test]
-fn the_receipt_has_the_first_number(rt: HostRuntime) -> Result<(), Fail> {
-    let rest = ["--moment", "1000", "--first", "999999999999", "post"];
-    let ran = posted(rt.alloc(), FIXTURE, rest.as_slice(), POST)?;
-    // Eleven digits more in four places of the body.
-    let changes = [
+/// The receipt that has the last number.
+pub(super) const LAST_RECEIPT: Text = Text {
+    changes: &[
         ("mdn-1", "mdn-999999999999"),
         ("Receipt 1 ", "Receipt 999999999999 "),
         ("397", "441"),
-    ];
-    let reply = changed(rt.alloc(), RECEIPT, changes.as_slice())?;
-    assert_eq!(rt; std::str::from_utf8(ran.output.as_slice())?, reply.as_str());
-    assert_eq!(rt; ran.status, 0);
+    ],
+    ..RECEIPT
+};
+
+#[test]
+fn names_and_numbers_are_answered(rt: HostRuntime) -> Result<(), Fail> {
+    for case in CASES {
+        check(&rt, rt.alloc(), case)?;
+    }
     Ok(())
 }

@@ -1,139 +1,125 @@
-//! Stores that are opened, and that aren't.
-use super::file::{Bare, NoStore, OneFile};
-use super::{AGREEMENTS, POST, changed};
-use as2_desk::{OpenStores, first_post, run};
+//! Stores that are opened, and that aren't; and one that has no number left.
+use super::memory::{Input, Paper, Stores};
+use super::posts::LAST_RECEIPT;
+use super::{Case, PLAIN, POST, check};
+use crate::agreements::AGREEMENTS;
+use crate::stores::new_store;
+use crate::texts::{NOTHING, Text};
 use as2_agreement::Agreements;
+use as2_desk::first_post;
 use as2_station::Station;
-use as2_store::Store;
 use as2_text::Moment;
-use sqlite::{Connection, MemStore};
-use std::alloc::{AllocError, Global};
+use sqlite::MemStore;
+use std::alloc::Global;
 use std::test::Fail;
 
+/// The plain post to a store in a file, which is neither read nor answered.
+const IN_FILE: Case = Case {
+    stores: Stores::Broken,
+    options: &["--agreements", "agreements.toml", "--store", "station.db"],
+    rest: &["post"],
+    output: NOTHING,
+    left: (0, 1),
+    ..PLAIN
+};
+
+const CASES: &[Case] = &[
+    // A database without tables is no store.
+    Case {
+        stores: Stores::Bare,
+        status: 3,
+        errors: &["store: NotAStore\n"],
+        ..IN_FILE
+    },
+    // A store that cannot be opened.
+    Case {
+        status: 3,
+        errors: &["store: Disk\n"],
+        ..IN_FILE
+    },
+    // Bad agreements come before the store.
+    Case {
+        agreements: Text {
+            plain: "=",
+            ..NOTHING
+        },
+        status: 1,
+        errors: &["agreements: NotToml\n"],
+        ..IN_FILE
+    },
+    // A check opens no store.
+    Case {
+        rest: &["check"],
+        output: Text {
+            plain: "organizations 1, partners 3\n",
+            ..NOTHING
+        },
+        ..IN_FILE
+    },
+];
+
+#[test]
+fn each_store_is_told(rt: HostRuntime) -> Result<(), Fail> {
+    for case in CASES {
+        check(&rt, rt.alloc(), case)?;
+    }
+    Ok(())
+}
+
 /// The reply where no number is left.
-const FULL: &str = "\
+const FULL: Text = Text {
+    plain: "\
 HTTP/1.1 503 Service Unavailable\r
 Date: Thu, 01 Jan 1970 00:16:40 GMT\r
 Content-Type: text/plain\r
 Content-Length: 14\r
 \r
 store is full
-";
-
-/// What is said of a store of that kind; nothing is read or written.
-fn told<O: OpenStores>(
-    alloc: Global,
-    stores: &O,
-    agreements: &[u8],
-    command: &str,
-) -> Result<(u8, Vec<u8>, bool), AllocError> {
-    let files = OneFile {
-        path: "agreements.toml",
-        bytes: agreements,
-    };
-    let words = [
-        "as2desk",
-        "--agreements",
-        "agreements.toml",
-        "--store",
-        "station.db",
-        command,
-    ];
-    let mut input = POST.as_bytes();
-    let mut output = Vec::new(alloc);
-    let mut errors = Vec::new(alloc);
-    let ran = run(
-        alloc,
-        words.as_slice(),
-        Some(2000),
-        &files,
-        stores,
-        &mut input,
-        &mut output,
-        &mut errors,
-    );
-    let untouched = input == POST.as_bytes() && output.is_empty();
-    Ok((ran.status, errors, untouched))
-}
-
-#[test]
-fn a_database_without_tables_is_no_store(rt: HostRuntime) -> Result<(), Fail> {
-    let (status, errors, untouched) = told(rt.alloc(), &Bare, AGREEMENTS.as_bytes(), "post")?;
-    assert_eq!(rt;
-        std::str::from_utf8(errors.as_slice())?,
-        "store: NotAStore\n"
-    );
-    assert_eq!(rt; status, 3);
-    assert!(rt; untouched);
-    Ok(())
-}
-
-#[test]
-fn a_store_that_cannot_be_opened_is_told(rt: HostRuntime) -> Result<(), Fail> {
-    let (status, errors, untouched) = told(rt.alloc(), &NoStore, AGREEMENTS.as_bytes(), "post")?;
-    assert_eq!(rt; std::str::from_utf8(errors.as_slice())?, "store: Disk\n");
-    assert_eq!(rt; status, 3);
-    assert!(rt; untouched);
-    Ok(())
-}
-
-#[test]
-fn bad_agreements_come_before_the_store(rt: HostRuntime) -> Result<(), Fail> {
-    let (status, errors, untouched) = told(rt.alloc(), &NoStore, b"=", "post")?;
-    assert_eq!(rt;
-        std::str::from_utf8(errors.as_slice())?,
-        "agreements: NotToml\n"
-    );
-    assert_eq!(rt; status, 1);
-    assert!(rt; untouched);
-    Ok(())
-}
-
-#[test]
-fn a_check_opens_no_store(rt: HostRuntime) -> Result<(), Fail> {
-    let (status, errors, _) = told(rt.alloc(), &NoStore, AGREEMENTS.as_bytes(), "check")?;
-    assert_eq!(rt; std::str::from_utf8(errors.as_slice())?, "");
-    assert_eq!(rt; status, 0);
-    Ok(())
-}
+",
+    ..NOTHING
+};
 
 /// What is written for a post at the moment 1000.
-fn replied(
+fn reply(
     alloc: Global,
     agreements: &Agreements,
     station: &mut Station<MemStore>,
-    post: &str,
-) -> Option<Vec<u8>> {
-    let moment = Moment::new(1000)?;
-    let mut input = post.as_bytes();
-    let mut output = Vec::new(alloc);
+    post: &Text,
+) -> Result<Vec<u8>, Fail> {
+    let Some(moment) = Moment::new(1000) else {
+        return Err(Fail::new("no moment"));
+    };
+    let parts = [post.made(alloc)?];
+    let mut input = Input::new(parts.as_slice(), false);
+    let mut output = Paper::new(alloc, false);
     first_post(alloc, agreements, moment, station, &mut input, &mut output);
-    Some(output)
+    Ok(output.bytes)
 }
 
-/// A station over a new store in memory, which has one number left.
-fn nearly_full(alloc: Global) -> Option<Station<MemStore>> {
-    let conn = Connection::open_in_memory(alloc).ok()?;
-    let store = Store::create(conn, 999_999_999_999).ok()?;
-    Some(Station::new(store))
-}
+// Posts to a station that has one number left, and the replies.
+const LAST: &[(Text, Text)] = &[
+    (POST, LAST_RECEIPT),
+    (
+        Text {
+            changes: &[("<m1@x>", "<m2@x>")],
+            ..POST
+        },
+        FULL,
+    ),
+    (POST, LAST_RECEIPT),
+];
 
 #[test]
 fn the_last_number_is_given_once(rt: HostRuntime) -> Result<(), Fail> {
     let agreements = Agreements::read(rt.alloc(), AGREEMENTS)?;
-    let other = changed(rt.alloc(), POST, [("<m1@x>", "<m2@x>")].as_slice())?;
-    let Some(mut station) = nearly_full(rt.alloc()) else {
-        return Err(Fail::new("no station"));
+    let Some(store) = new_store(rt.alloc(), 999_999_999_999) else {
+        return Err(Fail::new("no store"));
     };
-    let first = replied(rt.alloc(), &agreements, &mut station, POST);
-    let full = replied(rt.alloc(), &agreements, &mut station, other.as_str());
-    let again = replied(rt.alloc(), &agreements, &mut station, POST);
-    let (Some(first), Some(full), Some(again)) = (first, full, again) else {
-        return Err(Fail::new("no moment"));
-    };
-    assert_eq!(rt; std::str::from_utf8(full.as_slice())?, FULL);
-    assert!(rt; first == again);
-    let text = std::str::from_utf8(first.as_slice())?;
-    assert!(rt; text.contains("\r\nMessage-ID: <mdn-999999999999@station.example>\r\n"));
+    let mut station = Station::new(store);
+    for &(post, wanted) in LAST {
+        let reply = reply(rt.alloc(), &agreements, &mut station, &post)?;
+        let wanted = wanted.made(rt.alloc())?;
+        assert_eq!(rt; std::str::from_utf8(reply.as_slice())?, wanted.as_str());
+    }
     Ok(())
 }
