@@ -7,7 +7,8 @@ use as2_agreement::AgreementFault::{
 use as2_agreement::{AgreementFault, Agreements, Asked, Key, Organization, Partner};
 use as2_mic::Alg;
 use as2_names::AsName;
-use std::alloc::Global;
+use std::alloc::{AllocError, Global};
+use std::process::Abort;
 use std::test::Fail;
 
 /// The agreements of `examples/agreements.toml`, without its comments.
@@ -127,11 +128,15 @@ const TEXTS: &[(&str, AgreementFault)] = &[
     ),
 ];
 
+fn check_texts(rt: &impl Abort, alloc: Global, texts: &[(&str, AgreementFault)]) {
+    for &(text, fault) in texts {
+        assert_eq!(rt; counts(alloc, text), Err(fault), "{text}");
+    }
+}
+
 #[test]
 fn each_text_has_its_fault(rt: HostRuntime) {
-    for &(text, fault) in TEXTS {
-        assert_eq!(rt; counts(rt.alloc(), text), Err(fault), "{text}");
-    }
+    check_texts(&rt, rt.alloc(), TEXTS);
 }
 
 // What stands in the agreements, what is put in its place, and the fault, if there is one.
@@ -333,13 +338,21 @@ const CHANGES: &[(&str, &str, Option<AgreementFault>)] = &[
     ),
 ];
 
-#[test]
-fn each_change_has_its_fault(rt: HostRuntime) -> Result<(), Fail> {
-    for &(old, new, fault) in CHANGES {
-        let text = AGREEMENTS.replacen(rt.alloc(), old, new, 1)?;
-        assert_eq!(rt; counts(rt.alloc(), text.as_str()).err(), fault, "{new}");
+fn check_changes(
+    rt: &impl Abort,
+    alloc: Global,
+    changes: &[(&str, &str, Option<AgreementFault>)],
+) -> Result<(), AllocError> {
+    for &(old, new, fault) in changes {
+        let text = AGREEMENTS.replacen(alloc, old, new, 1)?;
+        assert_eq!(rt; counts(alloc, text.as_str()).err(), fault, "{new}");
     }
     Ok(())
+}
+
+#[test]
+fn each_change_has_its_fault(rt: HostRuntime) -> Result<(), Fail> {
+    Ok(check_changes(&rt, rt.alloc(), CHANGES)?)
 }
 
 /// An address, of which 25 bytes stand already.
@@ -396,14 +409,25 @@ const LIMITS: &[(Text, (&str, u64), Result<(u64, u64), AgreementFault>)] = &[
     (ORGANIZATIONS, ("1,", 65), Err(TooMany)),
 ];
 
-#[test]
-fn each_limit_is_kept(rt: HostRuntime) -> Result<(), Fail> {
-    for &(text, entries, wanted) in LIMITS {
-        let text = Text { entries, ..text };
-        let text = text.made(rt.alloc())?;
-        assert_eq!(rt; counts(rt.alloc(), text.as_str()), wanted);
+fn check_limits(
+    rt: &impl Abort,
+    alloc: Global,
+    limits: &[(
+        Text,
+        (&'static str, u64),
+        Result<(u64, u64), AgreementFault>,
+    )],
+) -> Result<(), AllocError> {
+    for &(text, entries, wanted) in limits {
+        let text = Text { entries, ..text }.made(alloc)?;
+        assert_eq!(rt; counts(alloc, text.as_str()), wanted);
     }
     Ok(())
+}
+
+#[test]
+fn each_limit_is_kept(rt: HostRuntime) -> Result<(), Fail> {
+    Ok(check_limits(&rt, rt.alloc(), LIMITS)?)
 }
 
 // A text, its domain and its address for receipts.

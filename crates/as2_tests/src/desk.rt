@@ -9,7 +9,7 @@ mod stores;
 mod streams;
 
 use crate::agreements::AGREED;
-use crate::texts::{NOTHING, Text, joined};
+use crate::texts::{Change, NOTHING, Text, joined};
 use as2_desk::{Ran, run};
 use memory::{Input, OneFile, Paper, Stores};
 use std::alloc::{AllocError, Global};
@@ -212,16 +212,66 @@ fn outcome_over(
 /// Runs the command line, and compares what it comes to.
 fn check(rt: &impl Abort, alloc: Global, case: &Case) -> Result<(), AllocError> {
     let outcome = outcome_of(alloc, case)?;
+    compare(rt, alloc, case, &outcome)
+}
+
+fn compare(
+    rt: &impl Abort,
+    alloc: Global,
+    case: &Case,
+    outcome: &Outcome,
+) -> Result<(), AllocError> {
+    compare_errors(rt, alloc, case, outcome)?;
     let output = case.output.made(alloc)?;
-    let errors = joined(alloc, case.errors)?;
-    compare(rt, case, &outcome, output.as_str(), errors.as_str());
+    assert_eq!(rt;
+        str::from_utf8(outcome.output.as_slice()),
+        Ok(output.as_str())
+    );
+    assert_eq!(rt; outcome.ran.status, case.status);
+    assert!(rt; outcome.left.0 >= case.left.0 && outcome.left.1 >= case.left.1);
     Ok(())
 }
 
-fn compare(rt: &impl Abort, case: &Case, outcome: &Outcome, output: &str, errors: &str) {
-    assert_eq!(rt; str::from_utf8(outcome.errors.as_slice()), Ok(errors));
-    assert_eq!(rt; str::from_utf8(outcome.output.as_slice()), Ok(output));
-    assert_eq!(rt; outcome.ran.status, case.status);
+fn compare_errors(
+    rt: &impl Abort,
+    alloc: Global,
+    case: &Case,
+    outcome: &Outcome,
+) -> Result<(), AllocError> {
+    let errors = joined(alloc, case.errors)?;
+    assert_eq!(rt;
+        str::from_utf8(outcome.errors.as_slice()),
+        Ok(errors.as_str())
+    );
     assert_eq!(rt; outcome.ran.told, case.is_told);
-    assert!(rt; outcome.left.0 >= case.left.0 && outcome.left.1 >= case.left.1);
+    Ok(())
+}
+
+fn check_all(rt: &impl Abort, alloc: Global, cases: &[Case]) -> Result<(), AllocError> {
+    for case in cases {
+        check(rt, alloc, case)?;
+    }
+    Ok(())
+}
+
+/// A post at the moment 1000, and its reply.
+fn post(input: Text, output: Text) -> Case {
+    Case {
+        input,
+        output,
+        ..PLAIN
+    }
+}
+
+/// Changes a plain post in turn, and compares each reply.
+fn check_posts(
+    rt: &impl Abort,
+    alloc: Global,
+    plain: Text,
+    posts: &[(&'static [Change], &'static str)],
+) -> Result<(), AllocError> {
+    for &(changes, reply) in posts {
+        check(rt, alloc, &post(plain.with(changes), Text::of(reply)))?;
+    }
+    Ok(())
 }

@@ -52,38 +52,41 @@ fn store_of_documents(alloc: Global) -> Option<Store<MemStore>> {
     Store::adopt(conn).ok()
 }
 
-/// The document with that identifier, if there is one.
-fn document(
-    alloc: Global,
-    store: &mut Store<MemStore>,
-    id_value: &str,
-) -> Result<Option<OutEntry>, StoreFault> {
-    store.find_out_by_id(alloc, id_value.as_bytes())
+/// How a document stands.
+#[derive(Clone, Copy)]
+enum Stand {
+    Absent,
+    /// The first, of which a try is open.
+    Sending,
+    /// The second, which is due at its moment.
+    New,
+    /// The first as processed, with the receipt as its evidence.
+    Processed,
 }
 
-#[test]
-fn documents_are_found_by_their_identifiers(rt: HostRuntime) -> Result<(), Fail> {
-    let Some(mut store) = store_of_documents(rt.alloc()) else {
-        return Err(Fail::new("no store"));
-    };
-    let first = document(rt.alloc(), &mut store, "out-1@station.example")?;
-    assert!(rt;
-        matches!(&first, Some(d) if d.number == 1 && d.content.piece(0) == Some(b"abc".as_slice())
-        && d.tries == 1 && d.attempt == Attempt::Running && d.due == Some(1030)
-        && d.detail == Detail::Sending && d.evidence.is_none())
-    );
-    let second = document(rt.alloc(), &mut store, "out-2@station.example")?;
-    assert!(rt; matches!(&second, Some(d) if d.number == 2 && d.detail == Detail::New));
-    let third = document(rt.alloc(), &mut store, "out-3@station.example")?;
-    assert!(rt; third.is_none());
-    Ok(())
+/// It is the document, and stands so.
+fn stands(document: &OutEntry, stand: Stand) -> bool {
+    match stand {
+        Stand::Absent => false,
+        Stand::Sending => is_sending(document),
+        Stand::New => {
+            document.number == 2 && document.detail == Detail::New && document.due == Some(1000)
+        }
+        Stand::Processed => is_processed(document),
+    }
 }
 
-/// The document stands as processed, and has the receipt as its evidence.
-fn is_settled(document: &Option<OutEntry>) -> bool {
-    let Some(document) = document else {
-        return false;
-    };
+fn is_sending(document: &OutEntry) -> bool {
+    document.number == 1
+        && document.content.piece(0) == Some(b"abc".as_slice())
+        && document.tries == 1
+        && document.attempt == Attempt::Running
+        && document.due == Some(1030)
+        && document.detail == Detail::Sending
+        && document.evidence.is_none()
+}
+
+fn is_processed(document: &OutEntry) -> bool {
     let Some(evidence) = &document.evidence else {
         return false;
     };
@@ -96,8 +99,49 @@ fn is_settled(document: &Option<OutEntry>) -> bool {
         && evidence.body.piece(0) == Some(RECEIPT)
 }
 
+/// The document with that identifier stands so.
+fn is_found(
+    alloc: Global,
+    store: &mut Store<MemStore>,
+    id_value: &str,
+    stand: Stand,
+) -> Result<bool, StoreFault> {
+    match store.find_out_by_id(alloc, id_value.as_bytes())? {
+        Some(document) => Ok(stands(&document, stand)),
+        None => Ok(matches!(stand, Stand::Absent)),
+    }
+}
+
+/// The documents of those identifiers stand so.
+fn are_found(
+    alloc: Global,
+    store: &mut Store<MemStore>,
+    documents: &[(&str, Stand)],
+) -> Result<bool, StoreFault> {
+    for &(id_value, stand) in documents {
+        if !is_found(alloc, store, id_value, stand)? {
+            return Ok(false);
+        }
+    }
+    Ok(true)
+}
+
+#[test]
+fn documents_are_found_by_their_identifiers(rt: HostRuntime) -> Result<(), Fail> {
+    const DOCUMENTS: &[(&str, Stand)] = &[
+        ("out-1@station.example", Stand::Sending),
+        ("out-2@station.example", Stand::New),
+        ("out-3@station.example", Stand::Absent),
+    ];
+    let Some(mut store) = store_of_documents(rt.alloc()) else {
+        return Err(Fail::new("no store"));
+    };
+    assert!(rt; are_found(rt.alloc(), &mut store, DOCUMENTS)?);
+    Ok(())
+}
+
 /// Posts of receipts: for no document of those names, for the first, again, and one that is unreadable.
-const RECEIPTS: [Row<'static>; 5] = [
+const RECEIPTS: &[Row<'static>] = &[
     Row {
         changes: &[("Content-Type", RECEIPT_TYPE), ("AS2-From", "Depot")],
         body: RECEIPT,
@@ -125,20 +169,26 @@ const RECEIPTS: [Row<'static>; 5] = [
     },
 ];
 
-#[test]
-fn a_posted_receipt_settles_its_document_once(rt: HostRuntime) -> Result<(), Fail> {
-    assert!(rt; RECEIPT.len() == 406);
-    let agreements = Agreements::read(rt.alloc(), AGREEMENTS)?;
-    let Some(store) = store_of_documents(rt.alloc()) else {
+/// Posts the receipts to a station with the documents, and takes its store.
+fn store_of_receipts(alloc: Global) -> Result<Store<MemStore>, Fail> {
+    let agreements = Agreements::read(alloc, AGREEMENTS)?;
+    let Some(store) = store_of_documents(alloc) else {
         return Err(Fail::new("no store"));
     };
     let mut station = Station::new(store);
-    answer_all(rt.alloc(), &mut station, &agreements, &RECEIPTS)?;
-    let mut store = station.into_store();
-    let settled = document(rt.alloc(), &mut store, "out-1@station.example")?;
-    assert!(rt; is_settled(&settled));
-    let other = document(rt.alloc(), &mut store, "out-2@station.example")?;
-    assert!(rt; matches!(&other, Some(d) if d.detail == Detail::New && d.due == Some(1000)));
+    answer_all(alloc, &mut station, &agreements, RECEIPTS)?;
+    Ok(station.into_store())
+}
+
+#[test]
+fn a_posted_receipt_settles_its_document_once(rt: HostRuntime) -> Result<(), Fail> {
+    const DOCUMENTS: &[(&str, Stand)] = &[
+        ("out-1@station.example", Stand::Processed),
+        ("out-2@station.example", Stand::New),
+    ];
+    assert!(rt; RECEIPT.len() == 406);
+    let mut store = store_of_receipts(rt.alloc())?;
+    assert!(rt; are_found(rt.alloc(), &mut store, DOCUMENTS)?);
     Ok(())
 }
 

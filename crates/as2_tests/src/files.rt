@@ -9,10 +9,32 @@ use std::alloc::Global;
 use std::fs;
 use std::test::Fail;
 
-/// Makes a store of one entry in that file, and closes it.
-fn make(rt: &HostRuntime, file: &str) -> Result<(), Fail> {
+/// What is done with a file.
+#[derive(Clone, Copy)]
+enum Step {
+    /// A store of one entry is made in it.
+    Make,
+    /// The store is looked at.
+    Look,
+    /// A store is to be made where there is one, which is refused.
+    MakeAnew,
+}
+
+/// Opens the file and does the step; whether it goes as it is to.
+fn goes(rt: &HostRuntime, file: &str, step: Step) -> Result<bool, Fail> {
     let conn = Connection::open(rt, file)?;
-    Ok(fill(rt.alloc(), conn)?)
+    Ok(is_done(rt.alloc(), conn, step))
+}
+
+/// The step goes as it is to.
+fn is_done<S: Alter + Drop>(alloc: Global, conn: Connection<S>, step: Step) -> bool
+    requires { conn.in_transaction ≡ false }
+{
+    match step {
+        Step::Make => fill(alloc, conn).is_ok(),
+        Step::Look => is_filled(alloc, conn),
+        Step::MakeAnew => refusal(conn) == Some(StoreFault::Refused),
+    }
 }
 
 /// Makes a store of one entry.
@@ -23,12 +45,6 @@ fn fill<S: Alter + Drop>(alloc: Global, conn: Connection<S>) -> Result<(), Store
         Ok(mut store) => add(alloc, &mut store, 1, "<m1@x>", b"abc"),
         Err((_, fault)) => Err(fault),
     }
-}
-
-/// The store in that file is as it was made.
-fn is_as_made(rt: &HostRuntime, file: &str) -> Result<bool, Fail> {
-    let conn = Connection::open(rt, file)?;
-    Ok(is_filled(rt.alloc(), conn))
 }
 
 /// The tables are those of a store with one entry.
@@ -49,14 +65,8 @@ fn has_one_entry<S: Alter>(alloc: Global, store: &mut Store<S>) -> bool {
     listed.len() == 1 && next(store) == Some((2, 1)) && is_found(alloc, store, 1, "<m1@x>", b"abc")
 }
 
-/// Why the store in that file isn't made anew.
-fn refusal(rt: &HostRuntime, file: &str) -> Result<Option<StoreFault>, Fail> {
-    let conn = Connection::open(rt, file)?;
-    Ok(refusal_of(conn))
-}
-
 /// Why no store is made where there is one.
-fn refusal_of<S: Alter + Drop>(conn: Connection<S>) -> Option<StoreFault>
+fn refusal<S: Alter + Drop>(conn: Connection<S>) -> Option<StoreFault>
     requires { conn.in_transaction ≡ false }
 {
     let store = Store::adopt(conn).ok()?;
@@ -73,20 +83,11 @@ fn clear(rt: &HostRuntime, file: &str, log: &str) {
 }
 
 #[test]
-fn a_file_is_adopted_again(rt: HostRuntime) -> Result<(), Fail> {
-    clear(&rt, "adopted.db", "adopted.db-wal");
-    make(&rt, "adopted.db")?;
-    assert!(rt; is_as_made(&rt, "adopted.db")?);
-    clear(&rt, "adopted.db", "adopted.db-wal");
-    Ok(())
-}
-
-#[test]
-fn an_adopted_file_is_not_made_anew(rt: HostRuntime) -> Result<(), Fail> {
+fn a_file_is_adopted_again_and_not_made_anew(rt: HostRuntime) -> Result<(), Fail> {
     clear(&rt, "kept.db", "kept.db-wal");
-    make(&rt, "kept.db")?;
-    assert!(rt; refusal(&rt, "kept.db")? == Some(StoreFault::Refused));
-    assert!(rt; is_as_made(&rt, "kept.db")?);
+    for step in [Step::Make, Step::Look, Step::MakeAnew, Step::Look] {
+        assert!(rt; goes(&rt, "kept.db", step)?);
+    }
     clear(&rt, "kept.db", "kept.db-wal");
     Ok(())
 }

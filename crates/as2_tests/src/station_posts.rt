@@ -445,6 +445,15 @@ fn post(alloc: Global, bytes: &[u8]) -> Result<Event, Fail> {
     })
 }
 
+/// The events were answered with these statuses.
+fn have_statuses(answers: &[Result<Answer, StoreFault>], statuses: &[u16]) -> bool {
+    let mut same = answers.len() == statuses.len();
+    for (answer, status) in answers.iter().zip(statuses) {
+        same = same && has_status(answer, *status);
+    }
+    same
+}
+
 /// The event was answered with that status.
 fn has_status(answer: &Result<Answer, StoreFault>, status: u16) -> bool {
     matches!(answer, Ok(Answer::Http(answer)) if answer.status == status)
@@ -452,27 +461,27 @@ fn has_status(answer: &Result<Answer, StoreFault>, status: u16) -> bool {
 
 /// A post, a clash and a repeat.
 fn events(alloc: Global) -> Result<Vec<Event>, Fail> {
-    let posts = [
-        post(alloc, b"abc")?,
-        post(alloc, b"abd")?,
-        post(alloc, b"abc")?,
-    ];
-    Ok(Vec::from_array(alloc, posts)?)
+    let mut events = Vec::new(alloc);
+    for bytes in ["abc", "abd", "abc"] {
+        events.push(post(alloc, bytes.as_bytes())?)?;
+    }
+    Ok(events)
+}
+
+/// A station over a new store.
+fn new_station(alloc: Global) -> Result<Station<MemStore>, Fail> {
+    match new_store(alloc, 1) {
+        Some(store) => Ok(Station::new(store)),
+        None => Err(Fail::new("no store")),
+    }
 }
 
 #[test]
 fn posts_are_played_in_turn(rt: HostRuntime) -> Result<(), Fail> {
     let agreements = Agreements::read(rt.alloc(), AGREEMENTS)?;
-    let Some(store) = new_store(rt.alloc(), 1) else {
-        return Err(Fail::new("no store"));
-    };
-    let mut station = Station::new(store);
-    let events = events(rt.alloc())?;
-    let answers = station.play(rt.alloc(), &agreements, events)?;
-    assert!(rt;
-        matches!(answers.as_slice(), [first, clash, again]
-        if has_status(first, 200) && has_status(clash, 409) && has_status(again, 200))
-    );
+    let mut station = new_station(rt.alloc())?;
+    let answers = station.play(rt.alloc(), &agreements, events(rt.alloc())?)?;
+    assert!(rt; have_statuses(answers.as_slice(), &[200, 409, 200]));
     let again = station.step(rt.alloc(), &agreements, post(rt.alloc(), b"abc")?);
     assert!(rt; has_status(&again, 200));
     assert!(rt; has_entries(rt.alloc(), station, &[(1, MdnState::Sent)])?);

@@ -1,8 +1,10 @@
 //! Command lines over files of agreements.
 use super::command_lines::{HINT, USAGE};
-use super::{AT_1000, Broken, Case, PLAIN, POST, RECEIPT, TAKEN, check};
+use super::{AT_1000, Broken, Case, PLAIN, POST, RECEIPT, TAKEN, check, check_all, post};
 use crate::agreements::AGREED;
 use crate::texts::{Change, NOTHING, Text};
+use std::alloc::{AllocError, Global};
+use std::process::Abort;
 use std::test::Fail;
 
 // What is changed in the agreements, each at the first place, and what is then said of them.
@@ -54,25 +56,37 @@ const FAULTS: &[(&[Change], &[&str])] = &[
     (&[("\"Supplier\"", "\"\"")], &["agreements: BadName\n"]),
 ];
 
-#[test]
-fn each_fault_is_told_by_both_commands(rt: HostRuntime) -> Result<(), Fail> {
-    for &(changes, errors) in FAULTS {
-        let post = Case {
-            agreements: Text { changes, ..AGREED },
-            status: 1,
-            output: NOTHING,
-            errors,
-            left: (0, 1),
-            ..PLAIN
+/// The plain post over agreements with a fault, which is told.
+fn faulty(changes: &'static [Change], errors: &'static [&'static str]) -> Case {
+    Case {
+        agreements: AGREED.with(changes),
+        status: 1,
+        errors,
+        left: (0, 1),
+        ..post(POST, NOTHING)
+    }
+}
+
+fn check_faults(
+    rt: &impl Abort,
+    alloc: Global,
+    rest: &'static [&'static str],
+    faults: &[(&'static [Change], &'static [&'static str])],
+) -> Result<(), AllocError> {
+    for &(changes, errors) in faults {
+        let case = Case {
+            rest,
+            ..faulty(changes, errors)
         };
-        check(&rt, rt.alloc(), &post)?;
-        let check_alone = Case {
-            rest: &["check"],
-            ..post
-        };
-        check(&rt, rt.alloc(), &check_alone)?;
+        check(rt, alloc, &case)?;
     }
     Ok(())
+}
+
+#[test]
+fn each_fault_is_told_by_both_commands(rt: HostRuntime) -> Result<(), Fail> {
+    check_faults(&rt, rt.alloc(), &["check"], FAULTS)?;
+    Ok(check_faults(&rt, rt.alloc(), AT_1000, FAULTS)?)
 }
 
 /// Agreements that are read, and counted.
@@ -299,8 +313,5 @@ const CASES: &[Case] = &[
 
 #[test]
 fn each_file_is_told(rt: HostRuntime) -> Result<(), Fail> {
-    for case in CASES {
-        check(&rt, rt.alloc(), case)?;
-    }
-    Ok(())
+    Ok(check_all(&rt, rt.alloc(), CASES)?)
 }

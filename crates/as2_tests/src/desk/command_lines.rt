@@ -1,6 +1,8 @@
 //! Command lines, with no input.
-use super::{Broken, Case, FIXTURE, PLAIN, check};
+use super::{Broken, Case, FIXTURE, PLAIN, check, check_all, post};
 use crate::texts::{NOTHING, Text};
+use std::alloc::{AllocError, Global};
+use std::process::Abort;
 use std::test::Fail;
 
 /// A command line, and what it comes to.
@@ -341,24 +343,23 @@ const LINES: &[Line] = &[
     },
 ];
 
-#[test]
-fn each_command_line_is_answered(rt: HostRuntime) -> Result<(), Fail> {
-    for line in LINES {
+fn check_lines(rt: &impl Abort, alloc: Global, lines: &[Line]) -> Result<(), AllocError> {
+    for line in lines {
         let case = Case {
             options: line.options,
             rest: line.rest,
-            input: NOTHING,
             status: line.status,
-            output: Text {
-                plain: line.output,
-                ..NOTHING
-            },
             errors: line.errors,
-            ..PLAIN
+            ..post(NOTHING, Text::of(line.output))
         };
-        check(&rt, rt.alloc(), &case)?;
+        check(rt, alloc, &case)?;
     }
     Ok(())
+}
+
+#[test]
+fn each_command_line_is_answered(rt: HostRuntime) -> Result<(), Fail> {
+    Ok(check_lines(&rt, rt.alloc(), LINES)?)
 }
 
 /// No moment is given.
@@ -403,31 +404,33 @@ const CLOCKS: &[Case] = &[
 
 #[test]
 fn a_moment_is_wanted_where_the_clock_tells_none(rt: HostRuntime) -> Result<(), Fail> {
-    for case in CLOCKS {
-        check(&rt, rt.alloc(), case)?;
-    }
-    Ok(())
+    Ok(check_all(&rt, rt.alloc(), CLOCKS)?)
 }
 
-/// Words whose output can't be written.
-const UNWRITTEN: &[(&[&str], &[&str])] = &[
-    (&["--help"], &["refused: CannotWrite\n"]),
-    (&["check"], &["refused: CannotWrite\n"]),
-    (&["--moment", "1000", "post"], &["refused: WriteFault\n"]),
+/// The plain post, whose reply can't be written.
+const UNWRITTEN: Case = Case {
+    broken: Broken::Output,
+    status: 1,
+    output: NOTHING,
+    errors: &["refused: WriteFault\n"],
+    ..PLAIN
+};
+
+const BROKEN: &[Case] = &[
+    Case {
+        rest: &["--help"],
+        errors: &["refused: CannotWrite\n"],
+        ..UNWRITTEN
+    },
+    Case {
+        rest: &["check"],
+        errors: &["refused: CannotWrite\n"],
+        ..UNWRITTEN
+    },
+    UNWRITTEN,
 ];
 
 #[test]
 fn output_that_cannot_be_written_is_refused(rt: HostRuntime) -> Result<(), Fail> {
-    for &(rest, errors) in UNWRITTEN {
-        let case = Case {
-            rest,
-            broken: Broken::Output,
-            status: 1,
-            output: NOTHING,
-            errors,
-            ..PLAIN
-        };
-        check(&rt, rt.alloc(), &case)?;
-    }
-    Ok(())
+    Ok(check_all(&rt, rt.alloc(), BROKEN)?)
 }

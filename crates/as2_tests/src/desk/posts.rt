@@ -1,5 +1,5 @@
 //! What a post says, and the answer that it gets.
-use super::{Case, PLAIN, POST, RECEIPT, RECEIPT_TEXT, TAKEN, check};
+use super::{Case, PLAIN, POST, RECEIPT, RECEIPT_TEXT, TAKEN, check_all, check_posts};
 use crate::texts::{Change, NOTHING, Text};
 use std::test::Fail;
 
@@ -267,18 +267,7 @@ const POSTS: &[(&[Change], &str)] = &[
 
 #[test]
 fn each_post_is_answered(rt: HostRuntime) -> Result<(), Fail> {
-    for &(changes, reply) in POSTS {
-        let case = Case {
-            input: Text { changes, ..POST },
-            output: Text {
-                plain: reply,
-                ..NOTHING
-            },
-            ..PLAIN
-        };
-        check(&rt, rt.alloc(), &case)?;
-    }
-    Ok(())
+    Ok(check_posts(&rt, rt.alloc(), POST, POSTS)?)
 }
 
 /// A name of so many letters.
@@ -377,8 +366,5 @@ pub(super) const LAST_RECEIPT: Text = Text {
 
 #[test]
 fn names_and_numbers_are_answered(rt: HostRuntime) -> Result<(), Fail> {
-    for case in CASES {
-        check(&rt, rt.alloc(), case)?;
-    }
-    Ok(())
+    Ok(check_all(&rt, rt.alloc(), CASES)?)
 }

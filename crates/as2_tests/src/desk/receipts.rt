@@ -1,7 +1,9 @@
 //! The outcomes of documents, and the receipts that tell them.
 use super::posts::{ASKS, TYPE};
-use super::{Case, PLAIN, POST, RECEIPT, TAKEN, check};
+use super::{POST, RECEIPT, TAKEN, check, check_posts, post};
 use crate::texts::{Change, NOTHING, Text};
+use std::alloc::{AllocError, Global};
+use std::process::Abort;
 use std::test::Fail;
 
 const OPTION: &str = "signed-receipt-micalg=optional, sha1";
@@ -187,23 +189,21 @@ const OUTCOMES: &[(&[Change], &[Change])] = &[
     ),
 ];
 
-#[test]
-fn each_outcome_is_told(rt: HostRuntime) -> Result<(), Fail> {
-    for &(post, reply) in OUTCOMES {
-        let case = Case {
-            input: Text {
-                changes: post,
-                ..POST
-            },
-            output: Text {
-                changes: reply,
-                ..RECEIPT
-            },
-            ..PLAIN
-        };
-        check(&rt, rt.alloc(), &case)?;
+/// Changes the plain post in turn, and compares each reply.
+fn check_outcomes(
+    rt: &impl Abort,
+    alloc: Global,
+    outcomes: &[(&'static [Change], &'static [Change])],
+) -> Result<(), AllocError> {
+    for &(changes, reply) in outcomes {
+        check(rt, alloc, &post(POST.with(changes), RECEIPT.with(reply)))?;
     }
     Ok(())
+}
+
+#[test]
+fn each_outcome_is_told(rt: HostRuntime) -> Result<(), Fail> {
+    Ok(check_outcomes(&rt, rt.alloc(), OUTCOMES)?)
 }
 
 /// The outcome of a document that cannot be decrypted, where no receipt is asked for.
@@ -276,10 +276,9 @@ Content-Length: 19\r
 unreadable receipt
 ";
 
-// A plain post, what is changed in it, and the reply.
-const WITHOUT_RECEIPT: &[(Text, &[Change], &str)] = &[
+// What is changed in the plain post, and the reply without a receipt.
+const UNTOLD: &[(&[Change], &str)] = &[
     (
-        POST,
         &[
             (ASKS, ""),
             (OPTION, "signed-receipt-protocol=required, pkcs7-signature"),
@@ -287,7 +286,6 @@ const WITHOUT_RECEIPT: &[(Text, &[Change], &str)] = &[
         TAKEN,
     ),
     (
-        POST,
         &[
             (ASKS, ""),
             (TYPE, "Content-Type: application/pkcs7-mime\r\n"),
@@ -295,40 +293,34 @@ const WITHOUT_RECEIPT: &[(Text, &[Change], &str)] = &[
         UNDECRYPTED,
     ),
     (
-        POST,
         &[(ASKS, ""), (TYPE, "Content-Encoding: gzip\r\n")],
         UNSUPPORTED,
     ),
-    // Receipts, which are read.
-    (REPORT, &[], NO_SUCH_MESSAGE),
+];
+
+#[test]
+fn an_outcome_is_told_without_a_receipt(rt: HostRuntime) -> Result<(), Fail> {
+    Ok(check_posts(&rt, rt.alloc(), POST, UNTOLD)?)
+}
+
+// What is changed in the receipt, and the reply.
+const REPORTS: &[(&[Change], &str)] = &[
+    (&[], NO_SUCH_MESSAGE),
     (
-        REPORT,
         &[("Reporting-UA: as2-station", "Disposition: x\r\nX: 8901234")],
         UNREADABLE,
     ),
     (
-        REPORT,
         &[(
             "Message-ID: <out-1@station.example>",
             "Message-Id: <out-1@station.example>",
         )],
         NO_SUCH_MESSAGE,
     ),
-    (REPORT, &[("; boundary=\"as2-mdn-7\"", "")], UNREADABLE),
+    (&[("; boundary=\"as2-mdn-7\"", "")], UNREADABLE),
 ];
 
 #[test]
-fn each_post_without_a_receipt_is_answered(rt: HostRuntime) -> Result<(), Fail> {
-    for &(plain, changes, reply) in WITHOUT_RECEIPT {
-        let case = Case {
-            input: Text { changes, ..plain },
-            output: Text {
-                plain: reply,
-                ..NOTHING
-            },
-            ..PLAIN
-        };
-        check(&rt, rt.alloc(), &case)?;
-    }
-    Ok(())
+fn receipts_are_read(rt: HostRuntime) -> Result<(), Fail> {
+    Ok(check_posts(&rt, rt.alloc(), REPORT, REPORTS)?)
 }

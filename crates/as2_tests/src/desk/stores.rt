@@ -1,7 +1,7 @@
 //! Stores that are opened, and that aren't; and one that has no number left.
 use super::memory::{Input, Paper, Stores};
 use super::posts::LAST_RECEIPT;
-use super::{Case, PLAIN, POST, check};
+use super::{Case, PLAIN, POST, check_all};
 use crate::agreements::AGREEMENTS;
 use crate::stores::new_store;
 use crate::texts::{NOTHING, Text};
@@ -60,10 +60,7 @@ const CASES: &[Case] = &[
 
 #[test]
 fn each_store_is_told(rt: HostRuntime) -> Result<(), Fail> {
-    for case in CASES {
-        check(&rt, rt.alloc(), case)?;
-    }
-    Ok(())
+    Ok(check_all(&rt, rt.alloc(), CASES)?)
 }
 
 /// The reply where no number is left.

@@ -1,6 +1,8 @@
 //! Streams: what they come to, and what of them is read.
-use super::{Broken, Case, PLAIN, POST, POST_TEXT, TAKEN, check};
+use super::{Broken, Case, PLAIN, POST, POST_TEXT, TAKEN, check, check_all, post};
 use crate::texts::{NOTHING, Text};
+use std::alloc::{AllocError, Global};
+use std::process::Abort;
 use std::test::Fail;
 
 /// A head that can't be read.
@@ -159,22 +161,25 @@ const STREAMS: &[(&str, u8, &str, &[&str])] = &[
     ),
 ];
 
-#[test]
-fn each_stream_is_answered(rt: HostRuntime) -> Result<(), Fail> {
-    for &(plain, status, reply, errors) in STREAMS {
+fn check_streams(
+    rt: &impl Abort,
+    alloc: Global,
+    streams: &[(&'static str, u8, &'static str, &'static [&'static str])],
+) -> Result<(), AllocError> {
+    for &(input, status, reply, errors) in streams {
         let case = Case {
-            input: Text { plain, ..NOTHING },
             status,
-            output: Text {
-                plain: reply,
-                ..NOTHING
-            },
             errors,
-            ..PLAIN
+            ..post(Text::of(input), Text::of(reply))
         };
-        check(&rt, rt.alloc(), &case)?;
+        check(rt, alloc, &case)?;
     }
     Ok(())
+}
+
+#[test]
+fn each_stream_is_answered(rt: HostRuntime) -> Result<(), Fail> {
+    Ok(check_streams(&rt, rt.alloc(), STREAMS)?)
 }
 
 const MORE_FIELDS: Text = Text {
@@ -269,8 +274,5 @@ const CASES: &[Case] = &[
 
 #[test]
 fn no_more_than_the_first_post_is_read(rt: HostRuntime) -> Result<(), Fail> {
-    for case in CASES {
-        check(&rt, rt.alloc(), case)?;
-    }
-    Ok(())
+    Ok(check_all(&rt, rt.alloc(), CASES)?)
 }
