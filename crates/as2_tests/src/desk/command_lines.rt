@@ -94,7 +94,22 @@ pub(super) const HINT: &str = "
 For more information, try '--help'.
 ";
 
-const LINES: &[Line] = &[
+fn check_lines(rt: &impl Abort, alloc: Global, lines: &[Line]) -> Result<(), AllocError> {
+    for line in lines {
+        let case = Case {
+            options: line.options,
+            rest: line.rest,
+            status: line.status,
+            errors: line.errors,
+            ..post(NOTHING, Text::of(line.output))
+        };
+        check(rt, alloc, &case)?;
+    }
+    Ok(())
+}
+
+// What is done: a stream without a post, and help.
+const DONE: &[Line] = &[
     Line {
         options: FIXTURE,
         rest: &["post"],
@@ -150,6 +165,15 @@ const LINES: &[Line] = &[
         output: "as2desk 0.1.0\n",
         errors: &[],
     },
+];
+
+#[test]
+fn help_is_told(rt: HostRuntime) -> Result<(), Fail> {
+    Ok(check_lines(&rt, rt.alloc(), DONE)?)
+}
+
+// Options at fault.
+const OPTIONS: &[Line] = &[
     Line {
         options: FIXTURE,
         rest: &["--colour", "post"],
@@ -242,6 +266,15 @@ const LINES: &[Line] = &[
             HINT,
         ],
     },
+];
+
+#[test]
+fn options_at_fault_are_told(rt: HostRuntime) -> Result<(), Fail> {
+    Ok(check_lines(&rt, rt.alloc(), OPTIONS)?)
+}
+
+// Commands at fault, and options that are wanting.
+const COMMANDS: &[Line] = &[
     Line {
         options: FIXTURE,
         rest: &[],
@@ -343,23 +376,9 @@ const LINES: &[Line] = &[
     },
 ];
 
-fn check_lines(rt: &impl Abort, alloc: Global, lines: &[Line]) -> Result<(), AllocError> {
-    for line in lines {
-        let case = Case {
-            options: line.options,
-            rest: line.rest,
-            status: line.status,
-            errors: line.errors,
-            ..post(NOTHING, Text::of(line.output))
-        };
-        check(rt, alloc, &case)?;
-    }
-    Ok(())
-}
-
 #[test]
-fn each_command_line_is_answered(rt: HostRuntime) -> Result<(), Fail> {
-    Ok(check_lines(&rt, rt.alloc(), LINES)?)
+fn commands_at_fault_are_told(rt: HostRuntime) -> Result<(), Fail> {
+    Ok(check_lines(&rt, rt.alloc(), COMMANDS)?)
 }
 
 /// No moment is given.

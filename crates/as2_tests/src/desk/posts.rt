@@ -86,9 +86,8 @@ Content-Length: 0\r
 \r
 ";
 
-// What is changed in the plain post, and the reply.
-const POSTS: &[(&[Change], &str)] = &[
-    // The names.
+// What is changed in the plain post, and the reply: names.
+const NAMES: &[(&[Change], &str)] = &[
     (&[(FROM, "")], BAD_NAMES),
     (
         &[(FROM, "AS2-From: Buyer\r\nAS2-From: Buyer\r\n")],
@@ -106,7 +105,15 @@ const POSTS: &[(&[Change], &str)] = &[
     (&[(TO, "AS2-To: Buyer\r\n")], UNKNOWN_NAMES),
     (&[(TO, "AS2-To: Nobody\r\n")], UNKNOWN_NAMES),
     (&[(FROM, "AS2-From: Supplier\r\n")], UNKNOWN_NAMES),
-    // The version.
+];
+
+#[test]
+fn names_are_looked_up(rt: HostRuntime) -> Result<(), Fail> {
+    Ok(check_posts(&rt, rt.alloc(), POST, NAMES)?)
+}
+
+// The version.
+const VERSIONS: &[(&[Change], &str)] = &[
     (&[(VERSION, "AS2-Version: 2.0\r\n")], BAD_VERSION),
     (&[(VERSION, "AS2-Version: 1.10\r\n")], BAD_VERSION),
     (&[(VERSION, "AS2-Version: 1.\r\n")], BAD_VERSION),
@@ -117,7 +124,15 @@ const POSTS: &[(&[Change], &str)] = &[
     ),
     (&[(VERSION, "AS2-Version: 1.9\r\n")], RECEIPT_TEXT),
     (&[(VERSION, "")], RECEIPT_TEXT),
-    // The media type.
+];
+
+#[test]
+fn versions_are_looked_at(rt: HostRuntime) -> Result<(), Fail> {
+    Ok(check_posts(&rt, rt.alloc(), POST, VERSIONS)?)
+}
+
+// The media type and the encodings.
+const TYPES: &[(&[Change], &str)] = &[
     (&[(TYPE, "")], RECEIPT_TEXT),
     (
         &[(
@@ -141,15 +156,6 @@ const POSTS: &[(&[Change], &str)] = &[
         &[(TYPE, "Content-Type: application/EDI-X12\r\n")],
         RECEIPT_TEXT,
     ),
-    // The identifier.
-    (&[(ID, "")], BAD_ID),
-    (
-        &[(ID, "Message-ID: <m1@x>\r\nMessage-ID: <m2@x>\r\n")],
-        BAD_ID,
-    ),
-    (&[(ID, "Message-ID:\r\n")], BAD_ID),
-    (&[(ID, "Message-ID: <>\r\n")], BAD_ID),
-    // Encodings.
     (
         &[(
             TYPE,
@@ -174,7 +180,15 @@ const POSTS: &[(&[Change], &str)] = &[
         ],
         TAKEN,
     ),
-    // The request for a receipt.
+];
+
+#[test]
+fn media_types_and_encodings_are_read(rt: HostRuntime) -> Result<(), Fail> {
+    Ok(check_posts(&rt, rt.alloc(), POST, TYPES)?)
+}
+
+// The request for a receipt.
+const REQUESTS: &[(&[Change], &str)] = &[
     (&[(ASKS, "")], TAKEN),
     (&[(ASKS, ""), (OPTIONS, "")], TAKEN),
     (
@@ -234,7 +248,22 @@ const POSTS: &[(&[Change], &str)] = &[
         )],
         BAD_REQUEST,
     ),
-    // The order of faults.
+];
+
+#[test]
+fn requests_for_a_receipt_are_read(rt: HostRuntime) -> Result<(), Fail> {
+    Ok(check_posts(&rt, rt.alloc(), POST, REQUESTS)?)
+}
+
+// The identifier, and the order of faults.
+const ORDER: &[(&[Change], &str)] = &[
+    (&[(ID, "")], BAD_ID),
+    (
+        &[(ID, "Message-ID: <m1@x>\r\nMessage-ID: <m2@x>\r\n")],
+        BAD_ID,
+    ),
+    (&[(ID, "Message-ID:\r\n")], BAD_ID),
+    (&[(ID, "Message-ID: <>\r\n")], BAD_ID),
     (&[(VERSION, "AS2-Version: 2.0\r\n"), (FROM, "")], BAD_NAMES),
     (
         &[
@@ -266,8 +295,8 @@ const POSTS: &[(&[Change], &str)] = &[
 ];
 
 #[test]
-fn each_post_is_answered(rt: HostRuntime) -> Result<(), Fail> {
-    Ok(check_posts(&rt, rt.alloc(), POST, POSTS)?)
+fn identifiers_are_read_and_faults_have_an_order(rt: HostRuntime) -> Result<(), Fail> {
+    Ok(check_posts(&rt, rt.alloc(), POST, ORDER)?)
 }
 
 /// A name of so many letters.
