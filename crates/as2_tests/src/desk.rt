@@ -19,7 +19,7 @@ use std::process::Abort;
 #[derive(Clone, Copy)]
 struct Case {
     clock: Option<u64>,
-    /// The file `agreements.toml`, and its last bytes where they are no text.
+    /// The file `agreements.toml`, and the bytes behind its text.
     agreements: Text,
     ending: &'static [u8],
     stores: Stores,

@@ -1,4 +1,5 @@
-//! Tests that cross crates: posts as they are read, answered and recorded, over databases in memory and in files.
+//! Tests that cross crates: command lines, agreements, and posts as they are read, answered and recorded, over databases in
+//! memory and in files.
 #![tactic(auto)]
 
 #[cfg(test)]

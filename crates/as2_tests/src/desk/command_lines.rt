@@ -1,4 +1,4 @@
-//! Command lines, with no input.
+//! Command lines: help, faults, clocks, and output that cannot be written.
 use super::{Broken, Case, FIXTURE, PLAIN, check, check_all, post};
 use crate::texts::{NOTHING, Text};
 use std::alloc::{AllocError, Global};
@@ -108,7 +108,7 @@ fn check_lines(rt: &impl Abort, alloc: Global, lines: &[Line]) -> Result<(), All
     Ok(())
 }
 
-// What is done: a stream without a post, and help.
+// What is done: streams without a post, help and the version.
 const DONE: &[Line] = &[
     Line {
         options: FIXTURE,

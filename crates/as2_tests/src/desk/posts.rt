@@ -86,7 +86,7 @@ Content-Length: 0\r
 \r
 ";
 
-// What is changed in the plain post, and the reply: names.
+// In each table: what is changed in the plain post, and the reply. The names.
 const NAMES: &[(&[Change], &str)] = &[
     (&[(FROM, "")], BAD_NAMES),
     (
