@@ -17,17 +17,3 @@ fn row_of(alloc: Global, values: &[ValueRef<'_>]) -> Result<Row, AllocError> {
     }
     Row::from_row(alloc, &row)
 }
-
-/// The same with another value in a column.
-fn row_with(
-    alloc: Global,
-    values: &[ValueRef<'_>],
-    column: usize,
-    other: ValueRef<'_>,
-) -> Result<Row, AllocError> {
-    let mut row = Values::new(alloc);
-    for (at, value) in values.iter().enumerate() {
-        row.push(if at == column { other } else { *value })?;
-    }
-    Row::from_row(alloc, &row)
-}

@@ -2,165 +2,141 @@ use crate::*;
 use as2_exchange::{Attempt, Bytes, How, MdnState};
 use std::test::Fail;
 
-// A code, and the text of what it stands for.
+// The columns whose values are codes.
 #[derive(Clone, Copy)]
-struct Case {
-    code: i64,
-    text: &'static str,
+enum Column {
+    Outcome,
+    Detail,
+    Mdn,
+    Attempt,
 }
 
-const OUTCOMES: [Case; 6] = [
-    Case {
-        code: 1,
-        text: "processed/error: decryption-failed",
-    },
-    Case {
-        code: 2,
-        text: "processed/error: decompression-failed",
-    },
-    Case {
-        code: 3,
-        text: "processed/error: authentication-failed",
-    },
-    Case {
-        code: 4,
-        text: "failed/failure: unsupported format",
-    },
-    Case {
-        code: 5,
-        text: "failed/failure: unsupported MIC-algorithms",
-    },
-    Case {
-        code: 6,
-        text: "processed",
-    },
+// A code, and the name of what it stands for; None where it stands for nothing.
+static CODES: [(Column, i64, Option<&str>); 36] = [
+    (Column::Outcome, 0, None),
+    (
+        Column::Outcome,
+        1,
+        Some("processed/error: decryption-failed"),
+    ),
+    (
+        Column::Outcome,
+        2,
+        Some("processed/error: decompression-failed"),
+    ),
+    (
+        Column::Outcome,
+        3,
+        Some("processed/error: authentication-failed"),
+    ),
+    (
+        Column::Outcome,
+        4,
+        Some("failed/failure: unsupported format"),
+    ),
+    (
+        Column::Outcome,
+        5,
+        Some("failed/failure: unsupported MIC-algorithms"),
+    ),
+    (Column::Outcome, 6, Some("processed")),
+    (Column::Outcome, 7, None),
+    (Column::Detail, -1, None),
+    (Column::Detail, 0, None),
+    (Column::Detail, 1, Some("new")),
+    (Column::Detail, 2, Some("sending")),
+    (Column::Detail, 3, Some("awaiting")),
+    (Column::Detail, 4, Some("retry")),
+    (Column::Detail, 5, Some("processed")),
+    (Column::Detail, 6, Some("no-receipt-asked")),
+    (Column::Detail, 7, Some("warning")),
+    (Column::Detail, 8, Some("no-mic")),
+    (Column::Detail, 9, Some("unknown-mic")),
+    (Column::Detail, 10, Some("not-processed")),
+    (Column::Detail, 11, Some("error-modifier")),
+    (Column::Detail, 12, Some("mic-differs")),
+    (Column::Detail, 13, Some("tries-used")),
+    (Column::Detail, 14, Some("overdue")),
+    (Column::Detail, 15, None),
+    (Column::Mdn, 0, None),
+    (Column::Mdn, 1, Some("unasked")),
+    (Column::Mdn, 2, Some("pending")),
+    (Column::Mdn, 3, Some("sent")),
+    (Column::Mdn, 4, None),
+    (Column::Attempt, 0, None),
+    (Column::Attempt, 1, Some("idle")),
+    (Column::Attempt, 2, Some("running")),
+    (Column::Attempt, 3, Some("last")),
+    (Column::Attempt, 4, Some("used")),
+    (Column::Attempt, 5, None),
 ];
 
-const DETAILS: [Case; 14] = [
-    Case {
-        code: 1,
-        text: "new",
-    },
-    Case {
-        code: 2,
-        text: "sending",
-    },
-    Case {
-        code: 3,
-        text: "awaiting",
-    },
-    Case {
-        code: 4,
-        text: "retry",
-    },
-    Case {
-        code: 5,
-        text: "processed",
-    },
-    Case {
-        code: 6,
-        text: "no-receipt-asked",
-    },
-    Case {
-        code: 7,
-        text: "warning",
-    },
-    Case {
-        code: 8,
-        text: "no-mic",
-    },
-    Case {
-        code: 9,
-        text: "unknown-mic",
-    },
-    Case {
-        code: 10,
-        text: "not-processed",
-    },
-    Case {
-        code: 11,
-        text: "error-modifier",
-    },
-    Case {
-        code: 12,
-        text: "mic-differs",
-    },
-    Case {
-        code: 13,
-        text: "tries-used",
-    },
-    Case {
-        code: 14,
-        text: "overdue",
-    },
-];
-
-#[test]
-fn outcomes_have_the_codes_of_the_profile(rt: HostRuntime) -> Result<(), Fail> {
-    for case in &OUTCOMES {
-        match outcome_of_code(case.code) {
-            Some(outcome) => {
-                assert!(rt; outcome.text() == case.text);
-                assert_eq!(rt; outcome_code(outcome), case.code);
-            }
-            None => assert!(rt; false),
-        }
+fn mdn_name(mdn: MdnState) -> &'static str {
+    match mdn {
+        MdnState::Unasked => "unasked",
+        MdnState::Pending => "pending",
+        MdnState::Sent => "sent",
     }
-    assert_eq!(rt; outcome_of_code(0), None);
-    assert_eq!(rt; outcome_of_code(7), None);
-    Ok(())
 }
 
-#[test]
-fn details_have_the_codes_of_the_profile(rt: HostRuntime) -> Result<(), Fail> {
-    for case in &DETAILS {
-        match detail_of_code(case.code) {
-            Some(detail) => {
-                assert!(rt; detail.name() == case.text);
-                assert_eq!(rt; detail_code(detail), case.code);
-            }
-            None => assert!(rt; false),
-        }
+fn attempt_name(attempt: Attempt) -> &'static str {
+    match attempt {
+        Attempt::Idle => "idle",
+        Attempt::Running => "running",
+        Attempt::Last => "last",
+        Attempt::Used => "used",
     }
-    assert_eq!(rt; detail_of_code(-1), None);
-    assert_eq!(rt; detail_of_code(0), None);
-    assert_eq!(rt; detail_of_code(15), None);
-    Ok(())
+}
+
+/// The code and the name of what a code stands for.
+fn named(column: Column, code: i64) -> Option<(i64, &'static str)> {
+    match column {
+        Column::Outcome => match outcome_of_code(code) {
+            Some(outcome) => Some((outcome_code(outcome), outcome.text())),
+            None => None,
+        },
+        Column::Detail => match detail_of_code(code) {
+            Some(detail) => Some((detail_code(detail), detail.name())),
+            None => None,
+        },
+        Column::Mdn => match mdn_of_code(code) {
+            Some(mdn) => Some((mdn_code(mdn), mdn_name(mdn))),
+            None => None,
+        },
+        Column::Attempt => match attempt_of_code(code) {
+            Some(attempt) => Some((attempt_code(attempt), attempt_name(attempt))),
+            None => None,
+        },
+    }
+}
+
+fn stands_for(column: Column, code: i64, name: Option<&str>) -> bool {
+    match (named(column, code), name) {
+        (Some((again, found)), Some(name)) => again == code && found == name,
+        (None, None) => true,
+        _ => false,
+    }
 }
 
 #[test]
-fn states_of_a_receipt_have_the_codes_of_the_profile(rt: HostRuntime) -> Result<(), Fail> {
-    assert_eq!(rt; mdn_code(MdnState::Unasked), 1);
-    assert_eq!(rt; mdn_code(MdnState::Pending), 2);
-    assert_eq!(rt; mdn_code(MdnState::Sent), 3);
-    assert_eq!(rt; mdn_of_code(0), None);
-    assert_eq!(rt; mdn_of_code(1), Some(MdnState::Unasked));
-    assert_eq!(rt; mdn_of_code(2), Some(MdnState::Pending));
-    assert_eq!(rt; mdn_of_code(3), Some(MdnState::Sent));
-    assert_eq!(rt; mdn_of_code(4), None);
-    Ok(())
+fn codes_are_those_of_the_profile(rt: HostRuntime) {
+    for (column, code, name) in &CODES {
+        assert!(rt; stands_for(*column, *code, *name), "code {code}");
+    }
 }
 
-#[test]
-fn attempts_have_the_codes_of_the_profile(rt: HostRuntime) -> Result<(), Fail> {
-    assert_eq!(rt; attempt_code(Attempt::Idle), 1);
-    assert_eq!(rt; attempt_code(Attempt::Running), 2);
-    assert_eq!(rt; attempt_code(Attempt::Last), 3);
-    assert_eq!(rt; attempt_code(Attempt::Used), 4);
-    assert_eq!(rt; attempt_of_code(0), None);
-    assert_eq!(rt; attempt_of_code(1), Some(Attempt::Idle));
-    assert_eq!(rt; attempt_of_code(2), Some(Attempt::Running));
-    assert_eq!(rt; attempt_of_code(3), Some(Attempt::Last));
-    assert_eq!(rt; attempt_of_code(4), Some(Attempt::Used));
-    assert_eq!(rt; attempt_of_code(5), None);
-    Ok(())
-}
+// An address that a receipt is sent to.
+static ADDRESSES: [&[u8]; 2] = [b"http://h/", b"http://h/r"];
 
 #[test]
-fn ways_of_asking_have_the_codes_of_the_profile(rt: HostRuntime) -> Result<(), Fail> {
-    assert_eq!(rt; how_code(&How::NoReceipt), 1);
-    assert_eq!(rt; how_code(&How::Sync), 2);
-    let later = How::Async(Bytes::keep(rt.alloc(), b"http://h/")?);
-    assert_eq!(rt; how_code(&later), 3);
+fn ways_of_asking_have_their_codes_and_addresses(rt: HostRuntime) -> Result<(), Fail> {
+    assert!(rt; how_code(&How::NoReceipt) == 1);
+    assert!(rt; url_of(&How::NoReceipt).is_none());
+    assert!(rt; how_code(&How::Sync) == 2);
+    assert!(rt; url_of(&How::Sync).is_none());
+    for address in &ADDRESSES {
+        let later = How::Async(Bytes::keep(rt.alloc(), address)?);
+        assert!(rt; how_code(&later) == 3 && url_of(&later) == Some(*address));
+    }
     Ok(())
 }

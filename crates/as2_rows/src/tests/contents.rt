@@ -1,77 +1,71 @@
 use super::row_of;
 use crate::*;
-use as2_exchange::{Bytes, How};
 use as2_mdn::ReportMic;
-use as2_mic::{Alg, MicText};
+use as2_mic::{Alg, MicText, Pieces};
 use sqlite::types::ValueRef;
-use std::test::Fail;
+use std::alloc::Global;
+
+/// The content whose pieces are these values.
+fn joined(alloc: Global, pieces: &[ValueRef<'_>]) -> Result<Pieces, RowFault> {
+    let mut rows = Vec::new(alloc);
+    let mut position = 0i64;
+    for piece in pieces {
+        let Ok(row) = row_of(alloc, &[ValueRef::Int(1), ValueRef::Int(position), *piece]) else {
+            return Err(RowFault::Memory);
+        };
+        if rows.push(row).is_err() {
+            return Err(RowFault::Memory);
+        }
+        position = position.wrapping_add(1);
+    }
+    content_in(alloc, &rows)
+}
 
 #[test]
-fn pieces_are_joined_in_their_order(rt: HostRuntime) -> Result<(), Fail> {
-    let mut whole = Vec::new(rt.alloc());
-    whole.extend_from_slice(&[7u8; 1_024])?;
-    for _ in 0..6u32 {
-        let half = whole.clone()?;
-        whole.extend_from_slice(&half)?;
-    }
-    assert_eq!(rt; whole.len(), 65_536);
-    let mut rows = Vec::new(rt.alloc());
-    rows.push(row_of(
+fn pieces_are_joined_in_their_order(rt: HostRuntime) {
+    let Ok(whole) = Vec::from_elem(rt.alloc(), 7u8, 65_536) else {
+        return assert!(rt; false);
+    };
+    match joined(
         rt.alloc(),
-        &[ValueRef::Int(1), ValueRef::Int(0), ValueRef::Blob(&whole)],
-    )?)?;
-    rows.push(row_of(
-        rt.alloc(),
-        &[ValueRef::Int(1), ValueRef::Int(1), ValueRef::Blob(b"abc")],
-    )?)?;
-    match content_in(rt.alloc(), &rows) {
+        &[ValueRef::Blob(&whole), ValueRef::Blob(b"abc")],
+    ) {
         Ok(content) => {
-            assert_eq!(rt; content.len(), 65_539);
-            assert_eq!(rt; content.count(), 2);
-            assert!(rt; matches!(content.piece(1), Some(last) if last == b"abc".as_slice()));
+            assert!(rt; content.len() == 65_539);
+            assert!(rt; content.count() == 2);
+            assert!(rt; content.piece(1) == Some(b"abc".as_slice()));
         }
         Err(_) => assert!(rt; false),
     }
-    Ok(())
 }
 
 #[test]
-fn no_piece_is_the_empty_content(rt: HostRuntime) -> Result<(), Fail> {
-    assert!(rt; matches!(content_in(rt.alloc(), &[]), Ok(content) if content.len() == 0));
-    Ok(())
+fn no_piece_is_the_empty_content(rt: HostRuntime) {
+    assert!(rt; matches!(joined(rt.alloc(), &[]), Ok(content) if content.len() == 0));
 }
 
 #[test]
-fn a_piece_that_is_no_blob_is_refused(rt: HostRuntime) -> Result<(), Fail> {
-    let mut rows = Vec::new(rt.alloc());
-    rows.push(row_of(
-        rt.alloc(),
-        &[ValueRef::Int(1), ValueRef::Int(0), ValueRef::Text(b"abc")],
-    )?)?;
-    assert!(rt; matches!(content_in(rt.alloc(), &rows), Err(RowFault::NotAnEntry)));
-    Ok(())
+fn a_piece_that_is_no_blob_is_refused(rt: HostRuntime) {
+    let refused = joined(rt.alloc(), &[ValueRef::Text(b"abc")]).err();
+    assert!(rt; refused == Some(RowFault::NotAnEntry));
 }
 
+// Its text.
+const MIC: &[u8] = b"kAFQmDzST7DWlj99KOF/cg==";
+
 #[test]
-fn what_is_absent_is_none(rt: HostRuntime) -> Result<(), Fail> {
-    let later = How::Async(Bytes::keep(rt.alloc(), b"http://h/r")?);
-    assert!(rt; matches!(url_of(&later), Some(url) if url == b"http://h/r".as_slice()));
-    assert!(rt; url_of(&How::Sync).is_none());
-    assert!(rt; url_of(&How::NoReceipt).is_none());
+fn a_mic_has_a_digest_and_a_text(rt: HostRuntime) {
     assert!(rt; digest_of(&None).is_none());
     assert!(rt; mic_of(&None).is_none());
-    match MicText::of(b"kAFQmDzST7DWlj99KOF/cg==") {
+    match MicText::of(MIC) {
         Some(text) => {
             let mic = Some(ReportMic {
                 digest: Alg::Md5,
                 text,
             });
-            assert!(rt; matches!(digest_of(&mic), Some(name) if name == "md5"));
-            assert!(rt;
-                matches!(mic_of(&mic), Some(text) if text == b"kAFQmDzST7DWlj99KOF/cg==".as_slice())
-            );
+            assert!(rt; digest_of(&mic) == Some("md5"));
+            assert!(rt; mic_of(&mic) == Some(MIC));
         }
         None => assert!(rt; false),
     }
-    Ok(())
 }

@@ -1,13 +1,14 @@
-use super::{row_of, row_with};
+use super::row_of;
 use crate::*;
-use as2_exchange::{Attempt, MdnState};
+use as2_exchange::{Attempt, InEntry, MdnState};
 use as2_mdn::Outcome;
 use as2_mic::Pieces;
 use sqlite::types::ValueRef;
-use std::test::Fail;
+use std::alloc::Global;
+use std::process::Abort;
 
 // The document `abc` that Buyer posted at 1000, processed, with a receipt that is sent later.
-const PROCESSED: [ValueRef<'static>; 17] = [
+static PROCESSED: [ValueRef<'static>; 17] = [
     ValueRef::Int(1),
     ValueRef::Blob(b"Buyer"),
     ValueRef::Blob(b"Supplier"),
@@ -28,7 +29,7 @@ const PROCESSED: [ValueRef<'static>; 17] = [
 ];
 
 // The same, encrypted, and with no receipt asked for.
-const ENVELOPED: [ValueRef<'static>; 17] = [
+static ENVELOPED: [ValueRef<'static>; 17] = [
     ValueRef::Int(999_999_999_999),
     ValueRef::Blob(b"Buyer"),
     ValueRef::Blob(b"Supplier"),
@@ -49,218 +50,131 @@ const ENVELOPED: [ValueRef<'static>; 17] = [
 ];
 
 // A column, and a value that makes the row none of an entry.
-#[derive(Clone, Copy)]
-struct Case {
-    column: usize,
-    value: ValueRef<'static>,
-}
-
-const REFUSED: [Case; 30] = [
-    Case {
-        column: 0,
-        value: ValueRef::Null,
-    },
-    Case {
-        column: 0,
-        value: ValueRef::Int(-1),
-    },
-    Case {
-        column: 1,
-        value: ValueRef::Text(b"Buyer"),
-    },
-    Case {
-        column: 1,
-        value: ValueRef::Blob(b""),
-    },
-    Case {
-        column: 2,
-        value: ValueRef::Blob(b"Supplier\n"),
-    },
-    Case {
-        column: 3,
-        value: ValueRef::Blob(b"<m1@x>"),
-    },
-    Case {
-        column: 3,
-        value: ValueRef::Null,
-    },
-    Case {
-        column: 4,
-        value: ValueRef::Blob(b"<m2@x>"),
-    },
-    Case {
-        column: 4,
-        value: ValueRef::Blob(b" <m1@x>"),
-    },
-    Case {
-        column: 5,
-        value: ValueRef::Null,
-    },
-    Case {
-        column: 6,
-        value: ValueRef::Int(-1),
-    },
-    Case {
-        column: 7,
-        value: ValueRef::Int(253_402_300_800),
-    },
-    Case {
-        column: 7,
-        value: ValueRef::Real(1000.0),
-    },
-    Case {
-        column: 8,
-        value: ValueRef::Int(0),
-    },
-    Case {
-        column: 8,
-        value: ValueRef::Int(7),
-    },
-    Case {
-        column: 9,
-        value: ValueRef::Int(0),
-    },
-    Case {
-        column: 9,
-        value: ValueRef::Int(1),
-    },
-    Case {
-        column: 9,
-        value: ValueRef::Int(2),
-    },
-    Case {
-        column: 9,
-        value: ValueRef::Int(4),
-    },
-    Case {
-        column: 10,
-        value: ValueRef::Null,
-    },
-    Case {
-        column: 11,
-        value: ValueRef::Null,
-    },
-    Case {
-        column: 11,
-        value: ValueRef::Text(b"SHA1"),
-    },
-    Case {
-        column: 11,
-        value: ValueRef::Text(b"sha-256"),
-    },
-    Case {
-        column: 12,
-        value: ValueRef::Null,
-    },
-    Case {
-        column: 12,
-        value: ValueRef::Blob(b""),
-    },
-    Case {
-        column: 13,
-        value: ValueRef::Int(4),
-    },
-    Case {
-        column: 14,
-        value: ValueRef::Null,
-    },
-    Case {
-        column: 15,
-        value: ValueRef::Int(5),
-    },
-    Case {
-        column: 16,
-        value: ValueRef::Int(-1),
-    },
-    Case {
-        column: 16,
-        value: ValueRef::Text(b"1030"),
-    },
+static REFUSED: [(usize, ValueRef<'static>); 30] = [
+    (0, ValueRef::Null),
+    (0, ValueRef::Int(-1)),
+    (1, ValueRef::Text(b"Buyer")),
+    (1, ValueRef::Blob(b"")),
+    (2, ValueRef::Blob(b"Supplier\n")),
+    (3, ValueRef::Blob(b"<m1@x>")),
+    (3, ValueRef::Null),
+    (4, ValueRef::Blob(b"<m2@x>")),
+    (4, ValueRef::Blob(b" <m1@x>")),
+    (5, ValueRef::Null),
+    (6, ValueRef::Int(-1)),
+    (7, ValueRef::Int(253_402_300_800)),
+    (7, ValueRef::Real(1000.0)),
+    (8, ValueRef::Int(0)),
+    (8, ValueRef::Int(7)),
+    (9, ValueRef::Int(0)),
+    (9, ValueRef::Int(1)),
+    (9, ValueRef::Int(2)),
+    (9, ValueRef::Int(4)),
+    (10, ValueRef::Null),
+    (11, ValueRef::Null),
+    (11, ValueRef::Text(b"SHA1")),
+    (11, ValueRef::Text(b"sha-256")),
+    (12, ValueRef::Null),
+    (12, ValueRef::Blob(b"")),
+    (13, ValueRef::Int(4)),
+    (14, ValueRef::Null),
+    (15, ValueRef::Int(5)),
+    (16, ValueRef::Int(-1)),
+    (16, ValueRef::Text(b"1030")),
 ];
 
-#[test]
-fn a_row_is_read_as_its_entry(rt: HostRuntime) -> Result<(), Fail> {
-    let row = row_of(rt.alloc(), &PROCESSED)?;
-    let Ok(read) = InRow::read(rt.alloc(), &row) else {
-        return Err(Fail::new("no entry"));
-    };
-    assert_eq!(rt; read.number, 1);
-    assert!(rt; read.sender.bytes() == b"Buyer".as_slice());
-    assert!(rt; read.receiver.bytes() == b"Supplier".as_slice());
-    assert!(rt; read.id.as_received() == "<m1@x>");
-    assert!(rt; read.content_type.as_slice() == b"application/edi-x12".as_slice());
-    assert_eq!(rt; read.length, 3);
-    assert_eq!(rt; read.moment.seconds(), 1000);
-    assert_eq!(rt; read.outcome, Outcome::Processed);
-    assert_eq!(rt; read.mdn, MdnState::Pending);
-    assert_eq!(rt; read.tries, 4);
-    assert_eq!(rt; read.attempt, Attempt::Running);
-    assert_eq!(rt; read.due, Some(1030));
-    Ok(())
-}
-
-#[test]
-fn address_and_mic_are_read(rt: HostRuntime) -> Result<(), Fail> {
-    let row = row_of(rt.alloc(), &PROCESSED)?;
-    let Ok(read) = InRow::read(rt.alloc(), &row) else {
-        return Err(Fail::new("no entry"));
-    };
-    assert!(rt;
-        matches!(url_of(&read.how), Some(url) if url == b"http://127.0.0.1:8081/as2".as_slice())
-    );
-    assert!(rt; matches!(digest_of(&read.mic), Some(name) if name == "sha1"));
-    assert!(rt;
-        matches!(mic_of(&read.mic), Some(text) if text == b"qZk+NkcGgWq6PiVxeFDCbJzQ2J0=".as_slice())
-    );
-    Ok(())
-}
-
-#[test]
-fn what_is_null_is_absent(rt: HostRuntime) -> Result<(), Fail> {
-    let row = row_of(rt.alloc(), &ENVELOPED)?;
-    let Ok(read) = InRow::read(rt.alloc(), &row) else {
-        return Err(Fail::new("no entry"));
-    };
-    assert_eq!(rt; read.number, 999_999_999_999);
-    assert_eq!(rt; read.outcome, Outcome::DecryptionFailed);
-    assert_eq!(rt; how_code(&read.how), 1);
-    assert!(rt; read.mic.is_none());
-    assert_eq!(rt; read.mdn, MdnState::Unasked);
-    assert_eq!(rt; read.attempt, Attempt::Idle);
-    assert_eq!(rt; read.due, None);
-    Ok(())
-}
-
-#[test]
-fn an_entry_has_its_content(rt: HostRuntime) -> Result<(), Fail> {
-    let row = row_of(rt.alloc(), &PROCESSED)?;
-    let mut content = Pieces::new(rt.alloc());
-    if content.append(b"abc").is_err() {
-        return Err(Fail::new("no memory"));
+/// What a row of these values is read as.
+fn read(alloc: Global, values: &[ValueRef<'_>]) -> Result<InRow, RowFault> {
+    match row_of(alloc, values) {
+        Ok(row) => InRow::read(alloc, &row),
+        Err(_) => Err(RowFault::Memory),
     }
-    let Ok(read) = InRow::read(rt.alloc(), &row) else {
-        return Err(Fail::new("no entry"));
-    };
-    let entry = read.with_content(content);
-    assert_eq!(rt; entry.number, 1);
-    assert_eq!(rt; entry.posted.content.len(), 3);
+}
+
+/// Why the row of a processed document is refused with another value in a column.
+fn fault_with(alloc: Global, column: usize, value: ValueRef<'static>) -> Option<RowFault> {
+    let mut values = PROCESSED;
+    if let Some(place) = values.get_mut(column) {
+        *place = value;
+    }
+    read(alloc, &values).err()
+}
+
+/// An entry with the content `abc`.
+fn with_content(alloc: Global, read: InRow) -> InEntry {
+    let mut content = Pieces::new(alloc);
+    let _ = content.append(b"abc");
+    read.with_content(content)
+}
+
+fn is_processed(rt: &impl Abort, read: &InRow) {
+    let counts = [read.number, read.length, read.moment.seconds(), read.tries];
+    assert!(rt; counts == [1, 3, 1000, 4]);
+    assert!(rt; read.due == Some(1030));
+    let texts = [
+        read.sender.bytes(),
+        read.receiver.bytes(),
+        read.id.as_received().as_bytes(),
+        read.content_type.as_slice(),
+    ];
+    assert!(rt;
+        texts
+            == [
+                b"Buyer".as_slice(),
+                b"Supplier",
+                b"<m1@x>",
+                b"application/edi-x12"
+            ]
+    );
+    let states = (read.outcome, read.mdn, read.attempt);
+    assert!(rt; states == (Outcome::Processed, MdnState::Pending, Attempt::Running));
+    assert!(rt; url_of(&read.how) == Some(b"http://127.0.0.1:8081/as2".as_slice()));
+    assert!(rt; digest_of(&read.mic) == Some("sha1"));
+    assert!(rt; mic_of(&read.mic) == Some(b"qZk+NkcGgWq6PiVxeFDCbJzQ2J0=".as_slice()));
+}
+
+fn is_enveloped(rt: &impl Abort, read: &InRow) {
+    assert!(rt; read.number == 999_999_999_999);
+    assert!(rt; how_code(&read.how) == 1);
+    assert!(rt; read.mic.is_none() && read.due.is_none());
+    let states = (read.outcome, read.mdn, read.attempt);
+    assert!(rt; states == (Outcome::DecryptionFailed, MdnState::Unasked, Attempt::Idle));
+}
+
+fn has_content(rt: &impl Abort, entry: &InEntry) {
+    assert!(rt; entry.number == 1);
+    assert!(rt; entry.posted.content.len() == 3);
     assert!(rt; entry.posted.id.value() == "m1@x");
-    assert_eq!(rt; entry.due, Some(1030));
-    Ok(())
+    assert!(rt; entry.due == Some(1030));
 }
 
 #[test]
-fn a_row_that_is_none_of_an_entry_is_refused(rt: HostRuntime) -> Result<(), Fail> {
-    for case in &REFUSED {
-        let row = row_with(rt.alloc(), &PROCESSED, case.column, case.value)?;
-        assert!(rt; matches!(InRow::read(rt.alloc(), &row), Err(RowFault::NotAnEntry)));
+fn a_row_is_read_as_its_entry(rt: HostRuntime) {
+    match read(rt.alloc(), &PROCESSED) {
+        Ok(read) => {
+            is_processed(&rt, &read);
+            has_content(&rt, &with_content(rt.alloc(), read));
+        }
+        Err(_) => assert!(rt; false),
     }
-    Ok(())
 }
 
 #[test]
-fn a_row_of_other_columns_is_refused(rt: HostRuntime) -> Result<(), Fail> {
-    let row = row_of(rt.alloc(), &PROCESSED[..16])?;
-    assert!(rt; matches!(InRow::read(rt.alloc(), &row), Err(RowFault::NotAnEntry)));
-    Ok(())
+fn what_is_null_is_absent(rt: HostRuntime) {
+    match read(rt.alloc(), &ENVELOPED) {
+        Ok(read) => is_enveloped(&rt, &read),
+        Err(_) => assert!(rt; false),
+    }
+}
+
+#[test]
+fn a_row_that_is_none_of_an_entry_is_refused(rt: HostRuntime) {
+    for (column, value) in &REFUSED {
+        assert!(rt;
+            fault_with(rt.alloc(), *column, *value) == Some(RowFault::NotAnEntry),
+            "column {column}"
+        );
+    }
+    let columns_lack = read(rt.alloc(), &PROCESSED[..16]).err();
+    assert!(rt; columns_lack == Some(RowFault::NotAnEntry));
 }

@@ -1,13 +1,14 @@
-use super::{row_of, row_with};
+use super::row_of;
 use crate::*;
-use as2_exchange::{Attempt, Evidence};
+use as2_exchange::{Attempt, OutEntry};
 use as2_mdn::Detail;
 use as2_mic::Pieces;
 use sqlite::types::ValueRef;
-use std::test::Fail;
+use std::alloc::Global;
+use std::process::Abort;
 
 // The document `abc` to Buyer, settled at its first try.
-const SETTLED: [ValueRef<'static>; 10] = [
+static SETTLED: [ValueRef<'static>; 10] = [
     ValueRef::Int(1),
     ValueRef::Blob(b"Supplier"),
     ValueRef::Blob(b"Buyer"),
@@ -20,7 +21,7 @@ const SETTLED: [ValueRef<'static>; 10] = [
     ValueRef::Int(5),
 ];
 
-const EVIDENCE: [ValueRef<'static>; 4] = [
+static EVIDENCE: [ValueRef<'static>; 4] = [
     ValueRef::Int(1),
     ValueRef::Int(1000),
     ValueRef::Blob(b"multipart/report"),
@@ -28,127 +29,103 @@ const EVIDENCE: [ValueRef<'static>; 4] = [
 ];
 
 // A column, and a value that makes the row none of a document.
-#[derive(Clone, Copy)]
-struct Case {
-    column: usize,
-    value: ValueRef<'static>,
-}
-
-const REFUSED: [Case; 10] = [
-    Case {
-        column: 0,
-        value: ValueRef::Blob(b"1"),
-    },
-    Case {
-        column: 1,
-        value: ValueRef::Null,
-    },
-    Case {
-        column: 2,
-        value: ValueRef::Blob(b"\x7f"),
-    },
-    Case {
-        column: 3,
-        value: ValueRef::Blob(b""),
-    },
-    Case {
-        column: 4,
-        value: ValueRef::Null,
-    },
-    Case {
-        column: 5,
-        value: ValueRef::Int(253_402_300_800),
-    },
-    Case {
-        column: 6,
-        value: ValueRef::Int(-1),
-    },
-    Case {
-        column: 7,
-        value: ValueRef::Int(0),
-    },
-    Case {
-        column: 9,
-        value: ValueRef::Int(0),
-    },
-    Case {
-        column: 9,
-        value: ValueRef::Int(15),
-    },
+static REFUSED: [(usize, ValueRef<'static>); 10] = [
+    (0, ValueRef::Blob(b"1")),
+    (1, ValueRef::Null),
+    (2, ValueRef::Blob(b"\x7f")),
+    (3, ValueRef::Blob(b"")),
+    (4, ValueRef::Null),
+    (5, ValueRef::Int(253_402_300_800)),
+    (6, ValueRef::Int(-1)),
+    (7, ValueRef::Int(0)),
+    (9, ValueRef::Int(0)),
+    (9, ValueRef::Int(15)),
 ];
 
-#[test]
-fn a_row_is_read_as_its_document(rt: HostRuntime) -> Result<(), Fail> {
-    let row = row_of(rt.alloc(), &SETTLED)?;
-    let Ok(read) = OutRow::read(rt.alloc(), &row) else {
-        return Err(Fail::new("no document"));
-    };
-    assert_eq!(rt; read.number, 1);
-    assert!(rt; read.organization.bytes() == b"Supplier".as_slice());
-    assert!(rt; read.partner.bytes() == b"Buyer".as_slice());
-    assert!(rt; read.id.value() == "out-1@station.example");
-    assert_eq!(rt; read.length, 3);
-    assert_eq!(rt; read.moment.seconds(), 1000);
-    assert_eq!(rt; read.tries, 1);
-    assert_eq!(rt; read.attempt, Attempt::Idle);
-    assert_eq!(rt; read.due, None);
-    assert_eq!(rt; read.detail, Detail::Processed);
-    Ok(())
+/// What a row of these values is read as.
+fn read(alloc: Global, values: &[ValueRef<'_>]) -> Result<OutRow, RowFault> {
+    match row_of(alloc, values) {
+        Ok(row) => OutRow::read(alloc, &row),
+        Err(_) => Err(RowFault::Memory),
+    }
 }
 
-#[test]
-fn a_document_has_its_content(rt: HostRuntime) -> Result<(), Fail> {
-    let row = row_of(rt.alloc(), &SETTLED)?;
-    let mut content = Pieces::new(rt.alloc());
-    if content.append(b"abc").is_err() {
-        return Err(Fail::new("no memory"));
+/// The evidence that a row of these values is read as.
+fn read_evidence(alloc: Global, values: &[ValueRef<'_>]) -> Result<EvidenceRow, RowFault> {
+    match row_of(alloc, values) {
+        Ok(row) => EvidenceRow::read(alloc, &row),
+        Err(_) => Err(RowFault::Memory),
     }
-    let Ok(read) = OutRow::read(rt.alloc(), &row) else {
-        return Err(Fail::new("no document"));
-    };
-    let entry = read.with_content(content, None);
-    assert_eq!(rt; entry.number, 1);
-    assert_eq!(rt; entry.content.len(), 3);
+}
+
+/// Why the row of a settled document is refused with another value in a column.
+fn fault_with(alloc: Global, column: usize, value: ValueRef<'static>) -> Option<RowFault> {
+    let mut values = SETTLED;
+    if let Some(place) = values.get_mut(column) {
+        *place = value;
+    }
+    read(alloc, &values).err()
+}
+
+/// A document with the content `abc`, and with no evidence.
+fn with_content(alloc: Global, read: OutRow) -> OutEntry {
+    let mut content = Pieces::new(alloc);
+    let _ = content.append(b"abc");
+    read.with_content(content, None)
+}
+
+fn is_settled(rt: &impl Abort, read: &OutRow) {
+    let counts = [read.number, read.length, read.moment.seconds(), read.tries];
+    assert!(rt; counts == [1, 3, 1000, 1]);
+    assert!(rt; read.due == None);
+    let texts = [
+        read.organization.bytes(),
+        read.partner.bytes(),
+        read.id.value().as_bytes(),
+    ];
+    assert!(rt; texts == [b"Supplier".as_slice(), b"Buyer", b"out-1@station.example"]);
+    assert!(rt; (read.attempt, read.detail) == (Attempt::Idle, Detail::Processed));
+}
+
+fn has_content(rt: &impl Abort, entry: &OutEntry) {
+    assert!(rt; entry.number == 1);
+    assert!(rt; entry.content.len() == 3);
     assert!(rt; entry.evidence.is_none());
-    Ok(())
+}
+
+fn is_of_the_report(rt: &impl Abort, read: &EvidenceRow) {
+    let counts = [read.number, read.evidence.moment.seconds()];
+    assert!(rt; counts == [1, 1000] && read.evidence.body.len() == 8);
+    assert!(rt; read.evidence.content_type.as_slice() == b"multipart/report".as_slice());
 }
 
 #[test]
-fn a_row_that_is_none_of_a_document_is_refused(rt: HostRuntime) -> Result<(), Fail> {
-    for case in &REFUSED {
-        let row = row_with(rt.alloc(), &SETTLED, case.column, case.value)?;
-        assert!(rt; matches!(OutRow::read(rt.alloc(), &row), Err(RowFault::NotAnEntry)));
+fn a_row_is_read_as_its_document(rt: HostRuntime) {
+    match read(rt.alloc(), &SETTLED) {
+        Ok(read) => {
+            is_settled(&rt, &read);
+            has_content(&rt, &with_content(rt.alloc(), read));
+        }
+        Err(_) => assert!(rt; false),
     }
-    Ok(())
 }
 
 #[test]
-fn a_row_is_read_as_its_evidence(rt: HostRuntime) -> Result<(), Fail> {
-    let row = row_of(rt.alloc(), &EVIDENCE)?;
-    let Ok(read) = EvidenceRow::read(rt.alloc(), &row) else {
-        return Err(Fail::new("no evidence"));
-    };
-    let EvidenceRow { number, evidence } = read;
-    let Evidence {
-        moment,
-        content_type,
-        body,
-    } = evidence;
-    assert_eq!(rt; number, 1);
-    assert_eq!(rt; moment.seconds(), 1000);
-    assert!(rt; content_type.as_slice() == b"multipart/report".as_slice());
-    assert_eq!(rt; body.len(), 8);
-    Ok(())
+fn a_row_that_is_none_of_a_document_is_refused(rt: HostRuntime) {
+    for (column, value) in &REFUSED {
+        assert!(rt;
+            fault_with(rt.alloc(), *column, *value) == Some(RowFault::NotAnEntry),
+            "column {column}"
+        );
+    }
 }
 
 #[test]
-fn a_row_of_another_table_is_no_evidence(rt: HostRuntime) -> Result<(), Fail> {
-    let row = row_of(rt.alloc(), &SETTLED)?;
-    assert!(rt;
-        matches!(
-            EvidenceRow::read(rt.alloc(), &row),
-            Err(RowFault::NotAnEntry)
-        )
-    );
-    Ok(())
+fn a_row_is_read_as_its_evidence(rt: HostRuntime) {
+    match read_evidence(rt.alloc(), &EVIDENCE) {
+        Ok(read) => is_of_the_report(&rt, &read),
+        Err(_) => assert!(rt; false),
+    }
+    let of_another_table = read_evidence(rt.alloc(), &SETTLED).err();
+    assert!(rt; of_another_table == Some(RowFault::NotAnEntry));
 }
