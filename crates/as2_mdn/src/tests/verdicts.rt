@@ -1,6 +1,5 @@
 use crate::{Detail, Disposition, MicPart, Receipt, State, verdict, verdict_pieces};
 use as2_mic::{MicField, Pieces};
-use std::test::Fail;
 
 const PLAIN: &[u8] = b"automatic-action/MDN-sent-automatically; processed";
 
@@ -22,7 +21,7 @@ const UNKNOWN: &[u8] = b"kAFQmDzST7DWlj99KOF/cg==, sha-999";
 const UNREADABLE: &[u8] = b"kAFQmDzST7DWlj99KOF/cg==";
 
 // A disposition, the value of a MIC field, and the verdict on `abc`.
-const VERDICTS: [(&[u8], Option<&[u8]>, Detail); 36] = [
+static VERDICTS: [(&[u8], Option<&[u8]>, Detail); 36] = [
     (PLAIN, Some(MD5), Detail::Processed),
     (PLAIN, Some(SHA1), Detail::Processed),
     (PLAIN, Some(OTHER), Detail::MicDiffers),
@@ -150,38 +149,51 @@ fn mic(value: Option<&[u8]>) -> MicPart<'_> {
     }
 }
 
-#[test]
-fn verdicts(rt: HostRuntime) -> Result<(), Fail> {
-    let mut pieces = Pieces::new(rt.alloc());
-    pieces.append(b"abc")?;
-    for (disposition, value, want) in VERDICTS {
-        let receipt = Receipt {
-            original_id: b"<out-1@station.example>",
-            disposition: Disposition::parse(disposition).map_err(|_| "a fault")?,
+fn receipt<'a>(
+    original_id: &'a [u8],
+    disposition: &'a [u8],
+    value: Option<&'a [u8]>,
+) -> Option<Receipt<'a>> {
+    match Disposition::parse(disposition) {
+        Ok(disposition) => Some(Receipt {
+            original_id,
+            disposition,
             mic: mic(value),
-        };
-        assert_eq!(rt; verdict(&receipt, b"abc"), want);
-        assert_eq!(rt; verdict_pieces(&receipt, &pieces), want);
+        }),
+        Err(_) => None,
     }
-    Ok(())
+}
+
+/// The verdicts on a content, and on the same in pieces.
+fn judged(
+    disposition: &[u8],
+    value: Option<&[u8]>,
+    content: &[u8],
+    pieces: &Pieces,
+) -> Option<[Detail; 2]> {
+    let receipt = receipt(b"<out-1@station.example>", disposition, value)?;
+    Some([verdict(&receipt, content), verdict_pieces(&receipt, pieces)])
+}
+
+#[test]
+fn verdicts(rt: HostRuntime) {
+    let mut pieces = Pieces::new(rt.alloc());
+    assert!(rt; pieces.append(b"abc").is_ok());
+    for (disposition, value, want) in &VERDICTS {
+        assert!(rt; judged(disposition, *value, b"abc", &pieces) == Some([*want, *want]));
+    }
 }
 
 // The MIC of nothing is that of an empty content alone.
 #[test]
-fn empty_content(rt: HostRuntime) -> Result<(), Fail> {
+fn empty_content(rt: HostRuntime) {
     let pieces = Pieces::new(rt.alloc());
-    let receipt = Receipt {
-        original_id: b"m1@x",
-        disposition: Disposition::parse(PLAIN).map_err(|_| "a fault")?,
-        mic: mic(Some(OTHER)),
-    };
-    assert_eq!(rt; verdict(&receipt, b""), Detail::Processed);
-    assert_eq!(rt; verdict_pieces(&receipt, &pieces), Detail::Processed);
-    Ok(())
+    let found = judged(PLAIN, Some(OTHER), b"", &pieces);
+    assert!(rt; found == Some([Detail::Processed, Detail::Processed]));
 }
 
 // An identifier as received, a value, and whether the one has the other.
-const NAMED: [(&[u8], &str, bool); 12] = [
+static NAMED: [(&[u8], &str, bool); 12] = [
     (b"<m1@x>", "m1@x", true),
     (b"m1@x", "m1@x", true),
     (b"<<m1@x>>", "<m1@x>", true),
@@ -196,20 +208,18 @@ const NAMED: [(&[u8], &str, bool); 12] = [
     (b"<>", "<>", false),
 ];
 
-#[test]
-fn names(rt: HostRuntime) -> Result<(), Fail> {
-    for (original_id, id_value, want) in NAMED {
-        let receipt = Receipt {
-            original_id,
-            disposition: Disposition::parse(PLAIN).map_err(|_| "a fault")?,
-            mic: MicPart::Missing,
-        };
-        assert_eq!(rt; receipt.names(id_value), want);
-    }
-    Ok(())
+fn names(original_id: &[u8], id_value: &str) -> Option<bool> {
+    Some(receipt(original_id, PLAIN, None)?.names(id_value))
 }
 
-const DETAILS: [(Detail, &str, State); 14] = [
+#[test]
+fn identifiers(rt: HostRuntime) {
+    for (original_id, id_value, want) in &NAMED {
+        assert!(rt; names(original_id, id_value) == Some(*want), "{id_value}");
+    }
+}
+
+static DETAILS: [(Detail, &str, State); 14] = [
     (Detail::New, "new", State::P),
     (Detail::Sending, "sending", State::R),
     (Detail::Awaiting, "awaiting", State::P),
@@ -227,10 +237,11 @@ const DETAILS: [(Detail, &str, State); 14] = [
 ];
 
 #[test]
-fn details(rt: HostRuntime) -> Result<(), Fail> {
-    for (detail, name, state) in DETAILS {
-        assert_eq!(rt; detail.name(), name);
-        assert_eq!(rt; detail.state(), state);
+fn details(rt: HostRuntime) {
+    for (detail, name, state) in &DETAILS {
+        assert!(rt;
+            (detail.name(), detail.state()) == (*name, *state),
+            "{name}"
+        );
     }
-    Ok(())
 }
