@@ -1,9 +1,10 @@
-use super::receipt_requests::{Asked, asked_of};
-use std::test::Fail;
+use super::receipt_requests::{OPTIONS, TO};
+use crate::{AskFault, Head, ReceiptAsk};
+use std::alloc::Global;
 
 // The value of a field of options, and what it asks: the digests, whether one of them is required, and whether
 // anything else is. None where it isn't options.
-const CASES: [(&[u8], Option<(&[u8], bool, bool)>); 30] = [
+static CASES: [(&[u8], Option<(&[u8], bool, bool)>); 30] = [
     (
         b"signed-receipt-micalg=optional, sha1",
         Some((b"sha1", false, false)),
@@ -61,18 +62,23 @@ const CASES: [(&[u8], Option<(&[u8], bool, bool)>); 30] = [
     (b"x=optional, a; y", None),
 ];
 
-#[test]
-fn options_are_told_from_other_texts(rt: HostRuntime) -> Result<(), Fail> {
-    for (value, want) in CASES {
-        match (asked_of(&rt, value)?, want) {
-            (Asked::So(digests, digests_required, other_required), Some((d, r, o))) => {
-                assert!(rt; digests.as_slice() == d);
-                assert!(rt; digests_required == r);
-                assert!(rt; other_required == o);
-            }
-            (Asked::Unreadable, None) => (),
-            _ => assert!(rt; false),
-        }
+fn is_so(ask: Result<ReceiptAsk<'_>, AskFault>, want: Option<(&[u8], bool, bool)>) -> bool {
+    match (ask, want) {
+        (Ok(ask), Some(want)) => (ask.digests, ask.digests_required, ask.other_required) == want,
+        (Err(fault), None) => fault == AskFault::OptionsUnreadable,
+        _ => false,
     }
-    Ok(())
+}
+
+fn asks(alloc: Global, options: &[u8], want: Option<(&[u8], bool, bool)>) -> bool {
+    let mut head = Head::new(alloc);
+    let added = head.append(TO, b"a@x").is_ok() && head.append(OPTIONS, options).is_ok();
+    added && is_so(ReceiptAsk::read(&head), want)
+}
+
+#[test]
+fn options_are_told_from_other_texts(rt: HostRuntime) {
+    for (value, want) in &CASES {
+        assert!(rt; asks(rt.alloc(), value, *want));
+    }
 }

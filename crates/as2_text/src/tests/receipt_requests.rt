@@ -1,38 +1,11 @@
 use crate::{AskFault, Head, How, ReceiptAsk};
-use std::test::Fail;
+use std::alloc::Global;
 
-const TO: &[u8] = b"Disposition-Notification-To";
+pub const TO: &[u8] = b"Disposition-Notification-To";
 
-const OPTIONS: &[u8] = b"Disposition-Notification-Options";
+pub const OPTIONS: &[u8] = b"Disposition-Notification-Options";
 
 const DELIVERY: &[u8] = b"Receipt-Delivery-Option";
-
-/// What a head with that value of options asks.
-#[derive(Drop)]
-pub enum Asked {
-    /// The options are none.
-    Unreadable,
-    /// Those digests, whether one is required, and whether anything else is.
-    So(Vec<u8>, bool, bool),
-    /// Anything else.
-    Otherwise,
-}
-
-/// What a head with one address and that value of options asks.
-pub fn asked_of(rt: &HostRuntime, options: &[u8]) -> Result<Asked, Fail> {
-    let mut head = Head::new(rt.alloc());
-    let added = head.append(TO, b"a@x").is_ok() && head.append(OPTIONS, options).is_ok();
-    let asked = match ReceiptAsk::read(&head) {
-        Ok(ask) if added => Asked::So(
-            Vec::from_slice(rt.alloc(), ask.digests)?,
-            ask.digests_required,
-            ask.other_required,
-        ),
-        Err(AskFault::OptionsUnreadable) if added => Asked::Unreadable,
-        _ => Asked::Otherwise,
-    };
-    Ok(asked)
-}
 
 #[derive(Clone, Copy)]
 enum Want {
@@ -43,7 +16,7 @@ enum Want {
 }
 
 // The fields of a head, and what it asks.
-const CASES: [(&[(&[u8], &[u8])], Want); 21] = [
+static CASES: [(&[(&[u8], &[u8])], Want); 21] = [
     (&[], Want::Nothing),
     // without an address the other two aren't read
     (
@@ -129,40 +102,35 @@ const CASES: [(&[(&[u8], &[u8])], Want); 21] = [
     ),
 ];
 
-#[test]
-fn heads_ask_for_receipts(rt: HostRuntime) -> Result<(), Fail> {
-    for (fields, want) in CASES {
-        let mut head = Head::new(rt.alloc());
-        for (name, value) in fields {
-            assert!(rt; head.append(name, value).is_ok());
+fn is_so(ask: Result<ReceiptAsk<'_>, AskFault>, want: Want) -> bool {
+    match (ask, want) {
+        (Ok(ask), Want::Nothing) => {
+            let digests = ask.digests.is_empty() && !ask.digests_required;
+            matches!(ask.how, How::NoReceipt) && digests && !ask.other_required
         }
-        match (ReceiptAsk::read(&head), want) {
-            (
-                Ok(
-                    ReceiptAsk {
-                        how: How::NoReceipt,
-                        digests,
-                        digests_required,
-                        other_required,
-                    },
-                ),
-                Want::Nothing,
-            ) => {
-                assert!(rt; digests.is_empty() && !digests_required && !other_required);
-            }
-            (Ok(ReceiptAsk { how: How::Sync, .. }), Want::InTheAnswer) => (),
-            (
-                Ok(
-                    ReceiptAsk {
-                        how: How::Async(url),
-                        ..
-                    },
-                ),
-                Want::To(target),
-            ) => assert!(rt; url.target() == target),
-            (Err(fault), Want::Refused(wanted)) => assert!(rt; fault == wanted),
-            _ => assert!(rt; false),
+        (Ok(ask), Want::InTheAnswer) => matches!(ask.how, How::Sync),
+        (Ok(ask), Want::To(target)) => match ask.how {
+            How::Async(url) => url.target() == target,
+            _ => false,
+        },
+        (Err(fault), Want::Refused(wanted)) => fault == wanted,
+        _ => false,
+    }
+}
+
+fn asks(alloc: Global, fields: &[(&[u8], &[u8])], want: Want) -> bool {
+    let mut head = Head::new(alloc);
+    for (name, value) in fields {
+        if head.append(name, value).is_err() {
+            return false;
         }
     }
-    Ok(())
+    is_so(ReceiptAsk::read(&head), want)
+}
+
+#[test]
+fn heads_ask_for_receipts(rt: HostRuntime) {
+    for (fields, want) in &CASES {
+        assert!(rt; asks(rt.alloc(), fields, *want));
+    }
 }

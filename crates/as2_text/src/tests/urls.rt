@@ -1,8 +1,8 @@
 use crate::Url;
-use std::test::Fail;
+use std::alloc::{AllocError, Global};
 
 // A text, and the authority and the target that it says, where it is an address.
-const CASES: [(&[u8], Option<(&[u8], &[u8])>); 33] = [
+static CASES: [(&[u8], Option<(&[u8], &[u8])>); 33] = [
     (
         b"http://127.0.0.1:8080/as2",
         Some((b"127.0.0.1:8080", b"/as2")),
@@ -44,45 +44,35 @@ const CASES: [(&[u8], Option<(&[u8], &[u8])>); 33] = [
     (b"http://h/\x7f", None),
 ];
 
-#[test]
-fn addresses_are_told_from_other_texts(rt: HostRuntime) -> Result<(), Fail> {
-    for (text, want) in CASES {
-        match (Url::parse(text), want) {
-            (Some(url), Some((authority, target))) => {
-                assert!(rt; url.authority() == authority);
-                assert!(rt; url.target() == target);
-            }
-            (None, None) => (),
-            _ => assert!(rt; false),
+fn is_so(text: &[u8], want: Option<(&[u8], &[u8])>) -> bool {
+    match (Url::parse(text), want) {
+        (Some(url), Some((authority, target))) => {
+            url.authority() == authority && url.target() == target
         }
+        (None, None) => true,
+        _ => false,
     }
-    Ok(())
-}
-
-// An address of so many bytes, with a host of one.
-fn address(rt: &HostRuntime, length: usize) -> Result<Vec<u8>, Fail> {
-    let mut text = Vec::from_slice(rt.alloc(), b"http://h/")?;
-    text.resize(length, b'x')?;
-    Ok(text)
 }
 
 #[test]
-fn an_address_has_1024_bytes_at_most(rt: HostRuntime) -> Result<(), Fail> {
-    let longest = address(&rt, 1_024)?;
-    assert!(rt; longest.len() == 1_024);
-    assert!(rt; Url::parse(&longest).is_some());
-    let longer = address(&rt, 1_025)?;
-    assert!(rt; longer.len() == 1_025);
-    assert!(rt; Url::parse(&longer).is_none());
-    Ok(())
+fn addresses_are_told_from_other_texts(rt: HostRuntime) {
+    for (text, want) in &CASES {
+        assert!(rt; is_so(text, *want));
+    }
 }
 
+/// Whether a start that is filled up to so many bytes is an address.
+fn is_address(alloc: Global, start: &[u8], byte: u8, length: usize) -> Result<bool, AllocError> {
+    let mut text = Vec::from_slice(alloc, start)?;
+    text.resize(length, byte)?;
+    Ok(Url::parse(&text).is_some())
+}
+
+// An address has 1,024 bytes at most, and a host 253.
 #[test]
-fn a_host_has_253_bytes_at_most(rt: HostRuntime) -> Result<(), Fail> {
-    let mut text = Vec::from_slice(rt.alloc(), b"http://")?;
-    text.resize(7 + 253, b'h')?;
-    assert!(rt; Url::parse(&text).is_some());
-    text.push(b'h')?;
-    assert!(rt; Url::parse(&text).is_none());
-    Ok(())
+fn lengths_are_bounded(rt: HostRuntime) {
+    assert!(rt; is_address(rt.alloc(), b"http://h/", b'x', 1_024) == Ok(true));
+    assert!(rt; is_address(rt.alloc(), b"http://h/", b'x', 1_025) == Ok(false));
+    assert!(rt; is_address(rt.alloc(), b"http://", b'h', 7 + 253) == Ok(true));
+    assert!(rt; is_address(rt.alloc(), b"http://", b'h', 7 + 254) == Ok(false));
 }
