@@ -6,7 +6,7 @@ mod refusals;
 mod replies;
 
 use crate::{Arrival, Method, Refusal, Refused, Target, read_first};
-use std::alloc::Global;
+use std::alloc::{AllocError, Global};
 use std::io::Read;
 
 // A post of three bytes of content.
@@ -24,7 +24,7 @@ Content-Length: 3\r\n\
 abc";
 
 // An arrival, with the length of the body alone and without the fields.
-#[derive(Clone, Copy, Debug, PartialEq, Eq)]
+#[derive(Clone, Copy, PartialEq, Eq)]
 enum Seen {
     Request {
         method: Method,
@@ -72,4 +72,12 @@ fn summary(arrival: &Arrival) -> Seen {
 
 fn first_of<R: Read>(alloc: Global, reader: &mut R) -> Seen {
     summary(&read_first(alloc, reader))
+}
+
+/// What a text is that was made for it.
+fn first_in(alloc: Global, text: Result<Vec<u8>, AllocError>) -> Seen {
+    match text {
+        Ok(text) => first_of(alloc, &mut text.as_slice()),
+        Err(_) => Seen::Memory,
+    }
 }

@@ -1,5 +1,4 @@
 use super::*;
-use std::test::Fail;
 
 const GOT: Seen = Seen::Request {
     method: Method::Other,
@@ -8,7 +7,7 @@ const GOT: Seen = Seen::Request {
     last: false,
 };
 
-fn with_fields(alloc: Global, count: usize) -> Result<Vec<u8>, Fail> {
+fn with_fields(alloc: Global, count: usize) -> Result<Vec<u8>, AllocError> {
     let mut text = Vec::from_slice(alloc, b"GET / HTTP/1.1\r\n")?;
     for _ in 0..count {
         text.extend_from_slice(b"A: b\r\n")?;
@@ -17,77 +16,78 @@ fn with_fields(alloc: Global, count: usize) -> Result<Vec<u8>, Fail> {
     Ok(text)
 }
 
+static COUNTS: [(usize, Seen); 3] = [(0, GOT), (64, GOT), (65, BAD_HEAD)];
+
 #[test]
-fn at_most_64_fields(rt: HostRuntime) -> Result<(), Fail> {
-    for (count, want) in [(0usize, GOT), (64, GOT), (65, BAD_HEAD)] {
-        let text = with_fields(rt.alloc(), count)?;
-        let mut reader = text.as_slice();
-        assert_eq!(rt; first_of(rt.alloc(), &mut reader), want);
+fn at_most_64_fields(rt: HostRuntime) {
+    for (count, want) in &COUNTS {
+        assert!(rt;
+            first_in(rt.alloc(), with_fields(rt.alloc(), *count)) == *want,
+            "{count}"
+        );
     }
-    Ok(())
 }
 
-// A request whose head has that many bytes, the skipped ones among them.
-fn with_head(alloc: Global, start: &[u8], size: usize) -> Result<Vec<u8>, Fail> {
+/// A start, so many bytes with it, and an end.
+fn filled(
+    alloc: Global,
+    start: &[u8],
+    size: usize,
+    byte: u8,
+    end: &[u8],
+) -> Result<Vec<u8>, AllocError> {
     let mut text = Vec::from_slice(alloc, start)?;
-    text.extend_from_slice(b"GET / HTTP/1.1\r\nA: ")?;
-    text.resize(size.saturating_sub(4), b'x')?;
-    text.extend_from_slice(b"\r\n\r\n")?;
+    text.resize(size, byte)?;
+    text.extend_from_slice(end)?;
     Ok(text)
 }
 
-#[test]
-fn head_of_at_most_16384_bytes(rt: HostRuntime) -> Result<(), Fail> {
-    let cases: [(&[u8], usize, Seen); 4] = [
-        (b"", 16_384, GOT),
-        (b"", 16_385, BAD_HEAD),
-        (b"\r\n", 16_384, GOT),
-        (b"\r\n", 16_385, BAD_HEAD),
-    ];
-    for (start, size, want) in cases {
-        let text = with_head(rt.alloc(), start, size)?;
-        assert_eq!(rt; text.len(), size);
-        let mut reader = text.as_slice();
-        assert_eq!(rt; first_of(rt.alloc(), &mut reader), want);
-    }
-    Ok(())
-}
+const POSTED_WHOLE: Seen = Seen::Request {
+    method: Method::Post,
+    target: Target::Station,
+    body: 1_048_576,
+    last: false,
+};
+
+// A start, how many bytes it is filled up to, with which, an end, and what all that is.
+static SIZES: [(&str, usize, u8, &str, Seen); 10] = [
+    // Heads of 16,384 bytes and of one more, the skipped ones among them.
+    ("GET / HTTP/1.1\r\nA: ", 16_380, b'x', "\r\n\r\n", GOT),
+    ("GET / HTTP/1.1\r\nA: ", 16_381, b'x', "\r\n\r\n", BAD_HEAD),
+    ("\r\nGET / HTTP/1.1\r\nA: ", 16_380, b'x', "\r\n\r\n", GOT),
+    (
+        "\r\nGET / HTTP/1.1\r\nA: ",
+        16_381,
+        b'x',
+        "\r\n\r\n",
+        BAD_HEAD,
+    ),
+    // No head in so many bytes.
+    ("", 16_383, b'\n', "", Seen::Closed),
+    ("", 16_384, b'\n', "", BAD_HEAD),
+    ("", 16_383, b'x', "", Seen::Truncated),
+    ("", 16_384, b'x', "", BAD_HEAD),
+    // A head of 47 bytes, and a body of 1,048,576 or one less.
+    (
+        "POST /as2 HTTP/1.1\r\nContent-Length: 1048576\r\n\r\n",
+        1_048_623,
+        b'x',
+        "",
+        POSTED_WHOLE,
+    ),
+    (
+        "POST /as2 HTTP/1.1\r\nContent-Length: 1048576\r\n\r\n",
+        1_048_622,
+        b'x',
+        "",
+        Seen::Truncated,
+    ),
+];
 
 #[test]
-fn no_head_in_16384_bytes(rt: HostRuntime) -> Result<(), Fail> {
-    for (byte, count, want) in [
-        (b'\n', 16_383usize, Seen::Closed),
-        (b'\n', 16_384, BAD_HEAD),
-        (b'x', 16_383, Seen::Truncated),
-        (b'x', 16_384, BAD_HEAD),
-    ] {
-        let mut text = Vec::new(rt.alloc());
-        text.resize(count, byte)?;
-        let mut reader = text.as_slice();
-        assert_eq!(rt; first_of(rt.alloc(), &mut reader), want);
+fn sizes_of_heads_and_bodies(rt: HostRuntime) {
+    for (start, size, byte, end, want) in &SIZES {
+        let text = filled(rt.alloc(), start.as_bytes(), *size, *byte, end.as_bytes());
+        assert!(rt; first_in(rt.alloc(), text) == *want, "{start} {size}");
     }
-    Ok(())
-}
-
-#[test]
-fn body_of_1048576_bytes(rt: HostRuntime) -> Result<(), Fail> {
-    let head = b"POST /as2 HTTP/1.1\r\nContent-Length: 1048576\r\n\r\n";
-    for (size, want) in [
-        (
-            1_048_576usize,
-            Seen::Request {
-                method: Method::Post,
-                target: Target::Station,
-                body: 1_048_576,
-                last: false,
-            },
-        ),
-        (1_048_575, Seen::Truncated),
-    ] {
-        let mut text = Vec::from_slice(rt.alloc(), head)?;
-        text.resize(head.len() + size, b'x')?;
-        let mut reader = text.as_slice();
-        assert_eq!(rt; first_of(rt.alloc(), &mut reader), want);
-    }
-    Ok(())
 }

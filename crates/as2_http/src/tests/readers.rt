@@ -1,6 +1,5 @@
 use super::*;
 use std::io;
-use std::test::Fail;
 
 // One byte a read: those of the text, and then so many more. The read behind `sound` reads fails.
 #[derive(Drop)]
@@ -11,15 +10,15 @@ struct Drops {
     reads: usize,
 }
 
-impl Drops {
-    fn new(text: &'static str, more: usize) -> Drops {
-        Drops {
-            text: text.as_bytes(),
-            more,
-            sound: usize::MAX,
-            reads: 0,
-        }
-    }
+/// What is read, and how many reads that took.
+fn in_drops(alloc: Global, text: &'static str, more: usize, sound: usize) -> (Seen, usize) {
+    let mut reader = Drops {
+        text: text.as_bytes(),
+        more,
+        sound,
+        reads: 0,
+    };
+    (first_of(alloc, &mut reader), reader.reads)
 }
 
 impl Read for Drops {
@@ -45,75 +44,71 @@ impl Read for Drops {
     }
 }
 
+const NO_LENGTH: Seen = Seen::Refused(Refused {
+    reason: Refusal::NoLength,
+    to_head: false,
+});
+
+const OF_ALL_READS: Seen = Seen::Request {
+    method: Method::Post,
+    target: Target::Station,
+    body: 99_955,
+    last: false,
+};
+
+// A text, how many bytes stand behind it, what it is, and how many reads that takes: of one byte each.
+static CASES: [(&str, usize, Seen, usize); 4] = [
+    // Nothing is read behind the request.
+    (POST, 10, POSTED, POST.len()),
+    // A refusal is told as soon as the head is whole.
+    ("POST /as2 HTTP/1.1\r\n\r\n", 10, NO_LENGTH, 22),
+    // The heads have 45 bytes, so that the bodies end with the 100,000th read and with the one behind it.
+    (
+        "POST /as2 HTTP/1.1\r\nContent-Length: 99955\r\n\r\n",
+        200_000,
+        OF_ALL_READS,
+        100_000,
+    ),
+    (
+        "POST /as2 HTTP/1.1\r\nContent-Length: 99956\r\n\r\n",
+        200_000,
+        Seen::TooLong,
+        100_000,
+    ),
+];
+
 #[test]
 fn byte_by_byte(rt: HostRuntime) {
-    let mut reader = Drops::new(POST, 10);
-    assert_eq!(rt; first_of(rt.alloc(), &mut reader), POSTED);
-    // Nothing was read behind the request.
-    assert_eq!(rt; reader.reads, POST.len());
-    assert_eq!(rt; reader.more, 10);
-    let mut reader = Drops::new("\r\n\n", 0);
-    assert_eq!(rt; first_of(rt.alloc(), &mut reader), Seen::Closed);
-    let mut reader = Drops::new("POST", 0);
-    assert_eq!(rt; first_of(rt.alloc(), &mut reader), Seen::Truncated);
-}
-
-// A refusal is told as soon as the head is whole.
-#[test]
-fn no_read_behind_a_refused_head(rt: HostRuntime) {
-    let text = "POST /as2 HTTP/1.1\r\n\r\n";
-    let mut reader = Drops::new(text, 10);
-    let want = Seen::Refused(Refused {
-        reason: Refusal::NoLength,
-        to_head: false,
-    });
-    assert_eq!(rt; first_of(rt.alloc(), &mut reader), want);
-    assert_eq!(rt; reader.reads, text.len());
+    for (text, more, want, reads) in &CASES {
+        let (seen, count) = in_drops(rt.alloc(), text, *more, usize::MAX);
+        assert!(rt; seen == *want && count == *reads, "{text}");
+    }
+    assert!(rt; in_drops(rt.alloc(), "\r\n\n", 0, usize::MAX).0 == Seen::Closed);
+    assert!(rt; in_drops(rt.alloc(), "POST", 0, usize::MAX).0 == Seen::Truncated);
 }
 
 #[test]
 fn failing_at_each_read(rt: HostRuntime) {
     for sound in 0..POST.len() {
-        let mut reader = Drops {
-            sound,
-            ..Drops::new(POST, 0)
-        };
-        assert_eq!(rt; first_of(rt.alloc(), &mut reader), Seen::ReadFault);
+        assert!(rt;
+            in_drops(rt.alloc(), POST, 0, sound).0 == Seen::ReadFault,
+            "{sound}"
+        );
     }
-    let mut reader = Drops {
-        sound: POST.len(),
-        ..Drops::new(POST, 0)
-    };
-    assert_eq!(rt; first_of(rt.alloc(), &mut reader), POSTED);
+    assert!(rt; in_drops(rt.alloc(), POST, 0, POST.len()).0 == POSTED);
 }
 
-// The heads have 45 bytes, so that the bodies end with the 100,000th read and with the one behind it.
-#[test]
-fn at_most_100000_reads(rt: HostRuntime) {
-    let whole = "POST /as2 HTTP/1.1\r\nContent-Length: 99955\r\n\r\n";
-    let mut reader = Drops::new(whole, 200_000);
-    let want = Seen::Request {
-        method: Method::Post,
-        target: Target::Station,
-        body: 99_955,
-        last: false,
-    };
-    assert_eq!(rt; first_of(rt.alloc(), &mut reader), want);
-    assert_eq!(rt; reader.reads, 100_000);
-
-    let longer = "POST /as2 HTTP/1.1\r\nContent-Length: 99956\r\n\r\n";
-    let mut reader = Drops::new(longer, 200_000);
-    assert_eq!(rt; first_of(rt.alloc(), &mut reader), Seen::TooLong);
-    assert_eq!(rt; reader.reads, 100_000);
+/// What a post with bytes behind it is, and how many of the 70,000 bytes were left.
+fn with_bytes_behind(alloc: Global) -> Result<(Seen, usize), AllocError> {
+    let mut text = Vec::from_slice(alloc, POST.as_bytes())?;
+    text.resize(70_000, b'z')?;
+    let mut reader = text.as_slice();
+    let seen = first_of(alloc, &mut reader);
+    Ok((seen, reader.len()))
 }
 
 // One read asks for 65,536 bytes, and a second isn't made where the request is whole.
 #[test]
-fn bytes_behind_stay_unread(rt: HostRuntime) -> Result<(), Fail> {
-    let mut text = Vec::from_slice(rt.alloc(), POST.as_bytes())?;
-    text.resize(70_000, b'z')?;
-    let mut reader = text.as_slice();
-    assert_eq!(rt; first_of(rt.alloc(), &mut reader), POSTED);
-    assert_eq!(rt; reader.len(), 70_000 - 65_536);
-    Ok(())
+fn bytes_behind_stay_unread(rt: HostRuntime) {
+    assert!(rt; with_bytes_behind(rt.alloc()) == Ok((POSTED, 70_000 - 65_536)));
 }

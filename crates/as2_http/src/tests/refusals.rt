@@ -6,7 +6,7 @@ struct Case {
     texts: &'static [&'static str],
 }
 
-const CASES: [Case; 8] = [
+static CASES: [Case; 8] = [
     // No head of a request, whatever its method.
     Case {
         reason: Refusal::BadHead,
@@ -95,8 +95,10 @@ fn refused_heads(rt: HostRuntime) {
             to_head: case.to_head,
         });
         for text in case.texts {
-            let mut reader = text.as_bytes();
-            assert_eq!(rt; first_of(rt.alloc(), &mut reader), want);
+            assert!(rt;
+                first_of(rt.alloc(), &mut text.as_bytes()) == want,
+                "{text}"
+            );
         }
     }
 }
