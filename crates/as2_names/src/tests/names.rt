@@ -1,151 +1,101 @@
 use crate::{AsName, NameFault};
-use std::test::Fail;
-
-struct Case {
-    text: &'static [u8],
-    want: Result<&'static [u8], NameFault>,
-}
 
 // A field, and the name that it spells, or why it spells none.
-const CASES: [Case; 20] = [
-    Case {
-        text: b"Buyer",
-        want: Ok(b"Buyer"),
-    },
-    Case {
-        text: b"\"A \\\"B\\\" \\\\ C\"",
-        want: Ok(b"A \"B\" \\ C"),
-    },
-    Case {
-        text: b"\"Buyer\"",
-        want: Ok(b"Buyer"),
-    },
-    Case {
-        text: b"\" \"",
-        want: Ok(b" "),
-    },
-    Case {
-        text: b"",
-        want: Err(NameFault::Empty),
-    },
-    Case {
-        text: b"\"\"",
-        want: Err(NameFault::Empty),
-    },
-    Case {
-        text: b"\"",
-        want: Err(NameFault::BadQuoting),
-    },
-    Case {
-        text: b"a b",
-        want: Err(NameFault::BadByte),
-    },
-    Case {
-        text: b"a\"b",
-        want: Err(NameFault::BadByte),
-    },
-    Case {
-        text: b"a\\b",
-        want: Err(NameFault::BadByte),
-    },
-    Case {
-        text: b"a\x7f",
-        want: Err(NameFault::BadByte),
-    },
-    Case {
-        text: b"\"a\tb",
-        want: Err(NameFault::BadByte),
-    },
-    Case {
-        text: b"\"a\tb\\c\"",
-        want: Err(NameFault::BadByte),
-    },
-    Case {
-        text: b"\"a\\b\tc\"",
-        want: Err(NameFault::BadQuoting),
-    },
-    Case {
-        text: b"\"a\\\tb\"",
-        want: Err(NameFault::BadQuoting),
-    },
-    Case {
-        text: b"\"a\"b",
-        want: Err(NameFault::BadQuoting),
-    },
-    Case {
-        text: b"\"a\\b\"",
-        want: Err(NameFault::BadQuoting),
-    },
-    Case {
-        text: b"\"a",
-        want: Err(NameFault::BadQuoting),
-    },
-    Case {
-        text: b"\"a\\",
-        want: Err(NameFault::BadQuoting),
-    },
-    Case {
-        text: b"\"a\\\"",
-        want: Err(NameFault::BadQuoting),
-    },
+static CASES: [(&[u8], Result<&[u8], NameFault>); 20] = [
+    (b"Buyer", Ok(b"Buyer")),
+    (b"\"A \\\"B\\\" \\\\ C\"", Ok(b"A \"B\" \\ C")),
+    (b"\"Buyer\"", Ok(b"Buyer")),
+    (b"\" \"", Ok(b" ")),
+    (b"", Err(NameFault::Empty)),
+    (b"\"\"", Err(NameFault::Empty)),
+    (b"\"", Err(NameFault::BadQuoting)),
+    (b"a b", Err(NameFault::BadByte)),
+    (b"a\"b", Err(NameFault::BadByte)),
+    (b"a\\b", Err(NameFault::BadByte)),
+    (b"a\x7f", Err(NameFault::BadByte)),
+    (b"\"a\tb", Err(NameFault::BadByte)),
+    (b"\"a\tb\\c\"", Err(NameFault::BadByte)),
+    (b"\"a\\b\tc\"", Err(NameFault::BadQuoting)),
+    (b"\"a\\\tb\"", Err(NameFault::BadQuoting)),
+    (b"\"a\"b", Err(NameFault::BadQuoting)),
+    (b"\"a\\b\"", Err(NameFault::BadQuoting)),
+    (b"\"a", Err(NameFault::BadQuoting)),
+    (b"\"a\\", Err(NameFault::BadQuoting)),
+    (b"\"a\\\"", Err(NameFault::BadQuoting)),
 ];
 
-#[test]
-fn fields_are_read(rt: HostRuntime) -> Result<(), Fail> {
-    for case in &CASES {
-        match AsName::parse(case.text) {
-            Ok(name) => assert!(rt; case.want == Ok(name.bytes())),
-            Err(fault) => assert!(rt; case.want == Err(fault)),
-        }
+fn is_read(text: &[u8], want: Result<&[u8], NameFault>) -> bool {
+    match AsName::parse(text) {
+        Ok(name) => want == Ok(name.bytes()),
+        Err(fault) => want == Err(fault),
     }
-    Ok(())
 }
 
 #[test]
-fn names_are_spelled(rt: HostRuntime) -> Result<(), Fail> {
-    for (name, want) in [
-        ("Buyer", "Buyer"),
-        ("A \"B\" \\ C", "\"A \\\"B\\\" \\\\ C\""),
-    ] {
-        match AsName::plain(name.as_bytes()) {
-            Ok(name) => assert_eq!(rt; name.spelling().as_str(), want),
-            Err(_) => assert!(rt; false),
-        }
+fn fields_are_read(rt: HostRuntime) {
+    for (text, want) in &CASES {
+        assert!(rt; is_read(text, *want));
     }
-    Ok(())
+}
+
+static SPELLED: [(&str, &str); 2] = [
+    ("Buyer", "Buyer"),
+    ("A \"B\" \\ C", "\"A \\\"B\\\" \\\\ C\""),
+];
+
+fn is_spelled(name: &[u8], want: &str) -> bool {
+    match AsName::plain(name) {
+        Ok(name) => name.spelling().as_str() == want,
+        Err(_) => false,
+    }
+}
+
+fn is_copied(name: &[u8]) -> bool {
+    match AsName::plain(name) {
+        Ok(name) => match name.clone() {
+            Ok(copy) => copy.bytes() == b"Buyer".as_slice(),
+            Err(_) => false,
+        },
+        Err(_) => false,
+    }
 }
 
 #[test]
-fn length_is_the_last_fault(rt: HostRuntime) -> Result<(), Fail> {
+fn names_are_spelled(rt: HostRuntime) {
+    for (name, want) in &SPELLED {
+        assert!(rt; is_spelled(name.as_bytes(), want));
+    }
+    assert!(rt; is_copied(b"Buyer"));
+}
+
+/// Why a text spells no name, and why it is none.
+fn faults(text: &[u8]) -> [Option<NameFault>; 2] {
+    [AsName::parse(text).err(), AsName::plain(text).err()]
+}
+
+fn longest_spelling() -> usize {
+    match AsName::plain(&[b'"'; 128]) {
+        Ok(name) => name.spelling().as_str().len(),
+        Err(_) => 0,
+    }
+}
+
+#[test]
+fn length_is_the_last_fault(rt: HostRuntime) {
     let mut text = [b'x'; 129];
     assert!(rt; AsName::parse(&text[..128]).is_ok());
-    assert!(rt; matches!(AsName::parse(&text), Err(NameFault::TooLong)));
-    assert!(rt; matches!(AsName::plain(&text), Err(NameFault::TooLong)));
+    assert!(rt; faults(&text) == [Some(NameFault::TooLong), Some(NameFault::TooLong)]);
     text[128] = b'\t';
-    assert!(rt; matches!(AsName::parse(&text), Err(NameFault::BadByte)));
-    assert!(rt; matches!(AsName::plain(&text), Err(NameFault::BadByte)));
+    assert!(rt; faults(&text) == [Some(NameFault::BadByte), Some(NameFault::BadByte)]);
 
     // 129 units between quotes, and then the same with a bad byte behind them.
     let mut text = [b'x'; 131];
     text[0] = b'"';
     text[130] = b'"';
-    assert!(rt; matches!(AsName::parse(&text), Err(NameFault::TooLong)));
+    assert!(rt; AsName::parse(&text).err() == Some(NameFault::TooLong));
     text[130] = b'\t';
-    assert!(rt; matches!(AsName::parse(&text), Err(NameFault::BadByte)));
+    assert!(rt; AsName::parse(&text).err() == Some(NameFault::BadByte));
 
-    // The longest spelling: 128 quotes, each behind a backslash.
-    match AsName::plain(&[b'"'; 128]) {
-        Ok(name) => assert!(rt; name.spelling().as_str().len() == 258),
-        Err(_) => assert!(rt; false),
-    }
-    Ok(())
-}
-
-#[test]
-fn names_are_copied(rt: HostRuntime) -> Result<(), Fail> {
-    match AsName::plain(b"Buyer") {
-        Ok(name) => assert!(rt; name.clone()?.bytes() == b"Buyer".as_slice()),
-        Err(_) => assert!(rt; false),
-    }
-    Ok(())
+    // 128 quotes, each behind a backslash.
+    assert!(rt; longest_spelling() == 258);
 }

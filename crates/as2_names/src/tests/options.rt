@@ -1,8 +1,8 @@
 use crate::{Head, lists};
-use std::test::Fail;
+use std::alloc::Global;
 
 // A value, and whether it lists `close`.
-const CASES: [(&[u8], bool); 11] = [
+static CASES: [(&[u8], bool); 11] = [
     (b"close", true),
     (b"Close", true),
     (b"keep-alive, CLOSE", true),
@@ -17,20 +17,43 @@ const CASES: [(&[u8], bool); 11] = [
 ];
 
 #[test]
-fn finds_options(rt: HostRuntime) -> Result<(), Fail> {
-    for (value, want) in CASES {
-        assert!(rt; lists(value, b"close") == want);
+fn finds_options(rt: HostRuntime) {
+    for (value, want) in &CASES {
+        assert!(rt; lists(value, b"close") == *want);
     }
-    Ok(())
+}
+
+// Fields, the name of an option's field, and whether it lists `close`.
+static HEADS: [(&[(&[u8], &[u8])], &[u8], bool); 2] = [
+    (
+        &[(b"Connection", b"keep-alive"), (b"X-Connection", b"close")],
+        b"connection",
+        false,
+    ),
+    (
+        &[
+            (b"Connection", b"keep-alive"),
+            (b"X-Connection", b"close"),
+            (b"CONNECTION", b"x, Close"),
+        ],
+        b"Connection",
+        true,
+    ),
+];
+
+fn lists_close(alloc: Global, fields: &[(&[u8], &[u8])], name: &[u8]) -> Option<bool> {
+    let mut head = Head::new(alloc);
+    for (name, value) in fields {
+        if head.append(name, value).is_err() {
+            return None;
+        }
+    }
+    Some(head.lists(name, b"close"))
 }
 
 #[test]
-fn looks_at_all_fields_of_the_name(rt: HostRuntime) -> Result<(), Fail> {
-    let mut head = Head::new(rt.alloc());
-    head.append(b"Connection", b"keep-alive")?;
-    head.append(b"X-Connection", b"close")?;
-    assert!(rt; !head.lists(b"connection", b"close"));
-    head.append(b"CONNECTION", b"x, Close")?;
-    assert!(rt; head.lists(b"Connection", b"close"));
-    Ok(())
+fn looks_at_all_fields_of_the_name(rt: HostRuntime) {
+    for (fields, name, want) in &HEADS {
+        assert!(rt; lists_close(rt.alloc(), fields, name) == Some(*want));
+    }
 }
