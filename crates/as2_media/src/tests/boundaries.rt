@@ -1,11 +1,10 @@
 use crate::MediaType;
-use std::test::Fail;
 
 // 70 bytes.
 const LONGEST: &[u8] = b"0123456789012345678901234567890123456789012345678901234567890123456789";
 
 // A field, and the boundary that it gives.
-const CASES: [(&[u8], Option<&[u8]>); 21] = [
+static CASES: [(&[u8], Option<&[u8]>); 21] = [
     // the examples of RFC 2046, section 5.1.1
     (
         b"multipart/mixed; boundary=gc0p4Jq0M2Yt08j34c0p",
@@ -62,13 +61,16 @@ const CASES: [(&[u8], Option<&[u8]>); 21] = [
     (b"multipart/mixed; boundary=\"\"; boundary=b", None),
 ];
 
-#[test]
-fn gives_boundaries(rt: HostRuntime) -> Result<(), Fail> {
-    for (field, boundary) in CASES {
-        match MediaType::parse(field) {
-            Ok(media_type) => assert!(rt; media_type.boundary() == boundary),
-            Err(fault) => assert_eq!(rt; Some(fault), None),
-        }
+fn gives(field: &[u8], boundary: Option<&[u8]>) -> bool {
+    match MediaType::parse(field) {
+        Ok(media_type) => media_type.boundary() == boundary,
+        Err(_) => false,
     }
-    Ok(())
+}
+
+#[test]
+fn gives_boundaries(rt: HostRuntime) {
+    for (field, boundary) in &CASES {
+        assert!(rt; gives(field, *boundary));
+    }
 }

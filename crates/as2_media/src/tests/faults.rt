@@ -1,8 +1,7 @@
 use crate::{MediaType, TypeFault};
-use std::test::Fail;
 
 // A field, and why it is no media type, if it is none.
-const CASES: [(&[u8], Option<TypeFault>); 64] = [
+static CASES: [(&[u8], Option<TypeFault>); 64] = [
     // the slash is looked for first, before the first `;`
     (b"", Some(TypeFault::NoSlash)),
     (b" ", Some(TypeFault::NoSlash)),
@@ -89,9 +88,8 @@ const CASES: [(&[u8], Option<TypeFault>); 64] = [
 ];
 
 #[test]
-fn tells_faults(rt: HostRuntime) -> Result<(), Fail> {
-    for (field, want) in CASES {
-        assert_eq!(rt; MediaType::parse(field).err(), want);
+fn tells_faults(rt: HostRuntime) {
+    for (field, want) in &CASES {
+        assert_eq!(rt; MediaType::parse(field).err(), *want);
     }
-    Ok(())
 }

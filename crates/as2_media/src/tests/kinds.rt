@@ -1,8 +1,7 @@
 use crate::{Kind, MediaType};
-use std::test::Fail;
 
 // A field, what a body of it is, and its boundary.
-const CASES: [(&[u8], Kind, Option<&[u8]>); 28] = [
+static CASES: [(&[u8], Kind, Option<&[u8]>); 28] = [
     (b"application/edi-x12", Kind::Document, None),
     (
         b"application/pkcs7-mime; smime-type=compressed-data",
@@ -109,30 +108,38 @@ const CASES: [(&[u8], Kind, Option<&[u8]>); 28] = [
     ),
 ];
 
-#[test]
-fn tells_kinds(rt: HostRuntime) -> Result<(), Fail> {
-    for (field, kind, boundary) in CASES {
-        match MediaType::parse(field) {
-            Ok(media_type) => {
-                assert_eq!(rt; media_type.kind(), kind);
-                assert!(rt; media_type.boundary() == boundary);
-            }
-            Err(fault) => assert_eq!(rt; Some(fault), None),
-        }
+fn is_so(field: &[u8], kind: Kind, boundary: Option<&[u8]>) -> bool {
+    match MediaType::parse(field) {
+        Ok(media_type) => media_type.kind() == kind && media_type.boundary() == boundary,
+        Err(_) => false,
     }
-    Ok(())
 }
 
 #[test]
-fn compares_types(rt: HostRuntime) -> Result<(), Fail> {
-    match MediaType::parse(b"Message/Disposition-Notification; charset=us-ascii") {
-        Ok(media_type) => {
-            assert!(rt; media_type.is_type(b"message", b"disposition-notification"));
-            assert!(rt; !media_type.is_type(b"message", b"disposition"));
-            assert!(rt; !media_type.is_type(b"messages", b"disposition-notification"));
-            assert!(rt; !media_type.is_type(b"disposition-notification", b"message"));
-        }
-        Err(_) => assert!(rt; false),
+fn tells_kinds(rt: HostRuntime) {
+    for (field, kind, boundary) in &CASES {
+        assert!(rt; is_so(field, *kind, *boundary));
     }
-    Ok(())
+}
+
+// A type and a subtype, and whether they are those of the field.
+static TYPES: [(&[u8], &[u8], bool); 4] = [
+    (b"message", b"disposition-notification", true),
+    (b"message", b"disposition", false),
+    (b"messages", b"disposition-notification", false),
+    (b"disposition-notification", b"message", false),
+];
+
+fn is_type(main: &[u8], sub: &[u8]) -> Option<bool> {
+    match MediaType::parse(b"Message/Disposition-Notification; charset=us-ascii") {
+        Ok(media_type) => Some(media_type.is_type(main, sub)),
+        Err(_) => None,
+    }
+}
+
+#[test]
+fn compares_types(rt: HostRuntime) {
+    for (main, sub, want) in &TYPES {
+        assert!(rt; is_type(main, sub) == Some(*want));
+    }
 }

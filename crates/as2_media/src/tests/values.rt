@@ -1,8 +1,7 @@
 use crate::parameters::Parameters;
-use std::test::Fail;
 
 // What stands behind a media type's first `;`, and the value of its first parameter `a`.
-const CASES: [(&[u8], Option<&[u8]>); 24] = [
+static CASES: [(&[u8], Option<&[u8]>); 24] = [
     (b"", None),
     (b"b=1", None),
     (b"aa=1", None),
@@ -33,13 +32,16 @@ const CASES: [(&[u8], Option<&[u8]>); 24] = [
     (b"a=\"us-ascii\"", Some(b"us-ascii")),
 ];
 
-#[test]
-fn reads_values(rt: HostRuntime) -> Result<(), Fail> {
-    for (text, want) in CASES {
-        match Parameters::parse(Some(text)) {
-            Ok(parameters) => assert!(rt; parameters.first_value(b"a") == want),
-            Err(fault) => assert_eq!(rt; Some(fault), None),
-        }
+fn has_value(text: &[u8], want: Option<&[u8]>) -> bool {
+    match Parameters::parse(Some(text)) {
+        Ok(parameters) => parameters.first_value(b"a") == want,
+        Err(_) => false,
     }
-    Ok(())
+}
+
+#[test]
+fn reads_values(rt: HostRuntime) {
+    for (text, want) in &CASES {
+        assert!(rt; has_value(text, *want));
+    }
 }
