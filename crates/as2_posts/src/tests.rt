@@ -5,7 +5,7 @@ use as2_media::MediaType;
 use as2_mic::Pieces;
 use as2_names::{AsName, Head, Moment};
 use std::alloc::Global;
-use std::test::Fail;
+use std::process::Abort;
 
 const ID: (&str, &str) = ("Message-ID", "<m1@x>");
 
@@ -27,6 +27,26 @@ const LATER: (&str, &str) = ("Receipt-Delivery-Option", "http://127.0.0.1:8082/m
 
 const CODED: (&str, &str) = ("Content-Encoding", "gzip");
 
+/// The fields of a head.
+fn head_of(alloc: Global, fields: &[(&str, &str)]) -> Option<Head> {
+    let mut head = Head::new(alloc);
+    for (name, value) in fields {
+        if head.append(name.as_bytes(), value.as_bytes()).is_err() {
+            return None;
+        }
+    }
+    Some(head)
+}
+
+fn opened(content_type: &str) -> Option<Opened<'_>> {
+    Some(Opened {
+        from: AsName::plain(b"Buyer").ok()?,
+        to: AsName::plain(b"Supplier").ok()?,
+        media: MediaType::parse(content_type.as_bytes()).ok()?,
+        content_type: content_type.as_bytes(),
+    })
+}
+
 // A document of these fields that Buyer posts to Supplier, or the line that refuses it; None where memory is wanting.
 fn post(
     alloc: Global,
@@ -34,18 +54,12 @@ fn post(
     content_type: &str,
     bytes: &[u8],
 ) -> Option<Result<Posted, Line>> {
-    let mut head = Head::new(alloc);
-    for (name, value) in fields {
-        head.append(name.as_bytes(), value.as_bytes()).ok()?;
-    }
+    let opened = opened(content_type)?;
+    let head = head_of(alloc, fields)?;
     let mut content = Pieces::new(alloc);
-    content.append(bytes).ok()?;
-    let opened = Opened {
-        from: AsName::plain(b"Buyer").ok()?,
-        to: AsName::plain(b"Supplier").ok()?,
-        media: MediaType::parse(content_type.as_bytes()).ok()?,
-        content_type: content_type.as_bytes(),
-    };
+    if content.append(bytes).is_err() {
+        return None;
+    }
     document(alloc, opened, &head, content).ok()
 }
 
@@ -53,121 +67,159 @@ fn usual(alloc: Global) -> Option<Posted> {
     post(alloc, &[ID, TO, SHA1], "application/edi-x12", b"abc")?.ok()
 }
 
-#[test]
-fn a_document_is_read(rt: HostRuntime) -> Result<(), Fail> {
-    let read = usual(rt.alloc());
+fn is_usual(rt: &impl Abort, posted: &Posted) {
+    assert!(rt; posted.outcome == Outcome::Processed && matches!(posted.how, How::Sync));
+    let texts = [
+        posted.sender.bytes(),
+        posted.receiver.bytes(),
+        posted.id.as_received().as_bytes(),
+        posted.content_type.as_slice(),
+    ];
     assert!(rt;
-        matches!(&read, Some(p) if p.outcome == Outcome::Processed
-        && p.sender.bytes() == b"Buyer".as_slice()
-        && p.receiver.bytes() == b"Supplier".as_slice()
-        && p.id.as_received() == "<m1@x>"
-        && p.content_type.as_slice() == b"application/edi-x12".as_slice()
-        && p.content.len() == 3)
+        texts
+            == [
+                b"Buyer".as_slice(),
+                b"Supplier",
+                b"<m1@x>",
+                b"application/edi-x12"
+            ]
     );
-    // SHA-1 of `abc`: RFC 3174, section 7.3.
-    assert!(rt;
-        matches!(&read, Some(p) if matches!(&p.mic, Some(mic)
-        if mic.text.bytes() == b"qZk+NkcGgWq6PiVxeFDCbJzQ2J0=".as_slice()))
-    );
-    assert!(rt; matches!(&read, Some(p) if matches!(p.how, How::Sync)));
-    Ok(())
+    assert!(rt; posted.content.len() == 3);
+    match &posted.mic {
+        // SHA-1 of `abc`: RFC 3174, section 7.3.
+        Some(mic) => assert!(rt; mic.text.bytes() == b"qZk+NkcGgWq6PiVxeFDCbJzQ2J0=".as_slice()),
+        None => assert!(rt; false),
+    }
 }
 
 #[test]
-fn an_address_is_kept(rt: HostRuntime) -> Result<(), Fail> {
-    let read = post(
+fn a_document_is_read(rt: HostRuntime) {
+    match usual(rt.alloc()) {
+        Some(posted) => is_usual(&rt, &posted),
+        None => assert!(rt; false),
+    }
+}
+
+fn is_sent_to(posted: &Posted, address: &[u8]) -> bool {
+    match &posted.how {
+        How::Async(url) => url.as_slice() == address,
+        _ => false,
+    }
+}
+
+#[test]
+fn an_address_is_kept(rt: HostRuntime) {
+    match post(
         rt.alloc(),
         &[ID, TO, SHA1, LATER],
         "application/edi-x12",
         b"",
-    );
-    assert!(rt;
-        matches!(&read, Some(Ok(p)) if matches!(&p.how, How::Async(url)
-        if url.as_slice() == b"http://127.0.0.1:8082/mdn".as_slice()))
-    );
-    Ok(())
-}
-
-#[test]
-fn outcomes_are_those_of_the_table(rt: HostRuntime) -> Result<(), Fail> {
-    const CASES: [(&[(&str, &str)], &str, Outcome); 4] = [
-        (
-            &[ID, TO],
-            "application/pkcs7-mime; smime-type=compressed-data",
-            Outcome::DecompressionFailed,
-        ),
-        (&[ID], "application/pkcs7-mime", Outcome::DecryptionFailed),
-        (
-            &[ID, TO, UNKNOWN_DIGEST],
-            "text/plain",
-            Outcome::UnsupportedMicAlgorithms,
-        ),
-        (&[ID, TO, CODED], "text/plain", Outcome::UnsupportedFormat),
-    ];
-    for (fields, content_type, outcome) in &CASES {
-        let read = post(rt.alloc(), fields, content_type, b"abc");
-        assert!(rt; matches!(&read, Some(Ok(p)) if p.outcome == *outcome && p.mic.is_none()));
+    ) {
+        Some(Ok(posted)) => assert!(rt; is_sent_to(&posted, b"http://127.0.0.1:8082/mdn")),
+        _ => assert!(rt; false),
     }
-    Ok(())
 }
 
-#[test]
-fn lines_refuse_in_order(rt: HostRuntime) -> Result<(), Fail> {
-    let both = post(rt.alloc(), &[TO, TO], "text/plain", b"");
-    assert!(rt; matches!(both, Some(Err(Line::BadId))));
-    let twice = post(rt.alloc(), &[ID, TO, TO], "text/plain", b"");
-    assert!(rt; matches!(twice, Some(Err(Line::BadAsk))));
-    assert!(rt; refused(Line::UnknownNames).status == 403);
-    assert!(rt; refused(Line::IdUsedBefore).status == 409);
-    Ok(())
-}
+static OUTCOMES: [(&[(&str, &str)], &str, Outcome); 4] = [
+    (
+        &[ID, TO],
+        "application/pkcs7-mime; smime-type=compressed-data",
+        Outcome::DecompressionFailed,
+    ),
+    (&[ID], "application/pkcs7-mime", Outcome::DecryptionFailed),
+    (
+        &[ID, TO, UNKNOWN_DIGEST],
+        "text/plain",
+        Outcome::UnsupportedMicAlgorithms,
+    ),
+    (&[ID, TO, CODED], "text/plain", Outcome::UnsupportedFormat),
+];
 
-fn repeated(one: &Option<Posted>, other: &Option<Result<Posted, Line>>) -> Option<bool> {
-    match (one, other) {
-        (Some(one), Some(Ok(other))) => Some(repeats(one, other)),
+/// The outcome of a document without a MIC.
+fn outcome(alloc: Global, fields: &[(&str, &str)], content_type: &str) -> Option<Outcome> {
+    match post(alloc, fields, content_type, b"abc") {
+        Some(Ok(posted)) if posted.mic.is_none() => Some(posted.outcome),
         _ => None,
     }
 }
 
 #[test]
-fn a_repeat_is_the_same_in_all(rt: HostRuntime) -> Result<(), Fail> {
-    let one = usual(rt.alloc());
-    let same = post(rt.alloc(), &[TO, SHA1, ID], "application/edi-x12", b"abc");
-    assert!(rt; repeated(&one, &same) == Some(true));
-    let spelled = post(
-        rt.alloc(),
-        &[BARE_ID, TO, SHA1],
-        "application/edi-x12",
-        b"abc",
-    );
-    assert!(rt; repeated(&one, &spelled) == Some(false));
-    let content = post(rt.alloc(), &[ID, TO, SHA1], "application/edi-x12", b"abd");
-    assert!(rt; repeated(&one, &content) == Some(false));
-    let content_type = post(rt.alloc(), &[ID, TO, SHA1], "application/edifact", b"abc");
-    assert!(rt; repeated(&one, &content_type) == Some(false));
-    let untold = post(rt.alloc(), &[ID], "application/edi-x12", b"abc");
-    assert!(rt; repeated(&one, &untold) == Some(false));
-    Ok(())
+fn outcomes_are_those_of_the_table(rt: HostRuntime) {
+    for (fields, content_type, want) in &OUTCOMES {
+        assert!(rt;
+            outcome(rt.alloc(), fields, content_type) == Some(*want),
+            "{content_type}"
+        );
+    }
 }
 
-fn entry(posted: Option<Posted>) -> Option<InEntry> {
-    let moment = Moment::new(1000)?;
-    Some(first_entry(7, moment, posted?))
+fn refuses(alloc: Global, fields: &[(&str, &str)], line: Line) -> bool {
+    match post(alloc, fields, "text/plain", b"") {
+        Some(Err(refused)) => refused == line,
+        _ => false,
+    }
 }
 
 #[test]
-fn a_first_entry_is_idle(rt: HostRuntime) -> Result<(), Fail> {
-    let at_once = entry(usual(rt.alloc()));
-    assert!(rt;
-        matches!(&at_once, Some(e) if e.number == 7 && e.mdn == MdnState::Sent
-        && e.attempt == Attempt::Idle && e.due.is_none() && !is_queued_again(e))
-    );
-    let fields = [ID, TO, LATER];
-    let later = post(rt.alloc(), &fields, "text/plain", b"abc").and_then(|read| read.ok());
-    let later = entry(later);
-    assert!(rt;
-        matches!(&later, Some(e) if e.mdn == MdnState::Pending
-        && e.due == Some(1000) && !is_queued_again(e))
-    );
-    Ok(())
+fn lines_refuse_in_order(rt: HostRuntime) {
+    assert!(rt; refuses(rt.alloc(), &[TO, TO], Line::BadId));
+    assert!(rt; refuses(rt.alloc(), &[ID, TO, TO], Line::BadAsk));
+    assert!(rt; refused(Line::UnknownNames).status == 403);
+    assert!(rt; refused(Line::IdUsedBefore).status == 409);
+}
+
+// A document, and whether it repeats the usual one.
+static REPEATED: [(&[(&str, &str)], &str, &str, bool); 5] = [
+    (&[TO, SHA1, ID], "application/edi-x12", "abc", true),
+    (&[BARE_ID, TO, SHA1], "application/edi-x12", "abc", false),
+    (&[ID, TO, SHA1], "application/edi-x12", "abd", false),
+    (&[ID, TO, SHA1], "application/edifact", "abc", false),
+    (&[ID], "application/edi-x12", "abc", false),
+];
+
+fn repeated(one: &Posted, other: Option<Result<Posted, Line>>) -> Option<bool> {
+    match other {
+        Some(Ok(other)) => Some(repeats(one, &other)),
+        _ => None,
+    }
+}
+
+#[test]
+fn a_repeat_is_the_same_in_all(rt: HostRuntime) {
+    for (fields, content_type, bytes, want) in &REPEATED {
+        let other = post(rt.alloc(), fields, content_type, bytes.as_bytes());
+        match usual(rt.alloc()) {
+            Some(one) => assert!(rt; repeated(&one, other) == Some(*want)),
+            None => assert!(rt; false),
+        }
+    }
+}
+
+fn entry(posted: Option<Result<Posted, Line>>) -> Option<InEntry> {
+    let moment = Moment::new(1000)?;
+    Some(first_entry(7, moment, posted?.ok()?))
+}
+
+fn is_sent(rt: &impl Abort, entry: &InEntry) {
+    assert!(rt; entry.number == 7 && entry.due.is_none());
+    assert!(rt; (entry.mdn, entry.attempt) == (MdnState::Sent, Attempt::Idle));
+    assert!(rt; !is_queued_again(entry));
+}
+
+fn is_pending(rt: &impl Abort, entry: &InEntry) {
+    assert!(rt; entry.mdn == MdnState::Pending && entry.due == Some(1000));
+    assert!(rt; !is_queued_again(entry));
+}
+
+#[test]
+fn a_first_entry_is_idle(rt: HostRuntime) {
+    let at_once = post(rt.alloc(), &[ID, TO, SHA1], "application/edi-x12", b"abc");
+    match entry(at_once) {
+        Some(entry) => is_sent(&rt, &entry),
+        None => assert!(rt; false),
+    }
+    match entry(post(rt.alloc(), &[ID, TO, LATER], "text/plain", b"abc")) {
+        Some(entry) => is_pending(&rt, &entry),
+        None => assert!(rt; false),
+    }
 }
