@@ -19,6 +19,7 @@ TOP = os.path.dirname(os.path.dirname(os.path.realpath(__file__)))
 PROGRAM = "as2desk"
 PARTS = ("src", "specs", "proofs")
 MOST_JOBS = 4  # of one crate: more gain nothing
+MEMORY = 3_000_000_000  # bytes that the proof of a crate may take
 SECONDS_BETWEEN_LINES = 60
 KILL_WITH_PARENT = 1  # PR_SET_PDEATHSIG of prctl
 
@@ -67,6 +68,16 @@ def link_tree(source, target):
 
     shutil.rmtree(target, ignore_errors=True)
     shutil.copytree(source, target, copy_function=link)
+
+
+def places():
+    """Returns how many crates may be proved side by side: one a processor, as far as memory goes."""
+    free = MEMORY
+    with open("/proc/meminfo", encoding="utf-8") as lines:
+        for line in lines:
+            if line.startswith("MemAvailable:"):
+                free = 1024 * int(line.split()[1])
+    return max(1, min(len(os.sched_getaffinity(0)), free // MEMORY))
 
 
 class Voice:
@@ -159,13 +170,15 @@ def longest_chain(tasks):
 def build(tasks, done, voice):
     """Runs all tasks, each once those below it are done. Returns the one that failed, if one did."""
     waiting, running = [it for it in tasks if it.crate not in done], []
-    processors = len(os.sched_getaffinity(0))
+    most, processors = places(), len(os.sched_getaffinity(0))
     while waiting or running:
         ready = [it for it in waiting if done.issuperset(it.below)]
-        for task in ready[: processors - len(running)]:
+        # the processors are shared among all that could be at work now, rounded up
+        jobs = -(-processors // max(1, len(running) + len(ready)))
+        for task in ready[: most - len(running)]:
             waiting.remove(task)
             running.append(task)
-            task.begin(min(MOST_JOBS, max(1, processors // max(1, len(ready)))))
+            task.begin(min(MOST_JOBS, jobs))
         time.sleep(0.2)
         for task in [it for it in running if it.process.poll() is not None]:
             running.remove(task)
