@@ -88,9 +88,12 @@ class Voice:
         self.redraws = sys.stderr.isatty()
 
     def say(self, what, done):
-        minutes = int((time.monotonic() - self.start) / 60)
-        line = f"as2desk: {what}, {done} of {self.count}, {minutes} min"
-        print(f"\r\033[K{line}" if self.redraws else line, end="" if self.redraws else "\n", file=sys.stderr, flush=True)
+        seconds = int(time.monotonic() - self.start)
+        line = f"as2desk: {what}, {done} of {self.count}"
+        if self.redraws:
+            print(f"\r\033[K{line}, {seconds // 60}:{seconds % 60:02} min", end="", file=sys.stderr, flush=True)
+        else:
+            print(f"{line}, {seconds // 60} min", file=sys.stderr, flush=True)
         self.last = time.monotonic()
 
     def is_silent(self):
