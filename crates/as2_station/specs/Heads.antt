@@ -1,5 +1,6 @@
--- The lines that refuse a post by its head alone.
+-- The lines that refuse a post by its head alone, and the posts that take the store.
 use Rattle.std.specs.Prelude.{Bool, true, false}
+use Rattle.as2_exchange.specs.Step.{Reading, Refuses, IsReceipt, IsDocument}
 use Rattle.as2_exchange.specs.declared.answer.Line.{Line}
 use Rattle.as2_exchange.specs.declared.answer.Line.TheVariants.{BadNames, BadVersion, UnknownNames, BadType, UnreadableReceipt, NoSuchMessage, BadId, BadAsk, IdUsedBefore, NotProcessed}
 
@@ -15,3 +16,9 @@ is_of_head BadId = false
 is_of_head BadAsk = false
 is_of_head IdUsedBefore = false
 is_of_head (NotProcessed outcome) = false
+
+-- it can be read, as a receipt or as a document: the answer is looked for in the store
+abbrev pub takes_store : Reading → Bool
+takes_store (Refuses status line) = false
+takes_store (IsReceipt receipt) = true
+takes_store (IsDocument posted) = true

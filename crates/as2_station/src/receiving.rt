@@ -1,5 +1,5 @@
 //! Receipts that are posted: each settles its document once.
-ghost use Rattle.std.specs.Prelude.{◌≡◌, ◌&&◌, nat_le, List, ℕ, Some, map, true, IfOk, IfErr, OnOk, OnErr, if◌then◌else◌};
+ghost use Rattle.std.specs.Prelude.{◌≡◌, ◌&&◌, nat_le, List, ℕ, Some, map, true, IfOk, IfErr, OnOk, OnErr, if◌then◌else◌, IsTrue};
 ghost use Rattle.sqlite.specs.Held.{state};
 ghost use Rattle.sqlite.specs.State.{HasCleanDisk};
 ghost use Rattle.as2_exchange.specs.Agreement.{Agreements};
@@ -9,6 +9,7 @@ ghost use Rattle.as2_exchange.specs.Step.{bears, came, post, report_posted, sett
 ghost use Rattle.as2_exchange.specs.declared.answer.Answer.TheVariants.{Http};
 ghost use Rattle.as2_exchange.specs.declared.answer.HttpBody.TheVariants.{Nothing};
 ghost use Rattle.as2_store.specs.Stands.{Rests, may_come};
+ghost use Rattle.as2_station.specs.Heads.{takes_store};
 ghost use Rattle.as2_station.specs.Steps.{Answers, Fails};
 
 use as2_exchange::{Bytes, Evidence, HttpAnswer, HttpBody, Line, OutEntry, StoreFault};
@@ -44,6 +45,7 @@ fn settle_once<S: Alter>(
     entry: &OutEntry,
 ) -> Result<(), StoreFault>
     ensures clean { HasCleanDisk (state S.Store store.new) → HasCleanDisk (state S.Store store.old) }
+    ensures opened { HasCleanDisk (state S.Store store.new) → OnOk result (IsTrue (state S.Store store.old).is_open → IsTrue (state S.Store store.new).is_open) }
     ensures settled { HasCleanDisk (state S.Store store.new) → OnOk result ((s : State) → Rests (state S.Store store.old) s → AreNumbers s.next_out (map (λ d. d.number) s.outbox) → document s entry.now.number ≡ Some entry.now
         → Rests (state S.Store store.new) (if is_settled entry.now then s else change_document s entry.now.number (settled moment (came (opened.now.from, opened.now.to) (opened.now.media, opened.now.content_type.now) body receipt.now)))) }
     ensures failed { HasCleanDisk (state S.Store store.new) → OnErr result ((s : State) → Rests (state S.Store store.old) s → Rests (state S.Store store.new) s) }
@@ -82,6 +84,7 @@ fn take_receipt<S: Alter>(
     moment: Moment,
 ) -> Result<HttpAnswer, StoreFault>
     ensures clean { HasCleanDisk (state S.Store store.new) → HasCleanDisk (state S.Store store.old) }
+    ensures opened { HasCleanDisk (state S.Store store.new) → OnOk result (IsTrue (state S.Store store.new).is_open) }
     ensures answered { HasCleanDisk (state S.Store store.new) → IfOk result (λ a. Answers (λ s. Some (settle s moment (came (opened.now.from, opened.now.to) (opened.now.media, opened.now.content_type.now) body receipt.now))) (state S.Store store.old) (state S.Store store.new) (Http a)) }
     ensures failed { HasCleanDisk (state S.Store store.new) → IfErr result (λ f. (s : State) → Rests (state S.Store store.old) s → Rests (state S.Store store.new) s) }
     ensures fault { IfErr result (λ f. may_come f ≡ true) }
@@ -107,6 +110,7 @@ pub fn receive<S: Alter>(
     moment: Moment,
 ) -> Result<HttpAnswer, StoreFault>
     ensures clean { HasCleanDisk (state S.Store store.new) → HasCleanDisk (state S.Store store.old) }
+    ensures opened { HasCleanDisk (state S.Store store.new) → OnOk result (takes_store (report_posted (opened.now.from, opened.now.to) (opened.now.media, opened.now.content_type.now) body) ≡ true → IsTrue (state S.Store store.new).is_open) }
     ensures answered { HasCleanDisk (state S.Store store.new) → IfOk result (λ a. (A : Agreements) → Answers (λ s. post A s moment (report_posted (opened.now.from, opened.now.to) (opened.now.media, opened.now.content_type.now) body)) (state S.Store store.old) (state S.Store store.new) (Http a)) }
     ensures failed { HasCleanDisk (state S.Store store.new) → IfErr result (λ f. (s : State) → Rests (state S.Store store.old) s → Rests (state S.Store store.new) s) }
     ensures fault { IfErr result (λ f. may_come f ≡ true) }

@@ -1,5 +1,5 @@
 //! Documents that are posted: each is recorded once.
-ghost use Rattle.std.specs.Prelude.{◌≡◌, ◌⊎◌, Some, None, true, map, IfOk, IfErr, OnOk, OnErr};
+ghost use Rattle.std.specs.Prelude.{◌≡◌, ◌⊎◌, Some, None, true, map, IfOk, IfErr, OnOk, OnErr, IsTrue};
 ghost use Rattle.sqlite.specs.Held.{state};
 ghost use Rattle.sqlite.specs.State.{HasCleanDisk};
 ghost use Rattle.as2_exchange.specs.Invariants.{AreNumbers};
@@ -25,6 +25,7 @@ fn queue_again<S: Alter>(
     moment: Moment,
 ) -> Result<(), StoreFault>
     ensures clean { HasCleanDisk (state S.Store store.new) → HasCleanDisk (state S.Store store.old) }
+    ensures opened { HasCleanDisk (state S.Store store.new) → OnOk result (IsTrue (state S.Store store.old).is_open → IsTrue (state S.Store store.new).is_open) }
     ensures queued { HasCleanDisk (state S.Store store.new) → OnOk result ((s : State) → Rests (state S.Store store.old) s → AreNumbers s.next_in (map (λ e. e.number) s.inbox) → received s entry.now.number ≡ Some entry.now
         → Rests (state S.Store store.new) (change_received s entry.now.number (queued_again moment))) }
     ensures failed { HasCleanDisk (state S.Store store.new) → OnErr result ((s : State) → Rests (state S.Store store.old) s → Rests (state S.Store store.new) s) }
@@ -47,6 +48,7 @@ fn record_again<S: Alter>(
     moment: Moment,
 ) -> Result<HttpAnswer, StoreFault>
     ensures clean { HasCleanDisk (state S.Store store.new) → HasCleanDisk (state S.Store store.old) }
+    ensures opened { HasCleanDisk (state S.Store store.new) → OnOk result (IsTrue (state S.Store store.old).is_open → IsTrue (state S.Store store.new).is_open) }
     ensures answered { HasCleanDisk (state S.Store store.new) → IfOk result (λ a. (s : State) → Rests (state S.Store store.old) s → AreNumbers s.next_in (map (λ e. e.number) s.inbox) → received s entry.now.number ≡ Some entry.now
         → Left (state S.Store store.new) (recorded agreements.now s moment posted.now (Some entry.now)) (Http a)) }
     ensures failed { HasCleanDisk (state S.Store store.new) → IfErr result (λ f. Fails (λ s. recorded agreements.now s moment posted.now (Some entry.now)) (state S.Store store.old) (state S.Store store.new) f) }
@@ -69,6 +71,7 @@ fn record_first<S: Alter>(
     moment: Moment,
 ) -> Result<HttpAnswer, StoreFault>
     ensures clean { HasCleanDisk (state S.Store store.new) → HasCleanDisk (state S.Store store.old) }
+    ensures opened { HasCleanDisk (state S.Store store.new) → OnOk result (IsTrue (state S.Store store.new).is_open) }
     ensures answered { HasCleanDisk (state S.Store store.new) → IfOk result (λ a. Answers (λ s. recorded agreements.now s moment posted None) (state S.Store store.old) (state S.Store store.new) (Http a)) }
     ensures failed { HasCleanDisk (state S.Store store.new) → IfErr result (λ f. Fails (λ s. recorded agreements.now s moment posted None) (state S.Store store.old) (state S.Store store.new) f) }
     ensures fault { IfErr result (λ f. (f ≡ Full) ⊎ (may_come f ≡ true)) }
@@ -89,6 +92,7 @@ pub fn record<S: Alter>(
     moment: Moment,
 ) -> Result<HttpAnswer, StoreFault>
     ensures clean { HasCleanDisk (state S.Store store.new) → HasCleanDisk (state S.Store store.old) }
+    ensures opened { HasCleanDisk (state S.Store store.new) → OnOk result (IsTrue (state S.Store store.new).is_open) }
     ensures answered { HasCleanDisk (state S.Store store.new) → IfOk result (λ a. Answers (λ s. record_post agreements.now s moment posted) (state S.Store store.old) (state S.Store store.new) (Http a)) }
     ensures failed { HasCleanDisk (state S.Store store.new) → IfErr result (λ f. Fails (λ s. record_post agreements.now s moment posted) (state S.Store store.old) (state S.Store store.new) f) }
     ensures fault { IfErr result (λ f. (f ≡ Full) ⊎ (may_come f ≡ true)) }

@@ -1,5 +1,5 @@
 //! The station, event by event.
-ghost use Rattle.std.specs.Prelude.{◌≡◌, ℕ, List, Some, Ok, true, IfOk, IfErr, OnErr};
+ghost use Rattle.std.specs.Prelude.{◌≡◌, ℕ, List, Some, Ok, true, IfOk, IfErr, OnErr, IsTrue, OnOk};
 ghost use Rattle.sqlite.specs.Held.{state};
 ghost use Rattle.sqlite.specs.State.{HasCleanDisk};
 ghost use Rattle.as2_exchange.specs.Step.{Refuses, post, reading, step};
@@ -10,7 +10,7 @@ ghost use Rattle.as2_exchange.specs.declared.fault.StoreFault.TheVariants.{Full}
 ghost use Rattle.as2_exchange.specs.Readings.{Head as TheHead};
 ghost use Rattle.as2_posts.specs.Answers.{refusal};
 ghost use Rattle.as2_posts.specs.Openings.{read_further};
-ghost use Rattle.as2_station.specs.Heads.{is_of_head};
+ghost use Rattle.as2_station.specs.Heads.{is_of_head, takes_store};
 ghost use Rattle.as2_station.specs.Steps.{Answers, Fails, IsStepFault};
 ghost use Rattle.as2_station.specs.Traces.{AreSaidTo, Plays, trace};
 
@@ -69,6 +69,7 @@ impl<S: Alter> Station<S> {
         moment: Moment,
     ) -> Result<HttpAnswer, StoreFault>
         ensures clean { HasCleanDisk (state S.Store self.new) → HasCleanDisk (state S.Store self.old) }
+        ensures opened { HasCleanDisk (state S.Store self.new) → OnOk result (takes_store (read_further (opened.entry.from, opened.entry.to) (opened.entry.media, opened.entry.content_type.now) head.now body) ≡ true → IsTrue (state S.Store self.new).is_open) }
         ensures answered { HasCleanDisk (state S.Store self.new) → IfOk result (λ a. Answers (λ s. post agreements.now s moment (read_further (opened.entry.from, opened.entry.to) (opened.entry.media, opened.entry.content_type.now) head.now body)) (state S.Store self.old) (state S.Store self.new) (Http a)) }
         ensures failed { HasCleanDisk (state S.Store self.new) → IfErr result (λ f. Fails (λ s. post agreements.now s moment (read_further (opened.entry.from, opened.entry.to) (opened.entry.media, opened.entry.content_type.now) head.now body)) (state S.Store self.old) (state S.Store self.new) f) }
         ensures fault { IfErr result IsStepFault }
@@ -93,6 +94,7 @@ impl<S: Alter> Station<S> {
         moment: Moment,
     ) -> Result<HttpAnswer, StoreFault>
         ensures clean { HasCleanDisk (state S.Store self.new) → HasCleanDisk (state S.Store self.old) }
+        ensures opened { HasCleanDisk (state S.Store self.new) → OnOk result (takes_store (reading agreements.now head.now body) ≡ true → IsTrue (state S.Store self.new).is_open) }
         ensures answered { HasCleanDisk (state S.Store self.new) → IfOk result (λ a. Answers (λ s. step agreements.now s (Post head.now body moment)) (state S.Store self.old) (state S.Store self.new) (Http a)) }
         ensures failed { HasCleanDisk (state S.Store self.new) → IfErr result (λ f. Fails (λ s. step agreements.now s (Post head.now body moment)) (state S.Store self.old) (state S.Store self.new) f) }
         ensures fault { IfErr result IsStepFault }
@@ -113,6 +115,7 @@ impl<S: Alter> Station<S> {
         event: Event,
     ) -> Result<Answer, StoreFault>
         ensures clean { HasCleanDisk (state S.Store self.new) → HasCleanDisk (state S.Store self.old) }
+        ensures opened { HasCleanDisk (state S.Store self.new) → OnOk result ((head : TheHead) (body : List ℕ) (moment : ℕ) → event ≡ Post head body moment → takes_store (reading agreements.now head body) ≡ true → IsTrue (state S.Store self.new).is_open) }
         ensures answered { HasCleanDisk (state S.Store self.new) → IfOk result (Answers (λ s. step agreements.now s event) (state S.Store self.old) (state S.Store self.new)) }
         ensures failed { HasCleanDisk (state S.Store self.new) → IfErr result (Fails (λ s. step agreements.now s event) (state S.Store self.old) (state S.Store self.new)) }
         ensures fault { IfErr result IsStepFault }

@@ -5,7 +5,7 @@ use Rattle.sqlite.specs.Listing.{understood}
 use Rattle.sqlite.specs.declared.error.Error.{Error}
 use Rattle.sqlite.specs.State.{State as Connected, Shown, FailsToQuery}
 use Rattle.sqlite.proofs.Callers.{IsPlain}
-use Rattle.sql_tables.proofs.Inside.{fails_to_query, shown_open, shown_same}
+use Rattle.sql_tables.proofs.Inside.{fails_to_query, shown_open, shown_opened, shown_same}
 use Rattle.as2_exchange.specs.State.{State}
 use Rattle.as2_store.specs.Tables.{store_schema}
 use Rattle.as2_store.specs.Stands.{Rests}
@@ -31,6 +31,11 @@ module _ (sql : List ℕ) (plain : IsPlain (understood store_schema sql)) (param
 pub open_where : {V : Type 0} (sql : List ℕ) (params : Row) (old new : Connected) (items : V → List Row) (r : Result V Error) → IfOk r (λ v. Shown sql params old new (items v)) → OnOk r (IsTrue old.is_open)
 open_where sql params old new items (Ok v) ok = shown_open sql params old new (items v) ok
 open_where sql params old new items (Err e) ok = tt
+
+-- and it is open still
+pub opened_where : {V : Type 0} (sql : List ℕ) (params : Row) (old new : Connected) (items : V → List Row) (r : Result V Error) → IfOk r (λ v. Shown sql params old new (items v)) → OnOk r (IsTrue new.is_open)
+opened_where sql params old new items (Ok v) ok = shown_opened sql params old new (items v) ok
+opened_where sql params old new items (Err e) ok = tt
 
 -- what holds of each answer holds of the result
 pub if_shown : {V : Type 0} (P Q : V → Type 0) → ((v : V) → P v → Q v) → (r : Result V Error) → IfOk r P → IfOk r Q

@@ -158,3 +158,24 @@ stands_requeued a b c s n w m within it some one two =
 -- and where none has it, the state is as it was
 pub nothing_requeued : (s : State) (n m : ℕ) → length (filter (λ (e : InEntry). e.number == n) s.inbox) ≡ 0 → change_received s n (requeued m) ≡ s
 nothing_requeued s n m none = ap (λ es. record s { inbox = es }) (changed_none n (requeued m) s.inbox (none_numbered n s.inbox none))
+
+-- the tables then stand for what they stood for
+pub stands_unnumbered : (a b : Connected) (s : State) (n m : ℕ) → Stands a.now s → length (filter (λ (e : InEntry). e.number == n) s.inbox) ≡ 0
+    → Changed a b store_schema inbox_tree (map in_row (change_received s n (requeued m)).inbox) → Stands b.now (change_received s n (requeued m))
+stands_unnumbered a b s n m it none one =
+    let has = it.entries in
+    let same = nothing_requeued s n m none in
+    subst (λ (t : State). Stands b.now t) (sym same) (record {
+      schema = one.schema_is;
+      meta = one.others.0 (λ e. omega arith) ∙ it.meta;
+      entries = record {
+        inbox = one.rows_are ∙ ap (λ (t : State). map in_row t.inbox) same;
+        inbox_contents = one.others.1.1.0 (λ e. omega arith) ∙ has.inbox_contents;
+        outbox = one.others.1.1.1.0 (λ e. omega arith) ∙ has.outbox;
+        outbox_contents = one.others.1.1.1.1.0 (λ e. omega arith) ∙ has.outbox_contents;
+        evidence = one.others.1.1.1.1.1.0 (λ e. omega arith) ∙ has.evidence;
+        waits = one.others.1.1.1.1.1.1.0 (λ e. omega arith) ∙ has.waits;
+      };
+      receipts = it.receipts;
+      documents = it.documents;
+    })

@@ -38,6 +38,7 @@ pub fn add<S: Alter>(conn: &mut Connection<S>, entry: &InEntry) -> Result<(), Er
     ensures autocommit { conn.new.in_transaction ≡ false }
     ensures clean { HasCleanDisk (state S.Store conn.new) → HasCleanDisk (state S.Store conn.old) }
     ensures open { HasCleanDisk (state S.Store conn.new) → OnOk result (IsTrue (state S.Store conn.old).is_open) }
+    ensures opened { HasCleanDisk (state S.Store conn.new) → OnOk result (IsTrue (state S.Store conn.new).is_open) }
     ensures added { HasCleanDisk (state S.Store conn.new) → OnOk result ((s : State) → Rests (state S.Store conn.old) s → entry.now.number ≡ s.next_in → Rests (state S.Store conn.new) (with_received s entry.now)) }
     ensures failed { HasCleanDisk (state S.Store conn.new) → OnErr result ((s : State) → Rests (state S.Store conn.old) s → Rests (state S.Store conn.new) s) }
 {

@@ -1,6 +1,6 @@
 //! The rows of the contents.
 
-ghost use Rattle.std.specs.Prelude.{◌≡◌, [], ◌∷◌, ◌<◌, ◌^◌, false, Bool, Some, find, map, length, IfOk, OnOk};
+ghost use Rattle.std.specs.Prelude.{◌≡◌, [], ◌∷◌, ◌<◌, ◌^◌, false, Bool, Some, find, map, length, IsTrue, IfOk, OnOk};
 ghost use Rattle.sqlite.specs.Held.{state};
 ghost use Rattle.sqlite.specs.State.{HasCleanDisk, KeepsCommit};
 ghost use Rattle.as2_rows.specs.Contents.{pieces, piece_shown};
@@ -66,6 +66,7 @@ pub fn in_piece_rows<S: Alter>(conn: &mut Connection<S>, number: u64) -> Result<
     requires { number < 2 ^ 63 }
     ensures mode { conn.old.in_transaction ≡ false → conn.new.in_transaction ≡ false }
     ensures clean { HasCleanDisk (state S.Store conn.new) → HasCleanDisk (state S.Store conn.old) }
+    ensures opened { HasCleanDisk (state S.Store conn.new) → OnOk result (IsTrue (state S.Store conn.new).is_open) }
     ensures same { HasCleanDisk (state S.Store conn.new) → (s : State) → Rests (state S.Store conn.old) s → Rests (state S.Store conn.new) s }
     ensures rows { HasCleanDisk (state S.Store conn.new) → IfOk result (λ rows. (s : State) → Rests (state S.Store conn.old) s → (p : Entry → Bool) (e : Entry) → find p s.inbox ≡ Some e → number ≡ e.number
         → rows.items ≡ map piece_shown (pieces e.number e.posted.content)) }
@@ -82,6 +83,7 @@ pub fn out_piece_rows<S: Alter>(conn: &mut Connection<S>, number: u64) -> Result
     requires { number < 2 ^ 63 }
     ensures mode { conn.old.in_transaction ≡ false → conn.new.in_transaction ≡ false }
     ensures clean { HasCleanDisk (state S.Store conn.new) → HasCleanDisk (state S.Store conn.old) }
+    ensures opened { HasCleanDisk (state S.Store conn.new) → OnOk result (IsTrue (state S.Store conn.new).is_open) }
     ensures same { HasCleanDisk (state S.Store conn.new) → (s : State) → Rests (state S.Store conn.old) s → Rests (state S.Store conn.new) s }
     ensures rows { HasCleanDisk (state S.Store conn.new) → IfOk result (λ rows. (s : State) → Rests (state S.Store conn.old) s → (p : Document → Bool) (d : Document) → find p s.outbox ≡ Some d → number ≡ d.number
         → rows.items ≡ map piece_shown (pieces d.number d.content)) }

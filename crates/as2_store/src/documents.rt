@@ -1,6 +1,6 @@
 //! Rows of the outbox as its documents.
 
-ghost use Rattle.std.specs.Prelude.{◌≡◌, ◌<◌, ◌^◌, Bool, true, false, Some, find, filter, map, IfOk, IfErr};
+ghost use Rattle.std.specs.Prelude.{◌≡◌, ◌<◌, ◌^◌, Bool, true, false, Some, find, filter, map, IsTrue, IfOk, IfErr, OnOk};
 ghost use Rattle.sqlite.specs.Held.{state};
 ghost use Rattle.sqlite.specs.State.{HasCleanDisk};
 ghost use Rattle.as2_exchange.specs.State.{State};
@@ -26,6 +26,7 @@ fn content_of<S: Alter>(
     requires { number < 2 ^ 63 }
     ensures mode { conn.old.in_transaction ≡ false → conn.new.in_transaction ≡ false }
     ensures clean { HasCleanDisk (state S.Store conn.new) → HasCleanDisk (state S.Store conn.old) }
+    ensures opened { HasCleanDisk (state S.Store conn.new) → OnOk result (IsTrue (state S.Store conn.new).is_open) }
     ensures same { HasCleanDisk (state S.Store conn.new) → (s : State) → Rests (state S.Store conn.old) s → Rests (state S.Store conn.new) s }
     ensures content { HasCleanDisk (state S.Store conn.new) → IfOk result (λ content. (s : State) → Rests (state S.Store conn.old) s → (p : Document → Bool) (d : Document) → find p s.outbox ≡ Some d → number ≡ d.number → content ≡ d.content) }
     ensures fault { IfErr result (λ f. may_come f ≡ true) }
@@ -49,6 +50,7 @@ fn evidence_of<S: Alter>(
     requires { number < 2 ^ 63 }
     ensures mode { conn.old.in_transaction ≡ false → conn.new.in_transaction ≡ false }
     ensures clean { HasCleanDisk (state S.Store conn.new) → HasCleanDisk (state S.Store conn.old) }
+    ensures opened { HasCleanDisk (state S.Store conn.new) → OnOk result (IsTrue (state S.Store conn.new).is_open) }
     ensures same { HasCleanDisk (state S.Store conn.new) → (s : State) → Rests (state S.Store conn.old) s → Rests (state S.Store conn.new) s }
     ensures evidence { HasCleanDisk (state S.Store conn.new) → IfOk result (λ evidence. (s : State) → Rests (state S.Store conn.old) s → (p : Document → Bool) (d : Document) → find p s.outbox ≡ Some d → number ≡ d.number → evidence ≡ d.evidence) }
     ensures fault { IfErr result (λ f. may_come f ≡ true) }
@@ -74,6 +76,7 @@ pub fn first_document<S: Alter>(
 ) -> Result<Option<OutEntry>, StoreFault>
     ensures mode { conn.old.in_transaction ≡ false → conn.new.in_transaction ≡ false }
     ensures clean { HasCleanDisk (state S.Store conn.new) → HasCleanDisk (state S.Store conn.old) }
+    ensures opened { HasCleanDisk (state S.Store conn.new) → OnOk result (IsTrue (state S.Store conn.old).is_open → IsTrue (state S.Store conn.new).is_open) }
     ensures same { HasCleanDisk (state S.Store conn.new) → (s : State) → Rests (state S.Store conn.old) s → Rests (state S.Store conn.new) s }
     ensures found { HasCleanDisk (state S.Store conn.new) → IfOk result (λ found. (s : State) → Rests (state S.Store conn.old) s → (p : Document → Bool) → rows.now ≡ map out_shown (filter p s.outbox) → found ≡ find p s.outbox) }
     ensures fault { IfErr result (λ f. may_come f ≡ true) }

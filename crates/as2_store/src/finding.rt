@@ -1,6 +1,6 @@
 //! Rows of the inbox as its entries.
 
-ghost use Rattle.std.specs.Prelude.{◌≡◌, Bool, true, false, List, Some, find, filter, map, IfOk, IfErr};
+ghost use Rattle.std.specs.Prelude.{◌≡◌, Bool, true, false, List, Some, find, filter, map, IsTrue, IfOk, IfErr, OnOk};
 ghost use Rattle.sqlite.specs.Held.{state};
 ghost use Rattle.sqlite.specs.State.{HasCleanDisk};
 ghost use Rattle.as2_exchange.specs.State.{State};
@@ -25,6 +25,7 @@ fn content_of<S: Alter>(
 ) -> Result<Pieces, StoreFault>
     ensures mode { conn.old.in_transaction ≡ false → conn.new.in_transaction ≡ false }
     ensures clean { HasCleanDisk (state S.Store conn.new) → HasCleanDisk (state S.Store conn.old) }
+    ensures opened { HasCleanDisk (state S.Store conn.new) → OnOk result (IsTrue (state S.Store conn.new).is_open) }
     ensures same { HasCleanDisk (state S.Store conn.new) → (s : State) → Rests (state S.Store conn.old) s → Rests (state S.Store conn.new) s }
     ensures content { HasCleanDisk (state S.Store conn.new) → IfOk result (λ content. (s : State) → Rests (state S.Store conn.old) s → (p : Entry → Bool) (e : Entry) → find p s.inbox ≡ Some e → number ≡ e.number → content ≡ e.posted.content) }
     ensures fault { IfErr result (λ f. may_come f ≡ true) }
@@ -50,6 +51,7 @@ pub fn first_entry<S: Alter>(
 ) -> Result<Option<InEntry>, StoreFault>
     ensures mode { conn.old.in_transaction ≡ false → conn.new.in_transaction ≡ false }
     ensures clean { HasCleanDisk (state S.Store conn.new) → HasCleanDisk (state S.Store conn.old) }
+    ensures opened { HasCleanDisk (state S.Store conn.new) → OnOk result (IsTrue (state S.Store conn.old).is_open → IsTrue (state S.Store conn.new).is_open) }
     ensures same { HasCleanDisk (state S.Store conn.new) → (s : State) → Rests (state S.Store conn.old) s → Rests (state S.Store conn.new) s }
     ensures found { HasCleanDisk (state S.Store conn.new) → IfOk result (λ found. (s : State) → Rests (state S.Store conn.old) s → (p : Entry → Bool) → rows.now ≡ map in_shown (filter p s.inbox) → found ≡ find p s.inbox) }
     ensures fault { IfErr result (λ f. may_come f ≡ true) }

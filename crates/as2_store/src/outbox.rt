@@ -21,6 +21,7 @@ pub fn rows_by_id<S: Alter>(conn: &mut Connection<S>, value: &[u8]) -> Result<Ve
     ensures mode { conn.old.in_transaction ≡ false → conn.new.in_transaction ≡ false }
     ensures clean { HasCleanDisk (state S.Store conn.new) → HasCleanDisk (state S.Store conn.old) }
     ensures open { HasCleanDisk (state S.Store conn.new) → OnOk result (IsTrue (state S.Store conn.old).is_open) }
+    ensures opened { HasCleanDisk (state S.Store conn.new) → OnOk result (IsTrue (state S.Store conn.new).is_open) }
     ensures same { HasCleanDisk (state S.Store conn.new) → (s : State) → Rests (state S.Store conn.old) s → Rests (state S.Store conn.new) s }
     ensures rows { HasCleanDisk (state S.Store conn.new) → IfOk result (λ rows. (s : State) → Rests (state S.Store conn.old) s → rows.items ≡ map out_shown (filter (has_id value.now) s.outbox)) }
 {
@@ -35,6 +36,7 @@ pub fn evidence_rows<S: Alter>(conn: &mut Connection<S>, number: u64) -> Result<
     requires { number < 2 ^ 63 }
     ensures mode { conn.old.in_transaction ≡ false → conn.new.in_transaction ≡ false }
     ensures clean { HasCleanDisk (state S.Store conn.new) → HasCleanDisk (state S.Store conn.old) }
+    ensures opened { HasCleanDisk (state S.Store conn.new) → OnOk result (IsTrue (state S.Store conn.new).is_open) }
     ensures same { HasCleanDisk (state S.Store conn.new) → (s : State) → Rests (state S.Store conn.old) s → Rests (state S.Store conn.new) s }
     ensures rows { HasCleanDisk (state S.Store conn.new) → IfOk result (λ rows. (s : State) → Rests (state S.Store conn.old) s → (p : Document → Bool) (d : Document) → find p s.outbox ≡ Some d → number ≡ d.number
         → rows.items ≡ shown_evidence d.number d.evidence) }

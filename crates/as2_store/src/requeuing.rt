@@ -43,11 +43,13 @@ pub fn requeue<S: Alter>(conn: &mut Connection<S>, number: u64, moment: Moment) 
     ensures autocommit { conn.new.in_transaction ≡ false }
     ensures clean { HasCleanDisk (state S.Store conn.new) → HasCleanDisk (state S.Store conn.old) }
     ensures open { HasCleanDisk (state S.Store conn.new) → OnOk result (IsTrue (state S.Store conn.old).is_open) }
+    ensures opened { HasCleanDisk (state S.Store conn.new) → OnOk result (IsTrue (state S.Store conn.new).is_open) }
     ensures requeued { HasCleanDisk (state S.Store conn.new) → OnOk result ((s : State) → Rests (state S.Store conn.old) s → Rests (state S.Store conn.new) (change_received s number (requeued moment))) }
     ensures failed { HasCleanDisk (state S.Store conn.new) → OnErr result ((s : State) → Rests (state S.Store conn.old) s → Rests (state S.Store conn.new) s) }
 {
     let mut tx = conn.transaction();
     if set_requeued(&mut tx, number, moment)? == 0 {
+        tx.commit()?;
         return Ok(());
     }
     wait_anew(&mut tx, asked(number), moment.seconds())?;

@@ -57,6 +57,7 @@ pub fn settle<S: Alter>(
     ensures autocommit { conn.new.in_transaction ≡ false }
     ensures clean { HasCleanDisk (state S.Store conn.new) → HasCleanDisk (state S.Store conn.old) }
     ensures open { HasCleanDisk (state S.Store conn.new) → OnOk result (IsTrue (state S.Store conn.old).is_open) }
+    ensures opened { HasCleanDisk (state S.Store conn.new) → OnOk result (IsTrue (state S.Store conn.new).is_open) }
     ensures settled { HasCleanDisk (state S.Store conn.new) → OnOk result ((s : State) → Rests (state S.Store conn.old) s → is_by_receipt detail ≡ true → (d : Document) → document s number ≡ Some d → is_settled d ≡ false
         → Rests (state S.Store conn.new) (change_document s number (settled_as detail evidence.now))) }
     ensures failed { HasCleanDisk (state S.Store conn.new) → OnErr result ((s : State) → Rests (state S.Store conn.old) s → Rests (state S.Store conn.new) s) }

@@ -101,6 +101,7 @@ impl<S: Alter> Store<S> {
     pub fn next_numbers(&mut self) -> Result<NextNumbers, StoreFault>
         ensures clean { HasCleanDisk (state S.Store self.new) → HasCleanDisk (state S.Store self.old) }
         ensures open { HasCleanDisk (state S.Store self.new) → OnOk result (IsTrue (state S.Store self.old).is_open) }
+        ensures opened { HasCleanDisk (state S.Store self.new) → OnOk result (IsTrue (state S.Store self.new).is_open) }
         ensures numbers { HasCleanDisk (state S.Store self.new) → IfOk result (λ next. (s : State) → Rests (state S.Store self.old) s → (next.receipt ≡ s.next_in) × (next.document ≡ s.next_out)) }
         ensures same { HasCleanDisk (state S.Store self.new) → (s : State) → Rests (state S.Store self.old) s → Rests (state S.Store self.new) s }
         ensures fault { IfErr result (λ f. may_come f ≡ true) }
@@ -120,6 +121,7 @@ impl<S: Alter> Store<S> {
     pub fn add_in(&mut self, entry: &InEntry) -> Result<(), StoreFault>
         ensures clean { HasCleanDisk (state S.Store self.new) → HasCleanDisk (state S.Store self.old) }
         ensures open { HasCleanDisk (state S.Store self.new) → OnOk result (IsTrue (state S.Store self.old).is_open) }
+        ensures opened { HasCleanDisk (state S.Store self.new) → OnOk result (IsTrue (state S.Store self.new).is_open) }
         ensures added { HasCleanDisk (state S.Store self.new) → OnOk result ((s : State) → Rests (state S.Store self.old) s → entry.now.number ≡ s.next_in → Rests (state S.Store self.new) (with_received s entry.now)) }
         ensures failed { HasCleanDisk (state S.Store self.new) → OnErr result ((s : State) → Rests (state S.Store self.old) s → Rests (state S.Store self.new) s) }
         ensures full { IfErr result (λ f. f ≡ Full → end_of_numbers ≤ entry.now.number) }
@@ -143,6 +145,7 @@ impl<S: Alter> Store<S> {
     pub fn requeue_mdn(&mut self, number: u64, moment: Moment) -> Result<(), StoreFault>
         ensures clean { HasCleanDisk (state S.Store self.new) → HasCleanDisk (state S.Store self.old) }
         ensures open { HasCleanDisk (state S.Store self.new) → OnOk result (IsTrue (state S.Store self.old).is_open) }
+        ensures opened { HasCleanDisk (state S.Store self.new) → OnOk result (IsTrue (state S.Store self.new).is_open) }
         ensures requeued { HasCleanDisk (state S.Store self.new) → OnOk result ((s : State) → Rests (state S.Store self.old) s → Rests (state S.Store self.new) (change_received s number (requeued moment))) }
         ensures failed { HasCleanDisk (state S.Store self.new) → OnErr result ((s : State) → Rests (state S.Store self.old) s → Rests (state S.Store self.new) s) }
         ensures fault { IfErr result (λ f. may_come f ≡ true) }
@@ -164,6 +167,7 @@ impl<S: Alter> Store<S> {
     ) -> Result<(), StoreFault>
         ensures clean { HasCleanDisk (state S.Store self.new) → HasCleanDisk (state S.Store self.old) }
         ensures open { HasCleanDisk (state S.Store self.new) → OnOk result (IsTrue (state S.Store self.old).is_open) }
+        ensures opened { HasCleanDisk (state S.Store self.new) → OnOk result (IsTrue (state S.Store self.new).is_open) }
         ensures settled { HasCleanDisk (state S.Store self.new) → OnOk result ((s : State) → Rests (state S.Store self.old) s → is_by_receipt detail ≡ true → (d : Document) → document s number ≡ Some d → is_settled d ≡ false
             → Rests (state S.Store self.new) (change_document s number (settled_as detail evidence.now))) }
         ensures failed { HasCleanDisk (state S.Store self.new) → OnErr result ((s : State) → Rests (state S.Store self.old) s → Rests (state S.Store self.new) s) }
@@ -188,6 +192,7 @@ impl<S: Alter> Store<S> {
     ) -> Result<Option<InEntry>, StoreFault>
         ensures clean { HasCleanDisk (state S.Store self.new) → HasCleanDisk (state S.Store self.old) }
         ensures open { HasCleanDisk (state S.Store self.new) → OnOk result (IsTrue (state S.Store self.old).is_open) }
+        ensures opened { HasCleanDisk (state S.Store self.new) → OnOk result (IsTrue (state S.Store self.new).is_open) }
         ensures found { HasCleanDisk (state S.Store self.new) → IfOk result (λ found. (s : State) → Rests (state S.Store self.old) s → found ≡ find (has_key sender.now receiver.now id_value.now) s.inbox) }
         ensures same { HasCleanDisk (state S.Store self.new) → (s : State) → Rests (state S.Store self.old) s → Rests (state S.Store self.new) s }
         ensures fault { IfErr result (λ f. may_come f ≡ true) }
@@ -212,6 +217,7 @@ impl<S: Alter> Store<S> {
     ) -> Result<Option<InEntry>, StoreFault>
         ensures clean { HasCleanDisk (state S.Store self.new) → HasCleanDisk (state S.Store self.old) }
         ensures open { HasCleanDisk (state S.Store self.new) → OnOk result (IsTrue (state S.Store self.old).is_open) }
+        ensures opened { HasCleanDisk (state S.Store self.new) → OnOk result (IsTrue (state S.Store self.new).is_open) }
         ensures found { HasCleanDisk (state S.Store self.new) → IfOk result (λ found. (s : State) → Rests (state S.Store self.old) s → found ≡ received s number) }
         ensures same { HasCleanDisk (state S.Store self.new) → (s : State) → Rests (state S.Store self.old) s → Rests (state S.Store self.new) s }
         ensures fault { IfErr result (λ f. may_come f ≡ true) }
@@ -232,6 +238,7 @@ impl<S: Alter> Store<S> {
     ) -> Result<Option<OutEntry>, StoreFault>
         ensures clean { HasCleanDisk (state S.Store self.new) → HasCleanDisk (state S.Store self.old) }
         ensures open { HasCleanDisk (state S.Store self.new) → OnOk result (IsTrue (state S.Store self.old).is_open) }
+        ensures opened { HasCleanDisk (state S.Store self.new) → OnOk result (IsTrue (state S.Store self.new).is_open) }
         ensures found { HasCleanDisk (state S.Store self.new) → IfOk result (λ found. (s : State) → Rests (state S.Store self.old) s → found ≡ document_named s id_value.now) }
         ensures same { HasCleanDisk (state S.Store self.new) → (s : State) → Rests (state S.Store self.old) s → Rests (state S.Store self.new) s }
         ensures fault { IfErr result (λ f. may_come f ≡ true) }
@@ -247,6 +254,7 @@ impl<S: Alter> Store<S> {
     pub fn list_in(&mut self, alloc: Global) -> Result<Vec<InRow>, StoreFault>
         ensures clean { HasCleanDisk (state S.Store self.new) → HasCleanDisk (state S.Store self.old) }
         ensures open { HasCleanDisk (state S.Store self.new) → OnOk result (IsTrue (state S.Store self.old).is_open) }
+        ensures opened { HasCleanDisk (state S.Store self.new) → OnOk result (IsTrue (state S.Store self.new).is_open) }
         ensures entries { HasCleanDisk (state S.Store self.new) → IfOk result (λ entries. (s : State) → Rests (state S.Store self.old) s → entries.items ≡ map in_summary s.inbox) }
         ensures same { HasCleanDisk (state S.Store self.new) → (s : State) → Rests (state S.Store self.old) s → Rests (state S.Store self.new) s }
         ensures fault { IfErr result (λ f. may_come f ≡ true) }

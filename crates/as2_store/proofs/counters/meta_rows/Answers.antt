@@ -3,7 +3,7 @@ use Rattle.sqlite.specs.Held.{state}
 use Rattle.sqlite.specs.State.{Shown, FailsToQuery}
 use Rattle.as2_store.specs.Statements.{meta_read_text}
 use Rattle.as2_store.proofs.Texts.{meta_read_plain}
-use Rattle.as2_store.proofs.Answering.{same_after, open_where, if_shown, if_failed}
+use Rattle.as2_store.proofs.Answering.{same_after, open_where, opened_where, if_failed, if_shown}
 use Rattle.as2_store.proofs.MetaRow.{reads_meta, reads_said, rests_fails, said_fails}
 use Rattle.as2_store.proofs.counters.meta_rows.Goals as goal
 
@@ -45,3 +45,6 @@ returns-clause-unsaid g c clean =
     let new = state g.S.Store c.query_all.new.self in
     let err : IfErr c.query_all.result (FailsToQuery meta_read_text [] old new) = c.query_all.ensures.err clean in
     if_failed _ _ (λ e failed kind version it. said_fails old new e kind version it failed) c.query_all.result err
+
+pub returns-clause-opened : goal.returns-clause-opened
+returns-clause-opened g c clean = opened_where _ _ (state g.S.Store c.args.conn.now) (state g.S.Store c.query_all.new.self) (λ rows. rows.items) c.query_all.result (c.query_all.ensures.ok clean)

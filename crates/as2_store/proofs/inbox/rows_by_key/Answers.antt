@@ -3,7 +3,7 @@ use Rattle.sqlite.specs.Held.{state}
 use Rattle.sqlite.specs.State.{Shown, FailsToQuery}
 use Rattle.as2_store.specs.Statements.{in_by_key_text}
 use Rattle.as2_store.proofs.Texts.{in_by_key_plain}
-use Rattle.as2_store.proofs.Answering.{same_after, open_where, if_shown}
+use Rattle.as2_store.proofs.Answering.{same_after, open_where, opened_where, if_shown}
 use Rattle.as2_store.proofs.Looking.{finds_key, key_params}
 use Rattle.as2_store.proofs.inbox.rows_by_key.Goals as goal
 
@@ -27,3 +27,6 @@ returns-clause-rows g c clean =
     let ok : IfOk c.query_all.result (λ rows. Shown in_by_key_text (key_params c.args.sender.now c.args.receiver.now c.args.value.now) old new rows.items) =
     rw (c.params-to_sql.ensures, c.params-to_sql-2.ensures, c.params-to_sql-3.ensures) at (c.query_all.ensures.ok clean) in
     if_shown _ _ (λ rows shown. finds_key c.args.sender.now c.args.receiver.now c.args.value.now old new rows.items shown) c.query_all.result ok
+
+pub returns-clause-opened : goal.returns-clause-opened
+returns-clause-opened g c clean = opened_where _ _ (state g.S.Store c.args.conn.now) (state g.S.Store c.query_all.new.self) (λ rows. rows.items) c.query_all.result (c.query_all.ensures.ok clean)
