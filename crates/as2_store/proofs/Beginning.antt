@@ -67,6 +67,7 @@ puts_meta old new first count bare h =
 pub stands_empty : (a b : Connected) (first : ℕ) → 1 ≤ first → first < end_of_numbers → IsBare a.now store_schema → Changed a b store_schema meta_tree (meta_row first first ∷ []) → Stands b.now (empty first)
 unfolding IsDistinct
 stands_empty a b first least most bare one = record {
+  sound = one.sound;
   schema = one.schema_is;
   meta = one.rows_are;
   entries = record {

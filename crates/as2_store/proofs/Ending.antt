@@ -1,8 +1,9 @@
 -- What the tables stand for once a receipt has settled a document.
-use Rattle.std.proofs.Common.{◌≡◌, ℕ, ◌<◌, ◌^◌, ◌==◌, ◌&&◌, not, List, [], ◌∷◌, ◌++◌, map, filter, find, Option, option_map, Some, None, IfSome, is_some, Bool, true, false, cond, Ok, refl, sym, ap, ap₂, subst, ◌∙◌, pos, arith, w64, to_z, of_z}
+use Rattle.std.proofs.Common.{◌≡◌, ℕ, ◌<◌, ◌^◌, ◌==◌, ◌&&◌, not, List, [], ◌∷◌, ◌++◌, map, filter, find, length, Option, option_map, Some, None, IfSome, is_some, Bool, true, false, cond, Ok, refl, sym, ap, ap₂, subst, ◌∙◌, ◌≢◌, ◌≤◌, nat_lt, inl, inr, IsTrue, pos, arith, w64, to_z, of_z}
 use Rattle.std.specs.List.{AllByRecursion, cons_option}
 use Rattle.std.specs.Ordering.{match_ordering}
 use Rattle.std.proofs.lemmas.Int.{ints}
+use Rattle.std.proofs.lemmas.Bool.{cases_Bool}
 use Rattle.std.proofs.lemmas.Bool.Decides.{nat_tests}
 use Rattle.std.proofs.lemmas.List.Elements.{filter-append, filter_agree}
 use Rattle.sqlite.specs.declared.types.Value.TheVariants.{Int}
@@ -10,7 +11,10 @@ use Rattle.sqlite.specs.Collation.TheVariants.{Binary}
 use Rattle.sqlite.specs.Ops.{binary, is_true, from_truth}
 use Rattle.sqlite.specs.Order.{Row, value_cmp}
 use Rattle.sqlite.specs.Tree.{put_row, IsAscending}
-use Rattle.sqlite.specs.State.{State as Connected, Executes}
+use Rattle.sqlite.specs.Edit.{are_fresh}
+use Rattle.sqlite.specs.Store.{Ghosts}
+use Rattle.sqlite.specs.Held.{Held, state}
+use Rattle.sqlite.specs.State.{State as Connected, HasCleanDisk, Executes}
 use Rattle.sqlite_sql.specs.declared.ops.BinaryOp.TheVariants.{Compare}
 use Rattle.sqlite_sql.specs.declared.ops.CompareOp.TheVariants.{Ne}
 use Rattle.std.specs.Ordering.{is_ne}
@@ -20,7 +24,7 @@ use Rattle.sql_tables.specs.Changes.{Changed, passes}
 use Rattle.sql_tables.proofs.Changing.{updates}
 use Rattle.sql_tables.proofs.Deleting.{deletes}
 use Rattle.sql_tables.proofs.Queries.{numbers_equal}
-use Rattle.sql_tables.proofs.Writes.{cast_int, cast_null, IsOneRow, inserts_given}
+use Rattle.sql_tables.proofs.Writes.{cast_int, cast_null, IsOneRow, inserts_given, inserts_fresh}
 use Rattle.as2_mdn.specs.declared.detail.Detail.{Detail}
 use Rattle.as2_mdn.specs.declared.detail.Detail.TheVariants.{New, Sending, Awaiting, Retry, Processed, NoReceiptAsked, Warning, NoMic, UnknownMic, NotProcessed, ErrorModifier, MicDiffers, TriesUsed, Overdue}
 use Rattle.as2_exchange.specs.State.{State, end_of_numbers, document, change_document, is_settled}
@@ -37,9 +41,11 @@ use Rattle.as2_rows.specs.Contents.{pieces}
 use Rattle.as2_rows.specs.Waiting.{Waiting, out_kind, out_waiting, waiting_out, waiting_in, to_send, to_answer, to_hear, to_end}
 use Rattle.as2_store.specs.Tables.{store_schema, outbox_table, outbox_tree, evidence_table, evidence_tree, waiting_table, waiting_tree}
 use Rattle.as2_store.specs.Statements.{out_settle_text, evidence_put_text, document_take_text}
-use Rattle.as2_store.specs.Stands.{Stands, place, waiting_row, documents_waiting, waiting, evidence_rows, outbox_pieces, piece_rows}
+use Rattle.as2_store.specs.Stands.{Stands, Rests, place, waiting_row, documents_waiting, waiting, evidence_rows, outbox_pieces, piece_rows}
 use Rattle.as2_store.specs.Requeuing.{Holds}
-use Rattle.as2_store.specs.Settling.{settled_as, of_document, without_document}
+use Rattle.as2_store.specs.Settling.{settled_as, settled_in, of_document, without_document}
+use Rattle.as2_store.proofs.Committing.{Done}
+use Rattle.as2_store.proofs.Unsettled.{some_found, unsettled}
 use Rattle.as2_store.proofs.MetaRow.{one_param, passed}
 use Rattle.as2_store.proofs.Rising.{numbers_rise, entries_rise, rises, falls}
 use Rattle.as2_store.proofs.Placing.{IsOf, ins_small}
@@ -86,11 +92,14 @@ as_rows n detail e (d ∷ ds) =
     by_case false = refl
 
 pub settles : (n count : ℕ) (detail : Detail) (e : Evidence) (old new : Connected) (s : State) → Stands old.now s → Executes out_settle_text (settle_params n detail) old new (Ok count)
-    → Changed old new store_schema outbox_tree (map out_row (change_document s n (settled_as detail e)).outbox)
+    → Changed old new store_schema outbox_tree (map out_row (change_document s n (settled_as detail e)).outbox) × (count ≡ length (filter (λ (d : OutEntry). d.number == n) s.outbox))
 settles n count detail e old new s it h =
     let done = updates out_settle_text (settle_params n detail) old new store_schema it.schema 3 outbox_table refl number_terms settle_project (λ (d : OutEntry). pos d.number) out_row (λ _. refl) (λ (d : OutEntry). out_row (settled_as detail e d)) (λ _. refl)
     (λ d. simp (cast_int, cast_null)) s.outbox it.entries.outbox (entries_rise out_row (λ (d : OutEntry). d.number) (λ _. refl) s.next_out s.outbox it.documents.1) (quiet outbox_tree) out_settle_is out_settle_plain count h in
-    subst (Changed old new store_schema outbox_tree) (as_rows n detail e s.outbox) done.0
+    (subst (Changed old new store_schema outbox_tree) (as_rows n detail e s.outbox) done.0, done.1 ∙ ap length (of_number s.outbox))
+  where
+    of_number : (ds : List OutEntry) → filter (λ (d : OutEntry). passes number_terms (settle_params n detail) (out_row d)) ds ≡ filter (λ (d : OutEntry). d.number == n) ds
+    of_number ds = filter_agree (λ (d : OutEntry). passes number_terms (settle_params n detail) (out_row d)) (λ (d : OutEntry). d.number == n) (λ d. ap (λ b. b && true) (numbers_equal d.number n) ∙ and_true _) ds
 
 same_numbers : (n : ℕ) (detail : Detail) (e : Evidence) (ds : List OutEntry) → map (λ (d : OutEntry). d.number) (ended n detail e ds) ≡ map (λ (d : OutEntry). d.number) ds
 same_numbers n detail e ds = map_kept (λ (d : OutEntry). d.number) (λ (d : OutEntry). cond (d.number == n) (settled_as detail e d) d) (λ d. by_case d (d.number == n)) ds
@@ -119,6 +128,11 @@ pub puts_evidence : (old new : Connected) (n : ℕ) (e : Evidence) (count : ℕ)
     → Changed old new store_schema evidence_tree (put_row (evidence_row n e) (old.now.trees evidence_tree))
 puts_evidence old new n e count has h =
     inserts_given evidence_put_text (receipt_params n e) old new store_schema has 5 evidence_table refl refl evidence_put_terms 5 (evidence_row n e) (one_receipt n e) refl evidence_put_is evidence_put_plain count h
+
+pub fresh_evidence : (old new : Connected) (n : ℕ) (e : Evidence) (count : ℕ) → old.now.schema ≡ store_schema → Executes evidence_put_text (receipt_params n e) old new (Ok count)
+    → are_fresh (old.now.trees evidence_tree) (evidence_row n e ∷ []) ≡ true
+fresh_evidence old new n e count has h =
+    inserts_fresh evidence_put_text (receipt_params n e) old new store_schema has 5 evidence_table refl refl evidence_put_terms 5 (evidence_row n e) (one_receipt n e) refl evidence_put_is evidence_put_plain count h
 
 others_stay : (n : ℕ) (detail : Detail) (e : Evidence) (ds : List OutEntry) → AllByRecursion (λ (d : OutEntry). n < d.number) ds → ended n detail e ds ≡ ds
 others_stay n detail e [] all = refl
@@ -317,6 +331,7 @@ stands_settled a b c d s n detail e x by it found unsettled one two three =
     let has = it.entries in
     let rising = numbers_rise (λ (y : OutEntry). y.number) s.next_out s.outbox it.documents.1 in
     record {
+      sound = three.sound;
       schema = three.schema_is;
       meta = three.others.0 (λ e. omega arith) ∙ two.others.0 (λ e. omega arith) ∙ one.others.0 (λ e. omega arith) ∙ it.meta;
       entries = record {
@@ -332,3 +347,41 @@ stands_settled a b c d s n detail e x by it found unsettled one two three =
       receipts = it.receipts;
       documents = (it.documents.0, subst (AreNumbers s.next_out) (sym (same_numbers n detail e s.outbox)) it.documents.1);
     }
+
+-- ---- the transaction
+
+settled_next : (s : State) (n : ℕ) (detail : Detail) (e : Evidence) (d : OutEntry) → document s n ≡ Some d → is_settled d ≡ false → is_by_receipt detail ≡ true → settled_in n detail e s ≡ Some (change_document s n (settled_as detail e))
+settled_next s n detail e d found not_yet by = rw (found, not_yet, by) refl
+
+-- an Ok of the three statements: there is such a document, and no receipt has settled it
+pub ends : {S : Type 0} (g : Ghosts S) (old : Held S) (one two last : Connected) (n w : ℕ) (detail : Detail) (e : Evidence) → is_by_receipt detail ≡ true → (end_of_numbers ≤ n → w ≡ end_of_numbers) → (n < end_of_numbers → w ≡ n)
+    → (count : ℕ) → count ≢ 0 → (HasCleanDisk two → HasCleanDisk one) → (HasCleanDisk last → HasCleanDisk two) → (HasCleanDisk one → IsTrue (state g old).is_open)
+    → (HasCleanDisk one → (s : State) → Stands (state g old).now s → (e : Evidence)
+    → Changed (state g (record old { in_transaction = true })) one store_schema outbox_tree (map out_row (change_document s w (settled_as detail e)).outbox) × (count ≡ length (filter (λ (d : OutEntry). d.number == w) s.outbox)))
+    → (HasCleanDisk two → one.now.schema ≡ store_schema → Changed one two store_schema evidence_tree (put_row (evidence_row w e) (one.now.trees evidence_tree)) × (are_fresh (one.now.trees evidence_tree) (evidence_row w e ∷ []) ≡ true))
+    → (HasCleanDisk last → (ws : List Waiting) → Holds two.now ws → Changed two last store_schema waiting_tree (map waiting_row (without_document w ws)))
+    → HasCleanDisk last → Done g old last (settled_in n detail e)
+ends g old one two last n w detail e by beyond within count some was_one was_two opened set put taken clean =
+    let begun = state g (record old { in_transaction = true }) in
+    let late = was_one (was_two clean) in
+    record {
+      was_open = opened late;
+      reaches = λ s r.
+          let stood = r.stands (opened late) in
+          let first = set late s stood e in
+          let found = some_found (λ (d : OutEntry). d.number == w) s.outbox (λ none. some (first.1 ∙ none)) in
+          let low = given begun s w found.0 stood found.1 in
+          let it : w ≡ n = same_number low in
+          let next = put (was_two clean) first.0.schema_is in
+          let third = taken clean (waiting s) (still_holds begun one two s stood _ _ first.0 next.0) in
+          let rows : one.now.trees evidence_tree ≡ evidence_rows s.outbox = first.0.others.1.1.1.1.1.0 (λ e. omega arith) ∙ stood.entries.evidence in
+          let not_yet = unsettled w e s.outbox found.0 found.1 (ap (λ l. are_fresh l (evidence_row w e ∷ [])) (sym rows) ∙ next.1) in
+          let stands = stands_settled begun one two last s w detail e found.0 by stood found.1 not_yet first.0 next.0 third in
+          subst (λ k. (t : State) × (settled_in k detail e s ≡ Some t) × Stands last.now t) it (change_document s w (settled_as detail e), settled_next s w detail e found.0 found.1 not_yet by, stands);
+    }
+  where
+    same_number : w < end_of_numbers → w ≡ n
+    same_number low = elim (cases_Bool (nat_lt n end_of_numbers)) [
+      | inl small ↦ within (grind (arith, nat_tests, small))
+      | inr large ↦ absurd (let end : w ≡ end_of_numbers = beyond (grind (arith, nat_tests, large)) in omega (arith, low, end))
+    ]

@@ -2,6 +2,8 @@ mod Making
 mod Texts
 mod Quiet
 mod Resting
+mod Committing
+mod Querying
 mod Beginning
 mod Answering
 mod MetaRow
@@ -18,3 +20,4 @@ mod Renewing
 mod Resetting
 mod Recalling
 mod Ending
+mod Unsettled

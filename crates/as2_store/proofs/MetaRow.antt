@@ -1,6 +1,8 @@
 -- The row of `meta`: how it is read, and how its counter is raised.
-use Rattle.std.proofs.Common.{◌≡◌, inl, inr, ℕ, ◌<◌, ◌^◌, List, [], ◌∷◌, map, codes, Option, Ok, true, true≢false, refl, sym, ap, subst, ◌∙◌, pos, negsuc, arith, rules, w64, to_z, of_z, IsPermutation}
+use Rattle.std.proofs.Common.{◌≡◌, ◌≢◌, ◌+◌, ◌==◌, ◌&&◌, length, cond, inl, inr, ℕ, ◌<◌, ◌^◌, List, [], ◌∷◌, map, codes, Option, Ok, true, true≢false, refl, sym, ap, subst, ◌∙◌, pos, negsuc, arith, rules, w64, to_z, of_z, IsPermutation, Bool, false}
 use Rattle.std.proofs.lemmas.Int.{to_z-of_z}
+use Rattle.std.proofs.lemmas.Bool.Decides.{nat_tests}
+use Rattle.as2_store.proofs.Showing.{and_true}
 use Rattle.sqlite.specs.declared.types.Value.TheVariants.{Int, Text}
 use Rattle.sqlite.specs.Order.{Row}
 use Rattle.sqlite.specs.Term.{lit}
@@ -16,19 +18,19 @@ use Rattle.sqlite.proofs.Callers.{IsPlain, command_of, reads_as, one_permutation
 use Rattle.sqlite_typing.specs.Types.{accepts_program}
 use Rattle.sqlite_sql.proofs.QueryLemmas.{no_fold_overflows}
 use Rattle.sqlite_tied.specs.Compute.{everything}
-use Rattle.sql_tables.specs.Changes.{Changed, over_table, shown_of, chosen, IsOutside}
+use Rattle.sql_tables.specs.Changes.{Changed, over_table, shown_of, chosen, passes, IsOutside}
 use Rattle.sql_tables.proofs.Writes.{cast_int}
 use Rattle.sql_tables.proofs.Changing.{updates}
 use Rattle.sql_tables.proofs.Inside.{failed_or_open, shown_open}
-use Rattle.sql_tables.proofs.Queries.{in_any_order}
+use Rattle.sql_tables.proofs.Queries.{in_any_order, numbers_equal}
 use Rattle.sql_tables.proofs.Failing.{Takes, fails_outside}
 use Rattle.as2_exchange.specs.State.{State}
 use Rattle.as2_rows.specs.Rows.{whole, meta_row, meta_shown}
 use Rattle.as2_store.specs.Tables.{store_schema, meta_tree, meta_table}
 use Rattle.as2_store.specs.Statements.{meta_read_text, receipt_text}
-use Rattle.as2_store.specs.Stands.{Rests, Says}
+use Rattle.as2_store.specs.Stands.{Rests, Says, HasCounters}
 use Rattle.as2_store.proofs.Quiet.{quiet}
-use Rattle.as2_store.proofs.Texts.{meta_command, meta_columns, meta_read_is, meta_read_plain, meta_read_unlisted, receipt_project, receipt_is, receipt_plain}
+use Rattle.as2_store.proofs.Texts.{meta_command, meta_columns, meta_read_is, meta_read_plain, meta_read_unlisted, receipt_terms, receipt_project, receipt_is, receipt_plain}
 
 -- a number that is passed as i64
 pub passed : (n : ℕ) → n < 2 ^ 63 → to_z w64 (of_z w64 (pos n)) ≡ pos n
@@ -88,8 +90,17 @@ reads_said old new rows h kind version it = reads_row old new rows kind version 
 abbrev pub one_param : ℕ → Row
 one_param n = Int (pos n) ∷ []
 
-pub counts_receipts : (old new : Connected) (n m next count : ℕ) → old.now.schema ≡ store_schema → old.now.trees meta_tree ≡ meta_row n m ∷ [] → Executes receipt_text (one_param next) old new (Ok count)
-    → Changed old new store_schema meta_tree (meta_row next m ∷ [])
-counts_receipts old new n m next count has one h =
-    (updates receipt_text (one_param next) old new store_schema has 0 meta_table refl [] receipt_project (λ _. pos 1) (λ k. meta_row k m) (λ _. refl) (λ _. meta_row next m) (λ _. refl) (λ _. simp cast_int)
-    (n ∷ []) one (tt, tt) (quiet meta_tree) receipt_is receipt_plain count h).0
+abbrev pub receipt_params : ℕ → Row
+receipt_params n = Int (pos n) ∷ Int (pos (n + 1)) ∷ []
+
+-- where a row was changed, it had this number
+pub counts_receipts : (old new : Connected) (number count n m : ℕ) → Executes receipt_text (receipt_params number) old new (Ok count) → HasCounters old.now n m → count ≢ 0
+    → (number ≡ n) × Changed old new store_schema meta_tree (meta_row (number + 1) m ∷ [])
+counts_receipts old new number count n m h has some =
+    let done = updates receipt_text (receipt_params number) old new store_schema has.schema 0 meta_table refl receipt_terms receipt_project (λ _. pos 1) (λ k. meta_row k m) (λ _. refl) (λ _. meta_row (number + 1) m) (λ _. refl) (λ _. simp cast_int)
+    (n ∷ []) has.meta (tt, tt) (quiet meta_tree) receipt_is receipt_plain count h in
+    go (passes receipt_terms (receipt_params number) (meta_row n m)) (ap (λ b. b && true) (numbers_equal n number) ∙ and_true _) done.0 done.1
+  where
+    go : (t : Bool) → t ≡ (n == number) → Changed old new store_schema meta_tree (cond t (meta_row (number + 1) m) (meta_row n m) ∷ []) → count ≡ length (cond t (n ∷ []) []) → (number ≡ n) × Changed old new store_schema meta_tree (meta_row (number + 1) m ∷ [])
+    go true is changed counted = (grind (arith, nat_tests, is), changed)
+    go false is changed counted = absurd (some counted)

@@ -1,12 +1,14 @@
 -- What the tables stand for once a receipt is to be sent anew.
-use Rattle.std.proofs.Common.{◌≡◌, ◌≢◌, ℕ, ◌<◌, ◌≤◌, ◌==◌, ◌&&◌, List, [], ◌∷◌, ◌++◌, map, filter, length, Option, Some, None, IfSome, Bool, true, false, cond, Ok, refl, sym, ap, ap₂, subst, ◌∙◌, pos, arith}
+use Rattle.std.proofs.Common.{◌≡◌, ◌≢◌, ℕ, ◌<◌, ◌≤◌, ◌==◌, ◌&&◌, List, [], ◌∷◌, ◌++◌, map, filter, length, Option, Some, None, IfSome, Bool, true, false, cond, Ok, refl, sym, ap, ap₂, subst, ◌∙◌, IsTrue, pos, arith}
+use Rattle.sqlite.specs.Store.{Ghosts}
+use Rattle.sqlite.specs.Held.{Held, state}
 use Rattle.std.specs.List.{AllByRecursion, cons_option}
 use Rattle.std.proofs.lemmas.List.Elements.{filter_map-append}
 use Rattle.sqlite.specs.declared.types.Value.TheVariants.{Int}
 use Rattle.sqlite.specs.Order.{Row}
 use Rattle.sqlite.specs.Effect.{Database}
 use Rattle.sqlite.specs.Tree.{put_row, IsTable}
-use Rattle.sqlite.specs.State.{State as Connected, Executes}
+use Rattle.sqlite.specs.State.{State as Connected, HasCleanDisk, Executes}
 use Rattle.sqlite_trees.proofs.ListLemmas.{filter_same, all-map, all_from_map}
 use Rattle.sql_tables.specs.Changes.{Changed, passes}
 use Rattle.sql_tables.proofs.Changing.{updates}
@@ -23,7 +25,7 @@ use Rattle.as2_rows.specs.Waiting.{Waiting, in_waiting, waiting_in, to_send, to_
 use Rattle.as2_store.specs.Tables.{store_schema, inbox_table, inbox_tree}
 use Rattle.as2_store.specs.Statements.{in_requeue_text}
 use Rattle.as2_store.specs.Stands.{Stands, place, waiting_row, documents_waiting, waiting, inbox_pieces, piece_rows}
-use Rattle.as2_store.specs.Requeuing.{requeued, not_at, Holds, Renewed}
+use Rattle.as2_store.specs.Requeuing.{requeued, requeued_in, not_at, Holds, Renewed}
 use Rattle.as2_store.proofs.Rising.{numbers_rise, entries_rise}
 use Rattle.as2_store.proofs.Placing.{IsLast, documents_of, ins_small, last_of}
 use Rattle.as2_store.proofs.Writing.{cast_url, cast_digest, cast_mic}
@@ -32,6 +34,7 @@ use Rattle.as2_store.proofs.Looking.{same_tests}
 use Rattle.as2_store.proofs.Quiet.{quiet}
 use Rattle.as2_store.proofs.Texts.{number_terms, requeue_project, in_requeue_is, in_requeue_plain}
 use Rattle.as2_store.proofs.Splitting.{Split, split, at_one, changed, changed_none, changed_split, none_numbered}
+use Rattle.as2_store.proofs.Committing.{Done}
 use Rattle.as2_store.proofs.Renewing.{documents_rise, receipts_rise, places_rise, renewed}
 
 -- ---- the statement
@@ -141,6 +144,7 @@ stands_requeued a b c s n w m within it some one two =
     let small : n < end_of_numbers = omega (arith, below, found.here, it.receipts.0.most) in
     let outs = below_end s.next_out it.documents.0.most (map (λ (d : OutEntry). d.number) s.outbox) it.documents.1.below in
     record {
+      sound = two.sound;
       schema = two.schema_is;
       meta = two.others.0 (λ e. omega arith) ∙ one.others.0 (λ e. omega arith) ∙ it.meta;
       entries = record {
@@ -166,6 +170,7 @@ stands_unnumbered a b s n m it none one =
     let has = it.entries in
     let same = nothing_requeued s n m none in
     subst (λ (t : State). Stands b.now t) (sym same) (record {
+      sound = one.sound;
       schema = one.schema_is;
       meta = one.others.0 (λ e. omega arith) ∙ it.meta;
       entries = record {
@@ -179,3 +184,30 @@ stands_unnumbered a b s n m it none one =
       receipts = it.receipts;
       documents = it.documents;
     })
+
+-- ---- the transaction
+
+module _ {S : Type 0} (g : Ghosts S) (old : Held S) (mid : Connected) (n : ℕ) where
+  abbrev Set : ℕ → ℕ → Type 0
+  Set m count = (s : State) → Stands (state g old).now s → Changed (state g (record old { in_transaction = true })) mid store_schema inbox_tree (map in_row (change_received s n (requeued m)).inbox) × (count ≡ length (filter (λ (e : InEntry). e.number == n) s.inbox))
+
+  pub requeues_none : (m count : ℕ) → count ≡ 0 → (HasCleanDisk mid → IsTrue (state g old).is_open) → (HasCleanDisk mid → Set m count) → HasCleanDisk mid → Done g old mid (requeued_in n m)
+  requeues_none m count none opened put clean = record {
+    was_open = opened clean;
+    reaches = λ s r.
+        let stood = r.stands (opened clean) in
+        let one = put clean s stood in
+        (change_received s n (requeued m), refl, stands_unnumbered (state g (record old { in_transaction = true })) mid s n m stood (sym one.1 ∙ none) one.0);
+  }
+
+  pub requeues_some : (last : Connected) (w m : ℕ) → (n < end_of_numbers → w ≡ n) → (count : ℕ) → count ≢ 0 → (HasCleanDisk last → HasCleanDisk mid) → (HasCleanDisk mid → IsTrue (state g old).is_open) → (HasCleanDisk mid → Set m count)
+      → (HasCleanDisk last → (ws : List Waiting) → Holds mid.now ws → Renewed mid last (to_send_from w m) ws) → HasCleanDisk last → Done g old last (requeued_in n m)
+  requeues_some last w m within count some was opened put renewed clean = record {
+    was_open = opened (was clean);
+    reaches = λ s r.
+        let begun = state g (record old { in_transaction = true }) in
+        let stood = r.stands (opened (was clean)) in
+        let one = put (was clean) s stood in
+        let two = renewed clean (waiting s) (holds begun mid s stood _ one.0) in
+        (change_received s n (requeued m), refl, stands_requeued begun mid last s n w m within stood (λ none. some (one.1 ∙ none)) one.0 two);
+  }

@@ -50,9 +50,12 @@ unfolding understood everything
 meta_read_unlisted = refl
 
 abbrev pub receipt_project : List Term
-receipt_project = col 1 0 ∷ col 1 1 ∷ col 1 2 ∷ col 0 0 ∷ col 1 4 ∷ []
+receipt_project = col 1 0 ∷ col 1 1 ∷ col 1 2 ∷ col 0 1 ∷ col 1 4 ∷ []
 
-pub receipt_is : command_of (understood store_schema receipt_text) ≡ Update 0 (update_program meta_tree [] receipt_project)
+abbrev pub receipt_terms : List Term
+receipt_terms = op2 (Compare Eq Binary) (col 1 3) (col 0 0) ∷ []
+
+pub receipt_is : command_of (understood store_schema receipt_text) ≡ Update 0 (update_program meta_tree receipt_terms receipt_project)
 unfolding understood everything
 receipt_is = refl
 

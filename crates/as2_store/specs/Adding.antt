@@ -1,5 +1,5 @@
 -- An entry more, and what the statements that add it leave.
-use Rattle.std.specs.Prelude.{◌≡◌, ◌≢◌, ℕ, ◌+◌, ◌<◌, ◌^◌, List, [], ◌∷◌, ◌++◌, length, Option, Some, None, IfSome}
+use Rattle.std.specs.Prelude.{if◌then◌else◌, ◌==◌, ◌≡◌, ◌≢◌, ℕ, ◌+◌, ◌<◌, ◌^◌, List, [], ◌∷◌, ◌++◌, length, Option, Some, None, IfSome}
 use Rattle.std.specs.List.{AllByRecursion}
 use Rattle.sqlite.specs.Tree.{put_row}
 use Rattle.sqlite.specs.State.{State as Connected}
@@ -8,14 +8,17 @@ use Rattle.as2_exchange.specs.State.{State}
 use Rattle.as2_exchange.specs.declared.inbox.InEntry.{InEntry}
 use Rattle.as2_rows.specs.Contents.{Piece}
 use Rattle.as2_rows.specs.Waiting.{Waiting}
-use Rattle.as2_rows.specs.Rows.{meta_row}
-use Rattle.as2_store.specs.Tables.{store_schema, meta_tree, waiting_tree}
-use Rattle.as2_store.specs.Stands.{HasEntries, piece_rows, waiting_row}
+use Rattle.as2_store.specs.Tables.{store_schema, waiting_tree}
+use Rattle.as2_store.specs.Stands.{HasCounters, HasEntries, piece_rows, waiting_row}
 use Rattle.sqlite.specs.Effect.{Database}
 
 -- the state with an entry more in its inbox, under the next number
 abbrev pub with_received : State → InEntry → State
 with_received s e = record s { inbox = s.inbox ++ e ∷ []; next_in = s.next_in + 1 }
+
+-- the state once the entry is added, if it has the next number
+abbrev pub added : InEntry → State → Option State
+added e s = if e.number == s.next_in then Some (with_received s e) else None
 
 -- the numbers of an entry fit into columns
 pub record Fits (e : InEntry) : Type 0 where
@@ -34,8 +37,7 @@ abbrev pub Noted : Connected → Connected → Option Waiting → Type 0
 Noted old new None = new.now ≡ old.now
 Noted old new (Some w) = Changed old new store_schema waiting_tree (put_row (waiting_row w) (old.now.trees waiting_tree))
 
--- the entry is in the tables, and the counter isn't raised yet
+-- the entry is in the tables, where it has the next number, and the counter isn't raised yet
 pub record IsEntered (d : Database) (s : State) (e : InEntry) : Type 0 where
-  pub schema : d.schema ≡ store_schema
-  pub meta : d.trees meta_tree ≡ meta_row s.next_in s.next_out ∷ []
-  pub entries : HasEntries d (with_received s e)
+  pub counters : HasCounters d s.next_in s.next_out
+  pub entries : e.number ≡ s.next_in → HasEntries d (with_received s e)

@@ -1,6 +1,7 @@
 pub mod Tables
 pub mod Statements
 pub mod Stands
+pub mod Calls
 pub mod Adding
 pub mod Finding
 pub mod Requeuing

@@ -1,9 +1,10 @@
 -- A receipt is to be sent anew, and what the statements that say so leave.
-use Rattle.std.specs.Prelude.{◌≡◌, ◌≢◌, ◌==◌, ℕ, List, map, filter, not, Some}
+use Rattle.std.specs.Prelude.{◌≡◌, ◌≢◌, ◌==◌, ℕ, List, map, filter, not, Option, Some}
 use Rattle.std.specs.List.{AllByRecursion}
-use Rattle.sqlite.specs.Effect.{Database}
+use Rattle.sqlite.specs.Effect.{Database, IsDatabase}
 use Rattle.sqlite.specs.State.{State as Connected}
 use Rattle.sqlite.specs.Tree.{put_row, IsTable}
+use Rattle.as2_exchange.specs.State.{State, change_received}
 use Rattle.as2_exchange.specs.declared.inbox.InEntry.{InEntry}
 use Rattle.as2_exchange.specs.declared.inbox.MdnState.TheVariants.{Pending}
 use Rattle.as2_exchange.specs.declared.attempt.Attempt.TheVariants.{Idle}
@@ -14,6 +15,10 @@ use Rattle.as2_store.specs.Stands.{place, waiting_row}
 -- the entry with its receipt to be sent from this moment on, and with all tries left
 abbrev pub requeued : ℕ → InEntry → InEntry
 requeued m e = record e { mdn = Pending; tries = 0; attempt = Idle; due = Some m }
+
+-- the state once the receipt of the entry of this number, if there is one, is to be sent so
+abbrev pub requeued_in : ℕ → ℕ → State → Option State
+requeued_in n m s = Some (change_received s n (requeued m))
 
 -- what waits, in order of the places
 pub record Holds (d : Database) (ws : List Waiting) : Type 0 where
@@ -27,6 +32,7 @@ not_at p ws = filter (λ w. not (place w == p)) ws
 
 -- this waits, in place of what stood at its place, and the other tables are as they were
 pub record Renewed (old new : Connected) (w : Waiting) (ws : List Waiting) : Type 0 where
+  pub sound : IsDatabase new.now
   pub schema_is : new.now.schema ≡ store_schema
   pub rows_are : new.now.trees waiting_tree ≡ put_row (waiting_row w) (map waiting_row (not_at (place w) ws))
   pub others : AllByRecursion (λ t. t.tree ≢ waiting_tree → new.now.trees t.tree ≡ old.now.trees t.tree) store_schema.tables

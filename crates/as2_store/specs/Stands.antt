@@ -3,7 +3,7 @@ use Rattle.std.specs.Prelude.{◌≡◌, ℕ, ◌+◌, ◌*◌, ◌==◌, List, 
 use Rattle.std.specs.List.{AllByRecursion, filter, filter_map, flat_map}
 use Rattle.sqlite.specs.declared.types.Value.TheVariants.{Null, Text}
 use Rattle.sqlite.specs.Order.{Row}
-use Rattle.sqlite.specs.Effect.{Database}
+use Rattle.sqlite.specs.Effect.{Database, IsDatabase}
 use Rattle.sqlite.specs.Schema.{Schema}
 use Rattle.sqlite.specs.State.{State as Connected}
 use Rattle.as2_exchange.specs.State.{State, end_of_numbers}
@@ -59,6 +59,11 @@ waiting s = documents_waiting to_send s.outbox ++ (waiting_in s.inbox ++ (docume
 
 -- ---- the state
 
+-- the tables are those of a store and no others, and the next numbers are these
+pub record HasCounters (d : Database) (next_in next_out : ℕ) : Type 0 where
+  pub schema : d.schema ≡ store_schema
+  pub meta : d.trees meta_tree ≡ meta_row next_in next_out ∷ []
+
 -- beside `meta`, the tables hold exactly the entries of this state
 pub record HasEntries (d : Database) (s : State) : Type 0 where
   pub inbox : d.trees inbox_tree ≡ map in_row s.inbox
@@ -71,6 +76,7 @@ pub record HasEntries (d : Database) (s : State) : Type 0 where
 -- the tables stand for this state: they are those of a store and no others, `meta` has the counters, and the counters are
 -- above all numbers
 pub record Stands (d : Database) (s : State) : Type 0 where
+  pub sound : IsDatabase d
   pub schema : d.schema ≡ store_schema
   pub meta : d.trees meta_tree ≡ meta_row s.next_in s.next_out ∷ []
   pub entries : HasEntries d s

@@ -10,7 +10,7 @@ abbrev pub meta_read_text : List ℕ
 meta_read_text = codes "SELECT kind, version, next_receipt, next_document FROM meta"
 
 abbrev pub receipt_text : List ℕ
-receipt_text = codes "UPDATE meta SET next_receipt = ?1"
+receipt_text = codes "UPDATE meta SET next_receipt = ?2 WHERE next_receipt = ?1"
 
 -- ---- the inbox
 

@@ -1,14 +1,15 @@
 //! The one row of `meta`: the kind, the version, and the two counters.
 
-ghost use Rattle.std.specs.Prelude.{◌≡◌, ℕ, [], ◌∷◌, List, false, ◌<◌, ◌^◌, IsTrue, IfOk, IfErr, OnOk};
+ghost use Rattle.std.specs.Prelude.{◌≡◌, ◌≢◌, ℕ, ◌+◌, [], ◌∷◌, List, false, ◌<◌, ◌^◌, IsTrue, IfOk, IfErr, OnOk};
 ghost use Rattle.sqlite.specs.Held.{state};
-ghost use Rattle.sqlite.specs.State.{HasCleanDisk, KeepsCommit};
+ghost use Rattle.sqlite.specs.State.{HasCleanDisk};
+ghost use Rattle.as2_store.specs.Calls.{IsInside};
 ghost use Rattle.sqlite.specs.declared.types.Value.TheVariants.{Text};
 ghost use Rattle.sql_tables.specs.Changes.{Changed, IsOutside};
 ghost use Rattle.as2_exchange.specs.State.{State};
 ghost use Rattle.as2_rows.specs.Rows.{whole, meta_row, meta_shown};
 ghost use Rattle.as2_store.specs.Tables.{store_schema, meta_tree};
-ghost use Rattle.as2_store.specs.Stands.{Rests, Says, IsBare};
+ghost use Rattle.as2_store.specs.Stands.{Rests, Says, IsBare, HasCounters};
 
 use crate::numbers::whole;
 use sqlite::{Alter, Connection, Error, Row, Transaction, params};
@@ -26,8 +27,7 @@ pub struct NextNumbers {
 pub fn put_meta<S: Alter>(tx: &mut Transaction<'_, S>, first: u64) -> Result<(), Error>
     requires { first < 2 ^ 63 }
     ensures same_reference { tx.new.conn.ghost_name ≡ tx.old.conn.ghost_name }
-    ensures clean { HasCleanDisk (state S.Store tx.new.conn.now) → HasCleanDisk (state S.Store tx.old.conn.now) }
-    ensures kept { HasCleanDisk (state S.Store tx.new.conn.now) → KeepsCommit (state S.Store tx.old.conn.now) (state S.Store tx.new.conn.now) }
+    ensures within { IsInside (state S.Store tx.old.conn.now) (state S.Store tx.new.conn.now) }
     ensures open { HasCleanDisk (state S.Store tx.new.conn.now) → OnOk result (IsTrue (state S.Store tx.old.conn.now).is_open) }
     ensures put { HasCleanDisk (state S.Store tx.new.conn.now) → OnOk result (IsBare (state S.Store tx.old.conn.now).now store_schema
         → Changed (state S.Store tx.old.conn.now) (state S.Store tx.new.conn.now) store_schema meta_tree (meta_row first first ∷ [])) }
@@ -40,20 +40,25 @@ pub fn put_meta<S: Alter>(tx: &mut Transaction<'_, S>, first: u64) -> Result<(),
     Ok(())
 }
 
-/// Sets the next number of a receipt.
-pub fn set_next_receipt<S: Alter>(tx: &mut Transaction<'_, S>, next: u64) -> Result<(), Error>
-    requires { next < 2 ^ 63 }
+/// Raises the next number of a receipt past this one, and answers in how many rows it was this one.
+pub fn raise_next_receipt<S: Alter>(
+    tx: &mut Transaction<'_, S>,
+    number: u64,
+) -> Result<usize, Error>
+    requires { number + 1 < 2 ^ 63 }
     ensures same_reference { tx.new.conn.ghost_name ≡ tx.old.conn.ghost_name }
-    ensures clean { HasCleanDisk (state S.Store tx.new.conn.now) → HasCleanDisk (state S.Store tx.old.conn.now) }
-    ensures kept { HasCleanDisk (state S.Store tx.new.conn.now) → KeepsCommit (state S.Store tx.old.conn.now) (state S.Store tx.new.conn.now) }
+    ensures within { IsInside (state S.Store tx.old.conn.now) (state S.Store tx.new.conn.now) }
     ensures open { HasCleanDisk (state S.Store tx.new.conn.now) → OnOk result (IsTrue (state S.Store tx.old.conn.now).is_open) }
     ensures inside { HasCleanDisk (state S.Store tx.new.conn.now) → OnOk result (IsTrue (state S.Store tx.new.conn.now).in_transaction) }
-    ensures put { HasCleanDisk (state S.Store tx.new.conn.now) → OnOk result ((state S.Store tx.old.conn.now).now.schema ≡ store_schema → (n m : ℕ) → (state S.Store tx.old.conn.now).now.trees meta_tree ≡ meta_row n m ∷ []
-        → Changed (state S.Store tx.old.conn.now) (state S.Store tx.new.conn.now) store_schema meta_tree (meta_row next m ∷ [])) }
+    ensures put { HasCleanDisk (state S.Store tx.new.conn.now) → IfOk result (λ count. (n m : ℕ) → HasCounters (state S.Store tx.old.conn.now).now n m → count ≢ 0
+        → (number ≡ n) × Changed (state S.Store tx.old.conn.now) (state S.Store tx.new.conn.now) store_schema meta_tree (meta_row (number + 1) m ∷ [])) }
 {
-    let next = whole(next);
-    tx.execute("UPDATE meta SET next_receipt = ?1", params![next])?;
-    Ok(())
+    let next = whole(number + 1);
+    let number = whole(number);
+    tx.execute(
+        "UPDATE meta SET next_receipt = ?2 WHERE next_receipt = ?1",
+        params![number, next],
+    )
 }
 
 /// The row as it is shown.

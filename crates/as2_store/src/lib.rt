@@ -13,6 +13,7 @@ mod finding;
 mod inbox;
 mod numbers;
 mod outbox;
+mod reading;
 mod requeuing;
 mod settling;
 mod store;

@@ -1,8 +1,10 @@
 //! The rows of the outbox and of its evidence, without the contents.
 
-ghost use Rattle.std.specs.Prelude.{◌≡◌, ◌<◌, ◌^◌, Bool, false, Some, find, map, filter, IsTrue, IfOk, OnOk};
+ghost use Rattle.std.specs.Prelude.{◌≡◌, ◌<◌, ◌^◌, [], ◌∷◌, Bool, true, false, Some, find, map, filter, IsTrue, IfOk, OnOk};
 ghost use Rattle.sqlite.specs.Held.{state};
-ghost use Rattle.sqlite.specs.State.{HasCleanDisk, KeepsCommit};
+ghost use Rattle.sqlite.specs.Edit.{are_fresh};
+ghost use Rattle.sqlite.specs.State.{HasCleanDisk};
+ghost use Rattle.as2_store.specs.Calls.{IsInside};
 ghost use Rattle.sqlite.specs.Tree.{put_row};
 ghost use Rattle.sql_tables.specs.Changes.{Changed};
 ghost use Rattle.as2_exchange.specs.State.{State};
@@ -58,10 +60,10 @@ pub fn put_evidence<S: Alter>(
     requires number { number < 2 ^ 63 }
     requires body { body.now ≡ evidence.now.body }
     ensures same_reference { tx.new.conn.ghost_name ≡ tx.old.conn.ghost_name }
-    ensures clean { HasCleanDisk (state S.Store tx.new.conn.now) → HasCleanDisk (state S.Store tx.old.conn.now) }
-    ensures kept { HasCleanDisk (state S.Store tx.new.conn.now) → KeepsCommit (state S.Store tx.old.conn.now) (state S.Store tx.new.conn.now) }
+    ensures within { IsInside (state S.Store tx.old.conn.now) (state S.Store tx.new.conn.now) }
     ensures put { HasCleanDisk (state S.Store tx.new.conn.now) → OnOk result ((state S.Store tx.old.conn.now).now.schema ≡ store_schema
-        → Changed (state S.Store tx.old.conn.now) (state S.Store tx.new.conn.now) store_schema evidence_tree (put_row (evidence_row number evidence.now) ((state S.Store tx.old.conn.now).now.trees evidence_tree))) }
+        → Changed (state S.Store tx.old.conn.now) (state S.Store tx.new.conn.now) store_schema evidence_tree (put_row (evidence_row number evidence.now) ((state S.Store tx.old.conn.now).now.trees evidence_tree))
+        × (are_fresh ((state S.Store tx.old.conn.now).now.trees evidence_tree) (evidence_row number evidence.now ∷ []) ≡ true)) }
 {
     let number = whole(number);
     let moment = whole(evidence.moment.seconds());

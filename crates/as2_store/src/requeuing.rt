@@ -1,14 +1,15 @@
 //! A receipt is to be sent anew: in one transaction its entry changes, and it waits again.
 
-ghost use Rattle.std.specs.Prelude.{◌≡◌, ◌==◌, ◌≤◌, false, map, filter, length, IsTrue, IfOk, OnOk, OnErr};
+ghost use Rattle.std.specs.Prelude.{◌≡◌, ◌==◌, ◌≤◌, false, map, filter, length, IsTrue, IfOk, OnOk};
 ghost use Rattle.sqlite.specs.Held.{state};
-ghost use Rattle.sqlite.specs.State.{HasCleanDisk, KeepsCommit};
+ghost use Rattle.sqlite.specs.State.{HasCleanDisk};
+ghost use Rattle.as2_store.specs.Calls.{IsInside, Writes};
 ghost use Rattle.sql_tables.specs.Changes.{Changed};
 ghost use Rattle.as2_exchange.specs.State.{State, change_received};
 ghost use Rattle.as2_rows.specs.Rows.{in_row};
 ghost use Rattle.as2_store.specs.Tables.{store_schema, inbox_tree};
-ghost use Rattle.as2_store.specs.Stands.{Rests, Stands};
-ghost use Rattle.as2_store.specs.Requeuing.{requeued};
+ghost use Rattle.as2_store.specs.Stands.{Stands};
+ghost use Rattle.as2_store.specs.Requeuing.{requeued, requeued_in};
 
 use crate::numbers::{asked, whole};
 use crate::waiting::wait_anew;
@@ -22,9 +23,9 @@ fn set_requeued<S: Alter>(
     moment: Moment,
 ) -> Result<usize, Error>
     ensures same_reference { tx.new.conn.ghost_name ≡ tx.old.conn.ghost_name }
-    ensures clean { HasCleanDisk (state S.Store tx.new.conn.now) → HasCleanDisk (state S.Store tx.old.conn.now) }
-    ensures kept { HasCleanDisk (state S.Store tx.new.conn.now) → KeepsCommit (state S.Store tx.old.conn.now) (state S.Store tx.new.conn.now) }
+    ensures within { IsInside (state S.Store tx.old.conn.now) (state S.Store tx.new.conn.now) }
     ensures open { HasCleanDisk (state S.Store tx.new.conn.now) → OnOk result (IsTrue (state S.Store tx.old.conn.now).is_open) }
+    ensures inside { HasCleanDisk (state S.Store tx.new.conn.now) → OnOk result (IsTrue (state S.Store tx.new.conn.now).in_transaction) }
     ensures put { HasCleanDisk (state S.Store tx.new.conn.now) → IfOk result (λ count. (s : State) → Stands (state S.Store tx.old.conn.now).now s
         → Changed (state S.Store tx.old.conn.now) (state S.Store tx.new.conn.now) store_schema inbox_tree (map in_row (change_received s number (requeued moment)).inbox) × (count ≡ length (filter (λ e. e.number == number) s.inbox))) }
 {
@@ -41,11 +42,7 @@ fn set_requeued<S: Alter>(
 pub fn requeue<S: Alter>(conn: &mut Connection<S>, number: u64, moment: Moment) -> Result<(), Error>
     requires autocommit { conn.old.in_transaction ≡ false }
     ensures autocommit { conn.new.in_transaction ≡ false }
-    ensures clean { HasCleanDisk (state S.Store conn.new) → HasCleanDisk (state S.Store conn.old) }
-    ensures open { HasCleanDisk (state S.Store conn.new) → OnOk result (IsTrue (state S.Store conn.old).is_open) }
-    ensures opened { HasCleanDisk (state S.Store conn.new) → OnOk result (IsTrue (state S.Store conn.new).is_open) }
-    ensures requeued { HasCleanDisk (state S.Store conn.new) → OnOk result ((s : State) → Rests (state S.Store conn.old) s → Rests (state S.Store conn.new) (change_received s number (requeued moment))) }
-    ensures failed { HasCleanDisk (state S.Store conn.new) → OnErr result ((s : State) → Rests (state S.Store conn.old) s → Rests (state S.Store conn.new) s) }
+    ensures requeued { Writes (requeued_in number moment) (state S.Store conn.old) (state S.Store conn.new) result }
 {
     let mut tx = conn.transaction();
     if set_requeued(&mut tx, number, moment)? == 0 {

@@ -9,3 +9,4 @@ pub mod Actions
 pub mod Counting
 pub mod Failing
 pub mod Deleting
+pub mod Asking

@@ -7,6 +7,7 @@ use Rattle.sqlite.specs.Schema.{Schema}
 use Rattle.sqlite.specs.Term.{Term, lit, eval_all, holds}
 use Rattle.sqlite.specs.Query.{Query, inner, end}
 use Rattle.sqlite.specs.Change.{next_tree, KeepsRows}
+use Rattle.sqlite.specs.Effect.{IsDatabase}
 use Rattle.sqlite.specs.State.{State, Shows, store_error}
 use Rattle.sqlite_trees.specs.declared.error.StoreError.{StoreError}
 use Rattle.sqlite.specs.declared.error.Error.{Error}
@@ -21,6 +22,7 @@ pub record Changed (old new : State) (schema : Schema) (tree : ℕ) (rows : List
   pub rows_are : new.now.trees tree ≡ rows
   pub others : AllByRecursion (λ t. t.tree ≢ tree → new.now.trees t.tree ≡ old.now.trees t.tree) schema.tables
   pub fits : Fits schema new.now.trees
+  pub sound : IsDatabase new.now
   pub shown : Shows old new new.now (if old.in_transaction then old.committed else new.now) old.in_transaction
   pub marks : new.marks ≡ old.marks
 

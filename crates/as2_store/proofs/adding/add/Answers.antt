@@ -1,41 +1,37 @@
-use Rattle.std.proofs.Common.{rules, ◌≡◌, refl, subst, arith}
+use Rattle.std.proofs.Common.{true, rules, ◌≡◌, subst, arith, Ok, Err}
 use Rattle.sqlite.specs.Held.{state}
-use Rattle.sqlite.specs.State.{HasCleanDisk, KeepsCommit, IsRolledBack}
-use Rattle.as2_store.specs.Stands.{Stands, Rests}
-use Rattle.as2_store.specs.Adding.{with_received}
-use Rattle.as2_store.proofs.Resting.{rests_committed, rests_after, keeps_then, undone, if_error}
-use Rattle.as2_store.proofs.Growing.{stands_received}
+use Rattle.as2_store.specs.Adding.{added}
+use Rattle.as2_store.specs.Calls.{IsInside, Writes}
+use Rattle.as2_store.proofs.Resting.{undone}
+use Rattle.as2_store.proofs.Committing.{inside_then, commits, fails_to_commit}
+use Rattle.as2_store.proofs.Growing.{adds}
 use Rattle.as2_store.proofs.adding.add.Goals as goal
 
 pub returns-clause-added : goal.returns-clause-added
-returns-clause-added g c clean s r is =
+returns-clause-added g c =
     let x = c.args.entry.now in
-    let begun = state g.S.Store c.transaction-tx.result.conn.now in
+    let old = c.args.conn.now in
     let mid = state g.S.Store c.put_received.new.tx.conn.now in
-    let last = state g.S.Store c.set_next_receipt.new.tx.conn.now in
+    let last = state g.S.Store c.raise_next_receipt.new.tx.conn.now in
     let end = c.commit.new.self.0 in
     let same : end ≡ c.conn-2-1.given.0 = search rules in
-    let late : HasCleanDisk (state g.S.Store end) = search rules in
-    let was_last : HasCleanDisk last = omega (arith, c.commit.ensures.survives.clean) in
-    let was_mid = c.set_next_receipt.ensures.clean was_last in
-    let stood : Stands begun.now s = rw c.transaction-tx.ensures.begun (r.stands (rw c.transaction-tx.ensures.begun at (c.in_ok-put_received.ensures.open was_mid))) in
-    let one = c.in_ok-put_received.ensures.put was_mid s stood is in
-    let two = c.in_ok-set_next_receipt.ensures.put was_last one.schema s.next_in s.next_out one.meta in
-    let stands = stands_received begun mid last s x stood is c.requires.number one two in
-    subst (λ h. Rests (state g.S.Store h) (with_received s x)) same (rests_committed last (state g.S.Store end) (with_received s x) stands (c.in_ok-commit.ensures.ok late).1)
+    let first : IsInside (state g.S.Store (record old { in_transaction = true })) mid = rw c.transaction-tx.ensures.begun at c.put_received.ensures.within in
+    let done = adds g.S.Store old mid last x c.requires.number c.raise_next_receipt.ensures.within.clean (rw c.transaction-tx.ensures.begun at c.in_ok-put_received.ensures.open)
+    (rw c.transaction-tx.ensures.begun at c.in_ok-put_received.ensures.put) (λ clean n m has. c.in_ok-raise_next_receipt.ensures.put clean n m has c.if-branch-eq0.false) in
+    subst (λ h. Writes (added x) (state g.S.Store old) (state g.S.Store h) (Ok tt)) same
+    (commits g.S.Store old last end (added x) tt (inside_then _ mid last first c.raise_next_receipt.ensures.within) c.commit.ensures.survives done (λ late. (c.in_ok-commit.ensures.ok late).1) (λ db opened may. g.met.S.Store.settled end.store db opened may))
 
-pub returns-in_err-commit-clause-failed : goal.returns-in_err-commit-clause-failed
-returns-in_err-commit-clause-failed g c clean = if_error (λ s r.
-    let begun = state g.S.Store c.transaction-tx.result.conn.now in
+pub returns-in_err-commit-clause-added : goal.returns-in_err-commit-clause-added
+returns-in_err-commit-clause-added g c =
+    let x = c.args.entry.now in
+    let old = c.args.conn.now in
     let mid = state g.S.Store c.put_received.new.tx.conn.now in
-    let last = state g.S.Store c.set_next_receipt.new.tx.conn.now in
+    let last = state g.S.Store c.raise_next_receipt.new.tx.conn.now in
     let end = c.commit.new.self.0 in
     let same : end ≡ c.conn-2-1.given.0 = search rules in
-    let late : HasCleanDisk (state g.S.Store end) = search rules in
-    let was_last : HasCleanDisk last = omega (arith, c.commit.ensures.survives.clean) in
-    let was_mid = c.set_next_receipt.ensures.clean was_last in
-    let kept = keeps_then begun mid last (c.put_received.ensures.kept was_mid) (c.set_next_receipt.ensures.kept was_last) in
-    let old = state g.S.Store c.args.conn.now in
-    let first : KeepsCommit old begun = rw c.transaction-tx.ensures.begun (record { was_open = λ o. o; committed = λ _. refl }) in
-    let back : IsRolledBack last (state g.S.Store end) = undone last (state g.S.Store end) _ (c.in_ok-set_next_receipt.ensures.inside was_last) (c.in_err-commit.ensures.err late) in
-    subst (λ h. Rests (state g.S.Store h) s) same (rests_after old last (state g.S.Store end) s r (keeps_then old begun last first kept) back)) c.from_residual-in_err-commit.result
+    let first : IsInside (state g.S.Store (record old { in_transaction = true })) mid = rw c.transaction-tx.ensures.begun at c.put_received.ensures.within in
+    let done = adds g.S.Store old mid last x c.requires.number c.raise_next_receipt.ensures.within.clean (rw c.transaction-tx.ensures.begun at c.in_ok-put_received.ensures.open)
+    (rw c.transaction-tx.ensures.begun at c.in_ok-put_received.ensures.put) (λ clean n m has. c.in_ok-raise_next_receipt.ensures.put clean n m has c.if-branch-eq0.false) in
+    subst (λ h. Writes (added x) (state g.S.Store old) (state g.S.Store h) c.from_residual-in_err-commit.result) same
+    (fails_to_commit g.S.Store old last end (added x) c.from_residual-in_err-commit.result c.from_residual-in_err-commit.ensures.0 (inside_then _ mid last first c.raise_next_receipt.ensures.within) c.commit.ensures.survives done
+    (λ late. undone last (state g.S.Store end) _ (c.in_ok-raise_next_receipt.ensures.inside (omega (arith, c.commit.ensures.survives.clean, late))) (c.in_err-commit.ensures.err late)))

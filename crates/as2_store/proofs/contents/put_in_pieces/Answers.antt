@@ -4,7 +4,7 @@ use Rattle.as2_mic.specs.Pieces.{piece_at}
 use Rattle.as2_rows.specs.Contents.{Piece}
 use Rattle.as2_store.specs.Tables.{inbox_piece_tree}
 use Rattle.as2_store.specs.Adding.{Appended}
-use Rattle.as2_store.proofs.Resting.{keeps_then}
+use Rattle.as2_store.proofs.Committing.{inside_then}
 use Rattle.as2_store.proofs.Piling.{some_piece, pieces_before, appended_then, one_before}
 use Rattle.as2_store.proofs.contents.put_in_pieces.Goals as goal
 
@@ -21,10 +21,9 @@ pieces-preserved g c =
     let it = some_piece content i c.in-Some.piece.now found in (
       c.put_in_piece.ensures.same_reference ∙ so_far.0,
       omega (arith, it.0),
-      λ clean. so_far.2 (c.put_in_piece.ensures.clean clean),
-      λ clean. keeps_then old mid new (so_far.3 (c.put_in_piece.ensures.clean clean)) (c.put_in_piece.ensures.kept clean),
+      inside_then old mid new so_far.2 c.put_in_piece.ensures.within,
       λ clean has.
-          let before = so_far.4 (c.put_in_piece.ensures.clean clean) has in
+          let before = so_far.3 (c.put_in_piece.ensures.within.clean clean) has in
           subst (Appended old new inbox_piece_tree) (one_before c.args.number content i c.in-Some.piece.now it.1)
           (appended_then old mid new inbox_piece_tree (pieces_before c.args.number content i) (p ∷ []) before (c.in_ok-put_in_piece.ensures.put clean before.schema_is)),
     )

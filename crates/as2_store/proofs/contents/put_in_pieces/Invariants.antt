@@ -1,6 +1,7 @@
 use Rattle.std.proofs.Common.{◌≡◌, ◌<◌, ◌+◌, ◌-◌, ◌*◌, length}
 use Rattle.sqlite.specs.Held.{state}
-use Rattle.sqlite.specs.State.{HasCleanDisk, KeepsCommit}
+use Rattle.sqlite.specs.State.{HasCleanDisk}
+use Rattle.as2_store.specs.Calls.{IsInside}
 use Rattle.as2_mic.specs.Pieces.{piece_size}
 use Rattle.as2_store.specs.Tables.{store_schema, inbox_piece_tree}
 use Rattle.as2_store.specs.Adding.{Appended}
@@ -13,8 +14,7 @@ invariant-pieces g l =
     let now = state g.S.Store l.tx.conn.now in
     (l.tx.conn.ghost_name ≡ l.fn.tx.conn.ghost_name)
     × (l.i * piece_size < length l.content + piece_size)
-    × (HasCleanDisk now → HasCleanDisk old)
-    × (HasCleanDisk now → KeepsCommit old now)
+    × IsInside old now
     × (HasCleanDisk now → old.now.schema ≡ store_schema → Appended old now inbox_piece_tree (pieces_before l.number l.content l.i))
 
 abbrev pub decreases-pieces : goal.decreases-pieces

@@ -17,7 +17,7 @@ returns-clause-made g c clean blank =
     let same : end ≡ c.conn-2-1.given.0 = search rules in
     let late : HasCleanDisk (state g.S.Store end) = search rules in
     let was_last : HasCleanDisk last = omega (arith, c.commit.ensures.survives.clean) in
-    let was_mid = c.put_meta.ensures.clean was_last in
+    let was_mid = c.put_meta.ensures.within.clean was_last in
     let bare : begun.now.schema ≡ no_schema = rw c.transaction-tx.ensures.begun (blank.no_table (rw c.transaction-tx.ensures.begun at (c.in_ok-make_tables.ensures.open was_mid))) in
     let tables = c.in_ok-make_tables.ensures.made was_mid (record { schema_is = bare; empty = tt }) in
     let row = c.in_ok-put_meta.ensures.put was_last tables in

@@ -4,8 +4,8 @@ use Rattle.as2_store.proofs.creating.make_inbox.Goals as goal
 
 pub returns-clause-made : goal.returns-clause-made
 returns-clause-made g c clean =
-    let was_2 = c.run-3.ensures.clean clean in
-    let was_1 = c.run-2.ensures.clean was_2 in
+    let was_2 = c.run-3.ensures.within.clean clean in
+    let was_1 = c.run-2.ensures.within.clean was_2 in
     let ran_1 = c.in_ok-run.ensures.ran was_1 in
     let ran_2 = c.in_ok-run-2.ensures.ran was_2 in
     let ran_3 = c.in_ok-run-3.ensures.ran clean in

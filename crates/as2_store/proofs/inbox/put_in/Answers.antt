@@ -1,16 +1,17 @@
 use Rattle.std.proofs.Common.{Ok, length, arith}
 use Rattle.sqlite.specs.Held.{state}
 use Rattle.sqlite.specs.State.{Executes}
-use Rattle.sql_tables.proofs.Inside.{kept, made}
+use Rattle.sql_tables.proofs.Inside.{made}
 use Rattle.as2_rows.specs.Rows.{in_shown}
 use Rattle.as2_store.specs.Statements.{in_put_text}
 use Rattle.as2_store.proofs.MetaRow.{passed}
 use Rattle.as2_store.proofs.Placing.{bound_optional}
 use Rattle.as2_store.proofs.Writing.{puts_in, passed_outcome, passed_how, passed_mdn, passed_attempt, bound_url, bound_digest, bound_mic}
+use Rattle.as2_store.proofs.Committing.{ran_inside}
 use Rattle.as2_store.proofs.inbox.put_in.Goals as goal
 
-pub returns-in_err-execute-clause-kept : goal.returns-in_err-execute-clause-kept
-returns-in_err-execute-clause-kept g c clean = kept g.S.Store _ _ c.args.tx.now.conn.now c.execute.new.self.conn.now c.execute.result _ c.execute.ensures.ended (c.execute.ensures.runs clean)
+pub returns-in_err-execute-clause-within : goal.returns-in_err-execute-clause-within
+returns-in_err-execute-clause-within g c = ran_inside g.S.Store _ _ c.args.tx.now.conn.now c.execute.new.self.conn.now c.execute.result _ c.execute.ensures.ended c.execute.ensures.runs c.execute.ensures.survives
 
 pub returns-clause-put : goal.returns-clause-put
 returns-clause-put g c clean has =

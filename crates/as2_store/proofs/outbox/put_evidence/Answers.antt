@@ -4,8 +4,12 @@ use Rattle.sqlite.specs.State.{Executes}
 use Rattle.sql_tables.proofs.Inside.{made}
 use Rattle.as2_store.specs.Statements.{evidence_put_text}
 use Rattle.as2_store.proofs.MetaRow.{passed}
-use Rattle.as2_store.proofs.Ending.{puts_evidence, receipt_params}
+use Rattle.as2_store.proofs.Ending.{puts_evidence, fresh_evidence, receipt_params}
+use Rattle.as2_store.proofs.Committing.{ran_inside}
 use Rattle.as2_store.proofs.outbox.put_evidence.Goals as goal
+
+pub returns-in_err-execute-clause-within : goal.returns-in_err-execute-clause-within
+returns-in_err-execute-clause-within g c = ran_inside g.S.Store _ _ c.args.tx.now.conn.now c.execute.new.self.conn.now c.execute.result _ c.execute.ensures.ended c.execute.ensures.runs c.execute.ensures.survives
 
 pub returns-clause-put : goal.returns-clause-put
 returns-clause-put g c clean has =
@@ -28,4 +32,4 @@ returns-clause-put g c clean has =
       passed n c.requires.number,
       passed e.moment (omega (arith, c.seconds.ensures.bound, c.seconds.ensures.seconds)),
     ) at ran in
-    puts_evidence old new n e c.in_ok-execute.field-0 has went
+    (puts_evidence old new n e c.in_ok-execute.field-0 has went, fresh_evidence old new n e c.in_ok-execute.field-0 has went)

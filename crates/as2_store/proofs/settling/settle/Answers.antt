@@ -1,32 +1,69 @@
-use Rattle.std.proofs.Common.{rules, ◌≡◌, subst, arith}
+use Rattle.std.proofs.Common.{true, rules, ◌≡◌, subst, arith, Ok, Err}
 use Rattle.sqlite.specs.Held.{state}
-use Rattle.sqlite.specs.State.{HasCleanDisk}
-use Rattle.as2_exchange.specs.State.{change_document}
-use Rattle.as2_store.specs.Stands.{Stands, Rests, waiting}
-use Rattle.as2_store.specs.Settling.{settled_as}
-use Rattle.as2_store.proofs.Resting.{rests_committed}
-use Rattle.as2_store.proofs.Ending.{given, still_holds, stands_settled}
+use Rattle.as2_store.specs.Settling.{settled_in}
+use Rattle.as2_store.specs.Calls.{IsInside, Writes}
+use Rattle.as2_store.proofs.Resting.{undone}
+use Rattle.as2_store.proofs.Committing.{inside_then, commits, gives_up, fails_to_commit}
+use Rattle.as2_store.proofs.Ending.{ends}
 use Rattle.as2_store.proofs.settling.settle.Goals as goal
 
 pub returns-clause-settled : goal.returns-clause-settled
-returns-clause-settled g c clean s r by d found unsettled =
+returns-clause-settled g c =
     let n = c.args.number in
     let detail = c.args.detail in
     let e = c.args.evidence.now in
-    let begun = state g.S.Store c.transaction-tx.result.conn.now in
-    let one_done = state g.S.Store c.set_settled.new.tx.conn.now in
-    let two_done = state g.S.Store c.put_evidence.new.tx.conn.now in
+    let old = c.args.conn.now in
+    let one = state g.S.Store c.set_settled.new.tx.conn.now in
+    let two = state g.S.Store c.put_evidence.new.tx.conn.now in
     let last = state g.S.Store c.take_document.new.tx.conn.now in
     let end = c.commit.new.self.0 in
     let same : end ≡ c.conn-2-1.given.0 = search rules in
-    let late : HasCleanDisk (state g.S.Store end) = search rules in
-    let was_last : HasCleanDisk last = omega (arith, c.commit.ensures.survives.clean) in
-    let was_two = c.take_document.ensures.clean was_last in
-    let was_one = c.put_evidence.ensures.clean was_two in
-    let stood : Stands begun.now s = rw c.transaction-tx.ensures.begun (r.stands (rw c.transaction-tx.ensures.begun at (c.in_ok-set_settled.ensures.open was_one))) in
-    let it : c.asked-wanted.result ≡ n = c.asked-wanted.ensures.within (given begun s n d stood found) in
-    let one = rw it at (c.in_ok-set_settled.ensures.put was_one s stood e) in
-    let two = rw it at (c.in_ok-put_evidence.ensures.put was_two one.schema_is) in
-    let three = rw it at (c.in_ok-take_document.ensures.put was_last (waiting s) (still_holds begun one_done two_done s stood _ _ one two)) in
-    let stands = stands_settled begun one_done two_done last s n detail e d by stood found unsettled one two three in
-    subst (λ h. Rests (state g.S.Store h) (change_document s n (settled_as detail e))) same (rests_committed last (state g.S.Store end) (change_document s n (settled_as detail e)) stands (c.in_ok-commit.ensures.ok late).1)
+    let first : IsInside (state g.S.Store (record old { in_transaction = true })) one = rw c.transaction-tx.ensures.begun at c.set_settled.ensures.within in
+    let done = ends g.S.Store old one two last n c.asked-wanted.result detail e c.requires.by_receipt c.asked-wanted.ensures.beyond c.asked-wanted.ensures.within _ c.if-branch-eq0.false c.put_evidence.ensures.within.clean c.take_document.ensures.within.clean
+    (rw c.transaction-tx.ensures.begun at c.in_ok-set_settled.ensures.open) (rw c.transaction-tx.ensures.begun at c.in_ok-set_settled.ensures.put) c.in_ok-put_evidence.ensures.put c.in_ok-take_document.ensures.put in
+    subst (λ h. Writes (settled_in n detail e) (state g.S.Store old) (state g.S.Store h) (Ok tt)) same
+    (commits g.S.Store old last end (settled_in n detail e) tt (inside_then _ two last (inside_then _ one two first c.put_evidence.ensures.within) c.take_document.ensures.within) c.commit.ensures.survives done (λ late. (c.in_ok-commit.ensures.ok late).1) (λ db opened may. g.met.S.Store.settled end.store db opened may))
+
+pub returns-in_err-commit-clause-settled : goal.returns-in_err-commit-clause-settled
+returns-in_err-commit-clause-settled g c =
+    let n = c.args.number in
+    let detail = c.args.detail in
+    let e = c.args.evidence.now in
+    let old = c.args.conn.now in
+    let one = state g.S.Store c.set_settled.new.tx.conn.now in
+    let two = state g.S.Store c.put_evidence.new.tx.conn.now in
+    let last = state g.S.Store c.take_document.new.tx.conn.now in
+    let end = c.commit.new.self.0 in
+    let same : end ≡ c.conn-2-1.given.0 = search rules in
+    let first : IsInside (state g.S.Store (record old { in_transaction = true })) one = rw c.transaction-tx.ensures.begun at c.set_settled.ensures.within in
+    let done = ends g.S.Store old one two last n c.asked-wanted.result detail e c.requires.by_receipt c.asked-wanted.ensures.beyond c.asked-wanted.ensures.within _ c.if-branch-eq0.false c.put_evidence.ensures.within.clean c.take_document.ensures.within.clean
+    (rw c.transaction-tx.ensures.begun at c.in_ok-set_settled.ensures.open) (rw c.transaction-tx.ensures.begun at c.in_ok-set_settled.ensures.put) c.in_ok-put_evidence.ensures.put c.in_ok-take_document.ensures.put in
+    subst (λ h. Writes (settled_in n detail e) (state g.S.Store old) (state g.S.Store h) c.from_residual-in_err-commit.result) same
+    (fails_to_commit g.S.Store old last end (settled_in n detail e) c.from_residual-in_err-commit.result c.from_residual-in_err-commit.ensures.0
+    (inside_then _ two last (inside_then _ one two first c.put_evidence.ensures.within) c.take_document.ensures.within) c.commit.ensures.survives done
+    (λ late. undone last (state g.S.Store end) _ (c.in_ok-take_document.ensures.inside (omega (arith, c.commit.ensures.survives.clean, late))) (c.in_err-commit.ensures.err late)))
+
+pub returns-in_err-put_evidence-clause-settled : goal.returns-in_err-put_evidence-clause-settled
+returns-in_err-put_evidence-clause-settled g c =
+    let next = settled_in c.args.number c.args.detail c.args.evidence.now in
+    let old = c.args.conn.now in
+    let one = state g.S.Store c.set_settled.new.tx.conn.now in
+    let two = state g.S.Store c.put_evidence.new.tx.conn.now in
+    let end = c.drop-tx-in_err-put_evidence.new.self.0 in
+    let same : end ≡ c.conn-in_err-put_evidence-1.given.0 = search rules in
+    let first : IsInside (state g.S.Store (record old { in_transaction = true })) one = rw c.transaction-tx.ensures.begun at c.set_settled.ensures.within in
+    subst (λ h. Writes next (state g.S.Store old) (state g.S.Store h) c.from_residual-in_err-put_evidence.result) same
+    (gives_up g.S.Store old two end next c.from_residual-in_err-put_evidence.result c.from_residual-in_err-put_evidence.ensures.0 (inside_then _ one two first c.put_evidence.ensures.within) c.drop-tx-in_err-put_evidence.ensures.survives c.drop-tx-in_err-put_evidence.ensures.undone)
+
+pub returns-in_err-take_document-clause-settled : goal.returns-in_err-take_document-clause-settled
+returns-in_err-take_document-clause-settled g c =
+    let next = settled_in c.args.number c.args.detail c.args.evidence.now in
+    let old = c.args.conn.now in
+    let one = state g.S.Store c.set_settled.new.tx.conn.now in
+    let two = state g.S.Store c.put_evidence.new.tx.conn.now in
+    let last = state g.S.Store c.take_document.new.tx.conn.now in
+    let end = c.drop-tx-in_err-take_document.new.self.0 in
+    let same : end ≡ c.conn-in_err-take_document-1.given.0 = search rules in
+    let first : IsInside (state g.S.Store (record old { in_transaction = true })) one = rw c.transaction-tx.ensures.begun at c.set_settled.ensures.within in
+    subst (λ h. Writes next (state g.S.Store old) (state g.S.Store h) c.from_residual-in_err-take_document.result) same
+    (gives_up g.S.Store old last end next c.from_residual-in_err-take_document.result c.from_residual-in_err-take_document.ensures.0 (inside_then _ two last (inside_then _ one two first c.put_evidence.ensures.within) c.take_document.ensures.within) c.drop-tx-in_err-take_document.ensures.survives c.drop-tx-in_err-take_document.ensures.undone)

@@ -1,15 +1,16 @@
 use Rattle.std.proofs.Common.{Ok, arith, ◌*◌, ◌+◌}
 use Rattle.sqlite.specs.Held.{state}
 use Rattle.sqlite.specs.State.{Executes}
-use Rattle.sql_tables.proofs.Inside.{kept, made, stays}
+use Rattle.sql_tables.proofs.Inside.{made, stays}
 use Rattle.as2_rows.specs.Waiting.{Waiting}
 use Rattle.as2_store.specs.Statements.{waiting_put_text}
 use Rattle.as2_store.proofs.MetaRow.{passed}
 use Rattle.as2_store.proofs.Placing.{puts_waiting, waiting_params, bound_optional}
+use Rattle.as2_store.proofs.Committing.{ran_inside}
 use Rattle.as2_store.proofs.waiting.put_waiting.Goals as goal
 
-pub returns-in_err-execute-clause-kept : goal.returns-in_err-execute-clause-kept
-returns-in_err-execute-clause-kept g c clean = kept g.S.Store _ _ c.args.tx.now.conn.now c.execute.new.self.conn.now c.execute.result _ c.execute.ensures.ended (c.execute.ensures.runs clean)
+pub returns-in_err-execute-clause-within : goal.returns-in_err-execute-clause-within
+returns-in_err-execute-clause-within g c = ran_inside g.S.Store _ _ c.args.tx.now.conn.now c.execute.new.self.conn.now c.execute.result _ c.execute.ensures.ended c.execute.ensures.runs c.execute.ensures.survives
 
 pub returns-clause-put : goal.returns-clause-put
 returns-clause-put g c clean has =

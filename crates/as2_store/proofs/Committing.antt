@@ -1,0 +1,118 @@
+-- What a transaction leaves: the commit of what its statements did, or nothing.
+use Rattle.std.proofs.Common.{◌≡◌, ap, sym, refl, subst, ◌∙◌, inl, arith, Option, Some, ℕ, List, Result, Ok, Err, IsErr, IsTrue, false, true}
+use Rattle.sqlite.specs.Store.{Ghosts}
+use Rattle.sqlite.specs.Held.{Held, state}
+use Rattle.sqlite.specs.Effect.{Database}
+use Rattle.sqlite.specs.Order.{Row}
+use Rattle.sqlite.specs.declared.error.Error.{Error}
+use Rattle.sqlite.specs.State.{State as Connected, HasCleanDisk, KeepsCommit, Shows, Survives, IsRolledBack, ExecutesInside}
+use Rattle.sql_tables.proofs.Inside.{kept}
+use Rattle.sqlite_trees.specs.Tree.{Trees}
+use Rattle.sqlite.proofs.StateLemmas.{survives_then}
+use Rattle.sqlite.proofs.Callers.{survives_begin}
+use Rattle.as2_exchange.specs.State.{State}
+use Rattle.as2_store.specs.Tables.{store_schema}
+use Rattle.as2_store.specs.Stands.{Stands, Rests}
+use Rattle.as2_store.specs.Calls.{IsInside, Keeps, Lasts, KeepsNext, Commits, Reaches, Writes}
+use Rattle.as2_store.proofs.Resting.{rests_committed, rests_after, keeps_then}
+use Rattle.sqlite_schema.specs.declared.schema.Schema.{Schema}
+
+-- ---- statements one after the other
+
+pub inside_then : (a b c : Connected) → IsInside a b → IsInside b c → IsInside a c
+inside_then a b c one two = record {
+  clean = λ clean. one.clean (two.clean clean);
+  kept = λ clean. keeps_then a b c (one.kept (two.clean clean)) (two.kept clean);
+  survives = survives_then a b c _ _ (λ _. ⊥) (λ _ db none. none) (λ _ db none. none) one.survives two.survives;
+}
+
+-- ---- what stands is kept
+
+pub keeps_of : (d : Database) (s : State) → Stands d s → Keeps d.trees s
+keeps_of d s stands =
+    let same : d ≡ record { schema = store_schema; trees = d.trees } = ap (λ (x : Schema). let e : Database = record { schema = x; trees = d.trees } in e) stands.schema in
+    subst (λ (e : Database). Stands e s) same stands
+
+-- the statements of a transaction took each state that the tables stood for to the next one
+pub record Done {S : Type 0} (g : Ghosts S) (old : Held S) (last : Connected) (next : State → Option State) : Type 0 where
+  pub was_open : IsTrue (state g old).is_open
+  pub reaches : (s : State) → Rests (state g old) s → (t : State) × (next s ≡ Some t) × Stands last.now t
+
+-- a statement that ran in it, whether it failed or not
+pub ran_inside : {S : Type 0} (g : Ghosts S) (sql : List ℕ) (params : Row) (old new : Held S) (r : Result ℕ Error) (stop : Error) (ended : old.in_transaction ≡ false → (r ≡ Err stop) × (new ≡ old))
+    → (HasCleanDisk (state g new) → IsTrue old.in_transaction → ExecutesInside 0 sql params (state g old) (state g new) r) → Survives (state g old) (state g new) (λ _. ⊥) → IsInside (state g old) (state g new)
+ran_inside g sql params old new r stop ended runs survives = record {
+  clean = λ clean. omega (arith, survives.clean, clean);
+  kept = λ clean. kept g sql params old new r stop ended (runs clean);
+  survives = survives;
+}
+
+module _ {S : Type 0} (g : Ghosts S) (old : Held S) (last : Connected) (end : Held S) (next : State → Option State) where
+  abbrev pub begun : Connected
+  begun = state g (record old { in_transaction = true })
+
+  pub gives_up : {A E : Type 0} (r : Result A E) → IsErr r → IsInside begun last → Survives last (state g end) (λ _. ⊥) → (HasCleanDisk (state g end) → IsRolledBack last (state g end)) → Writes {A = A} {E = E} next (state g old) (state g end) r
+  gives_up (Ok a) err inside late back = absurd cc
+  gives_up (Err e) err inside late back =
+      let was : HasCleanDisk (state g end) → HasCleanDisk last = λ clean. omega (arith, late.clean, clean) in
+      record {
+        clean = λ clean. inside.clean (was clean);
+        was_open = λ clean. tt;
+        is_open = λ clean. tt;
+        done = λ clean. tt;
+        failed = λ clean s r. rests_after (state g old) last (state g end) s r (record { was_open = λ o. (inside.kept (was clean)).was_open o; committed = λ o. (inside.kept (was clean)).committed o }) (back clean);
+        crash = survives_then (state g old) last (state g end) (λ _. ⊥) (λ _. ⊥) (Commits next (state g old)) (λ _ db none. absurd none) (λ _ db none. absurd none)
+            (survives_begin g old last (λ _. ⊥) inside.survives) late;
+      }
+
+  committed_crash : IsInside begun last → Survives last (state g end) (λ db. db ≡ last.now.trees) → (HasCleanDisk last → Done g old last next) → Survives (state g old) (state g end) (Commits next (state g old))
+  committed_crash inside late done =
+      survives_then (state g old) last (state g end) (λ _. ⊥) (λ db. db ≡ last.now.trees) (Commits next (state g old)) (λ _ db none. absurd none)
+      (λ clean db is.
+      let it = done (omega (arith, late.clean, clean)) in
+      record {
+        was_open = it.was_open;
+        stands = λ s r. let to = it.reaches s r in record { state = to.0; is = to.1; keeps = subst (λ (t : Trees). Keeps t to.0) (sym is) (keeps_of last.now to.0 to.2) };
+      })
+      (survives_begin g old last (λ _. ⊥) inside.survives) late
+
+  pub fails_to_commit : {A E : Type 0} (r : Result A E) → IsErr r → IsInside begun last → Survives last (state g end) (λ db. db ≡ last.now.trees) → (HasCleanDisk last → Done g old last next) → (HasCleanDisk (state g end) → IsRolledBack last (state g end))
+      → Writes {A = A} {E = E} next (state g old) (state g end) r
+  fails_to_commit (Ok a) err inside late done back = absurd cc
+  fails_to_commit (Err e) err inside late done back =
+      let was : HasCleanDisk (state g end) → HasCleanDisk last = λ clean. omega (arith, late.clean, clean) in
+      record {
+        clean = λ clean. inside.clean (was clean);
+        was_open = λ clean. tt;
+        is_open = λ clean. tt;
+        done = λ clean. tt;
+        failed = λ clean s r. rests_after (state g old) last (state g end) s r (record { was_open = λ o. (inside.kept (was clean)).was_open o; committed = λ o. (inside.kept (was clean)).committed o }) (back clean);
+        crash = committed_crash inside late done;
+      }
+
+  pub commits : {A E : Type 0} (a : A) → IsInside begun last → Survives last (state g end) (λ db. db ≡ last.now.trees) → (HasCleanDisk last → Done g old last next)
+      → (HasCleanDisk (state g end) → Shows last (state g end) last.now last.now false) → (settled : (db : Trees) → IsTrue (state g end).is_open → (state g end).may_leave db → db ≡ (state g end).committed.trees)
+      → Writes {A = A} {E = E} next (state g old) (state g end) (Ok a)
+  commits a inside late done shows settled =
+      let was : HasCleanDisk (state g end) → HasCleanDisk last = λ clean. omega (arith, late.clean, clean) in
+      record {
+        clean = λ clean. inside.clean (was clean);
+        was_open = λ clean. (done (was clean)).was_open;
+        is_open = λ clean. (shows clean).is_open;
+        done = λ clean s r.
+            let to = (done (was clean)).reaches s r in
+            let shown = shows clean in
+            record {
+              state = to.0;
+              is = to.1;
+              rests = rests_committed last (state g end) to.0 to.2 shown;
+              lasts = record { each = λ db may. subst (λ (t : Trees). Keeps t to.0) (sym (settled db shown.is_open may ∙ ap (λ (d : Database). d.trees) shown.committed_is)) (keeps_of last.now to.0 to.2) };
+            };
+        failed = λ clean. tt;
+        crash = committed_crash inside late done;
+      }
+
+-- ---- a read
+
+never_left : (s : State) (old : Connected) (db : Trees) → IsTrue old.is_open → Rests old s → db ≡ old.now.trees → Keeps db s
+never_left s old db opened r is = subst (λ (t : Trees). Keeps t s) (sym is) (keeps_of old.now s (r.stands opened))
