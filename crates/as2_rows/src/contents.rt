@@ -15,7 +15,7 @@ const COLUMNS: usize = 3;
 /// The bytes of a piece but the last.
 const PIECE: u64 = 65_536;
 
-/// The bytes of the piece at a position of the content of that number, of a row that shows number, position and bytes.
+/// The bytes of the piece of that number and position, of a row that shows number, position and bytes.
 fn piece_in<'a>(row: &'a Row, number: u64, position: u64) -> Result<&'a [u8], RowFault>
     ensures shown { IfOk result (λ bytes. row.now ≡ piece_shown (record { number = number; position = position; bytes = bytes.now })) }
     ensures taken { IfErr result (λ f. (bytes : List ℕ) → row.now ≡ piece_shown (record { number = number; position = position; bytes = bytes }) → f ≡ fault.Memory) }
@@ -29,8 +29,8 @@ fn piece_in<'a>(row: &'a Row, number: u64, position: u64) -> Result<&'a [u8], Ro
     blob(column(row, 2))
 }
 
-/// The content of that number and size (in bytes), of the rows of its pieces in the order of their positions:
-/// each row shows number, position and bytes. Rows that aren't all of its pieces, and nothing else, are refused.
+/// The content of the entry of that number, of `size` bytes, in the rows of its pieces: number, position and bytes each,
+/// in the order of the positions. `NotAnEntry` where a piece is missing, cut, misplaced or another's, or one is too many.
 pub fn content_in(alloc: Global, rows: &[Row], number: u64, size: u64) -> Result<Pieces, RowFault>
     ensures shown { IfOk result (λ content. rows.now ≡ map piece_shown (pieces number content)) }
     ensures size { IfOk result (λ content. length content ≡ size) }

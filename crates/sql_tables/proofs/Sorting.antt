@@ -25,6 +25,10 @@ use Rattle.sql_tables.proofs.Queries.{answered, by_column, map_same}
 pub no_rows : HasRows [] []
 no_rows = record { numbered = []; rows_are = refl; rise = tt; columns = IsPermutation-refl [] }
 
+-- of a table that is as it was
+pub unchanged : {rows new shown : List Row} → new ≡ rows → HasRows rows shown → HasRows new shown
+unchanged {shown = shown} same h = subst (λ l. HasRows l shown) (sym same) h
+
 -- their order doesn't matter
 pub reordered : (rows shown other : List Row) → HasRows rows shown → IsPermutation shown other → HasRows rows other
 reordered rows shown other h same = record { numbered = h.numbered; rows_are = h.rows_are; rise = h.rise; columns = IsPermutation-trans _ shown other h.columns same }
