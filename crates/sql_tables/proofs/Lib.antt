@@ -1,5 +1,6 @@
 pub mod Writes
 pub mod Queries
+pub mod Sorting
 pub mod Rewrites
 pub mod Changing
 pub mod Inside

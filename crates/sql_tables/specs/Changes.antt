@@ -1,9 +1,10 @@
 -- What a statement over one table leaves.
-use Rattle.std.specs.Prelude.{◌≡◌, ◌≢◌, ◌⊎◌, ℕ, Bool, false, if◌then◌else◌, List, [], ◌∷◌, filter, pos, None}
+use Rattle.std.specs.Prelude.{◌≡◌, ◌≢◌, ◌⊎◌, ℕ, ℤ, Bool, false, if◌then◌else◌, List, [], ◌∷◌, map, filter, pos, None, IsPermutation}
 use Rattle.std.specs.List.{AllByRecursion, list_all}
 use Rattle.sqlite.specs.declared.types.Value.TheVariants.{Int}
 use Rattle.sqlite.specs.Order.{Row}
 use Rattle.sqlite.specs.Schema.{Schema}
+use Rattle.sqlite.specs.Tree.{IsTable}
 use Rattle.sqlite.specs.Term.{Term, lit, eval_all, holds}
 use Rattle.sqlite.specs.Query.{Query, inner, end}
 use Rattle.sqlite.specs.Change.{next_tree, KeepsRows}
@@ -25,6 +26,17 @@ pub record Changed (old new : State) (schema : Schema) (tree : ℕ) (rows : List
   pub sound : IsDatabase new.now
   pub shown : Shows old new new.now (if old.in_transaction then old.committed else new.now) old.in_transaction
   pub marks : new.marks ≡ old.marks
+
+-- the row of this number and these columns
+abbrev pub numbered_row : ℤ × Row → Row
+numbered_row r = Int r.0 ∷ r.1
+
+-- apart from their numbers, which rise, the rows of a table are these, in some order
+pub record HasRows (rows shown : List Row) : Type 0 where
+  pub numbered : List (ℤ × Row)
+  pub rows_are : rows ≡ map numbered_row numbered
+  pub rise : IsTable rows
+  pub columns : IsPermutation (map (λ r. r.1) numbered) shown
 
 -- a query over one table, with no GROUP BY, DISTINCT or OFFSET
 abbrev pub over_table : ℕ → List Term → List Term → List (Term × Key) → Term → Query

@@ -5,20 +5,24 @@ use as2_mic::{Alg, MicText, Pieces};
 use sqlite::types::ValueRef;
 use std::alloc::Global;
 
-/// The content whose pieces are these values.
-fn joined(alloc: Global, pieces: &[ValueRef<'_>]) -> Result<Pieces, RowFault> {
+/// A row of a piece: number, position and bytes.
+type Shown<'a> = (i64, i64, ValueRef<'a>);
+
+/// The content of entry 1 of that size, whose pieces show these values.
+fn joined(alloc: Global, pieces: &[Shown<'_>], size: u64) -> Result<Pieces, RowFault> {
     let mut rows = Vec::new(alloc);
-    let mut position = 0i64;
-    for piece in pieces {
-        let Ok(row) = row_of(alloc, &[ValueRef::Int(1), ValueRef::Int(position), *piece]) else {
+    for (number, position, bytes) in pieces {
+        let Ok(row) = row_of(
+            alloc,
+            &[ValueRef::Int(*number), ValueRef::Int(*position), *bytes],
+        ) else {
             return Err(RowFault::Memory);
         };
         if rows.push(row).is_err() {
             return Err(RowFault::Memory);
         }
-        position = position.wrapping_add(1);
     }
-    content_in(alloc, &rows)
+    content_in(alloc, &rows, 1, size)
 }
 
 #[test]
@@ -28,7 +32,11 @@ fn pieces_are_joined_in_their_order(rt: HostRuntime) {
     };
     match joined(
         rt.alloc(),
-        &[ValueRef::Blob(&whole), ValueRef::Blob(b"abc")],
+        &[
+            (1, 0, ValueRef::Blob(&whole)),
+            (1, 1, ValueRef::Blob(b"abc")),
+        ],
+        65_539,
     ) {
         Ok(content) => {
             assert!(rt; content.len() == 65_539);
@@ -41,13 +49,37 @@ fn pieces_are_joined_in_their_order(rt: HostRuntime) {
 
 #[test]
 fn no_piece_is_the_empty_content(rt: HostRuntime) {
-    assert!(rt; matches!(joined(rt.alloc(), &[]), Ok(content) if content.len() == 0));
+    assert!(rt; matches!(joined(rt.alloc(), &[], 0), Ok(content) if content.len() == 0));
 }
 
+// Rows that aren't the pieces of a content of 3 bytes of entry 1.
+const NOT_ITS_PIECES: [&[Shown<'static>]; 10] = [
+    // none, and a text
+    &[],
+    &[(1, 0, ValueRef::Text(b"abc"))],
+    // of another entry, and at another position
+    &[(2, 0, ValueRef::Blob(b"abc"))],
+    &[(1, 1, ValueRef::Blob(b"abc"))],
+    // too short, and too long
+    &[(1, 0, ValueRef::Blob(b"ab"))],
+    &[(1, 0, ValueRef::Blob(b"abcd"))],
+    // in two
+    &[(1, 0, ValueRef::Blob(b"ab")), (1, 1, ValueRef::Blob(b"c"))],
+    // with a piece too many, which has bytes or none, or has the same position
+    &[(1, 0, ValueRef::Blob(b"abc")), (1, 1, ValueRef::Blob(b"d"))],
+    &[(1, 0, ValueRef::Blob(b"abc")), (1, 1, ValueRef::Blob(b""))],
+    &[
+        (1, 0, ValueRef::Blob(b"abc")),
+        (1, 0, ValueRef::Blob(b"abc")),
+    ],
+];
+
 #[test]
-fn a_piece_that_is_no_blob_is_refused(rt: HostRuntime) {
-    let refused = joined(rt.alloc(), &[ValueRef::Text(b"abc")]).err();
-    assert!(rt; refused == Some(RowFault::NotAnEntry));
+fn what_is_not_its_pieces_is_no_content(rt: HostRuntime) {
+    for pieces in &NOT_ITS_PIECES {
+        let refused = joined(rt.alloc(), *pieces, 3).err();
+        assert!(rt; refused == Some(RowFault::NotAnEntry));
+    }
 }
 
 // Its text.
