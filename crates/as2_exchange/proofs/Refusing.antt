@@ -8,7 +8,10 @@ use Rattle.std.proofs.lemmas.Option.{same_Some}
 use Rattle.as2_exchange.specs.Agreement.{Text, Agreements, Partner, Asked, NoReceipt, Sync, Async, is_organization, partner_of}
 use Rattle.as2_exchange.specs.Readings.{How, NoReceipt as NoneAsked, Sync as AtOnce, Async as Later, Outcome as WhatBecame, is_processed, named_by}
 use Rattle.as2_exchange.specs.State.{Posted, InEntry, OutEntry, State, end_of_numbers, document, document_named, received, received_as, change_document, change_received, is_settled}
-use Rattle.as2_exchange.specs.Step.{Event, Post, Submit, Begin, Outcome, BeginMdn, OutcomeMdn, Tick, Answer, Refused, Submitted, UnknownOrganization, UnknownPartner, TooLarge, TryAnswer, Came, Reading, Refuses, IsReceipt, IsDocument, is_refusal, agreed, begun, waits, is_early, closed, closed_by, if_for, came_back, is_idle, is_last, is_delivery, delivered, failed, mdn_begun, mdn_closed, is_pending, is_shut, acted, acted_in, reading, post, step, submit, new_document, settle, settle_for, settled, bears, record_post, recorded, repeats, queued_again, first_entry, answer_to, http, Nothing, Words, NotProcessed, IdUsedBefore, NoSuchMessage, tick}
+use Rattle.as2_exchange.specs.Events.{Event, Post, Submit, Begin, Outcome, BeginMdn, OutcomeMdn, Tick, Answer, Refused, Submitted, UnknownOrganization, UnknownPartner, TooLarge, TryAnswer, Nothing, Words, NotProcessed, IdUsedBefore, NoSuchMessage}
+use Rattle.as2_exchange.specs.Posts.{Came, Reading, Refuses, IsReceipt, IsDocument, reading, repeats}
+use Rattle.as2_exchange.specs.Receipts.{came_back, is_delivery, bears}
+use Rattle.as2_exchange.specs.Step.{is_refusal, agreed, begun, waits, is_early, closed, closed_by, if_for, is_idle, is_last, delivered, failed, mdn_begun, mdn_closed, is_pending, is_shut, acted, acted_in, post, step, submit, new_document, settle, settle_for, settled, record_post, recorded, queued_again, first_entry, answer_to, http, tick}
 use Rattle.as2_exchange.specs.Invariants.{HasDistinctNumbers}
 use Rattle.as2_exchange.proofs.Decisions.{number_is, apart_turned}
 
