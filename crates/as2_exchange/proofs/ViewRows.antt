@@ -36,7 +36,7 @@ settled_1 = record {
   number = 1;
   organization = codes "Supplier";
   partner = codes "Buyer";
-  id = codes "out-1@station.example";
+  id = codes "<out-1@station.example>";
   content = abc;
   moment = 1000;
   tries = 1;
@@ -62,7 +62,7 @@ nothing_outstanding = refl
 
 -- a new document, one in retry, one awaited, one overdue and one whose first try is open
 abbrev standing : ℕ → ℕ → Attempt → Option ℕ → Detail → OutEntry
-standing n tries attempt due detail = record { number = n; organization = codes "Supplier"; partner = codes "Depot"; id = codes "out-1@station.example"; content = abc; moment = 1000; tries = tries; attempt = attempt; due = due; detail = detail; evidence = None }
+standing n tries attempt due detail = record { number = n; organization = codes "Supplier"; partner = codes "Depot"; id = codes "<out-1@station.example>"; content = abc; moment = 1000; tries = tries; attempt = attempt; due = due; detail = detail; evidence = None }
 
 under_way : State
 under_way = record {

@@ -2,15 +2,15 @@
 use Rattle.std.specs.Prelude.{ℕ, Bool, false, ◌&&◌, Option, None, option_map, option_and_then, nat_lt, nat_le, if◌then◌else◌}
 use Rattle.std.specs.Str.{bytes_eq}
 use Rattle.as2_exchange.specs.Agreement.{Text}
-use Rattle.as2_exchange.specs.Readings.{Head, names_of, type_of, report_in, named_by}
+use Rattle.as2_exchange.specs.Readings.{Head, names_of, type_of, report_in, named_by, value_of}
 use Rattle.as2_exchange.specs.State.{Evidence}
 use Rattle.as2_exchange.specs.Events.{TryAnswer, NoAnswer, Reply}
 use Rattle.as2_exchange.specs.Posts.{Came, came}
 
--- The receipt is for the document of this organization, partner and identifier value: it bears the document's names
--- exchanged (RFC 4130, section 6.2), and names the identifier (RFC 8098, section 3.2.5).
+-- The receipt is for the document of this organization, partner and identifier: it bears the document's names exchanged
+-- (RFC 4130, section 6.2), and names an identifier of the same value (RFC 8098, section 3.2.5).
 abbrev pub bears : Came → Text → Text → Text → Bool
-bears r organization partner id = bytes_eq organization r.to && (bytes_eq partner r.from && bytes_eq id (named_by r.receipt))
+bears r organization partner id = bytes_eq organization r.to && (bytes_eq partner r.from && bytes_eq (value_of id) (named_by r.receipt))
 
 -- a status of success (RFC 9110, section 15.3)
 abbrev pub is_success : ℕ → Bool
