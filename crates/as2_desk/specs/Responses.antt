@@ -2,9 +2,10 @@
 use Rattle.std.specs.Prelude.{◌≡◌, ℕ, List, Some, codes, true}
 use Rattle.as2_agreement.specs.Agreements.{AgreedValues}
 use Rattle.as2_exchange.specs.Lines.{line_text}
+use Rattle.as2_exchange.specs.Posts.{Refuses, reading}
 use Rattle.as2_exchange.specs.Run.{MayFail}
 use Rattle.as2_exchange.specs.State.{State}
-use Rattle.as2_exchange.specs.Step.{Refuses, reading, step}
+use Rattle.as2_exchange.specs.Step.{step}
 use Rattle.as2_exchange.specs.declared.answer.Line.{Line as TheLine}
 use Rattle.as2_station.specs.Heads.{is_of_head}
 use Rattle.as2_exchange.specs.declared.event.Event.{Event}

@@ -7,7 +7,7 @@ use Rattle.std.proofs.lemmas.Slice.Eq.{bytes_eq-Decides}
 use Rattle.as2_exchange.specs.Agreement.{Text, Alg, Md5, Sha1}
 use Rattle.as2_exchange.specs.Readings.{How, NoReceipt, Sync, Async, Mic, Outcome, Processed, DecryptionFailed, DecompressionFailed, AuthenticationFailed, UnsupportedFormat, UnsupportedMicAlgorithms, value_of}
 use Rattle.as2_exchange.specs.State.{Posted, same_key}
-use Rattle.as2_exchange.specs.Step.{repeats, outcome_eq, how_eq, alg_eq, mic_eq}
+use Rattle.as2_exchange.specs.Posts.{repeats, outcome_eq, how_eq, alg_eq, mic_eq}
 use Rattle.as2_exchange.proofs.Repeats.{repeats_itself}
 
 pub both : (a b : Bool) → (a && b) ≡ true → (a ≡ true) × (b ≡ true)

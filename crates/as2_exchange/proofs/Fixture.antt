@@ -15,7 +15,7 @@ use Rattle.as2_exchange.specs.Agreement.{Text, Agreements, Partner, Asked, NoRec
 use Rattle.as2_exchange.specs.Detail.{Processed}
 use Rattle.as2_exchange.specs.Readings.{Head, Receipt, How, Sync as AtOnce, Async as Later, Processed as WasProcessed, names_of, version_fits, type_of, is_report, report_in, verdict, id_of, ask_of, how_of, outcome_of, encoding_refused, mic_for}
 use Rattle.as2_exchange.specs.State.{Posted}
-use Rattle.as2_exchange.specs.Step.{IsDocument, IsReceipt, Came, reading}
+use Rattle.as2_exchange.specs.Posts.{IsDocument, IsReceipt, Came, reading}
 
 -- ---- the agreements
 

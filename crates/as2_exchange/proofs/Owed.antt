@@ -9,7 +9,9 @@ use Rattle.as2_exchange.specs.Agreement.{Agreements, Partner}
 use Rattle.as2_exchange.specs.Detail.{Attempt, Idle, Running, Last, Used, MdnState, Pending, Sent}
 use Rattle.as2_exchange.specs.Readings.{Job as TheJob, is_async, receipt_job}
 use Rattle.as2_exchange.specs.State.{InEntry}
-use Rattle.as2_exchange.specs.Step.{Answer, Job, Refused, AllSettled, TriesUsedUp, NotDue, NoOpenTry, AlreadySettled, Delivered, TryFailed, TryAnswer, queued_again, is_done_with, is_pending, is_early, is_shut, is_last, is_delivery, mdn_begun, mdn_closed, report}
+use Rattle.as2_exchange.specs.Events.{Answer, Job, Refused, AllSettled, TriesUsedUp, NotDue, NoOpenTry, AlreadySettled, Delivered, TryFailed, TryAnswer}
+use Rattle.as2_exchange.specs.Receipts.{is_delivery}
+use Rattle.as2_exchange.specs.Step.{queued_again, is_done_with, is_pending, is_early, is_shut, is_last, mdn_begun, mdn_closed, report}
 use Rattle.as2_exchange.specs.History.{Found, Fact, ATry, AnOutcome, is_job, try_in, tries, with_past, first_of, last_of}
 use Rattle.as2_exchange.specs.ReceiptHistory.{delivers, is_delivered, are_used, mdn_after, mdn_attempt, mdn_due}
 use Rattle.as2_exchange.proofs.Decisions.{or_false}

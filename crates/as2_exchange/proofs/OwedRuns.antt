@@ -12,8 +12,10 @@ use Rattle.as2_exchange.specs.Agreement.{Text, Agreements, Partner, is_organizat
 use Rattle.as2_exchange.specs.Detail.{Idle, Unasked, Sent}
 use Rattle.as2_exchange.specs.Readings.{Head, How, NoReceipt, Sync, Async, is_async, is_report, names_of, version_fits, type_of, id_of, ask_of, report_in}
 use Rattle.as2_exchange.specs.State.{Posted, InEntry, State, empty, lasting, same_key, document, received, received_as, change_received}
-use Rattle.as2_exchange.specs.Step.{Event, Post, Submit, Begin, Outcome, BeginMdn, OutcomeMdn, Tick, Answer, Refused, NoSuchNumber, TryAnswer, Reading, Refuses, IsReceipt, IsDocument, Line, BadNames, BadVersion, UnknownNames, BadType, UnreadableReceipt, BadId, BadAsk, needs, reading, post, step, record_post, repeats, queued_again, first_entry, is_pending, mdn_begun, mdn_closed, acted_in, Came, begun as begun_document, closed as closed_document}
-use Rattle.as2_exchange.specs.Run.{Trace, Run, Answered, Failed, Done, accepted}
+use Rattle.as2_exchange.specs.Events.{Event, Post, Submit, Begin, Outcome, BeginMdn, OutcomeMdn, Tick, Answer, Refused, NoSuchNumber, TryAnswer, Line, BadNames, BadVersion, UnknownNames, BadType, UnreadableReceipt, BadId, BadAsk, Done}
+use Rattle.as2_exchange.specs.Posts.{Reading, Refuses, IsReceipt, IsDocument, needs, reading, repeats, Came}
+use Rattle.as2_exchange.specs.Step.{post, step, record_post, queued_again, first_entry, is_pending, mdn_begun, mdn_closed, acted_in, begun as begun_document, closed as closed_document}
+use Rattle.as2_exchange.specs.Run.{Trace, Run, Answered, Failed, accepted}
 use Rattle.as2_exchange.specs.Invariants.{IsCounter, IsWellFormed}
 use Rattle.as2_exchange.specs.History.{Found, Fact, ATry, AnOutcome, is_job}
 use Rattle.as2_exchange.specs.ReceiptHistory.{ReceiptFact, APost, OfATry, receipt_fact, receipt_fact_of, sent_later, is_delivered, are_used, queued_by, since_queued, receipt_by, receipt_history, receipt_told}

@@ -7,8 +7,11 @@ use Rattle.std.proofs.lemmas.Bool.{false≢true}
 use Rattle.std.proofs.lemmas.Option.{same_Some}
 use Rattle.as2_exchange.specs.Agreement.{Text, Agreements, Partner, Asked, NoReceipt, Sync, Async, is_organization, partner_of}
 use Rattle.as2_exchange.specs.Readings.{How, NoReceipt as NoneAsked, Sync as AtOnce, Async as Later, Outcome as WhatBecame, is_processed, named_by}
-use Rattle.as2_exchange.specs.State.{Posted, InEntry, OutEntry, State, end_of_numbers, document, document_named, received, received_as, change_document, change_received, is_settled}
-use Rattle.as2_exchange.specs.Step.{Event, Post, Submit, Begin, Outcome, BeginMdn, OutcomeMdn, Tick, Answer, Refused, Submitted, UnknownOrganization, UnknownPartner, TooLarge, TryAnswer, Came, Reading, Refuses, IsReceipt, IsDocument, is_refusal, agreed, begun, waits, is_early, closed, closed_by, if_for, came_back, is_idle, is_last, is_delivery, delivered, failed, mdn_begun, mdn_closed, is_pending, is_shut, acted, acted_in, reading, post, step, submit, new_document, settle, settle_for, settled, bears, record_post, recorded, repeats, queued_again, first_entry, answer_to, http, Nothing, Words, NotProcessed, IdUsedBefore, NoSuchMessage, tick}
+use Rattle.as2_exchange.specs.State.{Posted, InEntry, OutEntry, State, end_of_numbers, document, document_named, received, received_as, change_document, change_received, is_begun, is_settled}
+use Rattle.as2_exchange.specs.Events.{Event, Post, Submit, Begin, Outcome, BeginMdn, OutcomeMdn, Tick, Answer, Refused, Submitted, UnknownOrganization, UnknownPartner, TooLarge, TryAnswer, Nothing, Words, NotProcessed, IdUsedBefore, NoSuchMessage}
+use Rattle.as2_exchange.specs.Posts.{Came, Reading, Refuses, IsReceipt, IsDocument, reading, repeats}
+use Rattle.as2_exchange.specs.Receipts.{came_back, is_delivery, bears}
+use Rattle.as2_exchange.specs.Step.{is_refusal, agreed, begun, waits, is_early, closed, closed_by, if_for, is_idle, is_last, delivered, failed, mdn_begun, mdn_closed, is_pending, is_shut, acted, acted_in, post, step, submit, new_document, settle, settle_for, settled, record_post, recorded, queued_again, first_entry, answer_to, http, tick}
 use Rattle.as2_exchange.specs.Invariants.{HasDistinctNumbers}
 use Rattle.as2_exchange.proofs.Decisions.{number_is, apart_turned}
 
@@ -160,7 +163,7 @@ recorded_acts A s m p None y h = by (nat_le end_of_numbers s.next_in) h
 
 settle_acts : (s : State) (m : ℕ) (r : Came) (o : Option OutEntry) → is_refusal (settle_for s m r o).0 ≡ false
 settle_acts s m r None = refl
-settle_acts s m r (Some d) = by (not (bears r d.organization d.partner d.id && nat_le 1 d.tries)) (if is_settled d then s else change_document s d.number (settled m r))
+settle_acts s m r (Some d) = by (not (bears r d.organization d.partner d.id && is_begun d)) (if is_settled d then s else change_document s d.number (settled m r))
   where
     given : Bool → State → Answer × State
     given b t = if b then (http 404 (Words NoSuchMessage), s) else (http 200 Nothing, t)

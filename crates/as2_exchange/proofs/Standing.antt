@@ -8,7 +8,10 @@ use Rattle.as2_exchange.specs.Agreement.{Text, Agreements, Partner, Asked, NoRec
 use Rattle.as2_exchange.specs.Detail.{Detail, New, Sending, Awaiting, Retry, Processed, NoReceiptAsked, Warning, NoMic, UnknownMic, NotProcessed, ErrorModifier, MicDiffers, TriesUsed, Overdue, Attempt, Idle, Running, Last, Used}
 use Rattle.as2_exchange.specs.Readings.{Receipt, verdict}
 use Rattle.as2_exchange.specs.State.{OutEntry, is_settled}
-use Rattle.as2_exchange.specs.Step.{Answer, Came, TryAnswer, settled, passes, passed, passes_into, is_due, begun, waits, is_early, closed, closed_by, if_for, came_back, is_idle, is_last, is_delivery, delivered, failed, Refused, AllSettled, TriesUsedUp, NotDue, NoOpenTry, AlreadySettled}
+use Rattle.as2_exchange.specs.Events.{Answer, TryAnswer, Refused, AllSettled, TriesUsedUp, NotDue, NoOpenTry, AlreadySettled}
+use Rattle.as2_exchange.specs.Posts.{Came}
+use Rattle.as2_exchange.specs.Receipts.{came_back, is_delivery}
+use Rattle.as2_exchange.specs.Step.{settled, passes, passed, passes_into, is_due, begun, waits, is_early, closed, closed_by, if_for, is_idle, is_last, delivered, failed}
 use Rattle.as2_exchange.specs.Invariants.{is_by_receipt, IsEntry}
 use Rattle.as2_exchange.proofs.Documents.{settled_names, passed_names, begun_names, closed_names, agreed_either, if_either, changed, changed_names}
 use Rattle.as2_exchange.proofs.WellFormed.{unsettled_entry, KeepsEntries}

@@ -6,9 +6,10 @@ use Rattle.as2_names.specs.Identifiers.{value_of as bare}
 use Rattle.as2_media.specs.Values.{between_quotes}
 use Rattle.as2_exchange.specs.Agreement.{Text, Agreements}
 use Rattle.as2_exchange.specs.Detail.{Detail, New, Sending, Awaiting, Retry, Processed, NoReceiptAsked, TriesUsed, Overdue, Attempt, Idle, Running, Last, Used, MdnState, Unasked, Pending, Sent}
-use Rattle.as2_exchange.specs.Readings.{How, NoReceipt as NoneAsked, Sync as AtOnce, Async as Later, document_job, receipt_job as receipt_sent, names_of, type_of, report_in, named_by}
+use Rattle.as2_exchange.specs.Readings.{How, NoReceipt as NoneAsked, Sync as AtOnce, Async as Later, document_job, receipt_job as receipt_sent, names_of, type_of, report_in, named_by, value_of}
 use Rattle.as2_exchange.specs.State.{State, InEntry, OutEntry, Evidence, empty}
-use Rattle.as2_exchange.specs.Step.{Begin, Outcome, Answer, NoAnswer, Reply, Job, Settled, Delivered, TryFailed, AlreadySettled, Submitted, Ticked, Refused, UnknownOrganization, UnknownPartner, NoSuchNumber, NotDue, AllSettled, NoOpenTry, TriesUsedUp, begun, closed, mdn_begun, mdn_closed, submit, tick, queued_again, first_entry, report, step}
+use Rattle.as2_exchange.specs.Events.{Begin, Outcome, Answer, NoAnswer, Reply, Job, Settled, Delivered, TryFailed, AlreadySettled, Submitted, Ticked, Refused, UnknownOrganization, UnknownPartner, NoSuchNumber, NotDue, AllSettled, NoOpenTry, TriesUsedUp}
+use Rattle.as2_exchange.specs.Step.{begun, closed, mdn_begun, mdn_closed, submit, tick, queued_again, first_entry, report, step}
 use Rattle.as2_exchange.proofs.Fixture.{buyer, fixture, abc, receipt_head, receipt_body, q, q_for_2, q_type_text, q_names, q_typed, q_read, q_says, document_of, m1, sha1_text}
 use Rattle.as2_exchange.proofs.Rows.{play, submit_to, job_1, no_head, return_address, due_1}
 
@@ -26,7 +27,7 @@ some_evidence = record { moment = 1000; content_type = q_type_text; body = q }
 
 -- a document from Supplier to Buyer
 abbrev standing : ℕ → Attempt → Option ℕ → Detail → Option Evidence → OutEntry
-standing tries attempt due detail evidence = record { number = 1; organization = codes "Supplier"; partner = codes "Buyer"; id = codes "out-1@station.example"; content = abc; moment = 1000; tries = tries; attempt = attempt; due = due; detail = detail; evidence = evidence }
+standing tries attempt due detail evidence = record { number = 1; organization = codes "Supplier"; partner = codes "Buyer"; id = codes "<out-1@station.example>"; content = abc; moment = 1000; tries = tries; attempt = attempt; due = due; detail = detail; evidence = evidence }
 
 -- a store with this document alone
 abbrev with_document : OutEntry → State
@@ -53,7 +54,7 @@ begin_refusals : (begin_answer no_organization settled_late ≡ Refused UnknownO
     × (begin_answer fixture (standing 1 Idle (Some 900) Awaiting None) ≡ Refused NotDue)
     × (begin_answer fixture (standing 1 Idle None NoReceiptAsked None) ≡ Refused NotDue)
     × (begin_answer fixture (standing 1 Idle (Some 1001) Retry None) ≡ Refused NotDue)
-    × (begin_answer fixture (standing 1 Idle (Some 1000) Retry None) ≡ Job (document_job fixture buyer (codes "Supplier") (codes "out-1@station.example") abc))
+    × (begin_answer fixture (standing 1 Idle (Some 1000) Retry None) ≡ Job (document_job fixture buyer (codes "Supplier") (codes "<out-1@station.example>") abc))
 unfolding begun
 begin_refusals = (refl, refl, refl, refl, refl, refl, refl, refl, refl, refl)
 
@@ -91,7 +92,7 @@ other_statuses = (refl, refl)
 
 -- a receipt in the answer settles the document: the try is closed, nothing is waited for, and the receipt is kept as it came
 settled_by_answer : closed fixture (Reply 299 (receipt_head (codes "Buyer")) q) 1001 (standing 1 Running (Some 1030) Sending None) ≡ (Settled Processed, standing 1 Idle None Processed (Some (record { moment = 1001; content_type = q_type_text; body = q })))
-unfolding closed named_by bare
+unfolding closed named_by value_of bare
 settled_by_answer = rw (q_names, q_typed, q_read, q_says) refl
 
 -- a receipt under another partner's name, one for another document, and one whose sender is given twice settle nothing; each
@@ -99,7 +100,7 @@ settled_by_answer = rw (q_names, q_typed, q_read, q_says) refl
 foreign_answers : (closed fixture (Reply 200 (receipt_head (codes "Depot")) q) 1001 (standing 1 Running (Some 1030) Sending None) ≡ (TryFailed, standing 1 Idle (Some 1031) Retry None))
     × (closed fixture (Reply 200 (receipt_head (codes "Buyer")) q_for_2) 1001 (standing 1 Running (Some 1030) Sending None) ≡ (TryFailed, standing 1 Idle (Some 1031) Retry None))
     × (closed fixture (Reply 200 ((codes "as2-from", codes "Depot") ∷ receipt_head (codes "Depot")) q) 1001 (record (standing 1 Running (Some 1030) Sending None) { partner = codes "Depot" }) ≡ (Delivered, record (standing 1 Idle (Some 1061) Awaiting None) { partner = codes "Depot" }))
-unfolding closed receipt_head receipt_body q q_for_2 names_of type_of report_in named_by without_blanks between_quotes bare
+unfolding closed receipt_head receipt_body q q_for_2 names_of type_of report_in named_by value_of without_blanks between_quotes bare
 foreign_answers = (refl, refl, refl)
 
 -- a receipt in the Outcome of a try that is closed is none

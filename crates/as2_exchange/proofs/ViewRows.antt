@@ -8,7 +8,9 @@ use Rattle.as2_exchange.specs.Agreement.{Text}
 use Rattle.as2_exchange.specs.Detail.{Detail, New, Sending, Awaiting, Retry, Processed, Overdue, Attempt, Idle, Running, Last}
 use Rattle.as2_exchange.specs.Readings.{value_of}
 use Rattle.as2_exchange.specs.State.{State, OutEntry, empty}
-use Rattle.as2_exchange.specs.Step.{Event, Post, Begin, Outcome, BeginMdn, OutcomeMdn, NoAnswer, is_success, begun, closed, mdn_begun, mdn_closed, submit, record_post, answer_to}
+use Rattle.as2_exchange.specs.Events.{Event, Post, Begin, Outcome, BeginMdn, OutcomeMdn, NoAnswer}
+use Rattle.as2_exchange.specs.Receipts.{is_success}
+use Rattle.as2_exchange.specs.Step.{begun, closed, mdn_begun, mdn_closed, submit, record_post, answer_to}
 use Rattle.as2_exchange.specs.Views.{next, list_out, list_in, outstanding, show, fetch}
 use Rattle.as2_exchange.specs.declared.next.Next.{Next}
 use Rattle.as2_exchange.specs.declared.next.Next.TheVariants.{Receipt, Document}
@@ -34,7 +36,7 @@ settled_1 = record {
   number = 1;
   organization = codes "Supplier";
   partner = codes "Buyer";
-  id = codes "out-1@station.example";
+  id = codes "<out-1@station.example>";
   content = abc;
   moment = 1000;
   tries = 1;
@@ -60,7 +62,7 @@ nothing_outstanding = refl
 
 -- a new document, one in retry, one awaited, one overdue and one whose first try is open
 abbrev standing : ℕ → ℕ → Attempt → Option ℕ → Detail → OutEntry
-standing n tries attempt due detail = record { number = n; organization = codes "Supplier"; partner = codes "Depot"; id = codes "out-1@station.example"; content = abc; moment = 1000; tries = tries; attempt = attempt; due = due; detail = detail; evidence = None }
+standing n tries attempt due detail = record { number = n; organization = codes "Supplier"; partner = codes "Depot"; id = codes "<out-1@station.example>"; content = abc; moment = 1000; tries = tries; attempt = attempt; due = due; detail = detail; evidence = None }
 
 under_way : State
 under_way = record {

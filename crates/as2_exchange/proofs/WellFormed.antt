@@ -7,7 +7,7 @@ use Rattle.std.proofs.lemmas.Bool.{false≢true}
 use Rattle.std.proofs.lemmas.Bool.Decides.{nat_tests}
 use Rattle.std.proofs.lemmas.Slice.Eq.{bytes_eq-Decides}
 use Rattle.as2_exchange.specs.Agreement.{Agreements}
-use Rattle.as2_exchange.specs.Readings.{out_id}
+use Rattle.as2_exchange.specs.Readings.{value_of, out_id}
 use Rattle.as2_exchange.specs.State.{Posted, InEntry, OutEntry, end_of_numbers, same_key, is_settled}
 use Rattle.as2_exchange.specs.Invariants.{IsCounter, AreNumbers, IsRecorded, IsInbox, is_by_receipt, IsEntry, IsOutbox}
 use Rattle.as2_exchange.proofs.Identifiers.{out_id-injective}
@@ -60,15 +60,15 @@ inbox_map n es f kept h = record {
 
 -- ---- the outbox
 
--- the identifiers of these documents aren't that of a number that is still to be given
-other_ids : (A : Agreements) (n : ℕ) → n < end_of_numbers → (ds : List OutEntry) → AllByRecursion (λ (d : OutEntry). d.id ≡ out_id A d.number) ds → AllByRecursion (λ k. k < n) (map (λ (d : OutEntry). d.number) ds) → AllByRecursion (λ id. bytes_eq id (out_id A n) ≡ false) (map (λ (d : OutEntry). d.id) ds)
+-- the identifiers of these documents have other values than that of a number that is still to be given
+other_ids : (A : Agreements) (n : ℕ) → n < end_of_numbers → (ds : List OutEntry) → AllByRecursion (λ (d : OutEntry). d.id ≡ out_id A d.number) ds → AllByRecursion (λ k. k < n) (map (λ (d : OutEntry). d.number) ds) → AllByRecursion (λ value. bytes_eq value (value_of (out_id A n)) ≡ false) (map (λ (d : OutEntry). value_of d.id) ds)
 other_ids A n small [] named below = tt
-other_ids A n small (d ∷ ds) named below = (by (bytes_eq d.id (out_id A n)) refl, other_ids A n small ds named.1 below.1)
+other_ids A n small (d ∷ ds) named below = (by (bytes_eq (value_of d.id) (value_of (out_id A n))) refl, other_ids A n small ds named.1 below.1)
   where
-    by : (b : Bool) → bytes_eq d.id (out_id A n) ≡ b → b ≡ false
+    by : (b : Bool) → bytes_eq (value_of d.id) (value_of (out_id A n)) ≡ b → b ≡ false
     by false is = refl
     by true is =
-        let same : d.number ≡ n = out_id-injective A d.number n (omega (arith, below.0)) small (sym named.0 ∙ (bytes_eq-Decides d.id (out_id A n)).0 is) in
+        let same : d.number ≡ n = out_id-injective A d.number n (omega (arith, below.0)) small (sym (ap value_of named.0) ∙ (bytes_eq-Decides (value_of d.id) (value_of (out_id A n))).0 is) in
         absurd (omega (arith, below.0))
 
 pub outbox_push : (A : Agreements) (n : ℕ) (ds : List OutEntry) (d : OutEntry) → n < end_of_numbers → d.number ≡ n → d.id ≡ out_id A n → IsEntry d → IsOutbox A n ds → IsOutbox A (n + 1) (ds ++ d ∷ [])
@@ -76,7 +76,7 @@ outbox_push A n ds d small num id good h = record {
   counter = counted n small h.counter;
   numbers = subst (AreNumbers (n + 1)) (sym (map_last (λ (x : OutEntry). x.number) ds d ∙ ap (λ k. map (λ (x : OutEntry). x.number) ds ++ k ∷ []) num)) (numbers_push n (map (λ (x : OutEntry). x.number) ds) h.numbers);
   named = all_push (λ (x : OutEntry). x.id ≡ out_id A x.number) ds d h.named (id ∙ ap (out_id A) (sym num));
-  identifiers = subst (IsDistinct bytes_eq) (sym (map_last (λ (x : OutEntry). x.id) ds d ∙ ap (λ k. map (λ (x : OutEntry). x.id) ds ++ k ∷ []) id)) (distinct_push bytes_eq (map (λ (x : OutEntry). x.id) ds) (out_id A n) h.identifiers (other_ids A n small ds h.named h.numbers.below));
+  identifiers = subst (IsDistinct bytes_eq) (sym (map_last (λ (x : OutEntry). value_of x.id) ds d ∙ ap (λ k. map (λ (x : OutEntry). value_of x.id) ds ++ value_of k ∷ []) id)) (distinct_push bytes_eq (map (λ (x : OutEntry). value_of x.id) ds) (value_of (out_id A n)) h.identifiers (other_ids A n small ds h.named h.numbers.below));
   entries = all_push IsEntry ds d h.entries good;
 }
 
@@ -90,7 +90,7 @@ outbox_map A n ds f kept h = record {
   counter = h.counter;
   numbers = subst (AreNumbers n) (sym (map_kept (λ (x : OutEntry). x.number) f kept.names.number ds)) h.numbers;
   named = all_map (λ (x : OutEntry). x.id ≡ out_id A x.number) f (λ x is. kept.names.id x ∙ is ∙ ap (out_id A) (sym (kept.names.number x))) ds h.named;
-  identifiers = subst (IsDistinct bytes_eq) (sym (map_kept (λ (x : OutEntry). x.id) f kept.names.id ds)) h.identifiers;
+  identifiers = subst (IsDistinct bytes_eq) (sym (map_kept (λ (x : OutEntry). value_of x.id) f (λ x. ap value_of (kept.names.id x)) ds)) h.identifiers;
   entries = all_map IsEntry f kept.entry ds h.entries;
 }
 

@@ -4,7 +4,7 @@ use Rattle.std.specs.List.{AllByRecursion, IsDistinct}
 use Rattle.std.specs.Str.{bytes_eq}
 use Rattle.as2_exchange.specs.Agreement.{Agreements}
 use Rattle.as2_exchange.specs.Detail.{Detail, New, Sending, Awaiting, Retry, Processed, NoReceiptAsked, Warning, NoMic, UnknownMic, NotProcessed, ErrorModifier, MicDiffers, TriesUsed, Overdue, Idle}
-use Rattle.as2_exchange.specs.Readings.{is_processed, out_id}
+use Rattle.as2_exchange.specs.Readings.{is_processed, value_of, out_id}
 use Rattle.as2_exchange.specs.State.{State, Posted, InEntry, OutEntry, end_of_numbers, same_key, is_settled}
 
 -- the next number, or the end of numbers once all are given
@@ -52,12 +52,12 @@ pub record IsEntry (d : OutEntry) : Type 0 where
   pub evidence : is_settled d ≡ is_by_receipt d.detail
   pub at_rest : is_settled d ≡ true → (d.attempt ≡ Idle) × (d.due ≡ None)
 
--- the outbox: numbers and identifiers are distinct, and each identifier is that of its number
+-- the outbox: numbers and identifiers' values are distinct, and each identifier is that of its number
 pub record IsOutbox (A : Agreements) (next : ℕ) (outbox : List OutEntry) : Type 0 where
   pub counter : IsCounter next
   pub numbers : AreNumbers next (map (λ d. d.number) outbox)
   pub named : AllByRecursion (λ d. d.id ≡ out_id A d.number) outbox
-  pub identifiers : IsDistinct bytes_eq (map (λ d. d.id) outbox)
+  pub identifiers : IsDistinct bytes_eq (map (λ d. value_of d.id) outbox)
   pub entries : AllByRecursion IsEntry outbox
 
 -- the state is well formed

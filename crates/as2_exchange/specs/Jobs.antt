@@ -11,7 +11,7 @@ use Rattle.as2_exchange.specs.Agreement.{Text, Agreements, Partner, Asked, NoRec
 
 -- ---- identifiers
 
--- the identifier of document n, as its value
+-- the value of document n's identifier: `out-N@domain`
 abbrev pub identifier_value : Agreements → ℕ → Text
 identifier_value A n = codes "out-" ++ decimal n ++ codes "@" ++ A.domain
 
@@ -55,13 +55,13 @@ asking_fields NoReceipt A p = []
 asking_fields Sync A p = request_fields A p
 asking_fields Async A p = request_fields A p ++ return_field A.return_url
 
--- the head fields of a document: organization, identifier value and content
+-- the head fields of a document: organization, identifier and content
 abbrev pub document_fields : Agreements → Partner → Text → Text → Text → Text
 document_fields A p organization id content =
     codes "AS2-Version: 1.0\r\n"
     ++ line (codes "AS2-From: ") (spelling organization)
     ++ line (codes "AS2-To: ") (spelling p.name)
-    ++ line (codes "Message-ID: ") (bracketed id)
+    ++ line (codes "Message-ID: ") id
     ++ line (codes "Content-Type: ") p.content_type
     ++ codes "Content-Transfer-Encoding: binary\r\n"
     ++ asking_fields p.receipt A p

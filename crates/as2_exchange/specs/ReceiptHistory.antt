@@ -5,8 +5,9 @@ use Rattle.as2_exchange.specs.Agreement.{Agreements, Partner, partner_of}
 use Rattle.as2_exchange.specs.Detail.{Attempt, Idle, Running, Last, Used, MdnState, Unasked, Pending, Sent}
 use Rattle.as2_exchange.specs.Readings.{How, NoReceipt, Sync, Async}
 use Rattle.as2_exchange.specs.State.{Posted, InEntry}
-use Rattle.as2_exchange.specs.Step.{Event, Post, BeginMdn, OutcomeMdn, Answer, Reading, IsDocument, reading, repeats, is_delivery}
-use Rattle.as2_exchange.specs.Run.{Done}
+use Rattle.as2_exchange.specs.Events.{Event, Post, BeginMdn, OutcomeMdn, Answer, Done}
+use Rattle.as2_exchange.specs.Posts.{Reading, IsDocument, reading, repeats}
+use Rattle.as2_exchange.specs.Receipts.{is_delivery}
 use Rattle.as2_exchange.specs.History.{Found, Fact, ATry, AnOutcome, is_job, try_in, tries, is_open, last_of, with_past}
 use Rattle.as2_exchange.specs.Waiting.{Tried, last_tried}
 

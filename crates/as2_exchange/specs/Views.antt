@@ -9,7 +9,6 @@ use Rattle.as2_mdn.specs.declared.detail.State.TheVariants.{P, R, S, W, E}
 use Rattle.as2_exchange.specs.Agreement.{Text}
 use Rattle.as2_exchange.specs.Detail.{Detail, New, Sending, Awaiting, Retry, TriesUsed, Overdue, Attempt, Idle, Running, MdnState, Unasked, Pending, Sent}
 use Rattle.as2_exchange.specs.Readings.{is_processed}
-use Rattle.as2_exchange.specs.Jobs.{bracketed}
 use Rattle.as2_exchange.specs.State.{State, InEntry, OutEntry, Evidence, document, received, is_settled}
 use Rattle.as2_exchange.specs.Step.{is_due, is_pending}
 use Rattle.as2_exchange.specs.declared.next.Next.{Next}
@@ -228,7 +227,7 @@ shown d =
     ++ named_line (codes "due") (due_text d.due)
     ++ named_line (codes "from") (spelling d.organization)
     ++ named_line (codes "to") (spelling d.partner)
-    ++ named_line (codes "identifier") (bracketed d.id)
+    ++ named_line (codes "identifier") d.id
     ++ named_line (codes "content") (decimal (length d.content) ++ codes " bytes")
     ++ named_line (codes "receipt") (evidence_text d.evidence)
 

@@ -4,8 +4,9 @@ use Rattle.std.specs.List.{list_any}
 use Rattle.as2_exchange.specs.Agreement.{Agreements, Partner, Asked, NoReceipt, Sync, Async, partner_of}
 use Rattle.as2_exchange.specs.Detail.{Attempt, Idle, Running, Last}
 use Rattle.as2_exchange.specs.State.{OutEntry}
-use Rattle.as2_exchange.specs.Step.{TryAnswer, Came, is_delivery}
-use Rattle.as2_exchange.specs.Run.{Done}
+use Rattle.as2_exchange.specs.Events.{TryAnswer, Done}
+use Rattle.as2_exchange.specs.Posts.{Came}
+use Rattle.as2_exchange.specs.Receipts.{is_delivery}
 use Rattle.as2_exchange.specs.History.{Found, Submission, Fact, concerns, first_of, last_of, try_in, outcome_in, tries, first_receipt, is_tick_from}
 
 -- a try, with what stands after it, and its Outcome

@@ -24,7 +24,7 @@ pub struct OutEntry {
     pub organization: AsName,
     /// The partner that it is sent to.
     pub partner: AsName,
-    /// The value of its identifier, which is written between angle brackets.
+    /// Its identifier, `<out-N@domain>`.
     pub id: MessageId,
     /// Its bytes.
     pub content: Pieces,

@@ -10,7 +10,7 @@ use Rattle.as2_exchange.specs.declared.answer.Line.{Line}
 use Rattle.as2_exchange.specs.Agreement.{Text}
 use Rattle.as2_exchange.specs.Readings.{Head, are_refused, is_plain_coding}
 use Rattle.as2_exchange.specs.declared.inbox.Posted.{Posted}
-use Rattle.as2_exchange.specs.Step.{Reading, Refuses, IsDocument}
+use Rattle.as2_exchange.specs.Posts.{Reading, Refuses, IsDocument}
 use Rattle.as2_posts.specs.Openings.{status_of}
 
 -- the identifier that a text is (RFC 4130, section 5.3.3)

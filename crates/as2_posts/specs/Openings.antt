@@ -4,7 +4,7 @@ use Rattle.as2_exchange.specs.Agreement.{Text}
 use Rattle.as2_exchange.specs.Readings.{Head, MediaType, is_report}
 use Rattle.as2_exchange.specs.declared.answer.Line.{Line}
 use Rattle.as2_exchange.specs.declared.answer.Line.TheVariants.{BadNames, BadVersion, UnknownNames, BadType, UnreadableReceipt, NoSuchMessage, BadId, BadAsk, IdUsedBefore, NotProcessed}
-use Rattle.as2_exchange.specs.Step.{Reading, report_posted, document_posted}
+use Rattle.as2_exchange.specs.Posts.{Reading, report_posted, document_posted}
 
 -- the status that goes with a line (RFC 9110, section 15)
 abbrev pub status_of : Line → ℕ

@@ -5,7 +5,7 @@ ghost use Rattle.as2_media.specs.Kinds.{kind_of};
 ghost use Rattle.as2_text.specs.ReceiptRequests.{delivery_option, is_twice, request_of, text_of};
 ghost use Rattle.as2_mdn.specs.Outcomes.{report_mic};
 ghost use Rattle.as2_exchange.specs.Readings.{asked_how};
-ghost use Rattle.as2_exchange.specs.Step.{document_posted, posted};
+ghost use Rattle.as2_exchange.specs.Posts.{document_posted, posted};
 ghost use Rattle.as2_posts.specs.Documents.{is_asked, read_as};
 
 use crate::encodings::is_encoded;

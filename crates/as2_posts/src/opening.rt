@@ -1,7 +1,7 @@
 //! The lines that refuse a post by its head alone: names, version and content type.
 ghost use Rattle.std.specs.Prelude.{◌≡◌, IfOk, IfErr};
 ghost use Rattle.as2_exchange.specs.Agreement.{Text};
-ghost use Rattle.as2_exchange.specs.Step.{Refuses, reading};
+ghost use Rattle.as2_exchange.specs.Posts.{Refuses, reading};
 ghost use Rattle.as2_exchange.specs.Readings.{is_report};
 ghost use Rattle.as2_posts.specs.Openings.{read_further, status_of};
 
@@ -36,7 +36,7 @@ impl Opened<'_> {
 
 /// Reads the head of a post: the first of the lines that refuse it by names, version or content type, or what it says.
 /// It takes no memory.
-#[tactic(auto, unfolding(as2_exchange::specs::Step::reading, as2_exchange::specs::Readings::names_of, as2_exchange::specs::Readings::version_fits, as2_exchange::specs::Readings::type_of))]
+#[tactic(auto, unfolding(as2_exchange::specs::Posts::reading, as2_exchange::specs::Readings::names_of, as2_exchange::specs::Readings::version_fits, as2_exchange::specs::Readings::type_of))]
 pub fn open<'a>(agreements: &Agreements, head: &'a Head) -> Result<Opened<'a>, Line>
     ensures refused { IfErr result (λ line. (body : Text) → reading agreements.now head.now body ≡ Refuses (status_of line) line) }
     ensures opened { IfOk result (λ o. (body : Text)

@@ -1,6 +1,6 @@
 //! Whether a post repeats an earlier one.
 ghost use Rattle.std.specs.Prelude.{◌≡◌};
-ghost use Rattle.as2_exchange.specs.Step.{how_eq, mic_eq, repeats};
+ghost use Rattle.as2_exchange.specs.Posts.{how_eq, mic_eq, repeats};
 
 use as2_exchange::{How, Posted};
 use as2_mdn::ReportMic;

@@ -1,0 +1,105 @@
+-- Posts as they are read: what one is, and when it repeats an earlier one (RFC 4130, sections 5 to 7).
+use Rattle.std.specs.Prelude.{ℕ, Bool, true, false, ◌&&◌, not, Option, Some, None, is_some, if◌then◌else◌}
+use Rattle.std.specs.Str.{bytes_eq}
+use Rattle.as2_exchange.specs.Agreement.{Text, Alg, Md5, Sha1, Agreements, is_organization, partner_of}
+use Rattle.as2_exchange.specs.Readings.{Head, MediaType, Receipt, ReceiptAsk, How, NoReceipt as NoneAsked, Sync as AtOnce, Async as Later, Outcome as WhatBecame, Processed, DecryptionFailed, DecompressionFailed, AuthenticationFailed, UnsupportedFormat, UnsupportedMicAlgorithms, Mic, names_of, version_fits, type_of, is_report, report_in, id_of, ask_of, how_of, outcome_of, mic_for}
+use Rattle.as2_exchange.specs.State.{Posted}
+use Rattle.as2_exchange.specs.Events.{Line, BadNames, BadVersion, UnknownNames, BadType, UnreadableReceipt, BadId, BadAsk}
+
+-- a receipt as it came: under these names, with this content type and body
+pub record Came : Type 0 where
+  pub from : Text
+  pub to : Text
+  pub receipt : Receipt
+  pub content_type : Text
+  pub body : Text
+
+-- what a post is: refused by a line, a receipt, or a document
+pub data Reading : Type 0 where
+  Refuses : (status : ℕ) → Line → Reading
+  IsReceipt : Came → Reading
+  IsDocument : Posted → Reading
+
+-- goes on with what is there; else the post is refused
+abbrev pub needs : {X : Type 0} → Option X → ℕ → Line → (X → Reading) → Reading
+needs None status line rest = Refuses status line
+needs (Some x) status line rest = rest x
+
+-- the document of a post, with what is made of it
+abbrev pub posted : Text × Text → Text → MediaType × Text → Head → Text → ReceiptAsk → Posted
+posted names id type head content ask =
+    let became = outcome_of type.0 head ask in
+    record {
+      sender = names.0;
+      receiver = names.1;
+      id = id;
+      content_type = type.1;
+      content = content;
+      outcome = became;
+      how = how_of head ask;
+      mic = mic_for became ask content;
+    }
+
+-- the receipt that came under these names, with this content type and body
+abbrev pub came : Text × Text → MediaType × Text → Text → Receipt → Came
+came names type body receipt = record { from = names.0; to = names.1; receipt = receipt; content_type = type.1; body = body }
+
+-- a post of a report: it needs no identifier and asks for nothing
+abbrev pub report_posted : Text × Text → MediaType × Text → Text → Reading
+report_posted names type body = needs (report_in type.0 body) 400 UnreadableReceipt λ receipt. IsReceipt (came names type body receipt)
+
+-- any other post
+abbrev pub document_posted : Text × Text → MediaType × Text → Head → Text → Reading
+document_posted names type head body =
+    needs (id_of head) 400 BadId λ id.
+    needs (ask_of head) 400 BadAsk λ ask.
+    IsDocument (posted names id type head body ask)
+
+-- a post as it is read: the first line of the table of answers that fits
+unfoldable pub reading : Agreements → Head → Text → Reading
+reading A head body =
+    needs (names_of head) 400 BadNames λ names.
+    if not (version_fits head) then Refuses 400 BadVersion
+    else if not (is_organization A names.1 && is_some (partner_of A names.0)) then Refuses 403 UnknownNames
+    else needs (type_of head) 400 BadType λ type.
+    if is_report type.0 then report_posted names type body else document_posted names type head body
+
+-- ---- repeats
+
+-- both are the same outcome
+abbrev pub outcome_eq : WhatBecame → WhatBecame → Bool
+outcome_eq Processed Processed = true
+outcome_eq DecryptionFailed DecryptionFailed = true
+outcome_eq DecompressionFailed DecompressionFailed = true
+outcome_eq AuthenticationFailed AuthenticationFailed = true
+outcome_eq UnsupportedFormat UnsupportedFormat = true
+outcome_eq UnsupportedMicAlgorithms UnsupportedMicAlgorithms = true
+outcome_eq a b = false
+
+-- both ask for a receipt in the same way, and later to the same address as spelled
+abbrev pub how_eq : How → How → Bool
+how_eq NoneAsked NoneAsked = true
+how_eq AtOnce AtOnce = true
+how_eq (Later url) (Later other) = bytes_eq url other
+how_eq a b = false
+
+-- both are the same digest
+abbrev pub alg_eq : Alg → Alg → Bool
+alg_eq Md5 Md5 = true
+alg_eq Sha1 Sha1 = true
+alg_eq a b = false
+
+-- neither stands, or both are of the same digest and text
+abbrev pub mic_eq : Option Mic → Option Mic → Bool
+mic_eq None None = true
+mic_eq (Some a) (Some b) = alg_eq a.digest b.digest && bytes_eq a.text b.text
+mic_eq a b = false
+
+-- a post repeats an earlier one: all is the same, the identifier's spelling too (RFC 4130, section 5.5; `Date` isn't looked
+-- at)
+abbrev pub repeats : Posted → Posted → Bool
+repeats p q =
+    bytes_eq p.sender q.sender && (bytes_eq p.receiver q.receiver
+    && (bytes_eq p.id q.id
+    && (bytes_eq p.content_type q.content_type && (bytes_eq p.content q.content
+    && (outcome_eq p.outcome q.outcome && (how_eq p.how q.how && mic_eq p.mic q.mic))))))
