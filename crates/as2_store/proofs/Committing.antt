@@ -116,3 +116,15 @@ module _ {S : Type 0} (g : Ghosts S) (old : Held S) (last : Connected) (end : He
 
 never_left : (s : State) (old : Connected) (db : Trees) → IsTrue old.is_open → Rests old s → db ≡ old.now.trees → Keeps db s
 never_left s old db opened r is = subst (λ (t : Trees). Keeps t s) (sym is) (keeps_of old.now s (r.stands opened))
+
+-- ---- the same write, by other names
+
+pub write_ok : {A B E F : Type 0} (next : State → Option State) (old new : Connected) (a : A) (b : B) → Writes {A = A} {E = E} next old new (Ok a) → Writes {A = B} {E = F} next old new (Ok b)
+write_ok next old new a b it = record { clean = it.clean; was_open = it.was_open; is_open = it.is_open; done = it.done; failed = it.failed; crash = it.crash }
+
+pub write_err : {A B E F : Type 0} (next : State → Option State) (old new : Connected) (e : E) (f : F) → Writes {A = A} {E = E} next old new (Err e) → Writes {A = B} {E = F} next old new (Err f)
+write_err next old new e f it = record { clean = it.clean; was_open = it.was_open; is_open = it.is_open; done = it.done; failed = it.failed; crash = it.crash }
+
+-- seen from where the store is
+pub write_of : {A E : Type 0} (next : State → Option State) (inside outside new : Connected) (r : Result A E) → inside ≡ outside → Writes next inside new r → Writes next outside new r
+write_of next inside outside new r same it = subst (λ c. Writes next c new r) same it

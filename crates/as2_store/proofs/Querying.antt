@@ -1,5 +1,6 @@
 -- A query in a transaction of its own.
-use Rattle.std.proofs.Common.{◌≡◌, ◌⊎◌, inl, inr, ℕ, List, Option, Some, None, Result, Ok, Err, IfOk, IfErr, IsErr, IsTrue, true, refl, sym, ap, subst, ◌∙◌, arith}
+use Rattle.std.proofs.Common.{◌≡◌, ◌⊎◌, inl, inr, ℕ, List, Option, Some, None, Result, Ok, Err, IfOk, IfErr, OnOk, IsErr, IsTrue, true, refl, sym, ap, subst, ◌∙◌, arith}
+use Rattle.sqlite_trees.specs.Tree.{Trees}
 use Rattle.sqlite.specs.Store.{Ghosts}
 use Rattle.sqlite.specs.Held.{Held, state}
 use Rattle.sqlite.specs.Order.{Row}
@@ -89,3 +90,72 @@ read_as fits more old new r less it = record {
 pub if_failed : {A E : Type 0} (P : A → Type 0) (r : Result A E) → IsErr r → IfOk r P
 if_failed P (Ok a) err = absurd cc
 if_failed P (Err e) err = tt
+
+-- ---- reads one after the other
+
+-- what is made of an answer
+pub read_ok : {A B E F : Type 0} (fits : State → A → Type 0) (more : State → B → Type 0) (old new : Connected) (a : A) (b : B) → ((s : State) → Rests old s → fits s a → more s b) → Reads {A = A} {E = E} fits old new (Ok a) → Reads {A = B} {E = F} more old new (Ok b)
+read_ok fits more old new a b then it = record {
+  clean = it.clean;
+  was_open = it.was_open;
+  is_open = it.is_open;
+  answer = λ clean s r. then s r (it.answer clean s r);
+  same = it.same;
+  crash = it.crash;
+}
+
+-- a read that fails, or whose answer is no answer
+pub read_err : {A B E F : Type 0} (fits : State → A → Type 0) (more : State → B → Type 0) (old new : Connected) (r : Result A E) (f : F) → Reads fits old new r → Reads {A = B} {E = F} more old new (Err f)
+read_err fits more old new r f it = record { clean = it.clean; was_open = λ clean. tt; is_open = λ clean. tt; answer = λ clean. tt; same = it.same; crash = it.crash }
+
+survives_same : (c : Connected) (P : Trees → Type 0) → Survives c c P
+survives_same c P = record { clean = omega arith; shield = λ is. is; counts = omega arith; limit = refl; closes = λ clean is. inl is; crash = λ clean db may. inl may }
+
+-- nothing is read, over an open connection
+pub unread : {A E : Type 0} (fits : State → A → Type 0) (old : Connected) (a : A) → (HasCleanDisk old → IsTrue old.is_open) → ((s : State) → fits s a) → Reads {A = A} {E = E} fits old old (Ok a)
+unread fits old a opened known = record {
+  clean = λ clean. clean;
+  was_open = opened;
+  is_open = opened;
+  answer = λ clean s r. known s;
+  same = λ clean s r. r;
+  crash = survives_same old (Commits Some old);
+}
+
+two_reads : (old mid new : Connected) → (HasCleanDisk mid → IsTrue old.is_open) → (HasCleanDisk mid → (s : State) → Rests old s → Rests mid s) → Survives old mid (Commits Some old) → Survives mid new (Commits Some mid) → Survives old new (Commits Some old)
+two_reads old mid new opened same one two =
+    survives_then old mid new (Commits Some old) (Commits Some mid) (Commits Some old) (λ _ db is. is)
+    (λ clean db is.
+    let was : HasCleanDisk mid = omega (arith, two.clean, clean) in
+    record { was_open = opened was; stands = λ s r. is.stands s (same was s r) })
+    one two
+
+always : {A E P : Type 0} (r : Result A E) → P → OnOk r P
+always (Ok a) is = is
+always (Err e) is = tt
+
+later : {A B F : Type 0} (fits : State → A → Type 0) (more : State → B → Type 0) (both : State → B → Type 0) (old mid : Connected) {a : A} (r : Result B F) → ((s : State) (b : B) → Rests old s → fits s a → more s b → both s b)
+    → ((s : State) → Rests old s → fits s a) → ((s : State) → Rests old s → Rests mid s) → IfOk r (λ b. (s : State) → Rests mid s → more s b) → IfOk r (λ b. (s : State) → Rests old s → both s b)
+later fits more both old mid (Ok b) then first same told = λ s rests. then s b rests (first s rests) (told s (same s rests))
+later fits more both old mid (Err f) then first same told = tt
+
+-- a read, and then another, whatever that answers
+pub read_then : {A B E F : Type 0} (fits : State → A → Type 0) (more : State → B → Type 0) (both : State → B → Type 0) (old mid new : Connected) (a : A) (r : Result B F)
+    → ((s : State) (b : B) → Rests old s → fits s a → more s b → both s b) → Reads {A = A} {E = E} fits old mid (Ok a) → Reads more mid new r → Reads both old new r
+read_then fits more both old mid new a r then one two = record {
+  clean = λ clean. one.clean (two.clean clean);
+  was_open = λ clean. always r (one.was_open (two.clean clean));
+  is_open = two.is_open;
+  answer = λ clean. later fits more both old mid r then (one.answer (two.clean clean)) (one.same (two.clean clean)) (two.answer clean);
+  same = λ clean s r. two.same clean s (one.same (two.clean clean) s r);
+  crash = two_reads old mid new one.was_open one.same one.crash two.crash;
+}
+
+-- seen from where the store is
+pub read_of : {A E : Type 0} (fits : State → A → Type 0) (inside outside new : Connected) (r : Result A E) → inside ≡ outside → Reads fits inside new r → Reads fits outside new r
+read_of fits inside outside new r same it = subst (λ c. Reads fits c new r) same it
+
+-- a read that failed, by whatever result tells so
+pub read_bad : {A B E F : Type 0} (fits : State → A → Type 0) (more : State → B → Type 0) (old new : Connected) (r : Result A E) (f : Result B F) → IsErr f → Reads fits old new r → Reads more old new f
+read_bad fits more old new r (Ok b) err it = absurd cc
+read_bad fits more old new r (Err f) err it = read_err fits more old new r f it

@@ -3,7 +3,7 @@
 ghost use Rattle.std.specs.Prelude.{◌≡◌, [], ◌∷◌, ◌<◌, ◌^◌, false, Bool, Some, find, map, length, IsTrue, IfOk, OnOk};
 ghost use Rattle.sqlite.specs.Held.{state};
 ghost use Rattle.sqlite.specs.State.{HasCleanDisk};
-ghost use Rattle.as2_store.specs.Calls.{IsInside};
+ghost use Rattle.as2_store.specs.Calls.{IsInside, Reads};
 ghost use Rattle.as2_rows.specs.Contents.{pieces, piece_shown};
 ghost use Rattle.as2_exchange.specs.State.{State};
 ghost use Rattle.as2_exchange.specs.declared.inbox.InEntry.{InEntry as Entry};
@@ -13,6 +13,7 @@ ghost use Rattle.as2_store.specs.Adding.{Appended};
 ghost use Rattle.as2_store.specs.Stands.{Rests};
 
 use crate::numbers::whole;
+use crate::reading::query_all;
 use as2_mic::Pieces;
 use sqlite::{Alter, Connection, Error, Row, Transaction, params};
 
@@ -62,16 +63,15 @@ pub fn put_in_pieces<S: Alter>(
 
 /// The rows of the content of an entry of the inbox, in order.
 pub fn in_piece_rows<S: Alter>(conn: &mut Connection<S>, number: u64) -> Result<Vec<Row>, Error>
-    requires { number < 2 ^ 63 }
-    ensures mode { conn.old.in_transaction ≡ false → conn.new.in_transaction ≡ false }
-    ensures clean { HasCleanDisk (state S.Store conn.new) → HasCleanDisk (state S.Store conn.old) }
-    ensures opened { HasCleanDisk (state S.Store conn.new) → OnOk result (IsTrue (state S.Store conn.new).is_open) }
-    ensures same { HasCleanDisk (state S.Store conn.new) → (s : State) → Rests (state S.Store conn.old) s → Rests (state S.Store conn.new) s }
-    ensures rows { HasCleanDisk (state S.Store conn.new) → IfOk result (λ rows. (s : State) → Rests (state S.Store conn.old) s → (p : Entry → Bool) (e : Entry) → find p s.inbox ≡ Some e → number ≡ e.number
-        → rows.items ≡ map piece_shown (pieces e.number e.posted.content)) }
+    requires autocommit { conn.old.in_transaction ≡ false }
+    requires number { number < 2 ^ 63 }
+    ensures autocommit { conn.new.in_transaction ≡ false }
+    ensures rows { Reads (λ s rows. (p : Entry → Bool) (e : Entry) → find p s.inbox ≡ Some e → number ≡ e.number
+        → rows.items ≡ map piece_shown (pieces e.number e.posted.content)) (state S.Store conn.old) (state S.Store conn.new) result }
 {
     let number = whole(number);
-    conn.query_all(
+    query_all(
+        conn,
         "SELECT number, position, bytes FROM inbox_piece WHERE number = ?1 ORDER BY rowid",
         params![number],
     )
@@ -79,16 +79,15 @@ pub fn in_piece_rows<S: Alter>(conn: &mut Connection<S>, number: u64) -> Result<
 
 /// The rows of the content of a document, in order.
 pub fn out_piece_rows<S: Alter>(conn: &mut Connection<S>, number: u64) -> Result<Vec<Row>, Error>
-    requires { number < 2 ^ 63 }
-    ensures mode { conn.old.in_transaction ≡ false → conn.new.in_transaction ≡ false }
-    ensures clean { HasCleanDisk (state S.Store conn.new) → HasCleanDisk (state S.Store conn.old) }
-    ensures opened { HasCleanDisk (state S.Store conn.new) → OnOk result (IsTrue (state S.Store conn.new).is_open) }
-    ensures same { HasCleanDisk (state S.Store conn.new) → (s : State) → Rests (state S.Store conn.old) s → Rests (state S.Store conn.new) s }
-    ensures rows { HasCleanDisk (state S.Store conn.new) → IfOk result (λ rows. (s : State) → Rests (state S.Store conn.old) s → (p : Document → Bool) (d : Document) → find p s.outbox ≡ Some d → number ≡ d.number
-        → rows.items ≡ map piece_shown (pieces d.number d.content)) }
+    requires autocommit { conn.old.in_transaction ≡ false }
+    requires number { number < 2 ^ 63 }
+    ensures autocommit { conn.new.in_transaction ≡ false }
+    ensures rows { Reads (λ s rows. (p : Document → Bool) (d : Document) → find p s.outbox ≡ Some d → number ≡ d.number
+        → rows.items ≡ map piece_shown (pieces d.number d.content)) (state S.Store conn.old) (state S.Store conn.new) result }
 {
     let number = whole(number);
-    conn.query_all(
+    query_all(
+        conn,
         "SELECT number, position, bytes FROM outbox_piece WHERE number = ?1 ORDER BY rowid",
         params![number],
     )

@@ -3,7 +3,7 @@
 ghost use Rattle.std.specs.Prelude.{◌≡◌, ◌≢◌, ℕ, ◌+◌, [], ◌∷◌, List, false, ◌<◌, ◌^◌, IsTrue, IfOk, IfErr, OnOk};
 ghost use Rattle.sqlite.specs.Held.{state};
 ghost use Rattle.sqlite.specs.State.{HasCleanDisk};
-ghost use Rattle.as2_store.specs.Calls.{IsInside};
+ghost use Rattle.as2_store.specs.Calls.{IsInside, Reads};
 ghost use Rattle.sqlite.specs.declared.types.Value.TheVariants.{Text};
 ghost use Rattle.sql_tables.specs.Changes.{Changed, IsOutside};
 ghost use Rattle.as2_exchange.specs.State.{State};
@@ -12,6 +12,7 @@ ghost use Rattle.as2_store.specs.Tables.{store_schema, meta_tree};
 ghost use Rattle.as2_store.specs.Stands.{Rests, Says, IsBare, HasCounters};
 
 use crate::numbers::whole;
+use crate::reading::query_all;
 use sqlite::{Alter, Connection, Error, Row, Transaction, params};
 
 /// The numbers that the next entries get. One past 999,999,999,999 is never given.
@@ -63,18 +64,12 @@ pub fn raise_next_receipt<S: Alter>(
 
 /// The row as it is shown.
 pub fn meta_rows<S: Alter>(conn: &mut Connection<S>) -> Result<Vec<Row>, Error>
-    ensures mode { conn.old.in_transaction ≡ false → conn.new.in_transaction ≡ false }
-    ensures clean { HasCleanDisk (state S.Store conn.new) → HasCleanDisk (state S.Store conn.old) }
-    ensures open { HasCleanDisk (state S.Store conn.new) → OnOk result (IsTrue (state S.Store conn.old).is_open) }
-    ensures opened { HasCleanDisk (state S.Store conn.new) → OnOk result (IsTrue (state S.Store conn.new).is_open) }
-    ensures same { HasCleanDisk (state S.Store conn.new) → (s : State) → Rests (state S.Store conn.old) s → Rests (state S.Store conn.new) s }
-    ensures rows { HasCleanDisk (state S.Store conn.new) → IfOk result (λ rows. (s : State) → Rests (state S.Store conn.old) s → rows.items ≡ meta_shown s.next_in s.next_out ∷ []) }
-    ensures says { HasCleanDisk (state S.Store conn.new) → IfOk result (λ rows. (kind : List ℕ) (version : ℕ) → (it : Says (state S.Store conn.old) kind version)
-        → rows.items ≡ (Text kind ∷ whole version ∷ whole it.next_receipt ∷ whole it.next_document ∷ []) ∷ []) }
-    ensures fails { HasCleanDisk (state S.Store conn.new) → IfErr result (λ e. (s : State) → Rests (state S.Store conn.old) s → IsOutside e) }
-    ensures unsaid { HasCleanDisk (state S.Store conn.new) → IfErr result (λ e. (kind : List ℕ) (version : ℕ) → Says (state S.Store conn.old) kind version → IsOutside e) }
+    requires autocommit { conn.old.in_transaction ≡ false }
+    ensures autocommit { conn.new.in_transaction ≡ false }
+    ensures rows { Reads (λ s rows. rows.items ≡ meta_shown s.next_in s.next_out ∷ []) (state S.Store conn.old) (state S.Store conn.new) result }
 {
-    conn.query_all(
+    query_all(
+        conn,
         "SELECT kind, version, next_receipt, next_document FROM meta",
         &[],
     )

@@ -6,6 +6,7 @@ ghost use Rattle.sqlite.specs.State.{HasCleanDisk};
 ghost use Rattle.as2_exchange.specs.State.{State};
 ghost use Rattle.as2_exchange.specs.declared.outbox.OutEntry.{OutEntry as Document};
 ghost use Rattle.as2_rows.specs.Rows.{out_shown};
+ghost use Rattle.as2_store.specs.Calls.{Reads};
 ghost use Rattle.as2_store.specs.Stands.{Rests, may_come};
 
 use crate::contents::out_piece_rows;
@@ -22,20 +23,19 @@ fn content_of<S: Alter>(
     conn: &mut Connection<S>,
     alloc: Global,
     number: u64,
+    length: u64,
 ) -> Result<Pieces, StoreFault>
-    requires { number < 2 ^ 63 }
-    ensures mode { conn.old.in_transaction ≡ false → conn.new.in_transaction ≡ false }
-    ensures clean { HasCleanDisk (state S.Store conn.new) → HasCleanDisk (state S.Store conn.old) }
-    ensures opened { HasCleanDisk (state S.Store conn.new) → OnOk result (IsTrue (state S.Store conn.new).is_open) }
-    ensures same { HasCleanDisk (state S.Store conn.new) → (s : State) → Rests (state S.Store conn.old) s → Rests (state S.Store conn.new) s }
-    ensures content { HasCleanDisk (state S.Store conn.new) → IfOk result (λ content. (s : State) → Rests (state S.Store conn.old) s → (p : Document → Bool) (d : Document) → find p s.outbox ≡ Some d → number ≡ d.number → content ≡ d.content) }
+    requires autocommit { conn.old.in_transaction ≡ false }
+    requires number { number < 2 ^ 63 }
+    ensures autocommit { conn.new.in_transaction ≡ false }
+    ensures content { Reads (λ s content. (p : Document → Bool) (d : Document) → find p s.outbox ≡ Some d → number ≡ d.number → content ≡ d.content) (state S.Store conn.old) (state S.Store conn.new) result }
     ensures fault { IfErr result (λ f. may_come f ≡ true) }
 {
     let rows = match out_piece_rows(conn, number) {
         Ok(rows) => rows,
         Err(error) => return Err(fault_of(&error)),
     };
-    match content_in(alloc, &rows) {
+    match content_in(alloc, &rows, number, length) {
         Ok(content) => Ok(content),
         Err(fault) => Err(unread_row(fault)),
     }
@@ -47,12 +47,10 @@ fn evidence_of<S: Alter>(
     alloc: Global,
     number: u64,
 ) -> Result<Option<Evidence>, StoreFault>
-    requires { number < 2 ^ 63 }
-    ensures mode { conn.old.in_transaction ≡ false → conn.new.in_transaction ≡ false }
-    ensures clean { HasCleanDisk (state S.Store conn.new) → HasCleanDisk (state S.Store conn.old) }
-    ensures opened { HasCleanDisk (state S.Store conn.new) → OnOk result (IsTrue (state S.Store conn.new).is_open) }
-    ensures same { HasCleanDisk (state S.Store conn.new) → (s : State) → Rests (state S.Store conn.old) s → Rests (state S.Store conn.new) s }
-    ensures evidence { HasCleanDisk (state S.Store conn.new) → IfOk result (λ evidence. (s : State) → Rests (state S.Store conn.old) s → (p : Document → Bool) (d : Document) → find p s.outbox ≡ Some d → number ≡ d.number → evidence ≡ d.evidence) }
+    requires autocommit { conn.old.in_transaction ≡ false }
+    requires number { number < 2 ^ 63 }
+    ensures autocommit { conn.new.in_transaction ≡ false }
+    ensures evidence { Reads (λ s evidence. (p : Document → Bool) (d : Document) → find p s.outbox ≡ Some d → number ≡ d.number → evidence ≡ d.evidence) (state S.Store conn.old) (state S.Store conn.new) result }
     ensures fault { IfErr result (λ f. may_come f ≡ true) }
 {
     let rows = match evidence_rows(conn, number) {
@@ -74,11 +72,10 @@ pub fn first_document<S: Alter>(
     alloc: Global,
     rows: &[Row],
 ) -> Result<Option<OutEntry>, StoreFault>
-    ensures mode { conn.old.in_transaction ≡ false → conn.new.in_transaction ≡ false }
-    ensures clean { HasCleanDisk (state S.Store conn.new) → HasCleanDisk (state S.Store conn.old) }
-    ensures opened { HasCleanDisk (state S.Store conn.new) → OnOk result (IsTrue (state S.Store conn.old).is_open → IsTrue (state S.Store conn.new).is_open) }
-    ensures same { HasCleanDisk (state S.Store conn.new) → (s : State) → Rests (state S.Store conn.old) s → Rests (state S.Store conn.new) s }
-    ensures found { HasCleanDisk (state S.Store conn.new) → IfOk result (λ found. (s : State) → Rests (state S.Store conn.old) s → (p : Document → Bool) → rows.now ≡ map out_shown (filter p s.outbox) → found ≡ find p s.outbox) }
+    requires autocommit { conn.old.in_transaction ≡ false }
+    requires open { HasCleanDisk (state S.Store conn.old) → IsTrue (state S.Store conn.old).is_open }
+    ensures autocommit { conn.new.in_transaction ≡ false }
+    ensures found { Reads (λ s found. (p : Document → Bool) → rows.now ≡ map out_shown (filter p s.outbox) → found ≡ find p s.outbox) (state S.Store conn.old) (state S.Store conn.new) result }
     ensures fault { IfErr result (λ f. may_come f ≡ true) }
 {
     let Some(row) = rows.first() else {
@@ -91,7 +88,7 @@ pub fn first_document<S: Alter>(
     if row.number > 999_999_999_999 {
         return Err(StoreFault::Refused);
     }
-    let content = content_of(conn, alloc, row.number)?;
+    let content = content_of(conn, alloc, row.number, row.length)?;
     let evidence = evidence_of(conn, alloc, row.number)?;
     Ok(Some(row.with_content(content, evidence)))
 }

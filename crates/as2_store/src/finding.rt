@@ -7,6 +7,7 @@ ghost use Rattle.as2_exchange.specs.State.{State};
 ghost use Rattle.as2_exchange.specs.declared.inbox.InEntry.{InEntry as Entry};
 ghost use Rattle.as2_rows.specs.Rows.{in_shown};
 ghost use Rattle.as2_rows.specs.Summaries.{in_summary};
+ghost use Rattle.as2_store.specs.Calls.{Reads};
 ghost use Rattle.as2_store.specs.Stands.{Rests, may_come};
 
 use crate::contents::in_piece_rows;
@@ -22,12 +23,11 @@ fn content_of<S: Alter>(
     conn: &mut Connection<S>,
     alloc: Global,
     number: u64,
+    length: u64,
 ) -> Result<Pieces, StoreFault>
-    ensures mode { conn.old.in_transaction ≡ false → conn.new.in_transaction ≡ false }
-    ensures clean { HasCleanDisk (state S.Store conn.new) → HasCleanDisk (state S.Store conn.old) }
-    ensures opened { HasCleanDisk (state S.Store conn.new) → OnOk result (IsTrue (state S.Store conn.new).is_open) }
-    ensures same { HasCleanDisk (state S.Store conn.new) → (s : State) → Rests (state S.Store conn.old) s → Rests (state S.Store conn.new) s }
-    ensures content { HasCleanDisk (state S.Store conn.new) → IfOk result (λ content. (s : State) → Rests (state S.Store conn.old) s → (p : Entry → Bool) (e : Entry) → find p s.inbox ≡ Some e → number ≡ e.number → content ≡ e.posted.content) }
+    requires autocommit { conn.old.in_transaction ≡ false }
+    ensures autocommit { conn.new.in_transaction ≡ false }
+    ensures content { Reads (λ s content. (p : Entry → Bool) (e : Entry) → find p s.inbox ≡ Some e → number ≡ e.number → content ≡ e.posted.content) (state S.Store conn.old) (state S.Store conn.new) result }
     ensures fault { IfErr result (λ f. may_come f ≡ true) }
 {
     if number > 999_999_999_999 {
@@ -37,7 +37,7 @@ fn content_of<S: Alter>(
         Ok(rows) => rows,
         Err(error) => return Err(fault_of(&error)),
     };
-    match content_in(alloc, &rows) {
+    match content_in(alloc, &rows, number, length) {
         Ok(content) => Ok(content),
         Err(fault) => Err(unread_row(fault)),
     }
@@ -49,11 +49,10 @@ pub fn first_entry<S: Alter>(
     alloc: Global,
     rows: &[Row],
 ) -> Result<Option<InEntry>, StoreFault>
-    ensures mode { conn.old.in_transaction ≡ false → conn.new.in_transaction ≡ false }
-    ensures clean { HasCleanDisk (state S.Store conn.new) → HasCleanDisk (state S.Store conn.old) }
-    ensures opened { HasCleanDisk (state S.Store conn.new) → OnOk result (IsTrue (state S.Store conn.old).is_open → IsTrue (state S.Store conn.new).is_open) }
-    ensures same { HasCleanDisk (state S.Store conn.new) → (s : State) → Rests (state S.Store conn.old) s → Rests (state S.Store conn.new) s }
-    ensures found { HasCleanDisk (state S.Store conn.new) → IfOk result (λ found. (s : State) → Rests (state S.Store conn.old) s → (p : Entry → Bool) → rows.now ≡ map in_shown (filter p s.inbox) → found ≡ find p s.inbox) }
+    requires autocommit { conn.old.in_transaction ≡ false }
+    requires open { HasCleanDisk (state S.Store conn.old) → IsTrue (state S.Store conn.old).is_open }
+    ensures autocommit { conn.new.in_transaction ≡ false }
+    ensures found { Reads (λ s found. (p : Entry → Bool) → rows.now ≡ map in_shown (filter p s.inbox) → found ≡ find p s.inbox) (state S.Store conn.old) (state S.Store conn.new) result }
     ensures fault { IfErr result (λ f. may_come f ≡ true) }
 {
     let Some(row) = rows.first() else {
@@ -63,7 +62,7 @@ pub fn first_entry<S: Alter>(
         Ok(row) => row,
         Err(fault) => return Err(unread_row(fault)),
     };
-    let content = content_of(conn, alloc, row.number)?;
+    let content = content_of(conn, alloc, row.number, row.length)?;
     Ok(Some(row.with_content(content)))
 }
 

@@ -3,7 +3,7 @@
 ghost use Rattle.std.specs.Prelude.{◌≡◌, ◌<◌, ◌^◌, ◌==◌, false, map, filter, IsTrue, IfOk, OnOk};
 ghost use Rattle.sqlite.specs.Held.{state};
 ghost use Rattle.sqlite.specs.State.{HasCleanDisk};
-ghost use Rattle.as2_store.specs.Calls.{IsInside};
+ghost use Rattle.as2_store.specs.Calls.{IsInside, Reads};
 ghost use Rattle.sqlite.specs.Tree.{put_row};
 ghost use Rattle.sql_tables.specs.Changes.{Changed};
 ghost use Rattle.as2_rows.specs.Rows.{in_row, in_shown};
@@ -14,6 +14,7 @@ ghost use Rattle.as2_store.specs.Stands.{Rests};
 ghost use Rattle.as2_store.specs.Finding.{has_key};
 
 use crate::numbers::{asked, whole, whole_or_none};
+use crate::reading::query_all;
 use as2_exchange::InEntry;
 use as2_rows::{attempt_code, digest_of, how_code, mdn_code, mic_of, outcome_code, url_of};
 use sqlite::{Alter, Connection, Error, Row, Transaction, params};
@@ -66,14 +67,12 @@ pub fn rows_by_key<S: Alter>(
     receiver: &[u8],
     value: &[u8],
 ) -> Result<Vec<Row>, Error>
-    ensures mode { conn.old.in_transaction ≡ false → conn.new.in_transaction ≡ false }
-    ensures clean { HasCleanDisk (state S.Store conn.new) → HasCleanDisk (state S.Store conn.old) }
-    ensures open { HasCleanDisk (state S.Store conn.new) → OnOk result (IsTrue (state S.Store conn.old).is_open) }
-    ensures opened { HasCleanDisk (state S.Store conn.new) → OnOk result (IsTrue (state S.Store conn.new).is_open) }
-    ensures same { HasCleanDisk (state S.Store conn.new) → (s : State) → Rests (state S.Store conn.old) s → Rests (state S.Store conn.new) s }
-    ensures rows { HasCleanDisk (state S.Store conn.new) → IfOk result (λ rows. (s : State) → Rests (state S.Store conn.old) s → rows.items ≡ map in_shown (filter (has_key sender.now receiver.now value.now) s.inbox)) }
+    requires autocommit { conn.old.in_transaction ≡ false }
+    ensures autocommit { conn.new.in_transaction ≡ false }
+    ensures rows { Reads (λ s rows. rows.items ≡ map in_shown (filter (has_key sender.now receiver.now value.now) s.inbox)) (state S.Store conn.old) (state S.Store conn.new) result }
 {
-    conn.query_all(
+    query_all(
+        conn,
         "SELECT number, sender, receiver, identifier_value, identifier, content_type, length, moment, outcome, how, url, digest, mic, mdn, tries, attempt, due FROM inbox WHERE sender = ?1 AND receiver = ?2 AND identifier_value = ?3 ORDER BY number",
         params![sender, receiver, value],
     )
@@ -81,16 +80,14 @@ pub fn rows_by_key<S: Alter>(
 
 /// The rows of the entry of this number.
 pub fn rows_by_number<S: Alter>(conn: &mut Connection<S>, number: u64) -> Result<Vec<Row>, Error>
-    ensures mode { conn.old.in_transaction ≡ false → conn.new.in_transaction ≡ false }
-    ensures clean { HasCleanDisk (state S.Store conn.new) → HasCleanDisk (state S.Store conn.old) }
-    ensures open { HasCleanDisk (state S.Store conn.new) → OnOk result (IsTrue (state S.Store conn.old).is_open) }
-    ensures opened { HasCleanDisk (state S.Store conn.new) → OnOk result (IsTrue (state S.Store conn.new).is_open) }
-    ensures same { HasCleanDisk (state S.Store conn.new) → (s : State) → Rests (state S.Store conn.old) s → Rests (state S.Store conn.new) s }
-    ensures rows { HasCleanDisk (state S.Store conn.new) → IfOk result (λ rows. (s : State) → Rests (state S.Store conn.old) s → rows.items ≡ map in_shown (filter (λ e. e.number == number) s.inbox)) }
+    requires autocommit { conn.old.in_transaction ≡ false }
+    ensures autocommit { conn.new.in_transaction ≡ false }
+    ensures rows { Reads (λ s rows. rows.items ≡ map in_shown (filter (λ e. e.number == number) s.inbox)) (state S.Store conn.old) (state S.Store conn.new) result }
 {
     let wanted = asked(number);
     let param = whole(wanted);
-    conn.query_all(
+    query_all(
+        conn,
         "SELECT number, sender, receiver, identifier_value, identifier, content_type, length, moment, outcome, how, url, digest, mic, mdn, tries, attempt, due FROM inbox WHERE number = ?1 ORDER BY number",
         params![param],
     )
@@ -98,14 +95,12 @@ pub fn rows_by_number<S: Alter>(conn: &mut Connection<S>, number: u64) -> Result
 
 /// The rows of all entries, in order of number.
 pub fn all_rows<S: Alter>(conn: &mut Connection<S>) -> Result<Vec<Row>, Error>
-    ensures mode { conn.old.in_transaction ≡ false → conn.new.in_transaction ≡ false }
-    ensures clean { HasCleanDisk (state S.Store conn.new) → HasCleanDisk (state S.Store conn.old) }
-    ensures open { HasCleanDisk (state S.Store conn.new) → OnOk result (IsTrue (state S.Store conn.old).is_open) }
-    ensures opened { HasCleanDisk (state S.Store conn.new) → OnOk result (IsTrue (state S.Store conn.new).is_open) }
-    ensures same { HasCleanDisk (state S.Store conn.new) → (s : State) → Rests (state S.Store conn.old) s → Rests (state S.Store conn.new) s }
-    ensures rows { HasCleanDisk (state S.Store conn.new) → IfOk result (λ rows. (s : State) → Rests (state S.Store conn.old) s → rows.items ≡ map in_shown s.inbox) }
+    requires autocommit { conn.old.in_transaction ≡ false }
+    ensures autocommit { conn.new.in_transaction ≡ false }
+    ensures rows { Reads (λ s rows. rows.items ≡ map in_shown s.inbox) (state S.Store conn.old) (state S.Store conn.new) result }
 {
-    conn.query_all(
+    query_all(
+        conn,
         "SELECT number, sender, receiver, identifier_value, identifier, content_type, length, moment, outcome, how, url, digest, mic, mdn, tries, attempt, due FROM inbox ORDER BY number",
         &[],
     )

@@ -4,7 +4,7 @@ ghost use Rattle.std.specs.Prelude.{◌≡◌, ◌<◌, ◌^◌, [], ◌∷◌, 
 ghost use Rattle.sqlite.specs.Held.{state};
 ghost use Rattle.sqlite.specs.Edit.{are_fresh};
 ghost use Rattle.sqlite.specs.State.{HasCleanDisk};
-ghost use Rattle.as2_store.specs.Calls.{IsInside};
+ghost use Rattle.as2_store.specs.Calls.{IsInside, Reads};
 ghost use Rattle.sqlite.specs.Tree.{put_row};
 ghost use Rattle.sql_tables.specs.Changes.{Changed};
 ghost use Rattle.as2_exchange.specs.State.{State};
@@ -15,19 +15,18 @@ ghost use Rattle.as2_store.specs.Stands.{Rests};
 ghost use Rattle.as2_store.specs.Tables.{store_schema, evidence_tree};
 
 use crate::numbers::whole;
+use crate::reading::query_all;
 use as2_exchange::Evidence;
 use sqlite::{Alter, Connection, Error, Row, Transaction, params};
 
 /// The rows of the documents with an identifier of this value.
 pub fn rows_by_id<S: Alter>(conn: &mut Connection<S>, value: &[u8]) -> Result<Vec<Row>, Error>
-    ensures mode { conn.old.in_transaction ≡ false → conn.new.in_transaction ≡ false }
-    ensures clean { HasCleanDisk (state S.Store conn.new) → HasCleanDisk (state S.Store conn.old) }
-    ensures open { HasCleanDisk (state S.Store conn.new) → OnOk result (IsTrue (state S.Store conn.old).is_open) }
-    ensures opened { HasCleanDisk (state S.Store conn.new) → OnOk result (IsTrue (state S.Store conn.new).is_open) }
-    ensures same { HasCleanDisk (state S.Store conn.new) → (s : State) → Rests (state S.Store conn.old) s → Rests (state S.Store conn.new) s }
-    ensures rows { HasCleanDisk (state S.Store conn.new) → IfOk result (λ rows. (s : State) → Rests (state S.Store conn.old) s → rows.items ≡ map out_shown (filter (has_id value.now) s.outbox)) }
+    requires autocommit { conn.old.in_transaction ≡ false }
+    ensures autocommit { conn.new.in_transaction ≡ false }
+    ensures rows { Reads (λ s rows. rows.items ≡ map out_shown (filter (has_id value.now) s.outbox)) (state S.Store conn.old) (state S.Store conn.new) result }
 {
-    conn.query_all(
+    query_all(
+        conn,
         "SELECT number, organization, partner, identifier, length, moment, tries, attempt, due, detail FROM outbox WHERE identifier = ?1 ORDER BY number",
         params![value],
     )
@@ -35,16 +34,15 @@ pub fn rows_by_id<S: Alter>(conn: &mut Connection<S>, value: &[u8]) -> Result<Ve
 
 /// The rows of the evidence of the document of this number.
 pub fn evidence_rows<S: Alter>(conn: &mut Connection<S>, number: u64) -> Result<Vec<Row>, Error>
-    requires { number < 2 ^ 63 }
-    ensures mode { conn.old.in_transaction ≡ false → conn.new.in_transaction ≡ false }
-    ensures clean { HasCleanDisk (state S.Store conn.new) → HasCleanDisk (state S.Store conn.old) }
-    ensures opened { HasCleanDisk (state S.Store conn.new) → OnOk result (IsTrue (state S.Store conn.new).is_open) }
-    ensures same { HasCleanDisk (state S.Store conn.new) → (s : State) → Rests (state S.Store conn.old) s → Rests (state S.Store conn.new) s }
-    ensures rows { HasCleanDisk (state S.Store conn.new) → IfOk result (λ rows. (s : State) → Rests (state S.Store conn.old) s → (p : Document → Bool) (d : Document) → find p s.outbox ≡ Some d → number ≡ d.number
-        → rows.items ≡ shown_evidence d.number d.evidence) }
+    requires autocommit { conn.old.in_transaction ≡ false }
+    requires number { number < 2 ^ 63 }
+    ensures autocommit { conn.new.in_transaction ≡ false }
+    ensures rows { Reads (λ s rows. (p : Document → Bool) (d : Document) → find p s.outbox ≡ Some d → number ≡ d.number
+        → rows.items ≡ shown_evidence d.number d.evidence) (state S.Store conn.old) (state S.Store conn.new) result }
 {
     let number = whole(number);
-    conn.query_all(
+    query_all(
+        conn,
         "SELECT number, moment, content_type, body FROM evidence WHERE number = ?1 ORDER BY number",
         params![number],
     )

@@ -3,15 +3,14 @@
 ghost use Rattle.std.specs.Prelude.{◌≡◌, ◌⊎◌, ◌<◌, ◌≤◌, ℕ, List, map, find, None, Some, true, false, Err, IsTrue, IfOk, IfErr, OnOk, OnErr};
 ghost use Rattle.sqlite.specs.Held.{state};
 ghost use Rattle.sqlite.specs.State.{HasCleanDisk};
-ghost use Rattle.as2_exchange.specs.State.{State, empty, end_of_numbers, document, document_named, change_document, is_settled, received, change_received};
-ghost use Rattle.as2_exchange.specs.Invariants.{is_by_receipt};
-ghost use Rattle.as2_exchange.specs.declared.outbox.OutEntry.{OutEntry as Document};
+ghost use Rattle.as2_exchange.specs.State.{State, empty, end_of_numbers, document_named, received};
 ghost use Rattle.as2_exchange.specs.declared.fault.StoreFault.TheVariants.{Full};
 ghost use Rattle.as2_rows.specs.Summaries.{in_summary};
-ghost use Rattle.as2_store.specs.Adding.{with_received};
+ghost use Rattle.as2_store.specs.Adding.{added};
+ghost use Rattle.as2_store.specs.Calls.{Reads, Writes};
 ghost use Rattle.as2_store.specs.Finding.{has_key};
-ghost use Rattle.as2_store.specs.Requeuing.{requeued};
-ghost use Rattle.as2_store.specs.Settling.{settled_as};
+ghost use Rattle.as2_store.specs.Requeuing.{requeued_in};
+ghost use Rattle.as2_store.specs.Settling.{settled_in};
 ghost use Rattle.as2_store.specs.Stands.{Rests, IsBlank, Says, judged, may_come};
 
 use crate::adding::add;
@@ -25,7 +24,7 @@ use crate::inbox::{all_rows, rows_by_key, rows_by_number};
 use crate::numbers::fits;
 use crate::outbox::rows_by_id;
 use crate::requeuing::requeue;
-use crate::settling::settle;
+use crate::settling::{is_by_receipt, settle};
 use as2_exchange::{Evidence, InEntry, OutEntry, StoreFault};
 use as2_mdn::Detail;
 use as2_names::{AsName, Moment};
@@ -99,11 +98,7 @@ impl<S: Alter> Store<S> {
 
     /// The numbers that the next entries get.
     pub fn next_numbers(&mut self) -> Result<NextNumbers, StoreFault>
-        ensures clean { HasCleanDisk (state S.Store self.new) → HasCleanDisk (state S.Store self.old) }
-        ensures open { HasCleanDisk (state S.Store self.new) → OnOk result (IsTrue (state S.Store self.old).is_open) }
-        ensures opened { HasCleanDisk (state S.Store self.new) → OnOk result (IsTrue (state S.Store self.new).is_open) }
-        ensures numbers { HasCleanDisk (state S.Store self.new) → IfOk result (λ next. (s : State) → Rests (state S.Store self.old) s → (next.receipt ≡ s.next_in) × (next.document ≡ s.next_out)) }
-        ensures same { HasCleanDisk (state S.Store self.new) → (s : State) → Rests (state S.Store self.old) s → Rests (state S.Store self.new) s }
+        ensures numbers { Reads (λ s next. (next.receipt ≡ s.next_in) × (next.document ≡ s.next_out)) (state S.Store self.old) (state S.Store self.new) result }
         ensures fault { IfErr result (λ f. may_come f ≡ true) }
     {
         let rows = match meta_rows(&mut self.conn) {
@@ -116,14 +111,10 @@ impl<S: Alter> Store<S> {
         }
     }
 
-    /// Adds an entry to the inbox. Its number is to be the next of a receipt, as `next_numbers` gives it. Answers Full exactly
-    /// where that is past 999,999,999,999; Memory, Disk or Refused. A fault leaves the state.
+    /// Adds an entry to the inbox under the next number of a receipt, as `next_numbers` gives it. Answers Full exactly where the
+    /// number is past 999,999,999,999; Refused where it isn't the next; Memory, Disk or Refused. A fault leaves the state.
     pub fn add_in(&mut self, entry: &InEntry) -> Result<(), StoreFault>
-        ensures clean { HasCleanDisk (state S.Store self.new) → HasCleanDisk (state S.Store self.old) }
-        ensures open { HasCleanDisk (state S.Store self.new) → OnOk result (IsTrue (state S.Store self.old).is_open) }
-        ensures opened { HasCleanDisk (state S.Store self.new) → OnOk result (IsTrue (state S.Store self.new).is_open) }
-        ensures added { HasCleanDisk (state S.Store self.new) → OnOk result ((s : State) → Rests (state S.Store self.old) s → entry.now.number ≡ s.next_in → Rests (state S.Store self.new) (with_received s entry.now)) }
-        ensures failed { HasCleanDisk (state S.Store self.new) → OnErr result ((s : State) → Rests (state S.Store self.old) s → Rests (state S.Store self.new) s) }
+        ensures added { Writes (added entry.now) (state S.Store self.old) (state S.Store self.new) result }
         ensures full { IfErr result (λ f. f ≡ Full → end_of_numbers ≤ entry.now.number) }
         ensures full_alone { end_of_numbers ≤ entry.now.number → result ≡ Err Full }
         ensures fault { IfErr result (λ f. (f ≡ Full) ⊎ (may_come f ≡ true)) }
@@ -134,52 +125,46 @@ impl<S: Alter> Store<S> {
         if !fits(entry) {
             return Err(StoreFault::Refused);
         }
-        match add(&mut self.conn, entry) {
-            Ok(()) => Ok(()),
-            Err(error) => Err(fault_of(&error)),
-        }
+        let Err(error) = add(&mut self.conn, entry) else {
+            return Ok(());
+        };
+        Err(fault_of(&error))
     }
 
     /// Sets the receipt of the entry of the inbox of this number, if there is one, to be sent from this moment on, with all
     /// tries left. Answers Memory, Disk or Refused, and then the state stays.
     pub fn requeue_mdn(&mut self, number: u64, moment: Moment) -> Result<(), StoreFault>
-        ensures clean { HasCleanDisk (state S.Store self.new) → HasCleanDisk (state S.Store self.old) }
-        ensures open { HasCleanDisk (state S.Store self.new) → OnOk result (IsTrue (state S.Store self.old).is_open) }
-        ensures opened { HasCleanDisk (state S.Store self.new) → OnOk result (IsTrue (state S.Store self.new).is_open) }
-        ensures requeued { HasCleanDisk (state S.Store self.new) → OnOk result ((s : State) → Rests (state S.Store self.old) s → Rests (state S.Store self.new) (change_received s number (requeued moment))) }
-        ensures failed { HasCleanDisk (state S.Store self.new) → OnErr result ((s : State) → Rests (state S.Store self.old) s → Rests (state S.Store self.new) s) }
+        ensures requeued { Writes (requeued_in number moment) (state S.Store self.old) (state S.Store self.new) result }
         ensures fault { IfErr result (λ f. may_come f ≡ true) }
     {
-        match requeue(&mut self.conn, number, moment) {
-            Ok(()) => Ok(()),
-            Err(error) => Err(fault_of(&error)),
-        }
+        let Err(error) = requeue(&mut self.conn, number, moment) else {
+            return Ok(());
+        };
+        Err(fault_of(&error))
     }
 
     /// Settles the document of this number by a receipt: it gets this detail and this evidence, no try of it is open, and
-    /// nothing of it waits any more. It is to be a document that no receipt has settled yet, and the detail one that a receipt
-    /// gives. Answers Memory, Disk or Refused, and then the state stays.
+    /// nothing of it waits any more. Answers Refused where no document has the number, where a receipt has settled it, and where
+    /// no receipt gives the detail; Memory, Disk or Refused; and then the state stays.
     pub fn settle(
         &mut self,
         number: u64,
         detail: Detail,
         evidence: &Evidence,
     ) -> Result<(), StoreFault>
-        ensures clean { HasCleanDisk (state S.Store self.new) → HasCleanDisk (state S.Store self.old) }
-        ensures open { HasCleanDisk (state S.Store self.new) → OnOk result (IsTrue (state S.Store self.old).is_open) }
-        ensures opened { HasCleanDisk (state S.Store self.new) → OnOk result (IsTrue (state S.Store self.new).is_open) }
-        ensures settled { HasCleanDisk (state S.Store self.new) → OnOk result ((s : State) → Rests (state S.Store self.old) s → is_by_receipt detail ≡ true → (d : Document) → document s number ≡ Some d → is_settled d ≡ false
-            → Rests (state S.Store self.new) (change_document s number (settled_as detail evidence.now))) }
-        ensures failed { HasCleanDisk (state S.Store self.new) → OnErr result ((s : State) → Rests (state S.Store self.old) s → Rests (state S.Store self.new) s) }
+        ensures settled { Writes (settled_in number detail evidence.now) (state S.Store self.old) (state S.Store self.new) result }
         ensures fault { IfErr result (λ f. may_come f ≡ true) }
     {
+        if !is_by_receipt(detail) {
+            return Err(StoreFault::Refused);
+        }
         let Ok(body) = evidence.body.joined() else {
             return Err(StoreFault::Memory);
         };
-        match settle(&mut self.conn, number, detail, evidence, &body) {
-            Ok(()) => Ok(()),
-            Err(error) => Err(fault_of(&error)),
-        }
+        let Err(error) = settle(&mut self.conn, number, detail, evidence, &body) else {
+            return Ok(());
+        };
+        Err(fault_of(&error))
     }
 
     /// The entry of the inbox that this sender posted to this receiver under an identifier of this value, if there is one.
@@ -190,11 +175,7 @@ impl<S: Alter> Store<S> {
         receiver: &AsName,
         id_value: &str,
     ) -> Result<Option<InEntry>, StoreFault>
-        ensures clean { HasCleanDisk (state S.Store self.new) → HasCleanDisk (state S.Store self.old) }
-        ensures open { HasCleanDisk (state S.Store self.new) → OnOk result (IsTrue (state S.Store self.old).is_open) }
-        ensures opened { HasCleanDisk (state S.Store self.new) → OnOk result (IsTrue (state S.Store self.new).is_open) }
-        ensures found { HasCleanDisk (state S.Store self.new) → IfOk result (λ found. (s : State) → Rests (state S.Store self.old) s → found ≡ find (has_key sender.now receiver.now id_value.now) s.inbox) }
-        ensures same { HasCleanDisk (state S.Store self.new) → (s : State) → Rests (state S.Store self.old) s → Rests (state S.Store self.new) s }
+        ensures found { Reads (λ s found. found ≡ find (has_key sender.now receiver.now id_value.now) s.inbox) (state S.Store self.old) (state S.Store self.new) result }
         ensures fault { IfErr result (λ f. may_come f ≡ true) }
     {
         let rows = match rows_by_key(
@@ -215,11 +196,7 @@ impl<S: Alter> Store<S> {
         alloc: Global,
         number: u64,
     ) -> Result<Option<InEntry>, StoreFault>
-        ensures clean { HasCleanDisk (state S.Store self.new) → HasCleanDisk (state S.Store self.old) }
-        ensures open { HasCleanDisk (state S.Store self.new) → OnOk result (IsTrue (state S.Store self.old).is_open) }
-        ensures opened { HasCleanDisk (state S.Store self.new) → OnOk result (IsTrue (state S.Store self.new).is_open) }
-        ensures found { HasCleanDisk (state S.Store self.new) → IfOk result (λ found. (s : State) → Rests (state S.Store self.old) s → found ≡ received s number) }
-        ensures same { HasCleanDisk (state S.Store self.new) → (s : State) → Rests (state S.Store self.old) s → Rests (state S.Store self.new) s }
+        ensures found { Reads (λ s found. found ≡ received s number) (state S.Store self.old) (state S.Store self.new) result }
         ensures fault { IfErr result (λ f. may_come f ≡ true) }
     {
         let rows = match rows_by_number(&mut self.conn, number) {
@@ -236,11 +213,7 @@ impl<S: Alter> Store<S> {
         alloc: Global,
         id_value: &[u8],
     ) -> Result<Option<OutEntry>, StoreFault>
-        ensures clean { HasCleanDisk (state S.Store self.new) → HasCleanDisk (state S.Store self.old) }
-        ensures open { HasCleanDisk (state S.Store self.new) → OnOk result (IsTrue (state S.Store self.old).is_open) }
-        ensures opened { HasCleanDisk (state S.Store self.new) → OnOk result (IsTrue (state S.Store self.new).is_open) }
-        ensures found { HasCleanDisk (state S.Store self.new) → IfOk result (λ found. (s : State) → Rests (state S.Store self.old) s → found ≡ document_named s id_value.now) }
-        ensures same { HasCleanDisk (state S.Store self.new) → (s : State) → Rests (state S.Store self.old) s → Rests (state S.Store self.new) s }
+        ensures found { Reads (λ s found. found ≡ document_named s id_value.now) (state S.Store self.old) (state S.Store self.new) result }
         ensures fault { IfErr result (λ f. may_come f ≡ true) }
     {
         let rows = match rows_by_id(&mut self.conn, id_value) {
@@ -252,11 +225,7 @@ impl<S: Alter> Store<S> {
 
     /// The entries of the inbox in order of number, each with the length of its content in place of the content.
     pub fn list_in(&mut self, alloc: Global) -> Result<Vec<InRow>, StoreFault>
-        ensures clean { HasCleanDisk (state S.Store self.new) → HasCleanDisk (state S.Store self.old) }
-        ensures open { HasCleanDisk (state S.Store self.new) → OnOk result (IsTrue (state S.Store self.old).is_open) }
-        ensures opened { HasCleanDisk (state S.Store self.new) → OnOk result (IsTrue (state S.Store self.new).is_open) }
-        ensures entries { HasCleanDisk (state S.Store self.new) → IfOk result (λ entries. (s : State) → Rests (state S.Store self.old) s → entries.items ≡ map in_summary s.inbox) }
-        ensures same { HasCleanDisk (state S.Store self.new) → (s : State) → Rests (state S.Store self.old) s → Rests (state S.Store self.new) s }
+        ensures entries { Reads (λ s entries. entries.items ≡ map in_summary s.inbox) (state S.Store self.old) (state S.Store self.new) result }
         ensures fault { IfErr result (λ f. may_come f ≡ true) }
     {
         let rows = match all_rows(&mut self.conn) {

@@ -1,27 +1,19 @@
-use Rattle.std.proofs.Common.{IfOk, IfErr}
 use Rattle.sqlite.specs.Held.{state}
-use Rattle.sqlite.specs.State.{Shown, FailsToQuery}
+use Rattle.sqlite.specs.State.{Shown}
 use Rattle.as2_store.specs.Statements.{in_pieces_text}
-use Rattle.as2_store.proofs.MetaRow.{passed}
 use Rattle.as2_store.proofs.Texts.{in_pieces_plain}
-use Rattle.as2_store.proofs.Answering.{same_after, opened_where, if_shown}
+use Rattle.as2_store.proofs.Querying.{read_as}
+use Rattle.as2_store.proofs.MetaRow.{passed}
 use Rattle.as2_store.proofs.Gathering.{finds_in_pieces, number_params}
 use Rattle.as2_store.proofs.contents.in_piece_rows.Goals as goal
 
-pub returns-clause-same : goal.returns-clause-same
-returns-clause-same g c clean =
-    let old = state g.S.Store c.args.conn.now in
-    let new = state g.S.Store c.query_all.new.self in
-    let ok : IfOk c.query_all.result (λ rows. Shown in_pieces_text (number_params c.args.number) old new rows.items) = rw (c.params-to_sql.ensures, c.whole-number.ensures, passed c.args.number c.requires) at (c.query_all.ensures.ok clean) in
-    let err : IfErr c.query_all.result (FailsToQuery in_pieces_text (number_params c.args.number) old new) = rw (c.params-to_sql.ensures, c.whole-number.ensures, passed c.args.number c.requires) at (c.query_all.ensures.err clean) in
-    same_after in_pieces_text in_pieces_plain (number_params c.args.number) old new (λ rows. rows.items) c.query_all.result ok err
+pub query_all-requires-clause-plain : goal.query_all-requires-clause-plain
+query_all-requires-clause-plain g c = in_pieces_plain
 
 pub returns-clause-rows : goal.returns-clause-rows
-returns-clause-rows g c clean =
+returns-clause-rows g c =
     let old = state g.S.Store c.args.conn.now in
-    let new = state g.S.Store c.query_all.new.self in
-    let ok : IfOk c.query_all.result (λ rows. Shown in_pieces_text (number_params c.args.number) old new rows.items) = rw (c.params-to_sql.ensures, c.whole-number.ensures, passed c.args.number c.requires) at (c.query_all.ensures.ok clean) in
-    if_shown _ _ (λ rows shown. finds_in_pieces old new c.args.number rows.items shown) c.query_all.result ok
-
-pub returns-clause-opened : goal.returns-clause-opened
-returns-clause-opened g c clean = opened_where _ _ (state g.S.Store c.args.conn.now) (state g.S.Store c.query_all.new.self) (λ rows. rows.items) c.query_all.result (c.query_all.ensures.ok clean)
+    read_as _ _ old (state g.S.Store c.query_all.new.conn) c.query_all.result
+    (λ s rows r shown.
+    let it : Shown in_pieces_text (number_params c.args.number) old old rows.items = rw (c.params-to_sql.ensures, c.whole-number.ensures, passed c.args.number c.requires.number) at shown in
+    finds_in_pieces old old c.args.number rows.items it s r) c.query_all.ensures.shown

@@ -1,34 +1,21 @@
-use Rattle.std.proofs.Common.{IfOk, IfErr}
 use Rattle.sqlite.specs.Held.{state}
-use Rattle.sqlite.specs.State.{Shown, FailsToQuery}
+use Rattle.sqlite.specs.State.{Shown}
 use Rattle.as2_store.specs.Statements.{in_by_number_text}
-use Rattle.as2_store.proofs.MetaRow.{passed}
 use Rattle.as2_store.proofs.Texts.{in_by_number_plain}
-use Rattle.as2_store.proofs.Answering.{same_after, open_where, opened_where, if_shown}
+use Rattle.as2_store.proofs.Querying.{read_as}
+use Rattle.as2_store.proofs.MetaRow.{passed}
 use Rattle.as2_store.proofs.Looking.{finds_number, by_number_params, asked_small}
 use Rattle.as2_store.proofs.inbox.rows_by_number.Goals as goal
 
-pub returns-clause-same : goal.returns-clause-same
-returns-clause-same g c clean =
-    let old = state g.S.Store c.args.conn.now in
-    let new = state g.S.Store c.query_all.new.self in
-    let w = c.asked-wanted.result in
-    let fits = asked_small c.args.number w c.asked-wanted.ensures.beyond c.asked-wanted.ensures.within in
-    let ok : IfOk c.query_all.result (λ rows. Shown in_by_number_text (by_number_params w) old new rows.items) = rw (c.params-to_sql.ensures, c.whole-param.ensures, passed w fits) at (c.query_all.ensures.ok clean) in
-    let err : IfErr c.query_all.result (FailsToQuery in_by_number_text (by_number_params w) old new) = rw (c.params-to_sql.ensures, c.whole-param.ensures, passed w fits) at (c.query_all.ensures.err clean) in
-    same_after in_by_number_text in_by_number_plain (by_number_params w) old new (λ rows. rows.items) c.query_all.result ok err
-
-pub returns-clause-open : goal.returns-clause-open
-returns-clause-open g c clean = open_where _ _ (state g.S.Store c.args.conn.now) (state g.S.Store c.query_all.new.self) (λ rows. rows.items) c.query_all.result (c.query_all.ensures.ok clean)
+pub query_all-requires-clause-plain : goal.query_all-requires-clause-plain
+query_all-requires-clause-plain g c = in_by_number_plain
 
 pub returns-clause-rows : goal.returns-clause-rows
-returns-clause-rows g c clean =
+returns-clause-rows g c =
     let old = state g.S.Store c.args.conn.now in
-    let new = state g.S.Store c.query_all.new.self in
     let w = c.asked-wanted.result in
     let fits = asked_small c.args.number w c.asked-wanted.ensures.beyond c.asked-wanted.ensures.within in
-    let ok : IfOk c.query_all.result (λ rows. Shown in_by_number_text (by_number_params w) old new rows.items) = rw (c.params-to_sql.ensures, c.whole-param.ensures, passed w fits) at (c.query_all.ensures.ok clean) in
-    if_shown _ _ (λ rows shown. finds_number c.args.number w c.asked-wanted.ensures.beyond c.asked-wanted.ensures.within old new rows.items shown) c.query_all.result ok
-
-pub returns-clause-opened : goal.returns-clause-opened
-returns-clause-opened g c clean = opened_where _ _ (state g.S.Store c.args.conn.now) (state g.S.Store c.query_all.new.self) (λ rows. rows.items) c.query_all.result (c.query_all.ensures.ok clean)
+    read_as _ _ old (state g.S.Store c.query_all.new.conn) c.query_all.result
+    (λ s rows r shown.
+    let it : Shown in_by_number_text (by_number_params w) old old rows.items = rw (c.params-to_sql.ensures, c.whole-param.ensures, passed w fits) at shown in
+    finds_number c.args.number w c.asked-wanted.ensures.beyond c.asked-wanted.ensures.within old old rows.items it s r) c.query_all.ensures.shown
