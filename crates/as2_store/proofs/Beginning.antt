@@ -1,5 +1,5 @@
 -- What the statements of `create` leave.
-use Rattle.std.proofs.Common.{◌≡◌, ℕ, ◌<◌, ◌≤◌, List, [], ◌∷◌, codes, Ok, refl, subst, ◌∙◌, pos, arith}
+use Rattle.std.proofs.Common.{◌≡◌, ℕ, ◌<◌, ◌≤◌, List, [], ◌∷◌, codes, Ok, IsTrue, true, false, refl, sym, ap, subst, ◌∙◌, pos, arith}
 use Rattle.std.specs.List.{AllByRecursion, IsDistinct}
 use Rattle.sqlite.specs.declared.types.Value.TheVariants.{Null, Int, Text}
 use Rattle.sqlite.specs.Order.{Row}
@@ -8,7 +8,12 @@ use Rattle.sqlite.specs.Schema.{Schema}
 use Rattle.sqlite.specs.Tree.{Trees, put_row}
 use Rattle.sqlite.specs.Edit.{next_rowid}
 use Rattle.sqlite.specs.Change.{created, next_tree, KeepsRows}
-use Rattle.sqlite.specs.State.{State as Connected, Executes}
+use Rattle.sqlite.specs.Store.{Ghosts}
+use Rattle.sqlite.specs.Held.{Held, state}
+use Rattle.sqlite.specs.Effect.{Database}
+use Rattle.sqlite.proofs.StateLemmas.{survives_then}
+use Rattle.sqlite.proofs.Callers.{survives_begin}
+use Rattle.sqlite.specs.State.{State as Connected, HasCleanDisk, Survives, Shows, Executes}
 use Rattle.sqlite_trees.proofs.ListLemmas.{all-append}
 use Rattle.sql_tables.specs.Changes.{Changed, Made, Indexed}
 use Rattle.sql_tables.proofs.Writes.{cast_null, cast_int, IsOneRow, inserts_chosen}
@@ -18,7 +23,10 @@ use Rattle.as2_exchange.specs.State.{empty, end_of_numbers}
 use Rattle.as2_rows.specs.Rows.{meta_row}
 use Rattle.as2_store.specs.Tables.{meta_text, inbox_text, inbox_piece_text, outbox_text, outbox_piece_text, evidence_text, waiting_text, waiting_due_text, meta_made, inbox_made, inbox_piece_made, outbox_made, outbox_piece_made, evidence_made, waiting_made, waiting_table, waiting_due_made, no_schema, inbox_schema, outbox_schema, store_schema, meta_table, meta_tree}
 use Rattle.as2_store.specs.Statements.{meta_put_text}
-use Rattle.as2_store.specs.Stands.{Stands, IsBare}
+use Rattle.as2_store.specs.Stands.{Stands, IsBare, IsBlank}
+use Rattle.as2_store.specs.Calls.{IsInside, Keeps, CommitsFirst, Creates}
+use Rattle.as2_store.proofs.Resting.{rests_committed}
+use Rattle.as2_store.proofs.Committing.{keeps_of}
 use Rattle.as2_store.proofs.Making.{meta_is, inbox_is, inbox_piece_is, outbox_is, outbox_piece_is, evidence_is, waiting_is, waiting_due_is, meta_create, meta_plain, inbox_create, inbox_plain, inbox_piece_create, inbox_piece_plain, outbox_create, outbox_plain, outbox_piece_create, outbox_piece_plain, evidence_create, evidence_plain, waiting_create, waiting_plain, waiting_due_create, waiting_due_plain, with_meta, with_inbox, with_outbox, with_outbox_piece, with_waiting}
 use Rattle.as2_store.proofs.Texts.{meta_put_terms, meta_put_is, meta_put_plain}
 
@@ -81,3 +89,47 @@ stands_empty a b first least most bare one = record {
   receipts = (record { least = least; most = omega (arith, most) }, record { below = tt; distinct = tt; in_order = tt });
   documents = (record { least = least; most = omega (arith, most) }, record { below = tt; distinct = tt; in_order = tt });
 }
+
+-- ---- the transaction
+
+-- the tables and the row of `meta` stand for the state without entries, where no table was
+pub record First {S : Type 0} (g : Ghosts S) (old : Held S) (last : Connected) (first : ℕ) : Type 0 where
+  pub was_open : IsTrue (state g old).is_open
+  pub stands : IsBlank (state g old) → Stands last.now (empty first)
+
+pub made_first : {S : Type 0} (g : Ghosts S) (old : Held S) (mid last : Connected) (first : ℕ) → 1 ≤ first → first < end_of_numbers → (HasCleanDisk last → HasCleanDisk mid) → (HasCleanDisk mid → IsTrue (state g old).is_open)
+    → (HasCleanDisk mid → IsBare (state g old).now no_schema → IsBare mid.now store_schema) → (HasCleanDisk last → IsBare mid.now store_schema → Changed mid last store_schema meta_tree (meta_row first first ∷ []))
+    → HasCleanDisk last → First g old last first
+made_first g old mid last first least most was opened tables row clean = record {
+  was_open = opened (was clean);
+  stands = λ blank.
+      let bare = tables (was clean) (record { schema_is = blank.no_table (opened (was clean)); empty = tt }) in
+      stands_empty mid last first least most bare (row clean bare);
+}
+
+pub first_commits : {S : Type 0} (g : Ghosts S) (old : Held S) (last : Connected) (first : ℕ) → First g old last first → (db : Trees) → db ≡ last.now.trees → CommitsFirst first (state g old) db
+first_commits g old last first it db is = record {
+  was_open = it.was_open;
+  stands = λ blank. subst (λ (t : Trees). Keeps t (empty first)) (sym is) (keeps_of last.now (empty first) (it.stands blank));
+}
+
+pub creates : {S : Type 0} (g : Ghosts S) (old : Held S) (last : Connected) (end : Held S) (first : ℕ) → IsInside (state g (record old { in_transaction = true })) last → Survives last (state g end) (λ db. db ≡ last.now.trees)
+    → (HasCleanDisk last → First g old last first) → (HasCleanDisk (state g end) → Shows last (state g end) last.now last.now false)
+    → (settled : (db : Trees) → IsTrue (state g end).is_open → (state g end).may_leave db → db ≡ (state g end).committed.trees) → Creates first (state g old) (state g end)
+creates g old last end first inside survives makes shows settled =
+    let was : HasCleanDisk (state g end) → HasCleanDisk last = λ clean. omega (arith, survives.clean, clean) in
+    record {
+      clean = λ clean. inside.clean (was clean);
+      is_open = λ clean. (shows clean).is_open;
+      done = λ clean blank.
+          let shown = shows clean in
+          let stood = (makes (was clean)).stands blank in
+          record {
+            state = empty first;
+            is = refl;
+            rests = rests_committed last (state g end) (empty first) stood shown;
+            lasts = record { each = λ db may. subst (λ (t : Trees). Keeps t (empty first)) (sym (settled db shown.is_open may ∙ ap (λ (d : Database). d.trees) shown.committed_is)) (keeps_of last.now (empty first) stood) };
+          };
+      crash = survives_then (state g old) last (state g end) (λ _. ⊥) (λ db. db ≡ last.now.trees) (CommitsFirst first (state g old)) (λ _ db none. absurd none)
+          (λ clean db is. first_commits g old last first (makes (omega (arith, survives.clean, clean))) db is) (survives_begin g old last (λ _. ⊥) inside.survives) survives;
+    }

@@ -128,3 +128,10 @@ write_err next old new e f it = record { clean = it.clean; was_open = it.was_ope
 -- seen from where the store is
 pub write_of : {A E : Type 0} (next : State → Option State) (inside outside new : Connected) (r : Result A E) → inside ≡ outside → Writes next inside new r → Writes next outside new r
 write_of next inside outside new r same it = subst (λ c. Writes next c new r) same it
+
+-- a commit of what was done commits the next state
+pub committed_next : {S : Type 0} (g : Ghosts S) (old : Held S) (last : Connected) (next : State → Option State) → Done g old last next → (db : Trees) → db ≡ last.now.trees → Commits next (state g old) db
+committed_next g old last next it db is = record {
+  was_open = it.was_open;
+  stands = λ s r. let to = it.reaches s r in record { state = to.0; is = to.1; keeps = subst (λ (t : Trees). Keeps t to.0) (sym is) (keeps_of last.now to.0 to.2) };
+}

@@ -4,6 +4,7 @@ mod Quiet
 mod Resting
 mod Committing
 mod Querying
+mod Handing
 mod Beginning
 mod Answering
 mod MetaRow

@@ -8,6 +8,8 @@ use Rattle.sqlite.specs.Order.{Row}
 use Rattle.sqlite.specs.Term.{lit}
 use Rattle.sqlite.specs.Query.{inner, end}
 use Rattle.sqlite.specs.Program.{overlay}
+use Rattle.sqlite.specs.Table.{Table}
+use Rattle.sqlite_schema.specs.declared.schema.Index.{Index}
 use Rattle.sqlite.specs.Effect.{Database, RefusesToRead}
 use Rattle.sqlite.specs.Listing.{understood, reads_listing, IsSourceOf}
 use Rattle.sqlite.specs.declared.error.Error.{Error}
@@ -21,16 +23,16 @@ use Rattle.sqlite_tied.specs.Compute.{everything}
 use Rattle.sql_tables.specs.Changes.{Changed, over_table, shown_of, chosen, passes, IsOutside}
 use Rattle.sql_tables.proofs.Writes.{cast_int}
 use Rattle.sql_tables.proofs.Changing.{updates}
-use Rattle.sql_tables.proofs.Inside.{failed_or_open, shown_open}
+use Rattle.sql_tables.proofs.Inside.{shown_open}
 use Rattle.sql_tables.proofs.Queries.{in_any_order, numbers_equal}
 use Rattle.sql_tables.proofs.Failing.{Takes, fails_outside}
 use Rattle.as2_exchange.specs.State.{State}
 use Rattle.as2_rows.specs.Rows.{whole, meta_row, meta_shown}
-use Rattle.as2_store.specs.Tables.{store_schema, meta_tree, meta_table}
+use Rattle.as2_store.specs.Tables.{store_schema, meta_tree, meta_table, inbox_table, inbox_piece_table, outbox_table, outbox_piece_table, evidence_table, waiting_table}
 use Rattle.as2_store.specs.Statements.{meta_read_text, receipt_text}
-use Rattle.as2_store.specs.Stands.{Rests, Says, HasCounters}
+use Rattle.as2_store.specs.Stands.{Stands, Rests, Says, HasCounters}
 use Rattle.as2_store.proofs.Quiet.{quiet}
-use Rattle.as2_store.proofs.Texts.{meta_command, meta_columns, meta_read_is, meta_read_plain, meta_read_unlisted, receipt_terms, receipt_project, receipt_is, receipt_plain}
+use Rattle.as2_store.proofs.Texts.{meta_command, meta_columns, with_meta_first, meta_read_is, meta_read_plain, meta_read_unlisted, receipt_terms, receipt_project, receipt_is, receipt_plain}
 
 -- a number that is passed as i64
 pub passed : (n : ℕ) → n < 2 ^ 63 → to_z w64 (of_z w64 (pos n)) ≡ pos n
@@ -38,52 +40,54 @@ passed n h = to_z-of_z w64 (pos n) (search rules)
 
 -- ---- reading it
 
-takes : Takes meta_read_text 0 (understood store_schema meta_read_text)
+takes : (tables : List Table) (indexes : List Index) → Takes meta_read_text 0 (understood (with_meta_first tables indexes) meta_read_text)
 unfolding understood everything
-takes = (omega arith, refl)
+takes tables indexes = (omega arith, refl)
 
-accepts : accepts_program store_schema [] (over_table meta_tree [] meta_columns [] (lit (Int (negsuc 0)))) [] ≡ true
-accepts = refl
+accepts : (tables : List Table) (indexes : List Index) → accepts_program (with_meta_first tables indexes) [] (over_table meta_tree [] meta_columns [] (lit (Int (negsuc 0)))) [] ≡ true
+accepts tables indexes = refl
 
-stops : (limit : Option ℕ) (db : Database) (e : Error) → db.schema ≡ store_schema → RefusesToRead limit meta_command db [] e → e ≡ SqliteFailure OperationInterrupted
-stops limit db e has (inl typed) = absurd (true≢false (sym accepts ∙ ap (λ s. accepts_program s [] (over_table meta_tree [] meta_columns [] (lit (Int (negsuc 0)))) []) (sym has) ∙ typed.1))
-stops limit db e has (inr (inl over)) = absurd (elim over.1 [ inl group ↦ group | inr fold ↦ no_fold_overflows (overlay db.trees []) (inner meta_tree end) ([] ∷ []) refl fold ])
-stops limit db e has (inr (inr stop)) = stop.0
+stops : (tables : List Table) (indexes : List Index) (limit : Option ℕ) (db : Database) (e : Error) → db.schema ≡ with_meta_first tables indexes → RefusesToRead limit meta_command db [] e → e ≡ SqliteFailure OperationInterrupted
+stops tables indexes limit db e has (inl typed) = absurd (true≢false (sym (accepts tables indexes) ∙ ap (λ s. accepts_program s [] (over_table meta_tree [] meta_columns [] (lit (Int (negsuc 0)))) []) (sym has) ∙ typed.1))
+stops tables indexes limit db e has (inr (inl over)) = absurd (elim over.1 [ inl group ↦ group | inr fold ↦ no_fold_overflows (overlay db.trees []) (inner meta_tree end) ([] ∷ []) refl fold ])
+stops tables indexes limit db e has (inr (inr stop)) = stop.0
 
--- over the tables of a store the row can be read but for a cause from outside
-pub read_fails : (old new : Connected) (e : Error) → old.now.schema ≡ store_schema → FailsToQuery meta_read_text [] old new e → IsOutside e
-read_fails old new e has h =
-    fails_outside meta_read_text [] old new e (subst (λ s. IsPlain (understood s meta_read_text)) (sym has) meta_read_plain) (subst (λ s. Takes meta_read_text 0 (understood s meta_read_text)) (sym has) takes)
+-- where the row is there, it can be read but for a cause from outside
+pub said_fails : (old new : Connected) (e : Error) (kind : List ℕ) (version : ℕ) → Says old kind version → FailsToQuery meta_read_text [] old new e → IsOutside e
+said_fails old new e kind version it h =
+    let has = it.schema in
+    fails_outside meta_read_text [] old new e (subst (λ s. IsPlain (understood s meta_read_text)) (sym has) (meta_read_plain it.tables it.indexes))
+    (subst (λ s. Takes meta_read_text 0 (understood s meta_read_text)) (sym has) (takes it.tables it.indexes))
     (λ c db is source refused.
-    let command : c.command ≡ meta_command = ap command_of (sym is ∙ ap (λ s. understood s meta_read_text) has) ∙ meta_read_is in
-    let same : db ≡ old.now = subst (λ b. IsSourceOf b old.now db) (ap (λ s. reads_listing s meta_read_text) has ∙ meta_read_unlisted) source in
-    stops old.step_limit db e (ap (λ (d : Database). d.schema) same ∙ has) (subst (λ k. RefusesToRead old.step_limit k db [] e) command refused))
+    let command : c.command ≡ meta_command = ap command_of (sym is ∙ ap (λ s. understood s meta_read_text) has) ∙ meta_read_is it.tables it.indexes in
+    let same : db ≡ old.now = subst (λ b. IsSourceOf b old.now db) (ap (λ s. reads_listing s meta_read_text) has ∙ meta_read_unlisted it.tables it.indexes) source in
+    stops it.tables it.indexes old.step_limit db e (ap (λ (d : Database). d.schema) same ∙ has) (subst (λ k. RefusesToRead old.step_limit k db [] e) command refused))
     h
 
-pub rests_fails : (old new : Connected) (e : Error) (s : State) → Rests old s → FailsToQuery meta_read_text [] old new e → IsOutside e
-rests_fails old new e s r h = elim (failed_or_open meta_read_text [] old new e h) [ inl outside ↦ outside | inr opened ↦ read_fails old new e (r.stands opened).schema h ]
-
-pub said_fails : (old new : Connected) (e : Error) (kind : List ℕ) (version : ℕ) → Says old kind version → FailsToQuery meta_read_text [] old new e → IsOutside e
-said_fails old new e kind version it h = read_fails old new e it.schema h
-
-abbrev told : List ℕ → ℕ → ℕ → ℕ → Row
+abbrev pub told : List ℕ → ℕ → ℕ → ℕ → Row
 told kind version n m = Text kind ∷ whole version ∷ whole n ∷ whole m ∷ []
 
--- the row of a store, of whatever kind and version, is shown as it is
-pub reads_row : (old new : Connected) (rows : List Row) (kind : List ℕ) (version n m : ℕ) → old.now.schema ≡ store_schema → old.now.trees meta_tree ≡ (whole 1 ∷ told kind version n m) ∷ []
-    → Shown meta_read_text [] old new rows → rows ≡ told kind version n m ∷ []
-reads_row old new rows kind version n m has one h =
-    let read = reads_as meta_read_text [] old new store_schema has meta_command meta_read_is meta_read_plain meta_read_unlisted rows h in
+-- the row is shown as it is
+pub reads_said : (old new : Connected) (rows : List Row) → Shown meta_read_text [] old new rows → (kind : List ℕ) (version : ℕ) → (it : Says old kind version) → rows ≡ told kind version it.next_receipt it.next_document ∷ []
+reads_said old new rows h kind version it =
+    let read = reads_as meta_read_text [] old new (with_meta_first it.tables it.indexes) it.schema meta_command (meta_read_is it.tables it.indexes) (meta_read_plain it.tables it.indexes) (meta_read_unlisted it.tables it.indexes) rows h in
     let all = in_any_order meta_tree [] meta_columns old.now.trees [] rows read.answer in
-    one_permutation (told kind version n m) rows (subst (λ l. IsPermutation (map (shown_of meta_columns []) (chosen [] [] l)) rows) one all)
+    one_permutation (told kind version it.next_receipt it.next_document) rows (subst (λ l. IsPermutation (map (shown_of meta_columns []) (chosen [] [] l)) rows) it.meta all)
+
+-- the tables of a store say its kind and its version
+pub says_of : (c : Connected) (s : State) → Stands c.now s → Says c (codes "as2-station") 1
+says_of c s it = record {
+  next_receipt = s.next_in;
+  next_document = s.next_out;
+  tables = inbox_table ∷ inbox_piece_table ∷ outbox_table ∷ outbox_piece_table ∷ evidence_table ∷ waiting_table ∷ [];
+  indexes = store_schema.indexes;
+  schema = it.schema;
+  meta = it.meta;
+}
 
 pub reads_meta : (old new : Connected) (rows : List Row) → Shown meta_read_text [] old new rows → (s : State) → Rests old s → rows ≡ meta_shown s.next_in s.next_out ∷ []
-reads_meta old new rows h s r =
-    let it = r.stands (shown_open meta_read_text [] old new rows h) in
-    reads_row old new rows (codes "as2-station") 1 s.next_in s.next_out it.schema it.meta h
-
-pub reads_said : (old new : Connected) (rows : List Row) → Shown meta_read_text [] old new rows → (kind : List ℕ) (version : ℕ) → (it : Says old kind version) → rows ≡ told kind version it.next_receipt it.next_document ∷ []
-reads_said old new rows h kind version it = reads_row old new rows kind version it.next_receipt it.next_document it.schema it.meta h
+unfolding says_of
+reads_meta old new rows h s r = reads_said old new rows h (codes "as2-station") 1 (says_of old s (r.stands (shown_open meta_read_text [] old new rows h)))
 
 -- ---- raising its counter
 

@@ -6,6 +6,9 @@ use Rattle.sqlite.specs.Term.{Term, lit, col, op2}
 use Rattle.sqlite.specs.Source.TheVariants.{Values}
 use Rattle.sqlite.specs.Command.{Command}
 use Rattle.sqlite.specs.Command.TheVariants.{Insert, Select, Update, Delete}
+use Rattle.sqlite.specs.Schema.{Schema}
+use Rattle.sqlite.specs.Table.{Table}
+use Rattle.sqlite_schema.specs.declared.schema.Index.{Index}
 use Rattle.sqlite.specs.Listing.{understood, reads_listing}
 use Rattle.sqlite.proofs.Callers.{IsPlain, command_of}
 use Rattle.sqlite_sql.specs.declared.ops.BinaryOp.TheVariants.{Compare}
@@ -15,7 +18,7 @@ use Rattle.sql_tables.specs.Changes.{over_table}
 use Rattle.sql_tables.proofs.Queries.{by_number}
 use Rattle.sql_tables.proofs.Changing.{update_program}
 use Rattle.sql_tables.proofs.Deleting.{delete_program}
-use Rattle.as2_store.specs.Tables.{store_schema, meta_tree, inbox_tree, inbox_piece_tree, outbox_tree, outbox_piece_tree, evidence_tree, waiting_tree}
+use Rattle.as2_store.specs.Tables.{no_schema, store_schema, meta_table, meta_tree, inbox_tree, inbox_piece_tree, outbox_tree, outbox_piece_tree, evidence_tree, waiting_tree}
 use Rattle.as2_store.specs.Statements.{meta_put_text, meta_read_text, receipt_text, in_put_text, in_piece_put_text, in_by_key_text, in_by_number_text, in_all_text, in_pieces_text, in_requeue_text, out_by_id_text, out_pieces_text, evidence_by_number_text, evidence_put_text, out_settle_text, waiting_put_text, waiting_take_text, document_take_text}
 
 -- ---- the counters
@@ -37,17 +40,21 @@ meta_columns = col 1 1 ∷ col 1 2 ∷ col 1 3 ∷ col 1 4 ∷ []
 abbrev pub meta_command : Command
 meta_command = Select (record { lets = []; body = over_table meta_tree [] meta_columns [] (lit (Int (negsuc 0))) }) (codes "kind" ∷ codes "version" ∷ codes "next_receipt" ∷ codes "next_document" ∷ [])
 
-pub meta_read_is : command_of (understood store_schema meta_read_text) ≡ meta_command
-unfolding understood everything
-meta_read_is = refl
+-- where the table stands before all others
+abbrev pub with_meta_first : List Table → List Index → Schema
+with_meta_first tables indexes = record { tables = meta_table ∷ tables; indexes = indexes; views = [] }
 
-pub meta_read_plain : IsPlain (understood store_schema meta_read_text)
+pub meta_read_is : (tables : List Table) (indexes : List Index) → command_of (understood (with_meta_first tables indexes) meta_read_text) ≡ meta_command
 unfolding understood everything
-meta_read_plain = (refl, refl)
+meta_read_is tables indexes = refl
 
-pub meta_read_unlisted : reads_listing store_schema meta_read_text ≡ false
+pub meta_read_plain : (tables : List Table) (indexes : List Index) → IsPlain (understood (with_meta_first tables indexes) meta_read_text)
 unfolding understood everything
-meta_read_unlisted = refl
+meta_read_plain tables indexes = (refl, refl)
+
+pub meta_read_unlisted : (tables : List Table) (indexes : List Index) → reads_listing (with_meta_first tables indexes) meta_read_text ≡ false
+unfolding understood everything
+meta_read_unlisted tables indexes = refl
 
 abbrev pub receipt_project : List Term
 receipt_project = col 1 0 ∷ col 1 1 ∷ col 1 2 ∷ col 0 1 ∷ col 1 4 ∷ []

@@ -1,10 +1,12 @@
 -- What each call says, beside what it is for.
-use Rattle.std.specs.Prelude.{◌≡◌, Option, Some, Result, IfOk, OnOk, OnErr, IsTrue}
+use Rattle.std.specs.Prelude.{◌≡◌, ◌⊎◌, ℕ, List, true, false, Option, Some, None, Result, IfOk, OnOk, OnErr, IsTrue}
 use Rattle.sqlite_trees.specs.Tree.{Trees}
 use Rattle.sqlite.specs.State.{State as Connected, HasCleanDisk, KeepsCommit, Survives}
-use Rattle.as2_exchange.specs.State.{State}
+use Rattle.as2_exchange.specs.State.{State, empty}
+use Rattle.as2_exchange.specs.declared.fault.StoreFault.{StoreFault}
+use Rattle.as2_exchange.specs.declared.fault.StoreFault.TheVariants.{NotAStore}
 use Rattle.as2_store.specs.Tables.{store_schema}
-use Rattle.as2_store.specs.Stands.{Stands, Rests}
+use Rattle.as2_store.specs.Stands.{Stands, Rests, IsBlank, Says, judged, may_come}
 
 -- a statement inside a transaction: nothing is committed, and nothing is left to a crash that wasn't
 pub record IsInside (old new : Connected) : Type 0 where
@@ -59,3 +61,41 @@ pub record Writes {A E : Type 0} (next : State → Option State) (old new : Conn
   pub done : HasCleanDisk new → OnOk r ((s : State) → Rests old s → Reaches new (next s))
   pub failed : HasCleanDisk new → OnErr r ((s : State) → Rests old s → Rests new s)
   pub crash : Survives old new (Commits next old)
+
+-- ---- a store is made, or found
+
+-- what the making of a store commits, over an open connection: where no table was, the state without entries
+pub record CommitsFirst (first : ℕ) (old : Connected) (db : Trees) : Type 0 where
+  pub was_open : IsTrue old.is_open
+  pub stands : IsBlank old → Keeps db (empty first)
+
+-- a store without entries was made, where no table was
+pub record Creates (first : ℕ) (old new : Connected) : Type 0 where
+  pub clean : HasCleanDisk new → HasCleanDisk old
+  pub is_open : HasCleanDisk new → IsTrue new.is_open
+  pub done : HasCleanDisk new → IsBlank old → Reaches new (Some (empty first))
+  pub crash : Survives old new (CommitsFirst first old)
+
+-- the tables are those of a store of this version, and of no other kind; there are some
+pub record Adopts (old new : Connected) : Type 0 where
+  pub clean : HasCleanDisk new → HasCleanDisk old
+  pub is_open : HasCleanDisk new → IsTrue new.is_open
+  pub done : HasCleanDisk new → (s : State) → Rests old s → Reaches new (Some s)
+  pub judged : HasCleanDisk new → (kind : List ℕ) (version : ℕ) → Says old kind version → judged kind version ≡ None
+  pub no_blank : HasCleanDisk new → ¬ IsBlank old
+  pub crash : Survives old new (Commits Some old)
+
+-- why tables aren't adopted: a fault that may come from any call; else what the row of `meta` says, where it can be read; and
+-- a database without tables is no store
+pub record IsReason (old : Connected) (f : StoreFault) : Type 0 where
+  pub of_store : (s : State) → Rests old s → may_come f ≡ true
+  pub of_row : (kind : List ℕ) (version : ℕ) → Says old kind version → (may_come f ≡ true) ⊎ (judged kind version ≡ Some f)
+  pub of_blank : IsBlank old → (may_come f ≡ true) ⊎ (f ≡ NotAStore)
+
+-- a connection that is refused is given back with its tables as they were, whatever they are, where nothing was uncommitted
+pub record IsGivenBack (commits : Trees → Type 0) (old new : Connected) : Type 0 where
+  pub clean : HasCleanDisk new → HasCleanDisk old
+  pub autocommit : new.in_transaction ≡ false
+  pub was_open : HasCleanDisk new → IsTrue new.is_open → IsTrue old.is_open
+  pub tables : HasCleanDisk new → IsTrue new.is_open → old.committed ≡ old.now → (new.now ≡ old.now) × (new.committed ≡ old.now)
+  pub crash : Survives old new commits

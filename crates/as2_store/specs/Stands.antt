@@ -5,6 +5,8 @@ use Rattle.sqlite.specs.declared.types.Value.TheVariants.{Null, Text}
 use Rattle.sqlite.specs.Order.{Row}
 use Rattle.sqlite.specs.Effect.{Database, IsDatabase}
 use Rattle.sqlite.specs.Schema.{Schema}
+use Rattle.sqlite.specs.Table.{Table}
+use Rattle.sqlite_schema.specs.declared.schema.Index.{Index}
 use Rattle.sqlite.specs.State.{State as Connected}
 use Rattle.as2_exchange.specs.State.{State, end_of_numbers}
 use Rattle.as2_exchange.specs.declared.inbox.InEntry.{InEntry}
@@ -15,7 +17,7 @@ use Rattle.as2_exchange.specs.declared.fault.StoreFault.TheVariants.{Memory, Dis
 use Rattle.as2_rows.specs.Rows.{whole, in_row, out_row, evidence_row, meta_row}
 use Rattle.as2_rows.specs.Contents.{Piece, pieces, piece_shown}
 use Rattle.as2_rows.specs.Waiting.{Waiting, waiting_in, waiting_out, waiting_shown, to_send, to_hear, to_end}
-use Rattle.as2_store.specs.Tables.{no_schema, store_schema, meta_tree, inbox_tree, inbox_piece_tree, outbox_tree, outbox_piece_tree, evidence_tree, waiting_tree}
+use Rattle.as2_store.specs.Tables.{no_schema, store_schema, meta_table, meta_tree, inbox_tree, inbox_piece_tree, outbox_tree, outbox_piece_tree, evidence_tree, waiting_tree}
 
 -- ---- contents
 
@@ -115,9 +117,11 @@ may_come OtherVersion = false
 abbrev pub judged : List ℕ → ℕ → Option StoreFault
 judged kind version = if bytes_eq kind (codes "as2-station") then (if version == 1 then None else Some OtherVersion) else Some NotAStore
 
--- a connection whose tables are those of a store, of some kind and version
+-- the table `meta` of this version stands before all others, and its row says this kind and this version
 pub record Says (c : Connected) (kind : List ℕ) (version : ℕ) : Type 0 where
   pub next_receipt : ℕ
   pub next_document : ℕ
-  pub schema : c.now.schema ≡ store_schema
+  pub tables : List Table
+  pub indexes : List Index
+  pub schema : c.now.schema ≡ record { tables = meta_table ∷ tables; indexes = indexes; views = [] }
   pub meta : c.now.trees meta_tree ≡ (whole 1 ∷ Text kind ∷ whole version ∷ whole next_receipt ∷ whole next_document ∷ []) ∷ []

@@ -1,22 +1,24 @@
 //! Whether a connection has the tables of a store.
 
-ghost use Rattle.std.specs.Prelude.{◌≡◌, ◌⊎◌, ℕ, [], ◌∷◌, List, false, true, None, Some, IfErr, OnOk};
+ghost use Rattle.std.specs.Prelude.{◌≡◌, ◌⊎◌, ℕ, [], ◌∷◌, List, false, true, Some, IfErr, OnOk, OnErr};
 ghost use Rattle.sqlite.specs.Held.{state};
 ghost use Rattle.sqlite.specs.State.{HasCleanDisk};
 ghost use Rattle.sqlite.specs.declared.types.Value.TheVariants.{Text};
 ghost use Rattle.sql_tables.specs.Changes.{IsOutside};
-ghost use Rattle.as2_exchange.specs.State.{State};
+ghost use Rattle.as2_exchange.specs.declared.fault.StoreFault.TheVariants.{NotAStore};
 ghost use Rattle.as2_rows.specs.Rows.{whole};
-ghost use Rattle.as2_store.specs.Stands.{Rests, Says, judged, may_come};
+ghost use Rattle.as2_store.specs.Stands.{judged, may_come};
+ghost use Rattle.as2_store.specs.Calls.{Adopts, Commits, IsGivenBack, IsReason};
 
-use crate::counters::meta_rows;
+use crate::fault::fault_of;
 use as2_exchange::StoreFault;
 use sqlite::types::ValueRef;
 use sqlite::{Alter, Connection, Error, ErrorCode, Row};
 
 /// What a failure to read `meta` says of the tables.
 fn unread(error: &Error) -> StoreFault
-    ensures { IsOutside error.now → may_come result ≡ true }
+    ensures outside { IsOutside error.now → may_come result ≡ true }
+    ensures known { (may_come result ≡ true) ⊎ (result ≡ NotAStore) }
 {
     match error {
         Error::SqliteFailure(code) => match code {
@@ -52,19 +54,31 @@ fn refused(rows: &[Row]) -> Option<StoreFault>
     }
 }
 
-/// Whether the tables are those of a store.
+/// Whether the tables are those of a store. What is read is read in a transaction, which is undone where they aren't.
 pub fn check<S: Alter>(conn: &mut Connection<S>) -> Result<(), StoreFault>
-    ensures mode { conn.old.in_transaction ≡ false → conn.new.in_transaction ≡ false }
-    ensures same { HasCleanDisk (state S.Store conn.new) → (s : State) → Rests (state S.Store conn.old) s → Rests (state S.Store conn.new) s }
-    ensures fault { HasCleanDisk (state S.Store conn.new) → IfErr result (λ f. (s : State) → Rests (state S.Store conn.old) s → may_come f ≡ true) }
-    ensures sound { HasCleanDisk (state S.Store conn.new) → OnOk result ((kind : List ℕ) (version : ℕ) → Says (state S.Store conn.old) kind version → judged kind version ≡ None) }
-    ensures reason { HasCleanDisk (state S.Store conn.new) → IfErr result (λ f. (kind : List ℕ) (version : ℕ) → Says (state S.Store conn.old) kind version → (may_come f ≡ true) ⊎ (judged kind version ≡ Some f)) }
+    requires autocommit { conn.old.in_transaction ≡ false }
+    ensures autocommit { conn.new.in_transaction ≡ false }
+    ensures adopted { OnOk result (Adopts (state S.Store conn.old) (state S.Store conn.new)) }
+    ensures given_back { OnErr result (IsGivenBack (Commits Some (state S.Store conn.old)) (state S.Store conn.old) (state S.Store conn.new)) }
+    ensures reason { HasCleanDisk (state S.Store conn.new) → IfErr result (IsReason (state S.Store conn.old)) }
 {
-    match meta_rows(conn) {
-        Ok(rows) => match refused(&rows) {
-            None => Ok(()),
-            Some(fault) => Err(fault),
-        },
-        Err(error) => Err(unread(&error)),
+    let is_bare = conn.schema().tables.is_empty();
+    let mut tx = conn.transaction();
+    let rows = match tx.query_all(
+        "SELECT kind, version, next_receipt, next_document FROM meta",
+        &[],
+    ) {
+        Ok(rows) => rows,
+        Err(error) => return Err(unread(&error)),
+    };
+    if is_bare {
+        return Err(StoreFault::NotAStore);
     }
+    if let Some(fault) = refused(&rows) {
+        return Err(fault);
+    }
+    let Err(error) = tx.commit() else {
+        return Ok(());
+    };
+    Err(fault_of(&error))
 }

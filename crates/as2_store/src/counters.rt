@@ -30,6 +30,7 @@ pub fn put_meta<S: Alter>(tx: &mut Transaction<'_, S>, first: u64) -> Result<(),
     ensures same_reference { tx.new.conn.ghost_name ≡ tx.old.conn.ghost_name }
     ensures within { IsInside (state S.Store tx.old.conn.now) (state S.Store tx.new.conn.now) }
     ensures open { HasCleanDisk (state S.Store tx.new.conn.now) → OnOk result (IsTrue (state S.Store tx.old.conn.now).is_open) }
+    ensures inside { HasCleanDisk (state S.Store tx.new.conn.now) → OnOk result (IsTrue (state S.Store tx.new.conn.now).in_transaction) }
     ensures put { HasCleanDisk (state S.Store tx.new.conn.now) → OnOk result (IsBare (state S.Store tx.old.conn.now).now store_schema
         → Changed (state S.Store tx.old.conn.now) (state S.Store tx.new.conn.now) store_schema meta_tree (meta_row first first ∷ [])) }
 {

@@ -3,7 +3,7 @@
 ghost use Rattle.std.specs.Prelude.{◌≡◌, ◌<◌, ◌≤◌, ℕ, [], false, Ok, IsTrue, OnOk, OnErr};
 ghost use Rattle.sqlite.specs.Held.{state};
 ghost use Rattle.sqlite.specs.State.{HasCleanDisk, Executes};
-ghost use Rattle.as2_store.specs.Calls.{IsInside};
+ghost use Rattle.as2_store.specs.Calls.{IsInside, Creates, CommitsFirst, IsGivenBack};
 ghost use Rattle.as2_exchange.specs.State.{empty, end_of_numbers};
 ghost use Rattle.as2_store.specs.Tables.{no_schema, inbox_schema, outbox_schema, store_schema};
 ghost use Rattle.as2_store.specs.Stands.{Rests, IsBlank, IsBare};
@@ -103,8 +103,8 @@ pub fn make<S: Alter>(conn: &mut Connection<S>, first: u64) -> Result<(), Error>
     requires least { 1 ≤ first }
     requires most { first < end_of_numbers }
     ensures autocommit { conn.new.in_transaction ≡ false }
-    ensures made { HasCleanDisk (state S.Store conn.new) → OnOk result (IsBlank (state S.Store conn.old) → Rests (state S.Store conn.new) (empty first)) }
-    ensures failed { HasCleanDisk (state S.Store conn.new) → OnErr result (IsBlank (state S.Store conn.old) → IsBlank (state S.Store conn.new)) }
+    ensures created { OnOk result (Creates first (state S.Store conn.old) (state S.Store conn.new)) }
+    ensures given_back { OnErr result (IsGivenBack (CommitsFirst first (state S.Store conn.old)) (state S.Store conn.old) (state S.Store conn.new)) }
 {
     let mut tx = conn.transaction();
     make_tables(&mut tx)?;

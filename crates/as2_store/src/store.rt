@@ -7,11 +7,11 @@ ghost use Rattle.as2_exchange.specs.State.{State, empty, end_of_numbers, documen
 ghost use Rattle.as2_exchange.specs.declared.fault.StoreFault.TheVariants.{Full};
 ghost use Rattle.as2_rows.specs.Summaries.{in_summary};
 ghost use Rattle.as2_store.specs.Adding.{added};
-ghost use Rattle.as2_store.specs.Calls.{Reads, Writes};
+ghost use Rattle.as2_store.specs.Calls.{Adopts, Commits, CommitsFirst, Creates, IsGivenBack, IsReason, Reads, Writes};
 ghost use Rattle.as2_store.specs.Finding.{has_key};
 ghost use Rattle.as2_store.specs.Requeuing.{requeued_in};
 ghost use Rattle.as2_store.specs.Settling.{settled_in};
-ghost use Rattle.as2_store.specs.Stands.{Rests, IsBlank, Says, judged, may_come};
+ghost use Rattle.as2_store.specs.Stands.{may_come};
 
 use crate::adding::add;
 use crate::adopting::check;
@@ -54,7 +54,7 @@ impl<S: Alter> Model for Store<S> {
 
 impl<S: Alter> Store<S> {
     /// Makes a store without entries on a connection without tables; its first numbers are `first`. Answers Memory, Disk or
-    /// Refused, and then the connection has no tables.
+    /// Refused, and then the tables are as they were.
     pub fn create(
         mut conn: Connection<S>,
         first: u64,
@@ -62,8 +62,8 @@ impl<S: Alter> Store<S> {
         requires autocommit { conn.in_transaction ≡ false }
         requires least { 1 ≤ first }
         requires most { first < end_of_numbers }
-        ensures created { IfOk result (λ store. HasCleanDisk (state S.Store store) → IsBlank (state S.Store conn) → Rests (state S.Store store) (empty first)) }
-        ensures given_back { IfErr result (λ e. HasCleanDisk (state S.Store e.0) → IsBlank (state S.Store conn) → IsBlank (state S.Store e.0)) }
+        ensures created { IfOk result (λ store. Creates first (state S.Store conn) (state S.Store store)) }
+        ensures given_back { IfErr result (λ e. IsGivenBack (CommitsFirst first (state S.Store conn)) (state S.Store conn) (state S.Store e.0)) }
         ensures fault { IfErr result (λ e. may_come e.1 ≡ true) }
     {
         match make(&mut conn, first) {
@@ -76,11 +76,9 @@ impl<S: Alter> Store<S> {
     /// doesn't hold one row with the kind of a store; OtherVersion where its version isn't 1; Memory, Disk or Refused.
     pub fn adopt(mut conn: Connection<S>) -> Result<Store<S>, (Connection<S>, StoreFault)>
         requires autocommit { conn.in_transaction ≡ false }
-        ensures adopted { IfOk result (λ store. HasCleanDisk (state S.Store store) → (s : State) → Rests (state S.Store conn) s → Rests (state S.Store store) s) }
-        ensures given_back { IfErr result (λ e. HasCleanDisk (state S.Store e.0) → (s : State) → Rests (state S.Store conn) s → Rests (state S.Store e.0) s) }
-        ensures fault { IfErr result (λ e. HasCleanDisk (state S.Store e.0) → (s : State) → Rests (state S.Store conn) s → may_come e.1 ≡ true) }
-        ensures of_this_version { IfOk result (λ store. HasCleanDisk (state S.Store store) → (kind : List ℕ) (version : ℕ) → Says (state S.Store conn) kind version → judged kind version ≡ None) }
-        ensures reason { IfErr result (λ e. HasCleanDisk (state S.Store e.0) → (kind : List ℕ) (version : ℕ) → Says (state S.Store conn) kind version → (may_come e.1 ≡ true) ⊎ (judged kind version ≡ Some e.1)) }
+        ensures adopted { IfOk result (λ store. Adopts (state S.Store conn) (state S.Store store)) }
+        ensures given_back { IfErr result (λ e. IsGivenBack (Commits Some (state S.Store conn)) (state S.Store conn) (state S.Store e.0)) }
+        ensures reason { IfErr result (λ e. HasCleanDisk (state S.Store e.0) → IsReason (state S.Store conn) e.1) }
     {
         match check(&mut conn) {
             Ok(()) => Ok(Store { conn }),

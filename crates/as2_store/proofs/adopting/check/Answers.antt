@@ -1,19 +1,102 @@
-use Rattle.std.proofs.Common.{◌≡◌, inl, inr, codes, Some, None, sym, ◌∙◌}
+use Rattle.std.proofs.Common.{rules, true, ◌≡◌, ◌∙◌, ℕ, [], sym, ap, refl, subst, arith, Ok, Err, Some}
+use Rattle.sqlite.specs.Held.{state}
+use Rattle.sqlite.specs.Schema.{Schema}
+use Rattle.sqlite.specs.State.{HasCleanDisk, Shown}
+use Rattle.sqlite.specs.declared.error.Error.{Error}
+use Rattle.sql_tables.proofs.Inside.{shown_open}
+use Rattle.sql_tables.proofs.Asking.{shown_stays}
+use Rattle.as2_store.specs.Statements.{meta_read_text}
+use Rattle.as2_store.specs.Calls.{Adopts, Commits, IsGivenBack, IsReason}
+use Rattle.as2_store.proofs.Resting.{undone}
+use Rattle.as2_store.proofs.Committing.{commits, committed_next}
+use Rattle.as2_store.proofs.Querying.{queried_inside, asked}
+use Rattle.as2_store.proofs.Handing.{gives_back, unread_by, bare_by, said_by, adopts, comes}
+use Rattle.as2_store.proofs.Texts.{meta_read_plain}
 use Rattle.as2_store.proofs.adopting.check.Goals as goal
 
-pub returns-in-None-clause-sound : goal.returns-in-None-clause-sound
-returns-in-None-clause-sound g c clean kind version it =
-    sym (c.refused.ensures kind version it.next_receipt it.next_document (c.deref.ensures.value ∙ c.in-Ok.ensures.says clean kind version it)) ∙ c.in-None.is
+pub returns-in-Err-clause-given_back : goal.returns-in-Err-clause-given_back
+returns-in-Err-clause-given_back g c =
+    let old = c.args.conn.now in
+    let begun = state g.S.Store (record old { in_transaction = true }) in
+    let mid = state g.S.Store c.query_all.new.self.conn.now in
+    let inside = queried_inside (λ rows. rows.items) meta_read_text [] begun mid c.query_all.result refl (rw c.transaction-tx.ensures.begun at c.query_all.ensures.ok) (rw c.transaction-tx.ensures.begun at c.query_all.ensures.err) (rw c.transaction-tx.ensures.begun at c.query_all.ensures.survives) in
+    let end = c.drop-tx.new.self.0 in
+    let same : end ≡ c.conn-1.given.0 = search rules in
+    subst (λ h. IsGivenBack (Commits Some (state g.S.Store old)) (state g.S.Store old) (state g.S.Store h)) same
+    (gives_back g.S.Store old mid end (λ _. ⊥) _ inside c.drop-tx.ensures.survives (λ clean db none. absurd none) c.drop-tx.ensures.ended c.drop-tx.ensures.undone)
 
-pub returns-in-Ok-clause-fault : goal.returns-in-Ok-clause-fault
-returns-in-Ok-clause-fault g c clean s r =
-    let none : Some c.in-Some.fault ≡ None =
-    sym c.in-Some.is ∙ c.refused.ensures (codes "as2-station") 1 s.next_in s.next_out (c.deref.ensures.value ∙ c.in-Ok.ensures.rows clean s r) in
-    absurd cc
+pub returns-in-Err-clause-reason : goal.returns-in-Err-clause-reason
+returns-in-Err-clause-reason g c clean =
+    let mid = state g.S.Store c.query_all.new.self.conn.now in
+    let was : HasCleanDisk mid = search rules in
+    unread_by g.S.Store c.args.conn.now mid c.in-Err.error c.unread.result (rw c.transaction-tx.ensures.begun at (c.in-Err.ensures.err was)) c.unread.ensures.outside c.unread.ensures.known
 
-pub returns-in-Ok-clause-reason : goal.returns-in-Ok-clause-reason
-returns-in-Ok-clause-reason g c clean kind version it =
-    inr (sym (c.refused.ensures kind version it.next_receipt it.next_document (c.deref.ensures.value ∙ c.in-Ok.ensures.says clean kind version it)) ∙ c.in-Some.is)
+pub returns-then-is_bare-clause-given_back : goal.returns-then-is_bare-clause-given_back
+returns-then-is_bare-clause-given_back g c =
+    let old = c.args.conn.now in
+    let begun = state g.S.Store (record old { in_transaction = true }) in
+    let mid = state g.S.Store c.query_all.new.self.conn.now in
+    let inside = queried_inside (λ rows. rows.items) meta_read_text [] begun mid c.query_all.result refl (rw c.transaction-tx.ensures.begun at c.query_all.ensures.ok) (rw c.transaction-tx.ensures.begun at c.query_all.ensures.err) (rw c.transaction-tx.ensures.begun at c.query_all.ensures.survives) in
+    let end = c.drop-tx-then-is_bare.new.self.0 in
+    let same : end ≡ c.conn-then-is_bare-1.given.0 = search rules in
+    subst (λ h. IsGivenBack (Commits Some (state g.S.Store old)) (state g.S.Store old) (state g.S.Store h)) same
+    (gives_back g.S.Store old mid end (λ _. ⊥) _ inside c.drop-tx-then-is_bare.ensures.survives (λ clean db none. absurd none) c.drop-tx-then-is_bare.ensures.ended c.drop-tx-then-is_bare.ensures.undone)
+
+pub returns-in-Some-clause-given_back : goal.returns-in-Some-clause-given_back
+returns-in-Some-clause-given_back g c =
+    let old = c.args.conn.now in
+    let begun = state g.S.Store (record old { in_transaction = true }) in
+    let mid = state g.S.Store c.query_all.new.self.conn.now in
+    let inside = queried_inside (λ rows. rows.items) meta_read_text [] begun mid c.query_all.result refl (rw c.transaction-tx.ensures.begun at c.query_all.ensures.ok) (rw c.transaction-tx.ensures.begun at c.query_all.ensures.err) (rw c.transaction-tx.ensures.begun at c.query_all.ensures.survives) in
+    let end = c.drop-tx-in-Some.new.self.0 in
+    let same : end ≡ c.conn-in-Some-1.given.0 = search rules in
+    subst (λ h. IsGivenBack (Commits Some (state g.S.Store old)) (state g.S.Store old) (state g.S.Store h)) same
+    (gives_back g.S.Store old mid end (λ _. ⊥) _ inside c.drop-tx-in-Some.ensures.survives (λ clean db none. absurd none) c.drop-tx-in-Some.ensures.ended c.drop-tx-in-Some.ensures.undone)
+
+pub returns-then-is_bare-clause-reason : goal.returns-then-is_bare-clause-reason
+returns-then-is_bare-clause-reason g c clean =
+    let mid = state g.S.Store c.query_all.new.self.conn.now in
+    let was : HasCleanDisk mid = search rules in
+    bare_by (state g.S.Store c.args.conn.now) (shown_open meta_read_text [] (state g.S.Store (record c.args.conn.now { in_transaction = true })) mid c.in-Ok.rows.items (rw c.transaction-tx.ensures.begun at (c.in-Ok.ensures.ok was)))
+    (ap (λ (k : Schema). k.tables) (sym c.schema.ensures.value) ∙ c.if-is_bare.ensures.0 refl)
+
+pub returns-in-Some-clause-reason : goal.returns-in-Some-clause-reason
+returns-in-Some-clause-reason g c clean =
+    let mid = state g.S.Store c.query_all.new.self.conn.now in
+    let was : HasCleanDisk mid = search rules in
+    said_by g.S.Store c.args.conn.now mid c.in-Ok.rows.items c.in-Some.fault (rw c.transaction-tx.ensures.begun at (c.in-Ok.ensures.ok was)) (λ kind version n m is. sym c.in-Some.is ∙ c.refused.ensures kind version n m (c.deref.ensures.value ∙ is)) (λ none. let some = c.if-is_bare.ensures.1 (ap (λ (k : Schema). k.tables) c.schema.ensures.value ∙ none) in cc)
+
+pub returns-in_default-commit-clause-adopted : goal.returns-in_default-commit-clause-adopted
+returns-in_default-commit-clause-adopted g c =
+    let old = c.args.conn.now in
+    let begun = state g.S.Store (record old { in_transaction = true }) in
+    let mid = state g.S.Store c.query_all.new.self.conn.now in
+    let inside = queried_inside (λ rows. rows.items) meta_read_text [] begun mid c.query_all.result refl (rw c.transaction-tx.ensures.begun at c.query_all.ensures.ok) (rw c.transaction-tx.ensures.begun at c.query_all.ensures.err) (rw c.transaction-tx.ensures.begun at c.query_all.ensures.survives) in
+    let end = c.commit.new.self.0 in
+    let same : end ≡ c.conn-2-1.given.0 = search rules in
+    let rows = c.in-Ok.rows.items in
+    let shown : HasCleanDisk mid → Shown meta_read_text [] begun mid rows = rw c.transaction-tx.ensures.begun at c.in-Ok.ensures.ok in
+    let was : HasCleanDisk (state g.S.Store end) → HasCleanDisk mid = λ late. omega (arith, c.commit.ensures.survives.clean, late) in
+    subst (λ h. Adopts (state g.S.Store old) (state g.S.Store h)) same
+    (adopts g.S.Store old mid end rows {A = ℕ} {E = Error} 0
+    (commits g.S.Store old mid end Some 0 inside c.commit.ensures.survives (asked g.S.Store old mid meta_read_text [] rows (meta_read_plain _ _) shown) (λ late. (c.in_default-commit.ensures.ok late).1) (λ db opened may. g.met.S.Store.settled end.store db opened may)) was shown
+    (λ kind version n m is. sym c.in_default.is ∙ c.refused.ensures kind version n m (c.deref.ensures.value ∙ is)) (λ none. let some = c.if-is_bare.ensures.1 (ap (λ (k : Schema). k.tables) c.schema.ensures.value ∙ none) in cc))
+
+pub returns-clause-given_back : goal.returns-clause-given_back
+returns-clause-given_back g c =
+    let old = c.args.conn.now in
+    let begun = state g.S.Store (record old { in_transaction = true }) in
+    let mid = state g.S.Store c.query_all.new.self.conn.now in
+    let inside = queried_inside (λ rows. rows.items) meta_read_text [] begun mid c.query_all.result refl (rw c.transaction-tx.ensures.begun at c.query_all.ensures.ok) (rw c.transaction-tx.ensures.begun at c.query_all.ensures.err) (rw c.transaction-tx.ensures.begun at c.query_all.ensures.survives) in
+    let end = c.commit.new.self.0 in
+    let same : end ≡ c.conn-2-1.given.0 = search rules in
+    let rows = c.in-Ok.rows.items in
+    let shown : HasCleanDisk mid → Shown meta_read_text [] begun mid rows = rw c.transaction-tx.ensures.begun at c.in-Ok.ensures.ok in
+    let was : HasCleanDisk (state g.S.Store end) → HasCleanDisk mid = λ late. omega (arith, c.commit.ensures.survives.clean, late) in
+    let done = asked g.S.Store old mid meta_read_text [] rows (meta_read_plain _ _) shown in
+    subst (λ h. IsGivenBack (Commits Some (state g.S.Store old)) (state g.S.Store old) (state g.S.Store h)) same
+    (gives_back g.S.Store old mid end (λ db. db ≡ mid.now.trees) _ inside c.commit.ensures.survives (λ clean. committed_next g.S.Store old mid Some (done clean)) c.commit.ensures.ended
+    (λ late. undone mid (state g.S.Store end) _ (shown_stays meta_read_text [] begun mid rows refl (shown (was late))) (c.in-Err-commit.ensures.err late)))
 
 pub returns-clause-reason : goal.returns-clause-reason
-returns-clause-reason g c clean kind version it = inl (c.unread.ensures (c.in-Err.ensures.unsaid clean kind version it))
+returns-clause-reason g c clean = comes _ _ c.fault_of.ensures

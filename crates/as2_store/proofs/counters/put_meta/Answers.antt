@@ -1,7 +1,7 @@
 use Rattle.std.proofs.Common.{Ok}
 use Rattle.sqlite.specs.Held.{state}
 use Rattle.sqlite.specs.State.{Executes}
-use Rattle.sql_tables.proofs.Inside.{made}
+use Rattle.sql_tables.proofs.Inside.{made, stays}
 use Rattle.as2_store.specs.Statements.{meta_put_text}
 use Rattle.as2_store.proofs.MetaRow.{passed}
 use Rattle.as2_store.proofs.Beginning.{puts_meta, first_params}
@@ -14,3 +14,6 @@ returns-clause-put g c clean bare =
     let ran = (made g.S.Store _ _ c.args.tx.now.conn.now c.execute.new.self.conn.now c.execute.result _ c.execute.ensures.ended (c.execute.ensures.runs clean) c.in_ok-execute.field-0 c.in_ok-execute.was).2 in
     let went : Executes meta_put_text (first_params c.args.first) old new (Ok c.in_ok-execute.field-0) = rw (c.params-to_sql.ensures, c.whole-first.ensures, passed c.args.first c.requires) at ran in
     puts_meta old new c.args.first c.in_ok-execute.field-0 bare went
+
+pub returns-clause-inside : goal.returns-clause-inside
+returns-clause-inside g c clean = stays g.S.Store _ _ c.args.tx.now.conn.now c.execute.new.self.conn.now c.execute.result _ c.execute.ensures.ended (c.execute.ensures.runs clean) c.in_ok-execute.field-0 c.in_ok-execute.was

@@ -1,25 +1,61 @@
-use Rattle.std.proofs.Common.{rules, ◌≡◌, subst, arith}
+use Rattle.std.proofs.Common.{rules, true, ◌≡◌, subst, arith, Ok, Err}
 use Rattle.sqlite.specs.Held.{state}
-use Rattle.sqlite.specs.State.{HasCleanDisk}
-use Rattle.as2_exchange.specs.State.{empty}
-use Rattle.as2_store.specs.Tables.{no_schema}
-use Rattle.as2_store.specs.Stands.{Rests}
-use Rattle.as2_store.proofs.Resting.{rests_committed}
-use Rattle.as2_store.proofs.Beginning.{stands_empty}
+use Rattle.as2_store.specs.Calls.{IsInside, Creates, CommitsFirst, IsGivenBack}
+use Rattle.as2_store.proofs.Resting.{undone, if_error}
+use Rattle.as2_store.proofs.Committing.{inside_then}
+use Rattle.as2_store.proofs.Handing.{gives_back}
+use Rattle.as2_store.proofs.Beginning.{made_first, first_commits, creates}
 use Rattle.as2_store.proofs.creating.make.Goals as goal
 
-pub returns-clause-made : goal.returns-clause-made
-returns-clause-made g c clean blank =
-    let begun = state g.S.Store c.transaction-tx.result.conn.now in
+pub returns-in_err-make_tables-clause-given_back : goal.returns-in_err-make_tables-clause-given_back
+returns-in_err-make_tables-clause-given_back g c =
+    let old = c.args.conn.now in
+    let begun = state g.S.Store (record old { in_transaction = true }) in
     let mid = state g.S.Store c.make_tables.new.tx.conn.now in
+    let first : IsInside begun mid = rw c.transaction-tx.ensures.begun at c.make_tables.ensures.within in
+    let end = c.drop-tx.new.self.0 in
+    let same : end ≡ c.conn-1.given.0 = search rules in
+    if_error (subst (λ h. IsGivenBack (CommitsFirst c.args.first (state g.S.Store old)) (state g.S.Store old) (state g.S.Store h)) same
+    (gives_back g.S.Store old mid end (λ _. ⊥) _ first c.drop-tx.ensures.survives (λ clean db none. absurd none) c.drop-tx.ensures.ended c.drop-tx.ensures.undone)) c.from_residual.result
+
+pub returns-in_err-put_meta-clause-given_back : goal.returns-in_err-put_meta-clause-given_back
+returns-in_err-put_meta-clause-given_back g c =
+    let old = c.args.conn.now in
+    let begun = state g.S.Store (record old { in_transaction = true }) in
+    let mid = state g.S.Store c.make_tables.new.tx.conn.now in
+    let first : IsInside begun mid = rw c.transaction-tx.ensures.begun at c.make_tables.ensures.within in
     let last = state g.S.Store c.put_meta.new.tx.conn.now in
+    let inside = inside_then begun mid last first c.put_meta.ensures.within in
+    let end = c.drop-tx-in_err-put_meta.new.self.0 in
+    let same : end ≡ c.conn-in_err-put_meta-1.given.0 = search rules in
+    if_error (subst (λ h. IsGivenBack (CommitsFirst c.args.first (state g.S.Store old)) (state g.S.Store old) (state g.S.Store h)) same
+    (gives_back g.S.Store old last end (λ _. ⊥) _ inside c.drop-tx-in_err-put_meta.ensures.survives (λ clean db none. absurd none) c.drop-tx-in_err-put_meta.ensures.ended c.drop-tx-in_err-put_meta.ensures.undone)) c.from_residual-in_err-put_meta.result
+
+pub returns-in_err-commit-clause-given_back : goal.returns-in_err-commit-clause-given_back
+returns-in_err-commit-clause-given_back g c =
+    let old = c.args.conn.now in
+    let begun = state g.S.Store (record old { in_transaction = true }) in
+    let mid = state g.S.Store c.make_tables.new.tx.conn.now in
+    let first : IsInside begun mid = rw c.transaction-tx.ensures.begun at c.make_tables.ensures.within in
+    let last = state g.S.Store c.put_meta.new.tx.conn.now in
+    let inside = inside_then begun mid last first c.put_meta.ensures.within in
     let end = c.commit.new.self.0 in
     let same : end ≡ c.conn-2-1.given.0 = search rules in
-    let late : HasCleanDisk (state g.S.Store end) = search rules in
-    let was_last : HasCleanDisk last = omega (arith, c.commit.ensures.survives.clean) in
-    let was_mid = c.put_meta.ensures.within.clean was_last in
-    let bare : begun.now.schema ≡ no_schema = rw c.transaction-tx.ensures.begun (blank.no_table (rw c.transaction-tx.ensures.begun at (c.in_ok-make_tables.ensures.open was_mid))) in
-    let tables = c.in_ok-make_tables.ensures.made was_mid (record { schema_is = bare; empty = tt }) in
-    let row = c.in_ok-put_meta.ensures.put was_last tables in
-    let stands = stands_empty mid last c.args.first c.requires.least c.requires.most tables row in
-    subst (λ h. Rests (state g.S.Store h) (empty c.args.first)) same (rests_committed last (state g.S.Store end) (empty c.args.first) stands (c.in_ok-commit.ensures.ok late).1)
+    let makes = made_first g.S.Store old mid last c.args.first c.requires.least c.requires.most c.put_meta.ensures.within.clean (rw c.transaction-tx.ensures.begun at c.in_ok-make_tables.ensures.open) (rw c.transaction-tx.ensures.begun at c.in_ok-make_tables.ensures.made) c.in_ok-put_meta.ensures.put in
+    if_error (subst (λ h. IsGivenBack (CommitsFirst c.args.first (state g.S.Store old)) (state g.S.Store old) (state g.S.Store h)) same
+    (gives_back g.S.Store old last end (λ db. db ≡ last.now.trees) _ inside c.commit.ensures.survives (λ clean. first_commits g.S.Store old last c.args.first (makes clean)) c.commit.ensures.ended
+    (λ late. undone last (state g.S.Store end) _ (c.in_ok-put_meta.ensures.inside (omega (arith, c.commit.ensures.survives.clean, late))) (c.in_err-commit.ensures.err late)))) c.from_residual-in_err-commit.result
+
+pub returns-clause-created : goal.returns-clause-created
+returns-clause-created g c =
+    let old = c.args.conn.now in
+    let begun = state g.S.Store (record old { in_transaction = true }) in
+    let mid = state g.S.Store c.make_tables.new.tx.conn.now in
+    let first : IsInside begun mid = rw c.transaction-tx.ensures.begun at c.make_tables.ensures.within in
+    let last = state g.S.Store c.put_meta.new.tx.conn.now in
+    let inside = inside_then begun mid last first c.put_meta.ensures.within in
+    let end = c.commit.new.self.0 in
+    let same : end ≡ c.conn-2-1.given.0 = search rules in
+    let makes = made_first g.S.Store old mid last c.args.first c.requires.least c.requires.most c.put_meta.ensures.within.clean (rw c.transaction-tx.ensures.begun at c.in_ok-make_tables.ensures.open) (rw c.transaction-tx.ensures.begun at c.in_ok-make_tables.ensures.made) c.in_ok-put_meta.ensures.put in
+    subst (λ h. Creates c.args.first (state g.S.Store old) (state g.S.Store h)) same
+    (creates g.S.Store old last end c.args.first inside c.commit.ensures.survives makes (λ late. (c.in_ok-commit.ensures.ok late).1) (λ db opened may. g.met.S.Store.settled end.store db opened may))
