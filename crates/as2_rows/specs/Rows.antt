@@ -81,11 +81,13 @@ in_shown e = in_row_shown (in_summary e)
 
 -- ---- the outbox
 
--- the columns behind the number: organization, partner, the identifier's value, length, moment, tries, attempt, due, detail
+-- the columns behind the number: organization, partner, the identifier's value, the identifier, length, moment, tries,
+-- attempt, due, detail
 abbrev pub out_columns : OutRow → Row
 out_columns r =
     Blob r.organization
     ∷ Blob r.partner
+    ∷ Blob (value_of r.id)
     ∷ Blob r.id
     ∷ whole r.length
     ∷ whole r.moment

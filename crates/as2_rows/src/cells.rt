@@ -109,7 +109,7 @@ pub fn name(value: ValueRef<'_>) -> Result<AsName, RowFault>
 }
 
 /// An identifier, as it was received.
-pub fn identifier(alloc: Global, value: ValueRef<'_>) -> Result<MessageId, RowFault>
+fn identifier(alloc: Global, value: ValueRef<'_>) -> Result<MessageId, RowFault>
     ensures read { IfOk result (λ t. owned value.entry ≡ Blob t) }
     ensures taken { IfErr result (λ f. (t : List ℕ) → IsIdentifier t → owned value.entry ≡ Blob t → f ≡ fault.Memory) }
 {

@@ -6,7 +6,7 @@ ghost use Rattle.as2_rows.specs.Texts.{IsOutEntry};
 ghost use Rattle.as2_rows.specs.declared.fault.RowFault.TheVariants as fault;
 
 use crate::RowFault;
-use crate::cells::{column, identifier, moment, name, whole, whole_or_null};
+use crate::cells::{column, identifier_of, moment, name, whole, whole_or_null};
 use crate::codes::{attempt_in, detail_in};
 use as2_exchange::{Attempt, Evidence, OutEntry};
 use as2_mdn::Detail;
@@ -16,7 +16,7 @@ use sqlite::Row;
 use std::alloc::Global;
 
 /// The columns of the table.
-const COLUMNS: usize = 10;
+const COLUMNS: usize = 11;
 
 /// An entry of the outbox with the length of its content in place of the content, and without its evidence.
 #[derive(Drop)]
@@ -27,7 +27,7 @@ pub struct OutRow {
     pub organization: AsName,
     /// The partner that it is sent to.
     pub partner: AsName,
-    /// The value of its identifier.
+    /// Its identifier, `<out-N@domain>`.
     pub id: MessageId,
     /// How many bytes its content has.
     pub length: u64,
@@ -58,13 +58,13 @@ impl OutRow {
             number: whole(column(row, 0))?,
             organization: name(column(row, 1))?,
             partner: name(column(row, 2))?,
-            id: identifier(alloc, column(row, 3))?,
-            length: whole(column(row, 4))?,
-            moment: moment(column(row, 5))?,
-            tries: whole(column(row, 6))?,
-            attempt: attempt_in(column(row, 7))?,
-            due: whole_or_null(column(row, 8))?,
-            detail: detail_in(column(row, 9))?,
+            id: identifier_of(alloc, column(row, 3), column(row, 4))?,
+            length: whole(column(row, 5))?,
+            moment: moment(column(row, 6))?,
+            tries: whole(column(row, 7))?,
+            attempt: attempt_in(column(row, 8))?,
+            due: whole_or_null(column(row, 9))?,
+            detail: detail_in(column(row, 10))?,
         })
     }
 

@@ -8,11 +8,12 @@ use std::alloc::Global;
 use std::process::Abort;
 
 // The document `abc` to Buyer, settled at its first try.
-static SETTLED: [ValueRef<'static>; 10] = [
+static SETTLED: [ValueRef<'static>; 11] = [
     ValueRef::Int(1),
     ValueRef::Blob(b"Supplier"),
     ValueRef::Blob(b"Buyer"),
     ValueRef::Blob(b"out-1@station.example"),
+    ValueRef::Blob(b"<out-1@station.example>"),
     ValueRef::Int(3),
     ValueRef::Int(1000),
     ValueRef::Int(1),
@@ -29,17 +30,20 @@ static EVIDENCE: [ValueRef<'static>; 4] = [
 ];
 
 // A column, and a value that makes the row none of a document.
-static REFUSED: [(usize, ValueRef<'static>); 10] = [
+static REFUSED: [(usize, ValueRef<'static>); 13] = [
     (0, ValueRef::Blob(b"1")),
     (1, ValueRef::Null),
     (2, ValueRef::Blob(b"\x7f")),
     (3, ValueRef::Blob(b"")),
+    (3, ValueRef::Blob(b"<out-1@station.example>")),
+    (4, ValueRef::Blob(b"<out-2@station.example>")),
     (4, ValueRef::Null),
-    (5, ValueRef::Int(253_402_300_800)),
-    (6, ValueRef::Int(-1)),
-    (7, ValueRef::Int(0)),
-    (9, ValueRef::Int(0)),
-    (9, ValueRef::Int(15)),
+    (5, ValueRef::Null),
+    (6, ValueRef::Int(253_402_300_800)),
+    (7, ValueRef::Int(-1)),
+    (8, ValueRef::Int(0)),
+    (10, ValueRef::Int(0)),
+    (10, ValueRef::Int(15)),
 ];
 
 /// What a row of these values is read as.
@@ -81,9 +85,9 @@ fn is_settled(rt: &impl Abort, read: &OutRow) {
     let texts = [
         read.organization.bytes(),
         read.partner.bytes(),
-        read.id.value().as_bytes(),
+        read.id.as_received().as_bytes(),
     ];
-    assert!(rt; texts == [b"Supplier".as_slice(), b"Buyer", b"out-1@station.example"]);
+    assert!(rt; texts == [b"Supplier".as_slice(), b"Buyer", b"<out-1@station.example>"]);
     assert!(rt; (read.attempt, read.detail) == (Attempt::Idle, Detail::Processed));
 }
 
