@@ -7,6 +7,7 @@ use Rattle.sqlite.specs.Order.{Row}
 use Rattle.sqlite.specs.State.{State as Connected, Shown}
 use Rattle.sql_tables.proofs.Inside.{shown_open}
 use Rattle.sql_tables.proofs.Queries.{blobs_equal, numbers_equal}
+use Rattle.as2_names.specs.Identifiers.{value_of}
 use Rattle.as2_exchange.specs.State.{State}
 use Rattle.as2_exchange.specs.declared.outbox.Evidence.{Evidence}
 use Rattle.as2_exchange.specs.declared.outbox.OutEntry.{OutEntry}
@@ -31,7 +32,7 @@ pub finds_id : (value : List ℕ) (old new : Connected) (rows : List Row) → Sh
 finds_id value old new rows h s r =
     let it = r.stands (shown_open out_by_id_text (id_params value) old new rows h) in
     reads_rows out_by_id_text out_by_id_plain out_by_id_unlisted outbox_tree id_terms out_columns out_names out_by_id_is (id_params value) out_row out_shown (λ _. refl) (has_id value)
-    (λ d. ap (λ b. b && true) (blobs_equal d.id value) ∙ and_true _) old new rows h it.schema s.outbox it.entries.outbox
+    (λ d. ap (λ b. b && true) (blobs_equal (value_of d.id) value) ∙ and_true _) old new rows h it.schema s.outbox it.entries.outbox
     (entries_rise out_row (λ (d : OutEntry). d.number) (λ _. refl) s.next_out s.outbox it.documents.1)
 
 -- ---- the evidence

@@ -181,11 +181,11 @@ in_requeue_plain = (refl, refl)
 -- ---- the outbox
 
 abbrev pub out_columns : List Term
-out_columns = col 1 0 ∷ col 1 2 ∷ col 1 3 ∷ col 1 4 ∷ col 1 5 ∷ col 1 6 ∷ col 1 7 ∷ col 1 8 ∷ col 1 9 ∷ col 1 10 ∷ []
+out_columns = col 1 0 ∷ col 1 2 ∷ col 1 3 ∷ col 1 4 ∷ col 1 5 ∷ col 1 6 ∷ col 1 7 ∷ col 1 8 ∷ col 1 9 ∷ col 1 10 ∷ col 1 11 ∷ []
 
 abbrev pub out_names : List (List ℕ)
 out_names =
-    codes "number" ∷ codes "organization" ∷ codes "partner" ∷ codes "identifier" ∷ codes "length" ∷ codes "moment" ∷ codes "tries" ∷ codes "attempt" ∷ codes "due" ∷ codes "detail" ∷ []
+    codes "number" ∷ codes "organization" ∷ codes "partner" ∷ codes "identifier_value" ∷ codes "identifier" ∷ codes "length" ∷ codes "moment" ∷ codes "tries" ∷ codes "attempt" ∷ codes "due" ∷ codes "detail" ∷ []
 
 abbrev pub id_terms : List Term
 id_terms = op2 (Compare Eq Binary) (col 1 4) (col 0 0) ∷ []
@@ -247,7 +247,7 @@ evidence_put_plain = (refl, refl)
 
 abbrev pub settle_project : List Term
 settle_project =
-    col 1 0 ∷ lit Null ∷ col 1 2 ∷ col 1 3 ∷ col 1 4 ∷ col 1 5 ∷ col 1 6 ∷ col 1 7 ∷ lit (Int (pos 1)) ∷ lit Null ∷ col 0 1 ∷ []
+    col 1 0 ∷ lit Null ∷ col 1 2 ∷ col 1 3 ∷ col 1 4 ∷ col 1 5 ∷ col 1 6 ∷ col 1 7 ∷ col 1 8 ∷ lit (Int (pos 1)) ∷ lit Null ∷ col 0 1 ∷ []
 
 pub out_settle_is : command_of (understood store_schema out_settle_text) ≡ Update 3 (update_program outbox_tree number_terms settle_project)
 unfolding understood everything

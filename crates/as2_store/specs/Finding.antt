@@ -13,7 +13,7 @@ has_key sender receiver value e = bytes_eq e.posted.sender sender && (bytes_eq e
 
 -- it has an identifier of this value
 abbrev pub has_id : List ℕ → OutEntry → Bool
-has_id value d = bytes_eq d.id value
+has_id value d = bytes_eq (value_of d.id) value
 
 -- the rows of a document's evidence, as a query shows them
 abbrev pub shown_evidence : ℕ → Option Evidence → List Row

@@ -38,7 +38,7 @@ in_requeue_text = codes "UPDATE inbox SET mdn = 2, tries = 0, attempt = 1, due =
 -- ---- the outbox
 
 abbrev pub out_by_id_text : List ℕ
-out_by_id_text = codes "SELECT number, organization, partner, identifier, length, moment, tries, attempt, due, detail FROM outbox WHERE identifier = ?1 ORDER BY number"
+out_by_id_text = codes "SELECT number, organization, partner, identifier_value, identifier, length, moment, tries, attempt, due, detail FROM outbox WHERE identifier_value = ?1 ORDER BY number"
 
 abbrev pub out_pieces_text : List ℕ
 out_pieces_text = codes "SELECT number, position, bytes FROM outbox_piece WHERE number = ?1 ORDER BY rowid"

@@ -27,7 +27,7 @@ abbrev pub inbox_piece_text : List ℕ
 inbox_piece_text = codes "CREATE TABLE inbox_piece (number INTEGER NOT NULL REFERENCES inbox (number), position INTEGER NOT NULL, bytes BLOB NOT NULL, PRIMARY KEY (number, position)) STRICT"
 
 abbrev pub outbox_text : List ℕ
-outbox_text = codes "CREATE TABLE outbox (number INTEGER PRIMARY KEY, organization BLOB NOT NULL, partner BLOB NOT NULL, identifier BLOB NOT NULL UNIQUE, length INTEGER NOT NULL, moment INTEGER NOT NULL, tries INTEGER NOT NULL, attempt INTEGER NOT NULL, due INTEGER, detail INTEGER NOT NULL CHECK (detail >= 1 AND detail <= 14)) STRICT"
+outbox_text = codes "CREATE TABLE outbox (number INTEGER PRIMARY KEY, organization BLOB NOT NULL, partner BLOB NOT NULL, identifier_value BLOB NOT NULL UNIQUE, identifier BLOB NOT NULL, length INTEGER NOT NULL, moment INTEGER NOT NULL, tries INTEGER NOT NULL, attempt INTEGER NOT NULL, due INTEGER, detail INTEGER NOT NULL CHECK (detail >= 1 AND detail <= 14)) STRICT"
 
 abbrev pub outbox_piece_text : List ℕ
 outbox_piece_text = codes "CREATE TABLE outbox_piece (number INTEGER NOT NULL REFERENCES outbox (number), position INTEGER NOT NULL, bytes BLOB NOT NULL, PRIMARY KEY (number, position)) STRICT"
@@ -96,9 +96,9 @@ inbox_piece_made = table (codes "inbox_piece") piece_columns None (1 ∷ 2 ∷ [
 
 abbrev pub outbox_made : Table
 outbox_made = table (codes "outbox")
-    (optional (codes "number") Integer ∷ needed (codes "organization") Blob ∷ needed (codes "partner") Blob ∷ needed (codes "identifier") Blob ∷ needed (codes "length") Integer
+    (optional (codes "number") Integer ∷ needed (codes "organization") Blob ∷ needed (codes "partner") Blob ∷ needed (codes "identifier_value") Blob ∷ needed (codes "identifier") Blob ∷ needed (codes "length") Integer
     ∷ needed (codes "moment") Integer ∷ needed (codes "tries") Integer ∷ needed (codes "attempt") Integer ∷ optional (codes "due") Integer ∷ needed (codes "detail") Integer ∷ [])
-    (Some 0) (0 ∷ []) ((4 ∷ []) ∷ []) (within 10 1 14 ∷ []) []
+    (Some 0) (0 ∷ []) ((4 ∷ []) ∷ []) (within 11 1 14 ∷ []) []
 
 abbrev pub outbox_piece_made : Table
 outbox_piece_made = table (codes "outbox_piece") piece_columns None (1 ∷ 2 ∷ []) ((1 ∷ 2 ∷ []) ∷ []) [] (refers 1 (codes "outbox") ∷ [])

@@ -53,7 +53,7 @@ fn make_outbox<S: Alter>(tx: &mut Transaction<'_, S>) -> Result<(), Error>
 {
     run(
         tx,
-        "CREATE TABLE outbox (number INTEGER PRIMARY KEY, organization BLOB NOT NULL, partner BLOB NOT NULL, identifier BLOB NOT NULL UNIQUE, length INTEGER NOT NULL, moment INTEGER NOT NULL, tries INTEGER NOT NULL, attempt INTEGER NOT NULL, due INTEGER, detail INTEGER NOT NULL CHECK (detail >= 1 AND detail <= 14)) STRICT",
+        "CREATE TABLE outbox (number INTEGER PRIMARY KEY, organization BLOB NOT NULL, partner BLOB NOT NULL, identifier_value BLOB NOT NULL UNIQUE, identifier BLOB NOT NULL, length INTEGER NOT NULL, moment INTEGER NOT NULL, tries INTEGER NOT NULL, attempt INTEGER NOT NULL, due INTEGER, detail INTEGER NOT NULL CHECK (detail >= 1 AND detail <= 14)) STRICT",
     )?;
     run(
         tx,

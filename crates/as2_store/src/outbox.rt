@@ -27,7 +27,7 @@ pub fn rows_by_id<S: Alter>(conn: &mut Connection<S>, value: &[u8]) -> Result<Ve
 {
     query_all(
         conn,
-        "SELECT number, organization, partner, identifier, length, moment, tries, attempt, due, detail FROM outbox WHERE identifier = ?1 ORDER BY number",
+        "SELECT number, organization, partner, identifier_value, identifier, length, moment, tries, attempt, due, detail FROM outbox WHERE identifier_value = ?1 ORDER BY number",
         params![value],
     )
 }
