@@ -2,3 +2,4 @@ mod Numbers
 mod Playing
 mod Results
 mod Settling
+mod Reaching

@@ -1,6 +1,6 @@
 -- The lines that refuse a post by its head alone, and the posts that take the store.
 use Rattle.std.specs.Prelude.{Bool, true, false}
-use Rattle.as2_exchange.specs.Step.{Reading, Refuses, IsReceipt, IsDocument}
+use Rattle.as2_exchange.specs.Posts.{Reading, Refuses, IsReceipt, IsDocument}
 use Rattle.as2_exchange.specs.declared.answer.Line.{Line}
 use Rattle.as2_exchange.specs.declared.answer.Line.TheVariants.{BadNames, BadVersion, UnknownNames, BadType, UnreadableReceipt, NoSuchMessage, BadId, BadAsk, IdUsedBefore, NotProcessed}
 

@@ -6,7 +6,7 @@ use Rattle.as2_exchange.specs.declared.answer.Answer.{Answer}
 use Rattle.as2_exchange.specs.declared.answer.Answer.TheVariants.{Http}
 use Rattle.as2_exchange.specs.declared.answer.Line.{Line}
 use Rattle.as2_exchange.specs.Readings.{Head}
-use Rattle.as2_exchange.specs.Step.{Refuses, reading}
+use Rattle.as2_exchange.specs.Posts.{Refuses, reading}
 use Rattle.as2_posts.specs.Answers.{refusal}
 use Rattle.as2_station.specs.Heads.{is_of_head}
 use Rattle.as2_station.specs.Steps.{IsStepFault}

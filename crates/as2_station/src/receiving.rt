@@ -1,11 +1,13 @@
 //! Receipts that are posted: each settles its document once.
-ghost use Rattle.std.specs.Prelude.{◌≡◌, ◌&&◌, nat_le, List, ℕ, Some, map, true, IfOk, IfErr, OnOk, OnErr, if◌then◌else◌, IsTrue};
+ghost use Rattle.std.specs.Prelude.{◌≡◌, ◌&&◌, List, ℕ, Some, map, true, IfOk, IfErr, OnOk, OnErr, if◌then◌else◌, IsTrue};
 ghost use Rattle.sqlite.specs.Held.{state};
 ghost use Rattle.sqlite.specs.State.{HasCleanDisk};
 ghost use Rattle.as2_exchange.specs.Agreement.{Agreements};
 ghost use Rattle.as2_exchange.specs.Invariants.{AreNumbers};
-ghost use Rattle.as2_exchange.specs.State.{State, change_document, document, is_settled};
-ghost use Rattle.as2_exchange.specs.Step.{bears, came, post, report_posted, settle, settled};
+ghost use Rattle.as2_exchange.specs.State.{State, change_document, document, is_begun, is_settled};
+ghost use Rattle.as2_exchange.specs.Posts.{came, report_posted};
+ghost use Rattle.as2_exchange.specs.Receipts.{bears};
+ghost use Rattle.as2_exchange.specs.Step.{post, settle, settled};
 ghost use Rattle.as2_exchange.specs.declared.answer.Answer.TheVariants.{Http};
 ghost use Rattle.as2_exchange.specs.declared.answer.HttpBody.TheVariants.{Nothing};
 ghost use Rattle.as2_store.specs.Stands.{Rests, may_come};
@@ -23,13 +25,13 @@ use std::alloc::Global;
 
 /// Whether the receipt is for the document, and that was begun: it comes from the document's partner, to its organization,
 /// and names its identifier (RFC 4130, section 6.2; RFC 8098, section 3.2.5).
-#[tactic(auto, unfolding(as2_exchange::specs::Readings::named_by))]
+#[tactic(auto, unfolding(as2_exchange::specs::Readings::named_by, as2_exchange::specs::Readings::value_of))]
 fn is_for(opened: &Opened<'_>, receipt: &Receipt<'_>, document: &OutEntry) -> bool
-    ensures { (body : List ℕ) → result ≡ (bears (came (opened.now.from, opened.now.to) (opened.now.media, opened.now.content_type.now) body receipt.now) document.now.organization document.now.partner document.now.id && nat_le 1 document.now.tries) }
+    ensures { (body : List ℕ) → result ≡ (bears (came (opened.now.from, opened.now.to) (opened.now.media, opened.now.content_type.now) body receipt.now) document.now.organization document.now.partner document.now.id && is_begun document.now) }
 {
     document.organization.bytes() == opened.to.bytes()
         && document.partner.bytes() == opened.from.bytes()
-        && document.id.as_received().as_bytes() == without_brackets(receipt.original_id)
+        && document.id.value().as_bytes() == without_brackets(receipt.original_id)
         && document.tries >= 1
 }
 

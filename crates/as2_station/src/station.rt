@@ -2,7 +2,8 @@
 ghost use Rattle.std.specs.Prelude.{◌≡◌, ℕ, List, Some, Ok, true, IfOk, IfErr, OnErr, IsTrue, OnOk};
 ghost use Rattle.sqlite.specs.Held.{state};
 ghost use Rattle.sqlite.specs.State.{HasCleanDisk};
-ghost use Rattle.as2_exchange.specs.Step.{Refuses, post, reading, step};
+ghost use Rattle.as2_exchange.specs.Posts.{Refuses, reading};
+ghost use Rattle.as2_exchange.specs.Step.{post, step};
 ghost use Rattle.as2_exchange.specs.declared.event.Event.TheVariants.{Post};
 ghost use Rattle.as2_exchange.specs.declared.answer.Answer.TheVariants.{Http};
 ghost use Rattle.as2_exchange.specs.declared.answer.Line.{Line as TheLine};

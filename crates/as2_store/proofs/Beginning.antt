@@ -23,7 +23,7 @@ use Rattle.as2_exchange.specs.State.{empty, end_of_numbers}
 use Rattle.as2_rows.specs.Rows.{meta_row}
 use Rattle.as2_store.specs.Tables.{meta_text, inbox_text, inbox_piece_text, outbox_text, outbox_piece_text, evidence_text, waiting_text, waiting_due_text, meta_made, inbox_made, inbox_piece_made, outbox_made, outbox_piece_made, evidence_made, waiting_made, waiting_table, waiting_due_made, no_schema, inbox_schema, outbox_schema, store_schema, meta_table, meta_tree}
 use Rattle.as2_store.specs.Statements.{meta_put_text}
-use Rattle.as2_store.specs.Stands.{Stands, IsBare, IsBlank}
+use Rattle.as2_store.specs.Stands.{IsWhole, Stands, IsBare, IsBlank}
 use Rattle.as2_store.specs.Calls.{IsInside, Keeps, CommitsFirst, Creates}
 use Rattle.as2_store.proofs.Resting.{rests_committed}
 use Rattle.as2_store.proofs.Committing.{keeps_of}
@@ -73,7 +73,7 @@ puts_meta old new first count bare h =
     subst (λ rows. Changed old new store_schema meta_tree (put_row (Int (next_rowid rows) ∷ Text (codes "as2-station") ∷ Int (pos 1) ∷ Int (pos first) ∷ Int (pos first) ∷ []) rows)) bare.empty.0 it
 
 pub stands_empty : (a b : Connected) (first : ℕ) → 1 ≤ first → first < end_of_numbers → IsBare a.now store_schema → Changed a b store_schema meta_tree (meta_row first first ∷ []) → Stands b.now (empty first)
-unfolding IsDistinct
+unfolding IsDistinct IsWhole
 stands_empty a b first least most bare one = record {
   sound = one.sound;
   schema = one.schema_is;

@@ -41,7 +41,7 @@ use Rattle.as2_rows.specs.Contents.{pieces}
 use Rattle.as2_rows.specs.Waiting.{Waiting, out_kind, out_waiting, waiting_out, waiting_in, to_send, to_answer, to_hear, to_end}
 use Rattle.as2_store.specs.Tables.{store_schema, outbox_table, outbox_tree, evidence_table, evidence_tree, waiting_table, waiting_tree}
 use Rattle.as2_store.specs.Statements.{out_settle_text, evidence_put_text, document_take_text}
-use Rattle.as2_store.specs.Stands.{Stands, Rests, place, waiting_row, documents_waiting, waiting, evidence_rows, outbox_pieces, piece_rows}
+use Rattle.as2_store.specs.Stands.{IsWhole, Stands, Rests, place, waiting_row, documents_waiting, waiting, evidence_rows, outbox_pieces, piece_rows}
 use Rattle.as2_store.specs.Requeuing.{Holds}
 use Rattle.as2_store.specs.Settling.{settled_as, settled_in, of_document, without_document}
 use Rattle.as2_store.proofs.Committing.{Done}
@@ -327,6 +327,7 @@ no_evidence_yet (Some e) is = absurd cc
 pub stands_settled : (a b c d : Connected) (s : State) (n : ℕ) (detail : Detail) (e : Evidence) (x : OutEntry) → is_by_receipt detail ≡ true → Stands a.now s → document s n ≡ Some x → is_settled x ≡ false
     → Changed a b store_schema outbox_tree (map out_row (change_document s n (settled_as detail e)).outbox) → Changed b c store_schema evidence_tree (put_row (evidence_row n e) (b.now.trees evidence_tree))
     → Changed c d store_schema waiting_tree (map waiting_row (without_document n (waiting s))) → Stands d.now (change_document s n (settled_as detail e))
+unfolding IsWhole
 stands_settled a b c d s n detail e x by it found unsettled one two three =
     let has = it.entries in
     let rising = numbers_rise (λ (y : OutEntry). y.number) s.next_out s.outbox it.documents.1 in

@@ -19,7 +19,7 @@ use Rattle.as2_rows.specs.Rows.{in_row, meta_row}
 use Rattle.as2_rows.specs.Contents.{pieces}
 use Rattle.as2_rows.specs.Waiting.{Waiting, in_waiting}
 use Rattle.as2_store.specs.Tables.{store_schema, meta_tree, inbox_tree, inbox_piece_tree, waiting_tree}
-use Rattle.as2_store.specs.Stands.{Stands, Rests, HasCounters, inbox_pieces, piece_rows}
+use Rattle.as2_store.specs.Stands.{IsWhole, Stands, Rests, HasCounters, inbox_pieces, piece_rows}
 use Rattle.as2_store.specs.Adding.{Appended, Noted, IsEntered, with_received, added}
 use Rattle.as2_store.proofs.Committing.{Done}
 use Rattle.as2_store.proofs.Rising.{puts_between}
@@ -73,6 +73,7 @@ entered a b c d s x it small one two three =
 -- and then the counter
 pub stands_received : (a d e : Connected) (s : State) (x : InEntry) → Stands a.now s → x.number ≡ s.next_in → x.number < end_of_numbers → IsEntered d.now s x
     → Changed d e store_schema meta_tree (meta_row (x.number + 1) s.next_out ∷ []) → Stands e.now (with_received s x)
+unfolding IsWhole
 stands_received a d e s x it is small mid four = record {
   sound = four.sound;
   schema = four.schema_is;

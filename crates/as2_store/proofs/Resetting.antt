@@ -24,7 +24,7 @@ use Rattle.as2_rows.specs.Contents.{pieces}
 use Rattle.as2_rows.specs.Waiting.{Waiting, in_waiting, waiting_in, to_send, to_answer, to_hear, to_end}
 use Rattle.as2_store.specs.Tables.{store_schema, inbox_table, inbox_tree}
 use Rattle.as2_store.specs.Statements.{in_requeue_text}
-use Rattle.as2_store.specs.Stands.{Stands, place, waiting_row, documents_waiting, waiting, inbox_pieces, piece_rows}
+use Rattle.as2_store.specs.Stands.{IsWhole, Stands, place, waiting_row, documents_waiting, waiting, inbox_pieces, piece_rows}
 use Rattle.as2_store.specs.Requeuing.{requeued, requeued_in, not_at, Holds, Renewed}
 use Rattle.as2_store.proofs.Rising.{numbers_rise, entries_rise}
 use Rattle.as2_store.proofs.Placing.{IsLast, documents_of, ins_small, last_of}
@@ -136,6 +136,7 @@ same_numbers n m es = map_kept (λ (e : InEntry). e.number) (λ (e : InEntry). c
 -- the tables stand for the state with the receipt to be sent anew, where an entry has the number
 pub stands_requeued : (a b c : Connected) (s : State) (n w m : ℕ) → (n < end_of_numbers → w ≡ n) → Stands a.now s → length (filter (λ (e : InEntry). e.number == n) s.inbox) ≢ 0
     → Changed a b store_schema inbox_tree (map in_row (change_received s n (requeued m)).inbox) → Renewed b c (to_send_from w m) (waiting s) → Stands c.now (change_received s n (requeued m))
+unfolding IsWhole
 stands_requeued a b c s n w m within it some one two =
     let has = it.entries in
     let es = numbers_rise (λ (e : InEntry). e.number) s.next_in s.inbox it.receipts.1 in
@@ -166,6 +167,7 @@ nothing_requeued s n m none = ap (λ es. record s { inbox = es }) (changed_none 
 -- the tables then stand for what they stood for
 pub stands_unnumbered : (a b : Connected) (s : State) (n m : ℕ) → Stands a.now s → length (filter (λ (e : InEntry). e.number == n) s.inbox) ≡ 0
     → Changed a b store_schema inbox_tree (map in_row (change_received s n (requeued m)).inbox) → Stands b.now (change_received s n (requeued m))
+unfolding IsWhole
 stands_unnumbered a b s n m it none one =
     let has = it.entries in
     let same = nothing_requeued s n m none in

@@ -75,10 +75,14 @@ pub record HasEntries (d : Database) (s : State) : Type 0 where
   pub evidence : d.trees evidence_tree ≡ evidence_rows s.outbox
   pub waits : d.trees waiting_tree ≡ map waiting_row (waiting s)
 
+-- the catalog lists the tables of the schema, and each tree is in order
+unfoldable pub IsWhole : Database → Type 0
+IsWhole d = IsDatabase d
+
 -- the tables stand for this state: they are those of a store and no others, `meta` has the counters, and the counters are
 -- above all numbers
 pub record Stands (d : Database) (s : State) : Type 0 where
-  pub sound : IsDatabase d
+  pub sound : IsWhole d
   pub schema : d.schema ≡ store_schema
   pub meta : d.trees meta_tree ≡ meta_row s.next_in s.next_out ∷ []
   pub entries : HasEntries d s

@@ -3,11 +3,13 @@ use Rattle.std.proofs.lemmas.Result.{on_ok_weaker}
 use Rattle.sqlite.specs.Held.{state}
 use Rattle.as2_exchange.specs.Readings.{verdict}
 use Rattle.as2_exchange.specs.State.{is_settled}
-use Rattle.as2_exchange.specs.Step.{came, settled}
+use Rattle.as2_exchange.specs.Posts.{came}
+use Rattle.as2_exchange.specs.Step.{settled}
 use Rattle.as2_exchange.specs.declared.outbox.OutEntry.{OutEntry}
 use Rattle.as2_exchange.proofs.Standing.{verdict_range}
 use Rattle.as2_store.specs.Settling.{settled_as}
 use Rattle.as2_store.specs.Stands.{Rests}
+use Rattle.as2_station.proofs.Reaching.{settles}
 use Rattle.as2_station.proofs.Numbers.{changes_alike}
 use Rattle.as2_station.proofs.receiving.settle_once.Goals as goal
 
@@ -21,5 +23,5 @@ returns-clause-settled g c clean =
     on_ok_weaker c.settle.result (λ done s rests numbers found. rw unsettled
     (subst (λ ds. Rests (state g.S.Store c.settle.new.self) (record s { outbox = ds }))
     (changes_alike (λ (d : OutEntry). d.number) now (settled c.args.moment r) c.args.entry.now.number c.args.entry.now s.outbox numbers.distinct found same)
-    (done s rests (rw c.verdict_pieces-detail.ensures (verdict_range c.args.receipt.now c.args.entry.now.content)) c.args.entry.now found unsettled)))
-    (c.settle.ensures.settled clean)
+    (settles _ s _ _ _ c.args.entry.now (rw c.verdict_pieces-detail.ensures (verdict_range c.args.receipt.now c.args.entry.now.content)) found unsettled (done s rests))))
+    (c.settle.ensures.settled.done clean)

@@ -11,22 +11,22 @@ pub returns-in_default-clause-answered : goal.returns-in_default-clause-answered
 unfolding named_by
 returns-in_default-clause-answered g c clean s r =
     let id = c.without_brackets-id_value.ensures ∙ ap (λ x. value_of x.original_id) c.receipt.view_is in
-    let named : document_named s (named_by c.args.receipt.now) ≡ None = ap (document_named s) (sym id) ∙ sym (c.in_ok-document.ensures.found clean s r) ∙ none_left _ c.in_default.not-Some in
-    rw c.refused.ensures (of_none _ s c.args.moment _ named (c.find_out_by_id.ensures.same clean s r))
+    let named : document_named s (named_by c.args.receipt.now) ≡ None = ap (document_named s) (sym id) ∙ sym (c.in_ok-document.ensures.found.answer clean s r) ∙ none_left _ c.in_default.not-Some in
+    rw c.refused.ensures (of_none _ s c.args.moment _ named (c.find_out_by_id.ensures.found.same clean s r))
 
 pub returns-then-not-is_for-clause-answered : goal.returns-then-not-is_for-clause-answered
 unfolding named_by
 returns-then-not-is_for-clause-answered g c clean s r =
     let id = c.without_brackets-id_value.ensures ∙ ap (λ x. value_of x.original_id) c.receipt.view_is in
-    let named : document_named s (named_by c.args.receipt.now) ≡ Some c.in-Some.document = ap (document_named s) (sym id) ∙ sym (c.in_ok-document.ensures.found clean s r) ∙ c.in-Some.is in
-    rw c.refused-then-not-is_for.ensures (of_another _ s c.args.moment _ c.in-Some.document named (sym (c.if-not-is_for.ensures c.args.body)) (c.find_out_by_id.ensures.same clean s r))
+    let named : document_named s (named_by c.args.receipt.now) ≡ Some c.in-Some.document = ap (document_named s) (sym id) ∙ sym (c.in_ok-document.ensures.found.answer clean s r) ∙ c.in-Some.is in
+    rw c.refused-then-not-is_for.ensures (of_another _ s c.args.moment _ c.in-Some.document named (sym (c.if-not-is_for.ensures c.args.body)) (c.find_out_by_id.ensures.found.same clean s r))
 
 pub returns-clause-answered : goal.returns-clause-answered
 unfolding named_by
 returns-clause-answered g c clean s r =
     let was = c.settle_once.ensures.clean clean in
     let id = c.without_brackets-id_value.ensures ∙ ap (λ x. value_of x.original_id) c.receipt.view_is in
-    let named : document_named s (named_by c.args.receipt.now) ≡ Some c.in-Some.document = ap (document_named s) (sym id) ∙ sym (c.in_ok-document.ensures.found was s r) ∙ c.in-Some.is in
-    let numbers = (r.stands (c.in_ok-document.ensures.open was)).documents.1 in
+    let named : document_named s (named_by c.args.receipt.now) ≡ Some c.in-Some.document = ap (document_named s) (sym id) ∙ sym (c.in_ok-document.ensures.found.answer was s r) ∙ c.in-Some.is in
+    let numbers = (r.stands (c.in_ok-document.ensures.found.was_open was)).documents.1 in
     rw c.taken.ensures (of_this _ s c.args.moment _ c.in-Some.document named (sym (c.if-not-is_for.ensures c.args.body))
-    (c.in_ok-settle_once.ensures.settled clean s (c.find_out_by_id.ensures.same was s r) numbers (found_number (λ (d : OutEntry). d.number) _ s.outbox c.in-Some.document numbers.distinct named)))
+    (c.in_ok-settle_once.ensures.settled clean s (c.find_out_by_id.ensures.found.same was s r) numbers (found_number (λ (d : OutEntry). d.number) _ s.outbox c.in-Some.document numbers.distinct named)))

@@ -2,6 +2,7 @@ use Rattle.std.proofs.Common.{sym, subst}
 use Rattle.std.proofs.lemmas.Result.{on_ok_weaker}
 use Rattle.sqlite.specs.Held.{state}
 use Rattle.as2_store.specs.Stands.{Rests}
+use Rattle.as2_station.proofs.Reaching.{requeues}
 use Rattle.as2_station.proofs.Numbers.{left_alone, sent_anew}
 use Rattle.as2_station.proofs.recording.queue_again.Goals as goal
 
@@ -12,5 +13,5 @@ returns-then-not-is_queued_again-clause-queued g c clean s r numbers found =
 pub returns-clause-queued : goal.returns-clause-queued
 returns-clause-queued g c clean =
     on_ok_weaker c.requeue_mdn.result (λ requeued s r numbers found.
-    subst (Rests (state g.S.Store c.requeue_mdn.new.self)) (sent_anew s c.args.moment c.args.entry.now numbers.distinct found (sym c.if-not-is_queued_again.ensures)) (requeued s r))
-    (c.requeue_mdn.ensures.requeued clean)
+    subst (Rests (state g.S.Store c.requeue_mdn.new.self)) (sent_anew s c.args.moment c.args.entry.now numbers.distinct found (sym c.if-not-is_queued_again.ensures)) (requeues _ s _ _ (requeued s r)))
+    (c.requeue_mdn.ensures.requeued.done clean)

@@ -12,9 +12,9 @@ unfolding record_post value_of
 returns-in-Some-clause-answered g c clean =
     let was = c.record_again.ensures.clean clean in
     from_ok c.record_again.result _ _ (c.record_again.ensures.answered clean) (λ a told s r.
-    let found : received_as s c.args.posted ≡ Some c.in-Some.entry = sym (rw c.value.ensures at (c.in_ok-entry.ensures.found was s r)) ∙ c.in-Some.is in
-    let numbers = (r.stands (c.in_ok-entry.ensures.open was)).receipts.1 in
-    rw found (told s (c.find_in.ensures.same was s r) numbers
+    let found : received_as s c.args.posted ≡ Some c.in-Some.entry = sym (rw c.value.ensures at (c.in_ok-entry.ensures.found.answer was s r)) ∙ c.in-Some.is in
+    let numbers = (r.stands (c.in_ok-entry.ensures.found.was_open was)).receipts.1 in
+    rw found (told s (c.find_in.ensures.found.same was s r) numbers
     (found_number (λ (e : InEntry). e.number) _ s.inbox c.in-Some.entry numbers.distinct found)))
 
 pub returns-in-Some-clause-failed : goal.returns-in-Some-clause-failed
@@ -22,21 +22,21 @@ unfolding record_post value_of
 returns-in-Some-clause-failed g c clean =
     let was = c.record_again.ensures.clean clean in
     from_err c.record_again.result _ _ (c.record_again.ensures.failed clean) (λ f told s r.
-    let found : received_as s c.args.posted ≡ Some c.in-Some.entry = sym (rw c.value.ensures at (c.in_ok-entry.ensures.found was s r)) ∙ c.in-Some.is in
-    rw found (told s (c.find_in.ensures.same was s r)))
+    let found : received_as s c.args.posted ≡ Some c.in-Some.entry = sym (rw c.value.ensures at (c.in_ok-entry.ensures.found.answer was s r)) ∙ c.in-Some.is in
+    rw found (told s (c.find_in.ensures.found.same was s r)))
 
 pub returns-in-None-clause-answered : goal.returns-in-None-clause-answered
 unfolding record_post value_of
 returns-in-None-clause-answered g c clean =
     let was = c.record_first.ensures.clean clean in
     from_ok c.record_first.result _ _ (c.record_first.ensures.answered clean) (λ a told s r.
-    let found : received_as s c.args.posted ≡ None = sym (rw c.value.ensures at (c.in_ok-entry.ensures.found was s r)) ∙ c.in-None.is in
-    rw found (told s (c.find_in.ensures.same was s r)))
+    let found : received_as s c.args.posted ≡ None = sym (rw c.value.ensures at (c.in_ok-entry.ensures.found.answer was s r)) ∙ c.in-None.is in
+    rw found (told s (c.find_in.ensures.found.same was s r)))
 
 pub returns-in-None-clause-failed : goal.returns-in-None-clause-failed
 unfolding record_post value_of
 returns-in-None-clause-failed g c clean =
     let was = c.record_first.ensures.clean clean in
     from_err c.record_first.result _ _ (c.record_first.ensures.failed clean) (λ f told s r.
-    let found : received_as s c.args.posted ≡ None = sym (rw c.value.ensures at (c.in_ok-entry.ensures.found was s r)) ∙ c.in-None.is in
-    rw found (told s (c.find_in.ensures.same was s r)))
+    let found : received_as s c.args.posted ≡ None = sym (rw c.value.ensures at (c.in_ok-entry.ensures.found.answer was s r)) ∙ c.in-None.is in
+    rw found (told s (c.find_in.ensures.found.same was s r)))

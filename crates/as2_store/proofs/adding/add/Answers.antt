@@ -1,9 +1,10 @@
-use Rattle.std.proofs.Common.{true, rules, ◌≡◌, subst, arith, Ok, Err}
+use Rattle.std.proofs.Common.{refl, true, rules, ◌≡◌, subst, arith, Ok, Err}
 use Rattle.sqlite.specs.Held.{state}
+use Rattle.sqlite.specs.declared.error.Error.TheVariants.{QueryReturnedNoRows}
 use Rattle.as2_store.specs.Adding.{added}
 use Rattle.as2_store.specs.Calls.{IsInside, Writes}
 use Rattle.as2_store.proofs.Resting.{undone}
-use Rattle.as2_store.proofs.Committing.{inside_then, commits, fails_to_commit}
+use Rattle.as2_store.proofs.Committing.{inside_then, commits, gives_up, fails_to_commit}
 use Rattle.as2_store.proofs.Growing.{adds}
 use Rattle.as2_store.proofs.adding.add.Goals as goal
 
@@ -35,3 +36,27 @@ returns-in_err-commit-clause-added g c =
     subst (λ h. Writes (added x) (state g.S.Store old) (state g.S.Store h) c.from_residual-in_err-commit.result) same
     (fails_to_commit g.S.Store old last end (added x) c.from_residual-in_err-commit.result c.from_residual-in_err-commit.ensures.0 (inside_then _ mid last first c.raise_next_receipt.ensures.within) c.commit.ensures.survives done
     (λ late. undone last (state g.S.Store end) _ (c.in_ok-raise_next_receipt.ensures.inside (omega (arith, c.commit.ensures.survives.clean, late))) (c.in_err-commit.ensures.err late)))
+
+pub returns-in_err-raise_next_receipt-clause-added : goal.returns-in_err-raise_next_receipt-clause-added
+returns-in_err-raise_next_receipt-clause-added g c =
+    let next = added c.args.entry.now in
+    let old = c.args.conn.now in
+    let mid = state g.S.Store c.put_received.new.tx.conn.now in
+    let last = state g.S.Store c.raise_next_receipt.new.tx.conn.now in
+    let end = c.drop-tx-in_err-raise_next_receipt.new.self.0 in
+    let same : end ≡ c.conn-in_err-raise_next_receipt-1.given.0 = search rules in
+    let first : IsInside (state g.S.Store (record old { in_transaction = true })) mid = rw c.transaction-tx.ensures.begun at c.put_received.ensures.within in
+    subst (λ h. Writes next (state g.S.Store old) (state g.S.Store h) c.from_residual-in_err-raise_next_receipt.result) same
+    (gives_up g.S.Store old last end next c.from_residual-in_err-raise_next_receipt.result c.from_residual-in_err-raise_next_receipt.ensures.0 (inside_then _ mid last first c.raise_next_receipt.ensures.within) c.drop-tx-in_err-raise_next_receipt.ensures.survives c.drop-tx-in_err-raise_next_receipt.ensures.undone)
+
+pub returns-then-branch-eq0-clause-added : goal.returns-then-branch-eq0-clause-added
+returns-then-branch-eq0-clause-added g c =
+    let next = added c.args.entry.now in
+    let old = c.args.conn.now in
+    let mid = state g.S.Store c.put_received.new.tx.conn.now in
+    let last = state g.S.Store c.raise_next_receipt.new.tx.conn.now in
+    let end = c.drop-tx-then-branch-eq0.new.self.0 in
+    let same : end ≡ c.conn-then-branch-eq0-1.given.0 = search rules in
+    let first : IsInside (state g.S.Store (record old { in_transaction = true })) mid = rw c.transaction-tx.ensures.begun at c.put_received.ensures.within in
+    subst (λ h. Writes next (state g.S.Store old) (state g.S.Store h) (Err QueryReturnedNoRows)) same
+    (gives_up g.S.Store old last end next (Err QueryReturnedNoRows) refl (inside_then _ mid last first c.raise_next_receipt.ensures.within) c.drop-tx-then-branch-eq0.ensures.survives c.drop-tx-then-branch-eq0.ensures.undone)

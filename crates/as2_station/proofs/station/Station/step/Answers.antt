@@ -1,5 +1,5 @@
 use Rattle.std.proofs.Common.{◌≡◌, ap, Ok}
-use Rattle.as2_exchange.specs.Step.{Refuses, reading}
+use Rattle.as2_exchange.specs.Posts.{Refuses, reading}
 use Rattle.as2_exchange.specs.declared.answer.Answer.TheVariants.{Http}
 use Rattle.as2_exchange.specs.declared.answer.HttpAnswer.{HttpAnswer}
 use Rattle.as2_posts.specs.Answers.{refusal}
