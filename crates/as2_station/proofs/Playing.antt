@@ -1,5 +1,5 @@
 -- One event more in a run.
-use Rattle.std.proofs.Common.{◌≡◌, List, [], ◌∷◌, ◌++◌, length, Some, Result, Ok, Err, IfOk, IfErr, refl, ap, subst, arith}
+use Rattle.std.proofs.Common.{◌≡◌, List, [], ◌∷◌, ◌++◌, length, Some, Result, Ok, Err, IfOk, IfErr, OnOk, IsTrue, true, refl, ap, subst, arith}
 use Rattle.sqlite.specs.State.{State as Connected}
 use Rattle.as2_exchange.specs.Agreement.{Agreements}
 use Rattle.as2_exchange.specs.State.{State}
@@ -9,7 +9,8 @@ use Rattle.as2_exchange.specs.declared.event.Event.{Event}
 use Rattle.as2_exchange.specs.declared.answer.Answer.{Answer}
 use Rattle.as2_exchange.specs.declared.fault.StoreFault.{StoreFault}
 use Rattle.as2_station.specs.Steps.{Answers, Fails}
-use Rattle.as2_station.specs.Traces.{said, trace, Plays, IsSaidTo, AreSaidTo}
+use Rattle.as2_station.specs.Traces.{said, trace, Plays, IsSaidTo, AreSaidTo, EndsOpen}
+use Rattle.as2_station.specs.Heads.{asks_store}
 
 run_answered : (A : Agreements) (s mid end : State) (told : Trace) (e : Event) (a : Answer) → Run A s told mid → step A mid e ≡ Some (a, end) → Run A s (told ++ (e, Answered a) ∷ []) end
 run_answered A s mid end [] e a run is = (end, subst (λ (x : State). step A x e ≡ Some (a, end)) run is, refl)
@@ -46,3 +47,18 @@ said_more A [] [] e r before last = (last, tt)
 said_more A [] (q ∷ rs) e r before last = absurd before
 said_more A (x ∷ es) [] e r before last = absurd before
 said_more A (x ∷ es) (q ∷ rs) e r before last = (before.0, said_more A es rs e r before.1 last)
+
+-- the last one is the one that was added
+pub ends_open : (A : Agreements) (es : List Event) (rs : List (Result Answer StoreFault)) (e : Event) (r : Result Answer StoreFault) (new : Connected) → length rs ≡ length es → OnOk r (asks_store A e ≡ true → IsTrue new.is_open)
+    → EndsOpen A (es ++ e ∷ []) (rs ++ r ∷ []) new
+ends_open A [] [] e r new same it = it
+ends_open A [] (q ∷ rs) e r new same it = absurd (omega (arith))
+ends_open A (x ∷ es) [] e r new same it = absurd (omega (arith))
+ends_open A (x ∷ []) (q ∷ []) e r new same it = it
+ends_open A (x ∷ []) (q ∷ p ∷ rs) e r new same it = absurd (omega (arith))
+ends_open A (x ∷ y ∷ es) (q ∷ []) e r new same it = absurd (omega (arith))
+ends_open A (x ∷ y ∷ es) (q ∷ p ∷ rs) e r new same it = ends_open A (y ∷ es) (p ∷ rs) e r new (omega (arith)) it
+
+pub nothing_left : {X : Type 0} (xs : List X) → length xs ≡ 0 → xs ≡ []
+nothing_left [] none = refl
+nothing_left (x ∷ xs) none = absurd (omega (arith, none))

@@ -1,6 +1,9 @@
 -- The lines that refuse a post by its head alone, and the posts that take the store.
 use Rattle.std.specs.Prelude.{Bool, true, false}
-use Rattle.as2_exchange.specs.Posts.{Reading, Refuses, IsReceipt, IsDocument}
+use Rattle.as2_exchange.specs.Agreement.{Agreements}
+use Rattle.as2_exchange.specs.declared.event.Event.{Event}
+use Rattle.as2_exchange.specs.declared.event.Event.TheVariants.{Post}
+use Rattle.as2_exchange.specs.Posts.{reading, Reading, Refuses, IsReceipt, IsDocument}
 use Rattle.as2_exchange.specs.declared.answer.Line.{Line}
 use Rattle.as2_exchange.specs.declared.answer.Line.TheVariants.{BadNames, BadVersion, UnknownNames, BadType, UnreadableReceipt, NoSuchMessage, BadId, BadAsk, IdUsedBefore, NotProcessed}
 
@@ -22,3 +25,8 @@ abbrev pub takes_store : Reading → Bool
 takes_store (Refuses status line) = false
 takes_store (IsReceipt receipt) = true
 takes_store (IsDocument posted) = true
+
+-- a post that can be read; no other event, for now
+abbrev pub asks_store : Agreements → Event → Bool
+asks_store A (Post head body moment) = takes_store (reading A head body)
+asks_store A other = false

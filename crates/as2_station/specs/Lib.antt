@@ -1,3 +1,3 @@
-pub mod Steps
 pub mod Heads
+pub mod Steps
 pub mod Traces

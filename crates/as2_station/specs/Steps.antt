@@ -1,11 +1,22 @@
 -- A step of the machine, as the tables show it.
-use Rattle.std.specs.Prelude.{◌≡◌, ◌⊎◌, Option, Some, None, true}
-use Rattle.sqlite.specs.State.{State as Connected}
+use Rattle.std.specs.Prelude.{◌≡◌, ◌⊎◌, ℕ, List, Option, Some, None, true, Result, Ok, IfOk, IfErr, OnOk, IsTrue}
+use Rattle.sqlite.specs.State.{State as Connected, HasCleanDisk}
+use Rattle.as2_exchange.specs.Agreement.{Agreements}
+use Rattle.as2_exchange.specs.Readings.{Head}
+use Rattle.as2_exchange.specs.Posts.{Refuses, reading}
+use Rattle.as2_exchange.specs.Step.{step}
+use Rattle.as2_exchange.specs.declared.event.Event.{Event}
+use Rattle.as2_exchange.specs.declared.event.Event.TheVariants.{Post}
+use Rattle.as2_exchange.specs.declared.answer.HttpAnswer.{HttpAnswer}
+use Rattle.as2_exchange.specs.declared.answer.Line.{Line}
+use Rattle.as2_posts.specs.Answers.{refusal}
 use Rattle.as2_exchange.specs.State.{State}
 use Rattle.as2_exchange.specs.declared.answer.Answer.{Answer}
 use Rattle.as2_exchange.specs.declared.fault.StoreFault.{StoreFault}
 use Rattle.as2_exchange.specs.declared.fault.StoreFault.TheVariants.{Full}
 use Rattle.as2_store.specs.Stands.{Rests, may_come}
+use Rattle.as2_store.specs.Calls.{Lasts}
+use Rattle.as2_station.specs.Heads.{is_of_head, asks_store}
 
 -- what the machine answers in a state, and the state that it leaves; nothing where the number that it needs is used up
 abbrev pub Machine : Type 0
@@ -28,3 +39,18 @@ Fails machine old new f = (s : State) → Rests old s → Rests new s × (f ≡ 
 -- a fault of a step: one of those that may come from any call of the store, or no number is left
 abbrev pub IsStepFault : StoreFault → Type 0
 IsStepFault f = (f ≡ Full) ⊎ (may_come f ≡ true)
+
+-- a call that takes an event: it answers what the machine answers, or fails, and then nothing is changed; what it answers out
+-- of the store it answers over an open connection, and a crash leaves what the tables stand for
+pub record TakesEvent {A : Type 0} (agreed : Agreements) (event : Event) (told : A → Answer) (old new : Connected) (r : Result A StoreFault) : Type 0 where
+  pub clean : HasCleanDisk new → HasCleanDisk old
+  pub answered : HasCleanDisk new → IfOk r (λ a. Answers (λ s. step agreed s event) old new (told a))
+  pub failed : HasCleanDisk new → IfErr r (Fails (λ s. step agreed s event) old new)
+  pub fault : IfErr r IsStepFault
+  pub is_open : HasCleanDisk new → OnOk r (asks_store agreed event ≡ true → IsTrue new.is_open)
+  pub lasts : IsTrue new.is_open → (s : State) → Rests new s → Lasts new s
+
+-- a post that its head alone refuses is answered by that line, and nothing else happens
+pub record TakesHead {A H : Type 0} (agreed : Agreements) (event : Event) (told : HttpAnswer → A) (old new : H) (r : Result A StoreFault) : Type 0 where
+  pub answer : (head : Head) (body : List ℕ) (moment status : ℕ) (line : Line) → event ≡ Post head body moment → reading agreed head body ≡ Refuses status line → is_of_head line ≡ true → r ≡ Ok (told (refusal line))
+  pub same : (head : Head) (body : List ℕ) (moment status : ℕ) (line : Line) → event ≡ Post head body moment → reading agreed head body ≡ Refuses status line → is_of_head line ≡ true → new ≡ old

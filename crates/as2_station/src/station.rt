@@ -1,19 +1,14 @@
 //! The station, event by event.
-ghost use Rattle.std.specs.Prelude.{◌≡◌, ℕ, List, Some, Ok, true, IfOk, IfErr, OnErr, IsTrue, OnOk};
+ghost use Rattle.std.specs.Prelude.{◌≡◌, true, IfOk, IfErr, OnErr, IsTrue, OnOk};
 ghost use Rattle.sqlite.specs.Held.{state};
 ghost use Rattle.sqlite.specs.State.{HasCleanDisk};
-ghost use Rattle.as2_exchange.specs.Posts.{Refuses, reading};
-ghost use Rattle.as2_exchange.specs.Step.{post, step};
+ghost use Rattle.as2_exchange.specs.Step.{post};
 ghost use Rattle.as2_exchange.specs.declared.event.Event.TheVariants.{Post};
 ghost use Rattle.as2_exchange.specs.declared.answer.Answer.TheVariants.{Http};
-ghost use Rattle.as2_exchange.specs.declared.answer.Line.{Line as TheLine};
-ghost use Rattle.as2_exchange.specs.declared.fault.StoreFault.TheVariants.{Full};
-ghost use Rattle.as2_exchange.specs.Readings.{Head as TheHead};
-ghost use Rattle.as2_posts.specs.Answers.{refusal};
 ghost use Rattle.as2_posts.specs.Openings.{read_further};
-ghost use Rattle.as2_station.specs.Heads.{is_of_head, takes_store};
-ghost use Rattle.as2_station.specs.Steps.{Answers, Fails, IsStepFault};
-ghost use Rattle.as2_station.specs.Traces.{AreSaidTo, Plays, trace};
+ghost use Rattle.as2_station.specs.Heads.{takes_store};
+ghost use Rattle.as2_station.specs.Steps.{Answers, Fails, IsStepFault, TakesEvent, TakesHead};
+ghost use Rattle.as2_station.specs.Traces.{AreSaidTo, PlaysTo};
 
 use crate::receiving::receive;
 use crate::recording::record;
@@ -94,12 +89,8 @@ impl<S: Alter> Station<S> {
         body: Pieces,
         moment: Moment,
     ) -> Result<HttpAnswer, StoreFault>
-        ensures clean { HasCleanDisk (state S.Store self.new) → HasCleanDisk (state S.Store self.old) }
-        ensures opened { HasCleanDisk (state S.Store self.new) → OnOk result (takes_store (reading agreements.now head.now body) ≡ true → IsTrue (state S.Store self.new).is_open) }
-        ensures answered { HasCleanDisk (state S.Store self.new) → IfOk result (λ a. Answers (λ s. step agreements.now s (Post head.now body moment)) (state S.Store self.old) (state S.Store self.new) (Http a)) }
-        ensures failed { HasCleanDisk (state S.Store self.new) → IfErr result (λ f. Fails (λ s. step agreements.now s (Post head.now body moment)) (state S.Store self.old) (state S.Store self.new) f) }
-        ensures fault { IfErr result IsStepFault }
-        ensures of_head { (status : ℕ) (line : TheLine) → reading agreements.now head.now body ≡ Refuses status line → is_of_head line ≡ true → (result ≡ Ok (refusal line)) × (self.new ≡ self.old) }
+        ensures taken { TakesEvent agreements.now (Post head.now body moment) Http (state S.Store self.old) (state S.Store self.new) result }
+        ensures of_head { TakesHead agreements.now (Post head.now body moment) (λ a. a) self.old self.new result }
     {
         match open(agreements, head) {
             Ok(opened) => self.take(alloc, agreements, opened, head, body, moment),
@@ -115,13 +106,8 @@ impl<S: Alter> Station<S> {
         agreements: &Agreements,
         event: Event,
     ) -> Result<Answer, StoreFault>
-        ensures clean { HasCleanDisk (state S.Store self.new) → HasCleanDisk (state S.Store self.old) }
-        ensures opened { HasCleanDisk (state S.Store self.new) → OnOk result ((head : TheHead) (body : List ℕ) (moment : ℕ) → event ≡ Post head body moment → takes_store (reading agreements.now head body) ≡ true → IsTrue (state S.Store self.new).is_open) }
-        ensures answered { HasCleanDisk (state S.Store self.new) → IfOk result (Answers (λ s. step agreements.now s event) (state S.Store self.old) (state S.Store self.new)) }
-        ensures failed { HasCleanDisk (state S.Store self.new) → IfErr result (Fails (λ s. step agreements.now s event) (state S.Store self.old) (state S.Store self.new)) }
-        ensures fault { IfErr result IsStepFault }
-        ensures of_head { (head : TheHead) (body : List ℕ) (moment status : ℕ) (line : TheLine) → event ≡ Post head body moment → reading agreements.now head body ≡ Refuses status line → is_of_head line ≡ true
-            → (result ≡ Ok (Http (refusal line))) × (self.new ≡ self.old) }
+        ensures taken { TakesEvent agreements.now event (λ a. a) (state S.Store self.old) (state S.Store self.new) result }
+        ensures of_head { TakesHead agreements.now event Http self.old self.new result }
     {
         match event {
             Event::Post { head, body, moment } => {
@@ -139,9 +125,8 @@ impl<S: Alter> Station<S> {
         agreements: &Agreements,
         events: Vec<Event>,
     ) -> Result<Vec<Result<Answer, StoreFault>>, Memory>
-        ensures clean { HasCleanDisk (state S.Store self.new) → HasCleanDisk (state S.Store self.old) }
         ensures each { IfOk result (λ said. AreSaidTo agreements.now events.items said.items) }
-        ensures played { HasCleanDisk (state S.Store self.new) → IfOk result (λ said. Plays agreements.now (trace events.items said.items) (state S.Store self.old) (state S.Store self.new)) }
+        ensures played { IfOk result (λ said. PlaysTo agreements.now events.items said.items (state S.Store self.old) (state S.Store self.new)) }
         ensures nothing { OnErr result (self.new ≡ self.old) }
     {
         let mut said = Vec::with_capacity(alloc, events.len())?;
