@@ -77,7 +77,7 @@ module _ {X : Type 0} (number : X → ℕ) (content : X → List ℕ) where
   gathered x e p xs false other is later =
       ap₂ (λ a b. a ++ b) (drops_other (number x) (number e) (content x) (range_with_len 0 (piece_count (content x))) (found_all number (λ m. (number x == m) ≡ false) p xs e other is)) (later is)
 
-  gathers : (p : X → Bool) (xs : List X) (e : X) → IsDistinct (λ a b. a == b) (map number xs) → find p xs ≡ Some e → own (number e) (all_pieces xs) ≡ pieces (number e) (content e)
+  pub gathers : (p : X → Bool) (xs : List X) (e : X) → IsDistinct (λ a b. a == b) (map number xs) → find p xs ≡ Some e → own (number e) (all_pieces xs) ≡ pieces (number e) (content e)
   unfolding IsDistinct
   gathers p [] e distinct found = absurd cc
   gathers p (x ∷ xs) e distinct found =

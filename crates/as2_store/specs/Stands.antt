@@ -70,7 +70,7 @@ pub record HasEntries (d : Database) (s : State) : Type 0 where
   pub waits : d.trees waiting_tree ≡ map waiting_row (waiting s)
 
 -- the tables stand for this state: they are those of a store and no others, `meta` has the counters, and the counters are
--- above all numbers
+-- above all numbers; they stand for no other state (`one_state` of proofs/Single)
 pub record Stands (d : Database) (s : State) : Type 0 where
   pub sound : IsDatabase d
   pub schema : d.schema ≡ store_schema
