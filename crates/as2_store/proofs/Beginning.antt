@@ -16,6 +16,7 @@ use Rattle.sqlite.proofs.Callers.{survives_begin}
 use Rattle.sqlite.specs.State.{State as Connected, HasCleanDisk, Survives, Shows, Executes}
 use Rattle.sqlite_trees.proofs.ListLemmas.{all-append}
 use Rattle.sql_tables.specs.Changes.{Changed, Made, Indexed}
+use Rattle.sql_tables.proofs.Sorting.{unchanged, no_rows}
 use Rattle.sql_tables.proofs.Writes.{cast_null, cast_int, IsOneRow, inserts_chosen}
 use Rattle.sql_tables.proofs.Creating.{makes_table}
 use Rattle.sql_tables.proofs.Indexing.{makes_index}
@@ -80,9 +81,9 @@ stands_empty a b first least most bare one = record {
   meta = one.rows_are;
   entries = record {
     inbox = one.others.1.0 (λ e. omega arith) ∙ bare.empty.1.0;
-    inbox_contents = one.others.1.1.0 (λ e. omega arith) ∙ bare.empty.1.1.0;
+    inbox_contents = unchanged (one.others.1.1.0 (λ e. omega arith) ∙ bare.empty.1.1.0) no_rows;
     outbox = one.others.1.1.1.0 (λ e. omega arith) ∙ bare.empty.1.1.1.0;
-    outbox_contents = one.others.1.1.1.1.0 (λ e. omega arith) ∙ bare.empty.1.1.1.1.0;
+    outbox_contents = unchanged (one.others.1.1.1.1.0 (λ e. omega arith) ∙ bare.empty.1.1.1.1.0) no_rows;
     evidence = one.others.1.1.1.1.1.0 (λ e. omega arith) ∙ bare.empty.1.1.1.1.1.0;
     waits = one.others.1.1.1.1.1.1.0 (λ e. omega arith) ∙ bare.empty.1.1.1.1.1.1.0;
   };

@@ -20,7 +20,8 @@ use Rattle.sqlite_sql.specs.declared.ops.CompareOp.TheVariants.{Ne}
 use Rattle.std.specs.Ordering.{is_ne}
 use Rattle.sqlite_value.proofs.OrderLemmas.{value_cmp-Int}
 use Rattle.sqlite_trees.proofs.ListLemmas.{all_weaker, filter_all}
-use Rattle.sql_tables.specs.Changes.{Changed, passes}
+use Rattle.sql_tables.specs.Changes.{Changed, HasRows, passes}
+use Rattle.sql_tables.proofs.Sorting.{unchanged}
 use Rattle.sql_tables.proofs.Changing.{updates}
 use Rattle.sql_tables.proofs.Deleting.{deletes}
 use Rattle.sql_tables.proofs.Queries.{numbers_equal}
@@ -37,11 +38,11 @@ use Rattle.as2_exchange.specs.declared.outbox.OutEntry.{OutEntry}
 use Rattle.as2_exchange.proofs.Lists.{map_kept}
 use Rattle.as2_rows.specs.Rows.{out_row, evidence_row, evidence_shown}
 use Rattle.as2_rows.specs.Codes.{detail_code}
-use Rattle.as2_rows.specs.Contents.{pieces}
+use Rattle.as2_rows.specs.Contents.{pieces, piece_shown}
 use Rattle.as2_rows.specs.Waiting.{Waiting, out_kind, out_waiting, waiting_out, waiting_in, to_send, to_answer, to_hear, to_end}
-use Rattle.as2_store.specs.Tables.{store_schema, outbox_table, outbox_tree, evidence_table, evidence_tree, waiting_table, waiting_tree}
+use Rattle.as2_store.specs.Tables.{store_schema, outbox_table, outbox_tree, outbox_piece_tree, evidence_table, evidence_tree, waiting_table, waiting_tree}
 use Rattle.as2_store.specs.Statements.{out_settle_text, evidence_put_text, document_take_text}
-use Rattle.as2_store.specs.Stands.{IsWhole, Stands, Rests, place, waiting_row, documents_waiting, waiting, evidence_rows, outbox_pieces, piece_rows}
+use Rattle.as2_store.specs.Stands.{IsWhole, Stands, Rests, place, waiting_row, documents_waiting, waiting, evidence_rows, outbox_pieces}
 use Rattle.as2_store.specs.Requeuing.{Holds}
 use Rattle.as2_store.specs.Settling.{settled_as, settled_in, of_document, without_document}
 use Rattle.as2_store.proofs.Committing.{Done}
@@ -337,10 +338,10 @@ stands_settled a b c d s n detail e x by it found unsettled one two three =
       meta = three.others.0 (λ e. omega arith) ∙ two.others.0 (λ e. omega arith) ∙ one.others.0 (λ e. omega arith) ∙ it.meta;
       entries = record {
         inbox = three.others.1.0 (λ e. omega arith) ∙ two.others.1.0 (λ e. omega arith) ∙ one.others.1.0 (λ e. omega arith) ∙ has.inbox;
-        inbox_contents = three.others.1.1.0 (λ e. omega arith) ∙ two.others.1.1.0 (λ e. omega arith) ∙ one.others.1.1.0 (λ e. omega arith) ∙ has.inbox_contents;
+        inbox_contents = unchanged (three.others.1.1.0 (λ e. omega arith) ∙ two.others.1.1.0 (λ e. omega arith) ∙ one.others.1.1.0 (λ e. omega arith)) has.inbox_contents;
         outbox = three.others.1.1.1.0 (λ e. omega arith) ∙ two.others.1.1.1.0 (λ e. omega arith) ∙ one.rows_are;
-        outbox_contents = three.others.1.1.1.1.0 (λ e. omega arith) ∙ two.others.1.1.1.1.0 (λ e. omega arith) ∙ one.others.1.1.1.1.0 (λ e. omega arith) ∙ has.outbox_contents
-            ∙ ap piece_rows (sym (same_pieces n detail e s.outbox));
+        outbox_contents = subst (λ ps. HasRows (d.now.trees outbox_piece_tree) (map piece_shown ps)) (sym (same_pieces n detail e s.outbox))
+            (unchanged (three.others.1.1.1.1.0 (λ e. omega arith) ∙ two.others.1.1.1.1.0 (λ e. omega arith) ∙ one.others.1.1.1.1.0 (λ e. omega arith)) has.outbox_contents);
         evidence = three.others.1.1.1.1.1.0 (λ e. omega arith) ∙ two.rows_are ∙ ap (put_row (evidence_row n e)) (one.others.1.1.1.1.1.0 (λ e. omega arith) ∙ has.evidence)
             ∙ put_among n detail e s.outbox rising x found (no_evidence_yet x.evidence unsettled);
         waits = three.rows_are ∙ ap (map waiting_row) (waits_left s n detail e by it.receipts.1.below);

@@ -6,52 +6,31 @@ use Rattle.std.proofs.lemmas.List.Elements.{filter-append}
 use Rattle.sqlite.specs.declared.types.Value.TheVariants.{Int}
 use Rattle.sqlite.specs.Order.{Row, value_cmp}
 use Rattle.sqlite.specs.Term.{lit}
-use Rattle.sqlite.specs.Tree.{rowid, IsTable}
+use Rattle.sqlite.specs.Tree.{IsAscending}
 use Rattle.sqlite.specs.Command.{Command}
 use Rattle.sqlite.specs.Command.TheVariants.{Select}
 use Rattle.sqlite.specs.Listing.{understood, reads_listing}
 use Rattle.sqlite.specs.State.{State as Connected, Shown}
 use Rattle.sqlite.proofs.Callers.{IsPlain, command_of, reads_as}
-use Rattle.sql_tables.specs.Changes.{over_table, passes, shown_of, chosen}
+use Rattle.sql_tables.specs.Changes.{HasRows, over_table}
 use Rattle.sql_tables.proofs.Inside.{shown_open}
-use Rattle.sql_tables.proofs.Queries.{by_number, in_order, numbers_equal}
+use Rattle.sql_tables.proofs.Queries.{by_column, numbers_equal}
+use Rattle.sql_tables.proofs.Sorting.{shows_sorted_entries}
 use Rattle.as2_exchange.specs.State.{State}
 use Rattle.as2_exchange.specs.declared.inbox.InEntry.{InEntry}
 use Rattle.as2_exchange.specs.declared.outbox.OutEntry.{OutEntry}
 use Rattle.as2_rows.specs.Rows.{whole}
 use Rattle.as2_rows.specs.Contents.{Piece, pieces, piece_of, piece_shown}
+use Rattle.as2_rows.proofs.Joining.{pieces_rise}
 use Rattle.as2_mic.specs.Pieces.{piece_count}
 use Rattle.as2_store.specs.Tables.{store_schema, inbox_piece_tree, outbox_piece_tree}
 use Rattle.as2_store.specs.Statements.{in_pieces_text, out_pieces_text}
-use Rattle.as2_store.specs.Stands.{Rests, numbered, piece_rows}
-use Rattle.as2_store.proofs.Rising.{rises}
+use Rattle.as2_store.specs.Stands.{Rests}
 use Rattle.as2_store.proofs.Showing.{and_true, found_all}
 use Rattle.as2_store.proofs.Texts.{piece_terms, piece_columns, in_pieces_is, in_pieces_plain, in_pieces_unlisted, out_pieces_is, out_pieces_plain, out_pieces_unlisted}
 
--- ---- the rows of a table
-
-above : (n m : ℕ) (rows : List Row) → n < m → AllByRecursion (λ r. value_cmp (Int (pos n)) (rowid r) ≡ Less) (numbered m rows)
-above n m [] less = tt
-above n m (r ∷ rows) less = (rises n m less, above n (m + 1) rows (omega arith))
-
-numbered_rise : (n : ℕ) (rows : List Row) → IsTable (numbered n rows)
-numbered_rise n [] = tt
-numbered_rise n (r ∷ rows) = (above n (n + 1) rows (omega arith), numbered_rise (n + 1) rows)
-
 abbrev pub number_params : ℕ → Row
 number_params n = Int (pos n) ∷ []
-
-shown_pieces : (k n : ℕ) (ps : List Piece) → map (shown_of piece_columns (number_params n)) (chosen piece_terms (number_params n) (numbered k (map piece_shown ps))) ≡ map piece_shown (filter (λ p. p.number == n) ps)
-shown_pieces k n [] = refl
-shown_pieces k n (p ∷ ps) = go (passes piece_terms (number_params n) (whole k ∷ piece_shown p)) (p.number == n) (ap (λ b. b && true) (numbers_equal p.number n) ∙ and_true _) (shown_pieces (k + 1) n ps)
-  where
-    go : (t u : Bool) → t ≡ u → map (shown_of piece_columns (number_params n)) (chosen piece_terms (number_params n) (numbered (k + 1) (map piece_shown ps))) ≡ map piece_shown (filter (λ p. p.number == n) ps)
-        → map (shown_of piece_columns (number_params n)) (cond t ((whole k ∷ piece_shown p) ∷ chosen piece_terms (number_params n) (numbered (k + 1) (map piece_shown ps))) (chosen piece_terms (number_params n) (numbered (k + 1) (map piece_shown ps))))
-        ≡ map piece_shown (cond u (p ∷ filter (λ p. p.number == n) ps) (filter (λ p. p.number == n) ps))
-    go true true same rest = ap (λ l. piece_shown p ∷ l) rest
-    go false false same rest = rest
-    go true false same rest = absurd cc
-    go false true same rest = absurd cc
 
 -- ---- the pieces of one entry
 
@@ -98,28 +77,29 @@ module _ {X : Type 0} (number : X → ℕ) (content : X → List ℕ) where
   gathered x e p xs false other is later =
       ap₂ (λ a b. a ++ b) (drops_other (number x) (number e) (content x) (range_with_len 0 (piece_count (content x))) (found_all number (λ m. (number x == m) ≡ false) p xs e other is)) (later is)
 
-  gathers : (p : X → Bool) (xs : List X) (e : X) → IsDistinct (λ a b. a == b) (map number xs) → find p xs ≡ Some e → own (number e) (all_pieces xs) ≡ pieces (number e) (content e)
+  pub gathers : (p : X → Bool) (xs : List X) (e : X) → IsDistinct (λ a b. a == b) (map number xs) → find p xs ≡ Some e → own (number e) (all_pieces xs) ≡ pieces (number e) (content e)
   unfolding IsDistinct
   gathers p [] e distinct found = absurd cc
   gathers p (x ∷ xs) e distinct found =
       filter-append (λ q. q.number == number e) (pieces (number x) (content x)) (all_pieces xs) ∙ gathered x e p xs (p x) distinct.0 found (gathers p xs e distinct.1)
 
 abbrev pieces_command : ℕ → Command
-pieces_command tree = Select (record { lets = []; body = over_table tree piece_terms piece_columns by_number (lit (Int (negsuc 0))) }) (codes "number" ∷ codes "position" ∷ codes "bytes" ∷ [])
+pieces_command tree = Select (record { lets = []; body = over_table tree piece_terms piece_columns (by_column 2) (lit (Int (negsuc 0))) }) (codes "number" ∷ codes "position" ∷ codes "bytes" ∷ [])
 
 -- a query of the pieces of the entry of a number
 module _ (sql : List ℕ) (tree : ℕ) (is : command_of (understood store_schema sql) ≡ pieces_command tree) (plain : IsPlain (understood store_schema sql)) (unlisted : reads_listing store_schema sql ≡ false)
     {X : Type 0} (number : X → ℕ) (content : X → List ℕ) where
-  finds_pieces : (old new : Connected) (n : ℕ) (rows : List Row) → Shown sql (number_params n) old new rows → old.now.schema ≡ store_schema → (xs : List X) → old.now.trees tree ≡ piece_rows (all_pieces number content xs)
-      → IsDistinct (λ a b. a == b) (map number xs) → (p : X → Bool) (e : X) → find p xs ≡ Some e → n ≡ number e → rows ≡ map piece_shown (pieces (number e) (content e))
+  finds_pieces : (old new : Connected) (n : ℕ) (rows : List Row) → Shown sql (number_params n) old new rows → old.now.schema ≡ store_schema → (xs : List X)
+      → HasRows (old.now.trees tree) (map piece_shown (all_pieces number content xs)) → IsDistinct (λ a b. a == b) (map number xs) → (p : X → Bool) (e : X) → find p xs ≡ Some e → n ≡ number e
+      → rows ≡ map piece_shown (pieces (number e) (content e))
   finds_pieces old new n rows h has xs are distinct p e found same =
       let ps = all_pieces number content xs in
       let read = reads_as sql (number_params n) old new store_schema has (pieces_command tree) is plain unlisted rows h in
-      in_order tree piece_terms piece_columns (lit (Int (negsuc 0))) old.now.trees (number_params n) rows (subst IsTable (sym are) (numbered_rise 1 (map piece_shown ps))) read.answer
-      ∙ ap (λ l. map (shown_of piece_columns (number_params n)) (chosen piece_terms (number_params n) l)) are
-      ∙ shown_pieces 1 n ps
-      ∙ ap (λ k. map piece_shown (filter (λ q. q.number == k) ps)) same
-      ∙ ap (map piece_shown) (gathers number content p xs e distinct found)
+      let own : filter (λ q. q.number == n) ps ≡ pieces (number e) (content e) = ap (λ k. filter (λ (q : Piece). q.number == k) ps) same ∙ gathers number content p xs e distinct found in
+      shows_sorted_entries tree piece_terms piece_columns 1 old.now.trees (number_params n) rows piece_shown (λ q. q.number == n) piece_shown
+      (λ _ q. ap (λ b. b && true) (numbers_equal q.number n) ∙ and_true _) (λ _ q. refl) ps are
+      (subst (IsAscending (λ (a b : Piece). value_cmp (whole a.position) (whole b.position) ≡ Less)) (sym own) (pieces_rise (number e) (content e))) read.answer
+      ∙ ap (map piece_shown) own
 
 pub finds_in_pieces : (old new : Connected) (n : ℕ) (rows : List Row) → Shown in_pieces_text (number_params n) old new rows → (s : State) → Rests old s → (p : InEntry → Bool) (e : InEntry) → find p s.inbox ≡ Some e → n ≡ e.number
     → rows ≡ map piece_shown (pieces e.number e.posted.content)

@@ -8,7 +8,8 @@ use Rattle.sqlite.specs.Order.{Row}
 use Rattle.sqlite.specs.Tree.{put_row}
 use Rattle.sqlite.specs.State.{State as Connected, HasCleanDisk}
 use Rattle.std.proofs.lemmas.List.Concat.{flat_map-append}
-use Rattle.sql_tables.specs.Changes.{Changed}
+use Rattle.sql_tables.specs.Changes.{Changed, HasRows}
+use Rattle.sql_tables.proofs.Sorting.{unchanged}
 use Rattle.as2_exchange.specs.State.{State, end_of_numbers}
 use Rattle.as2_exchange.specs.Invariants.{AreNumbers}
 use Rattle.as2_exchange.specs.declared.inbox.InEntry.{InEntry}
@@ -16,10 +17,10 @@ use Rattle.as2_exchange.specs.declared.outbox.OutEntry.{OutEntry}
 use Rattle.as2_exchange.proofs.Lists.{map_last, all_weaken}
 use Rattle.as2_exchange.proofs.WellFormed.{numbers_push}
 use Rattle.as2_rows.specs.Rows.{in_row, meta_row}
-use Rattle.as2_rows.specs.Contents.{pieces}
+use Rattle.as2_rows.specs.Contents.{pieces, piece_shown}
 use Rattle.as2_rows.specs.Waiting.{Waiting, in_waiting}
 use Rattle.as2_store.specs.Tables.{store_schema, meta_tree, inbox_tree, inbox_piece_tree, waiting_tree}
-use Rattle.as2_store.specs.Stands.{IsWhole, Stands, Rests, HasCounters, inbox_pieces, piece_rows}
+use Rattle.as2_store.specs.Stands.{IsWhole, Stands, Rests, HasCounters, inbox_pieces}
 use Rattle.as2_store.specs.Adding.{Appended, Noted, IsEntered, with_received, added}
 use Rattle.as2_store.proofs.Committing.{Done}
 use Rattle.as2_store.proofs.Rising.{puts_between}
@@ -61,9 +62,9 @@ entered a b c d s x it small one two three =
       entries = λ is. record {
         inbox = note.others.1.0 (λ e. omega arith) ∙ two.others.1.0 (λ e. omega arith) ∙ one.rows_are ∙ ap (put_row (in_row x)) (has.inbox ∙ ap (map in_row) (sym (append-nil s.inbox)))
             ∙ puts_between in_row (λ (q : InEntry). q.number) (λ _. refl) x s.inbox [] (below_all s it.receipts.1 x is) tt;
-        inbox_contents = note.others.1.1.0 (λ e. omega arith) ∙ two.pieces_are (inbox_pieces s.inbox) (one.others.1.1.0 (λ e. omega arith) ∙ has.inbox_contents) ∙ ap piece_rows (pieces_more s x);
+        inbox_contents = subst (λ ps. HasRows (d.now.trees inbox_piece_tree) (map piece_shown ps)) (pieces_more s x) (unchanged (note.others.1.1.0 (λ e. omega arith)) (two.pieces_are (inbox_pieces s.inbox) (unchanged (one.others.1.1.0 (λ e. omega arith)) has.inbox_contents)));
         outbox = note.others.1.1.1.0 (λ e. omega arith) ∙ two.others.1.1.1.0 (λ e. omega arith) ∙ one.others.1.1.1.0 (λ e. omega arith) ∙ has.outbox;
-        outbox_contents = note.others.1.1.1.1.0 (λ e. omega arith) ∙ two.others.1.1.1.1.0 (λ e. omega arith) ∙ one.others.1.1.1.1.0 (λ e. omega arith) ∙ has.outbox_contents;
+        outbox_contents = unchanged (note.others.1.1.1.1.0 (λ e. omega arith) ∙ two.others.1.1.1.1.0 (λ e. omega arith) ∙ one.others.1.1.1.1.0 (λ e. omega arith)) has.outbox_contents;
         evidence = note.others.1.1.1.1.1.0 (λ e. omega arith) ∙ two.others.1.1.1.1.1.0 (λ e. omega arith) ∙ one.others.1.1.1.1.1.0 (λ e. omega arith) ∙ has.evidence;
         waits = note.rows_are ∙ ap (noted_rows (in_waiting x)) (two.others.1.1.1.1.1.1.0 (λ e. omega arith) ∙ one.others.1.1.1.1.1.1.0 (λ e. omega arith) ∙ has.waits)
             ∙ noted s x it.receipts.1.below low is small;
@@ -80,9 +81,9 @@ stands_received a d e s x it is small mid four = record {
   meta = four.rows_are ∙ ap (λ n. meta_row (n + 1) s.next_out ∷ []) is;
   entries = record {
     inbox = four.others.1.0 (λ e. omega arith) ∙ (mid.entries is).inbox;
-    inbox_contents = four.others.1.1.0 (λ e. omega arith) ∙ (mid.entries is).inbox_contents;
+    inbox_contents = unchanged (four.others.1.1.0 (λ e. omega arith)) (mid.entries is).inbox_contents;
     outbox = four.others.1.1.1.0 (λ e. omega arith) ∙ (mid.entries is).outbox;
-    outbox_contents = four.others.1.1.1.1.0 (λ e. omega arith) ∙ (mid.entries is).outbox_contents;
+    outbox_contents = unchanged (four.others.1.1.1.1.0 (λ e. omega arith)) (mid.entries is).outbox_contents;
     evidence = four.others.1.1.1.1.1.0 (λ e. omega arith) ∙ (mid.entries is).evidence;
     waits = four.others.1.1.1.1.1.1.0 (λ e. omega arith) ∙ (mid.entries is).waits;
   };

@@ -22,3 +22,4 @@ mod Resetting
 mod Recalling
 mod Ending
 mod Unsettled
+pub mod Single

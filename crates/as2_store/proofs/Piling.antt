@@ -1,55 +1,36 @@
--- Pieces go in behind those that are there.
-use Rattle.std.proofs.Common.{◌≡◌, ◌≢◌, ℕ, ◌+◌, ◌*◌, ◌<◌, ◌≤◌, List, [], ◌∷◌, ◌++◌, map, length, fold, pos, Ok, Option, Some, None, Bool, true, false, nat_lt, cond, refl, sym, ap, ◌∙◌, arith, append-nil, append_assoc, zero, suc, ◌+ℤ◌}
+-- Pieces go in beside those that are there.
+use Rattle.std.proofs.Common.{◌≡◌, ◌≢◌, ℕ, ◌+◌, ◌*◌, ◌<◌, ◌≤◌, List, [], ◌∷◌, ◌++◌, map, length, Ok, Option, Some, None, Bool, true, false, nat_lt, cond, refl, sym, ap, subst, ◌∙◌, arith, append-nil, append_assoc, zero, suc}
 use Rattle.std.specs.List.{AllByRecursion, range_with_len}
-use Rattle.std.specs.Ordering.{match_ordering}
 use Rattle.std.proofs.lemmas.List.{map-append}
 use Rattle.std.proofs.lemmas.Bool.Decides.{nat_tests}
 use Rattle.std.proofs.lemmas.Grind.{div_ceil_times}
 use Rattle.sqlite.specs.declared.types.Value.TheVariants.{Null, Int}
 use Rattle.sqlite.specs.Order.{Row}
 use Rattle.sqlite.specs.Table.{Table}
-use Rattle.sqlite.specs.Tree.{Trees, rowid, put_row}
-use Rattle.sqlite.specs.Edit.{next_rowid, id_in}
+use Rattle.sqlite.specs.Tree.{Trees, put_row}
+use Rattle.sqlite.specs.Edit.{next_rowid}
 use Rattle.sqlite.specs.State.{State as Connected, Executes}
+use Rattle.sql_tables.specs.Changes.{HasRows}
+use Rattle.sql_tables.proofs.Sorting.{unchanged, one_more_row}
 use Rattle.sql_tables.proofs.Writes.{cast_int, cast_null, IsOneRow, inserts_chosen}
 use Rattle.as2_mic.specs.Pieces.{piece_size, piece_at}
 use Rattle.as2_rows.specs.Contents.{Piece, piece_bytes, piece_of, pieces, piece_shown}
-use Rattle.as2_rows.specs.Rows.{whole}
 use Rattle.as2_store.specs.Tables.{store_schema, inbox_piece_table, inbox_piece_tree}
 use Rattle.as2_store.specs.Statements.{in_piece_put_text}
-use Rattle.as2_store.specs.Stands.{numbered, piece_rows}
 use Rattle.as2_store.specs.Adding.{Appended}
-use Rattle.as2_store.proofs.Rising.{rises}
 use Rattle.as2_store.proofs.Texts.{in_piece_put_terms, in_piece_put_is, in_piece_put_plain}
 
--- ---- the number that is chosen for a row is the next one
+-- ---- one more
 
-next_is : (n : ℕ) (rows : List Row) → fold (λ _ r. id_in (rowid r) +ℤ pos 1) (pos n) (numbered n rows) ≡ pos (n + length rows)
-next_is n [] = ap pos (omega arith)
-next_is n (r ∷ rows) = next_is (n + 1) rows ∙ ap pos (omega arith)
-
-puts_end : (n : ℕ) (r : Row) (rows : List Row) → put_row (whole (n + length rows) ∷ r) (numbered n rows) ≡ numbered n (rows ++ r ∷ [])
-puts_end n r [] = ap (λ k. (whole k ∷ r) ∷ []) (omega arith)
-puts_end n r (q ∷ rows) =
-    let new = whole (n + length (q ∷ rows)) ∷ r in
-    ap (λ o. match_ordering o ((whole n ∷ q) ∷ put_row new (numbered (n + 1) rows)) (new ∷ numbered (n + 1) rows) (new ∷ (whole n ∷ q) ∷ numbered (n + 1) rows)) (rises n (n + length (q ∷ rows)) (omega arith))
-    ∙ ap (λ k. (whole n ∷ q) ∷ put_row (whole k ∷ r) (numbered (n + 1) rows)) (omega arith)
-    ∙ ap (λ l. (whole n ∷ q) ∷ l) (puts_end (n + 1) r rows)
-
-pub puts_piece : (p : Piece) (before : List Piece) (rows : List Row) → rows ≡ piece_rows before → put_row (Int (next_rowid rows) ∷ piece_shown p) rows ≡ piece_rows (before ++ p ∷ [])
-puts_piece p before rows are =
-    let shown = map piece_shown before in
-    ap (λ l. put_row (Int (next_rowid l) ∷ piece_shown p) l) are
-    ∙ ap (λ k. put_row (Int k ∷ piece_shown p) (numbered 1 shown)) (next_is 1 shown)
-    ∙ puts_end 1 (piece_shown p) shown
-    ∙ ap (numbered 1) (sym (map-append piece_shown before (p ∷ [])))
+puts_piece : (p : Piece) (before : List Piece) (rows : List Row) → HasRows rows (map piece_shown before) → HasRows (put_row (Int (next_rowid rows) ∷ piece_shown p) rows) (map piece_shown (before ++ p ∷ []))
+puts_piece p before rows has = subst (HasRows (put_row (Int (next_rowid rows) ∷ piece_shown p) rows)) (sym (map-append piece_shown before (p ∷ []))) (one_more_row rows (map piece_shown before) (piece_shown p) has)
 
 -- ---- one after another
 
 pub appended_none : (a : Connected) (tree : ℕ) → a.now.schema ≡ store_schema → Appended a a tree []
 appended_none a tree has = record {
   schema_is = has;
-  pieces_are = λ before are. are ∙ ap piece_rows (sym (append-nil before));
+  pieces_are = λ before are. subst (λ ps. HasRows (a.now.trees tree) (map piece_shown ps)) (sym (append-nil before)) are;
   others = (λ _. refl, (λ _. refl, (λ _. refl, (λ _. refl, (λ _. refl, (λ _. refl, (λ _. refl, tt)))))));
 }
 
@@ -61,7 +42,7 @@ others_then a b c tree (t ∷ tables) one two = (λ other. two.0 other ∙ one.0
 pub appended_then : (a b c : Connected) (tree : ℕ) (ps qs : List Piece) → Appended a b tree ps → Appended b c tree qs → Appended a c tree (ps ++ qs)
 appended_then a b c tree ps qs one two = record {
   schema_is = two.schema_is;
-  pieces_are = λ before are. two.pieces_are (before ++ ps) (one.pieces_are before are) ∙ ap piece_rows (append_assoc before ps qs);
+  pieces_are = λ before are. subst (λ all. HasRows (c.now.trees tree) (map piece_shown all)) (append_assoc before ps qs) (two.pieces_are (before ++ ps) (one.pieces_are before are));
   others = others_then a.now.trees b.now.trees c.now.trees tree store_schema.tables one.others two.others;
 }
 
@@ -75,7 +56,7 @@ puts_in_piece old new p count has h =
     let it = inserts_chosen in_piece_put_text (piece_shown p) old new store_schema has 2 inbox_piece_table refl refl in_piece_put_terms 4 (Null ∷ piece_shown p) (one_piece p) (piece_shown p) refl in_piece_put_is in_piece_put_plain count h in
     record {
       schema_is = it.schema_is;
-      pieces_are = λ before are. it.rows_are ∙ puts_piece p before (old.now.trees inbox_piece_tree) are;
+      pieces_are = λ before are. unchanged it.rows_are (puts_piece p before (old.now.trees inbox_piece_tree) are);
       others = it.others;
     }
 

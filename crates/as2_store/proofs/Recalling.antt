@@ -37,19 +37,19 @@ finds_id value old new rows h s r =
 
 -- ---- the evidence
 
-abbrev receipt_in : OutEntry → Option EvidenceRow
+abbrev pub receipt_in : OutEntry → Option EvidenceRow
 receipt_in d = option_map (evidence_of d.number) d.evidence
 
-abbrev receipts : List OutEntry → List EvidenceRow
+abbrev pub receipts : List OutEntry → List EvidenceRow
 receipts ds = filter_map receipt_in ds
 
-abbrev row_of : EvidenceRow → Row
+abbrev pub row_of : EvidenceRow → Row
 row_of r = evidence_row r.number r.evidence
 
 abbrev shown_of_row : EvidenceRow → Row
 shown_of_row r = evidence_shown r.number r.evidence
 
-rows_of : (ds : List OutEntry) → evidence_rows ds ≡ map row_of (receipts ds)
+pub rows_of : (ds : List OutEntry) → evidence_rows ds ≡ map row_of (receipts ds)
 rows_of [] = refl
 rows_of (d ∷ ds) = go d.evidence (rows_of ds)
   where
@@ -64,7 +64,7 @@ kept d = go d.evidence
     go None = tt
     go (Some e) = refl
 
-abbrev of_number : ℕ → List EvidenceRow → List EvidenceRow
+abbrev pub of_number : ℕ → List EvidenceRow → List EvidenceRow
 of_number n rs = filter (λ r. r.number == n) rs
 
 other_first : (m n : ℕ) (o : Option Evidence) (rest : List EvidenceRow) → (m == n) ≡ false → of_number n (cons_option (option_map (evidence_of m) o) rest) ≡ of_number n rest
@@ -82,7 +82,7 @@ of_others : (n : ℕ) (ds : List OutEntry) → AllByRecursion (λ m. (n == m) �
 of_others n [] other = refl
 of_others n (d ∷ ds) other = other_first d.number n d.evidence (receipts ds) (turned d.number n other.0) ∙ of_others n ds other.1
 
-own_receipt : (p : OutEntry → Bool) (ds : List OutEntry) (d : OutEntry) → IsDistinct (λ a b. a == b) (map (λ (x : OutEntry). x.number) ds) → find p ds ≡ Some d → of_number d.number (receipts ds) ≡ cons_option (receipt_in d) []
+pub own_receipt : (p : OutEntry → Bool) (ds : List OutEntry) (d : OutEntry) → IsDistinct (λ a b. a == b) (map (λ (x : OutEntry). x.number) ds) → find p ds ≡ Some d → of_number d.number (receipts ds) ≡ cons_option (receipt_in d) []
 unfolding IsDistinct
 own_receipt p [] d distinct found = absurd cc
 own_receipt p (x ∷ ds) d distinct found = go (p x) found (own_receipt p ds d distinct.1)

@@ -10,7 +10,8 @@ use Rattle.sqlite.specs.Effect.{Database}
 use Rattle.sqlite.specs.Tree.{put_row, IsTable}
 use Rattle.sqlite.specs.State.{State as Connected, HasCleanDisk, Executes}
 use Rattle.sqlite_trees.proofs.ListLemmas.{filter_same, all-map, all_from_map}
-use Rattle.sql_tables.specs.Changes.{Changed, passes}
+use Rattle.sql_tables.specs.Changes.{Changed, HasRows, passes}
+use Rattle.sql_tables.proofs.Sorting.{unchanged}
 use Rattle.sql_tables.proofs.Changing.{updates}
 use Rattle.sql_tables.proofs.Queries.{numbers_equal}
 use Rattle.sql_tables.proofs.Writes.{cast_int, cast_null}
@@ -20,11 +21,11 @@ use Rattle.as2_exchange.specs.declared.inbox.InEntry.{InEntry}
 use Rattle.as2_exchange.specs.declared.outbox.OutEntry.{OutEntry}
 use Rattle.as2_exchange.proofs.Lists.{all_weaken, map_kept}
 use Rattle.as2_rows.specs.Rows.{in_row}
-use Rattle.as2_rows.specs.Contents.{pieces}
+use Rattle.as2_rows.specs.Contents.{pieces, piece_shown}
 use Rattle.as2_rows.specs.Waiting.{Waiting, in_waiting, waiting_in, to_send, to_answer, to_hear, to_end}
-use Rattle.as2_store.specs.Tables.{store_schema, inbox_table, inbox_tree}
+use Rattle.as2_store.specs.Tables.{store_schema, inbox_table, inbox_tree, inbox_piece_tree}
 use Rattle.as2_store.specs.Statements.{in_requeue_text}
-use Rattle.as2_store.specs.Stands.{IsWhole, Stands, place, waiting_row, documents_waiting, waiting, inbox_pieces, piece_rows}
+use Rattle.as2_store.specs.Stands.{IsWhole, Stands, place, waiting_row, documents_waiting, waiting, inbox_pieces}
 use Rattle.as2_store.specs.Requeuing.{requeued, requeued_in, not_at, Holds, Renewed}
 use Rattle.as2_store.proofs.Rising.{numbers_rise, entries_rise}
 use Rattle.as2_store.proofs.Placing.{IsLast, documents_of, ins_small, last_of}
@@ -150,9 +151,9 @@ stands_requeued a b c s n w m within it some one two =
       meta = two.others.0 (λ e. omega arith) ∙ one.others.0 (λ e. omega arith) ∙ it.meta;
       entries = record {
         inbox = two.others.1.0 (λ e. omega arith) ∙ one.rows_are;
-        inbox_contents = two.others.1.1.0 (λ e. omega arith) ∙ one.others.1.1.0 (λ e. omega arith) ∙ has.inbox_contents ∙ ap piece_rows (sym (same_pieces n m s.inbox));
+        inbox_contents = subst (λ ps. HasRows (c.now.trees inbox_piece_tree) (map piece_shown ps)) (sym (same_pieces n m s.inbox)) (unchanged (two.others.1.1.0 (λ e. omega arith) ∙ one.others.1.1.0 (λ e. omega arith)) has.inbox_contents);
         outbox = two.others.1.1.1.0 (λ e. omega arith) ∙ one.others.1.1.1.0 (λ e. omega arith) ∙ has.outbox;
-        outbox_contents = two.others.1.1.1.1.0 (λ e. omega arith) ∙ one.others.1.1.1.1.0 (λ e. omega arith) ∙ has.outbox_contents;
+        outbox_contents = unchanged (two.others.1.1.1.1.0 (λ e. omega arith) ∙ one.others.1.1.1.1.0 (λ e. omega arith)) has.outbox_contents;
         evidence = two.others.1.1.1.1.1.0 (λ e. omega arith) ∙ one.others.1.1.1.1.1.0 (λ e. omega arith) ∙ has.evidence;
         waits = two.rows_are ∙ ap (λ k. put_row (waiting_row (to_send_from k m)) (map waiting_row (not_at (place (to_send_from k m)) (waiting s)))) (within small) ∙ waits_anew s n m small outs found;
       };
@@ -177,9 +178,9 @@ stands_unnumbered a b s n m it none one =
       meta = one.others.0 (λ e. omega arith) ∙ it.meta;
       entries = record {
         inbox = one.rows_are ∙ ap (λ (t : State). map in_row t.inbox) same;
-        inbox_contents = one.others.1.1.0 (λ e. omega arith) ∙ has.inbox_contents;
+        inbox_contents = unchanged (one.others.1.1.0 (λ e. omega arith)) has.inbox_contents;
         outbox = one.others.1.1.1.0 (λ e. omega arith) ∙ has.outbox;
-        outbox_contents = one.others.1.1.1.1.0 (λ e. omega arith) ∙ has.outbox_contents;
+        outbox_contents = unchanged (one.others.1.1.1.1.0 (λ e. omega arith)) has.outbox_contents;
         evidence = one.others.1.1.1.1.1.0 (λ e. omega arith) ∙ has.evidence;
         waits = one.others.1.1.1.1.1.1.0 (λ e. omega arith) ∙ has.waits;
       };

@@ -15,7 +15,7 @@ use Rattle.sqlite_sql.specs.declared.ops.BinaryOp.TheVariants.{Compare}
 use Rattle.sqlite_sql.specs.declared.ops.CompareOp.TheVariants.{Eq, Ne}
 use Rattle.sqlite_tied.specs.Compute.{everything}
 use Rattle.sql_tables.specs.Changes.{over_table}
-use Rattle.sql_tables.proofs.Queries.{by_number}
+use Rattle.sql_tables.proofs.Queries.{by_number, by_column}
 use Rattle.sql_tables.proofs.Changing.{update_program}
 use Rattle.sql_tables.proofs.Deleting.{delete_program}
 use Rattle.as2_store.specs.Tables.{no_schema, store_schema, meta_table, meta_tree, inbox_tree, inbox_piece_tree, outbox_tree, outbox_piece_tree, evidence_tree, waiting_tree}
@@ -153,7 +153,7 @@ abbrev pub piece_columns : List Term
 piece_columns = col 1 1 ∷ col 1 2 ∷ col 1 3 ∷ []
 
 pub in_pieces_is : command_of (understood store_schema in_pieces_text)
-    ≡ Select (record { lets = []; body = over_table inbox_piece_tree piece_terms piece_columns by_number (lit (Int (negsuc 0))) }) (codes "number" ∷ codes "position" ∷ codes "bytes" ∷ [])
+    ≡ Select (record { lets = []; body = over_table inbox_piece_tree piece_terms piece_columns (by_column 2) (lit (Int (negsuc 0))) }) (codes "number" ∷ codes "position" ∷ codes "bytes" ∷ [])
 unfolding understood everything
 in_pieces_is = refl
 
@@ -203,7 +203,7 @@ unfolding understood everything
 out_by_id_unlisted = refl
 
 pub out_pieces_is : command_of (understood store_schema out_pieces_text)
-    ≡ Select (record { lets = []; body = over_table outbox_piece_tree piece_terms piece_columns by_number (lit (Int (negsuc 0))) }) (codes "number" ∷ codes "position" ∷ codes "bytes" ∷ [])
+    ≡ Select (record { lets = []; body = over_table outbox_piece_tree piece_terms piece_columns (by_column 2) (lit (Int (negsuc 0))) }) (codes "number" ∷ codes "position" ∷ codes "bytes" ∷ [])
 unfolding understood everything
 out_pieces_is = refl
 

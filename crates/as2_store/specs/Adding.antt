@@ -1,15 +1,15 @@
 -- An entry more, and what the statements that add it leave.
-use Rattle.std.specs.Prelude.{if◌then◌else◌, ◌==◌, ◌≡◌, ◌≢◌, ℕ, ◌+◌, ◌<◌, ◌^◌, List, [], ◌∷◌, ◌++◌, length, Option, Some, None, IfSome}
+use Rattle.std.specs.Prelude.{if◌then◌else◌, ◌==◌, ◌≡◌, ◌≢◌, ℕ, ◌+◌, ◌<◌, ◌^◌, List, [], ◌∷◌, ◌++◌, length, map, Option, Some, None, IfSome}
 use Rattle.std.specs.List.{AllByRecursion}
 use Rattle.sqlite.specs.Tree.{put_row}
 use Rattle.sqlite.specs.State.{State as Connected}
-use Rattle.sql_tables.specs.Changes.{Changed}
+use Rattle.sql_tables.specs.Changes.{Changed, HasRows}
 use Rattle.as2_exchange.specs.State.{State}
 use Rattle.as2_exchange.specs.declared.inbox.InEntry.{InEntry}
-use Rattle.as2_rows.specs.Contents.{Piece}
+use Rattle.as2_rows.specs.Contents.{Piece, piece_shown}
 use Rattle.as2_rows.specs.Waiting.{Waiting}
 use Rattle.as2_store.specs.Tables.{store_schema, waiting_tree}
-use Rattle.as2_store.specs.Stands.{HasCounters, HasEntries, piece_rows, waiting_row}
+use Rattle.as2_store.specs.Stands.{HasCounters, HasEntries, waiting_row}
 use Rattle.sqlite.specs.Effect.{Database}
 
 -- the state with an entry more in its inbox, under the next number
@@ -26,10 +26,10 @@ pub record Fits (e : InEntry) : Type 0 where
   pub tries : e.tries < 2 ^ 63
   pub due : IfSome e.due (λ due. due < 2 ^ 63)
 
--- pieces were put into a table behind those that were there, and the other tables are as they were
+-- pieces were put into a table beside those that were there, and the other tables are as they were
 pub record Appended (old new : Connected) (tree : ℕ) (ps : List Piece) : Type 0 where
   pub schema_is : new.now.schema ≡ store_schema
-  pub pieces_are : (before : List Piece) → old.now.trees tree ≡ piece_rows before → new.now.trees tree ≡ piece_rows (before ++ ps)
+  pub pieces_are : (before : List Piece) → HasRows (old.now.trees tree) (map piece_shown before) → HasRows (new.now.trees tree) (map piece_shown (before ++ ps))
   pub others : AllByRecursion (λ t. t.tree ≢ tree → new.now.trees t.tree ≡ old.now.trees t.tree) store_schema.tables
 
 -- a row was put in for what waits, if something does

@@ -8,6 +8,7 @@ use Rattle.sqlite.specs.Schema.{Schema}
 use Rattle.sqlite.specs.Table.{Table}
 use Rattle.sqlite_schema.specs.declared.schema.Index.{Index}
 use Rattle.sqlite.specs.State.{State as Connected}
+use Rattle.sql_tables.specs.Changes.{HasRows}
 use Rattle.as2_exchange.specs.State.{State, end_of_numbers}
 use Rattle.as2_exchange.specs.declared.inbox.InEntry.{InEntry}
 use Rattle.as2_exchange.specs.declared.outbox.OutEntry.{OutEntry}
@@ -21,15 +22,8 @@ use Rattle.as2_store.specs.Tables.{no_schema, store_schema, meta_table, meta_tre
 
 -- ---- contents
 
--- rows under numbers of their own, from this one on
-abbrev pub numbered : ℕ → List Row → List Row
-numbered n [] = []
-numbered n (r ∷ rows) = (whole n ∷ r) ∷ numbered (n + 1) rows
-
--- the pieces as they are stored: in the order in which they came, which is that of the entries
-abbrev pub piece_rows : List Piece → List Row
-piece_rows ps = numbered 1 (map piece_shown ps)
-
+-- the pieces of a content are its rows by number and position - 0 upwards, 65,536 bytes each but the last, and nothing
+-- else - in whatever order they were put in
 abbrev pub inbox_pieces : List InEntry → List Piece
 inbox_pieces inbox = flat_map (λ e. pieces e.number e.posted.content) inbox
 
@@ -69,9 +63,9 @@ pub record HasCounters (d : Database) (next_in next_out : ℕ) : Type 0 where
 -- beside `meta`, the tables hold exactly the entries of this state
 pub record HasEntries (d : Database) (s : State) : Type 0 where
   pub inbox : d.trees inbox_tree ≡ map in_row s.inbox
-  pub inbox_contents : d.trees inbox_piece_tree ≡ piece_rows (inbox_pieces s.inbox)
+  pub inbox_contents : HasRows (d.trees inbox_piece_tree) (map piece_shown (inbox_pieces s.inbox))
   pub outbox : d.trees outbox_tree ≡ map out_row s.outbox
-  pub outbox_contents : d.trees outbox_piece_tree ≡ piece_rows (outbox_pieces s.outbox)
+  pub outbox_contents : HasRows (d.trees outbox_piece_tree) (map piece_shown (outbox_pieces s.outbox))
   pub evidence : d.trees evidence_tree ≡ evidence_rows s.outbox
   pub waits : d.trees waiting_tree ≡ map waiting_row (waiting s)
 
@@ -80,7 +74,7 @@ unfoldable pub IsWhole : Database → Type 0
 IsWhole d = IsDatabase d
 
 -- the tables stand for this state: they are those of a store and no others, `meta` has the counters, and the counters are
--- above all numbers
+-- above all numbers; they stand for no other state (`one_state` of proofs/Single)
 pub record Stands (d : Database) (s : State) : Type 0 where
   pub sound : IsWhole d
   pub schema : d.schema ≡ store_schema

@@ -30,7 +30,7 @@ abbrev pub in_all_text : List ℕ
 in_all_text = codes "SELECT number, sender, receiver, identifier_value, identifier, content_type, length, moment, outcome, how, url, digest, mic, mdn, tries, attempt, due FROM inbox ORDER BY number"
 
 abbrev pub in_pieces_text : List ℕ
-in_pieces_text = codes "SELECT number, position, bytes FROM inbox_piece WHERE number = ?1 ORDER BY rowid"
+in_pieces_text = codes "SELECT number, position, bytes FROM inbox_piece WHERE number = ?1 ORDER BY position"
 
 abbrev pub in_requeue_text : List ℕ
 in_requeue_text = codes "UPDATE inbox SET mdn = 2, tries = 0, attempt = 1, due = ?2 WHERE number = ?1"
@@ -41,7 +41,7 @@ abbrev pub out_by_id_text : List ℕ
 out_by_id_text = codes "SELECT number, organization, partner, identifier_value, identifier, length, moment, tries, attempt, due, detail FROM outbox WHERE identifier_value = ?1 ORDER BY number"
 
 abbrev pub out_pieces_text : List ℕ
-out_pieces_text = codes "SELECT number, position, bytes FROM outbox_piece WHERE number = ?1 ORDER BY rowid"
+out_pieces_text = codes "SELECT number, position, bytes FROM outbox_piece WHERE number = ?1 ORDER BY position"
 
 abbrev pub evidence_by_number_text : List ℕ
 evidence_by_number_text = codes "SELECT number, moment, content_type, body FROM evidence WHERE number = ?1 ORDER BY number"

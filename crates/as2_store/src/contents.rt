@@ -72,7 +72,7 @@ pub fn in_piece_rows<S: Alter>(conn: &mut Connection<S>, number: u64) -> Result<
     let number = whole(number);
     query_all(
         conn,
-        "SELECT number, position, bytes FROM inbox_piece WHERE number = ?1 ORDER BY rowid",
+        "SELECT number, position, bytes FROM inbox_piece WHERE number = ?1 ORDER BY position",
         params![number],
     )
 }
@@ -88,7 +88,7 @@ pub fn out_piece_rows<S: Alter>(conn: &mut Connection<S>, number: u64) -> Result
     let number = whole(number);
     query_all(
         conn,
-        "SELECT number, position, bytes FROM outbox_piece WHERE number = ?1 ORDER BY rowid",
+        "SELECT number, position, bytes FROM outbox_piece WHERE number = ?1 ORDER BY position",
         params![number],
     )
 }

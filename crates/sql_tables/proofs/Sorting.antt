@@ -1,6 +1,7 @@
 -- Tables whose rows stand in any order, and what a query in the order of a column shows of them.
-use Rattle.std.proofs.Common.{◌≡◌, ℕ, suc, ℤ, pos, negsuc, ◌+ℤ◌, ◌<ℤ◌, List, [], ◌∷◌, ◌++◌, map, filter, fold, Bool, refl, sym, ap, subst, ◌∙◌, arith, Less, Equal, IsPermutation}
-use Rattle.std.specs.Ordering.{match_ordering, ordering_then}
+use Rattle.std.proofs.Common.{◌≡◌, ℕ, zero, suc, ℤ, pos, negsuc, ◌+ℤ◌, ◌<ℤ◌, List, [], ◌∷◌, ◌++◌, map, drop, filter, fold, Bool, refl, sym, ap, subst, ◌∙◌, arith, add-one, Ordering, Less, Equal, is_lt, IsPermutation, IsSorted}
+use Rattle.std.specs.Cmp.{IsTotalOrder}
+use Rattle.std.specs.Ordering.{match_ordering, ordering_then, ordering_reverse}
 use Rattle.std.proofs.lemmas.List.{map-append}
 use Rattle.std.proofs.lemmas.List.Sorted.{IsPermutation-refl, IsPermutation-sym, IsPermutation-trans, IsPermutation-map, IsPermutation-append_left}
 use Rattle.std.proofs.lemmas.Int.{ints}
@@ -77,6 +78,28 @@ one_more_row rows shown c h =
       rise = IsTable-put_row (Int (next_rowid rows) ∷ c) rows h.rise;
       columns = subst (λ l. IsPermutation l (shown ++ c ∷ [])) (sym (map-append (λ (r : ℤ × Row). r.1) rs ((next, c) ∷ []))) (IsPermutation-append_left (c ∷ []) _ shown h.columns);
     }
+
+-- the rows behind their numbers
+behind : {rows shown : List Row} (h : HasRows rows shown) → map (λ (r : ℤ × Row). r.1) h.numbered ≡ map (drop 1) rows
+behind h = sym (ap (map (drop 1)) h.rows_are ∙ map-map (drop 1) numbered_row h.numbered)
+
+-- a table has the same rows, in some order, whoever says what it has
+pub same_rows : (rows one other : List Row) → HasRows rows one → HasRows rows other → IsPermutation one other
+same_rows rows one other h k =
+    IsPermutation-trans one _ other (IsPermutation-sym _ one h.columns) (subst (λ l. IsPermutation l other) (behind k ∙ sym (behind h)) k.columns)
+
+-- ---- one order
+
+module _ {X : Type 0} (cmp : X → X → Ordering) (total : IsTotalOrder cmp) where
+  sorted : (xs : List X) → IsAscending (λ a b. cmp a b ≡ Less) xs → IsSorted cmp xs
+  sorted [] up k d low high = absurd (omega arith)
+  sorted (x ∷ []) up k d low high = absurd (omega arith)
+  sorted (x ∷ y ∷ xs) up zero d low high = ap is_lt (total.antisymm y x ∙ ap ordering_reverse up.0.0)
+  sorted (x ∷ y ∷ xs) up (suc k) d low high = rw add-one (rw add-one at (sorted (y ∷ xs) up.1 k d (omega arith) (omega arith)))
+
+  -- of the orders of a list one rises
+  pub one_order : (xs ys : List X) → IsAscending (λ a b. cmp a b ≡ Less) xs → IsAscending (λ a b. cmp a b ≡ Less) ys → IsPermutation xs ys → xs ≡ ys
+  one_order xs ys up rise same = sym (sorted_unique cmp total xs ys up same (sorted ys rise))
 
 -- ---- what a query shows
 
