@@ -22,8 +22,8 @@ use Rattle.sql_tables.proofs.Creating.{makes_table}
 use Rattle.sql_tables.proofs.Indexing.{makes_index}
 use Rattle.as2_exchange.specs.State.{empty, end_of_numbers}
 use Rattle.as2_rows.specs.Rows.{meta_row}
-use Rattle.as2_store.specs.Tables.{meta_text, inbox_text, inbox_piece_text, outbox_text, outbox_piece_text, evidence_text, waiting_text, waiting_due_text, meta_made, inbox_made, inbox_piece_made, outbox_made, outbox_piece_made, evidence_made, waiting_made, waiting_table, waiting_due_made, no_schema, inbox_schema, outbox_schema, store_schema, meta_table, meta_tree}
-use Rattle.as2_store.specs.Statements.{meta_put_text}
+use Rattle.as2_store.specs.Tables.{meta_made, inbox_made, inbox_piece_made, outbox_made, outbox_piece_made, evidence_made, waiting_made, waiting_table, waiting_due_made, no_schema, inbox_schema, outbox_schema, store_schema, meta_table, meta_tree}
+use Rattle.as2_store.proofs.Statements.{meta_text, inbox_text, inbox_piece_text, outbox_text, outbox_piece_text, evidence_text, waiting_text, waiting_due_text, meta_put_text}
 use Rattle.as2_store.specs.Stands.{IsWhole, Stands, IsBare, IsBlank}
 use Rattle.as2_store.specs.Calls.{IsInside, Keeps, CommitsFirst, Creates}
 use Rattle.as2_store.proofs.Resting.{rests_committed}

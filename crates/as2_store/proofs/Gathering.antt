@@ -1,5 +1,5 @@
 -- The pieces of one entry, found among those of all.
-use Rattle.std.proofs.Common.{◌≡◌, ℕ, ◌+◌, ◌<◌, ◌==◌, List, [], ◌∷◌, ◌++◌, map, Some, Bool, true, false, ◌&&◌, cond, refl, sym, ap, ap₂, subst, ◌∙◌, pos, negsuc, codes, Less, arith, append-nil}
+use Rattle.std.proofs.Common.{◌≡◌, ℕ, ◌==◌, List, [], ◌∷◌, ◌++◌, map, Some, Bool, true, false, ◌&&◌, cond, refl, sym, ap, ap₂, subst, ◌∙◌, pos, negsuc, codes, Less, arith, append-nil}
 use Rattle.std.specs.List.{AllByRecursion, IsDistinct, filter, find, flat_map, range_with_len}
 use Rattle.std.proofs.lemmas.Bool.Decides.{nat_tests}
 use Rattle.std.proofs.lemmas.List.Elements.{filter-append}
@@ -24,7 +24,7 @@ use Rattle.as2_rows.specs.Contents.{Piece, pieces, piece_of, piece_shown}
 use Rattle.as2_rows.proofs.Joining.{pieces_rise}
 use Rattle.as2_mic.specs.Pieces.{piece_count}
 use Rattle.as2_store.specs.Tables.{store_schema, inbox_piece_tree, outbox_piece_tree}
-use Rattle.as2_store.specs.Statements.{in_pieces_text, out_pieces_text}
+use Rattle.as2_store.proofs.Statements.{in_pieces_text, out_pieces_text}
 use Rattle.as2_store.specs.Stands.{Rests}
 use Rattle.as2_store.proofs.Showing.{and_true, found_all}
 use Rattle.as2_store.proofs.Texts.{piece_terms, piece_columns, in_pieces_is, in_pieces_plain, in_pieces_unlisted, out_pieces_is, out_pieces_plain, out_pieces_unlisted}

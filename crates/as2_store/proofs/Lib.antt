@@ -1,4 +1,5 @@
 mod Making
+mod Statements
 mod Texts
 mod Quiet
 mod Resting
@@ -6,7 +7,6 @@ mod Committing
 mod Querying
 mod Handing
 mod Beginning
-mod Answering
 mod MetaRow
 mod Rising
 mod Piling
@@ -22,4 +22,4 @@ mod Resetting
 mod Recalling
 mod Ending
 mod Unsettled
-pub mod Single
+mod Single

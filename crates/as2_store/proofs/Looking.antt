@@ -24,7 +24,7 @@ use Rattle.as2_exchange.specs.declared.inbox.InEntry.{InEntry}
 use Rattle.as2_names.specs.Identifiers.{value_of}
 use Rattle.as2_rows.specs.Rows.{in_row, in_shown}
 use Rattle.as2_store.specs.Tables.{store_schema, inbox_tree}
-use Rattle.as2_store.specs.Statements.{in_by_key_text, in_by_number_text, in_all_text}
+use Rattle.as2_store.proofs.Statements.{in_by_key_text, in_by_number_text, in_all_text}
 use Rattle.as2_store.specs.Stands.{Rests}
 use Rattle.as2_store.specs.Finding.{has_key}
 use Rattle.as2_store.proofs.Rising.{entries_rise}

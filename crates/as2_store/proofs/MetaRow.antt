@@ -29,7 +29,7 @@ use Rattle.sql_tables.proofs.Failing.{Takes, fails_outside}
 use Rattle.as2_exchange.specs.State.{State}
 use Rattle.as2_rows.specs.Rows.{whole, meta_row, meta_shown}
 use Rattle.as2_store.specs.Tables.{store_schema, meta_tree, meta_table, inbox_table, inbox_piece_table, outbox_table, outbox_piece_table, evidence_table, waiting_table}
-use Rattle.as2_store.specs.Statements.{meta_read_text, receipt_text}
+use Rattle.as2_store.proofs.Statements.{meta_read_text, receipt_text}
 use Rattle.as2_store.specs.Stands.{Stands, Rests, Says, HasCounters}
 use Rattle.as2_store.proofs.Quiet.{quiet}
 use Rattle.as2_store.proofs.Texts.{meta_command, meta_columns, with_meta_first, meta_read_is, meta_read_plain, meta_read_unlisted, receipt_terms, receipt_project, receipt_is, receipt_plain}

@@ -22,7 +22,7 @@ use Rattle.as2_exchange.specs.declared.outbox.OutEntry.{OutEntry}
 use Rattle.as2_rows.specs.Rows.{whole, whole_or_null}
 use Rattle.as2_rows.specs.Waiting.{Waiting, out_kind, in_kind, in_waiting, waiting_in, waiting_out, waiting_shown, to_send, to_answer, to_hear, to_end}
 use Rattle.as2_store.specs.Tables.{store_schema, waiting_table}
-use Rattle.as2_store.specs.Statements.{waiting_put_text}
+use Rattle.as2_store.proofs.Statements.{waiting_put_text}
 use Rattle.as2_store.specs.Stands.{place, waiting_row, documents_waiting, waiting}
 use Rattle.as2_store.specs.Adding.{Noted, with_received}
 use Rattle.as2_store.proofs.Rising.{puts_between}

@@ -16,7 +16,7 @@ use Rattle.as2_rows.specs.Summaries.{evidence_of, out_entry, out_summary}
 use Rattle.as2_rows.specs.declared.evidence.EvidenceRow.{EvidenceRow}
 use Rattle.as2_rows.specs.declared.outbox.OutRow.{OutRow}
 use Rattle.as2_store.specs.Tables.{outbox_tree, evidence_tree}
-use Rattle.as2_store.specs.Statements.{out_by_id_text, evidence_by_number_text}
+use Rattle.as2_store.proofs.Statements.{out_by_id_text, evidence_by_number_text}
 use Rattle.as2_store.specs.Stands.{Rests, evidence_rows}
 use Rattle.as2_store.specs.Finding.{has_id, shown_evidence}
 use Rattle.as2_store.proofs.Rising.{numbers_rise, given_rise, ordered_rise, entries_rise}

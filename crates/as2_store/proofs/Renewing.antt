@@ -14,7 +14,7 @@ use Rattle.as2_exchange.specs.declared.inbox.InEntry.{InEntry}
 use Rattle.as2_exchange.specs.declared.outbox.OutEntry.{OutEntry}
 use Rattle.as2_rows.specs.Waiting.{Waiting, out_kind, in_kind, in_waiting, out_waiting, waiting_in, to_send, to_answer, to_hear, to_end}
 use Rattle.as2_store.specs.Tables.{store_schema, waiting_table, waiting_tree}
-use Rattle.as2_store.specs.Statements.{waiting_take_text}
+use Rattle.as2_store.proofs.Statements.{waiting_take_text}
 use Rattle.as2_store.specs.Stands.{place, waiting_row, documents_waiting}
 use Rattle.as2_store.specs.Requeuing.{Holds, not_at}
 use Rattle.as2_store.proofs.MetaRow.{one_param}

@@ -24,7 +24,7 @@ use Rattle.as2_rows.specs.Rows.{in_row}
 use Rattle.as2_rows.specs.Contents.{pieces, piece_shown}
 use Rattle.as2_rows.specs.Waiting.{Waiting, in_waiting, waiting_in, to_send, to_answer, to_hear, to_end}
 use Rattle.as2_store.specs.Tables.{store_schema, inbox_table, inbox_tree, inbox_piece_tree}
-use Rattle.as2_store.specs.Statements.{in_requeue_text}
+use Rattle.as2_store.proofs.Statements.{in_requeue_text}
 use Rattle.as2_store.specs.Stands.{IsWhole, Stands, place, waiting_row, documents_waiting, waiting, inbox_pieces}
 use Rattle.as2_store.specs.Requeuing.{requeued, requeued_in, not_at, Holds, Renewed}
 use Rattle.as2_store.proofs.Rising.{numbers_rise, entries_rise}

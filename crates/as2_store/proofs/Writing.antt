@@ -21,7 +21,7 @@ use Rattle.as2_rows.specs.Codes.{outcome_code, how_code, mdn_code, attempt_code}
 use Rattle.as2_store.proofs.MetaRow.{passed}
 use Rattle.as2_rows.specs.Rows.{in_row, in_shown, url_value, digest_value, mic_value}
 use Rattle.as2_store.specs.Tables.{store_schema, inbox_table, inbox_tree}
-use Rattle.as2_store.specs.Statements.{in_put_text}
+use Rattle.as2_store.proofs.Statements.{in_put_text}
 use Rattle.as2_store.proofs.Placing.{cast_optional}
 use Rattle.as2_store.proofs.Texts.{in_put_terms, in_put_is, in_put_plain}
 

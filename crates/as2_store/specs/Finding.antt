@@ -1,7 +1,9 @@
 -- Which entry is looked for, and what is shown of a document that is found.
-use Rattle.std.specs.Prelude.{ℕ, List, [], ◌∷◌, Option, Some, None, Bool, ◌&&◌, bytes_eq}
+use Rattle.std.specs.Prelude.{◌≡◌, find, ℕ, List, [], ◌∷◌, Option, Some, None, Bool, ◌&&◌, bytes_eq}
 use Rattle.as2_names.specs.Identifiers.{value_of}
 use Rattle.sqlite.specs.Order.{Row}
+use Rattle.as2_exchange.specs.State.{State}
+use Rattle.as2_store.specs.declared.counters.NextNumbers.{NextNumbers}
 use Rattle.as2_exchange.specs.declared.inbox.InEntry.{InEntry}
 use Rattle.as2_exchange.specs.declared.outbox.Evidence.{Evidence}
 use Rattle.as2_exchange.specs.declared.outbox.OutEntry.{OutEntry}
@@ -10,6 +12,15 @@ use Rattle.as2_rows.specs.Rows.{evidence_shown}
 -- it was posted by this sender to this receiver, under an identifier of this value
 abbrev pub has_key : List ℕ → List ℕ → List ℕ → InEntry → Bool
 has_key sender receiver value e = bytes_eq e.posted.sender sender && (bytes_eq e.posted.receiver receiver && bytes_eq (value_of e.posted.id) value)
+
+-- the entry that this sender posted to this receiver under an identifier of this value
+abbrev pub posted_as : State → List ℕ → List ℕ → List ℕ → Option InEntry
+posted_as s sender receiver value = find (has_key sender receiver value) s.inbox
+
+-- the numbers that the next entries get
+pub record AreNext (next : NextNumbers) (s : State) : Type 0 where
+  pub receipt : next.receipt ≡ s.next_in
+  pub document : next.document ≡ s.next_out
 
 -- it has an identifier of this value
 abbrev pub has_id : List ℕ → OutEntry → Bool

@@ -1,5 +1,4 @@
 pub mod Tables
-pub mod Statements
 pub mod Stands
 pub mod Calls
 pub mod Adding

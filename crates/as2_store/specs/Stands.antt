@@ -18,7 +18,7 @@ use Rattle.as2_exchange.specs.declared.fault.StoreFault.TheVariants.{Memory, Dis
 use Rattle.as2_rows.specs.Rows.{whole, in_row, out_row, evidence_row, meta_row}
 use Rattle.as2_rows.specs.Contents.{Piece, pieces, piece_shown}
 use Rattle.as2_rows.specs.Waiting.{Waiting, waiting_in, waiting_out, waiting_shown, to_send, to_hear, to_end}
-use Rattle.as2_store.specs.Tables.{no_schema, store_schema, meta_table, meta_tree, inbox_tree, inbox_piece_tree, outbox_tree, outbox_piece_tree, evidence_tree, waiting_tree}
+use Rattle.as2_store.specs.Tables.{current, no_schema, store_schema, meta_table, meta_tree, inbox_tree, inbox_piece_tree, outbox_tree, outbox_piece_tree, evidence_tree, waiting_tree}
 
 -- ---- contents
 
@@ -74,7 +74,7 @@ unfoldable pub IsWhole : Database → Type 0
 IsWhole d = IsDatabase d
 
 -- the tables stand for this state: they are those of a store and no others, `meta` has the counters, and the counters are
--- above all numbers; they stand for no other state (`one_state` of proofs/Single)
+-- above all numbers; they stand for no other state (the law `one_state_stands`)
 pub record Stands (d : Database) (s : State) : Type 0 where
   pub sound : IsWhole d
   pub schema : d.schema ≡ store_schema
@@ -113,7 +113,7 @@ may_come OtherVersion = false
 
 -- what kind and version say
 abbrev pub judged : List ℕ → ℕ → Option StoreFault
-judged kind version = if bytes_eq kind (codes "as2-station") then (if version == 1 then None else Some OtherVersion) else Some NotAStore
+judged kind version = if bytes_eq kind (codes "as2-station") then (if version == current.number then None else Some OtherVersion) else Some NotAStore
 
 -- the table `meta` of this version stands before all others, and its row says this kind and this version
 pub record Says (c : Connected) (kind : List ℕ) (version : ℕ) : Type 0 where

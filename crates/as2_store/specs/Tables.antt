@@ -1,4 +1,4 @@
--- The tables of the store, version 1, and the texts that make them.
+-- The tables of the store, by their version.
 use Rattle.std.specs.Prelude.{true, false, [], ◌∷◌, ◌++◌, Some, None, codes, List, ℕ, ◌+◌, map, Option, pos}
 use Rattle.std.specs.Fmt.{decimal}
 use Rattle.sqlite.specs.Collation.TheVariants.{Binary}
@@ -15,33 +15,7 @@ use Rattle.sqlite_schema.specs.declared.schema.Action.TheVariants.{NoAction}
 use Rattle.sqlite_sql.specs.declared.ops.BinaryOp.TheVariants.{Compare, And, Or}
 use Rattle.sqlite_sql.specs.declared.ops.CompareOp.TheVariants.{Eq, Le, Ge}
 
--- ---- the texts
-
-abbrev pub meta_text : List ℕ
-meta_text = codes "CREATE TABLE meta (kind TEXT NOT NULL, version INTEGER NOT NULL, next_receipt INTEGER NOT NULL, next_document INTEGER NOT NULL) STRICT"
-
-abbrev pub inbox_text : List ℕ
-inbox_text = codes "CREATE TABLE inbox (number INTEGER PRIMARY KEY, sender BLOB NOT NULL, receiver BLOB NOT NULL, identifier_value BLOB NOT NULL, identifier BLOB NOT NULL, content_type BLOB NOT NULL, length INTEGER NOT NULL, moment INTEGER NOT NULL, outcome INTEGER NOT NULL CHECK (outcome >= 1 AND outcome <= 6), how INTEGER NOT NULL, url BLOB, digest TEXT CHECK (digest = 'sha1' OR digest = 'md5'), mic BLOB, mdn INTEGER NOT NULL, tries INTEGER NOT NULL, attempt INTEGER NOT NULL, due INTEGER, UNIQUE (sender, receiver, identifier_value)) STRICT"
-
-abbrev pub inbox_piece_text : List ℕ
-inbox_piece_text = codes "CREATE TABLE inbox_piece (number INTEGER NOT NULL REFERENCES inbox (number), position INTEGER NOT NULL, bytes BLOB NOT NULL, PRIMARY KEY (number, position)) STRICT"
-
-abbrev pub outbox_text : List ℕ
-outbox_text = codes "CREATE TABLE outbox (number INTEGER PRIMARY KEY, organization BLOB NOT NULL, partner BLOB NOT NULL, identifier_value BLOB NOT NULL UNIQUE, identifier BLOB NOT NULL, length INTEGER NOT NULL, moment INTEGER NOT NULL, tries INTEGER NOT NULL, attempt INTEGER NOT NULL, due INTEGER, detail INTEGER NOT NULL CHECK (detail >= 1 AND detail <= 14)) STRICT"
-
-abbrev pub outbox_piece_text : List ℕ
-outbox_piece_text = codes "CREATE TABLE outbox_piece (number INTEGER NOT NULL REFERENCES outbox (number), position INTEGER NOT NULL, bytes BLOB NOT NULL, PRIMARY KEY (number, position)) STRICT"
-
-abbrev pub evidence_text : List ℕ
-evidence_text = codes "CREATE TABLE evidence (number INTEGER PRIMARY KEY REFERENCES outbox (number), moment INTEGER NOT NULL, content_type BLOB NOT NULL, body BLOB NOT NULL) STRICT"
-
-abbrev pub waiting_text : List ℕ
-waiting_text = codes "CREATE TABLE waiting (place INTEGER PRIMARY KEY, kind INTEGER NOT NULL, number INTEGER NOT NULL, due INTEGER, UNIQUE (kind, number)) STRICT"
-
-abbrev pub waiting_due_text : List ℕ
-waiting_due_text = codes "CREATE INDEX waiting_due ON waiting (kind, due, number)"
-
--- ---- what they make
+-- ---- columns and tables
 
 abbrev pub needed : List ℕ → Kind → Column
 needed name kind = record { name = name; kind = kind; is_strict = true; not_null = true; default = Null; collation = Binary }
@@ -187,10 +161,27 @@ outbox_schema = record {
   views = [];
 }
 
--- and what waits: these tables and no others
-abbrev pub store_schema : Schema
-store_schema = record {
-  tables = meta_table ∷ inbox_table ∷ inbox_piece_table ∷ outbox_table ∷ outbox_piece_table ∷ evidence_table ∷ waiting_table ∷ [];
-  indexes = inbox_indexes ++ outbox_indexes ++ key_index (codes "waiting") waiting_tree (2 ∷ 3 ∷ []) ∷ record waiting_due_made { tree = 12 } ∷ [];
-  views = [];
+-- ---- versions
+
+-- the tables of a version, under its number: these and no others
+pub record Version : Type 0 where
+  pub number : ℕ
+  pub schema : Schema
+
+-- and what waits
+abbrev pub version_1 : Version
+version_1 = record {
+  number = 1;
+  schema = record {
+    tables = meta_table ∷ inbox_table ∷ inbox_piece_table ∷ outbox_table ∷ outbox_piece_table ∷ evidence_table ∷ waiting_table ∷ [];
+    indexes = inbox_indexes ++ outbox_indexes ++ key_index (codes "waiting") waiting_tree (2 ∷ 3 ∷ []) ∷ record waiting_due_made { tree = 12 } ∷ [];
+    views = [];
+  };
 }
+
+-- the version that is made and read
+abbrev pub current : Version
+current = version_1
+
+abbrev pub store_schema : Schema
+store_schema = current.schema

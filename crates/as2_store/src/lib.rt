@@ -11,6 +11,7 @@ mod documents;
 mod fault;
 mod finding;
 mod inbox;
+mod laws;
 mod numbers;
 mod outbox;
 mod reading;
@@ -20,4 +21,5 @@ mod store;
 mod waiting;
 
 pub use counters::NextNumbers;
+pub use laws::one_state_stands;
 pub use store::Store;

@@ -1,6 +1,6 @@
 use Rattle.sqlite.specs.Held.{state}
 use Rattle.sqlite.specs.State.{Shown}
-use Rattle.as2_store.specs.Statements.{meta_read_text}
+use Rattle.as2_store.proofs.Statements.{meta_read_text}
 use Rattle.as2_store.proofs.Texts.{meta_read_plain}
 use Rattle.as2_store.proofs.Querying.{read_as}
 use Rattle.std.proofs.Common.{[]}

@@ -2,7 +2,7 @@ use Rattle.std.proofs.Common.{Ok}
 use Rattle.sqlite.specs.Held.{state}
 use Rattle.sqlite.specs.State.{Executes}
 use Rattle.sql_tables.proofs.Inside.{made, stays}
-use Rattle.as2_store.specs.Statements.{meta_put_text}
+use Rattle.as2_store.proofs.Statements.{meta_put_text}
 use Rattle.as2_store.proofs.MetaRow.{passed}
 use Rattle.as2_store.proofs.Beginning.{puts_meta, first_params}
 use Rattle.as2_store.proofs.counters.put_meta.Goals as goal

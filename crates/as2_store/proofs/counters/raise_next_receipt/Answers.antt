@@ -2,7 +2,7 @@ use Rattle.std.proofs.Common.{Ok, ◌+◌, arith}
 use Rattle.sqlite.specs.Held.{state}
 use Rattle.sqlite.specs.State.{Executes}
 use Rattle.sql_tables.proofs.Inside.{if_made, made, stays}
-use Rattle.as2_store.specs.Statements.{receipt_text}
+use Rattle.as2_store.proofs.Statements.{receipt_text}
 use Rattle.as2_store.proofs.MetaRow.{counts_receipts, receipt_params, passed}
 use Rattle.as2_store.proofs.counters.raise_next_receipt.Goals as goal
 

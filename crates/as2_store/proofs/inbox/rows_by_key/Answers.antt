@@ -1,6 +1,6 @@
 use Rattle.sqlite.specs.Held.{state}
 use Rattle.sqlite.specs.State.{Shown}
-use Rattle.as2_store.specs.Statements.{in_by_key_text}
+use Rattle.as2_store.proofs.Statements.{in_by_key_text}
 use Rattle.as2_store.proofs.Texts.{in_by_key_plain}
 use Rattle.as2_store.proofs.Querying.{read_as}
 use Rattle.as2_store.proofs.Looking.{finds_key, key_params}

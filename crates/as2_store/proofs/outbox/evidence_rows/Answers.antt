@@ -1,6 +1,6 @@
 use Rattle.sqlite.specs.Held.{state}
 use Rattle.sqlite.specs.State.{Shown}
-use Rattle.as2_store.specs.Statements.{evidence_by_number_text}
+use Rattle.as2_store.proofs.Statements.{evidence_by_number_text}
 use Rattle.as2_store.proofs.Texts.{evidence_by_number_plain}
 use Rattle.as2_store.proofs.Querying.{read_as}
 use Rattle.as2_store.proofs.MetaRow.{passed}

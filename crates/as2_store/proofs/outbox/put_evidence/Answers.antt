@@ -2,7 +2,7 @@ use Rattle.std.proofs.Common.{Ok, arith}
 use Rattle.sqlite.specs.Held.{state}
 use Rattle.sqlite.specs.State.{Executes}
 use Rattle.sql_tables.proofs.Inside.{made}
-use Rattle.as2_store.specs.Statements.{evidence_put_text}
+use Rattle.as2_store.proofs.Statements.{evidence_put_text}
 use Rattle.as2_store.proofs.MetaRow.{passed}
 use Rattle.as2_store.proofs.Ending.{puts_evidence, fresh_evidence, receipt_params}
 use Rattle.as2_store.proofs.Committing.{ran_inside}

@@ -1,6 +1,6 @@
 use Rattle.sqlite.specs.Held.{state}
 use Rattle.sqlite.specs.State.{Shown}
-use Rattle.as2_store.specs.Statements.{out_by_id_text}
+use Rattle.as2_store.proofs.Statements.{out_by_id_text}
 use Rattle.as2_store.proofs.Texts.{out_by_id_plain}
 use Rattle.as2_store.proofs.Querying.{read_as}
 use Rattle.as2_store.proofs.Recalling.{finds_id, id_params}

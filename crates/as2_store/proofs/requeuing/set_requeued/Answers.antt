@@ -2,7 +2,7 @@ use Rattle.std.proofs.Common.{Ok, arith}
 use Rattle.sqlite.specs.Held.{state}
 use Rattle.sqlite.specs.State.{Executes}
 use Rattle.sql_tables.proofs.Inside.{made, if_made}
-use Rattle.as2_store.specs.Statements.{in_requeue_text}
+use Rattle.as2_store.proofs.Statements.{in_requeue_text}
 use Rattle.as2_store.proofs.MetaRow.{passed}
 use Rattle.as2_store.proofs.Looking.{asked_small}
 use Rattle.as2_store.proofs.Resetting.{requeues, requeue_params}

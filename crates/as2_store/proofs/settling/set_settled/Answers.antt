@@ -2,7 +2,7 @@ use Rattle.std.proofs.Common.{Ok}
 use Rattle.sqlite.specs.Held.{state}
 use Rattle.sqlite.specs.State.{Executes}
 use Rattle.sql_tables.proofs.Inside.{if_made, made}
-use Rattle.as2_store.specs.Statements.{out_settle_text}
+use Rattle.as2_store.proofs.Statements.{out_settle_text}
 use Rattle.as2_store.proofs.MetaRow.{passed}
 use Rattle.as2_store.proofs.Ending.{settles, settle_params, passed_detail}
 use Rattle.as2_store.proofs.Committing.{ran_inside}

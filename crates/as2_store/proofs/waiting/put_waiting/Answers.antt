@@ -3,7 +3,7 @@ use Rattle.sqlite.specs.Held.{state}
 use Rattle.sqlite.specs.State.{Executes}
 use Rattle.sql_tables.proofs.Inside.{made, stays}
 use Rattle.as2_rows.specs.Waiting.{Waiting}
-use Rattle.as2_store.specs.Statements.{waiting_put_text}
+use Rattle.as2_store.proofs.Statements.{waiting_put_text}
 use Rattle.as2_store.proofs.MetaRow.{passed}
 use Rattle.as2_store.proofs.Placing.{puts_waiting, waiting_params, bound_optional}
 use Rattle.as2_store.proofs.Committing.{ran_inside}

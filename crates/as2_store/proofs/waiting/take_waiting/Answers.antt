@@ -2,7 +2,7 @@ use Rattle.std.proofs.Common.{Ok}
 use Rattle.sqlite.specs.Held.{state}
 use Rattle.sqlite.specs.State.{Executes}
 use Rattle.sql_tables.proofs.Inside.{made}
-use Rattle.as2_store.specs.Statements.{waiting_take_text}
+use Rattle.as2_store.proofs.Statements.{waiting_take_text}
 use Rattle.as2_store.proofs.MetaRow.{one_param, passed}
 use Rattle.as2_store.proofs.Renewing.{takes_waiting}
 use Rattle.as2_store.proofs.waiting.take_waiting.Goals as goal
