@@ -17,7 +17,7 @@ use Rattle.as2_exchange.specs.declared.answer.HttpAnswer.{HttpAnswer}
 use Rattle.as2_exchange.specs.declared.answer.Answer.TheVariants.{Http}
 use Rattle.as2_desk.specs.FirstPath.{Replies, Refusal, form_of, refusal_form}
 use Rattle.as2_desk.specs.Laws.{OneReply, TellsFault}
-use Rattle.as2_desk.specs.Responses.{RespondsTo, Responds, Takes, answer_of, posted}
+use Rattle.as2_desk.specs.Responses.{RespondsTo, Responds, Takes, Unsaid, answer_of, posted}
 use Rattle.as2_desk.specs.declared.first_path.Served.TheVariants.{Closed, Truncated, BadFraming, ReadFault, WriteFault, Memory, TooLong}
 use Rattle.as2_desk.specs.declared.response.Response.{Response}
 use Rattle.as2_desk.specs.declared.response.Response.TheVariants.{Answered, Failed, OnlyPost, NoPath}
@@ -36,8 +36,8 @@ answers_once a b e = cc
 steps_once : (came : Option (Answer × State)) (a b : HttpAnswer) (t u : State) → came ≡ Some (Http a, t) → came ≡ Some (Http b, u) → (Answered a ≡ Answered b) × (t ≡ u)
 steps_once came a b t u x y = let both = some_once (Http a, t) (Http b, u) (sym x ∙ y) in (answers_once a b (ap (λ p. p.0) both), ap (λ p. p.1) both)
 
-takes_once : (A : AgreedValues) (moment : ℕ) (s : State) (r : Request) (x y : Response) (t u : State) → Takes A moment s r x t → Takes A moment s r y u → IsNoFault x → IsNoFault y → (x ≡ y) × (t ≡ u)
-takes_once A moment s r (Answered a) (Answered b) t u x y _ _ = steps_once (step A s (posted r moment)) a b t u x y
+takes_once : (A : AgreedValues) (moment : ℕ) (s : State) (r : Request) (x y : Response) (t u : State) → Takes A moment s r x Unsaid t → Takes A moment s r y Unsaid u → IsNoFault x → IsNoFault y → (x ≡ y) × (t ≡ u)
+takes_once A moment s r (Answered a) (Answered b) t u x y _ _ = steps_once (step A s (posted r moment)) a b t u x.0 y.0
 takes_once A moment s r (Answered a) (Failed f) t u x y _ failed = absurd failed
 takes_once A moment s r (Answered a) OnlyPost t u x y _ _ = absurd y
 takes_once A moment s r (Answered a) NoPath t u x y _ _ = absurd y
@@ -46,7 +46,7 @@ takes_once A moment s r OnlyPost b t u x y _ _ = absurd x
 takes_once A moment s r NoPath b t u x y _ _ = absurd x
 
 responds_once : (A : AgreedValues) (moment : ℕ) (s : State) (r : Request) (m : Method) (at : Target) (x y : Response) (t u : State)
-    → RespondsTo m at A moment s r x t → RespondsTo m at A moment s r y u → IsNoFault x → IsNoFault y → (x ≡ y) × (t ≡ u)
+    → RespondsTo m at A moment s r x Unsaid t → RespondsTo m at A moment s r y Unsaid u → IsNoFault x → IsNoFault y → (x ≡ y) × (t ≡ u)
 responds_once A moment s r Post Station x y t u p q a b = takes_once A moment s r x y t u p q a b
 responds_once A moment s r Post OtherTarget x y t u p q a b = (p.0 ∙ sym q.0, p.1 ∙ sym q.1)
 responds_once A moment s r Head at x y t u p q a b = (p.0 ∙ sym q.0, p.1 ∙ sym q.1)
@@ -59,12 +59,12 @@ no_fault moment r OnlyPost text reply tells = tt
 no_fault moment r NoPath text reply tells = tt
 
 replies_once : (agreements : AgreedValues) (moment : ℕ) (s t u : State) (input : List ℕ) (after later : Option (List ℕ)) (text same : List ℕ)
-    → Replies agreements moment s t input after text → Replies agreements moment s u input later same
+    → Replies agreements moment s Unsaid t input after text → Replies agreements moment s Unsaid u input later same
     → ¬ TellsFault moment text → ¬ TellsFault moment same → (text ≡ same) × (t ≡ u)
 replies_once agreements moment s t u input after later text same r q n k =
     let one = begins_with_one input r.gets.request q.gets.request r.gets.rest q.gets.rest r.gets.begins q.gets.begins in
-    let other : Responds agreements moment s r.gets.request q.gets.response u =
-    subst (λ (x : Request). Responds agreements moment s x q.gets.response u) (sym one.0) q.gets.responds in
+    let other : Responds agreements moment s r.gets.request q.gets.response Unsaid u =
+    subst (λ (x : Request). Responds agreements moment s x q.gets.response Unsaid u) (sym one.0) q.gets.responds in
     let gets = responds_once agreements moment s r.gets.request r.gets.request.method r.gets.request.target r.gets.response q.gets.response t u r.gets.responds other
     (no_fault moment r.gets.request r.gets.response text r.reply n) (no_fault moment q.gets.request q.gets.response same q.reply k) in (
       replies_in_one_way moment (form_of r.gets.request) (answer_of r.gets.response) text same r.reply

@@ -25,17 +25,17 @@ abbrev pub refusal_form : Refused → Form
 refusal_form refused = record { closes = true; to_head = refused.to_head }
 
 -- the input begins with a request, this is what it gets in the state s, and t is left; no more was read than that took
-pub record Gets (agreements : AgreedValues) (moment : ℕ) (s t : State) (input : List ℕ) (after : Option (List ℕ)) : Type 0 where
+pub record Gets (agreements : AgreedValues) (moment : ℕ) (s : State) (Safe : State → Type 0) (t : State) (input : List ℕ) (after : Option (List ℕ)) : Type 0 where
   pub request : Request
   pub rest : List ℕ
   pub begins : Begins input request rest
   pub response : Response
-  pub responds : Responds agreements moment s request response t
+  pub responds : Responds agreements moment s request response Safe t
   pub unread : LeavesUnread input after
 
 -- the text is the reply to that
-pub record Replies (agreements : AgreedValues) (moment : ℕ) (s t : State) (input : List ℕ) (after : Option (List ℕ)) (text : List ℕ) : Type 0 where
-  pub gets : Gets agreements moment s t input after
+pub record Replies (agreements : AgreedValues) (moment : ℕ) (s : State) (Safe : State → Type 0) (t : State) (input : List ℕ) (after : Option (List ℕ)) (text : List ℕ) : Type 0 where
+  pub gets : Gets agreements moment s Safe t input after
   pub reply : IsReply moment (form_of gets.request) (answer_of gets.response) text
 
 -- the input begins with no request, the text is the reply that says why, and no more was read than that took
@@ -46,19 +46,19 @@ pub record Refusal (moment : ℕ) (input : List ℕ) (after : Option (List ℕ))
   pub unread : LeavesUnread input after
 
 -- nothing is changed but by a whole request
-abbrev pub Leaves : AgreedValues → ℕ → State → State → List ℕ → Option (List ℕ) → Type 0
-Leaves agreements moment s t input after = (t ≡ s) ⊎ Gets agreements moment s t input after
+abbrev pub Leaves : AgreedValues → ℕ → State → (State → Type 0) → State → List ℕ → Option (List ℕ) → Type 0
+Leaves agreements moment s Safe t input after = (t ≡ s) ⊎ Gets agreements moment s Safe t input after
 
 -- the text that is written for the input in the state s, the end that goes with it, and the state t that is left; what a write that failed wrote is not said
-abbrev pub FirstPath : AgreedValues → ℕ → State → State → List ℕ → Option (List ℕ) → Served → List ℕ → Type 0
-FirstPath agreements moment s t input after Closed text =
-    Replies agreements moment s t input after text ⊎ (IsOpen input × (unblank input ≡ []) × (text ≡ []) × (t ≡ s))
-FirstPath agreements moment s t input after Truncated text = IsOpen input × ¬ (unblank input ≡ []) × (text ≡ []) × (t ≡ s)
-FirstPath agreements moment s t input after BadFraming text = Refusal moment input after text × (t ≡ s)
-FirstPath agreements moment s t input after ReadFault text = (text ≡ []) × (t ≡ s)
-FirstPath agreements moment s t input after TooLong text = (text ≡ []) × (t ≡ s)
-FirstPath agreements moment s t input after Memory text = (text ≡ []) × Leaves agreements moment s t input after
-FirstPath agreements moment s t input after WriteFault text = Leaves agreements moment s t input after
+abbrev pub FirstPath : AgreedValues → ℕ → State → (State → Type 0) → State → List ℕ → Option (List ℕ) → Served → List ℕ → Type 0
+FirstPath agreements moment s Safe t input after Closed text =
+    Replies agreements moment s Safe t input after text ⊎ (IsOpen input × (unblank input ≡ []) × (text ≡ []) × (t ≡ s))
+FirstPath agreements moment s Safe t input after Truncated text = IsOpen input × ¬ (unblank input ≡ []) × (text ≡ []) × (t ≡ s)
+FirstPath agreements moment s Safe t input after BadFraming text = Refusal moment input after text × (t ≡ s)
+FirstPath agreements moment s Safe t input after ReadFault text = (text ≡ []) × (t ≡ s)
+FirstPath agreements moment s Safe t input after TooLong text = (text ≡ []) × (t ≡ s)
+FirstPath agreements moment s Safe t input after Memory text = (text ≡ []) × Leaves agreements moment s Safe t input after
+FirstPath agreements moment s Safe t input after WriteFault text = Leaves agreements moment s Safe t input after
 
 -- P, unless a write failed
 abbrev pub UnlessWriteFault : Served → Type 0 → Type 0
@@ -71,9 +71,9 @@ UnlessWriteFault Memory P = P
 UnlessWriteFault TooLong P = P
 
 -- such a text was written, where no write failed
-abbrev pub Serves : AgreedValues → ℕ → State → State → List ℕ → Option (List ℕ) → (List ℕ → Type 0) → Served → Type 0
-Serves agreements moment s t input after Wrote end =
-    (text : List ℕ) × FirstPath agreements moment s t input after end text × UnlessWriteFault end (Wrote text)
+abbrev pub Serves : AgreedValues → ℕ → State → (State → Type 0) → State → List ℕ → Option (List ℕ) → (List ℕ → Type 0) → Served → Type 0
+Serves agreements moment s Safe t input after Wrote end =
+    (text : List ℕ) × FirstPath agreements moment s Safe t input after end text × UnlessWriteFault end (Wrote text)
 
 -- the answer was written as its reply, and the end is that one; where memory was wanting nothing was written
 abbrev pub Sent : ℕ → Form → Answer → Option (List ℕ) → Option (List ℕ) → Served → Served → Type 0

@@ -1,5 +1,7 @@
--- What a request gets in a state of the station, and the state that it leaves.
-use Rattle.std.specs.Prelude.{◌≡◌, ℕ, List, Some, codes, true}
+-- What a request gets in a state of the station, and the state that it leaves. Of that state it is told that a crash leaves it too
+-- (Safe), where the store was asked.
+use Rattle.std.specs.Prelude.{◌≡◌, ℕ, List, Some, codes, IsTrue, true, ⊤}
+use Rattle.sqlite.specs.State.{State as Connected}
 use Rattle.as2_agreement.specs.Agreements.{AgreedValues}
 use Rattle.as2_exchange.specs.Lines.{line_text}
 use Rattle.as2_exchange.specs.Posts.{Refuses, reading}
@@ -7,7 +9,8 @@ use Rattle.as2_exchange.specs.Run.{MayFail}
 use Rattle.as2_exchange.specs.State.{State}
 use Rattle.as2_exchange.specs.Step.{step}
 use Rattle.as2_exchange.specs.declared.answer.Line.{Line as TheLine}
-use Rattle.as2_station.specs.Heads.{is_of_head}
+use Rattle.as2_station.specs.Heads.{asks_store, is_of_head}
+use Rattle.as2_store.specs.Calls.{Lasts}
 use Rattle.as2_exchange.specs.declared.event.Event.{Event}
 use Rattle.as2_exchange.specs.declared.answer.Answer.TheVariants.{Http}
 use Rattle.as2_exchange.specs.declared.answer.HttpBody.{HttpBody}
@@ -57,20 +60,31 @@ IsPastHead A r = (status : ℕ) (line : TheLine) → reading A r.fields r.body �
 abbrev pub posted : Request → ℕ → Event
 posted r moment = event.Post r.fields r.body moment
 
--- the post is a step of the machine; or there is a fault, which changes nothing, and never stands in place of what the head decides
-abbrev pub Takes : AgreedValues → ℕ → State → Request → Response → State → Type 0
-Takes A moment s r (Answered answer) t = step A s (posted r moment) ≡ Some (Http answer, t)
-Takes A moment s r (Failed fault) t = MayFail A s (posted r moment) fault × (t ≡ s) × IsPastHead A r
-Takes A moment s r OnlyPost t = ⊥
-Takes A moment s r NoPath t = ⊥
+-- the connection is open, and whatever stops the machine now, what an open finds stands for this state
+pub record IsSafe (c : Connected) (t : State) : Type 0 where
+  pub is_open : IsTrue c.is_open
+  pub lasts : Lasts c t
+
+-- nothing is said of what a crash leaves
+abbrev pub Unsaid : State → Type 0
+Unsaid t = ⊤
+
+-- the post is a step of the machine, and where it asks the store, the state that it leaves is safe; or there is a fault, which
+-- changes nothing, and never stands in place of what the head decides
+abbrev pub Takes : AgreedValues → ℕ → State → Request → Response → (State → Type 0) → State → Type 0
+Takes A moment s r (Answered answer) Safe t =
+    (step A s (posted r moment) ≡ Some (Http answer, t)) × (asks_store A (posted r moment) ≡ true → Safe t)
+Takes A moment s r (Failed fault) Safe t = MayFail A s (posted r moment) fault × (t ≡ s) × IsPastHead A r
+Takes A moment s r OnlyPost Safe t = ⊥
+Takes A moment s r NoPath Safe t = ⊥
 
 -- a post to the station's path is an event; any other request changes nothing
-abbrev pub RespondsTo : Method → Target → AgreedValues → ℕ → State → Request → Response → State → Type 0
-RespondsTo Post Station A moment s r response t = Takes A moment s r response t
-RespondsTo Post OtherTarget A moment s r response t = (response ≡ NoPath) × (t ≡ s)
-RespondsTo Head target A moment s r response t = (response ≡ OnlyPost) × (t ≡ s)
-RespondsTo OtherMethod target A moment s r response t = (response ≡ OnlyPost) × (t ≡ s)
+abbrev pub RespondsTo : Method → Target → AgreedValues → ℕ → State → Request → Response → (State → Type 0) → State → Type 0
+RespondsTo Post Station A moment s r response Safe t = Takes A moment s r response Safe t
+RespondsTo Post OtherTarget A moment s r response Safe t = (response ≡ NoPath) × (t ≡ s)
+RespondsTo Head target A moment s r response Safe t = (response ≡ OnlyPost) × (t ≡ s)
+RespondsTo OtherMethod target A moment s r response Safe t = (response ≡ OnlyPost) × (t ≡ s)
 
 -- at this moment and in the state s the request gets this response, and leaves t
-abbrev pub Responds : AgreedValues → ℕ → State → Request → Response → State → Type 0
-Responds A moment s r response t = RespondsTo r.method r.target A moment s r response t
+abbrev pub Responds : AgreedValues → ℕ → State → Request → Response → (State → Type 0) → State → Type 0
+Responds A moment s r response Safe t = RespondsTo r.method r.target A moment s r response Safe t

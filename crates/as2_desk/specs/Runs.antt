@@ -7,6 +7,7 @@ use Rattle.as2_desk.specs.Checks.{counts_line}
 use Rattle.as2_desk.specs.FileAgreements.{Opened, Opens}
 use Rattle.as2_desk.specs.FileContents.{Content}
 use Rattle.as2_desk.specs.FirstPath.{Serves}
+use Rattle.as2_desk.specs.Responses.{Unsaid}
 use Rattle.as2_desk.specs.Refusals.{end_line, line, refusal_status}
 use Rattle.as2_desk.specs.Statuses.{done, status_of}
 use Rattle.as2_desk.specs.Stores.{Kept, stands_for}
@@ -39,7 +40,7 @@ Counts agreements Wrote Said ran =
 pub record Posts (agreements : AgreedValues) (moment : ℕ) (known : Option State) (before after : Option (List ℕ)) (Wrote Said : List ℕ → Type 0) (ran : Ran) : Type 0 where
   pub end : Served
   pub serves : IfSome known (λ s. (input : List ℕ) → before ≡ Some input
-      → (t : State) × Serves agreements moment s t input after Wrote end)
+      → (t : State) × Serves agreements moment s Unsaid t input after Wrote end)
   pub told : Ends (status_of end) (end_line end) Said ran
 
 -- no store could be opened, for a fault that may come of any call where it is known what was kept

@@ -7,7 +7,7 @@ ghost use Rattle.as2_exchange.specs.State.{State};
 ghost use Rattle.as2_store.specs.Stands.{Rests};
 ghost use Rattle.as2_http.specs.Replies.{refusal};
 ghost use Rattle.as2_desk.specs.FirstPath.{Sent, Serves, form_of, refusal_form};
-ghost use Rattle.as2_desk.specs.Responses.{Responds, answer_of};
+ghost use Rattle.as2_desk.specs.Responses.{IsSafe, Responds, answer_of};
 ghost use Rattle.as2_desk.specs.declared.first_path.Served.TheVariants.{BadFraming, Closed};
 ghost use Rattle.as2_desk.specs.declared.response.Response.{Response as TheResponse};
 
@@ -70,7 +70,8 @@ fn reply<S: Alter, W: Write>(
 ) -> Served
     ensures clean { HasCleanDisk (state S.Store station.new) → HasCleanDisk (state S.Store station.old) }
     ensures sent { HasCleanDisk (state S.Store station.new) → (s : State) → Rests (state S.Store station.old) s
-        → (t : State) × Rests (state S.Store station.new) t × ((response : TheResponse) × Responds agreements.now moment s request response t
+        → (t : State) × Rests (state S.Store station.new) t × ((response : TheResponse)
+        × Responds agreements.now moment s request response (IsSafe (state S.Store station.new)) t
         × Sent moment (form_of request) (answer_of response) (W.contents writer.old) (W.contents writer.new) Closed result) }
 {
     let form = Form {
@@ -120,7 +121,8 @@ pub fn first_post<S: Alter, R: Read, W: Write>(
     ensures serves { HasCleanDisk (state S.Store station.new) → (s : State) → Rests (state S.Store station.old) s
         → (input : List ℕ) → R.remaining reader.old ≡ Some input
         → (t : State) × Rests (state S.Store station.new) t
-        × Serves agreements.now moment s t input (R.remaining reader.new) (Appends (W.contents writer.old) (W.contents writer.new)) result }
+        × Serves agreements.now moment s (IsSafe (state S.Store station.new)) t input (R.remaining reader.new)
+        (Appends (W.contents writer.old) (W.contents writer.new)) result }
 {
     match read_first(alloc, reader) {
         Arrival::Request(request) => reply(alloc, agreements, moment, station, request, writer),

@@ -5,7 +5,7 @@ ghost use Rattle.sqlite.specs.State.{HasCleanDisk};
 ghost use Rattle.as2_exchange.specs.State.{State};
 ghost use Rattle.as2_store.specs.Stands.{Rests};
 ghost use Rattle.as2_http.specs.Answers.{body_of as seen};
-ghost use Rattle.as2_desk.specs.Responses.{Responds, answer_of, body_of, fault_text};
+ghost use Rattle.as2_desk.specs.Responses.{IsSafe, Responds, answer_of, body_of, fault_text};
 ghost use Rattle.as2_desk.specs.declared.response.Response.TheVariants.{Answered};
 
 use as2_agreement::Agreements;
@@ -91,7 +91,7 @@ pub(crate) fn respond<S: Alter>(
 ) -> Response
     ensures clean { HasCleanDisk (state S.Store station.new) → HasCleanDisk (state S.Store station.old) }
     ensures responds { HasCleanDisk (state S.Store station.new) → (s : State) → Rests (state S.Store station.old) s
-        → (t : State) × Rests (state S.Store station.new) t × Responds agreements.now moment s request result t }
+        → (t : State) × Rests (state S.Store station.new) t × Responds agreements.now moment s request result (IsSafe (state S.Store station.new)) t }
 {
     let Request {
         method,
