@@ -1,9 +1,10 @@
 //! Documents to a partner, as they are found, and settled by receipts that are posted.
 use crate::agreements::AGREEMENTS;
+use crate::posts::body;
 use crate::station_posts::{Row, Wanted, answer_all};
-use crate::stores::{add, new_store, next};
+use crate::stores::{add, count, new_store, next};
 use as2_agreement::Agreements;
-use as2_exchange::{Attempt, MdnState, OutEntry, StoreFault};
+use as2_exchange::{Attempt, Bytes, Evidence, MdnState, OutEntry, StoreFault};
 use as2_mdn::Detail;
 use as2_names::Moment;
 use as2_station::Station;
@@ -14,8 +15,12 @@ use std::test::Fail;
 
 /// Two documents from Supplier to Buyer, of the contents `abc` and `abd`: a try of the first is open, the second is new.
 const DOCUMENTS: &str = "INSERT INTO outbox VALUES \
-(1, x'537570706c696572', x'4275796572', x'6f75742d314073746174696f6e2e6578616d706c65', 3, 1000, 1, 2, 1030, 2), \
-(2, x'537570706c696572', x'4275796572', x'6f75742d324073746174696f6e2e6578616d706c65', 3, 1000, 0, 1, 1000, 1); \
+(1, x'537570706c696572', x'4275796572', \
+x'6f75742d314073746174696f6e2e6578616d706c65', x'3c6f75742d314073746174696f6e2e6578616d706c653e', \
+3, 1000, 1, 2, 1030, 2), \
+(2, x'537570706c696572', x'4275796572', \
+x'6f75742d324073746174696f6e2e6578616d706c65', x'3c6f75742d324073746174696f6e2e6578616d706c653e', \
+3, 1000, 0, 1, 1000, 1); \
 INSERT INTO outbox_piece VALUES (1, 0, x'616263'), (2, 0, x'616264'); \
 INSERT INTO waiting VALUES (1000000000001, 1, 1, 1030), (1000000000002, 1, 2, 1000); \
 UPDATE meta SET next_document = 3";
@@ -78,6 +83,7 @@ fn stands(document: &OutEntry, stand: Stand) -> bool {
 
 fn is_sending(document: &OutEntry) -> bool {
     document.number == 1
+        && document.id.as_received() == "<out-1@station.example>"
         && document.content.piece(0) == Some(b"abc".as_slice())
         && document.tries == 1
         && document.attempt == Attempt::Running
@@ -188,8 +194,48 @@ fn a_posted_receipt_settles_its_document_once(rt: HostRuntime) -> Result<(), Fai
     ];
     assert!(rt; RECEIPT.len() == 406);
     let mut store = store_of_receipts(rt.alloc())?;
+    assert!(rt; settled(rt.alloc(), &mut store) == None);
     assert!(rt; are_found(rt.alloc(), &mut store, DOCUMENTS)?);
+    let mut conn = store.into_connection();
+    assert!(rt; count(&mut conn, "SELECT number FROM evidence") == Some(1));
+    assert!(rt; count(&mut conn, "SELECT number FROM waiting WHERE number = 2") == Some(1));
     Ok(())
+}
+
+/// What no receipt settles, where the first document is settled and the second is new: documents that aren't there, the first
+/// again, and the second by details that no receipt gives.
+static UNSETTLED: [(u64, Detail); 11] = [
+    (0, Detail::Processed),
+    (3, Detail::Processed),
+    (1_000_000_000_000, Detail::Processed),
+    (1, Detail::Warning),
+    (2, Detail::New),
+    (2, Detail::Sending),
+    (2, Detail::Awaiting),
+    (2, Detail::Retry),
+    (2, Detail::NoReceiptAsked),
+    (2, Detail::TriesUsed),
+    (2, Detail::Overdue),
+];
+
+/// Another receipt.
+fn evidence(alloc: Global) -> Option<Evidence> {
+    Some(Evidence {
+        moment: Moment::new(2000)?,
+        content_type: Bytes::keep(alloc, b"text/plain").ok()?,
+        body: body(alloc, b"abc").ok()?,
+    })
+}
+
+/// The first of what no receipt settles that isn't refused.
+fn settled(alloc: Global, store: &mut Store<MemStore>) -> Option<(u64, Detail)> {
+    let evidence = evidence(alloc)?;
+    for &(number, detail) in &UNSETTLED {
+        if store.settle(number, detail, &evidence) != Err(StoreFault::Refused) {
+            return Some((number, detail));
+        }
+    }
+    None
 }
 
 #[test]

@@ -11,6 +11,8 @@ mod documents;
 #[cfg(test)]
 mod files;
 #[cfg(test)]
+mod pieces;
+#[cfg(test)]
 mod posts;
 #[cfg(test)]
 mod records;

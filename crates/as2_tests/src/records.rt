@@ -1,7 +1,7 @@
 //! Stores in memory: entries, numbers, and databases that are no store.
 ghost use Rattle.std.specs.Prelude.{◌≡◌, false};
 
-use crate::stores::{add, is_entry, is_found, new_store, next};
+use crate::stores::{add, count, found_by_number, is_found, new_store, next};
 use as2_exchange::StoreFault;
 use as2_store::Store;
 use sqlite::{Alter, Connection, MemStore};
@@ -63,28 +63,14 @@ fn entries_are_found_as_they_were_added(rt: HostRuntime) -> Result<(), Fail> {
     Ok(())
 }
 
-/// The entry of that number is the one that was added under it.
-fn is_numbered<S: Alter>(
-    alloc: Global,
-    store: &mut Store<S>,
-    number: u64,
-    id: &'static str,
-    bytes: &[u8],
-) -> bool {
-    match store.find_in_number(alloc, number) {
-        Ok(Some(entry)) => is_entry(alloc, &entry, number, id, bytes),
-        _ => false,
-    }
-}
-
 #[test]
 fn entries_are_found_by_number(rt: HostRuntime) -> Result<(), Fail> {
     let Some(mut store) = new_store(rt.alloc(), 1) else {
         return Err(Fail::from(StoreFault::Refused));
     };
     fill(rt.alloc(), &mut store, b"more")?;
-    assert!(rt; is_numbered(rt.alloc(), &mut store, 2, "m2@x", b"more"));
-    assert!(rt; is_numbered(rt.alloc(), &mut store, 3, "<m3@x>", b""));
+    assert!(rt; found_by_number(rt.alloc(), &mut store, 2, "m2@x", b"more")?);
+    assert!(rt; found_by_number(rt.alloc(), &mut store, 3, "<m3@x>", b"")?);
     assert!(rt; matches!(store.find_in_number(rt.alloc(), 4), Ok(None)));
     Ok(())
 }
@@ -105,15 +91,31 @@ fn entries_are_listed_in_order(rt: HostRuntime) -> Result<(), Fail> {
     Ok(())
 }
 
+/// Entries that aren't added where the first is there and the second is next: one of its key, and others of other numbers.
+static REFUSED: [(u64, &str); 4] = [(2, "m1@x"), (3, "<m2@x>"), (1, "<m2@x>"), (0, "<m2@x>")];
+
+/// The number of the first of them that isn't refused.
+fn added<S: Alter>(alloc: Global, store: &mut Store<S>) -> Option<u64> {
+    for &(number, id) in &REFUSED {
+        if add(alloc, store, number, id, b"abd") != Err(StoreFault::Refused) {
+            return Some(number);
+        }
+    }
+    None
+}
+
 #[test]
-fn a_key_stands_once(rt: HostRuntime) -> Result<(), Fail> {
+fn a_key_stands_once_and_numbers_come_in_turn(rt: HostRuntime) -> Result<(), Fail> {
     let Some(mut store) = new_store(rt.alloc(), 1) else {
         return Err(Fail::from(StoreFault::Refused));
     };
     add(rt.alloc(), &mut store, 1, "<m1@x>", b"abc")?;
-    let again = add(rt.alloc(), &mut store, 2, "m1@x", b"abd");
-    assert!(rt; again == Err(StoreFault::Refused));
+    assert!(rt; added(rt.alloc(), &mut store) == None);
     assert!(rt; next(&mut store) == Some((2, 1)));
+    assert!(rt; is_found(rt.alloc(), &mut store, 1, "<m1@x>", b"abc"));
+    let mut conn = store.into_connection();
+    assert!(rt; count(&mut conn, "SELECT number FROM inbox") == Some(1));
+    assert!(rt; count(&mut conn, "SELECT number FROM inbox_piece") == Some(1));
     Ok(())
 }
 
@@ -163,22 +165,55 @@ fn a_store_is_of_one_version(rt: HostRuntime) -> Result<(), Fail> {
     Ok(())
 }
 
+/// The connection, where no store is made on it, and its tables are as many as they were, with the one row of `notes`.
+fn not_made(conn: Connection<MemStore>, tables: usize, notes: &str) -> Option<Connection<MemStore>>
+    requires { conn.in_transaction ≡ false }
+{
+    let Err((mut conn, StoreFault::Refused)) = Store::create(conn, 5) else {
+        return None;
+    };
+    if conn.schema().tables.len() == tables && count(&mut conn, notes) == Some(1) {
+        Some(conn)
+    } else {
+        None
+    }
+}
+
+/// A store with an entry, and a table more, of one row.
+fn store_with_notes(alloc: Global) -> Option<Connection<MemStore>> {
+    let mut store = new_store(alloc, 1)?;
+    add(alloc, &mut store, 1, "<m1@x>", b"abc").ok()?;
+    let mut conn = store.into_connection();
+    conn.execute_batch("CREATE TABLE notes (title TEXT); INSERT INTO notes VALUES ('n')")
+        .ok()?;
+    if !conn.is_autocommit() {
+        return None;
+    }
+    not_made(conn, 8, "SELECT title FROM notes WHERE title = 'n'")
+}
+
+/// Whether none is made where a table of another kind has the name of a store's last one, and stays as it is.
+fn is_kept(alloc: Global) -> Result<bool, Fail> {
+    let mut conn = Connection::open_in_memory(alloc)?;
+    conn.execute_batch("CREATE TABLE waiting (title TEXT); INSERT INTO waiting VALUES ('n')")?;
+    if !conn.is_autocommit() {
+        return Ok(false);
+    }
+    Ok(not_made(conn, 1, "SELECT title FROM waiting WHERE title = 'n'").is_some())
+}
+
 #[test]
 fn a_store_is_made_once(rt: HostRuntime) -> Result<(), Fail> {
-    let Some(mut store) = new_store(rt.alloc(), 1) else {
-        return Err(Fail::from(StoreFault::Refused));
-    };
-    add(rt.alloc(), &mut store, 1, "<m1@x>", b"abc")?;
-    let conn = match Store::create(store.into_connection(), 5) {
-        Ok(_) => return Err(Fail::from(StoreFault::NotAStore)),
-        Err((conn, fault)) => {
-            assert!(rt; fault == StoreFault::Refused);
-            conn
-        }
+    assert!(rt; is_kept(rt.alloc())?);
+    let Some(conn) = store_with_notes(rt.alloc()) else {
+        return Err(Fail::from(StoreFault::NotAStore));
     };
     if conn.is_autocommit() {
         match Store::adopt(conn) {
-            Ok(mut store) => assert!(rt; next(&mut store) == Some((2, 1))),
+            Ok(mut store) => {
+                assert!(rt; next(&mut store) == Some((2, 1)));
+                assert!(rt; is_found(rt.alloc(), &mut store, 1, "<m1@x>", b"abc"));
+            }
             Err(_) => assert!(rt; false),
         }
     }
