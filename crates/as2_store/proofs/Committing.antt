@@ -1,11 +1,11 @@
 -- What a transaction leaves: the commit of what its statements did, or nothing.
-use Rattle.std.proofs.Common.{◌≡◌, ap, sym, refl, subst, ◌∙◌, inl, arith, Option, Some, ℕ, List, Result, Ok, Err, IsErr, IsTrue, false, true}
+use Rattle.std.proofs.Common.{◌≡◌, ap, sym, subst, ◌∙◌, arith, Option, Some, ℕ, List, Result, Ok, Err, IsErr, IsTrue, false, true}
 use Rattle.sqlite.specs.Store.{Ghosts}
 use Rattle.sqlite.specs.Held.{Held, state}
 use Rattle.sqlite.specs.Effect.{Database}
 use Rattle.sqlite.specs.Order.{Row}
 use Rattle.sqlite.specs.declared.error.Error.{Error}
-use Rattle.sqlite.specs.State.{State as Connected, HasCleanDisk, KeepsCommit, Shows, Survives, IsRolledBack, ExecutesInside}
+use Rattle.sqlite.specs.State.{State as Connected, HasCleanDisk, Shows, Survives, IsRolledBack, ExecutesInside}
 use Rattle.sql_tables.proofs.Inside.{kept}
 use Rattle.sqlite_trees.specs.Tree.{Trees}
 use Rattle.sqlite.proofs.StateLemmas.{survives_then}
@@ -13,7 +13,7 @@ use Rattle.sqlite.proofs.Callers.{survives_begin}
 use Rattle.as2_exchange.specs.State.{State}
 use Rattle.as2_store.specs.Tables.{store_schema}
 use Rattle.as2_store.specs.Stands.{Stands, Rests}
-use Rattle.as2_store.specs.Calls.{IsInside, Keeps, Lasts, KeepsNext, Commits, Reaches, Writes}
+use Rattle.as2_store.specs.Calls.{IsInside, Keeps, Commits, Writes}
 use Rattle.as2_store.proofs.Resting.{rests_committed, rests_after, keeps_then}
 use Rattle.sqlite_schema.specs.declared.schema.Schema.{Schema}
 
@@ -112,15 +112,7 @@ module _ {S : Type 0} (g : Ghosts S) (old : Held S) (last : Connected) (end : He
         crash = committed_crash inside late done;
       }
 
--- ---- a read
-
-never_left : (s : State) (old : Connected) (db : Trees) → IsTrue old.is_open → Rests old s → db ≡ old.now.trees → Keeps db s
-never_left s old db opened r is = subst (λ (t : Trees). Keeps t s) (sym is) (keeps_of old.now s (r.stands opened))
-
 -- ---- the same write, by other names
-
-pub write_ok : {A B E F : Type 0} (next : State → Option State) (old new : Connected) (a : A) (b : B) → Writes {A = A} {E = E} next old new (Ok a) → Writes {A = B} {E = F} next old new (Ok b)
-write_ok next old new a b it = record { clean = it.clean; was_open = it.was_open; is_open = it.is_open; done = it.done; failed = it.failed; crash = it.crash }
 
 pub write_err : {A B E F : Type 0} (next : State → Option State) (old new : Connected) (e : E) (f : F) → Writes {A = A} {E = E} next old new (Err e) → Writes {A = B} {E = F} next old new (Err f)
 write_err next old new e f it = record { clean = it.clean; was_open = it.was_open; is_open = it.is_open; done = it.done; failed = it.failed; crash = it.crash }

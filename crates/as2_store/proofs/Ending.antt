@@ -42,7 +42,7 @@ use Rattle.as2_rows.specs.Contents.{pieces, piece_shown}
 use Rattle.as2_rows.specs.Waiting.{Waiting, out_kind, out_waiting, waiting_out, waiting_in, to_send, to_answer, to_hear, to_end}
 use Rattle.as2_store.specs.Tables.{store_schema, outbox_table, outbox_tree, outbox_piece_tree, evidence_table, evidence_tree, waiting_table, waiting_tree}
 use Rattle.as2_store.specs.Statements.{out_settle_text, evidence_put_text, document_take_text}
-use Rattle.as2_store.specs.Stands.{Stands, Rests, place, waiting_row, documents_waiting, waiting, evidence_rows, outbox_pieces}
+use Rattle.as2_store.specs.Stands.{Stands, place, waiting_row, documents_waiting, waiting, evidence_rows, outbox_pieces}
 use Rattle.as2_store.specs.Requeuing.{Holds}
 use Rattle.as2_store.specs.Settling.{settled_as, settled_in, of_document, without_document}
 use Rattle.as2_store.proofs.Committing.{Done}

@@ -20,7 +20,7 @@ use Rattle.as2_rows.specs.Rows.{in_row, meta_row}
 use Rattle.as2_rows.specs.Contents.{pieces, piece_shown}
 use Rattle.as2_rows.specs.Waiting.{Waiting, in_waiting}
 use Rattle.as2_store.specs.Tables.{store_schema, meta_tree, inbox_tree, inbox_piece_tree, waiting_tree}
-use Rattle.as2_store.specs.Stands.{Stands, Rests, HasCounters, inbox_pieces}
+use Rattle.as2_store.specs.Stands.{Stands, HasCounters, inbox_pieces}
 use Rattle.as2_store.specs.Adding.{Appended, Noted, IsEntered, with_received, added}
 use Rattle.as2_store.proofs.Committing.{Done}
 use Rattle.as2_store.proofs.Rising.{puts_between}

@@ -1,12 +1,11 @@
 -- What is handed back, where a connection is refused; and what is adopted.
-use Rattle.std.proofs.Common.{◌≡◌, ◌⊎◌, inl, inr, ℕ, List, [], ◌∷◌, codes, Option, Some, None, Result, Ok, Err, IsTrue, true, false, refl, sym, ap, subst, ◌∙◌, arith}
+use Rattle.std.proofs.Common.{◌≡◌, ◌⊎◌, inl, inr, ℕ, List, [], ◌∷◌, codes, Some, None, Ok, IsTrue, true, false, refl, sym, ap, ◌∙◌, arith}
 use Rattle.sqlite_trees.specs.Tree.{Trees}
 use Rattle.sqlite.specs.Store.{Ghosts}
 use Rattle.sqlite.specs.Held.{Held, state}
 use Rattle.sqlite.specs.Order.{Row}
-use Rattle.sqlite.specs.Listing.{understood}
 use Rattle.sqlite.specs.declared.error.Error.{Error}
-use Rattle.sqlite.specs.State.{State as Connected, HasCleanDisk, Survives, IsRolledBack, Shown, FailsToQuery, IsNotRun, IsTooLate}
+use Rattle.sqlite.specs.State.{State as Connected, HasCleanDisk, Survives, IsRolledBack, Shown, FailsToQuery, IsTooLate}
 use Rattle.sqlite.proofs.StateLemmas.{survives_then}
 use Rattle.sqlite.proofs.Callers.{survives_begin}
 use Rattle.sql_tables.specs.Changes.{IsOutside}
@@ -16,7 +15,7 @@ use Rattle.as2_exchange.specs.declared.fault.StoreFault.{StoreFault}
 use Rattle.as2_exchange.specs.declared.fault.StoreFault.TheVariants.{NotAStore}
 use Rattle.sqlite.specs.Schema.{Schema}
 use Rattle.as2_store.specs.Statements.{meta_read_text}
-use Rattle.as2_store.specs.Stands.{Stands, Rests, IsBlank, Says, judged, may_come}
+use Rattle.as2_store.specs.Stands.{Stands, Says, judged, may_come}
 use Rattle.as2_store.specs.Calls.{IsInside, IsGivenBack, IsReason, Writes, Adopts}
 use Rattle.as2_store.proofs.MetaRow.{said_fails, reads_said, says_of, told}
 

@@ -6,7 +6,6 @@ mod Committing
 mod Querying
 mod Handing
 mod Beginning
-mod Answering
 mod MetaRow
 mod Rising
 mod Piling

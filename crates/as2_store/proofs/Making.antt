@@ -3,11 +3,11 @@ use Rattle.std.proofs.Common.{◌≡◌, Ok, refl}
 use Rattle.sqlite.specs.Compile.{table_defined_by, index_defined_by}
 use Rattle.sqlite.specs.Command.TheVariants.{CreateTable, CreateIndex}
 use Rattle.sqlite.specs.Schema.{Schema}
-use Rattle.sqlite.specs.Change.{created, indexed}
+use Rattle.sqlite.specs.Change.{created}
 use Rattle.sqlite.specs.Listing.{understood}
 use Rattle.sqlite.proofs.Callers.{IsPlain, command_of, statement_of}
 use Rattle.sqlite_tied.specs.Compute.{everything}
-use Rattle.as2_store.specs.Tables.{meta_text, inbox_text, inbox_piece_text, outbox_text, outbox_piece_text, evidence_text, waiting_text, waiting_due_text, meta_made, inbox_made, inbox_piece_made, outbox_made, outbox_piece_made, evidence_made, waiting_made, waiting_table, waiting_due_made, no_schema, inbox_schema, outbox_schema, store_schema}
+use Rattle.as2_store.specs.Tables.{meta_text, inbox_text, inbox_piece_text, outbox_text, outbox_piece_text, evidence_text, waiting_text, waiting_due_text, meta_made, inbox_made, inbox_piece_made, outbox_made, outbox_piece_made, evidence_made, waiting_made, waiting_table, waiting_due_made, no_schema, inbox_schema, outbox_schema}
 
 -- ---- the schemas between
 
@@ -25,15 +25,6 @@ with_outbox_piece = created with_outbox outbox_piece_made
 
 abbrev pub with_waiting : Schema
 with_waiting = created outbox_schema waiting_made
-
-pub inbox_created : created with_inbox inbox_piece_made ≡ inbox_schema
-inbox_created = refl
-
-pub outbox_created : created with_outbox_piece evidence_made ≡ outbox_schema
-outbox_created = refl
-
-pub store_created : indexed with_waiting waiting_table waiting_due_made ≡ store_schema
-store_created = refl
 
 -- ---- the texts
 

@@ -1,9 +1,8 @@
 -- Pieces go in beside those that are there.
-use Rattle.std.proofs.Common.{◌≡◌, ◌≢◌, ℕ, ◌+◌, ◌*◌, ◌<◌, ◌≤◌, List, [], ◌∷◌, ◌++◌, map, length, Ok, Option, Some, None, Bool, true, false, nat_lt, cond, refl, sym, ap, subst, ◌∙◌, arith, append-nil, append_assoc, zero, suc}
+use Rattle.std.proofs.Common.{◌≡◌, ◌≢◌, ℕ, ◌+◌, ◌*◌, ◌<◌, List, [], ◌∷◌, ◌++◌, map, length, Ok, Some, None, Bool, true, false, nat_lt, cond, refl, sym, ap, subst, ◌∙◌, arith, append_assoc, zero, suc}
 use Rattle.std.specs.List.{AllByRecursion, range_with_len}
 use Rattle.std.proofs.lemmas.List.{map-append}
 use Rattle.std.proofs.lemmas.Bool.Decides.{nat_tests}
-use Rattle.std.proofs.lemmas.Grind.{div_ceil_times}
 use Rattle.sqlite.specs.declared.types.Value.TheVariants.{Null, Int}
 use Rattle.sqlite.specs.Order.{Row}
 use Rattle.sqlite.specs.Table.{Table}
@@ -14,7 +13,7 @@ use Rattle.sql_tables.specs.Changes.{HasRows}
 use Rattle.sql_tables.proofs.Sorting.{unchanged, one_more_row}
 use Rattle.sql_tables.proofs.Writes.{cast_int, cast_null, IsOneRow, inserts_chosen}
 use Rattle.as2_mic.specs.Pieces.{piece_size, piece_at}
-use Rattle.as2_rows.specs.Contents.{Piece, piece_bytes, piece_of, pieces, piece_shown}
+use Rattle.as2_rows.specs.Contents.{Piece, piece_bytes, piece_of, piece_shown}
 use Rattle.as2_store.specs.Tables.{store_schema, inbox_piece_table, inbox_piece_tree}
 use Rattle.as2_store.specs.Statements.{in_piece_put_text}
 use Rattle.as2_store.specs.Adding.{Appended}
@@ -26,13 +25,6 @@ puts_piece : (p : Piece) (before : List Piece) (rows : List Row) → HasRows row
 puts_piece p before rows has = subst (HasRows (put_row (Int (next_rowid rows) ∷ piece_shown p) rows)) (sym (map-append piece_shown before (p ∷ []))) (one_more_row rows (map piece_shown before) (piece_shown p) has)
 
 -- ---- one after another
-
-pub appended_none : (a : Connected) (tree : ℕ) → a.now.schema ≡ store_schema → Appended a a tree []
-appended_none a tree has = record {
-  schema_is = has;
-  pieces_are = λ before are. subst (λ ps. HasRows (a.now.trees tree) (map piece_shown ps)) (sym (append-nil before)) are;
-  others = (λ _. refl, (λ _. refl, (λ _. refl, (λ _. refl, (λ _. refl, (λ _. refl, (λ _. refl, tt)))))));
-}
 
 others_then : (a b c : Trees) (tree : ℕ) (tables : List Table) → AllByRecursion (λ t. t.tree ≢ tree → b t.tree ≡ a t.tree) tables → AllByRecursion (λ t. t.tree ≢ tree → c t.tree ≡ b t.tree) tables
     → AllByRecursion (λ t. t.tree ≢ tree → c t.tree ≡ a t.tree) tables
@@ -69,13 +61,6 @@ some_piece_by content i false p is found = absurd cc
 pub some_piece : (content : List ℕ) (i : ℕ) (p : List ℕ) → piece_at content i ≡ Some p → (i * piece_size < length content) × (p ≡ piece_bytes content i)
 some_piece content i p found = some_piece_by content i (nat_lt (i * piece_size) (length content)) p refl found
 
-no_piece_by : (content : List ℕ) (i : ℕ) (t : Bool) → nat_lt (i * piece_size) (length content) ≡ t → cond {A = Option (List ℕ)} t (Some (piece_bytes content i)) None ≡ None → length content ≤ i * piece_size
-no_piece_by content i true is found = absurd cc
-no_piece_by content i false is found = grind (arith, nat_tests)
-
-pub no_piece : (content : List ℕ) (i : ℕ) → piece_at content i ≡ None → length content ≤ i * piece_size
-no_piece content i found = no_piece_by content i (nat_lt (i * piece_size) (length content)) refl found
-
 -- the pieces before this position
 abbrev pub pieces_before : ℕ → List ℕ → ℕ → List Piece
 pieces_before number content i = map (piece_of number content) (range_with_len 0 i)
@@ -94,8 +79,3 @@ pub one_before : (number : ℕ) (content : List ℕ) (i : ℕ) (p : List ℕ) �
 one_before number content i p is =
     ap (λ b. pieces_before number content i ++ (record { number = number; position = i; bytes = b }) ∷ []) is
     ∙ sym (ap (map (piece_of number content)) (range_more i) ∙ map-append (piece_of number content) (range_with_len 0 i) (i ∷ []))
-
--- where no piece is left, all were before
-pub all_before : (number : ℕ) (content : List ℕ) (i : ℕ) → i * piece_size < length content + piece_size → length content ≤ i * piece_size → pieces_before number content i ≡ pieces number content
-all_before number content i low high =
-    ap (pieces_before number content) (omega (arith, low, high, (div_ceil_times (length content) piece_size (omega arith)).0, (div_ceil_times (length content) piece_size (omega arith)).1))

@@ -1,20 +1,20 @@
 -- A query in a transaction of its own.
-use Rattle.std.proofs.Common.{◌≡◌, ◌⊎◌, inl, inr, ℕ, List, Option, Some, None, Result, Ok, Err, IfOk, IfErr, OnOk, IsErr, IsTrue, true, refl, sym, ap, subst, ◌∙◌, arith}
+use Rattle.std.proofs.Common.{◌≡◌, ◌⊎◌, inl, ℕ, List, Some, Result, Ok, Err, IfOk, IfErr, OnOk, IsErr, IsTrue, true, refl, sym, subst, arith}
 use Rattle.sqlite_trees.specs.Tree.{Trees}
 use Rattle.sqlite.specs.Store.{Ghosts}
 use Rattle.sqlite.specs.Held.{Held, state}
 use Rattle.sqlite.specs.Order.{Row}
 use Rattle.sqlite.specs.Effect.{Database}
-use Rattle.sqlite.specs.Listing.{understood, reads_listing, IsSourceOf}
+use Rattle.sqlite.specs.Listing.{understood}
 use Rattle.sqlite.specs.declared.error.Error.{Error}
-use Rattle.sqlite.specs.State.{State as Connected, HasCleanDisk, Survives, KeepsCommit, Shown, ShowsRows, FailsToQuery, IsTooLate, IsUnchanged, IsRolledBack}
+use Rattle.sqlite.specs.State.{State as Connected, HasCleanDisk, Survives, KeepsCommit, Shown, FailsToQuery, IsTooLate}
 use Rattle.sqlite.proofs.Callers.{IsPlain}
 use Rattle.sql_tables.proofs.Inside.{shown_open, shown_same}
 use Rattle.sql_tables.proofs.Asking.{shown_keeps, failed_keeps, shown_alike}
 use Rattle.as2_exchange.specs.State.{State}
 use Rattle.as2_store.specs.Tables.{store_schema}
 use Rattle.as2_store.specs.Stands.{Stands, Rests}
-use Rattle.as2_store.specs.Calls.{IsInside, Reads, Writes, Commits, Reaches, KeepsNext}
+use Rattle.as2_store.specs.Calls.{IsInside, Reads, Writes, Commits}
 use Rattle.as2_store.proofs.Committing.{Done}
 use Rattle.sqlite.proofs.StateLemmas.{survives_then}
 

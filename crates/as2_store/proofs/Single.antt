@@ -32,7 +32,7 @@ use Rattle.as2_exchange.specs.declared.inbox.MdnState.TheVariants as mdn
 use Rattle.as2_exchange.specs.declared.inbox.InEntry.{InEntry}
 use Rattle.as2_exchange.specs.declared.outbox.Evidence.{Evidence}
 use Rattle.as2_exchange.specs.declared.outbox.OutEntry.{OutEntry}
-use Rattle.as2_rows.specs.Rows.{whole, whole_or_null, url_value, digest_value, mic_value, in_columns, out_columns, in_row, out_row, evidence_row, meta_row}
+use Rattle.as2_rows.specs.Rows.{whole, whole_or_null, url_value, digest_value, mic_value, in_columns, out_columns, in_row, out_row, meta_row}
 use Rattle.as2_rows.specs.Codes.{outcome_code, how_code, mdn_code, attempt_code, detail_code}
 use Rattle.as2_rows.specs.Contents.{Piece, pieces, piece_bytes, piece_shown}
 use Rattle.as2_rows.specs.Summaries.{in_summary, in_entry, out_summary, out_entry, evidence_of}
@@ -42,7 +42,7 @@ use Rattle.as2_rows.specs.declared.outbox.OutRow.{OutRow}
 use Rattle.as2_rows.proofs.Joining.{as_many, bytes_at, one_more, all_taken, pieces_rise}
 use Rattle.as2_store.specs.Stands.{Stands, evidence_rows}
 use Rattle.as2_store.proofs.Gathering.{all_pieces, gathers}
-use Rattle.as2_store.proofs.Recalling.{receipts, receipt_in, row_of, of_number, rows_of, own_receipt}
+use Rattle.as2_store.proofs.Recalling.{receipts, row_of, of_number, rows_of, own_receipt}
 
 -- ---- values
 

@@ -1,11 +1,11 @@
 -- A document that a statement found, and whose evidence could be put in, is one that no receipt has settled.
-use Rattle.std.proofs.Common.{◌≡◌, ◌≢◌, ℕ, ◌==◌, ◌||◌, ◌&&◌, not, List, [], ◌∷◌, length, filter, find, Option, option_map, Some, None, is_some, Bool, true, false, cond, refl, sym, ap, subst, ◌∙◌, pos, arith}
+use Rattle.std.proofs.Common.{◌≡◌, ◌≢◌, ℕ, ◌==◌, ◌||◌, ◌&&◌, not, List, [], ◌∷◌, length, filter, find, Option, option_map, Some, None, is_some, Bool, true, false, cond, refl, ap, ◌∙◌, pos, arith}
 use Rattle.std.specs.List.{cons_option}
 use Rattle.std.specs.Ordering.{is_eq}
 use Rattle.std.proofs.lemmas.Int.{ints}
 use Rattle.std.proofs.lemmas.Bool.Decides.{nat_tests}
 use Rattle.sqlite.specs.declared.types.Value.TheVariants.{Int}
-use Rattle.sqlite.specs.Order.{Row, value_cmp}
+use Rattle.sqlite.specs.Order.{value_cmp}
 use Rattle.sqlite.specs.Edit.{are_fresh, is_taken}
 use Rattle.sqlite_value.proofs.OrderLemmas.{value_cmp-Int}
 use Rattle.as2_exchange.specs.State.{is_settled}

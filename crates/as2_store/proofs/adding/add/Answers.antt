@@ -1,4 +1,4 @@
-use Rattle.std.proofs.Common.{true, rules, ◌≡◌, subst, arith, Ok, Err}
+use Rattle.std.proofs.Common.{true, rules, ◌≡◌, subst, arith, Ok}
 use Rattle.sqlite.specs.Held.{state}
 use Rattle.as2_store.specs.Adding.{added}
 use Rattle.as2_store.specs.Calls.{IsInside, Writes}

@@ -1,4 +1,4 @@
-use Rattle.std.proofs.Common.{rules, true, ◌≡◌, ◌∙◌, ℕ, [], sym, ap, refl, subst, arith, Ok, Err, Some}
+use Rattle.std.proofs.Common.{rules, true, ◌≡◌, ◌∙◌, ℕ, [], sym, ap, refl, subst, arith, Some}
 use Rattle.sqlite.specs.Held.{state}
 use Rattle.sqlite.specs.Schema.{Schema}
 use Rattle.sqlite.specs.State.{HasCleanDisk, Shown}
@@ -6,7 +6,7 @@ use Rattle.sqlite.specs.declared.error.Error.{Error}
 use Rattle.sql_tables.proofs.Inside.{shown_open}
 use Rattle.sql_tables.proofs.Asking.{shown_stays}
 use Rattle.as2_store.specs.Statements.{meta_read_text}
-use Rattle.as2_store.specs.Calls.{Adopts, Commits, IsGivenBack, IsReason}
+use Rattle.as2_store.specs.Calls.{Adopts, Commits, IsGivenBack}
 use Rattle.as2_store.proofs.Resting.{undone}
 use Rattle.as2_store.proofs.Committing.{commits, committed_next}
 use Rattle.as2_store.proofs.Querying.{queried_inside, asked}

@@ -1,4 +1,4 @@
-use Rattle.std.proofs.Common.{rules, true, ◌≡◌, subst, arith, Ok, Err}
+use Rattle.std.proofs.Common.{rules, true, ◌≡◌, subst, arith}
 use Rattle.sqlite.specs.Held.{state}
 use Rattle.as2_store.specs.Calls.{IsInside, Creates, CommitsFirst, IsGivenBack}
 use Rattle.as2_store.proofs.Resting.{undone, if_error}

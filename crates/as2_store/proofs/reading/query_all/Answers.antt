@@ -1,4 +1,4 @@
-use Rattle.std.proofs.Common.{rules, true, ◌≡◌, refl, subst, arith, Ok, Err, Some}
+use Rattle.std.proofs.Common.{rules, true, ◌≡◌, refl, subst, arith, Ok, Some}
 use Rattle.sqlite.specs.Held.{state}
 use Rattle.sqlite.specs.Values.{bound}
 use Rattle.sqlite.specs.State.{HasCleanDisk, Shown}

@@ -1,4 +1,4 @@
-use Rattle.std.proofs.Common.{◌∙◌, ◌==◌, ap, Err, Ok}
+use Rattle.std.proofs.Common.{◌∙◌, ap}
 use Rattle.sqlite.specs.Held.{state}
 use Rattle.as2_store.proofs.Querying.{read_of, read_err, read_ok}
 use Rattle.as2_store.proofs.store.Store.next_numbers.Goals as goal

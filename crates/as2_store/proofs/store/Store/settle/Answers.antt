@@ -1,4 +1,4 @@
-use Rattle.std.proofs.Common.{◌∙◌, ◌==◌, ap, Err, Ok}
+use Rattle.std.proofs.Common.{ap}
 use Rattle.sqlite.specs.Held.{state}
 use Rattle.as2_store.proofs.Committing.{write_of, write_err}
 use Rattle.as2_store.proofs.store.Store.settle.Goals as goal
