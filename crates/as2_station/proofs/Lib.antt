@@ -1,5 +1,5 @@
 mod Numbers
 mod Playing
+mod Reaching
 mod Results
 mod Settling
-mod Reaching

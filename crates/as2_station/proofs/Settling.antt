@@ -1,6 +1,6 @@
 -- What a posted receipt is answered, and what it leaves.
 use Rattle.std.proofs.Common.{◌≡◌, ℕ, Option, Some, None, true, false, refl, ◌&&◌}
-use Rattle.std.specs.Prelude.{nat_le, if◌then◌else◌}
+use Rattle.std.specs.Prelude.{if◌then◌else◌}
 use Rattle.sqlite.specs.State.{State as Connected}
 use Rattle.as2_exchange.specs.Readings.{named_by}
 use Rattle.as2_exchange.specs.State.{State, change_document, document_named, is_begun, is_settled}

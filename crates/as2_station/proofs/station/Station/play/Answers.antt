@@ -1,9 +1,9 @@
-use Rattle.as2_station.proofs.Reaching.{lasting}
-use Rattle.std.proofs.Common.{rules, ◌≡◌, ◌+◌, ◌++◌, [], ◌∷◌, ◌∙◌, length, sym, ap, subst, append_assoc, append-nil, arith}
+use Rattle.std.proofs.Common.{◌≡◌, ◌+◌, ◌++◌, [], ◌∷◌, ◌∙◌, length, sym, ap, subst, append_assoc, append-nil, arith}
 use Rattle.std.proofs.lemmas.List.{length-append}
 use Rattle.sqlite.specs.Held.{state}
 use Rattle.as2_station.specs.Traces.{AreSaidTo, EndsOpen, IsSaidTo, Plays, trace}
 use Rattle.as2_station.proofs.Playing.{plays_more, trace_more, said_more, ends_open, nothing_left}
+use Rattle.as2_station.proofs.Reaching.{lasting}
 use Rattle.as2_station.proofs.station.Station.play.Goals as goal
 
 pub events-preserved : goal.events-preserved
