@@ -4,5 +4,5 @@ mod Numbers
 mod Ranges
 pub mod Sending
 mod Taking
-mod Unsaid
+pub mod Unsaid
 mod OneReply

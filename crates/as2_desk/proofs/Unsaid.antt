@@ -37,7 +37,8 @@ gets_unsaid A moment s Safe t input after g = record {
   unread = g.unread;
 }
 
-path_unsaid : (A : AgreedValues) (moment : ℕ) (s : State) (Safe : State → Type 0) (t : State) (input : List ℕ) (after : Option (List ℕ)) (end : Served) (text : List ℕ)
+-- so what is said with more holds with nothing said, as the law has it
+pub path_unsaid : (A : AgreedValues) (moment : ℕ) (s : State) (Safe : State → Type 0) (t : State) (input : List ℕ) (after : Option (List ℕ)) (end : Served) (text : List ℕ)
     → FirstPath A moment s Safe t input after end text → FirstPath A moment s Unsaid t input after end text
 path_unsaid A moment s Safe t input after Closed text (inl r) = inl (record { gets = gets_unsaid A moment s Safe t input after r.gets; reply = r.reply })
 path_unsaid A moment s Safe t input after Closed text (inr p) = inr p

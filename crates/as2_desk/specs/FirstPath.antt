@@ -24,8 +24,10 @@ form_of r = record { closes = false; to_head = is_head r.method }
 abbrev pub refusal_form : Refused → Form
 refusal_form refused = record { closes = true; to_head = refused.to_head }
 
--- the input begins with a request, this is what it gets in the state s, and t is left; no more was read than that took
-pub record Gets (agreements : AgreedValues) (moment : ℕ) (s : State) (Safe : State → Type 0) (t : State) (input : List ℕ) (after : Option (List ℕ)) : Type 0 where
+-- the input begins with a request, this is what it gets in the state s, and t is left, Safe where the store was asked; no more
+-- was read than that took
+pub record Gets (agreements : AgreedValues) (moment : ℕ) (s : State) (Safe : State → Type 0) (t : State)
+    (input : List ℕ) (after : Option (List ℕ)) : Type 0 where
   pub request : Request
   pub rest : List ℕ
   pub begins : Begins input request rest
@@ -34,7 +36,8 @@ pub record Gets (agreements : AgreedValues) (moment : ℕ) (s : State) (Safe : S
   pub unread : LeavesUnread input after
 
 -- the text is the reply to that
-pub record Replies (agreements : AgreedValues) (moment : ℕ) (s : State) (Safe : State → Type 0) (t : State) (input : List ℕ) (after : Option (List ℕ)) (text : List ℕ) : Type 0 where
+pub record Replies (agreements : AgreedValues) (moment : ℕ) (s : State) (Safe : State → Type 0) (t : State)
+    (input : List ℕ) (after : Option (List ℕ)) (text : List ℕ) : Type 0 where
   pub gets : Gets agreements moment s Safe t input after
   pub reply : IsReply moment (form_of gets.request) (answer_of gets.response) text
 
@@ -49,7 +52,8 @@ pub record Refusal (moment : ℕ) (input : List ℕ) (after : Option (List ℕ))
 abbrev pub Leaves : AgreedValues → ℕ → State → (State → Type 0) → State → List ℕ → Option (List ℕ) → Type 0
 Leaves agreements moment s Safe t input after = (t ≡ s) ⊎ Gets agreements moment s Safe t input after
 
--- the text that is written for the input in the state s, the end that goes with it, and the state t that is left; what a write that failed wrote is not said
+-- the text that is written for the input in the state s, the end that goes with it, and the state t that is left; what a write
+-- that failed wrote is not said
 abbrev pub FirstPath : AgreedValues → ℕ → State → (State → Type 0) → State → List ℕ → Option (List ℕ) → Served → List ℕ → Type 0
 FirstPath agreements moment s Safe t input after Closed text =
     Replies agreements moment s Safe t input after text ⊎ (IsOpen input × (unblank input ≡ []) × (text ≡ []) × (t ≡ s))

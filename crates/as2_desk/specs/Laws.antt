@@ -27,7 +27,8 @@ pub record TellsFault (moment : ℕ) (text : List ℕ) : Type 0 where
   pub fault : StoreFault
   pub reply : IsReply moment form (answer_of (Failed fault)) text
 
--- where nothing failed, and the store neither, what is written, how the stream ends and what it leaves are the same each time
+-- where nothing failed, and the store neither, what is written, how the stream ends and what it leaves are the same each time,
+-- whatever is said of a crash
 abbrev pub OneReply : Type 0
 OneReply = (agreements : AgreedValues) (moment : ℕ) (s t u : State) (input : List ℕ) (after later : Option (List ℕ))
     → (end other : Served) (text same : List ℕ)

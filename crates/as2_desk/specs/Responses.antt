@@ -1,5 +1,4 @@
--- What a request gets in a state of the station, and the state that it leaves. Of that state it is told that a crash leaves it too
--- (Safe), where the store was asked.
+-- What a request gets in a state of the station, and the state that it leaves, which is Safe where the store was asked.
 use Rattle.std.specs.Prelude.{◌≡◌, ℕ, List, Some, codes, IsTrue, true, ⊤}
 use Rattle.sqlite.specs.State.{State as Connected}
 use Rattle.as2_agreement.specs.Agreements.{AgreedValues}

@@ -91,7 +91,8 @@ pub(crate) fn respond<S: Alter>(
 ) -> Response
     ensures clean { HasCleanDisk (state S.Store station.new) → HasCleanDisk (state S.Store station.old) }
     ensures responds { HasCleanDisk (state S.Store station.new) → (s : State) → Rests (state S.Store station.old) s
-        → (t : State) × Rests (state S.Store station.new) t × Responds agreements.now moment s request result (IsSafe (state S.Store station.new)) t }
+        → (t : State) × Rests (state S.Store station.new) t
+        × Responds agreements.now moment s request result (IsSafe (state S.Store station.new)) t }
 {
     let Request {
         method,
