@@ -188,7 +188,8 @@ static void add(long number) {
     sqlite3_bind_int64(piece, 2, 0);
     blob(piece, 3, "abc");
     once(piece);
-    sqlite3_bind_int64(next, 1, number + 1);
+    sqlite3_bind_int64(next, 1, number);
+    sqlite3_bind_int64(next, 2, number + 1);
     once(next);
     once(commit);
 }
@@ -228,9 +229,9 @@ int main(int count, char **words) {
     commit = prepared("COMMIT");
     insert = prepared("INSERT INTO inbox (number, sender, receiver, identifier_value, identifier, content_type, length, moment, outcome, how, url, digest, mic, mdn, tries, attempt, due) VALUES (?1, ?2, ?3, ?4, ?5, ?6, ?7, ?8, ?9, ?10, ?11, ?12, ?13, ?14, ?15, ?16, ?17)");
     piece = prepared("INSERT INTO inbox_piece (number, position, bytes) VALUES (?1, ?2, ?3)");
-    next = prepared("UPDATE meta SET next_receipt = ?1");
+    next = prepared("UPDATE meta SET next_receipt = ?2 WHERE next_receipt = ?1");
     find = prepared("SELECT number, sender, receiver, identifier_value, identifier, content_type, length, moment, outcome, how, url, digest, mic, mdn, tries, attempt, due FROM inbox WHERE sender = ?1 AND receiver = ?2 AND identifier_value = ?3 ORDER BY number");
-    pieces = prepared("SELECT number, position, bytes FROM inbox_piece WHERE number = ?1 ORDER BY rowid");
+    pieces = prepared("SELECT number, position, bytes FROM inbox_piece WHERE number = ?1 ORDER BY position");
     const long sizes[3] = {1000, 10000, 50000};
     long number = 1;
     for (int i = 0; i < 3; i++) {
