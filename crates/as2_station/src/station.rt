@@ -8,7 +8,7 @@ ghost use Rattle.as2_exchange.specs.declared.answer.Answer.TheVariants.{Http};
 ghost use Rattle.as2_posts.specs.Openings.{read_further};
 ghost use Rattle.as2_station.specs.Heads.{takes_store};
 ghost use Rattle.as2_station.specs.Steps.{Answers, Fails, IsStepFault, TakesEvent, TakesHead};
-ghost use Rattle.as2_station.specs.Traces.{AreSaidTo, PlaysTo};
+ghost use Rattle.as2_station.specs.Traces.{Plays, Taken, trace};
 
 use crate::receiving::receive;
 use crate::recording::record;
@@ -125,8 +125,8 @@ impl<S: Alter> Station<S> {
         agreements: &Agreements,
         events: Vec<Event>,
     ) -> Result<Vec<Result<Answer, StoreFault>>, Memory>
-        ensures each { IfOk result (λ said. AreSaidTo agreements.now events.items said.items) }
-        ensures played { IfOk result (λ said. PlaysTo agreements.now events.items said.items (state S.Store self.old) (state S.Store self.new)) }
+        ensures each { IfOk result (λ said. Taken S.Store agreements.now events.items said.items self.old self.new) }
+        ensures played { HasCleanDisk (state S.Store self.new) → IfOk result (λ said. Plays agreements.now (trace events.items said.items) (state S.Store self.old) (state S.Store self.new)) }
         ensures nothing { OnErr result (self.new ≡ self.old) }
     {
         let mut said = Vec::with_capacity(alloc, events.len())?;
