@@ -1,13 +1,13 @@
 //! The station, event by event.
-ghost use Rattle.std.specs.Prelude.{◌≡◌, true, IfOk, IfErr, OnErr, IsTrue, OnOk};
+ghost use Rattle.std.specs.Prelude.{◌≡◌, ⊤, true, IfOk, IfErr, OnErr, IsTrue, OnOk};
 ghost use Rattle.sqlite.specs.Held.{state};
-ghost use Rattle.sqlite.specs.State.{HasCleanDisk};
+ghost use Rattle.sqlite.specs.State.{HasCleanDisk, Survives};
 ghost use Rattle.as2_exchange.specs.Step.{post};
 ghost use Rattle.as2_exchange.specs.declared.event.Event.TheVariants.{Post};
 ghost use Rattle.as2_exchange.specs.declared.answer.Answer.TheVariants.{Http};
 ghost use Rattle.as2_posts.specs.Openings.{read_further};
 ghost use Rattle.as2_station.specs.Heads.{takes_store};
-ghost use Rattle.as2_station.specs.Steps.{Answers, Fails, IsStepFault, TakesEvent, TakesHead};
+ghost use Rattle.as2_station.specs.Steps.{Answers, Fails, IsStepFault, MayLeave, TakesEvent, TakesHead, left_by};
 ghost use Rattle.as2_station.specs.Traces.{Plays, Taken, trace};
 
 use crate::receiving::receive;
@@ -68,6 +68,7 @@ impl<S: Alter> Station<S> {
         ensures opened { HasCleanDisk (state S.Store self.new) → OnOk result (takes_store (read_further (opened.entry.from, opened.entry.to) (opened.entry.media, opened.entry.content_type.now) head.now body) ≡ true → IsTrue (state S.Store self.new).is_open) }
         ensures answered { HasCleanDisk (state S.Store self.new) → IfOk result (λ a. Answers (λ s. post agreements.now s moment (read_further (opened.entry.from, opened.entry.to) (opened.entry.media, opened.entry.content_type.now) head.now body)) (state S.Store self.old) (state S.Store self.new) (Http a)) }
         ensures failed { HasCleanDisk (state S.Store self.new) → IfErr result (λ f. Fails (λ s. post agreements.now s moment (read_further (opened.entry.from, opened.entry.to) (opened.entry.media, opened.entry.content_type.now) head.now body)) (state S.Store self.old) (state S.Store self.new) f) }
+        ensures crash { Survives (state S.Store self.old) (state S.Store self.new) (MayLeave (λ _. ⊤) (left_by (λ s. post agreements.now s moment (read_further (opened.entry.from, opened.entry.to) (opened.entry.media, opened.entry.content_type.now) head.now body))) (state S.Store self.old)) }
         ensures fault { IfErr result IsStepFault }
     {
         if opened.is_report() {
