@@ -1,4 +1,3 @@
-mod Crashing
 mod Numbers
 mod Playing
 mod Reaching

@@ -69,12 +69,11 @@ fn put_pieces(
     conn: &mut Connection<MemStore>,
     content: &[u8],
     pieces: &[Piece],
-) -> Result<(), Fail> {
+) -> Result<(), Error> {
     conn.execute_batch("DELETE FROM inbox_piece; DELETE FROM outbox_piece")?;
     for &(position, start, end) in pieces {
-        match content.get(start..end) {
-            Some(bytes) => put_piece(conn, position, bytes)?,
-            None => return Err(Fail::new("no piece")),
+        if let Some(bytes) = content.get(start..end) {
+            put_piece(conn, position, bytes)?;
         }
     }
     Ok(())
