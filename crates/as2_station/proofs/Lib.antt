@@ -1,3 +1,4 @@
+mod Crashing
 mod Numbers
 mod Playing
 mod Reaching

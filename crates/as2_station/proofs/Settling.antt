@@ -11,7 +11,7 @@ use Rattle.as2_exchange.specs.declared.answer.HttpBody.TheVariants.{Nothing, Wor
 use Rattle.as2_exchange.specs.declared.answer.Line.TheVariants.{NoSuchMessage}
 use Rattle.as2_exchange.specs.declared.outbox.OutEntry.{OutEntry}
 use Rattle.as2_store.specs.Stands.{Rests}
-use Rattle.as2_station.specs.Steps.{Left}
+use Rattle.as2_station.specs.Steps.{Left, left_by}
 
 -- it names no document
 pub of_none : (c : Connected) (s : State) (m : ℕ) (r : Came) → document_named s (named_by r.receipt) ≡ None → Rests c s → Left c (Some (settle s m r)) (http 404 (Words NoSuchMessage))
@@ -29,6 +29,12 @@ pub of_this : (c : Connected) (s : State) (m : ℕ) (r : Came) (d : OutEntry) �
     → Rests c (if is_settled d then s else change_document s d.number (settled m r)) → Left c (Some (settle s m r)) (http 200 Nothing)
 unfolding settle
 of_this c s m r d named this rests = record { next = if is_settled d then s else change_document s d.number (settled m r); step = rw (named, this) refl; rests = rests }
+
+-- the state that it leaves
+pub leaves_this : (s : State) (m : ℕ) (r : Came) (d : OutEntry) → document_named s (named_by r.receipt) ≡ Some d → (bears r d.organization d.partner d.id && is_begun d) ≡ true
+    → left_by (λ (s : State). Some (settle s m r)) s ≡ Some (if is_settled d then s else change_document s d.number (settled m r))
+unfolding settle
+leaves_this s m r d named this = rw (named, this) refl
 
 pub none_left : {X : Type 0} (o : Option X) → ((x : X) → o ≡ Some x → ⊥) → o ≡ None
 none_left None no_value = refl

@@ -26,7 +26,7 @@ takes_store (Refuses status line) = false
 takes_store (IsReceipt receipt) = true
 takes_store (IsDocument posted) = true
 
--- a post that can be read; no other event, for now
+-- a post that can be read, and every other event
 abbrev pub asks_store : Agreements → Event → Bool
 asks_store A (Post head body moment) = takes_store (reading A head body)
-asks_store A other = false
+asks_store A other = true

@@ -1,7 +1,7 @@
 //! Receipts that are posted: each settles its document once.
-ghost use Rattle.std.specs.Prelude.{◌≡◌, ◌&&◌, List, ℕ, Some, map, true, IfOk, IfErr, OnOk, OnErr, if◌then◌else◌, IsTrue};
+ghost use Rattle.std.specs.Prelude.{◌≡◌, ◌&&◌, List, ℕ, Some, map, true, IfOk, IfErr, OnOk, OnErr, if◌then◌else◌, IsTrue, ⊤};
 ghost use Rattle.sqlite.specs.Held.{state};
-ghost use Rattle.sqlite.specs.State.{HasCleanDisk};
+ghost use Rattle.sqlite.specs.State.{HasCleanDisk, Survives};
 ghost use Rattle.as2_exchange.specs.Agreement.{Agreements};
 ghost use Rattle.as2_exchange.specs.Invariants.{AreNumbers};
 ghost use Rattle.as2_exchange.specs.State.{State, change_document, document, is_begun, is_settled};
@@ -12,7 +12,7 @@ ghost use Rattle.as2_exchange.specs.declared.answer.Answer.TheVariants.{Http};
 ghost use Rattle.as2_exchange.specs.declared.answer.HttpBody.TheVariants.{Nothing};
 ghost use Rattle.as2_store.specs.Stands.{Rests, may_come};
 ghost use Rattle.as2_station.specs.Heads.{takes_store};
-ghost use Rattle.as2_station.specs.Steps.{Answers, Fails};
+ghost use Rattle.as2_station.specs.Steps.{Answers, Fails, MayLeave, left_by};
 
 use as2_exchange::{Bytes, Evidence, HttpAnswer, HttpBody, Line, OutEntry, StoreFault};
 use as2_mdn::{Receipt, read_report, verdict_pieces};
@@ -51,6 +51,7 @@ fn settle_once<S: Alter>(
     ensures settled { HasCleanDisk (state S.Store store.new) → OnOk result ((s : State) → Rests (state S.Store store.old) s → AreNumbers s.next_out (map (λ d. d.number) s.outbox) → document s entry.now.number ≡ Some entry.now
         → Rests (state S.Store store.new) (if is_settled entry.now then s else change_document s entry.now.number (settled moment (came (opened.now.from, opened.now.to) (opened.now.media, opened.now.content_type.now) body receipt.now)))) }
     ensures failed { HasCleanDisk (state S.Store store.new) → OnErr result ((s : State) → Rests (state S.Store store.old) s → Rests (state S.Store store.new) s) }
+    ensures crash { Survives (state S.Store store.old) (state S.Store store.new) (MayLeave (λ s. document s entry.now.number ≡ Some entry.now) (λ s. Some (if is_settled entry.now then s else change_document s entry.now.number (settled moment (came (opened.now.from, opened.now.to) (opened.now.media, opened.now.content_type.now) body receipt.now)))) (state S.Store store.old)) }
     ensures fault { IfErr result (λ f. may_come f ≡ true) }
 {
     if entry.evidence.is_some() {
@@ -89,6 +90,7 @@ fn take_receipt<S: Alter>(
     ensures opened { HasCleanDisk (state S.Store store.new) → OnOk result (IsTrue (state S.Store store.new).is_open) }
     ensures answered { HasCleanDisk (state S.Store store.new) → IfOk result (λ a. Answers (λ s. Some (settle s moment (came (opened.now.from, opened.now.to) (opened.now.media, opened.now.content_type.now) body receipt.now))) (state S.Store store.old) (state S.Store store.new) (Http a)) }
     ensures failed { HasCleanDisk (state S.Store store.new) → IfErr result (λ f. (s : State) → Rests (state S.Store store.old) s → Rests (state S.Store store.new) s) }
+    ensures crash { Survives (state S.Store store.old) (state S.Store store.new) (MayLeave (λ _. ⊤) (left_by (λ s. Some (settle s moment (came (opened.now.from, opened.now.to) (opened.now.media, opened.now.content_type.now) body receipt.now)))) (state S.Store store.old)) }
     ensures fault { IfErr result (λ f. may_come f ≡ true) }
 {
     let id_value = without_brackets(receipt.original_id);
@@ -115,6 +117,7 @@ pub fn receive<S: Alter>(
     ensures opened { HasCleanDisk (state S.Store store.new) → OnOk result (takes_store (report_posted (opened.now.from, opened.now.to) (opened.now.media, opened.now.content_type.now) body) ≡ true → IsTrue (state S.Store store.new).is_open) }
     ensures answered { HasCleanDisk (state S.Store store.new) → IfOk result (λ a. (A : Agreements) → Answers (λ s. post A s moment (report_posted (opened.now.from, opened.now.to) (opened.now.media, opened.now.content_type.now) body)) (state S.Store store.old) (state S.Store store.new) (Http a)) }
     ensures failed { HasCleanDisk (state S.Store store.new) → IfErr result (λ f. (s : State) → Rests (state S.Store store.old) s → Rests (state S.Store store.new) s) }
+    ensures crash { (A : Agreements) → Survives (state S.Store store.old) (state S.Store store.new) (MayLeave (λ _. ⊤) (left_by (λ s. post A s moment (report_posted (opened.now.from, opened.now.to) (opened.now.media, opened.now.content_type.now) body))) (state S.Store store.old)) }
     ensures fault { IfErr result (λ f. may_come f ≡ true) }
 {
     let report = body.joined()?;

@@ -1,14 +1,14 @@
 //! Documents that are posted: each is recorded once.
-ghost use Rattle.std.specs.Prelude.{◌≡◌, ◌⊎◌, Some, None, true, map, IfOk, IfErr, OnOk, OnErr, IsTrue};
+ghost use Rattle.std.specs.Prelude.{◌≡◌, ◌⊎◌, Some, None, true, map, IfOk, IfErr, OnOk, OnErr, IsTrue, ⊤};
 ghost use Rattle.sqlite.specs.Held.{state};
-ghost use Rattle.sqlite.specs.State.{HasCleanDisk};
+ghost use Rattle.sqlite.specs.State.{HasCleanDisk, Survives};
 ghost use Rattle.as2_exchange.specs.Invariants.{AreNumbers};
 ghost use Rattle.as2_exchange.specs.State.{State, change_received, received};
 ghost use Rattle.as2_exchange.specs.Step.{queued_again, record_post, recorded};
 ghost use Rattle.as2_exchange.specs.declared.answer.Answer.TheVariants.{Http};
 ghost use Rattle.as2_exchange.specs.declared.fault.StoreFault.TheVariants.{Full};
 ghost use Rattle.as2_store.specs.Stands.{Rests, may_come};
-ghost use Rattle.as2_station.specs.Steps.{Answers, Fails, Left};
+ghost use Rattle.as2_station.specs.Steps.{Answers, Fails, Left, MayLeave, left_by};
 
 use as2_agreement::Agreements;
 use as2_exchange::{HttpAnswer, InEntry, Line, Posted, StoreFault};
@@ -29,6 +29,7 @@ fn queue_again<S: Alter>(
     ensures queued { HasCleanDisk (state S.Store store.new) → OnOk result ((s : State) → Rests (state S.Store store.old) s → AreNumbers s.next_in (map (λ e. e.number) s.inbox) → received s entry.now.number ≡ Some entry.now
         → Rests (state S.Store store.new) (change_received s entry.now.number (queued_again moment))) }
     ensures failed { HasCleanDisk (state S.Store store.new) → OnErr result ((s : State) → Rests (state S.Store store.old) s → Rests (state S.Store store.new) s) }
+    ensures crash { Survives (state S.Store store.old) (state S.Store store.new) (MayLeave (λ s. received s entry.now.number ≡ Some entry.now) (λ s. Some (change_received s entry.now.number (queued_again moment))) (state S.Store store.old)) }
     ensures fault { IfErr result (λ f. may_come f ≡ true) }
 {
     if !is_queued_again(entry) {
@@ -52,6 +53,7 @@ fn record_again<S: Alter>(
     ensures answered { HasCleanDisk (state S.Store store.new) → IfOk result (λ a. (s : State) → Rests (state S.Store store.old) s → AreNumbers s.next_in (map (λ e. e.number) s.inbox) → received s entry.now.number ≡ Some entry.now
         → Left (state S.Store store.new) (recorded agreements.now s moment posted.now (Some entry.now)) (Http a)) }
     ensures failed { HasCleanDisk (state S.Store store.new) → IfErr result (λ f. Fails (λ s. recorded agreements.now s moment posted.now (Some entry.now)) (state S.Store store.old) (state S.Store store.new) f) }
+    ensures crash { Survives (state S.Store store.old) (state S.Store store.new) (MayLeave (λ s. received s entry.now.number ≡ Some entry.now) (left_by (λ s. recorded agreements.now s moment posted.now (Some entry.now))) (state S.Store store.old)) }
     ensures fault { IfErr result (λ f. (f ≡ Full) ⊎ (may_come f ≡ true)) }
 {
     if !repeats(&entry.posted, posted) {
@@ -74,6 +76,7 @@ fn record_first<S: Alter>(
     ensures opened { HasCleanDisk (state S.Store store.new) → OnOk result (IsTrue (state S.Store store.new).is_open) }
     ensures answered { HasCleanDisk (state S.Store store.new) → IfOk result (λ a. Answers (λ s. recorded agreements.now s moment posted None) (state S.Store store.old) (state S.Store store.new) (Http a)) }
     ensures failed { HasCleanDisk (state S.Store store.new) → IfErr result (λ f. Fails (λ s. recorded agreements.now s moment posted None) (state S.Store store.old) (state S.Store store.new) f) }
+    ensures crash { Survives (state S.Store store.old) (state S.Store store.new) (MayLeave (λ _. ⊤) (left_by (λ s. recorded agreements.now s moment posted None)) (state S.Store store.old)) }
     ensures fault { IfErr result (λ f. (f ≡ Full) ⊎ (may_come f ≡ true)) }
 {
     let number = store.next_numbers()?.receipt;
@@ -95,6 +98,7 @@ pub fn record<S: Alter>(
     ensures opened { HasCleanDisk (state S.Store store.new) → OnOk result (IsTrue (state S.Store store.new).is_open) }
     ensures answered { HasCleanDisk (state S.Store store.new) → IfOk result (λ a. Answers (λ s. record_post agreements.now s moment posted) (state S.Store store.old) (state S.Store store.new) (Http a)) }
     ensures failed { HasCleanDisk (state S.Store store.new) → IfErr result (λ f. Fails (λ s. record_post agreements.now s moment posted) (state S.Store store.old) (state S.Store store.new) f) }
+    ensures crash { Survives (state S.Store store.old) (state S.Store store.new) (MayLeave (λ _. ⊤) (left_by (λ s. record_post agreements.now s moment posted)) (state S.Store store.old)) }
     ensures fault { IfErr result (λ f. (f ≡ Full) ⊎ (may_come f ≡ true)) }
 {
     match store.find_in(alloc, &posted.sender, &posted.receiver, posted.id.value())? {

@@ -1,14 +1,14 @@
 //! The station, event by event.
-ghost use Rattle.std.specs.Prelude.{◌≡◌, true, IfOk, IfErr, OnErr, IsTrue, OnOk};
+ghost use Rattle.std.specs.Prelude.{◌≡◌, ⊤, true, IfOk, IfErr, OnErr, IsTrue, OnOk};
 ghost use Rattle.sqlite.specs.Held.{state};
-ghost use Rattle.sqlite.specs.State.{HasCleanDisk};
+ghost use Rattle.sqlite.specs.State.{HasCleanDisk, Survives};
 ghost use Rattle.as2_exchange.specs.Step.{post};
 ghost use Rattle.as2_exchange.specs.declared.event.Event.TheVariants.{Post};
 ghost use Rattle.as2_exchange.specs.declared.answer.Answer.TheVariants.{Http};
 ghost use Rattle.as2_posts.specs.Openings.{read_further};
 ghost use Rattle.as2_station.specs.Heads.{takes_store};
-ghost use Rattle.as2_station.specs.Steps.{Answers, Fails, IsStepFault, TakesEvent, TakesHead};
-ghost use Rattle.as2_station.specs.Traces.{AreSaidTo, PlaysTo};
+ghost use Rattle.as2_station.specs.Steps.{Answers, Fails, IsStepFault, MayLeave, TakesEvent, TakesHead, left_by};
+ghost use Rattle.as2_station.specs.Traces.{Plays, Taken, trace};
 
 use crate::receiving::receive;
 use crate::recording::record;
@@ -68,6 +68,7 @@ impl<S: Alter> Station<S> {
         ensures opened { HasCleanDisk (state S.Store self.new) → OnOk result (takes_store (read_further (opened.entry.from, opened.entry.to) (opened.entry.media, opened.entry.content_type.now) head.now body) ≡ true → IsTrue (state S.Store self.new).is_open) }
         ensures answered { HasCleanDisk (state S.Store self.new) → IfOk result (λ a. Answers (λ s. post agreements.now s moment (read_further (opened.entry.from, opened.entry.to) (opened.entry.media, opened.entry.content_type.now) head.now body)) (state S.Store self.old) (state S.Store self.new) (Http a)) }
         ensures failed { HasCleanDisk (state S.Store self.new) → IfErr result (λ f. Fails (λ s. post agreements.now s moment (read_further (opened.entry.from, opened.entry.to) (opened.entry.media, opened.entry.content_type.now) head.now body)) (state S.Store self.old) (state S.Store self.new) f) }
+        ensures crash { Survives (state S.Store self.old) (state S.Store self.new) (MayLeave (λ _. ⊤) (left_by (λ s. post agreements.now s moment (read_further (opened.entry.from, opened.entry.to) (opened.entry.media, opened.entry.content_type.now) head.now body))) (state S.Store self.old)) }
         ensures fault { IfErr result IsStepFault }
     {
         if opened.is_report() {
@@ -125,8 +126,8 @@ impl<S: Alter> Station<S> {
         agreements: &Agreements,
         events: Vec<Event>,
     ) -> Result<Vec<Result<Answer, StoreFault>>, Memory>
-        ensures each { IfOk result (λ said. AreSaidTo agreements.now events.items said.items) }
-        ensures played { IfOk result (λ said. PlaysTo agreements.now events.items said.items (state S.Store self.old) (state S.Store self.new)) }
+        ensures each { IfOk result (λ said. Taken S.Store agreements.now events.items said.items self.old self.new) }
+        ensures played { HasCleanDisk (state S.Store self.new) → IfOk result (λ said. Plays agreements.now (trace events.items said.items) (state S.Store self.old) (state S.Store self.new)) }
         ensures nothing { OnErr result (self.new ≡ self.old) }
     {
         let mut said = Vec::with_capacity(alloc, events.len())?;

@@ -194,7 +194,7 @@ fn a_posted_receipt_settles_its_document_once(rt: HostRuntime) -> Result<(), Fai
     ];
     assert!(rt; RECEIPT.len() == 406);
     let mut store = store_of_receipts(rt.alloc())?;
-    assert!(rt; settled(rt.alloc(), &mut store) == None);
+    check_unsettled(rt.alloc(), &mut store)?;
     assert!(rt; are_found(rt.alloc(), &mut store, DOCUMENTS)?);
     let mut conn = store.into_connection();
     assert!(rt; count(&mut conn, "SELECT number FROM evidence") == Some(1));
@@ -202,8 +202,8 @@ fn a_posted_receipt_settles_its_document_once(rt: HostRuntime) -> Result<(), Fai
     Ok(())
 }
 
-/// What no receipt settles, where the first document is settled and the second is new: documents that aren't there, the first
-/// again, and the second by details that no receipt gives.
+/// What is refused where the first document is settled and the second is new: to settle a document that isn't there, the first
+/// again, and the second by a detail that no receipt gives.
 static UNSETTLED: [(u64, Detail); 11] = [
     (0, Detail::Processed),
     (3, Detail::Processed),
@@ -227,15 +227,17 @@ fn evidence(alloc: Global) -> Option<Evidence> {
     })
 }
 
-/// The first of what no receipt settles that isn't refused.
-fn settled(alloc: Global, store: &mut Store<MemStore>) -> Option<(u64, Detail)> {
-    let evidence = evidence(alloc)?;
-    for &(number, detail) in &UNSETTLED {
+/// Each of these is refused. Fails with the place of the first that isn't.
+fn check_unsettled(alloc: Global, store: &mut Store<MemStore>) -> Result<(), Fail> {
+    let Some(evidence) = evidence(alloc) else {
+        return Err(Fail::new("no evidence"));
+    };
+    for (at, &(number, detail)) in UNSETTLED.iter().enumerate() {
         if store.settle(number, detail, &evidence) != Err(StoreFault::Refused) {
-            return Some((number, detail));
+            return Err(Fail::new(at));
         }
     }
-    None
+    Ok(())
 }
 
 #[test]

@@ -69,11 +69,12 @@ fn put_pieces(
     conn: &mut Connection<MemStore>,
     content: &[u8],
     pieces: &[Piece],
-) -> Result<(), Error> {
+) -> Result<(), Fail> {
     conn.execute_batch("DELETE FROM inbox_piece; DELETE FROM outbox_piece")?;
     for &(position, start, end) in pieces {
-        if let Some(bytes) = content.get(start..end) {
-            put_piece(conn, position, bytes)?;
+        match content.get(start..end) {
+            Some(bytes) => put_piece(conn, position, bytes)?,
+            None => return Err(Fail::new("no piece")),
         }
     }
     Ok(())

@@ -1,4 +1,6 @@
-use Rattle.std.proofs.Common.{◌≡◌, sym, subst, refl, false}
+use Rattle.as2_station.proofs.Crashing.{by_write}
+use Rattle.as2_station.proofs.Reaching.{settles_to}
+use Rattle.std.proofs.Common.{◌≡◌, sym, subst, refl, false, ap, Some, ◌∙◌}
 use Rattle.std.proofs.lemmas.Result.{on_ok_weaker}
 use Rattle.sqlite.specs.Held.{state}
 use Rattle.as2_exchange.specs.Readings.{verdict}
@@ -25,3 +27,14 @@ returns-clause-settled g c clean =
     (changes_alike (λ (d : OutEntry). d.number) now (settled c.args.moment r) c.args.entry.now.number c.args.entry.now s.outbox numbers.distinct found same)
     (settles _ s _ _ _ c.args.entry.now (rw c.verdict_pieces-detail.ensures (verdict_range c.args.receipt.now c.args.entry.now.content)) found unsettled (done s rests))))
     (c.settle.ensures.settled.done clean)
+
+pub returns-clause-crash : goal.returns-clause-crash
+unfolding verdict
+returns-clause-crash g c =
+    let unsettled : is_settled c.args.entry.now ≡ false = sym c.if-is_some.ensures in
+    let r = came (c.args.opened.now.from, c.args.opened.now.to) (c.args.opened.now.media, c.args.opened.now.content_type.now) c.args.body c.args.receipt.now in
+    let now = settled_as c.verdict_pieces-detail.result (record { moment = c.args.moment; content_type = c.in_ok-keep.field-0; body = c.args.body }) in
+    let same : now c.args.entry.now ≡ settled c.args.moment r c.args.entry.now = rw (c.verdict_pieces-detail.ensures, c.in_ok-keep.ensures) refl in
+    by_write _ _ _ _ _ c.settle.result (λ opened s rests found t is db keeps. rw unsettled
+    (ap (λ ds. Some (record s { outbox = ds })) (sym (changes_alike (λ (d : OutEntry). d.number) now (settled c.args.moment r) c.args.entry.now.number c.args.entry.now s.outbox (rests.stands opened).documents.1.distinct found same))
+    ∙ sym (settles_to s c.args.entry.now.number c.verdict_pieces-detail.result _ c.args.entry.now (rw c.verdict_pieces-detail.ensures (verdict_range c.args.receipt.now c.args.entry.now.content)) found unsettled) ∙ is)) c.settle.ensures.settled

@@ -1,10 +1,11 @@
+use Rattle.as2_station.proofs.Crashing.{after_read}
 use Rattle.std.proofs.Common.{◌≡◌, ◌∙◌, sym, ap, Some, None}
 use Rattle.as2_names.specs.Identifiers.{value_of}
 use Rattle.as2_exchange.specs.Readings.{named_by}
 use Rattle.as2_exchange.specs.State.{document_named}
 use Rattle.as2_exchange.specs.declared.outbox.OutEntry.{OutEntry}
 use Rattle.as2_station.proofs.Numbers.{found_number}
-use Rattle.as2_station.proofs.Settling.{none_left, of_none, of_another, of_this}
+use Rattle.as2_station.proofs.Settling.{leaves_this, none_left, of_none, of_another, of_this}
 use Rattle.as2_station.proofs.receiving.take_receipt.Goals as goal
 
 pub returns-in_default-clause-answered : goal.returns-in_default-clause-answered
@@ -30,3 +31,19 @@ returns-clause-answered g c clean s r =
     let numbers = (r.stands (c.in_ok-document.ensures.found.was_open was)).documents.1 in
     rw c.taken.ensures (of_this _ s c.args.moment _ c.in-Some.document named (sym (c.if-not-is_for.ensures c.args.body))
     (c.in_ok-settle_once.ensures.settled clean s (c.find_out_by_id.ensures.found.same was s r) numbers (found_number (λ (d : OutEntry). d.number) _ s.outbox c.in-Some.document numbers.distinct named)))
+
+pub returns-in_err-settle_once-clause-crash : goal.returns-in_err-settle_once-clause-crash
+unfolding named_by
+returns-in_err-settle_once-clause-crash g c =
+    let id = c.without_brackets-id_value.ensures ∙ ap (λ x. value_of x.original_id) c.receipt.view_is in
+    after_read _ _ _ _ _ _ _ _ c.in_ok-document.field-0 (λ opened s rests known found.
+    let named : document_named s (named_by c.args.receipt.now) ≡ Some c.in-Some.document = ap (document_named s) (sym id) ∙ sym found ∙ c.in-Some.is in
+    (found_number (λ (d : OutEntry). d.number) _ s.outbox c.in-Some.document (rests.stands opened).documents.1.distinct named, λ t is. leaves_this s c.args.moment _ c.in-Some.document named (sym (c.if-not-is_for.ensures c.args.body)) ∙ is)) c.in_ok-document.ensures.found c.settle_once.ensures.crash
+
+pub returns-clause-crash : goal.returns-clause-crash
+unfolding named_by
+returns-clause-crash g c =
+    let id = c.without_brackets-id_value.ensures ∙ ap (λ x. value_of x.original_id) c.receipt.view_is in
+    after_read _ _ _ _ _ _ _ _ c.in_ok-document.field-0 (λ opened s rests known found.
+    let named : document_named s (named_by c.args.receipt.now) ≡ Some c.in-Some.document = ap (document_named s) (sym id) ∙ sym found ∙ c.in-Some.is in
+    (found_number (λ (d : OutEntry). d.number) _ s.outbox c.in-Some.document (rests.stands opened).documents.1.distinct named, λ t is. leaves_this s c.args.moment _ c.in-Some.document named (sym (c.if-not-is_for.ensures c.args.body)) ∙ is)) c.in_ok-document.ensures.found c.settle_once.ensures.crash

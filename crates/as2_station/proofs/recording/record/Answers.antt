@@ -1,3 +1,4 @@
+use Rattle.as2_station.proofs.Crashing.{after_read}
 use Rattle.std.proofs.Common.{◌≡◌, ◌∙◌, sym, Some, None}
 use Rattle.as2_exchange.specs.Step.{record_post}
 use Rattle.as2_exchange.specs.Readings.{value_of}
@@ -40,3 +41,17 @@ returns-in-None-clause-failed g c clean =
     from_err c.record_first.result _ _ (c.record_first.ensures.failed clean) (λ f told s r.
     let found : received_as s c.args.posted ≡ None = sym (rw c.value.ensures at (c.in_ok-entry.ensures.found.answer was s r)) ∙ c.in-None.is in
     rw found (told s (c.find_in.ensures.found.same was s r)))
+
+pub returns-in-Some-clause-crash : goal.returns-in-Some-clause-crash
+unfolding record_post value_of
+returns-in-Some-clause-crash g c =
+    after_read _ _ _ _ _ _ _ _ c.in_ok-entry.field-0 (λ opened s rests known told.
+    let found : received_as s c.args.posted ≡ Some c.in-Some.entry = sym (rw c.value.ensures at told) ∙ c.in-Some.is in
+    (found_number (λ (e : InEntry). e.number) _ s.inbox c.in-Some.entry (rests.stands opened).receipts.1.distinct found, λ t is. rw found is)) c.in_ok-entry.ensures.found c.record_again.ensures.crash
+
+pub returns-in-None-clause-crash : goal.returns-in-None-clause-crash
+unfolding record_post value_of
+returns-in-None-clause-crash g c =
+    after_read _ _ _ _ _ _ _ _ c.in_ok-entry.field-0 (λ opened s rests known told.
+    let found : received_as s c.args.posted ≡ None = sym (rw c.value.ensures at told) ∙ c.in-None.is in
+    (known, λ t is. rw found is)) c.in_ok-entry.ensures.found c.record_first.ensures.crash

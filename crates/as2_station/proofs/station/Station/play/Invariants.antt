@@ -1,7 +1,5 @@
 use Rattle.std.proofs.Common.{◌≡◌, ◌+◌, ◌≤◌, ◌++◌, length, vec_len, vec_capacity}
-use Rattle.sqlite.specs.Held.{state}
-use Rattle.sqlite.specs.State.{HasCleanDisk}
-use Rattle.as2_station.specs.Traces.{AreSaidTo, EndsOpen, Plays, trace}
+use Rattle.as2_station.specs.Traces.{Taken}
 use Rattle.as2_station.proofs.station.Station.play.Given as goal
 
 abbrev pub invariant-events : goal.invariant-events
@@ -10,7 +8,4 @@ invariant-events g l =
     × (l.fn.events.items ≡ l.yielded ++ l.event-iterator.rest.items)
     × (length l.said.items ≡ length l.yielded)
     × (vec_len l.said + length l.event-iterator.rest.items ≤ vec_capacity l.said)
-    × (HasCleanDisk (state g.S.Store l.self) → HasCleanDisk (state g.S.Store l.fn.self))
-    × (HasCleanDisk (state g.S.Store l.self) → Plays l.agreements (trace l.yielded l.said.items) (state g.S.Store l.fn.self) (state g.S.Store l.self))
-    × AreSaidTo l.agreements l.yielded l.said.items
-    × (HasCleanDisk (state g.S.Store l.self) → EndsOpen l.agreements l.yielded l.said.items (state g.S.Store l.self))
+    × Taken g.S.Store l.agreements l.yielded l.said.items l.fn.self l.self
