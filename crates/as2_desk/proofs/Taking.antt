@@ -21,10 +21,10 @@ use Rattle.as2_desk.specs.declared.response.Response.TheVariants.{Answered, Fail
 pub answered : (A : AgreedValues) (moment : ℕ) (r : Request) (old new : Connected) (a : HttpAnswer) → TakesEvent A (posted r moment) Http old new (Ok a)
     → HasCleanDisk new → (s : State) → Rests old s → (t : State) × Rests new t × Takes A moment s r (Answered a) (IsSafe new) t
 answered A moment r old new a taken clean s rests =
-    let left = taken.answered clean s rests in (
+    let left = taken.does.answered clean s rests tt in (
       left.next,
       left.rests,
-      (left.step, λ asks. let opened = taken.is_open clean asks in record { is_open = opened; lasts = taken.lasts opened left.next left.rests }),
+      (left.step, λ asks. let opened = taken.does.is_open clean asks in record { is_open = opened; lasts = taken.lasts opened left.next left.rests }),
     )
 
 -- the store failed, and its head didn't decide
@@ -32,7 +32,7 @@ pub failed : {H : Type 0} (A : AgreedValues) (moment : ℕ) (r : Request) (old n
     → TakesEvent A (posted r moment) Http old new (Err f) → TakesHead A (posted r moment) (λ (a : HttpAnswer). a) before after (Err f)
     → HasCleanDisk new → (s : State) → Rests old s → (t : State) × Rests new t × Takes A moment s r (Failed f) (IsSafe new) t
 failed A moment r old new before after f taken head clean s rests =
-    let fault = taken.failed clean s rests in (
+    let fault = taken.does.failed clean s rests tt in (
       s,
       fault.0,
       (fault.1, refl, λ status line reads by_head. let told = head.answer r.fields r.body moment status line refl reads by_head in absurd cc),

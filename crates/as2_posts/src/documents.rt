@@ -5,8 +5,9 @@ ghost use Rattle.as2_media.specs.Kinds.{kind_of};
 ghost use Rattle.as2_text.specs.ReceiptRequests.{delivery_option, is_twice, request_of, text_of};
 ghost use Rattle.as2_mdn.specs.Outcomes.{report_mic};
 ghost use Rattle.as2_exchange.specs.Readings.{asked_how};
-ghost use Rattle.as2_exchange.specs.Posts.{document_posted, posted};
+ghost use Rattle.as2_exchange.specs.Posts.{posted};
 ghost use Rattle.as2_posts.specs.Documents.{is_asked, read_as};
+ghost use Rattle.as2_posts.specs.Openings.{document_by, names_in, type_in};
 
 use crate::encodings::is_encoded;
 use crate::fields::id_in;
@@ -69,7 +70,7 @@ fn posted(
     content: Pieces,
 ) -> Result<Posted, Memory>
     requires { is_asked head.now (request_of ask.now) }
-    ensures { IfOk result (λ p. p ≡ posted (opened.entry.from, opened.entry.to) id (opened.entry.media, opened.entry.content_type.now) head.now content (request_of ask.now)) }
+    ensures { IfOk result (λ p. p ≡ posted (names_in opened.entry) id (type_in opened.entry) head.now content (request_of ask.now)) }
 {
     let outcome = outcome_of(opened.media.kind(), is_encoded(head), ask);
     let how = how_of(alloc, head, ask)?;
@@ -95,7 +96,7 @@ pub fn document(
     head: &Head,
     content: Pieces,
 ) -> Result<Result<Posted, Line>, Memory>
-    ensures { IfOk result (λ read. document_posted (opened.entry.from, opened.entry.to) (opened.entry.media, opened.entry.content_type.now) head.now content ≡ read_as read) }
+    ensures { IfOk result (λ read. document_by opened.entry head.now content ≡ read_as read) }
 {
     let Some(id) = id_in(alloc, head)? else {
         return Ok(Err(Line::BadId));

@@ -40,7 +40,7 @@ impl Opened<'_> {
 pub fn open<'a>(agreements: &Agreements, head: &'a Head) -> Result<Opened<'a>, Line>
     ensures refused { IfErr result (λ line. (body : Text) → reading agreements.now head.now body ≡ Refuses (status_of line) line) }
     ensures opened { IfOk result (λ o. (body : Text)
-        → reading agreements.now head.now body ≡ read_further (o.from, o.to) (o.media, o.content_type.now) head.now body) }
+        → reading agreements.now head.now body ≡ read_further o head.now body) }
 {
     let Some(from) = name_in(head, b"as2-from") else {
         return Err(Line::BadNames);

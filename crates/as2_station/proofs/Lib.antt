@@ -1,6 +1,4 @@
-mod Crashing
+mod Doing
 mod Numbers
 mod Playing
 mod Reaching
-mod Results
-mod Settling

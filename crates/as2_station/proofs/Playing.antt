@@ -1,5 +1,5 @@
 -- One event more, and the run of all.
-use Rattle.std.proofs.Common.{◌≡◌, List, [], ◌∷◌, ◌++◌, length, Result, Ok, Err, refl, sym, ap, subst, arith}
+use Rattle.std.proofs.Common.{◌≡◌, List, [], ◌∷◌, ◌++◌, length, Result, Ok, Err, refl, sym, subst, arith}
 use Rattle.sqlite.specs.Store.{Ghosts}
 use Rattle.sqlite.specs.Held.{Held, state}
 use Rattle.sqlite.specs.State.{HasCleanDisk}
@@ -10,7 +10,7 @@ use Rattle.as2_exchange.specs.declared.answer.Answer.TheVariants.{Http}
 use Rattle.as2_exchange.specs.declared.fault.StoreFault.{StoreFault}
 use Rattle.as2_store.specs.Stands.{Rests}
 use Rattle.as2_station.specs.Steps.{TakesEvent, TakesHead}
-use Rattle.as2_station.specs.Traces.{Plays, Taken, trace}
+use Rattle.as2_station.specs.Traces.{Plays, Taken}
 
 module _ {S : Type 0} (g : Ghosts S) (A : Agreements) where
   pub taken_more : (es : List Event) (rs : List (Result Answer StoreFault)) (e : Event) (r : Result Answer StoreFault) (old mid new : Held S) → Taken g A es rs old mid → TakesEvent A e (λ a. a) (state g mid) (state g new) r
@@ -24,18 +24,18 @@ module _ {S : Type 0} (g : Ghosts S) (A : Agreements) where
   taken_clean [] [] old new same clean = subst (λ h. HasCleanDisk (state g h)) same clean
   taken_clean [] (q ∷ rs) old new none clean = absurd none
   taken_clean (x ∷ es) [] old new none clean = absurd none
-  taken_clean (x ∷ es) (q ∷ rs) old new it clean = it.1.clean (taken_clean es rs it.0 new it.3 clean)
+  taken_clean (x ∷ es) (q ∷ rs) old new it clean = it.1.does.clean (taken_clean es rs it.0 new it.3 clean)
 
-  pub taken_plays : (es : List Event) (rs : List (Result Answer StoreFault)) (old new : Held S) → Taken g A es rs old new → HasCleanDisk (state g new) → Plays A (trace es rs) (state g old) (state g new)
+  pub taken_plays : (es : List Event) (rs : List (Result Answer StoreFault)) (old new : Held S) → Taken g A es rs old new → Plays g A es rs old new
   taken_plays [] [] old new same clean s rests = record { end = s; run = refl; rests = subst (λ h. Rests (state g h) s) (sym same) rests }
   taken_plays [] (q ∷ rs) old new none clean s rests = absurd none
   taken_plays (x ∷ es) [] old new none clean s rests = absurd none
   taken_plays (x ∷ es) (Ok a ∷ rs) old new it clean s rests =
-      let now = it.1.answered (taken_clean es rs it.0 new it.3 clean) s rests in
+      let now = it.1.does.answered (taken_clean es rs it.0 new it.3 clean) s rests tt in
       let later = taken_plays es rs it.0 new it.3 clean now.next now.rests in
       record { end = later.end; run = (now.next, now.step, later.run); rests = later.rests }
   taken_plays (x ∷ es) (Err f ∷ rs) old new it clean s rests =
-      let now = it.1.failed (taken_clean es rs it.0 new it.3 clean) s rests in
+      let now = it.1.does.failed (taken_clean es rs it.0 new it.3 clean) s rests tt in
       let later = taken_plays es rs it.0 new it.3 clean s now.0 in
       record { end = later.end; run = (now.1, later.run); rests = later.rests }
 

@@ -1,38 +1,64 @@
 -- The next state that a write of the store reaches.
-use Rattle.std.proofs.Common.{◌≡◌, ◌∙◌, ◌+◌, ◌≤◌, ◌==◌, nat_le, cond, arith, refl, ℕ, Some, None, IsTrue, true, false, ap, sym, subst}
+use Rattle.std.proofs.Common.{◌≡◌, ◌∙◌, ◌+◌, ◌≤◌, ◌==◌, ◌&&◌, List, nat_le, cond, arith, refl, ℕ, Some, None, IsTrue, true, false, ap, sym, subst}
 use Rattle.std.proofs.lemmas.Bool.Decides.{nat_tests}
 use Rattle.sqlite_trees.specs.Tree.{Trees}
 use Rattle.sqlite_schema.specs.declared.schema.Schema.{Schema}
 use Rattle.sqlite.specs.Effect.{Database}
 use Rattle.sqlite.specs.State.{State as Connected}
 use Rattle.as2_mdn.specs.declared.detail.Detail.{Detail}
-use Rattle.as2_exchange.specs.State.{State, change_document, change_received, document, end_of_numbers, is_settled}
 use Rattle.as2_exchange.specs.Agreement.{Agreements}
-use Rattle.as2_exchange.specs.Step.{first_entry, recorded}
+use Rattle.as2_exchange.specs.Invariants.{IsCounter, is_by_receipt}
+use Rattle.as2_exchange.specs.Posts.{Came, repeats}
+use Rattle.as2_exchange.specs.Readings.{named_by}
+use Rattle.as2_exchange.specs.Receipts.{bears}
+use Rattle.as2_exchange.specs.State.{State, change_document, change_received, document, document_named, end_of_numbers, is_begun, is_settled, received_as}
+use Rattle.as2_exchange.specs.Step.{answer_to, first_entry, http, queued_again, recorded, settle, settled}
+use Rattle.as2_exchange.specs.declared.answer.HttpBody.TheVariants.{Nothing}
 use Rattle.as2_exchange.specs.declared.inbox.InEntry.{InEntry}
 use Rattle.as2_exchange.specs.declared.inbox.Posted.{Posted}
-use Rattle.as2_store.specs.Adding.{added, with_received}
-use Rattle.as2_station.specs.Steps.{left_by}
-use Rattle.as2_exchange.specs.Invariants.{is_by_receipt}
 use Rattle.as2_exchange.specs.declared.outbox.Evidence.{Evidence}
 use Rattle.as2_exchange.specs.declared.outbox.OutEntry.{OutEntry}
+use Rattle.as2_posts.specs.Answers.{is_queued_again}
+use Rattle.as2_store.specs.Adding.{added, with_received}
 use Rattle.as2_store.specs.Stands.{Rests, Stands}
-use Rattle.as2_store.specs.Calls.{Reaches, Keeps, Lasts}
-use Rattle.as2_store.specs.Tables.{store_schema}
-use Rattle.as2_store.specs.Requeuing.{requeued, requeued_in}
+use Rattle.as2_store.specs.Calls.{Keeps, Lasts}
+use Rattle.as2_store.specs.Requeuing.{requeued_in}
 use Rattle.as2_store.specs.Settling.{settled_as, settled_in}
+use Rattle.as2_store.specs.Tables.{store_schema}
+use Rattle.as2_station.proofs.Numbers.{changes_alike, found_number, left_alone, sent_anew}
 
-pub reached : (c : Connected) (s : State) (it : Reaches c (Some s)) → Rests c s
-reached c s it = let same : it.state ≡ s = (let is = it.is in cc) in subst (Rests c) same it.rests
-
-pub requeues : (c : Connected) (s : State) (n m : ℕ) → Reaches c (requeued_in n m s) → Rests c (change_received s n (requeued m))
-requeues c s n m it = reached c (change_received s n (requeued m)) it
-
-pub settles_to : (s : State) (n : ℕ) (detail : Detail) (e : Evidence) (d : OutEntry) → is_by_receipt detail ≡ true → document s n ≡ Some d → is_settled d ≡ false → settled_in n detail e s ≡ Some (change_document s n (settled_as detail e))
+settles_to : (s : State) (n : ℕ) (detail : Detail) (e : Evidence) (d : OutEntry) → is_by_receipt detail ≡ true → document s n ≡ Some d → is_settled d ≡ false → settled_in n detail e s ≡ Some (change_document s n (settled_as detail e))
 settles_to s n detail e d by found unsettled = rw (found, unsettled, by) refl
 
-pub settles : (c : Connected) (s : State) (n : ℕ) (detail : Detail) (e : Evidence) (d : OutEntry) → is_by_receipt detail ≡ true → document s n ≡ Some d → is_settled d ≡ false → Reaches c (settled_in n detail e s) → Rests c (change_document s n (settled_as detail e))
-settles c s n detail e d by found unsettled it = reached c (change_document s n (settled_as detail e)) (rw (found, unsettled, by) at it)
+-- a receipt settles the document that it is for
+pub settles : (s t : State) (db : Database) (m : ℕ) (r : Came) (d : OutEntry) (detail : Detail) (e : Evidence) → Stands db s → document_named s (named_by r.receipt) ≡ Some d → (bears r d.organization d.partner d.id && is_begun d) ≡ true
+    → is_settled d ≡ false → is_by_receipt detail ≡ true → settled_as detail e d ≡ settled m r d → settled_in d.number detail e s ≡ Some t → Some (settle s m r) ≡ Some (http 200 Nothing, t)
+unfolding settle
+settles s t db m r d detail e stands named this unsettled by same is =
+    let apart = stands.documents.1.distinct in
+    let number = found_number (λ (x : OutEntry). x.number) _ s.outbox d apart named in
+    let left : Some (change_document s d.number (settled_as detail e)) ≡ Some t = sym (settles_to s d.number detail e d by number unsettled) ∙ is in
+    let there : change_document s d.number (settled_as detail e) ≡ t = cc in
+    let alike : change_document s d.number (settled m r) ≡ change_document s d.number (settled_as detail e) =
+    ap (λ (ds : List OutEntry). record s { outbox = ds }) (sym (changes_alike (λ (x : OutEntry). x.number) (settled_as detail e) (settled m r) d.number d s.outbox apart number same)) in
+    rw (named, this, unsettled) (ap (λ (x : State). Some (http 200 Nothing, x)) (alike ∙ there))
+
+-- a repeat queues the receipt of its entry again
+pub requeues : (A : Agreements) (s t : State) (db : Database) (m : ℕ) (p : Posted) (e : InEntry) → Stands db s → received_as s p ≡ Some e → repeats e.posted p ≡ true → is_queued_again e ≡ true → requeued_in e.number m s ≡ Some t
+    → recorded A s m p (Some e) ≡ Some (answer_to A e.number e.posted, t)
+requeues A s t db m p e stands found same queued is =
+    let apart = stands.receipts.1.distinct in
+    let number = found_number (λ (x : InEntry). x.number) _ s.inbox e apart found in
+    let left : Some (change_received s e.number (queued_again m)) ≡ Some t = ap Some (sym (sent_anew s m e apart number queued)) ∙ is in
+    let there : change_received s e.number (queued_again m) ≡ t = cc in
+    rw same (ap (λ (x : State). Some (answer_to A e.number e.posted, x)) there)
+
+-- or leaves it
+pub stays : (A : Agreements) (s : State) (db : Database) (m : ℕ) (p : Posted) (e : InEntry) → Stands db s → received_as s p ≡ Some e → repeats e.posted p ≡ true → is_queued_again e ≡ false
+    → recorded A s m p (Some e) ≡ Some (answer_to A e.number e.posted, s)
+stays A s db m p e stands found same left =
+    let apart = stands.receipts.1.distinct in
+    rw same (ap (λ (x : State). Some (answer_to A e.number e.posted, x)) (left_alone s m e apart (found_number (λ (x : InEntry). x.number) _ s.inbox e apart found) left))
 
 -- whatever stops the machine, what the tables stand for over an open connection lasts
 keeps_of : (d : Database) (s : State) → Stands d s → Keeps d.trees s
@@ -45,17 +71,23 @@ lasting c settled opened s r = record {
   each = λ db may. subst (λ (t : Trees). Keeps t s) (sym (settled db opened may ∙ ap (λ (d : Database). d.trees) (r.committed opened))) (keeps_of c.now s (r.stands opened));
 }
 
--- the first entry under a number: where that is the next one, and the tables with it can stand, the machine adds it
-pub first_left : (A : Agreements) (s : State) (m n : ℕ) (p : Posted) (e : InEntry) → e ≡ first_entry n m p → n ≡ s.next_in → (t : State) → added e s ≡ Some t → (db : Trees) → Keeps db t → left_by (λ (s : State). recorded A s m p None) s ≡ Some t
-first_left A s m n p e entry next t is db keeps =
-    let same : e ≡ first_entry s.next_in m p = entry ∙ ap (λ k. first_entry k m p) next in
-    let sum : Some (with_received s (first_entry s.next_in m p)) ≡ Some t = ap (λ b. cond b (Some (with_received s (first_entry s.next_in m p))) None) (sym (itself s.next_in)) ∙ (subst (λ x. added x s ≡ Some t) same is) in
-    let there : t ≡ with_received s (first_entry s.next_in m p) = cc in
-    let room : s.next_in + 1 ≤ end_of_numbers = subst (λ (x : State). x.next_in ≤ end_of_numbers) there keeps.receipts.0.most in
-    rw (left_over s.next_in room) (ap Some (sym there))
+-- the first entry under the next number
+pub adds : (A : Agreements) (s t : State) (m n : ℕ) (p : Posted) → n ≡ s.next_in → added (first_entry n m p) s ≡ Some t → IsCounter t.next_in → recorded A s m p None ≡ Some (answer_to A n p, t)
+adds A s t m n p next is counter =
+    let sum : Some (with_received s (first_entry s.next_in m p)) ≡ Some t = ap (λ b. cond b (Some (with_received s (first_entry s.next_in m p))) None) (sym (itself s.next_in)) ∙ (subst (λ k. added (first_entry k m p) s ≡ Some t) next is) in
+    let there : with_received s (first_entry s.next_in m p) ≡ t = cc in
+    let room : s.next_in + 1 ≤ end_of_numbers = subst (λ (x : State). x.next_in ≤ end_of_numbers) (sym there) counter.most in
+    subst (λ k. recorded A s m p None ≡ Some (answer_to A k p, t)) (sym next) (rw (left_over s.next_in room) (ap (λ (x : State). Some (answer_to A s.next_in p, x)) there))
   where
     itself : (k : ℕ) → (k == k) ≡ true
     itself k = grind (arith, nat_tests)
 
     left_over : (k : ℕ) → k + 1 ≤ end_of_numbers → nat_le end_of_numbers k ≡ false
     left_over k less = grind (arith, nat_tests, less)
+
+-- or no number is left for it
+pub fills_up : (A : Agreements) (s : State) (m n : ℕ) (p : Posted) → n ≡ s.next_in → end_of_numbers ≤ n → recorded A s m p None ≡ None
+fills_up A s m n p next full = rw (used s.next_in (subst (λ k. end_of_numbers ≤ k) next full)) refl
+  where
+    used : (k : ℕ) → end_of_numbers ≤ k → nat_le end_of_numbers k ≡ true
+    used k less = grind (arith, nat_tests, less)

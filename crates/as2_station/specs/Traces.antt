@@ -2,7 +2,7 @@
 use Rattle.std.specs.Prelude.{◌≡◌, List, [], ◌∷◌, map, zip, Result, Ok, Err}
 use Rattle.sqlite.specs.Store.{Ghosts}
 use Rattle.sqlite.specs.Held.{Held, state}
-use Rattle.sqlite.specs.State.{State as Connected}
+use Rattle.sqlite.specs.State.{State as Connected, HasCleanDisk}
 use Rattle.as2_exchange.specs.Agreement.{Agreements}
 use Rattle.as2_exchange.specs.Run.{Said, Answered, Failed, Trace, Run}
 use Rattle.as2_exchange.specs.State.{State}
@@ -28,9 +28,9 @@ pub record Played (A : Agreements) (told : Trace) (s : State) (c : Connected) : 
   pub run : Run A s told end
   pub rests : Rests c end
 
--- it is one from each state that the tables stood for
-abbrev pub Plays : Agreements → Trace → Connected → Connected → Type 0
-Plays A told old new = (s : State) → Rests old s → Played A told s new
+-- what was said is a run of the machine, from each state that the tables stood for
+abbrev pub Plays : {S : Type 0} → Ghosts S → Agreements → List Event → List (Result Answer StoreFault) → Held S → Held S → Type 0
+Plays g A events answers old new = HasCleanDisk (state g new) → (s : State) → Rests (state g old) s → Played A (trace events answers) s (state g new)
 
 -- each event was taken in turn, from one connection to the next, and nothing was done between
 abbrev pub Taken : {S : Type 0} → Ghosts S → Agreements → List Event → List (Result Answer StoreFault) → Held S → Held S → Type 0

@@ -1,14 +1,11 @@
 //! The station, event by event.
-ghost use Rattle.std.specs.Prelude.{◌≡◌, ⊤, true, IfOk, IfErr, OnErr, IsTrue, OnOk};
+ghost use Rattle.std.specs.Prelude.{◌≡◌, IfOk, OnErr};
 ghost use Rattle.sqlite.specs.Held.{state};
-ghost use Rattle.sqlite.specs.State.{HasCleanDisk, Survives};
-ghost use Rattle.as2_exchange.specs.Step.{post};
 ghost use Rattle.as2_exchange.specs.declared.event.Event.TheVariants.{Post};
 ghost use Rattle.as2_exchange.specs.declared.answer.Answer.TheVariants.{Http};
 ghost use Rattle.as2_posts.specs.Openings.{read_further};
-ghost use Rattle.as2_station.specs.Heads.{takes_store};
-ghost use Rattle.as2_station.specs.Steps.{Answers, Fails, IsStepFault, MayLeave, TakesEvent, TakesHead, left_by};
-ghost use Rattle.as2_station.specs.Traces.{Plays, Taken, trace};
+ghost use Rattle.as2_station.specs.Steps.{TakesEvent, TakesHead, TakesPost, always};
+ghost use Rattle.as2_station.specs.Traces.{Plays, Taken};
 
 use crate::receiving::receive;
 use crate::recording::record;
@@ -64,12 +61,7 @@ impl<S: Alter> Station<S> {
         body: Pieces,
         moment: Moment,
     ) -> Result<HttpAnswer, StoreFault>
-        ensures clean { HasCleanDisk (state S.Store self.new) → HasCleanDisk (state S.Store self.old) }
-        ensures opened { HasCleanDisk (state S.Store self.new) → OnOk result (takes_store (read_further (opened.entry.from, opened.entry.to) (opened.entry.media, opened.entry.content_type.now) head.now body) ≡ true → IsTrue (state S.Store self.new).is_open) }
-        ensures answered { HasCleanDisk (state S.Store self.new) → IfOk result (λ a. Answers (λ s. post agreements.now s moment (read_further (opened.entry.from, opened.entry.to) (opened.entry.media, opened.entry.content_type.now) head.now body)) (state S.Store self.old) (state S.Store self.new) (Http a)) }
-        ensures failed { HasCleanDisk (state S.Store self.new) → IfErr result (λ f. Fails (λ s. post agreements.now s moment (read_further (opened.entry.from, opened.entry.to) (opened.entry.media, opened.entry.content_type.now) head.now body)) (state S.Store self.old) (state S.Store self.new) f) }
-        ensures crash { Survives (state S.Store self.old) (state S.Store self.new) (MayLeave (λ _. ⊤) (left_by (λ s. post agreements.now s moment (read_further (opened.entry.from, opened.entry.to) (opened.entry.media, opened.entry.content_type.now) head.now body))) (state S.Store self.old)) }
-        ensures fault { IfErr result IsStepFault }
+        ensures taken { TakesPost S.Store agreements.now moment (read_further opened.entry head.now body) always self.old self.new result }
     {
         if opened.is_report() {
             return receive(&mut self.store, alloc, &opened, body, moment);
@@ -127,7 +119,7 @@ impl<S: Alter> Station<S> {
         events: Vec<Event>,
     ) -> Result<Vec<Result<Answer, StoreFault>>, Memory>
         ensures each { IfOk result (λ said. Taken S.Store agreements.now events.items said.items self.old self.new) }
-        ensures played { HasCleanDisk (state S.Store self.new) → IfOk result (λ said. Plays agreements.now (trace events.items said.items) (state S.Store self.old) (state S.Store self.new)) }
+        ensures played { IfOk result (λ said. Plays S.Store agreements.now events.items said.items self.old self.new) }
         ensures nothing { OnErr result (self.new ≡ self.old) }
     {
         let mut said = Vec::with_capacity(alloc, events.len())?;

@@ -13,9 +13,9 @@ use Rattle.as2_rows.specs.Rows.{evidence_shown}
 abbrev pub has_key : List ℕ → List ℕ → List ℕ → InEntry → Bool
 has_key sender receiver value e = bytes_eq e.posted.sender sender && (bytes_eq e.posted.receiver receiver && bytes_eq (value_of e.posted.id) value)
 
--- the entry that this sender posted to this receiver under an identifier of this value
-abbrev pub posted_as : State → List ℕ → List ℕ → List ℕ → Option InEntry
-posted_as s sender receiver value = find (has_key sender receiver value) s.inbox
+-- what is found is the entry that this sender posted to this receiver under an identifier of this value, if there is one
+abbrev pub IsPostedAs : List ℕ → List ℕ → List ℕ → State → Option InEntry → Type 0
+IsPostedAs sender receiver value s found = found ≡ find (has_key sender receiver value) s.inbox
 
 -- the numbers that the next entries get
 pub record AreNext (next : NextNumbers) (s : State) : Type 0 where

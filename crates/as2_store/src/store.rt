@@ -8,7 +8,7 @@ ghost use Rattle.as2_exchange.specs.declared.fault.StoreFault.TheVariants.{Full}
 ghost use Rattle.as2_rows.specs.Summaries.{in_summary};
 ghost use Rattle.as2_store.specs.Adding.{added};
 ghost use Rattle.as2_store.specs.Calls.{Adopts, Commits, CommitsFirst, Creates, IsGivenBack, IsReason, Reads, Writes};
-ghost use Rattle.as2_store.specs.Finding.{AreNext, posted_as};
+ghost use Rattle.as2_store.specs.Finding.{AreNext, IsPostedAs};
 ghost use Rattle.as2_store.specs.Requeuing.{requeued_in};
 ghost use Rattle.as2_store.specs.Settling.{settled_in};
 ghost use Rattle.as2_store.specs.Stands.{may_come};
@@ -173,7 +173,7 @@ impl<S: Alter> Store<S> {
         receiver: &AsName,
         id_value: &str,
     ) -> Result<Option<InEntry>, StoreFault>
-        ensures found { Reads (λ s found. found ≡ posted_as s sender.now receiver.now id_value.now) (state S.Store self.old) (state S.Store self.new) result }
+        ensures found { Reads (IsPostedAs sender.now receiver.now id_value.now) (state S.Store self.old) (state S.Store self.new) result }
         ensures fault { IfErr result (λ f. may_come f ≡ true) }
     {
         let rows = match rows_by_key(

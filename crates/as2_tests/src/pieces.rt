@@ -43,7 +43,7 @@ INSERT INTO waiting VALUES (1000000000001, 1, 1, 1000); \
 UPDATE meta SET next_document = 2";
 
 /// A store with an entry of that content, and with the document, whose pieces aren't there.
-fn database(alloc: Global, content: &[u8]) -> Option<Connection<MemStore>> {
+fn records(alloc: Global, content: &[u8]) -> Option<Connection<MemStore>> {
     let mut store = new_store(alloc, 1)?;
     add(alloc, &mut store, 1, "<m1@x>", content).ok()?;
     let mut conn = store.into_connection();
@@ -140,7 +140,7 @@ fn check(alloc: Global, mut conn: Connection<MemStore>, content: &[u8]) -> Resul
 fn pieces_are_read_by_position(rt: HostRuntime) -> Result<(), Fail> {
     let mut content = Vec::from_elem(rt.alloc(), 7u8, 65_536)?;
     content.push(8)?;
-    match database(rt.alloc(), content.as_slice()) {
+    match records(rt.alloc(), content.as_slice()) {
         Some(conn) => check(rt.alloc(), conn, content.as_slice()),
         None => Err(Fail::new("no store")),
     }

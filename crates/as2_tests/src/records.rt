@@ -1,7 +1,7 @@
 //! Stores in memory: entries, numbers, and databases that are no store.
 ghost use Rattle.std.specs.Prelude.{◌≡◌, false};
 
-use crate::stores::{add, count, found_by_number, is_found, new_store, next};
+use crate::stores::{add, count, database, found_by_number, is_found, new_store, next};
 use as2_exchange::StoreFault;
 use as2_store::Store;
 use sqlite::{Alter, Connection, MemStore};
@@ -143,10 +143,9 @@ fn other_databases_are_no_store(rt: HostRuntime) -> Result<(), Fail> {
         ),
     ];
     for (statements, fault) in &BASES {
-        let mut conn = Connection::open_in_memory(rt.alloc())?;
-        conn.execute_batch(statements)?;
-        if conn.is_autocommit() {
-            assert!(rt; refusal(conn) == Some(*fault));
+        match database(rt.alloc(), statements) {
+            Some(conn) => assert!(rt; refusal(conn) == Some(*fault)),
+            None => assert!(rt; false),
         }
     }
     Ok(())
@@ -193,18 +192,17 @@ fn store_with_notes(alloc: Global) -> Option<Connection<MemStore>> {
 }
 
 /// Whether none is made where a table of another kind has the name of a store's last one, and stays as it is.
-fn is_kept(alloc: Global) -> Result<bool, Fail> {
-    let mut conn = Connection::open_in_memory(alloc)?;
-    conn.execute_batch("CREATE TABLE waiting (title TEXT); INSERT INTO waiting VALUES ('n')")?;
-    if !conn.is_autocommit() {
-        return Ok(false);
+fn is_kept(alloc: Global) -> bool {
+    let statements = "CREATE TABLE waiting (title TEXT); INSERT INTO waiting VALUES ('n')";
+    match database(alloc, statements) {
+        Some(conn) => not_made(conn, 1, "SELECT title FROM waiting WHERE title = 'n'").is_some(),
+        None => false,
     }
-    Ok(not_made(conn, 1, "SELECT title FROM waiting WHERE title = 'n'").is_some())
 }
 
 #[test]
 fn a_store_is_made_once(rt: HostRuntime) -> Result<(), Fail> {
-    assert!(rt; is_kept(rt.alloc())?);
+    assert!(rt; is_kept(rt.alloc()));
     let Some(conn) = store_with_notes(rt.alloc()) else {
         return Err(Fail::from(StoreFault::NotAStore));
     };

@@ -1,5 +1,5 @@
 //! Stores in memory, and what they hold.
-ghost use Rattle.std.specs.Prelude.{◌≤◌, ◌<◌};
+ghost use Rattle.std.specs.Prelude.{◌≡◌, ◌≤◌, ◌<◌, false, IfSome};
 ghost use Rattle.as2_exchange.specs.State.{end_of_numbers};
 
 use crate::posts::{entry, posted};
@@ -10,13 +10,24 @@ use as2_store::Store;
 use sqlite::{Alter, Connection, MemStore};
 use std::alloc::Global;
 
+/// A database in memory after these statements, which leave no transaction open.
+pub fn database(alloc: Global, statements: &str) -> Option<Connection<MemStore>>
+    ensures { IfSome result (λ conn. conn.in_transaction ≡ false) }
+{
+    let mut conn = Connection::open_in_memory(alloc).ok()?;
+    conn.execute_batch(statements).ok()?;
+    if !conn.is_autocommit() {
+        return None;
+    }
+    Some(conn)
+}
+
 /// A new store in memory whose first numbers are `first`.
 pub fn new_store(alloc: Global, first: u64) -> Option<Store<MemStore>>
     requires least { 1 ≤ first }
     requires most { first < end_of_numbers }
 {
-    let conn = Connection::open_in_memory(alloc).ok()?;
-    Store::create(conn, first).ok()
+    Store::create(database(alloc, "")?, first).ok()
 }
 
 /// What is answered where that entry is added.

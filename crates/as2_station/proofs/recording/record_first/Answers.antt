@@ -1,14 +1,34 @@
-use Rattle.std.proofs.Common.{◌≡◌}
-use Rattle.as2_station.proofs.Crashing.{after_read, by_write}
-use Rattle.as2_station.proofs.Reaching.{first_left}
+use Rattle.std.proofs.Common.{◌≡◌, refl, None}
+use Rattle.as2_exchange.specs.State.{received_as}
+use Rattle.as2_exchange.specs.Step.{answer_to, record_post}
+use Rattle.as2_station.proofs.Doing.{after_read, failing, passed_on, written, unwritten}
+use Rattle.as2_station.proofs.Reaching.{adds, fills_up}
 use Rattle.as2_station.proofs.recording.record_first.Goals as goal
 
-pub returns-in_err-add_in-clause-crash : goal.returns-in_err-add_in-clause-crash
-returns-in_err-add_in-clause-crash g c =
-    after_read _ (λ s. c.in_ok-number.field-0.receipt ≡ s.next_in) _ _ _ _ _ _ c.in_ok-number.field-0 (λ opened s rests known next. (next.receipt, λ t is. is)) c.in_ok-number.ensures.numbers
-    (by_write _ _ _ _ _ c.add_in.result (λ opened s rests known t is db keeps. first_left _ s _ _ _ _ c.first_entry.ensures known t is db keeps) c.add_in.ensures.added)
+pub returns-in_err-answer : goal.returns-in_err-answer
+returns-in_err-answer g c = record {
+  taken =
+      after_read _ _ _ _ _ _ _ _ _ _ _ (λ s known next. known) c.in_ok-number.ensures.numbers
+      (passed_on _ _ _ _ _ _ _ _ c.from_residual-in_err-answer.ensures.0 c.from_residual-in_err-answer.ensures.1 (failing _ _ _ _ _ _ refl));
+}
 
-pub returns-clause-crash : goal.returns-clause-crash
-returns-clause-crash g c =
-    after_read _ (λ s. c.in_ok-number.field-0.receipt ≡ s.next_in) _ _ _ _ _ _ c.in_ok-number.field-0 (λ opened s rests known next. (next.receipt, λ t is. is)) c.in_ok-number.ensures.numbers
-    (by_write _ _ _ _ _ c.add_in.result (λ opened s rests known t is db keeps. first_left _ s _ _ _ _ c.first_entry.ensures known t is db keeps) c.add_in.ensures.added)
+pub returns-in_err-add_in : goal.returns-in_err-add_in
+unfolding record_post
+returns-in_err-add_in g c = record {
+  taken =
+      after_read _ _ _ _ _ (λ s. (received_as s c.args.posted ≡ None) × (c.in_ok-number.field-0.receipt ≡ s.next_in)) _ _ _ _ _ (λ s known next. (known, next.receipt)) c.in_ok-number.ensures.numbers
+      (passed_on _ _ _ _ _ _ _ _ c.from_residual-in_err-add_in.ensures.0 c.from_residual-in_err-add_in.ensures.1
+      (unwritten _ _ _ _ _ _ _ _ (answer_to c.args.agreements.now c.in_ok-number.field-0.receipt c.args.posted)
+      (λ s t db stands known is counter. rw known.0 (adds _ s t c.args.moment _ c.args.posted known.1 (rw c.first_entry.ensures at is) counter))
+      c.in_err-add_in.ensures.fault (λ s known full. rw known.0 (fills_up _ s c.args.moment _ c.args.posted known.1 (rw c.first_entry.ensures at (c.in_err-add_in.ensures.full full)))) c.in_err-add_in.ensures.added));
+}
+
+pub returns : goal.returns
+unfolding record_post
+returns g c = record {
+  taken =
+      after_read _ _ _ _ _ (λ s. (received_as s c.args.posted ≡ None) × (c.in_ok-number.field-0.receipt ≡ s.next_in)) _ _ _ _ _ (λ s known next. (known, next.receipt)) c.in_ok-number.ensures.numbers
+      (written _ _ _ _ _ _ _ _ _
+      (λ s t db stands known is counter. rw (known.0, c.in_ok-answer.ensures) (adds _ s t c.args.moment _ c.args.posted known.1 (rw c.first_entry.ensures at is) counter))
+      c.in_ok-add_in.ensures.added);
+}

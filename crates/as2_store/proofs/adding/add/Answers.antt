@@ -1,5 +1,6 @@
 use Rattle.std.proofs.Common.{refl, true, rules, ◌≡◌, subst, arith, Ok, Err}
 use Rattle.sqlite.specs.Held.{state}
+use Rattle.sqlite.specs.State.{HasCleanDisk, Shows}
 use Rattle.sqlite.specs.declared.error.Error.TheVariants.{QueryReturnedNoRows}
 use Rattle.as2_store.specs.Adding.{added}
 use Rattle.as2_store.specs.Calls.{IsInside, Writes}
@@ -19,8 +20,9 @@ returns-clause-added g c =
     let first : IsInside (state g.S.Store (record old { in_transaction = true })) mid = rw c.transaction-tx.ensures.begun at c.put_received.ensures.within in
     let done = adds g.S.Store old mid last x c.requires.number c.raise_next_receipt.ensures.within.clean (rw c.transaction-tx.ensures.begun at c.in_ok-put_received.ensures.open)
     (rw c.transaction-tx.ensures.begun at c.in_ok-put_received.ensures.put) (λ clean n m has. c.in_ok-raise_next_receipt.ensures.put clean n m has c.if-branch-eq0.false) in
+    let shown : HasCleanDisk (state g.S.Store end) → Shows last (state g.S.Store end) last.now last.now false = λ late. (let it : Shows last (state g.S.Store end) last.now last.now false = search rules in it) in
     subst (λ h. Writes (added x) (state g.S.Store old) (state g.S.Store h) (Ok tt)) same
-    (commits g.S.Store old last end (added x) tt (inside_then _ mid last first c.raise_next_receipt.ensures.within) c.commit.ensures.survives done (λ late. (c.in_ok-commit.ensures.ok late).1) (λ db opened may. g.met.S.Store.settled end.store db opened may))
+    (commits g.S.Store old last end (added x) tt (inside_then _ mid last first c.raise_next_receipt.ensures.within) c.commit.ensures.survives done shown (λ db opened may. g.met.S.Store.settled end.store db opened may))
 
 pub returns-in_err-commit-clause-added : goal.returns-in_err-commit-clause-added
 returns-in_err-commit-clause-added g c =

@@ -1,7 +1,6 @@
 use Rattle.std.proofs.Common.{◌≡◌, ◌+◌, ◌++◌, [], ◌∷◌, ◌∙◌, length, sym, ap, subst, append_assoc, append-nil, arith}
 use Rattle.std.proofs.lemmas.List.{length-append}
-use Rattle.sqlite.specs.Held.{state}
-use Rattle.as2_station.specs.Traces.{Taken, Plays, trace}
+use Rattle.as2_station.specs.Traces.{Taken, Plays}
 use Rattle.as2_station.proofs.Playing.{taken_more, taken_plays, nothing_left}
 use Rattle.as2_station.proofs.station.Station.play.Goals as goal
 
@@ -29,9 +28,9 @@ returns-clause-each g c =
     subst (λ es. Taken g.S.Store c.args.agreements.now es c.events.said.items c.args.self.now c.events.self) whole was.4
 
 pub returns-clause-played : goal.returns-clause-played
-returns-clause-played g c clean =
+returns-clause-played g c =
     let was = c.events.invariant in
     let rest : c.events.event-iterator.rest.items ≡ [] = nothing_left _ (omega (arith, c.in-None.ensures.steps.0, c.events.event-iterator.rest.ok)) in
     let whole : c.events.yielded ≡ c.args.events.items = sym (was.1 ∙ ap (λ l. c.events.yielded ++ l) rest ∙ append-nil c.events.yielded) in
-    subst (λ es. Plays c.args.agreements.now (trace es c.events.said.items) (state g.S.Store c.args.self.now) (state g.S.Store c.events.self)) whole
-    (taken_plays g.S.Store c.args.agreements.now c.events.yielded c.events.said.items c.args.self.now c.events.self was.4 clean)
+    subst (λ es. Plays g.S.Store c.args.agreements.now es c.events.said.items c.args.self.now c.events.self) whole
+    (taken_plays g.S.Store c.args.agreements.now c.events.yielded c.events.said.items c.args.self.now c.events.self was.4)

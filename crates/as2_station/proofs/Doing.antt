@@ -1,0 +1,139 @@
+-- What calls of the store make of the machine, one after the other.
+use Rattle.std.proofs.Common.{◌≡◌, ◌⊎◌, inl, inr, Option, Some, None, Result, Ok, Err, IfOk, IfErr, IsErr, IsErrAnd, IsTrue, true, refl, sym, subst, arith}
+use Rattle.sqlite_trees.specs.Tree.{Trees}
+use Rattle.sqlite.specs.Effect.{Database}
+use Rattle.sqlite.specs.State.{State as Connected, HasCleanDisk, Survives}
+use Rattle.sqlite.proofs.StateLemmas.{survives_then}
+use Rattle.as2_exchange.specs.Invariants.{IsCounter}
+use Rattle.as2_exchange.specs.State.{State}
+use Rattle.as2_exchange.specs.declared.answer.Answer.{Answer}
+use Rattle.as2_exchange.specs.declared.fault.StoreFault.{StoreFault}
+use Rattle.as2_exchange.specs.declared.fault.StoreFault.TheVariants.{Full}
+use Rattle.as2_store.specs.Stands.{Rests, Stands, may_come}
+use Rattle.as2_store.specs.Calls.{Commits, Keeps, KeepsNext, Reads, Writes}
+use Rattle.as2_station.specs.Steps.{Does, Machine, MayLeave}
+
+from_ok : {V E : Type 0} (r : Result V E) (P Q : V → Type 0) → IfOk r P → ((v : V) → P v → Q v) → IfOk r Q
+from_ok (Ok v) P Q h f = f v h
+from_ok (Err e) P Q h f = tt
+
+from_err : {V E : Type 0} (r : Result V E) (P Q : E → Type 0) → IfErr r P → ((e : E) → P e → Q e) → IfErr r Q
+from_err (Ok v) P Q h f = tt
+from_err (Err e) P Q h f = f e h
+
+-- nothing was done
+nothing_done : (c : Connected) (P : Trees → Type 0) → Survives c c P
+nothing_done c P = record { clean = omega arith; shield = λ is. is; counts = omega arith; limit = refl; closes = λ clean is. inl is; crash = λ clean db may. inl may }
+
+weaker : (P Q : Trees → Type 0) (old new : Connected) → ((db : Trees) → P db → Q db) → Survives old new P → Survives old new Q
+weaker P Q old new leads it = record {
+  clean = it.clean;
+  shield = it.shield;
+  counts = it.counts;
+  limit = it.limit;
+  closes = it.closes;
+  crash = λ clean db may. elim (it.crash clean db may) [ inl was ↦ inl was | inr is ↦ inr (leads db is) ];
+}
+
+same_state : (db : Trees) (s : State) → KeepsNext db (Some s) → Keeps db s
+same_state db s it = subst (Keeps db) (let same : it.state ≡ s = (let i = it.is in cc) in same) it.keeps
+
+pub never_full : {X : Type 0} (f : StoreFault) → may_come f ≡ true → f ≡ Full → X
+never_full f may full = absurd (let no = subst (λ g. may_come g ≡ true) full may in cc)
+
+pub none_left : {X : Type 0} (o : Option X) → ((x : X) → o ≡ Some x → ⊥) → o ≡ None
+none_left None no_value = refl
+none_left (Some x) no_value = absurd (no_value x refl)
+
+module _ {A : Type 0} (machine : Machine) (given : State → Type 0) (asks : Type 0) (told : A → Answer) where
+  -- an answer that nothing of the store is read or written for
+  pub at_once : (c : Connected) (a : A) → (HasCleanDisk c → asks → IsTrue c.is_open) → (HasCleanDisk c → (s : State) → Rests c s → given s → machine s ≡ Some (told a, s)) → Does machine given asks told c c (Ok a)
+  at_once c a opened is = record {
+    clean = λ clean. clean;
+    is_open = opened;
+    answered = λ clean s rests known. record { next = s; step = is clean s rests known; rests = rests };
+    failed = λ clean. tt;
+    fault = tt;
+    crash = nothing_done c (MayLeave machine given c);
+  }
+
+  -- a fault before anything is read or written
+  pub failing : (c : Connected) (f : StoreFault) → may_come f ≡ true → Does machine given asks told c c (Err f)
+  failing c f may = record {
+    clean = λ clean. clean;
+    is_open = λ clean. tt;
+    answered = λ clean. tt;
+    failed = λ clean s rests known. (rests, never_full f may);
+    fault = inr may;
+    crash = nothing_done c (MayLeave machine given c);
+  }
+
+  -- the fault of a call, passed on
+  pub passed_on : (old new : Connected) (r : Result A StoreFault) (f : StoreFault) → IsErr r → IsErrAnd r (λ e. e ≡ f) → Does machine given asks told old new (Err f) → Does machine given asks told old new r
+  passed_on old new (Ok a) f fails is it = absurd cc
+  passed_on old new (Err e) f fails is it = subst (λ f. Does machine given asks told old new (Err f)) (sym is) it
+
+  -- a read that fails
+  pub unread : {B : Type 0} (fits : State → B → Type 0) (old new : Connected) (f : StoreFault) → Reads fits old new (Err f) → may_come f ≡ true → Does machine given asks told old new (Err f)
+  unread fits old new f it may = record {
+    clean = it.clean;
+    is_open = λ clean. tt;
+    answered = λ clean. tt;
+    failed = λ clean s rests known. (it.same clean s rests, never_full f may);
+    fault = inr may;
+    crash = weaker (Commits Some old) (MayLeave machine given old) old new (λ db is. record { was_open = is.was_open; stands = λ s rests known. inl (same_state db s (is.stands s rests)) }) it.crash;
+  }
+
+  -- what follows a read
+  pub after_read : {B : Type 0} (fits : State → B → Type 0) (given_then : State → Type 0) (old mid new : Connected) (b : B) (r : Result A StoreFault)
+      → ((s : State) → given s → fits s b → given_then s) → Reads {A = B} {E = StoreFault} fits old mid (Ok b) → Does machine given_then asks told mid new r → Does machine given asks told old new r
+  after_read fits given_then old mid new b r leads one two = record {
+    clean = λ clean. one.clean (two.clean clean);
+    is_open = two.is_open;
+    answered = λ clean. from_ok r _ _ (two.answered clean) (λ a left s rests known. left s (one.same (two.clean clean) s rests) (leads s known (one.answer (two.clean clean) s rests)));
+    failed = λ clean. from_err r _ _ (two.failed clean) (λ f left s rests known. left s (one.same (two.clean clean) s rests) (leads s known (one.answer (two.clean clean) s rests)));
+    fault = two.fault;
+    crash = survives_then old mid new (Commits Some old) (MayLeave machine given_then mid) (MayLeave machine given old)
+        (λ _ db is. record { was_open = is.was_open; stands = λ s rests known. inl (same_state db s (is.stands s rests)) })
+        (λ clean db is.
+        let was : HasCleanDisk mid = two.clean clean in
+        record { was_open = one.was_open was; stands = λ s rests known. is.stands s (one.same was s rests) (leads s known (one.answer was s rests)) })
+        one.crash two.crash;
+  }
+
+  -- what a write commits is what the machine leaves with this answer
+  abbrev pub IsStep : (State → Option State) → Answer → Type 0
+  IsStep wrote answer = (s t : State) (d : Database) → Stands d s → given s → wrote s ≡ Some t → IsCounter t.next_in → machine s ≡ Some (answer, t)
+
+  leaves : (wrote : State → Option State) (answer : Answer) (old new : Connected) → IsStep wrote answer → Survives old new (Commits wrote old) → Survives old new (MayLeave machine given old)
+  leaves wrote answer old new is = weaker (Commits wrote old) (MayLeave machine given old) old new (λ db may. record {
+    was_open = may.was_open;
+    stands = λ s rests known.
+        let to = may.stands s rests in
+        inr (record { state = to.state; is = rw (is s to.state old.now (rests.stands may.was_open) known to.is to.keeps.receipts.0) refl; keeps = to.keeps });
+  })
+
+  -- a write
+  pub written : {U : Type 0} (wrote : State → Option State) (old new : Connected) (u : U) (a : A) → IsStep wrote (told a) → Writes {A = U} {E = StoreFault} wrote old new (Ok u) → Does machine given asks told old new (Ok a)
+  written wrote old new u a is it = record {
+    clean = it.clean;
+    is_open = λ clean _. it.is_open clean;
+    answered = λ clean s rests known.
+        let to = it.done clean s rests in
+        record { next = to.state; step = is s to.state old.now (rests.stands (it.was_open clean)) known to.is (to.rests.stands (it.is_open clean)).receipts.0; rests = to.rests };
+    failed = λ clean. tt;
+    fault = tt;
+    crash = leaves wrote (told a) old new is it.crash;
+  }
+
+  -- a write that fails
+  pub unwritten : {U : Type 0} (wrote : State → Option State) (old new : Connected) (f : StoreFault) (answer : Answer) → IsStep wrote answer → (f ≡ Full) ⊎ (may_come f ≡ true)
+      → ((s : State) → given s → f ≡ Full → machine s ≡ None) → Writes {A = U} {E = StoreFault} wrote old new (Err f) → Does machine given asks told old new (Err f)
+  unwritten wrote old new f answer is fault none it = record {
+    clean = it.clean;
+    is_open = λ clean. tt;
+    answered = λ clean. tt;
+    failed = λ clean s rests known. (it.failed clean s rests, none s known);
+    fault = fault;
+    crash = leaves wrote answer old new is it.crash;
+  }
