@@ -12,7 +12,7 @@ ghost use Rattle.as2_store.specs.Stands.{Rests, may_come};
 use crate::contents::out_piece_rows;
 use crate::fault::{fault_of, unread_row};
 use crate::outbox::evidence_rows;
-use as2_exchange::{Evidence, OutEntry, StoreFault};
+use as2_exchange::{END_OF_NUMBERS, Evidence, OutEntry, StoreFault};
 use as2_mic::Pieces;
 use as2_rows::{EvidenceRow, OutRow, content_in};
 use sqlite::{Alter, Connection, Row};
@@ -85,7 +85,7 @@ pub fn first_document<S: Alter>(
         Ok(row) => row,
         Err(fault) => return Err(unread_row(fault)),
     };
-    if row.number > 999_999_999_999 {
+    if row.number >= END_OF_NUMBERS {
         return Err(StoreFault::Refused);
     }
     let content = content_of(conn, alloc, row.number, row.length)?;

@@ -12,7 +12,7 @@ ghost use Rattle.as2_store.specs.Stands.{Rests, may_come};
 
 use crate::contents::in_piece_rows;
 use crate::fault::{fault_of, unread_row};
-use as2_exchange::{InEntry, StoreFault};
+use as2_exchange::{END_OF_NUMBERS, InEntry, StoreFault};
 use as2_mic::Pieces;
 use as2_rows::{InRow, content_in};
 use sqlite::{Alter, Connection, Row};
@@ -30,7 +30,7 @@ fn content_of<S: Alter>(
     ensures content { Reads (λ s content. (p : Entry → Bool) (e : Entry) → find p s.inbox ≡ Some e → number ≡ e.number → content ≡ e.posted.content) (state S.Store conn.old) (state S.Store conn.new) result }
     ensures fault { IfErr result (λ f. may_come f ≡ true) }
 {
-    if number > 999_999_999_999 {
+    if number >= END_OF_NUMBERS {
         return Err(StoreFault::Refused);
     }
     let rows = match in_piece_rows(conn, number) {

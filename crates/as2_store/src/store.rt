@@ -25,7 +25,7 @@ use crate::numbers::fits;
 use crate::outbox::rows_by_id;
 use crate::requeuing::requeue;
 use crate::settling::{is_by_receipt, settle};
-use as2_exchange::{Evidence, InEntry, OutEntry, StoreFault};
+use as2_exchange::{END_OF_NUMBERS, Evidence, InEntry, OutEntry, StoreFault};
 use as2_mdn::Detail;
 use as2_names::{AsName, Moment};
 use as2_rows::InRow;
@@ -117,7 +117,7 @@ impl<S: Alter> Store<S> {
         ensures full_alone { end_of_numbers ≤ entry.now.number → result ≡ Err Full }
         ensures fault { IfErr result (λ f. (f ≡ Full) ⊎ (may_come f ≡ true)) }
     {
-        if entry.number > 999_999_999_999 {
+        if entry.number >= END_OF_NUMBERS {
             return Err(StoreFault::Full);
         }
         if !fits(entry) {

@@ -14,11 +14,8 @@ ghost use Rattle.as2_store.specs.Requeuing.{Holds, Renewed, not_at};
 ghost use Rattle.as2_store.specs.Settling.{without_document};
 
 use crate::numbers::{whole, whole_or_none};
-use as2_exchange::{Attempt, InEntry, MdnState};
+use as2_exchange::{Attempt, END_OF_NUMBERS, InEntry, MdnState};
 use sqlite::{Alter, Error, Transaction, params};
-
-/// The first number that is never given: the places of one kind lie so far apart.
-const END_OF_NUMBERS: u64 = 1_000_000_000_000;
 
 /// Puts in a row of what waits.
 fn put_waiting<S: Alter>(

@@ -1,4 +1,4 @@
-use Rattle.std.proofs.Common.{refl, true, rules, ◌≡◌, subst, arith, Ok, Err}
+use Rattle.std.proofs.Common.{refl, false, true, rules, ◌≡◌, subst, arith, Ok, Err}
 use Rattle.sqlite.specs.Held.{state}
 use Rattle.sqlite.specs.State.{HasCleanDisk, Shows}
 use Rattle.sqlite.specs.declared.error.Error.TheVariants.{QueryReturnedNoRows}
