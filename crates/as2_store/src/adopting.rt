@@ -80,5 +80,5 @@ pub fn check<S: Alter>(conn: &mut Connection<S>) -> Result<(), StoreFault>
     let Err(error) = tx.commit() else {
         return Ok(());
     };
-    Err(fault_of(&error))
+    Err(fault_of(error))
 }

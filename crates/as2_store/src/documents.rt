@@ -31,14 +31,8 @@ fn content_of<S: Alter>(
     ensures content { Reads (λ s content. (p : Document → Bool) (d : Document) → find p s.outbox ≡ Some d → number ≡ d.number → content ≡ d.content) (state S.Store conn.old) (state S.Store conn.new) result }
     ensures fault { IfErr result (λ f. may_come f ≡ true) }
 {
-    let rows = match out_piece_rows(conn, number) {
-        Ok(rows) => rows,
-        Err(error) => return Err(fault_of(&error)),
-    };
-    match content_in(alloc, &rows, number, length) {
-        Ok(content) => Ok(content),
-        Err(fault) => Err(unread_row(fault)),
-    }
+    let rows = out_piece_rows(conn, number).map_err(fault_of)?;
+    content_in(alloc, &rows, number, length).map_err(unread_row)
 }
 
 /// The receipt that settled a document, if one has.
@@ -53,17 +47,12 @@ fn evidence_of<S: Alter>(
     ensures evidence { Reads (λ s evidence. (p : Document → Bool) (d : Document) → find p s.outbox ≡ Some d → number ≡ d.number → evidence ≡ d.evidence) (state S.Store conn.old) (state S.Store conn.new) result }
     ensures fault { IfErr result (λ f. may_come f ≡ true) }
 {
-    let rows = match evidence_rows(conn, number) {
-        Ok(rows) => rows,
-        Err(error) => return Err(fault_of(&error)),
-    };
+    let rows = evidence_rows(conn, number).map_err(fault_of)?;
     let Some(row) = rows.first() else {
         return Ok(None);
     };
-    match EvidenceRow::read(alloc, row) {
-        Ok(row) => Ok(Some(row.evidence)),
-        Err(fault) => Err(unread_row(fault)),
-    }
+    let row = EvidenceRow::read(alloc, row).map_err(unread_row)?;
+    Ok(Some(row.evidence))
 }
 
 /// The document that the first of the rows shows, with its content and its evidence.
@@ -81,10 +70,7 @@ pub fn first_document<S: Alter>(
     let Some(row) = rows.first() else {
         return Ok(None);
     };
-    let row = match OutRow::read(alloc, row) {
-        Ok(row) => row,
-        Err(fault) => return Err(unread_row(fault)),
-    };
+    let row = OutRow::read(alloc, row).map_err(unread_row)?;
     if row.number >= END_OF_NUMBERS {
         return Err(StoreFault::Refused);
     }

@@ -68,7 +68,7 @@ impl<S: Alter> Store<S> {
     {
         match make(&mut conn, first) {
             Ok(()) => Ok(Store { conn }),
-            Err(error) => Err((conn, fault_of(&error))),
+            Err(error) => Err((conn, fault_of(error))),
         }
     }
 
@@ -99,14 +99,8 @@ impl<S: Alter> Store<S> {
         ensures numbers { Reads (λ s next. AreNext next s) (state S.Store self.old) (state S.Store self.new) result }
         ensures fault { IfErr result (λ f. may_come f ≡ true) }
     {
-        let rows = match meta_rows(&mut self.conn) {
-            Ok(rows) => rows,
-            Err(error) => return Err(fault_of(&error)),
-        };
-        match next_of(&rows) {
-            Ok(next) => Ok(next),
-            Err(error) => Err(fault_of(&error)),
-        }
+        let rows = meta_rows(&mut self.conn).map_err(fault_of)?;
+        next_of(&rows).map_err(fault_of)
     }
 
     /// Adds an entry to the inbox under the next number of a receipt, as `next_numbers` gives it. Answers Full exactly where the
@@ -123,10 +117,7 @@ impl<S: Alter> Store<S> {
         if !fits(entry) {
             return Err(StoreFault::Refused);
         }
-        let Err(error) = add(&mut self.conn, entry) else {
-            return Ok(());
-        };
-        Err(fault_of(&error))
+        add(&mut self.conn, entry).map_err(fault_of)
     }
 
     /// Sets the receipt of the entry of the inbox of this number, if there is one, to be sent from this moment on, with all
@@ -135,10 +126,7 @@ impl<S: Alter> Store<S> {
         ensures requeued { Writes (requeued_in number moment) (state S.Store self.old) (state S.Store self.new) result }
         ensures fault { IfErr result (λ f. may_come f ≡ true) }
     {
-        let Err(error) = requeue(&mut self.conn, number, moment) else {
-            return Ok(());
-        };
-        Err(fault_of(&error))
+        requeue(&mut self.conn, number, moment).map_err(fault_of)
     }
 
     /// Settles the document of this number by a receipt: it gets this detail and this evidence, no try of it is open, and
@@ -159,10 +147,7 @@ impl<S: Alter> Store<S> {
         let Ok(body) = evidence.body.joined() else {
             return Err(StoreFault::Memory);
         };
-        let Err(error) = settle(&mut self.conn, number, detail, evidence, &body) else {
-            return Ok(());
-        };
-        Err(fault_of(&error))
+        settle(&mut self.conn, number, detail, evidence, &body).map_err(fault_of)
     }
 
     /// The entry of the inbox that this sender posted to this receiver under an identifier of this value, if there is one.
@@ -176,15 +161,13 @@ impl<S: Alter> Store<S> {
         ensures found { Reads (IsPostedAs sender.now receiver.now id_value.now) (state S.Store self.old) (state S.Store self.new) result }
         ensures fault { IfErr result (λ f. may_come f ≡ true) }
     {
-        let rows = match rows_by_key(
+        let rows = rows_by_key(
             &mut self.conn,
             sender.bytes(),
             receiver.bytes(),
             id_value.as_bytes(),
-        ) {
-            Ok(rows) => rows,
-            Err(error) => return Err(fault_of(&error)),
-        };
+        )
+        .map_err(fault_of)?;
         first_entry(&mut self.conn, alloc, &rows)
     }
 
@@ -197,10 +180,7 @@ impl<S: Alter> Store<S> {
         ensures found { Reads (λ s found. found ≡ received s number) (state S.Store self.old) (state S.Store self.new) result }
         ensures fault { IfErr result (λ f. may_come f ≡ true) }
     {
-        let rows = match rows_by_number(&mut self.conn, number) {
-            Ok(rows) => rows,
-            Err(error) => return Err(fault_of(&error)),
-        };
+        let rows = rows_by_number(&mut self.conn, number).map_err(fault_of)?;
         first_entry(&mut self.conn, alloc, &rows)
     }
 
@@ -214,10 +194,7 @@ impl<S: Alter> Store<S> {
         ensures found { Reads (λ s found. found ≡ document_named s id_value.now) (state S.Store self.old) (state S.Store self.new) result }
         ensures fault { IfErr result (λ f. may_come f ≡ true) }
     {
-        let rows = match rows_by_id(&mut self.conn, id_value) {
-            Ok(rows) => rows,
-            Err(error) => return Err(fault_of(&error)),
-        };
+        let rows = rows_by_id(&mut self.conn, id_value).map_err(fault_of)?;
         first_document(&mut self.conn, alloc, &rows)
     }
 
@@ -226,10 +203,7 @@ impl<S: Alter> Store<S> {
         ensures entries { Reads (λ s entries. entries.items ≡ map in_summary s.inbox) (state S.Store self.old) (state S.Store self.new) result }
         ensures fault { IfErr result (λ f. may_come f ≡ true) }
     {
-        let rows = match all_rows(&mut self.conn) {
-            Ok(rows) => rows,
-            Err(error) => return Err(fault_of(&error)),
-        };
+        let rows = all_rows(&mut self.conn).map_err(fault_of)?;
         entries_in(alloc, &rows)
     }
 }
