@@ -35,7 +35,7 @@ failed A moment r old new before after f taken head clean s rests =
     let fault = taken.does.failed clean s rests tt in (
       s,
       fault.0,
-      (fault.1, refl, λ status line reads by_head. let told = head.answer r.fields r.body moment status line refl reads by_head in absurd cc),
+      (fault.1, refl, λ line reads by_head. let told = head.answer r.fields r.body moment line refl reads by_head in absurd cc),
     )
 
 -- a post to the station's path gets what the post takes

@@ -53,7 +53,7 @@ answer_of NoPath = line 404 (codes "no such path")
 
 -- the head of a post doesn't decide its answer
 abbrev pub IsPastHead : AgreedValues → Request → Type 0
-IsPastHead A r = (status : ℕ) (line : TheLine) → reading A r.fields r.body ≡ Refuses status line → ¬ (is_of_head line ≡ true)
+IsPastHead A r = (line : TheLine) → reading A r.fields r.body ≡ Refuses line → ¬ (is_of_head line ≡ true)
 
 -- a post at this moment, as an event
 abbrev pub posted : Request → ℕ → Event

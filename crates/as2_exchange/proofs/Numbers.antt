@@ -26,7 +26,7 @@ none_recorded A s m p None h = by (nat_le end_of_numbers s.next_in) _ refl h
 
 none_posted : (A : Agreements) (s : State) (m : ℕ) (r : Reading) → post A s m r ≡ None → end_of_numbers ≤ s.next_in
 unfolding record_post
-none_posted A s m (Refuses status line) h = absurd (cc)
+none_posted A s m (Refuses line) h = absurd (cc)
 none_posted A s m (IsReceipt r) h = absurd (cc)
 none_posted A s m (IsDocument p) h = none_recorded A s m p (received_as s p) h
 

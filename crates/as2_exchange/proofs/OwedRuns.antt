@@ -123,21 +123,21 @@ closed A (Async url) p facts got m e agreed h = (
 -- ---- the names of a posted document are agreed
 
 IsKnown : Agreements → Reading → Type 0
-IsKnown A (Refuses status line) = ⊤
+IsKnown A (Refuses line) = ⊤
 IsKnown A (IsReceipt r) = ⊤
 IsKnown A (IsDocument q) = (p : Partner) × AreAgreed A q.receiver q.sender p
 
-needs_known : {X : Type 0} (A : Agreements) (o : Option X) (status : ℕ) (line : Line) (rest : X → Reading) → ((x : X) → IsKnown A (rest x)) → IsKnown A (needs o status line rest)
+needs_known : {X : Type 0} (A : Agreements) (o : Option X) (line : Line) (rest : X → Reading) → ((x : X) → IsKnown A (rest x)) → IsKnown A (needs o line rest)
 unfolding IsKnown
-needs_known A None status line rest h = tt
-needs_known A (Some x) status line rest h = h x
+needs_known A None line rest h = tt
+needs_known A (Some x) line rest h = h x
 
 if_known : (A : Agreements) (b : Bool) (x y : Reading) → IsKnown A x → IsKnown A y → IsKnown A (if b then x else y)
 if_known A true x y h g = h
 if_known A false x y h g = g
 
 -- the agreements have both names, or the post is refused
-if_agreed : (A : Agreements) (ours theirs : Bool) (rest : Reading) → (ours ≡ true → theirs ≡ true → IsKnown A rest) → IsKnown A (if not (ours && theirs) then Refuses 403 UnknownNames else rest)
+if_agreed : (A : Agreements) (ours theirs : Bool) (rest : Reading) → (ours ≡ true → theirs ≡ true → IsKnown A rest) → IsKnown A (if not (ours && theirs) then Refuses UnknownNames else rest)
 unfolding IsKnown
 if_agreed A true true rest h = h refl refl
 if_agreed A true false rest h = tt
@@ -149,13 +149,13 @@ agreed_names A names ours theirs = let known = is_some_value (partner_of A names
 reading_known : (A : Agreements) (head : Head) (body : Text) → IsKnown A (reading A head body)
 unfolding reading IsKnown
 reading_known A head body =
-    needs_known A (names_of head) 400 BadNames _ (λ names.
-    if_known A (not (version_fits head)) (Refuses 400 BadVersion) _ tt
+    needs_known A (names_of head) BadNames _ (λ names.
+    if_known A (not (version_fits head)) (Refuses BadVersion) _ tt
     (if_agreed A (is_organization A names.1) (is_some (partner_of A names.0)) _ (λ ours theirs.
-    needs_known A (type_of head) 400 BadType _ (λ type.
+    needs_known A (type_of head) BadType _ (λ type.
     if_known A (is_report type.0) _ _
-    (needs_known A (report_in type.0 body) 400 UnreadableReceipt _ (λ r. tt))
-    (needs_known A (id_of head) 400 BadId _ (λ id. needs_known A (ask_of head) 400 BadAsk _ (λ ask. agreed_names A names ours theirs)))))))
+    (needs_known A (report_in type.0 body) UnreadableReceipt _ (λ r. tt))
+    (needs_known A (id_of head) BadId _ (λ id. needs_known A (ask_of head) BadAsk _ (λ ask. agreed_names A names ours theirs)))))))
 
 document_known : (A : Agreements) (r : Reading) (q : Posted) → IsKnown A r → r ≡ IsDocument q → (p : Partner) × AreAgreed A q.receiver q.sender p
 unfolding IsKnown
@@ -453,9 +453,9 @@ left_receipts A past s m q x y keeps post known (clash d there other is) formed 
 
 -- ---- a step and a run
 
-refused_quiet : (A : Agreements) (head : Head) (body : Text) (m : ℕ) (a : Answer) (status : ℕ) (line : Line) → reading A head body ≡ Refuses status line → (n : ℕ) (q : Posted) → receipt_fact A n q (done (Post head body m) a) ≡ None
+refused_quiet : (A : Agreements) (head : Head) (body : Text) (m : ℕ) (a : Answer) (line : Line) → reading A head body ≡ Refuses line → (n : ℕ) (q : Posted) → receipt_fact A n q (done (Post head body m) a) ≡ None
 unfolding receipt_fact
-refused_quiet A head body m a status line is n q = rw is refl
+refused_quiet A head body m a line is n q = rw is refl
 
 receipt_quiet : (A : Agreements) (head : Head) (body : Text) (m : ℕ) (a : Answer) (r : Came) → reading A head body ≡ IsReceipt r → (n : ℕ) (q : Posted) → receipt_fact A n q (done (Post head body m) a) ≡ None
 unfolding receipt_fact
@@ -467,7 +467,7 @@ other_quiet A e a n q h = h
 
 post_receipts : (A : Agreements) (past : List Done) (s : State) (head : Head) (body : Text) (m : ℕ) (r : Reading) (y : Answer × State) → reading A head body ≡ r → KeepsReceipts A past s → post A s m r ≡ Some y → IsWellFormed A y.1 → Grows s y.1 → KeepsReceipts A (past ++ done (Post head body m) y.0 ∷ []) y.1
 unfolding record_post
-post_receipts A past s head body m (Refuses status line) y is keeps h formed grows = quiet A past s y.1 (done (Post head body m) y.0) keeps formed grows (ap (λ (z : Answer × State). z.1.inbox) (sym (same_Some _ y h))) (refused_quiet A head body m y.0 status line is)
+post_receipts A past s head body m (Refuses line) y is keeps h formed grows = quiet A past s y.1 (done (Post head body m) y.0) keeps formed grows (ap (λ (z : Answer × State). z.1.inbox) (sym (same_Some _ y h))) (refused_quiet A head body m y.0 line is)
 post_receipts A past s head body m (IsReceipt r) y is keeps h formed grows = quiet A past s y.1 (done (Post head body m) y.0) keeps formed grows (ap (λ (z : Answer × State). z.1.inbox) (sym (same_Some _ y h)) ∙ (settle_inbox s m r).0) (receipt_quiet A head body m y.0 r is)
 post_receipts A past s head body m (IsDocument q) y is keeps h formed grows = left_receipts A past s m q (done (Post head body m) y.0) y keeps (posts_for A head body m y.0 q is) (document_known A (reading A head body) q (reading_known A head body) is) (left_is A s m q (received_as s q) y h) formed grows
 

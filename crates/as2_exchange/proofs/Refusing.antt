@@ -174,7 +174,7 @@ settle_acts s m r (Some d) = by (not (bears r d.organization d.partner d.id && i
 
 post_acts : (A : Agreements) (s : State) (m : ℕ) (r : Reading) (y : Answer × State) → post A s m r ≡ Some y → is_refusal y.0 ≡ false
 unfolding settle record_post
-post_acts A s m (Refuses status line) y h = ap (λ (z : Answer × State). is_refusal z.0) (sym (same_Some _ y h))
+post_acts A s m (Refuses line) y h = ap (λ (z : Answer × State). is_refusal z.0) (sym (same_Some _ y h))
 post_acts A s m (IsReceipt r) y h = ap (λ (z : Answer × State). is_refusal z.0) (sym (same_Some _ y h)) ∙ settle_acts s m r (document_named s (named_by r.receipt))
 post_acts A s m (IsDocument p) y h = recorded_acts A s m p (received_as s p) y h
 

@@ -30,14 +30,14 @@ mic_there UnsupportedMicAlgorithms ask content = refl
 
 -- what a post is read as
 IsGood : Reading → Type 0
-IsGood (Refuses status line) = ⊤
+IsGood (Refuses line) = ⊤
 IsGood (IsReceipt r) = ⊤
 IsGood (IsDocument p) = IsRecorded p
 
-needs_good : {X : Type 0} (o : Option X) (status : ℕ) (line : Line) (rest : X → Reading) → ((x : X) → IsGood (rest x)) → IsGood (needs o status line rest)
+needs_good : {X : Type 0} (o : Option X) (line : Line) (rest : X → Reading) → ((x : X) → IsGood (rest x)) → IsGood (needs o line rest)
 unfolding IsGood
-needs_good None status line rest h = tt
-needs_good (Some x) status line rest h = h x
+needs_good None line rest h = tt
+needs_good (Some x) line rest h = h x
 
 if_good : (b : Bool) (x y : Reading) → IsGood x → IsGood y → IsGood (if b then x else y)
 if_good true x y h g = h
@@ -46,19 +46,19 @@ if_good false x y h g = g
 document_good : (names : Text × Text) (type : MediaType × Text) (head : Head) (body : Text) → IsGood (document_posted names type head body)
 unfolding IsGood
 document_good names type head body =
-    needs_good (id_of head) 400 BadId _ (λ id. needs_good (ask_of head) 400 BadAsk _ (λ ask. mic_there _ ask body))
+    needs_good (id_of head) BadId _ (λ id. needs_good (ask_of head) BadAsk _ (λ ask. mic_there _ ask body))
 
 report_good : (names : Text × Text) (type : MediaType × Text) (body : Text) → IsGood (report_posted names type body)
 unfolding IsGood
-report_good names type body = needs_good (report_in type.0 body) 400 UnreadableReceipt _ (λ r. tt)
+report_good names type body = needs_good (report_in type.0 body) UnreadableReceipt _ (λ r. tt)
 
 reading_good : (A : Agreements) (head : Head) (body : Text) → IsGood (reading A head body)
 unfolding reading IsGood
 reading_good A head body =
-    needs_good (names_of head) 400 BadNames _ (λ names.
-    if_good (not (version_fits head)) (Refuses 400 BadVersion) _ tt
-    (if_good (not (is_organization A names.1 && is_some (partner_of A names.0))) (Refuses 403 UnknownNames) _ tt
-    (needs_good (type_of head) 400 BadType _ (λ type.
+    needs_good (names_of head) BadNames _ (λ names.
+    if_good (not (version_fits head)) (Refuses BadVersion) _ tt
+    (if_good (not (is_organization A names.1 && is_some (partner_of A names.0))) (Refuses UnknownNames) _ tt
+    (needs_good (type_of head) BadType _ (λ type.
     if_good (is_report type.0) _ _ (report_good names type body) (document_good names type head body)))))
 
 document_recorded : (r : Reading) (p : Posted) → IsGood r → r ≡ IsDocument p → IsRecorded p
@@ -140,7 +140,7 @@ unfolding record_post
 record_formed A s m p y good h e = left_formed A s m p (received_as s p) y refl good h (left_is A s m p (received_as s p) y e)
 
 post_formed : (A : Agreements) (s : State) (m : ℕ) (r : Reading) (y : Answer × State) → IsGood r → IsWellFormed A s → post A s m r ≡ Some y → IsWellFormed A y.1
-post_formed A s m (Refuses status line) y good h e = subst (λ (z : Answer × State). IsWellFormed A z.1) (same_Some _ y e) h
+post_formed A s m (Refuses line) y good h e = subst (λ (z : Answer × State). IsWellFormed A z.1) (same_Some _ y e) h
 post_formed A s m (IsReceipt r) y good h e = subst (λ (z : Answer × State). IsWellFormed A z.1) (same_Some _ y e) (settle_formed A s m r h)
 post_formed A s m (IsDocument p) y good h e = record_formed A s m p y (document_recorded (IsDocument p) p good refl) h e
 

@@ -1,8 +1,27 @@
--- The lines of text that answer posts.
+-- The lines that answer posts, each with its status and its text.
 use Rattle.std.specs.Prelude.{ℕ, List, codes}
 use Rattle.as2_mdn.specs.Outcomes.{outcome_text}
+use Rattle.as2_exchange.specs.declared.answer.HttpAnswer.{HttpAnswer}
+use Rattle.as2_exchange.specs.declared.answer.HttpBody.TheVariants.{Words}
 use Rattle.as2_exchange.specs.declared.answer.Line.{Line}
 use Rattle.as2_exchange.specs.declared.answer.Line.TheVariants.{BadNames, BadVersion, UnknownNames, BadType, UnreadableReceipt, NoSuchMessage, BadId, BadAsk, IdUsedBefore, NotProcessed}
+
+-- the status that goes with it (RFC 9110, section 15)
+abbrev pub status_of : Line → ℕ
+status_of UnknownNames = 403
+status_of NoSuchMessage = 404
+status_of IdUsedBefore = 409
+status_of BadNames = 400
+status_of BadVersion = 400
+status_of BadType = 400
+status_of UnreadableReceipt = 400
+status_of BadId = 400
+status_of BadAsk = 400
+status_of (NotProcessed outcome) = 400
+
+-- the answer that refuses a post by it
+abbrev pub refusal : Line → HttpAnswer
+refusal line = record { status = status_of line; body = Words line }
 
 abbrev pub line_text : Line → List ℕ
 line_text BadNames = codes "bad AS2 names"

@@ -16,14 +16,14 @@ pub record Came : Type 0 where
 
 -- what a post is: refused by a line, a receipt, or a document
 pub data Reading : Type 0 where
-  Refuses : (status : ℕ) → Line → Reading
+  Refuses : Line → Reading
   IsReceipt : Came → Reading
   IsDocument : Posted → Reading
 
 -- goes on with what is there; else the post is refused
-abbrev pub needs : {X : Type 0} → Option X → ℕ → Line → (X → Reading) → Reading
-needs None status line rest = Refuses status line
-needs (Some x) status line rest = rest x
+abbrev pub needs : {X : Type 0} → Option X → Line → (X → Reading) → Reading
+needs None line rest = Refuses line
+needs (Some x) line rest = rest x
 
 -- the document of a post, with what is made of it
 abbrev pub posted : Text × Text → Text → MediaType × Text → Head → Text → ReceiptAsk → Posted
@@ -46,22 +46,22 @@ came names type body receipt = record { from = names.0; to = names.1; receipt = 
 
 -- a post of a report: it needs no identifier and asks for nothing
 abbrev pub report_posted : Text × Text → MediaType × Text → Text → Reading
-report_posted names type body = needs (report_in type.0 body) 400 UnreadableReceipt λ receipt. IsReceipt (came names type body receipt)
+report_posted names type body = needs (report_in type.0 body) UnreadableReceipt λ receipt. IsReceipt (came names type body receipt)
 
 -- any other post
 abbrev pub document_posted : Text × Text → MediaType × Text → Head → Text → Reading
 document_posted names type head body =
-    needs (id_of head) 400 BadId λ id.
-    needs (ask_of head) 400 BadAsk λ ask.
+    needs (id_of head) BadId λ id.
+    needs (ask_of head) BadAsk λ ask.
     IsDocument (posted names id type head body ask)
 
 -- a post as it is read: the first line of the table of answers that fits
 unfoldable pub reading : Agreements → Head → Text → Reading
 reading A head body =
-    needs (names_of head) 400 BadNames λ names.
-    if not (version_fits head) then Refuses 400 BadVersion
-    else if not (is_organization A names.1 && is_some (partner_of A names.0)) then Refuses 403 UnknownNames
-    else needs (type_of head) 400 BadType λ type.
+    needs (names_of head) BadNames λ names.
+    if not (version_fits head) then Refuses BadVersion
+    else if not (is_organization A names.1 && is_some (partner_of A names.0)) then Refuses UnknownNames
+    else needs (type_of head) BadType λ type.
     if is_report type.0 then report_posted names type body else document_posted names type head body
 
 -- ---- repeats

@@ -1,5 +1,5 @@
 ghost use Rattle.std.specs.Prelude.{◌≡◌};
-ghost use Rattle.as2_exchange.specs.Lines.{line_text};
+ghost use Rattle.as2_exchange.specs.Lines.{line_text, status_of};
 
 use crate::bytes::Bytes;
 use as2_mdn::{Detail, Outcome, ReportOut};
@@ -51,6 +51,24 @@ pub enum Line {
 }
 
 impl Line {
+    /// The status that goes with it (RFC 9110, section 15).
+    pub fn status(self) -> u16
+        ensures { result ≡ status_of self }
+    {
+        match self {
+            Line::UnknownNames => 403,
+            Line::NoSuchMessage => 404,
+            Line::IdUsedBefore => 409,
+            Line::BadNames
+            | Line::BadVersion
+            | Line::BadType
+            | Line::UnreadableReceipt
+            | Line::BadId
+            | Line::BadAsk
+            | Line::NotProcessed(_) => 400,
+        }
+    }
+
     /// The text, without a line end.
     pub fn text(self) -> &'static str
         ensures { result.now ≡ line_text self }

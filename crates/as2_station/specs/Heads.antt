@@ -22,7 +22,7 @@ is_of_head (NotProcessed outcome) = false
 
 -- it can be read, as a receipt or as a document: the answer is looked for in the store
 abbrev pub takes_store : Reading → Bool
-takes_store (Refuses status line) = false
+takes_store (Refuses line) = false
 takes_store (IsReceipt receipt) = true
 takes_store (IsDocument posted) = true
 
