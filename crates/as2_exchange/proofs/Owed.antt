@@ -11,7 +11,9 @@ use Rattle.as2_exchange.specs.Readings.{Job as TheJob, is_async, receipt_job}
 use Rattle.as2_exchange.specs.State.{InEntry}
 use Rattle.as2_exchange.specs.Events.{Answer, Job, Refused, AllSettled, TriesUsedUp, NotDue, NoOpenTry, AlreadySettled, Delivered, TryFailed, TryAnswer}
 use Rattle.as2_exchange.specs.Receipts.{is_delivery}
-use Rattle.as2_exchange.specs.Step.{queued_again, is_done_with, is_pending, is_early, is_shut, is_last, mdn_begun, mdn_closed, report}
+use Rattle.as2_exchange.specs.OwedReceipts.{is_pending, is_shut, mdn_begun, mdn_closed}
+use Rattle.as2_exchange.specs.Recording.{queued_again, is_done_with, report}
+use Rattle.as2_exchange.specs.Tries.{is_early, is_last}
 use Rattle.as2_exchange.specs.History.{Found, Fact, ATry, AnOutcome, is_job, try_in, tries, with_past, first_of, last_of}
 use Rattle.as2_exchange.specs.ReceiptHistory.{delivers, is_delivered, are_used, mdn_after, mdn_attempt, mdn_due}
 use Rattle.as2_exchange.proofs.Decisions.{or_false}

@@ -14,7 +14,10 @@ use Rattle.as2_exchange.specs.Readings.{Head, How, NoReceipt, Sync, Async, is_as
 use Rattle.as2_exchange.specs.State.{Posted, InEntry, State, empty, lasting, same_key, document, received, received_as, change_received}
 use Rattle.as2_exchange.specs.Events.{Event, Post, Submit, Begin, Outcome, BeginMdn, OutcomeMdn, Tick, Answer, Refused, NoSuchNumber, TryAnswer, Line, BadNames, BadVersion, UnknownNames, BadType, UnreadableReceipt, BadId, BadAsk, Done}
 use Rattle.as2_exchange.specs.Posts.{Reading, Refuses, IsReceipt, IsDocument, needs, reading, repeats, Came}
-use Rattle.as2_exchange.specs.Step.{post, step, record_post, queued_again, first_entry, is_pending, mdn_begun, mdn_closed, acted_in, begun as begun_document, closed as closed_document}
+use Rattle.as2_exchange.specs.Documents.{begun as begun_document, closed as closed_document}
+use Rattle.as2_exchange.specs.OwedReceipts.{is_pending, mdn_begun, mdn_closed}
+use Rattle.as2_exchange.specs.Recording.{record_post, queued_again, first_entry}
+use Rattle.as2_exchange.specs.Step.{post, step, acted_in}
 use Rattle.as2_exchange.specs.Run.{Trace, Run, Answered, Failed, accepted}
 use Rattle.as2_exchange.specs.Invariants.{IsCounter, IsWellFormed}
 use Rattle.as2_exchange.specs.History.{Found, Fact, ATry, AnOutcome, is_job}

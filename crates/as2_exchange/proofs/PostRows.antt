@@ -8,9 +8,9 @@ use Rattle.as2_exchange.specs.Agreement.{Text, Alg, Sha1, Md5}
 use Rattle.as2_exchange.specs.Readings.{Head, How, NoReceipt, Sync, Outcome, Processed, DecryptionFailed, DecompressionFailed, AuthenticationFailed, UnsupportedFormat, UnsupportedMicAlgorithms, names_of, version_fits, type_of, is_report, report_in, id_of, value_of, ask_of, how_of, outcome_of, encoding_refused, mic_for}
 use Rattle.as2_exchange.specs.State.{empty}
 use Rattle.as2_exchange.specs.Events.{Post, Nothing, Words, Line, BadNames, BadVersion, UnknownNames, BadType, UnreadableReceipt, BadId, BadAsk, IdUsedBefore, NotProcessed}
-use Rattle.as2_exchange.specs.Lines.{status_of}
+use Rattle.as2_exchange.specs.Lines.{http, status_of}
 use Rattle.as2_exchange.specs.Posts.{Reading, Refuses, IsDocument, reading}
-use Rattle.as2_exchange.specs.Step.{http, record_post, answer_to}
+use Rattle.as2_exchange.specs.Recording.{record_post, answer_to}
 use Rattle.as2_exchange.proofs.Fixture.{fixture, abc, sha1_mic, q_type_text, m1}
 use Rattle.as2_exchange.proofs.Rows.{play}
 

@@ -11,7 +11,12 @@ use Rattle.as2_exchange.specs.State.{Posted, InEntry, OutEntry, State, end_of_nu
 use Rattle.as2_exchange.specs.Events.{Event, Post, Submit, Begin, Outcome, BeginMdn, OutcomeMdn, Tick, Answer, Refused, Submitted, UnknownOrganization, UnknownPartner, TooLarge, TryAnswer, Nothing, Words, NotProcessed, IdUsedBefore, NoSuchMessage}
 use Rattle.as2_exchange.specs.Posts.{Came, Reading, Refuses, IsReceipt, IsDocument, reading, repeats}
 use Rattle.as2_exchange.specs.Receipts.{came_back, is_delivery, bears}
-use Rattle.as2_exchange.specs.Step.{is_refusal, agreed, begun, waits, is_early, closed, closed_by, if_for, is_idle, is_last, delivered, failed, mdn_begun, mdn_closed, is_pending, is_shut, acted, acted_in, post, step, submit, new_document, settle, settle_for, settled, record_post, recorded, queued_again, first_entry, answer_to, http, tick}
+use Rattle.as2_exchange.specs.Documents.{begun, waits, closed, closed_by, if_for, delivered, failed, submit, new_document, settle, settle_for, settled, tick}
+use Rattle.as2_exchange.specs.Lines.{http}
+use Rattle.as2_exchange.specs.OwedReceipts.{mdn_begun, mdn_closed, is_pending, is_shut}
+use Rattle.as2_exchange.specs.Recording.{record_post, recorded, queued_again, first_entry, answer_to}
+use Rattle.as2_exchange.specs.Step.{is_refusal, acted, acted_in, post, step}
+use Rattle.as2_exchange.specs.Tries.{agreed, is_early, is_idle, is_last}
 use Rattle.as2_exchange.specs.Invariants.{HasDistinctNumbers}
 use Rattle.as2_exchange.proofs.Decisions.{number_is, apart_turned}
 

@@ -11,7 +11,8 @@ use Rattle.as2_exchange.specs.State.{OutEntry, is_settled}
 use Rattle.as2_exchange.specs.Events.{Answer, TryAnswer, Refused, AllSettled, TriesUsedUp, NotDue, NoOpenTry, AlreadySettled}
 use Rattle.as2_exchange.specs.Posts.{Came}
 use Rattle.as2_exchange.specs.Receipts.{came_back, is_delivery}
-use Rattle.as2_exchange.specs.Step.{settled, passes, passed, passes_into, is_due, begun, waits, is_early, closed, closed_by, if_for, is_idle, is_last, delivered, failed}
+use Rattle.as2_exchange.specs.Documents.{settled, passes, passed, passes_into, begun, waits, closed, closed_by, if_for, delivered, failed}
+use Rattle.as2_exchange.specs.Tries.{is_due, is_early, is_idle, is_last}
 use Rattle.as2_exchange.specs.Invariants.{is_by_receipt, IsEntry}
 use Rattle.as2_exchange.proofs.Documents.{settled_names, passed_names, begun_names, closed_names, agreed_either, if_either, changed, changed_names}
 use Rattle.as2_exchange.proofs.WellFormed.{unsettled_entry, KeepsEntries}

@@ -8,7 +8,10 @@ use Rattle.as2_exchange.specs.Readings.{Head, MediaType, ReceiptAsk, Outcome as 
 use Rattle.as2_exchange.specs.State.{Posted, InEntry, OutEntry, State, empty, end_of_numbers, document, document_named, received, received_as, change_document, change_received, lasting, is_settled}
 use Rattle.as2_exchange.specs.Events.{Event, Post, Submit, Begin, Outcome, BeginMdn, OutcomeMdn, Tick, Answer, Refused, Submitted, UnknownOrganization, UnknownPartner, TooLarge, Line, BadNames, BadVersion, UnknownNames, BadType, UnreadableReceipt, BadId, BadAsk}
 use Rattle.as2_exchange.specs.Posts.{Came, Reading, Refuses, IsReceipt, IsDocument, needs, report_posted, document_posted, reading}
-use Rattle.as2_exchange.specs.Step.{post, step, settle, settle_for, settled, submit, new_document, begun, closed, tick, record_post, first_entry, queued_again, mdn_begun, mdn_closed, acted, acted_in}
+use Rattle.as2_exchange.specs.Documents.{settle, settle_for, settled, submit, new_document, begun, closed, tick}
+use Rattle.as2_exchange.specs.OwedReceipts.{mdn_begun, mdn_closed}
+use Rattle.as2_exchange.specs.Recording.{record_post, first_entry, queued_again}
+use Rattle.as2_exchange.specs.Step.{post, step, acted, acted_in}
 use Rattle.as2_exchange.specs.Run.{Trace, Run, Answered, Failed}
 use Rattle.as2_exchange.specs.Invariants.{IsCounter, IsRecorded, IsWellFormed}
 use Rattle.as2_exchange.proofs.Documents.{if_either}

@@ -9,7 +9,10 @@ use Rattle.as2_exchange.specs.Detail.{Detail, New, Sending, Awaiting, Retry, Pro
 use Rattle.as2_exchange.specs.Readings.{How, NoReceipt as NoneAsked, Sync as AtOnce, Async as Later, document_job, receipt_job as receipt_sent, names_of, type_of, report_in, named_by, value_of}
 use Rattle.as2_exchange.specs.State.{State, InEntry, OutEntry, Evidence, empty}
 use Rattle.as2_exchange.specs.Events.{Begin, Outcome, Answer, NoAnswer, Reply, Job, Settled, Delivered, TryFailed, AlreadySettled, Submitted, Ticked, Refused, UnknownOrganization, UnknownPartner, NoSuchNumber, NotDue, AllSettled, NoOpenTry, TriesUsedUp}
-use Rattle.as2_exchange.specs.Step.{begun, closed, mdn_begun, mdn_closed, submit, tick, queued_again, first_entry, report, step}
+use Rattle.as2_exchange.specs.Documents.{begun, closed, submit, tick}
+use Rattle.as2_exchange.specs.OwedReceipts.{mdn_begun, mdn_closed}
+use Rattle.as2_exchange.specs.Recording.{queued_again, first_entry, report}
+use Rattle.as2_exchange.specs.Step.{step}
 use Rattle.as2_exchange.proofs.Fixture.{buyer, fixture, abc, receipt_head, receipt_body, q, q_for_2, q_type_text, q_names, q_typed, q_read, q_says, document_of, m1, sha1_text}
 use Rattle.as2_exchange.proofs.Rows.{play, submit_to, job_1, no_head, return_address, due_1}
 

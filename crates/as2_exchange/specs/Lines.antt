@@ -1,7 +1,10 @@
 -- The lines that answer posts, each with its status and its text.
 use Rattle.std.specs.Prelude.{ℕ, List, codes}
 use Rattle.as2_mdn.specs.Outcomes.{outcome_text}
+use Rattle.as2_exchange.specs.declared.answer.Answer.{Answer}
+use Rattle.as2_exchange.specs.declared.answer.Answer.TheVariants.{Http}
 use Rattle.as2_exchange.specs.declared.answer.HttpAnswer.{HttpAnswer}
+use Rattle.as2_exchange.specs.declared.answer.HttpBody.{HttpBody}
 use Rattle.as2_exchange.specs.declared.answer.HttpBody.TheVariants.{Words}
 use Rattle.as2_exchange.specs.declared.answer.Line.{Line}
 use Rattle.as2_exchange.specs.declared.answer.Line.TheVariants.{BadNames, BadVersion, UnknownNames, BadType, UnreadableReceipt, NoSuchMessage, BadId, BadAsk, IdUsedBefore, NotProcessed}
@@ -18,6 +21,10 @@ status_of UnreadableReceipt = 400
 status_of BadId = 400
 status_of BadAsk = 400
 status_of (NotProcessed outcome) = 400
+
+-- the answer to a post
+abbrev pub http : ℕ → HttpBody → Answer
+http status body = Http (record { status = status; body = body })
 
 -- the answer that refuses a post by it
 abbrev pub refusal : Line → HttpAnswer

@@ -7,7 +7,7 @@ use Rattle.as2_exchange.specs.Readings.{is_async, is_processed, report_text}
 use Rattle.as2_exchange.specs.declared.inbox.InEntry.{InEntry}
 use Rattle.as2_exchange.specs.declared.answer.HttpAnswer.{HttpAnswer}
 use Rattle.as2_exchange.specs.declared.answer.HttpBody.TheVariants.{Nothing, Report}
-use Rattle.as2_exchange.specs.Step.{is_done_with}
+use Rattle.as2_exchange.specs.Recording.{is_done_with}
 use Rattle.as2_exchange.specs.Lines.{refusal}
 
 -- the answer that carries a receipt

@@ -2,7 +2,7 @@
 ghost use Rattle.std.specs.Prelude.{◌≡◌, IfOk};
 ghost use Rattle.as2_exchange.specs.declared.answer.Answer.TheVariants.{Http};
 ghost use Rattle.as2_exchange.specs.declared.answer.HttpBody.TheVariants.{Nothing};
-ghost use Rattle.as2_exchange.specs.Step.{answer_to, report};
+ghost use Rattle.as2_exchange.specs.Recording.{answer_to, report};
 ghost use Rattle.as2_exchange.specs.Lines.{refusal};
 ghost use Rattle.as2_posts.specs.Answers.{receipt_answer, untold};
 
@@ -70,7 +70,7 @@ fn untold(outcome: Outcome) -> HttpAnswer
 }
 
 /// The answer to a recorded document whose receipt has that number; a repeat of the document gets the same.
-#[tactic(auto, unfolding(as2_exchange::specs::Step::answer_to))]
+#[tactic(auto, unfolding(as2_exchange::specs::Recording::answer_to))]
 pub fn answer_to(
     alloc: Global,
     agreements: &Agreements,

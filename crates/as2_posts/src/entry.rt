@@ -1,6 +1,6 @@
 //! Entries of the inbox.
 ghost use Rattle.std.specs.Prelude.{◌≡◌};
-ghost use Rattle.as2_exchange.specs.Step.{first_entry};
+ghost use Rattle.as2_exchange.specs.Recording.{first_entry};
 ghost use Rattle.as2_posts.specs.Answers.{is_queued_again};
 
 use as2_exchange::{Attempt, How, InEntry, MdnState, Posted};

@@ -5,7 +5,7 @@ use Rattle.std.specs.List.{find, AllByRecursion, IsDistinct}
 use Rattle.std.proofs.lemmas.Bool.Decides.{nat_tests}
 use Rattle.as2_exchange.specs.State.{State, received, change_received}
 use Rattle.as2_exchange.specs.declared.inbox.InEntry.{InEntry}
-use Rattle.as2_exchange.specs.Step.{queued_again}
+use Rattle.as2_exchange.specs.Recording.{queued_again}
 use Rattle.as2_exchange.proofs.Finds.{all_found}
 use Rattle.as2_exchange.proofs.Decisions.{number_is}
 use Rattle.as2_exchange.proofs.Refusing.{left_as_is, untouched}

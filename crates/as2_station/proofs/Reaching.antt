@@ -12,7 +12,9 @@ use Rattle.as2_exchange.specs.Posts.{Came, repeats}
 use Rattle.as2_exchange.specs.Readings.{named_by}
 use Rattle.as2_exchange.specs.Receipts.{bears}
 use Rattle.as2_exchange.specs.State.{State, change_document, change_received, document, document_named, end_of_numbers, is_begun, is_settled, received_as}
-use Rattle.as2_exchange.specs.Step.{answer_to, first_entry, http, queued_again, recorded, settle, settled}
+use Rattle.as2_exchange.specs.Documents.{settle, settled}
+use Rattle.as2_exchange.specs.Lines.{http}
+use Rattle.as2_exchange.specs.Recording.{answer_to, first_entry, queued_again, recorded}
 use Rattle.as2_exchange.specs.declared.answer.HttpBody.TheVariants.{Nothing}
 use Rattle.as2_exchange.specs.declared.inbox.InEntry.{InEntry}
 use Rattle.as2_exchange.specs.declared.inbox.Posted.{Posted}

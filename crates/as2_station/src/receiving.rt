@@ -44,7 +44,7 @@ fn taken() -> HttpAnswer
 }
 
 /// Takes a receipt that names this document: it settles the document if it is for it, unless one has settled it before.
-#[tactic(auto, unfolding(as2_exchange::specs::Step::settle, as2_exchange::specs::Readings::verdict))]
+#[tactic(auto, unfolding(as2_exchange::specs::Documents::settle, as2_exchange::specs::Readings::verdict))]
 fn settle_named<S: Alter>(
     store: &mut Store<S>,
     alloc: Global,
@@ -75,7 +75,7 @@ fn settle_named<S: Alter>(
 }
 
 /// Takes a receipt: the document that it is for is settled, if one is there.
-#[tactic(auto, unfolding(as2_exchange::specs::Step::settle))]
+#[tactic(auto, unfolding(as2_exchange::specs::Documents::settle))]
 fn take_receipt<S: Alter>(
     store: &mut Store<S>,
     alloc: Global,

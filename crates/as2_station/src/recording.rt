@@ -16,7 +16,7 @@ use std::alloc::Global;
 
 /// Takes a document whose key an entry has: a repeat of the entry's document is answered as that was, and its receipt is
 /// queued again where a repeat does so; any other is refused.
-#[tactic(auto, unfolding(as2_exchange::specs::Step::record_post))]
+#[tactic(auto, unfolding(as2_exchange::specs::Recording::record_post))]
 fn record_again<S: Alter>(
     store: &mut Store<S>,
     alloc: Global,
@@ -40,7 +40,7 @@ fn record_again<S: Alter>(
 }
 
 /// Takes a document whose key no entry has, under the next number.
-#[tactic(auto, unfolding(as2_exchange::specs::Step::record_post))]
+#[tactic(auto, unfolding(as2_exchange::specs::Recording::record_post))]
 fn record_first<S: Alter>(
     store: &mut Store<S>,
     alloc: Global,

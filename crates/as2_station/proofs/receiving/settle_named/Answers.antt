@@ -1,6 +1,7 @@
 use Rattle.std.proofs.Common.{◌≡◌, inr, refl, sym}
 use Rattle.as2_exchange.specs.Readings.{verdict}
-use Rattle.as2_exchange.specs.Step.{http, settle, settled}
+use Rattle.as2_exchange.specs.Documents.{settle, settled}
+use Rattle.as2_exchange.specs.Lines.{http}
 use Rattle.as2_exchange.proofs.Standing.{verdict_range}
 use Rattle.as2_posts.specs.Openings.{came_in}
 use Rattle.as2_exchange.specs.declared.answer.HttpBody.TheVariants.{Nothing}

@@ -2,7 +2,7 @@ use Rattle.std.proofs.Common.{◌≡◌, ◌∙◌, sym, ap, refl, None}
 use Rattle.as2_names.specs.Identifiers.{value_of}
 use Rattle.as2_exchange.specs.Readings.{named_by}
 use Rattle.as2_exchange.specs.State.{document_named}
-use Rattle.as2_exchange.specs.Step.{settle}
+use Rattle.as2_exchange.specs.Documents.{settle}
 use Rattle.as2_station.proofs.Doing.{after_read, at_once}
 use Rattle.as2_station.proofs.receiving.take_receipt.Goals as goal
 

@@ -1,5 +1,5 @@
 use Rattle.std.proofs.Common.{inr, sym}
-use Rattle.as2_exchange.specs.Step.{answer_to, record_post}
+use Rattle.as2_exchange.specs.Recording.{answer_to, record_post}
 use Rattle.as2_station.proofs.Doing.{at_once, never_full, passed_on, written, unwritten}
 use Rattle.as2_station.proofs.Reaching.{requeues, stays}
 use Rattle.as2_station.proofs.recording.record_again.Goals as goal
