@@ -9,7 +9,8 @@ use Rattle.std.proofs.lemmas.List.Elements.{All-head, All-tail, All-cons, All-ni
 use Rattle.as2_names.specs.Ascii.{slash, semicolon}
 use Rattle.as2_names.specs.Trim.{falls_off, all_fall_off, without_front, without_back, trimmed}
 use Rattle.as2_names.specs.Cuts.{Lacks}
-use Rattle.as2_mdn.specs.Dispositions.{is_word, is_action_mode, is_sending_mode}
+use Rattle.as2_names.specs.Options.{is_word}
+use Rattle.as2_mdn.specs.Dispositions.{is_action_mode, is_sending_mode}
 
 -- the byte is no blank and of no line end
 abbrev Stays : ℕ → Type 0

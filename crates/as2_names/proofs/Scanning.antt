@@ -16,8 +16,8 @@ take_push n met b =
       | inr le ↦ rw (take-append-le n met (b ∷ []) le, take_at (take n met) (b ∷ []) n (omega (arith, length-take n met))) refl
     ]
 
-front_push : (met : List ℕ) (b : ℕ) (r : Result (List ℕ) NameFault) → with_front (met ++ b ∷ []) r ≡ with_front met (with_front (b ∷ []) r)
-front_push met b (Ok us) = ap (λ (x : List ℕ). Ok x) (append_assoc met (b ∷ []) us)
+pub front_push : {X E : Type 0} → (met : List X) (b : X) (r : Result (List X) E) → with_front (met ++ b ∷ []) r ≡ with_front met (with_front (b ∷ []) r)
+front_push met b (Ok more) = ap Ok (append_assoc met (b ∷ []) more)
 front_push met b (Err e) = refl
 
 front_err : (met : List ℕ) (r : Result (List ℕ) NameFault) (e : NameFault) → r ≡ Err e → with_front met r ≡ Err e
