@@ -13,8 +13,7 @@ returns-in-Err-clause-none c = λ is. not_invalid c.args.text.now c.parse_reques
 pub returns-then-head-text-clause-none : goal.returns-then-head-text-clause-none
 returns-then-head-text-clause-none c = λ is. not_shorter c.args.text.now c.parse_request.new.headers c.parse_request.result c.in-Ok-Complete.head c.parse_request.ensures.found (search rules) (search rules)
 
-pub returns-in-Err-fields_of-clause-none : goal.returns-in-Err-fields_of-clause-none
-returns-in-Err-fields_of-clause-none c = λ is.
-    let e : c.in-Err-fields_of.fault ≡ BadHead = cc in
+pub returns-in_err-fields-clause-none : goal.returns-in_err-fields-clause-none
+returns-in_err-fields-clause-none c = λ is.
     not_taken c.args.text.now c.parse_request.new.headers c.parse_request.result c.in-Ok-Complete.head c.parse_request.ensures.found (search rules)
-    (c.fields_of.ensures.none (c.in-Err-fields_of.is ∙ ap (λ (f : NotJudged). Err f) e))
+    (c.fields_of.ensures.none (search rules))
