@@ -235,10 +235,6 @@ reading_found t a e =
 pub reading_again : (t : List ℕ) (a : AgreedValues) → Agreed t a → reading t ≡ Ok a
 reading_again t a g = rw g.parsed (agreements_again g.document a g.says g.are)
 
--- a text has one set of agreements at most
-pub one_agreed : (t : List ℕ) (a b : AgreedValues) → Agreed t a → Agreed t b → a ≡ b
-one_agreed t a b g h = same_ok a b (sym (reading_again t a g) ∙ reading_again t b h)
-
 -- ---- answers
 
 -- what a document gives, its text gives

@@ -24,35 +24,35 @@ front_alone [] some = absurd (omega (arith, some))
 front_alone (a ∷ []) some = refl
 front_alone (a ∷ b ∷ front) some = ap (onto_first a) (front_alone (b ∷ front) (omega arith))
 
--- ---- lines
+-- ---- a text that is cut, by any of two ways, up to a place
 
 -- what was seen of a text, up to a place, and what the rest is cut into
-abbrev pub Cuts : List ℕ → ℕ → Type 0
-Cuts text i = with_front (take i text) (lines (drop i text)) ≡ lines text
+abbrev pub Cuts : (List ℕ → List (List ℕ)) → List ℕ → ℕ → Type 0
+Cuts cut text i = with_front (take i text) (cut (drop i text)) ≡ cut text
 
-lines_at : (text : List ℕ) (i : ℕ) → i < length text → (get_or text i 0 == 10) ≡ false → lines (drop i text) ≡ onto_first (get_or text i 0) (lines (drop (i + 1) text))
-lines_at text i lt other = ap lines (drop_more text i 0 lt) ∙ rw other refl
+cuts_on : (cut : List ℕ → List (List ℕ)) (text : List ℕ) (i : ℕ) → i < length text → cut (drop i text) ≡ onto_first (get_or text i 0) (cut (drop (i + 1) text)) → Cuts cut text i → Cuts cut text (i + 1)
+cuts_on cut text i lt here seen =
+    rw (take_more text i 0 lt) (front_push (take i text) (get_or text i 0) (cut (drop (i + 1) text)) ∙ ap (with_front (take i text)) (sym here) ∙ seen)
 
-pub lines_on : (text : List ℕ) (i : ℕ) → i < length text → (get_or text i 0 ≡ 10 → ⊥) → Cuts text i → Cuts text (i + 1)
-lines_on text i lt other seen =
-    rw (take_more text i 0 lt) (front_push (take i text) (get_or text i 0) (lines (drop (i + 1) text)) ∙ ap (with_front (take i text)) (sym (lines_at text i lt (ne_eqb _ 10 other))) ∙ seen)
+cuts_here : (cut : List ℕ → List (List ℕ)) (text : List ℕ) (i : ℕ) → i < length text → cut (drop i text) ≡ (get_or text i 0 ∷ []) ∷ cut (drop (i + 1) text) → Cuts cut text i → cut text ≡ take (i + 1) text ∷ cut (drop (i + 1) text)
+cuts_here cut text i lt here seen =
+    sym seen ∙ ap (with_front (take i text)) here ∙ front_first (take i text) (get_or text i 0 ∷ []) (cut (drop (i + 1) text)) ∙ ap (λ (line : List ℕ). line ∷ cut (drop (i + 1) text)) (sym (take_more text i 0 lt))
 
-pub lines_cut : (text : List ℕ) (i : ℕ) → i < length text → get_or text i 0 ≡ 10 → Cuts text i → lines text ≡ take (i + 1) text ∷ lines (drop (i + 1) text)
-lines_cut text i lt feed seen =
-    let here : lines (drop i text) ≡ (get_or text i 0 ∷ []) ∷ lines (drop (i + 1) text) = ap lines (drop_more text i 0 lt) ∙ rw (eq-eqb _ _ feed) refl in
-    sym seen ∙ ap (with_front (take i text)) here ∙ front_first (take i text) (get_or text i 0 ∷ []) (lines (drop (i + 1) text)) ∙ ap (λ (line : List ℕ). line ∷ lines (drop (i + 1) text)) (sym (take_more text i 0 lt))
-
-pub lines_end : (text : List ℕ) → 0 < length text → Cuts text (length text) → lines text ≡ take (length text) text ∷ lines (drop (length text) text)
-lines_end text some seen =
+pub cuts_end : (cut : List ℕ → List (List ℕ)) (text : List ℕ) → cut [] ≡ [] → 0 < length text → Cuts cut text (length text) → cut text ≡ take (length text) text ∷ cut (drop (length text) text)
+cuts_end cut text nothing some seen =
     let none : drop (length text) text ≡ [] = drop_all (length text) text (omega arith) in
     let all : take (length text) text ≡ text = take_all (length text) text (omega arith) in
-    sym seen ∙ rw (none, all) (front_alone text some)
+    sym seen ∙ rw (none, all, nothing) (front_alone text some)
+
+-- ---- lines
+
+pub lines_on : (text : List ℕ) (i : ℕ) → i < length text → (get_or text i 0 ≡ 10 → ⊥) → Cuts lines text i → Cuts lines text (i + 1)
+lines_on text i lt other = cuts_on lines text i lt (ap lines (drop_more text i 0 lt) ∙ rw (ne_eqb _ 10 other) refl)
+
+pub lines_cut : (text : List ℕ) (i : ℕ) → i < length text → get_or text i 0 ≡ 10 → Cuts lines text i → lines text ≡ take (i + 1) text ∷ lines (drop (i + 1) text)
+lines_cut text i lt feed = cuts_here lines text i lt (ap lines (drop_more text i 0 lt) ∙ rw (eq-eqb _ _ feed) refl)
 
 -- ---- lines with those that go on with them
-
--- the same of the lines that are cut where no blank follows
-abbrev pub CutsFolded : List ℕ → ℕ → Type 0
-CutsFolded text i = with_front (take i text) (folded_lines (drop i text)) ≡ folded_lines text
 
 -- the text is cut behind that place
 abbrev pub is_cut_at : List ℕ → ℕ → Bool
@@ -78,23 +78,11 @@ no_cut_before_blank text i blank =
 pub no_cut_elsewhere : (text : List ℕ) (i : ℕ) → (get_or text i 0 ≡ 10 → ⊥) → is_cut_at text i ≡ false
 no_cut_elsewhere text i other = rw (ne_eqb (get_or text i 0) 10 other) refl
 
-folded_at : (text : List ℕ) (i : ℕ) → i < length text → is_cut_at text i ≡ false → folded_lines (drop i text) ≡ onto_first (get_or text i 0) (folded_lines (drop (i + 1) text))
-folded_at text i lt other = ap folded_lines (drop_more text i 0 lt) ∙ rw other refl
+pub folded_on : (text : List ℕ) (i : ℕ) → i < length text → is_cut_at text i ≡ false → Cuts folded_lines text i → Cuts folded_lines text (i + 1)
+folded_on text i lt other = cuts_on folded_lines text i lt (ap folded_lines (drop_more text i 0 lt) ∙ rw other refl)
 
-pub folded_on : (text : List ℕ) (i : ℕ) → i < length text → is_cut_at text i ≡ false → CutsFolded text i → CutsFolded text (i + 1)
-folded_on text i lt other seen =
-    rw (take_more text i 0 lt) (front_push (take i text) (get_or text i 0) (folded_lines (drop (i + 1) text)) ∙ ap (with_front (take i text)) (sym (folded_at text i lt other)) ∙ seen)
-
-pub folded_cut : (text : List ℕ) (i : ℕ) → i < length text → is_cut_at text i ≡ true → CutsFolded text i → folded_lines text ≡ take (i + 1) text ∷ folded_lines (drop (i + 1) text)
-folded_cut text i lt cut seen =
-    let here : folded_lines (drop i text) ≡ (get_or text i 0 ∷ []) ∷ folded_lines (drop (i + 1) text) = ap folded_lines (drop_more text i 0 lt) ∙ rw cut refl in
-    sym seen ∙ ap (with_front (take i text)) here ∙ front_first (take i text) (get_or text i 0 ∷ []) (folded_lines (drop (i + 1) text)) ∙ ap (λ (line : List ℕ). line ∷ folded_lines (drop (i + 1) text)) (sym (take_more text i 0 lt))
-
-pub folded_end : (text : List ℕ) → 0 < length text → CutsFolded text (length text) → folded_lines text ≡ take (length text) text ∷ folded_lines (drop (length text) text)
-folded_end text some seen =
-    let none : drop (length text) text ≡ [] = drop_all (length text) text (omega arith) in
-    let all : take (length text) text ≡ text = take_all (length text) text (omega arith) in
-    sym seen ∙ rw (none, all) (front_alone text some)
+pub folded_cut : (text : List ℕ) (i : ℕ) → i < length text → is_cut_at text i ≡ true → Cuts folded_lines text i → folded_lines text ≡ take (i + 1) text ∷ folded_lines (drop (i + 1) text)
+folded_cut text i lt cut = cuts_here folded_lines text i lt (ap folded_lines (drop_more text i 0 lt) ∙ rw cut refl)
 
 -- ---- joined again
 

@@ -1,6 +1,4 @@
-use Rattle.std.proofs.Common.{rules, ◌≡◌, ap, ◌∙◌, Err}
-use Rattle.as2_http.specs.declared.request.NotJudged.{NotJudged}
-use Rattle.as2_http.specs.declared.request.NotJudged.TheVariants.{BadHead}
+use Rattle.std.proofs.Common.{rules}
 use Rattle.as2_http.proofs.Judging.{not_partial, not_invalid, not_shorter, not_taken}
 use Rattle.as2_http.proofs.request.judge.Goals as goal
 
