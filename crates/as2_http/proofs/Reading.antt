@@ -1,7 +1,7 @@
 -- One more read.
-use Rattle.std.proofs.Common.{ℕ, List, [], ◌++◌, Option, refl, sym, ap, ◌∙◌, append_assoc, append-nil, inl, inr}
-use Rattle.std.proofs.KnownBytes.{Consumes-nil, Consumes-trans}
-use Rattle.as2_http.specs.Inputs.{GrowsBy, EndsAt, ReadsWhile}
+use Rattle.std.proofs.Common.{ℕ, List, ◌++◌, Option, refl, sym, ap, ◌∙◌, append_assoc, inr}
+use Rattle.std.proofs.KnownBytes.{Consumes-trans}
+use Rattle.as2_http.specs.Inputs.{GrowsBy, ReadsWhile}
 
 -- a read that was needed
 pub reads_more : (P : List ℕ → Type 0) (old mid new : List ℕ) (a b c : Option (List ℕ)) → ReadsWhile P old mid a b → P mid → GrowsBy mid new b c → ReadsWhile P old new a c

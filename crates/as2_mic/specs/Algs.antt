@@ -1,5 +1,5 @@
 -- The digests of MICs and their names (RFC 4130, section 7.3.1; the names of RFC 3851 and RFC 5751 are read alike).
-use Rattle.std.specs.Prelude.{ℕ, Bool, ◌||◌, List, [], ◌∷◌, Option, Some, None, if◌then◌else◌, codes}
+use Rattle.std.specs.Prelude.{ℕ, ◌||◌, List, [], ◌∷◌, Option, Some, None, if◌then◌else◌, codes}
 use Rattle.std.specs.List.{slice_split}
 use Rattle.as2_mic.specs.declared.alg.Alg.{Alg}
 use Rattle.as2_mic.specs.declared.alg.Alg.TheVariants.{Md5, Sha1}

@@ -4,7 +4,6 @@ use Rattle.std.proofs.lemmas.Bool.{cases_lt, ne_eqb}
 use Rattle.std.proofs.lemmas.Bool.Decides.{nat_tests}
 use Rattle.std.proofs.lemmas.List.{append-nil, take_all, take_at, take-append-le, length-take, length_push}
 use Rattle.std.proofs.lemmas.List.Folds.{list_all-append}
-use Rattle.as2_names.specs.declared.name.NameFault.{NameFault}
 use Rattle.as2_names.specs.Ascii.{quote, backslash, is_printable}
 use Rattle.as2_names.specs.Names.{units, with_front, is_special, fitted, fitting, IsName}
 use Rattle.as2_names.specs.Scan.{Scans}

@@ -1,14 +1,11 @@
 -- What the definitions say of texts that are put together, for the crates above.
-use Rattle.std.proofs.Common.{◌≡◌, ◌==◌, ℕ, true, false, List, [], ◌∷◌, ◌++◌, Ok, refl, sym, ap, ◌∙◌}
+use Rattle.std.proofs.Common.{◌≡◌, ◌==◌, ℕ, true, false, List, [], ◌∷◌, ◌++◌, refl, ap, ◌∙◌}
 use Rattle.std.specs.Prelude.{not, filter_map}
 use Rattle.std.specs.List.{list_all}
 use Rattle.std.proofs.lemmas.Bool.{and_parts, not-true}
 use Rattle.as2_parts.specs.Lines.{lines}
-use Rattle.as2_parts.specs.Parts.{PartText, IsTwoParts}
-use Rattle.as2_parts.specs.Fields.{FieldText, IsField, HasFields, begins_with_blank, folded_lines, field_of, fields}
+use Rattle.as2_parts.specs.Fields.{FieldText, IsField, begins_with_blank, folded_lines, field_of, fields}
 use Rattle.as2_parts.proofs.FieldText.{field_again}
-use Rattle.as2_parts.proofs.TwoParts.{again}
-use Rattle.as2_parts.proofs.Folding.{fields_only}
 
 -- ---- a text with a line in front
 
