@@ -6,7 +6,7 @@ use Rattle.std.proofs.lemmas.Bool.{cases_Bool, and_parts, and_from, eqb-true, ne
 use Rattle.std.proofs.lemmas.List.{drop_more, drop_all, take_all, take_rest}
 use Rattle.as2_names.specs.Ascii.{quote, semicolon, backslash, equals_sign}
 use Rattle.as2_names.specs.Trim.{all_fall_off}
-use Rattle.as2_names.proofs.Fronts.{Cuts, cuts_on, cuts_here}
+use Rattle.as2_names.proofs.CutLists.{Cuts, cuts_on, cuts_here}
 use Rattle.as2_media.specs.declared.cuts.Place.{Place}
 use Rattle.as2_media.specs.declared.cuts.Place.TheVariants.{Outside, Quoted, Escaped}
 use Rattle.as2_media.specs.Bytes.{is_bare_byte, is_line_byte}

@@ -3,7 +3,7 @@ use Rattle.std.proofs.Common.{◌≡◌, ◌==◌, ℕ, ◌+◌, ◌-◌, ◌<�
 use Rattle.std.proofs.lemmas.Bool.{cases_Bool, ne_eqb, eq-eqb}
 use Rattle.std.proofs.lemmas.List.{drop_more, take_more, take_rest}
 use Rattle.std.specs.List.{onto_first, concat}
-use Rattle.as2_names.proofs.Fronts.{Cuts, cuts_on, cuts_here}
+use Rattle.as2_names.proofs.CutLists.{Cuts, cuts_on, cuts_here}
 use Rattle.as2_parts.specs.Lines.{lines}
 use Rattle.as2_parts.specs.Fields.{folded_lines, begins_with_blank}
 

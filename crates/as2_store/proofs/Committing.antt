@@ -14,7 +14,7 @@ use Rattle.as2_exchange.specs.State.{State}
 use Rattle.as2_store.specs.Tables.{store_schema}
 use Rattle.as2_store.specs.Stands.{Stands, Rests}
 use Rattle.as2_store.specs.Calls.{IsInside, Keeps, Commits, Writes}
-use Rattle.as2_store.proofs.Resting.{rests_committed, rests_after, keeps_then}
+use Rattle.as2_store.proofs.TransactionEnds.{rests_committed, rests_after, keeps_then}
 use Rattle.sqlite_schema.specs.declared.schema.Schema.{Schema}
 
 -- ---- statements one after the other

@@ -2,7 +2,7 @@
 use Rattle.std.proofs.Common.{◌≡◌, ◌≢◌, ◌+◌, ◌==◌, ◌&&◌, length, cond, inl, inr, ℕ, ◌<◌, ◌^◌, List, [], ◌∷◌, map, codes, Option, Ok, true, true≢false, refl, sym, ap, subst, ◌∙◌, pos, negsuc, arith, rules, w64, to_z, of_z, IsPermutation, Bool, false}
 use Rattle.std.proofs.lemmas.Int.{to_z-of_z}
 use Rattle.std.proofs.lemmas.Bool.Decides.{nat_tests}
-use Rattle.as2_store.proofs.Showing.{and_true}
+use Rattle.as2_store.proofs.QueriedRows.{and_true}
 use Rattle.sqlite.specs.declared.types.Value.TheVariants.{Int, Text}
 use Rattle.sqlite.specs.Order.{Row}
 use Rattle.sqlite.specs.Term.{lit}
@@ -31,7 +31,7 @@ use Rattle.as2_rows.specs.Rows.{whole, meta_row, meta_shown}
 use Rattle.as2_store.specs.Tables.{store_schema, meta_tree, meta_table, inbox_table, inbox_piece_table, outbox_table, outbox_piece_table, evidence_table, waiting_table}
 use Rattle.as2_store.proofs.Statements.{meta_read_text, receipt_text}
 use Rattle.as2_store.specs.Stands.{Stands, Rests, Says, HasCounters}
-use Rattle.as2_store.proofs.Quiet.{quiet}
+use Rattle.as2_store.proofs.ForeignKeys.{quiet}
 use Rattle.as2_store.proofs.Texts.{meta_command, meta_columns, with_meta_first, meta_read_is, meta_read_plain, meta_read_unlisted, receipt_terms, receipt_project, receipt_is, receipt_plain}
 
 -- a number that is passed as i64

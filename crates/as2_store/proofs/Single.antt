@@ -41,8 +41,8 @@ use Rattle.as2_rows.specs.declared.inbox.InRow.{InRow}
 use Rattle.as2_rows.specs.declared.outbox.OutRow.{OutRow}
 use Rattle.as2_rows.proofs.Joining.{as_many, bytes_at, one_more, all_taken, pieces_rise}
 use Rattle.as2_store.specs.Stands.{Stands, evidence_rows}
-use Rattle.as2_store.proofs.Gathering.{all_pieces, gathers}
-use Rattle.as2_store.proofs.Recalling.{receipts, row_of, of_number, rows_of, own_receipt}
+use Rattle.as2_store.proofs.EntryPieces.{all_pieces, gathers}
+use Rattle.as2_store.proofs.OutboxQueries.{receipts, row_of, of_number, rows_of, own_receipt}
 
 -- ---- values
 

@@ -1,5 +1,5 @@
 use Rattle.std.proofs.Common.{rules, ◌≡◌, false, true, arith, subst, sym, ◌∙◌}
-use Rattle.as2_names.proofs.Fronts.{Cuts}
+use Rattle.as2_names.proofs.CutLists.{Cuts}
 use Rattle.as2_media.specs.Cuts.{segments}
 use Rattle.as2_media.specs.declared.cuts.Place.TheVariants.{Outside}
 use Rattle.as2_media.proofs.Segments.{scan_on, scan_ends, scan_all}

@@ -1,4 +1,4 @@
-use Rattle.as2_names.proofs.Fronts.{Cuts}
+use Rattle.as2_names.proofs.CutLists.{Cuts}
 use Rattle.as2_media.specs.Cuts.{segments}
 use Rattle.as2_media.specs.declared.cuts.Place.TheVariants.{Outside}
 use Rattle.as2_media.proofs.cuts.cut_segment.Given as goal

@@ -1,6 +1,6 @@
 use Rattle.std.proofs.Common.{arith, refl, subst, sym, ◌∙◌}
 use Rattle.as2_parts.specs.Fields.{folded_lines}
-use Rattle.as2_names.proofs.Fronts.{Cuts, cuts_end}
+use Rattle.as2_names.proofs.CutLists.{Cuts, cuts_end}
 use Rattle.as2_parts.proofs.Cutting.{cut_here, no_cut_before_blank, no_cut_elsewhere, folded_on, folded_cut}
 use Rattle.as2_parts.proofs.fields.first_folded_line.Goals as goal
 use Rattle.as2_parts.proofs.fields.first_folded_line.Goals.{else-b-eq10-via-then-b-eq10+else-not-begins_with_blank, else-b-eq10-via-else-b-eq10}

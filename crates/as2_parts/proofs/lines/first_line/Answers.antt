@@ -1,6 +1,6 @@
 use Rattle.std.proofs.Common.{arith, refl, subst}
 use Rattle.as2_parts.specs.Lines.{lines}
-use Rattle.as2_names.proofs.Fronts.{Cuts, cuts_end}
+use Rattle.as2_names.proofs.CutLists.{Cuts, cuts_end}
 use Rattle.as2_parts.proofs.Cutting.{lines_on, lines_cut}
 use Rattle.as2_parts.proofs.lines.first_line.Goals as goal
 

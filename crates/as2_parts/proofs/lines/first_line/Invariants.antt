@@ -1,5 +1,5 @@
 use Rattle.as2_parts.specs.Lines.{lines}
-use Rattle.as2_names.proofs.Fronts.{Cuts}
+use Rattle.as2_names.proofs.CutLists.{Cuts}
 use Rattle.as2_parts.proofs.lines.first_line.Given as goal
 
 abbrev pub invariant-loop-i : goal.invariant-loop-i

@@ -1,5 +1,5 @@
 use Rattle.std.proofs.Common.{rules, ◌≡◌, ◌∙◌, sym, ap, Some, None, Ok, slice_get}
-use Rattle.as2_store.proofs.Recalling.{no_evidence, some_evidence}
+use Rattle.as2_store.proofs.OutboxQueries.{no_evidence, some_evidence}
 use Rattle.as2_store.proofs.Querying.{mapped, read_ok, told_ok}
 use Rattle.as2_store.proofs.documents.evidence_of.Goals as goal
 

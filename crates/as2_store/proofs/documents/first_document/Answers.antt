@@ -4,8 +4,8 @@ use Rattle.as2_exchange.specs.declared.outbox.Evidence.{Evidence}
 use Rattle.as2_exchange.specs.declared.outbox.OutEntry.{OutEntry}
 use Rattle.as2_rows.specs.Rows.{out_shown}
 use Rattle.as2_rows.specs.Summaries.{out_summary, out_entry}
-use Rattle.as2_store.proofs.Showing.{none_first, some_first}
-use Rattle.as2_store.proofs.Recalling.{document_is}
+use Rattle.as2_store.proofs.QueriedRows.{none_first, some_first}
+use Rattle.as2_store.proofs.OutboxQueries.{document_is}
 use Rattle.as2_store.proofs.Querying.{read_ok, read_then, read_bad, told_ok, unread}
 use Rattle.as2_store.proofs.documents.first_document.Goals as goal
 

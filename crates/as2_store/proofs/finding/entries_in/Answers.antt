@@ -1,5 +1,5 @@
 use Rattle.std.proofs.Common.{rules, ◌≡◌, ◌∙◌, ◌++◌, [], ◌∷◌, Ok}
-use Rattle.as2_store.proofs.Looking.{more_read}
+use Rattle.as2_store.proofs.InboxQueries.{more_read}
 use Rattle.as2_store.proofs.Querying.{told_ok}
 use Rattle.as2_store.proofs.finding.entries_in.Goals as goal
 

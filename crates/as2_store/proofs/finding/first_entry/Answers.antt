@@ -1,7 +1,7 @@
 use Rattle.std.proofs.Common.{rules, ◌≡◌, ◌∙◌, sym, ap, ap₂, Some, None, Ok, slice_get}
 use Rattle.as2_rows.specs.Rows.{in_shown}
 use Rattle.as2_rows.specs.Summaries.{in_summary, in_entry}
-use Rattle.as2_store.proofs.Showing.{none_first, some_first}
+use Rattle.as2_store.proofs.QueriedRows.{none_first, some_first}
 use Rattle.as2_store.proofs.Querying.{read_ok, told_ok, unread}
 use Rattle.as2_store.proofs.finding.first_entry.Goals as goal
 

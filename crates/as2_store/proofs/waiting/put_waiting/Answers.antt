@@ -5,7 +5,7 @@ use Rattle.sql_tables.proofs.Inside.{made, stays}
 use Rattle.as2_rows.specs.Waiting.{Waiting}
 use Rattle.as2_store.proofs.Statements.{waiting_put_text}
 use Rattle.as2_store.proofs.MetaRow.{passed}
-use Rattle.as2_store.proofs.Placing.{puts_waiting, waiting_params, bound_optional}
+use Rattle.as2_store.proofs.WaitingRows.{puts_waiting, waiting_params, bound_optional}
 use Rattle.as2_store.proofs.Committing.{ran_inside}
 use Rattle.as2_store.proofs.waiting.put_waiting.Goals as goal
 

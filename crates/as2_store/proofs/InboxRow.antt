@@ -22,7 +22,7 @@ use Rattle.as2_store.proofs.MetaRow.{passed}
 use Rattle.as2_rows.specs.Rows.{in_row, in_shown, url_value, digest_value, mic_value}
 use Rattle.as2_store.specs.Tables.{store_schema, inbox_table, inbox_tree}
 use Rattle.as2_store.proofs.Statements.{in_put_text}
-use Rattle.as2_store.proofs.Placing.{cast_optional}
+use Rattle.as2_store.proofs.WaitingRows.{cast_optional}
 use Rattle.as2_store.proofs.Texts.{in_put_terms, in_put_is, in_put_plain}
 
 pub cast_url : (how : How) → cast Blob (url_value how) ≡ url_value how

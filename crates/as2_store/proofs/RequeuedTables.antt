@@ -27,16 +27,16 @@ use Rattle.as2_store.specs.Tables.{store_schema, inbox_table, inbox_tree, inbox_
 use Rattle.as2_store.proofs.Statements.{in_requeue_text}
 use Rattle.as2_store.specs.Stands.{IsWhole, Stands, place, waiting_row, documents_waiting, waiting, inbox_pieces}
 use Rattle.as2_store.specs.Requeuing.{requeued, requeued_in, not_at, Holds, Renewed}
-use Rattle.as2_store.proofs.Rising.{numbers_rise, entries_rise}
-use Rattle.as2_store.proofs.Placing.{IsLast, documents_of, ins_small, last_of}
-use Rattle.as2_store.proofs.Writing.{cast_url, cast_digest, cast_mic}
-use Rattle.as2_store.proofs.Showing.{and_true}
-use Rattle.as2_store.proofs.Looking.{same_tests}
-use Rattle.as2_store.proofs.Quiet.{quiet}
+use Rattle.as2_store.proofs.NumberedRows.{numbers_rise, entries_rise}
+use Rattle.as2_store.proofs.WaitingRows.{IsLast, documents_of, ins_small, last_of}
+use Rattle.as2_store.proofs.InboxRow.{cast_url, cast_digest, cast_mic}
+use Rattle.as2_store.proofs.QueriedRows.{and_true}
+use Rattle.as2_store.proofs.InboxQueries.{same_tests}
+use Rattle.as2_store.proofs.ForeignKeys.{quiet}
 use Rattle.as2_store.proofs.Texts.{number_terms, requeue_project, in_requeue_is, in_requeue_plain}
-use Rattle.as2_store.proofs.Splitting.{Split, split, at_one, changed, changed_none, changed_split, none_numbered}
+use Rattle.as2_store.proofs.NumberedEntries.{Split, split, at_one, changed, changed_none, changed_split, none_numbered}
 use Rattle.as2_store.proofs.Committing.{Done}
-use Rattle.as2_store.proofs.Renewing.{documents_rise, receipts_rise, places_rise, renewed}
+use Rattle.as2_store.proofs.WaitingPlaces.{documents_rise, receipts_rise, places_rise, renewed}
 
 -- ---- the statement
 

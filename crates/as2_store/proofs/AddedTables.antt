@@ -23,8 +23,8 @@ use Rattle.as2_store.specs.Tables.{store_schema, meta_tree, inbox_tree, inbox_pi
 use Rattle.as2_store.specs.Stands.{IsWhole, Stands, HasCounters, inbox_pieces}
 use Rattle.as2_store.specs.Adding.{Appended, Noted, IsEntered, with_received, added}
 use Rattle.as2_store.proofs.Committing.{Done}
-use Rattle.as2_store.proofs.Rising.{puts_between}
-use Rattle.as2_store.proofs.Placing.{noted_rows, noted}
+use Rattle.as2_store.proofs.NumberedRows.{puts_between}
+use Rattle.as2_store.proofs.WaitingRows.{noted_rows, noted}
 
 -- what a write of one table, or of none, leaves
 record Wrote (old new : Connected) (tree : ℕ) (rows : List Row) : Type 0 where

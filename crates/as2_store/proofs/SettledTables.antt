@@ -48,11 +48,11 @@ use Rattle.as2_store.specs.Settling.{settled_as, settled_in, of_document, withou
 use Rattle.as2_store.proofs.Committing.{Done}
 use Rattle.as2_store.proofs.Unsettled.{some_found, unsettled}
 use Rattle.as2_store.proofs.MetaRow.{one_param, passed}
-use Rattle.as2_store.proofs.Rising.{numbers_rise, entries_rise, rises, falls}
-use Rattle.as2_store.proofs.Placing.{IsOf, ins_small}
-use Rattle.as2_store.proofs.Resetting.{places_in_order}
-use Rattle.as2_store.proofs.Showing.{and_true, found_all}
-use Rattle.as2_store.proofs.Quiet.{quiet}
+use Rattle.as2_store.proofs.NumberedRows.{numbers_rise, entries_rise, rises, falls}
+use Rattle.as2_store.proofs.WaitingRows.{IsOf, ins_small}
+use Rattle.as2_store.proofs.RequeuedTables.{places_in_order}
+use Rattle.as2_store.proofs.QueriedRows.{and_true, found_all}
+use Rattle.as2_store.proofs.ForeignKeys.{quiet}
 use Rattle.as2_store.proofs.Texts.{number_terms, settle_project, out_settle_is, out_settle_plain, evidence_put_terms, evidence_put_is, evidence_put_plain, document_terms, document_take_is, document_take_plain}
 
 -- ---- the document

@@ -18,10 +18,10 @@ use Rattle.as2_store.proofs.Statements.{waiting_take_text}
 use Rattle.as2_store.specs.Stands.{place, waiting_row, documents_waiting}
 use Rattle.as2_store.specs.Requeuing.{Holds, not_at}
 use Rattle.as2_store.proofs.MetaRow.{one_param}
-use Rattle.as2_store.proofs.Rising.{given_rise, ordered_rise, puts_between}
-use Rattle.as2_store.proofs.Placing.{IsOf, IsLast}
-use Rattle.as2_store.proofs.Showing.{and_true}
-use Rattle.as2_store.proofs.Quiet.{quiet}
+use Rattle.as2_store.proofs.NumberedRows.{given_rise, ordered_rise, puts_between}
+use Rattle.as2_store.proofs.WaitingRows.{IsOf, IsLast}
+use Rattle.as2_store.proofs.QueriedRows.{and_true}
+use Rattle.as2_store.proofs.ForeignKeys.{quiet}
 use Rattle.as2_store.proofs.Texts.{number_terms, waiting_take_is, waiting_take_plain}
 
 -- ---- the statement

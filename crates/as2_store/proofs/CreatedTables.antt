@@ -26,7 +26,7 @@ use Rattle.as2_store.specs.Tables.{meta_made, inbox_made, inbox_piece_made, outb
 use Rattle.as2_store.proofs.Statements.{meta_text, inbox_text, inbox_piece_text, outbox_text, outbox_piece_text, evidence_text, waiting_text, waiting_due_text, meta_put_text}
 use Rattle.as2_store.specs.Stands.{IsWhole, Stands, IsBare, IsBlank}
 use Rattle.as2_store.specs.Calls.{IsInside, Keeps, CommitsFirst, Creates}
-use Rattle.as2_store.proofs.Resting.{rests_committed}
+use Rattle.as2_store.proofs.TransactionEnds.{rests_committed}
 use Rattle.as2_store.proofs.Committing.{keeps_of}
 use Rattle.as2_store.proofs.Making.{meta_is, inbox_is, inbox_piece_is, outbox_is, outbox_piece_is, evidence_is, waiting_is, waiting_due_is, meta_create, meta_plain, inbox_create, inbox_plain, inbox_piece_create, inbox_piece_plain, outbox_create, outbox_plain, outbox_piece_create, outbox_piece_plain, evidence_create, evidence_plain, waiting_create, waiting_plain, waiting_due_create, waiting_due_plain, with_meta, with_inbox, with_outbox, with_outbox_piece, with_waiting}
 use Rattle.as2_store.proofs.Texts.{meta_put_terms, meta_put_is, meta_put_plain}

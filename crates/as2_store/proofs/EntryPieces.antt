@@ -26,7 +26,7 @@ use Rattle.as2_mic.specs.Pieces.{piece_count}
 use Rattle.as2_store.specs.Tables.{store_schema, inbox_piece_tree, outbox_piece_tree}
 use Rattle.as2_store.proofs.Statements.{in_pieces_text, out_pieces_text}
 use Rattle.as2_store.specs.Stands.{Rests}
-use Rattle.as2_store.proofs.Showing.{and_true, found_all}
+use Rattle.as2_store.proofs.QueriedRows.{and_true, found_all}
 use Rattle.as2_store.proofs.Texts.{piece_terms, piece_columns, in_pieces_is, in_pieces_plain, in_pieces_unlisted, out_pieces_is, out_pieces_plain, out_pieces_unlisted}
 
 abbrev pub number_params : ℕ → Row

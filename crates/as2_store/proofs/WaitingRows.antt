@@ -25,7 +25,7 @@ use Rattle.as2_store.specs.Tables.{store_schema, waiting_table}
 use Rattle.as2_store.proofs.Statements.{waiting_put_text}
 use Rattle.as2_store.specs.Stands.{place, waiting_row, documents_waiting, waiting}
 use Rattle.as2_store.specs.Adding.{Noted, with_received}
-use Rattle.as2_store.proofs.Rising.{puts_between}
+use Rattle.as2_store.proofs.NumberedRows.{puts_between}
 use Rattle.as2_store.proofs.Texts.{waiting_put_terms, waiting_put_is, waiting_put_plain}
 
 -- ---- the statement

@@ -19,10 +19,10 @@ use Rattle.as2_store.specs.Tables.{outbox_tree, evidence_tree}
 use Rattle.as2_store.proofs.Statements.{out_by_id_text, evidence_by_number_text}
 use Rattle.as2_store.specs.Stands.{Rests, evidence_rows}
 use Rattle.as2_store.specs.Finding.{has_id, shown_evidence}
-use Rattle.as2_store.proofs.Rising.{numbers_rise, given_rise, ordered_rise, entries_rise}
-use Rattle.as2_store.proofs.Showing.{reads_rows, and_true, found_all}
-use Rattle.as2_store.proofs.Looking.{by_number_params}
-use Rattle.as2_store.proofs.Gathering.{turned}
+use Rattle.as2_store.proofs.NumberedRows.{numbers_rise, given_rise, ordered_rise, entries_rise}
+use Rattle.as2_store.proofs.QueriedRows.{reads_rows, and_true, found_all}
+use Rattle.as2_store.proofs.InboxQueries.{by_number_params}
+use Rattle.as2_store.proofs.EntryPieces.{turned}
 use Rattle.as2_store.proofs.Texts.{out_columns, out_names, id_terms, number_terms, out_by_id_is, out_by_id_plain, out_by_id_unlisted, evidence_columns, evidence_names, evidence_by_number_is, evidence_by_number_plain, evidence_by_number_unlisted}
 
 abbrev pub id_params : List ℕ → Row

@@ -27,8 +27,8 @@ use Rattle.as2_store.specs.Tables.{store_schema, inbox_tree}
 use Rattle.as2_store.proofs.Statements.{in_by_key_text, in_by_number_text, in_all_text}
 use Rattle.as2_store.specs.Stands.{Rests}
 use Rattle.as2_store.specs.Finding.{has_key}
-use Rattle.as2_store.proofs.Rising.{entries_rise}
-use Rattle.as2_store.proofs.Showing.{reads_rows, and_true}
+use Rattle.as2_store.proofs.NumberedRows.{entries_rise}
+use Rattle.as2_store.proofs.QueriedRows.{reads_rows, and_true}
 use Rattle.as2_store.proofs.Texts.{in_columns, in_names, key_terms, number_terms, in_by_number_is, in_by_number_plain, in_by_number_unlisted, in_by_key_is, in_by_key_plain, in_by_key_unlisted, in_all_is, in_all_plain, in_all_unlisted}
 
 -- a query over the inbox, in the order of the numbers
