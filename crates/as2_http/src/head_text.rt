@@ -2,7 +2,7 @@
 ghost use Rattle.std.specs.Prelude.{◌≡◌, ◌≤◌, ◌<◌, length, take, drop, IfSome, IfNone};
 ghost use Rattle.as2_http.specs.HeadText.{unblank, up_to_empty_line, head_limit, HeadLies, HasNoHeadText};
 
-use as2_parts::part_in;
+use as2_text::part_in;
 
 /// How many bytes a head may have, the CR and LF skipped before it among them.
 pub const HEAD_LIMIT: usize = 16_384;

@@ -9,7 +9,7 @@ ghost use Rattle.as2_posts.specs.Answers.{receipt_answer, untold};
 use as2_agreement::Agreements;
 use as2_exchange::{Bytes, How, HttpAnswer, HttpBody, Line, Posted};
 use as2_mdn::{Outcome, ReportOut, write_report};
-use as2_names::Memory;
+use as2_text::Memory;
 use std::alloc::{AllocError, Global};
 
 /// The answer that refuses a post by a line.

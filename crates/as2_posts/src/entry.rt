@@ -4,7 +4,7 @@ ghost use Rattle.as2_exchange.specs.Recording.{first_entry};
 ghost use Rattle.as2_posts.specs.Answers.{is_queued_again};
 
 use as2_exchange::{Attempt, How, InEntry, MdnState, Posted};
-use as2_names::Moment;
+use as2_text::Moment;
 
 /// The entry of a document that is posted for the first time.
 pub fn first_entry(number: u64, moment: Moment, posted: Posted) -> InEntry

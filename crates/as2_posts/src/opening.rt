@@ -8,8 +8,7 @@ ghost use Rattle.as2_posts.specs.Openings.{read_further};
 use crate::fields::{name_in, type_in, version_fits};
 use as2_agreement::Agreements;
 use as2_exchange::Line;
-use as2_media::{Kind, MediaType};
-use as2_names::{AsName, Head};
+use as2_text::{AsName, Head, Kind, MediaType};
 
 /// What the head of a post says, where its names are agreed, and its version and content type can be read.
 #[derive(Drop)]

@@ -1,9 +1,8 @@
 use super::*;
 use as2_exchange::{Attempt, How, InEntry, Line, MdnState, Posted};
 use as2_mdn::Outcome;
-use as2_media::MediaType;
 use as2_mic::Pieces;
-use as2_names::{AsName, Head, Moment};
+use as2_text::{AsName, Head, MediaType, Moment};
 use std::alloc::Global;
 use std::process::Abort;
 

@@ -14,9 +14,9 @@ ghost use Rattle.as2_station.specs.Steps.{TakesPost, always};
 use as2_exchange::{Bytes, Evidence, HttpAnswer, HttpBody, Line, OutEntry, StoreFault};
 use as2_mdn::{Receipt, read_report, verdict_pieces};
 use as2_mic::Pieces;
-use as2_names::{Moment, without_brackets};
 use as2_posts::{Opened, refused};
 use as2_store::Store;
+use as2_text::{Moment, without_brackets};
 use sqlite::Alter;
 use std::alloc::Global;
 

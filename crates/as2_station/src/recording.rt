@@ -8,9 +8,9 @@ ghost use Rattle.as2_station.specs.Steps.{TakesPost, always};
 
 use as2_agreement::Agreements;
 use as2_exchange::{HttpAnswer, InEntry, Line, Posted, StoreFault};
-use as2_names::Moment;
 use as2_posts::{answer_to, first_entry, is_queued_again, refused, repeats};
 use as2_store::Store;
+use as2_text::Moment;
 use sqlite::Alter;
 use std::alloc::Global;
 

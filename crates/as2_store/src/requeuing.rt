@@ -13,7 +13,7 @@ ghost use Rattle.as2_store.specs.Requeuing.{requeued, requeued_in};
 
 use crate::numbers::{asked, whole};
 use crate::waiting::wait_anew;
-use as2_names::Moment;
+use as2_text::Moment;
 use sqlite::{Alter, Connection, Error, Transaction, params};
 
 /// Sets the receipt of the entry of this number to be sent anew, and answers how many entries have the number.

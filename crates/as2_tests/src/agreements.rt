@@ -6,7 +6,7 @@ use as2_agreement::AgreementFault::{
 };
 use as2_agreement::{AgreementFault, Agreements, Asked, Key, Organization, Partner};
 use as2_mic::Alg;
-use as2_names::AsName;
+use as2_text::AsName;
 use std::alloc::{AllocError, Global};
 use std::process::Abort;
 use std::test::Fail;
