@@ -116,7 +116,7 @@ fn first<'a>(alloc: Global) -> Arg<'a>
     let help = "First number of a store that is made: 1 to 999999999999";
     option(alloc, FIRST, "N", help)
         .default_value("1")
-        .value_parser(value_parser!(u64).range(1..=END_OF_NUMBERS - 1))
+        .value_parser(value_parser!(u64).range(1..=END_OF_NUMBERS as i64 - 1))
 }
 
 fn moment<'a>(alloc: Global) -> Arg<'a>
