@@ -15,10 +15,10 @@ use Rattle.as2_exchange.specs.Step.{step}
 use Rattle.as2_exchange.specs.declared.answer.Answer.{Answer}
 use Rattle.as2_exchange.specs.declared.answer.HttpAnswer.{HttpAnswer}
 use Rattle.as2_exchange.specs.declared.answer.Answer.TheVariants.{Http}
-use Rattle.as2_desk.specs.FirstPath.{Replies, Refusal, form_of, refusal_form}
+use Rattle.as2_desk.specs.FirstRequest.{Replies, Refusal, form_of, refusal_form}
 use Rattle.as2_desk.specs.Laws.{OneReply, TellsFault}
 use Rattle.as2_desk.specs.Responses.{RespondsTo, Responds, Takes, Unsaid, answer_of, posted}
-use Rattle.as2_desk.specs.declared.first_path.Served.TheVariants.{Closed, Truncated, BadFraming, ReadFault, WriteFault, Memory, TooLong}
+use Rattle.as2_desk.specs.declared.first_request.Served.TheVariants.{Closed, Truncated, BadFraming, ReadFault, WriteFault, Memory, TooLong}
 use Rattle.as2_desk.specs.declared.response.Response.{Response}
 use Rattle.as2_desk.specs.declared.response.Response.TheVariants.{Answered, Failed, OnlyPost, NoPath}
 

@@ -3,12 +3,12 @@ use Rattle.std.proofs.Common.{ℕ, List, [], Option, refl, sym, subst, inl, inr}
 use Rattle.std.specs.Io.KnownBytes.{Appends}
 use Rattle.as2_http.specs.Arrivals.{LeavesUnread}
 use Rattle.as2_http.specs.Replies.{refusal}
-use Rattle.as2_http.specs.Requests.{Refuses}
+use Rattle.as2_http.specs.Requests.{IsRefused}
 use Rattle.as2_http.specs.declared.framing.Refused.{Refused}
-use Rattle.as2_desk.specs.FirstPath.{Gets, Sent, Serves, form_of, refusal_form}
+use Rattle.as2_desk.specs.FirstRequest.{Gets, Sent, Serves, form_of, refusal_form}
 use Rattle.as2_desk.specs.Responses.{answer_of}
-use Rattle.as2_desk.specs.declared.first_path.Served.{Served}
-use Rattle.as2_desk.specs.declared.first_path.Served.TheVariants.{Closed, BadFraming}
+use Rattle.as2_desk.specs.declared.first_request.Served.{Served}
+use Rattle.as2_desk.specs.declared.first_request.Served.TheVariants.{Closed, BadFraming}
 use Rattle.as2_agreement.specs.Agreements.{AgreedValues}
 use Rattle.as2_exchange.specs.State.{State}
 
@@ -25,7 +25,7 @@ request_sent agreements moment s Safe t input after before now result g (inr (in
 
 -- the reason was sent why no request begins there
 pub refusal_sent : (agreements : AgreedValues) (moment : ℕ) (s : State) (Safe : State → Type 0) (input : List ℕ) (after before now : Option (List ℕ)) (refused : Refused) (result : Served)
-    → Refuses input refused → LeavesUnread input after → Sent moment (refusal_form refused) (refusal refused.reason) before now BadFraming result
+    → IsRefused input refused → LeavesUnread input after → Sent moment (refusal_form refused) (refusal refused.reason) before now BadFraming result
     → Serves agreements moment s Safe s input after (Appends before now) result
 refusal_sent agreements moment s Safe input after before now refused result refuses unread (inl (is, (text, reply, app))) =
     subst (Serves agreements moment s Safe s input after (Appends before now)) (sym is)

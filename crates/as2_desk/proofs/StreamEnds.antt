@@ -3,8 +3,8 @@ use Rattle.std.proofs.Common.{◌≡◌, ℕ, List, refl}
 use Rattle.as2_desk.specs.Refusals.{end_line, line}
 use Rattle.as2_desk.specs.Runs.{Ends}
 use Rattle.as2_desk.specs.Statuses.{refused, status_of}
-use Rattle.as2_desk.specs.declared.first_path.Served.{Served}
-use Rattle.as2_desk.specs.declared.first_path.Served.TheVariants.{Closed, Truncated, BadFraming, ReadFault, WriteFault, Memory, TooLong}
+use Rattle.as2_desk.specs.declared.first_request.Served.{Served}
+use Rattle.as2_desk.specs.declared.first_request.Served.TheVariants.{Closed, Truncated, BadFraming, ReadFault, WriteFault, Memory, TooLong}
 use Rattle.as2_desk.specs.declared.refusal.Refusal.TheVariants.{Stream}
 use Rattle.as2_desk.specs.declared.status.Ran.{Ran}
 

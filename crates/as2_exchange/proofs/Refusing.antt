@@ -9,8 +9,8 @@ use Rattle.as2_exchange.specs.Agreement.{Text, Agreements, Partner, Asked, NoRec
 use Rattle.as2_exchange.specs.Readings.{How, NoReceipt as NoneAsked, Sync as AtOnce, Async as Later, Outcome as WhatBecame, is_processed, named_by}
 use Rattle.as2_exchange.specs.State.{Posted, InEntry, OutEntry, State, end_of_numbers, document, document_named, received, received_as, change_document, change_received, is_begun, is_settled}
 use Rattle.as2_exchange.specs.Events.{Event, Post, Submit, Begin, Outcome, BeginMdn, OutcomeMdn, Tick, Answer, Refused, Submitted, UnknownOrganization, UnknownPartner, TooLarge, TryAnswer, Nothing, Words, NotProcessed, IdUsedBefore, NoSuchMessage}
-use Rattle.as2_exchange.specs.Posts.{Came, Reading, Refuses, IsReceipt, IsDocument, reading, repeats}
-use Rattle.as2_exchange.specs.Receipts.{came_back, is_delivery, bears}
+use Rattle.as2_exchange.specs.Posts.{ReceivedReceipt, Reading, Refuses, IsReceipt, IsDocument, reading, repeats}
+use Rattle.as2_exchange.specs.Receipts.{receipt_in_answer, is_delivery, bears}
 use Rattle.as2_exchange.specs.Documents.{begun, waits, closed, closed_by, if_for, delivered, failed, submit, new_document, settle, settle_for, settled, tick}
 use Rattle.as2_exchange.specs.Lines.{http}
 use Rattle.as2_exchange.specs.OwedReceipts.{mdn_begun, mdn_closed, is_pending, is_shut}
@@ -94,7 +94,7 @@ delivered_leaves Async p m d = acts d _ refl
 delivered_leaves NoReceipt p m d = acts d _ refl
 delivered_leaves Sync p m d = failed_leaves p m d
 
-closed_by_leaves : (p : Partner) (got : TryAnswer) (m : ℕ) (d : OutEntry) (o : Option Came) → Leaves d (closed_by p got m d o)
+closed_by_leaves : (p : Partner) (got : TryAnswer) (m : ℕ) (d : OutEntry) (o : Option ReceivedReceipt) → Leaves d (closed_by p got m d o)
 closed_by_leaves p got m d (Some r) = acts d _ refl
 closed_by_leaves p got m d None = either_acts d (is_delivery got) _ _ (delivered_leaves p.receipt p m d) (failed_leaves p m d)
 
@@ -102,7 +102,7 @@ closed_leaves : (A : Agreements) (got : TryAnswer) (m : ℕ) (d : OutEntry) → 
 unfolding closed
 closed_leaves A got m d = agreed_leaves A d.organization d.partner d _
     (λ p. test_leaves d (is_settled d) _ _
-    (test_leaves d (is_idle d.attempt) _ _ (closed_by_leaves p got m d (option_and_then (if_for d) (came_back got)))))
+    (test_leaves d (is_idle d.attempt) _ _ (closed_by_leaves p got m d (option_and_then (if_for d) (receipt_in_answer got)))))
 
 mdn_begun_leaves : (A : Agreements) (m : ℕ) (e : InEntry) → Leaves e (mdn_begun A m e)
 unfolding mdn_begun
@@ -166,7 +166,7 @@ recorded_acts A s m p None y h = by (nat_le end_of_numbers s.next_in) h
     by true g = absurd (cc)
     by false g = ap (λ (z : Answer × State). is_refusal z.0) (sym (same_Some _ y g)) ∙ answered_by A s.next_in p p.how refl
 
-settle_acts : (s : State) (m : ℕ) (r : Came) (o : Option OutEntry) → is_refusal (settle_for s m r o).0 ≡ false
+settle_acts : (s : State) (m : ℕ) (r : ReceivedReceipt) (o : Option OutEntry) → is_refusal (settle_for s m r o).0 ≡ false
 settle_acts s m r None = refl
 settle_acts s m r (Some d) = by (not (bears r d.organization d.partner d.id && is_begun d)) (if is_settled d then s else change_document s d.number (settled m r))
   where

@@ -7,7 +7,7 @@ use Rattle.as2_exchange.specs.Agreement.{Text, Agreements, is_organization, part
 use Rattle.as2_exchange.specs.Readings.{Head, MediaType, ReceiptAsk, Outcome as WhatBecame, Processed, DecryptionFailed, DecompressionFailed, AuthenticationFailed, UnsupportedFormat, UnsupportedMicAlgorithms, is_processed, mic_for, is_report, names_of, version_fits, type_of, id_of, ask_of, report_in, named_by}
 use Rattle.as2_exchange.specs.State.{Posted, InEntry, OutEntry, State, empty, end_of_numbers, document, document_named, received, received_as, change_document, change_received, lasting, is_settled}
 use Rattle.as2_exchange.specs.Events.{Event, Post, Submit, Begin, Outcome, BeginMdn, OutcomeMdn, Tick, Answer, Refused, Submitted, UnknownOrganization, UnknownPartner, TooLarge, Line, BadNames, BadVersion, UnknownNames, BadType, UnreadableReceipt, BadId, BadAsk}
-use Rattle.as2_exchange.specs.Posts.{Came, Reading, Refuses, IsReceipt, IsDocument, needs, report_posted, document_posted, reading}
+use Rattle.as2_exchange.specs.Posts.{ReceivedReceipt, Reading, Refuses, IsReceipt, IsDocument, needs, report_posted, document_posted, reading}
 use Rattle.as2_exchange.specs.Documents.{settle, settle_for, settled, submit, new_document, begun, closed, tick}
 use Rattle.as2_exchange.specs.OwedReceipts.{mdn_begun, mdn_closed}
 use Rattle.as2_exchange.specs.Recording.{record_post, first_entry, queued_again}
@@ -98,7 +98,7 @@ tick_formed : (A : Agreements) (m : ℕ) (s : State) → IsWellFormed A s → Is
 unfolding tick
 tick_formed A m s h = record { received = h.received; sent = outbox_map A s.next_out s.outbox _ (passed_keeps m) h.sent }
 
-settle_for_formed : (A : Agreements) (s : State) (m : ℕ) (r : Came) (o : Option OutEntry) → IsWellFormed A s → IsWellFormed A (settle_for s m r o).1
+settle_for_formed : (A : Agreements) (s : State) (m : ℕ) (r : ReceivedReceipt) (o : Option OutEntry) → IsWellFormed A s → IsWellFormed A (settle_for s m r o).1
 settle_for_formed A s m r None h = h
 settle_for_formed A s m r (Some d) h = if_either (IsWellFormed A) _ _ _ h (by (is_settled d))
   where
@@ -106,7 +106,7 @@ settle_for_formed A s m r (Some d) h = if_either (IsWellFormed A) _ _ _ h (by (i
     by true = h
     by false = document_formed A s d.number (settled m r) (settled_keeps m r) h
 
-settle_formed : (A : Agreements) (s : State) (m : ℕ) (r : Came) → IsWellFormed A s → IsWellFormed A (settle s m r).1
+settle_formed : (A : Agreements) (s : State) (m : ℕ) (r : ReceivedReceipt) → IsWellFormed A s → IsWellFormed A (settle s m r).1
 unfolding settle
 settle_formed A s m r h = settle_for_formed A s m r (document_named s (named_by r.receipt)) h
 

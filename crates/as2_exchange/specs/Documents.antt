@@ -7,12 +7,12 @@ use Rattle.as2_exchange.specs.Readings.{named_by, verdict, out_id, document_job}
 use Rattle.as2_exchange.specs.State.{OutEntry, State, content_limit, end_of_numbers, document_named, change_document, is_begun, is_settled}
 use Rattle.as2_exchange.specs.Events.{TryAnswer, UnknownOrganization, UnknownPartner, NotDue, AllSettled, NoOpenTry, TriesUsedUp, TooLarge, NoSuchMessage, Nothing, Answer, Http, Submitted, Job, Settled, Delivered, TryFailed, AlreadySettled, Ticked, Refused}
 use Rattle.as2_exchange.specs.Lines.{http, refusal}
-use Rattle.as2_exchange.specs.Posts.{Came}
-use Rattle.as2_exchange.specs.Receipts.{bears, came_back, is_delivery, evidence_of}
+use Rattle.as2_exchange.specs.Posts.{ReceivedReceipt}
+use Rattle.as2_exchange.specs.Receipts.{bears, receipt_in_answer, is_delivery, evidence_of}
 use Rattle.as2_exchange.specs.Tries.{agreed, is_early, is_due, is_last, is_idle}
 
 -- the document once this receipt has settled it, which closes an open try
-abbrev pub settled : ℕ → Came → OutEntry → OutEntry
+abbrev pub settled : ℕ → ReceivedReceipt → OutEntry → OutEntry
 settled m r d = record d { attempt = Idle; due = None; detail = verdict r.receipt d.content; evidence = Some (evidence_of m r) }
 
 -- it is waiting for what no try can bring
@@ -53,11 +53,11 @@ delivered NoReceipt p m d = (Delivered, record d { attempt = Idle; due = None; d
 delivered Sync p m d = failed p m d
 
 -- the receipt, where it is for this document
-abbrev pub if_for : OutEntry → Came → Option Came
+abbrev pub if_for : OutEntry → ReceivedReceipt → Option ReceivedReceipt
 if_for d r = if bears r d.organization d.partner d.id then Some r else None
 
 -- the receipt for it that came closes the open try; else the answer does
-abbrev pub closed_by : Partner → TryAnswer → ℕ → OutEntry → Option Came → Answer × OutEntry
+abbrev pub closed_by : Partner → TryAnswer → ℕ → OutEntry → Option ReceivedReceipt → Answer × OutEntry
 closed_by p got m d (Some r) = (Settled (verdict r.receipt d.content), settled m r d)
 closed_by p got m d None = if is_delivery got then delivered p.receipt p m d else failed p m d
 
@@ -67,7 +67,7 @@ closed A answer m d =
     agreed A d.organization d.partner d λ p.
     if is_settled d then (AlreadySettled, d)
     else if is_idle d.attempt then (Refused NoOpenTry, d)
-    else closed_by p answer m d (option_and_then (if_for d) (came_back answer))
+    else closed_by p answer m d (option_and_then (if_for d) (receipt_in_answer answer))
 
 -- what a document that is due passes into as time goes by
 abbrev pub passes_into : Detail → Attempt → Option Detail
@@ -89,14 +89,14 @@ unfoldable pub tick : ℕ → State → Answer × State
 tick m s = (Ticked (count_by (λ d. is_some (passes m d)) s.outbox), record s { outbox = map (λ d. passed d (passes m d)) s.outbox })
 
 -- a receipt that was posted settles its document, if that was begun and nothing has settled it
-abbrev pub settle_for : State → ℕ → Came → Option OutEntry → Answer × State
+abbrev pub settle_for : State → ℕ → ReceivedReceipt → Option OutEntry → Answer × State
 settle_for s m r None = (Http (refusal NoSuchMessage), s)
 settle_for s m r (Some d) =
     if not (bears r d.organization d.partner d.id && is_begun d) then (Http (refusal NoSuchMessage), s)
     else (http 200 Nothing, if is_settled d then s else change_document s d.number (settled m r))
 
 -- the document whose identifier the receipt names, if there is one
-unfoldable pub settle : State → ℕ → Came → Answer × State
+unfoldable pub settle : State → ℕ → ReceivedReceipt → Answer × State
 settle s m r = settle_for s m r (document_named s (named_by r.receipt))
 
 -- a document as it is taken in

@@ -2,7 +2,7 @@
 use Rattle.std.specs.Prelude.{if◌then◌else◌}
 use Rattle.as2_exchange.specs.Agreement.{Text}
 use Rattle.as2_exchange.specs.Readings.{Head, MediaType, Receipt, is_report}
-use Rattle.as2_exchange.specs.Posts.{Came, Reading, came, report_posted, document_posted}
+use Rattle.as2_exchange.specs.Posts.{ReceivedReceipt, Reading, received_receipt, report_posted, document_posted}
 use Rattle.as2_posts.specs.declared.opening.Opened.{Opened}
 
 -- the names that a post came under, and its content type
@@ -13,8 +13,8 @@ abbrev pub type_in : Opened → MediaType × Text
 type_in opened = (opened.media, opened.content_type.now)
 
 -- the receipt that came so
-abbrev pub came_in : Opened → Receipt → Text → Came
-came_in opened receipt body = came (names_in opened) (type_in opened) body receipt
+abbrev pub receipt_by : Opened → Receipt → Text → ReceivedReceipt
+receipt_by opened receipt body = received_receipt (names_in opened) (type_in opened) body receipt
 
 -- a post that came so is read as a receipt, or as a document
 abbrev pub report_by : Opened → Text → Reading

@@ -8,7 +8,7 @@ use Rattle.sqlite.specs.State.{State as Connected}
 use Rattle.as2_mdn.specs.declared.detail.Detail.{Detail}
 use Rattle.as2_exchange.specs.Agreement.{Agreements}
 use Rattle.as2_exchange.specs.Invariants.{IsCounter, is_by_receipt}
-use Rattle.as2_exchange.specs.Posts.{Came, repeats}
+use Rattle.as2_exchange.specs.Posts.{ReceivedReceipt, repeats}
 use Rattle.as2_exchange.specs.Readings.{named_by}
 use Rattle.as2_exchange.specs.Receipts.{bears}
 use Rattle.as2_exchange.specs.State.{State, change_document, change_received, document, document_named, end_of_numbers, is_begun, is_settled, received_as}
@@ -33,7 +33,7 @@ settles_to : (s : State) (n : ℕ) (detail : Detail) (e : Evidence) (d : OutEntr
 settles_to s n detail e d by found unsettled = rw (found, unsettled, by) refl
 
 -- a receipt settles the document that it is for
-pub settles : (s t : State) (db : Database) (m : ℕ) (r : Came) (d : OutEntry) (detail : Detail) (e : Evidence) → Stands db s → document_named s (named_by r.receipt) ≡ Some d → (bears r d.organization d.partner d.id && is_begun d) ≡ true
+pub settles : (s t : State) (db : Database) (m : ℕ) (r : ReceivedReceipt) (d : OutEntry) (detail : Detail) (e : Evidence) → Stands db s → document_named s (named_by r.receipt) ≡ Some d → (bears r d.organization d.partner d.id && is_begun d) ≡ true
     → is_settled d ≡ false → is_by_receipt detail ≡ true → settled_as detail e d ≡ settled m r d → settled_in d.number detail e s ≡ Some t → Some (settle s m r) ≡ Some (http 200 Nothing, t)
 unfolding settle
 settles s t db m r d detail e stands named this unsettled by same is =

@@ -8,7 +8,7 @@ ghost use Rattle.as2_exchange.specs.Readings.{named_by};
 ghost use Rattle.as2_exchange.specs.Receipts.{bears};
 ghost use Rattle.as2_exchange.specs.State.{document_named, is_begun};
 ghost use Rattle.as2_exchange.specs.declared.answer.HttpBody.TheVariants.{Nothing};
-ghost use Rattle.as2_posts.specs.Openings.{came_in, report_by};
+ghost use Rattle.as2_posts.specs.Openings.{receipt_by, report_by};
 ghost use Rattle.as2_station.specs.Steps.{TakesPost, always};
 
 use as2_exchange::{Bytes, Evidence, HttpAnswer, HttpBody, Line, OutEntry, StoreFault};
@@ -24,7 +24,7 @@ use std::alloc::Global;
 /// and names its identifier (RFC 4130, section 6.2; RFC 8098, section 3.2.5).
 #[tactic(auto, unfolding(as2_exchange::specs::Readings::named_by, as2_exchange::specs::Readings::value_of))]
 fn is_for(opened: &Opened<'_>, receipt: &Receipt<'_>, document: &OutEntry) -> bool
-    ensures { (body : List ℕ) → result ≡ (bears (came_in opened.now receipt.now body) document.now.organization document.now.partner document.now.id
+    ensures { (body : List ℕ) → result ≡ (bears (receipt_by opened.now receipt.now body) document.now.organization document.now.partner document.now.id
         && is_begun document.now) }
 {
     document.organization.bytes() == opened.to.bytes()
@@ -55,7 +55,7 @@ fn settle_named<S: Alter>(
     document: &OutEntry,
 ) -> Result<HttpAnswer, StoreFault>
     requires open { HasCleanDisk (state S.Store store.old) → IsTrue (state S.Store store.old).is_open }
-    ensures taken { (A : Agreements) → TakesPost S.Store A moment (IsReceipt (came_in opened.now receipt.now body))
+    ensures taken { (A : Agreements) → TakesPost S.Store A moment (IsReceipt (receipt_by opened.now receipt.now body))
         (λ s. document_named s (named_by receipt.now) ≡ Some document.now) store.old store.new result }
 {
     if !is_for(opened, receipt, document) {
@@ -84,7 +84,7 @@ fn take_receipt<S: Alter>(
     body: Pieces,
     moment: Moment,
 ) -> Result<HttpAnswer, StoreFault>
-    ensures taken { (A : Agreements) → TakesPost S.Store A moment (IsReceipt (came_in opened.now receipt.now body)) always store.old store.new result }
+    ensures taken { (A : Agreements) → TakesPost S.Store A moment (IsReceipt (receipt_by opened.now receipt.now body)) always store.old store.new result }
 {
     let id_value = without_brackets(receipt.original_id);
     match store.find_out_by_id(alloc, id_value)? {

@@ -24,7 +24,7 @@ use Rattle.as2_exchange.specs.State.{empty, end_of_numbers}
 use Rattle.as2_rows.specs.Rows.{meta_row}
 use Rattle.as2_store.specs.Tables.{meta_made, inbox_made, inbox_piece_made, outbox_made, outbox_piece_made, evidence_made, waiting_made, waiting_table, waiting_due_made, no_schema, inbox_schema, outbox_schema, store_schema, meta_table, meta_tree}
 use Rattle.as2_store.proofs.Statements.{meta_text, inbox_text, inbox_piece_text, outbox_text, outbox_piece_text, evidence_text, waiting_text, waiting_due_text, meta_put_text}
-use Rattle.as2_store.specs.Stands.{IsWhole, Stands, IsBare, IsBlank}
+use Rattle.as2_store.specs.Stands.{IsWhole, Stands, HasNoRow, IsBlank}
 use Rattle.as2_store.specs.Calls.{IsInside, Keeps, CommitsFirst, Creates}
 use Rattle.as2_store.proofs.TransactionEnds.{rests_committed}
 use Rattle.as2_store.proofs.Committing.{keeps_of}
@@ -36,27 +36,27 @@ still_empty old new [] none kept = tt
 still_empty old new (t ∷ tables) none kept = (kept.0 ∙ none.0, still_empty old new tables none.1 kept.1)
 
 -- a table more, and still no row
-pub one_more : (old new : Connected) (schema : Schema) (made : Table) → IsBare old.now schema → Made old new schema (created schema made) → IsBare new.now (created schema made)
+pub one_more : (old new : Connected) (schema : Schema) (made : Table) → HasNoRow old.now schema → Made old new schema (created schema made) → HasNoRow new.now (created schema made)
 one_more old new schema made bare it = record {
   schema_is = it.schema_is;
   empty = all-append (λ t. new.now.trees t.tree ≡ []) schema.tables (record made { tree = next_tree schema } ∷ []) (still_empty old.now.trees new.now.trees schema.tables bare.empty it.others) (it.empty, tt);
 }
 
 pub makes_inbox : (a b c d : Connected) (i j k : ℕ) → Executes meta_text [] a b (Ok i) → Executes inbox_text [] b c (Ok j) → Executes inbox_piece_text [] c d (Ok k)
-    → IsBare a.now no_schema → IsBare d.now inbox_schema
+    → HasNoRow a.now no_schema → HasNoRow d.now inbox_schema
 makes_inbox a b c d i j k one two three bare =
     let first = one_more a b no_schema meta_made bare (makes_table meta_text a b no_schema bare.schema_is meta_made meta_is meta_plain refl meta_create.0 meta_create.1 i one) in
     let second = one_more b c with_meta inbox_made first (makes_table inbox_text b c with_meta first.schema_is inbox_made inbox_is inbox_plain refl inbox_create.0 inbox_create.1 j two) in
     one_more c d with_inbox inbox_piece_made second (makes_table inbox_piece_text c d with_inbox second.schema_is inbox_piece_made inbox_piece_is inbox_piece_plain refl inbox_piece_create.0 inbox_piece_create.1 k three)
 
 pub makes_outbox : (a b c d : Connected) (i j k : ℕ) → Executes outbox_text [] a b (Ok i) → Executes outbox_piece_text [] b c (Ok j) → Executes evidence_text [] c d (Ok k)
-    → IsBare a.now inbox_schema → IsBare d.now outbox_schema
+    → HasNoRow a.now inbox_schema → HasNoRow d.now outbox_schema
 makes_outbox a b c d i j k one two three bare =
     let first = one_more a b inbox_schema outbox_made bare (makes_table outbox_text a b inbox_schema bare.schema_is outbox_made outbox_is outbox_plain refl outbox_create.0 outbox_create.1 i one) in
     let second = one_more b c with_outbox outbox_piece_made first (makes_table outbox_piece_text b c with_outbox first.schema_is outbox_piece_made outbox_piece_is outbox_piece_plain refl outbox_piece_create.0 outbox_piece_create.1 j two) in
     one_more c d with_outbox_piece evidence_made second (makes_table evidence_text c d with_outbox_piece second.schema_is evidence_made evidence_is evidence_plain refl evidence_create.0 evidence_create.1 k three)
 
-pub makes_waiting : (a b c : Connected) (i j : ℕ) → Executes waiting_text [] a b (Ok i) → Executes waiting_due_text [] b c (Ok j) → IsBare a.now outbox_schema → IsBare c.now store_schema
+pub makes_waiting : (a b c : Connected) (i j : ℕ) → Executes waiting_text [] a b (Ok i) → Executes waiting_due_text [] b c (Ok j) → HasNoRow a.now outbox_schema → HasNoRow c.now store_schema
 makes_waiting a b c i j one two bare =
     let first = one_more a b outbox_schema waiting_made bare (makes_table waiting_text a b outbox_schema bare.schema_is waiting_made waiting_is waiting_plain refl waiting_create.0 waiting_create.1 i one) in
     let second : Indexed b c with_waiting store_schema = makes_index waiting_due_text b c with_waiting first.schema_is 6 waiting_table refl waiting_due_made waiting_due_is waiting_due_plain waiting_due_create.0 waiting_due_create.1 j two in
@@ -68,12 +68,12 @@ first_params first = Int (pos first) ∷ []
 first_row : (first : ℕ) → IsOneRow meta_table (first_params first) meta_put_terms 5 (Null ∷ Text (codes "as2-station") ∷ Int (pos 1) ∷ Int (pos first) ∷ Int (pos first) ∷ [])
 first_row first = record { source = Null ∷ Text (codes "as2-station") ∷ Int (pos 1) ∷ Int (pos first) ∷ Int (pos first) ∷ []; made = refl; cast_is = simp (cast_null, cast_int) }
 
-pub puts_meta : (old new : Connected) (first count : ℕ) → IsBare old.now store_schema → Executes meta_put_text (first_params first) old new (Ok count) → Changed old new store_schema meta_tree (meta_row first first ∷ [])
+pub puts_meta : (old new : Connected) (first count : ℕ) → HasNoRow old.now store_schema → Executes meta_put_text (first_params first) old new (Ok count) → Changed old new store_schema meta_tree (meta_row first first ∷ [])
 puts_meta old new first count bare h =
     let it = inserts_chosen meta_put_text (first_params first) old new store_schema bare.schema_is 0 meta_table refl refl meta_put_terms 5 _ (first_row first) _ refl meta_put_is meta_put_plain count h in
     subst (λ rows. Changed old new store_schema meta_tree (put_row (Int (next_rowid rows) ∷ Text (codes "as2-station") ∷ Int (pos 1) ∷ Int (pos first) ∷ Int (pos first) ∷ []) rows)) bare.empty.0 it
 
-pub stands_empty : (a b : Connected) (first : ℕ) → 1 ≤ first → first < end_of_numbers → IsBare a.now store_schema → Changed a b store_schema meta_tree (meta_row first first ∷ []) → Stands b.now (empty first)
+pub stands_empty : (a b : Connected) (first : ℕ) → 1 ≤ first → first < end_of_numbers → HasNoRow a.now store_schema → Changed a b store_schema meta_tree (meta_row first first ∷ []) → Stands b.now (empty first)
 unfolding IsDistinct IsWhole
 stands_empty a b first least most bare one = record {
   sound = one.sound;
@@ -99,7 +99,7 @@ pub record First {S : Type 0} (g : Ghosts S) (old : Held S) (last : Connected) (
   pub stands : IsBlank (state g old) → Stands last.now (empty first)
 
 pub made_first : {S : Type 0} (g : Ghosts S) (old : Held S) (mid last : Connected) (first : ℕ) → 1 ≤ first → first < end_of_numbers → (HasCleanDisk last → HasCleanDisk mid) → (HasCleanDisk mid → IsTrue (state g old).is_open)
-    → (HasCleanDisk mid → IsBare (state g old).now no_schema → IsBare mid.now store_schema) → (HasCleanDisk last → IsBare mid.now store_schema → Changed mid last store_schema meta_tree (meta_row first first ∷ []))
+    → (HasCleanDisk mid → HasNoRow (state g old).now no_schema → HasNoRow mid.now store_schema) → (HasCleanDisk last → HasNoRow mid.now store_schema → Changed mid last store_schema meta_tree (meta_row first first ∷ []))
     → HasCleanDisk last → First g old last first
 made_first g old mid last first least most was opened tables row clean = record {
   was_open = opened (was clean);

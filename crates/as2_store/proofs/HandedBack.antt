@@ -15,7 +15,7 @@ use Rattle.as2_exchange.specs.declared.fault.StoreFault.{StoreFault}
 use Rattle.as2_exchange.specs.declared.fault.StoreFault.TheVariants.{NotAStore}
 use Rattle.sqlite.specs.Schema.{Schema}
 use Rattle.as2_store.proofs.Statements.{meta_read_text}
-use Rattle.as2_store.specs.Stands.{Stands, Says, judged, may_come}
+use Rattle.as2_store.specs.Stands.{Stands, MetaSays, adoption_fault, may_come}
 use Rattle.as2_store.specs.Calls.{IsInside, IsGivenBack, IsReason, Writes, Adopts}
 use Rattle.as2_store.proofs.MetaRow.{said_fails, reads_said, says_of, told}
 
@@ -46,15 +46,15 @@ pub fails_by : {S : Type 0} (g : Ghosts S) (old : Held S) (mid : Connected) (e :
 fails_by g old mid e (inl failed) = failed_or_open meta_read_text [] (state g (record old { in_transaction = true })) mid e failed
 fails_by g old mid e (inr late) = absurd (let outside = late.3 in cc)
 
-says_inside : {S : Type 0} (g : Ghosts S) (old : Held S) (kind : List ℕ) (version : ℕ) → Says (state g old) kind version → Says (state g (record old { in_transaction = true })) kind version
+says_inside : {S : Type 0} (g : Ghosts S) (old : Held S) (kind : List ℕ) (version : ℕ) → MetaSays (state g old) kind version → MetaSays (state g (record old { in_transaction = true })) kind version
 says_inside g old kind version it = record { next_receipt = it.next_receipt; next_document = it.next_document; tables = it.tables; indexes = it.indexes; schema = it.schema; meta = it.meta }
 
 pub row_fails : {S : Type 0} (g : Ghosts S) (old : Held S) (mid : Connected) (e : Error) → FailsToQuery meta_read_text [] (state g (record old { in_transaction = true })) mid e ⊎ IsTooLate meta_read_text [] (state g (record old { in_transaction = true })) mid e
-    → (kind : List ℕ) (version : ℕ) → Says (state g old) kind version → IsOutside e
+    → (kind : List ℕ) (version : ℕ) → MetaSays (state g old) kind version → IsOutside e
 row_fails g old mid e (inl failed) kind version it = said_fails (state g (record old { in_transaction = true })) mid e kind version (says_inside g old kind version it) failed
 row_fails g old mid e (inr late) kind version it = absurd (let outside = late.3 in cc)
 
-pub row_shown : {S : Type 0} (g : Ghosts S) (old : Held S) (mid : Connected) (rows : List Row) → Shown meta_read_text [] (state g (record old { in_transaction = true })) mid rows → (kind : List ℕ) (version : ℕ) → (it : Says (state g old) kind version)
+pub row_shown : {S : Type 0} (g : Ghosts S) (old : Held S) (mid : Connected) (rows : List Row) → Shown meta_read_text [] (state g (record old { in_transaction = true })) mid rows → (kind : List ℕ) (version : ℕ) → (it : MetaSays (state g old) kind version)
     → rows ≡ told kind version it.next_receipt it.next_document ∷ []
 unfolding says_inside
 row_shown g old mid rows shown kind version it = reads_said (state g (record old { in_transaction = true })) mid rows shown kind version (says_inside g old kind version it)
@@ -75,7 +75,7 @@ unread_by g old mid e f failed outside known = record {
 tables_of_store : (c : Connected) (s : State) → Stands c.now s → c.now.schema.tables ≡ [] → ⊥
 tables_of_store c s it none = let same = sym (ap (λ (k : Schema). k.tables) it.schema) ∙ none in cc
 
-tables_said : (c : Connected) (kind : List ℕ) (version : ℕ) → Says c kind version → c.now.schema.tables ≡ [] → ⊥
+tables_said : (c : Connected) (kind : List ℕ) (version : ℕ) → MetaSays c kind version → c.now.schema.tables ≡ [] → ⊥
 tables_said c kind version it none = let same = sym (ap (λ (k : Schema). k.tables) it.schema) ∙ none in cc
 
 -- there is no table
@@ -88,7 +88,7 @@ bare_by old opened none = record {
 
 -- what the row says, where there are tables
 pub said_by : {S : Type 0} (g : Ghosts S) (old : Held S) (mid : Connected) (rows : List Row) (f : StoreFault) → Shown meta_read_text [] (state g (record old { in_transaction = true })) mid rows
-    → ((kind : List ℕ) (version n m : ℕ) → rows ≡ told kind version n m ∷ [] → Some f ≡ judged kind version) → ((state g old).now.schema.tables ≡ [] → ⊥) → IsReason (state g old) f
+    → ((kind : List ℕ) (version n m : ℕ) → rows ≡ told kind version n m ∷ [] → Some f ≡ adoption_fault kind version) → ((state g old).now.schema.tables ≡ [] → ⊥) → IsReason (state g old) f
 said_by g old mid rows f shown says tables =
     let opened = shown_open meta_read_text [] (state g (record old { in_transaction = true })) mid rows shown in
     record {
@@ -103,13 +103,13 @@ said_by g old mid rows f shown says tables =
 -- ---- what is adopted
 
 pub adopts : {S : Type 0} (g : Ghosts S) (old : Held S) (mid : Connected) (end : Held S) (rows : List Row) {A E : Type 0} (a : A) → Writes {A = A} {E = E} Some (state g old) (state g end) (Ok a) → (HasCleanDisk (state g end) → HasCleanDisk mid)
-    → (HasCleanDisk mid → Shown meta_read_text [] (state g (record old { in_transaction = true })) mid rows) → ((kind : List ℕ) (version n m : ℕ) → rows ≡ told kind version n m ∷ [] → None ≡ judged kind version) → ((state g old).now.schema.tables ≡ [] → ⊥)
+    → (HasCleanDisk mid → Shown meta_read_text [] (state g (record old { in_transaction = true })) mid rows) → ((kind : List ℕ) (version n m : ℕ) → rows ≡ told kind version n m ∷ [] → None ≡ adoption_fault kind version) → ((state g old).now.schema.tables ≡ [] → ⊥)
     → Adopts (state g old) (state g end)
 adopts g old mid end rows a it was shown says tables = record {
   clean = it.clean;
   is_open = it.is_open;
   done = it.done;
-  judged = λ clean kind version said. sym (says kind version said.next_receipt said.next_document (row_shown g old mid rows (shown (was clean)) kind version said));
+  adoption_fault = λ clean kind version said. sym (says kind version said.next_receipt said.next_document (row_shown g old mid rows (shown (was clean)) kind version said));
   no_blank = λ clean blank. tables (ap (λ (k : Schema). k.tables) (blank.no_table (it.was_open clean)));
   crash = it.crash;
 }

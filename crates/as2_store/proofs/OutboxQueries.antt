@@ -12,7 +12,7 @@ use Rattle.as2_exchange.specs.State.{State}
 use Rattle.as2_exchange.specs.declared.outbox.Evidence.{Evidence}
 use Rattle.as2_exchange.specs.declared.outbox.OutEntry.{OutEntry}
 use Rattle.as2_rows.specs.Rows.{out_row, out_shown, evidence_row, evidence_shown}
-use Rattle.as2_rows.specs.Summaries.{evidence_of, out_entry, out_summary}
+use Rattle.as2_rows.specs.Summaries.{evidence_in, out_entry, out_summary}
 use Rattle.as2_rows.specs.declared.evidence.EvidenceRow.{EvidenceRow}
 use Rattle.as2_rows.specs.declared.outbox.OutRow.{OutRow}
 use Rattle.as2_store.specs.Tables.{outbox_tree, evidence_tree}
@@ -38,7 +38,7 @@ finds_id value old new rows h s r =
 -- ---- the evidence
 
 abbrev pub receipt_in : OutEntry → Option EvidenceRow
-receipt_in d = option_map (evidence_of d.number) d.evidence
+receipt_in d = option_map (evidence_in d.number) d.evidence
 
 abbrev pub receipts : List OutEntry → List EvidenceRow
 receipts ds = filter_map receipt_in ds
@@ -53,27 +53,27 @@ pub rows_of : (ds : List OutEntry) → evidence_rows ds ≡ map row_of (receipts
 rows_of [] = refl
 rows_of (d ∷ ds) = go d.evidence (rows_of ds)
   where
-    go : (o : Option Evidence) → evidence_rows ds ≡ map row_of (receipts ds) → cons_option (option_map (evidence_row d.number) o) (evidence_rows ds) ≡ map row_of (cons_option (option_map (evidence_of d.number) o) (receipts ds))
+    go : (o : Option Evidence) → evidence_rows ds ≡ map row_of (receipts ds) → cons_option (option_map (evidence_row d.number) o) (evidence_rows ds) ≡ map row_of (cons_option (option_map (evidence_in d.number) o) (receipts ds))
     go None rest = rest
     go (Some e) rest = ap (λ l. evidence_row d.number e ∷ l) rest
 
 kept : (d : OutEntry) → IfSome (receipt_in d) (λ r. r.number ≡ d.number)
 kept d = go d.evidence
   where
-    go : (o : Option Evidence) → IfSome (option_map (evidence_of d.number) o) (λ r. r.number ≡ d.number)
+    go : (o : Option Evidence) → IfSome (option_map (evidence_in d.number) o) (λ r. r.number ≡ d.number)
     go None = tt
     go (Some e) = refl
 
 abbrev pub of_number : ℕ → List EvidenceRow → List EvidenceRow
 of_number n rs = filter (λ r. r.number == n) rs
 
-other_first : (m n : ℕ) (o : Option Evidence) (rest : List EvidenceRow) → (m == n) ≡ false → of_number n (cons_option (option_map (evidence_of m) o) rest) ≡ of_number n rest
+other_first : (m n : ℕ) (o : Option Evidence) (rest : List EvidenceRow) → (m == n) ≡ false → of_number n (cons_option (option_map (evidence_in m) o) rest) ≡ of_number n rest
 other_first m n None rest other = refl
-other_first m n (Some e) rest other = ap (λ t. cond t (evidence_of m e ∷ of_number n rest) (of_number n rest)) other
+other_first m n (Some e) rest other = ap (λ t. cond t (evidence_in m e ∷ of_number n rest) (of_number n rest)) other
 
-own_first : (n : ℕ) (o : Option Evidence) (rest : List EvidenceRow) → of_number n rest ≡ [] → of_number n (cons_option (option_map (evidence_of n) o) rest) ≡ cons_option (option_map (evidence_of n) o) []
+own_first : (n : ℕ) (o : Option Evidence) (rest : List EvidenceRow) → of_number n rest ≡ [] → of_number n (cons_option (option_map (evidence_in n) o) rest) ≡ cons_option (option_map (evidence_in n) o) []
 own_first n None rest none = none
-own_first n (Some e) rest none = ap (λ t. cond t (evidence_of n e ∷ of_number n rest) (of_number n rest)) (itself n) ∙ ap (λ l. evidence_of n e ∷ l) none
+own_first n (Some e) rest none = ap (λ t. cond t (evidence_in n e ∷ of_number n rest) (of_number n rest)) (itself n) ∙ ap (λ l. evidence_in n e ∷ l) none
   where
     itself : (n : ℕ) → (n == n) ≡ true
     itself n = grind (arith, nat_tests)
@@ -94,7 +94,7 @@ own_receipt p (x ∷ ds) d distinct found = go (p x) found (own_receipt p ds d d
     go false is later =
         other_first x.number d.number x.evidence (receipts ds) (found_all (λ (y : OutEntry). y.number) (λ m. (x.number == m) ≡ false) p ds d distinct.0 is) ∙ later is
 
-as_shown : (n : ℕ) (o : Option Evidence) → map shown_of_row (cons_option (option_map (evidence_of n) o) []) ≡ shown_evidence n o
+as_shown : (n : ℕ) (o : Option Evidence) → map shown_of_row (cons_option (option_map (evidence_in n) o) []) ≡ shown_evidence n o
 as_shown n None = refl
 as_shown n (Some e) = refl
 

@@ -25,7 +25,7 @@ use Rattle.as2_rows.specs.Contents.{pieces, piece_shown}
 use Rattle.as2_rows.specs.Waiting.{Waiting, in_waiting, waiting_in, to_send, to_answer, to_hear, to_end}
 use Rattle.as2_store.specs.Tables.{store_schema, inbox_table, inbox_tree, inbox_piece_tree}
 use Rattle.as2_store.proofs.Statements.{in_requeue_text}
-use Rattle.as2_store.specs.Stands.{IsWhole, Stands, place, waiting_row, documents_waiting, waiting, inbox_pieces}
+use Rattle.as2_store.specs.Stands.{IsWhole, Stands, place, waiting_row, documents_waiting, all_waiting, inbox_pieces}
 use Rattle.as2_store.specs.Requeuing.{requeued, requeued_in, not_at, Holds, Renewed}
 use Rattle.as2_store.proofs.NumberedRows.{numbers_rise, entries_rise}
 use Rattle.as2_store.proofs.WaitingRows.{IsLast, documents_of, ins_small, last_of}
@@ -73,7 +73,7 @@ requeues n w m count beyond within old new s it h =
 below_end : (next : ℕ) → next ≤ end_of_numbers → (ns : List ℕ) → AllByRecursion (λ n. n < next) ns → AllByRecursion (λ n. n < end_of_numbers) ns
 below_end next most ns all = all_weaken (λ n. n < next) (λ n. n < end_of_numbers) (λ n less. omega (arith, less, most)) ns all
 
-pub places_in_order : (d : Database) (s : State) → Stands d s → IsTable (map waiting_row (waiting s))
+pub places_in_order : (d : Database) (s : State) → Stands d s → IsTable (map waiting_row (all_waiting s))
 places_in_order d s it =
     let outs = below_end s.next_out it.documents.0.most (map (λ (x : OutEntry). x.number) s.outbox) it.documents.1.below in
     let ins = below_end s.next_in it.receipts.0.most (map (λ (e : InEntry). e.number) s.inbox) it.receipts.1.below in
@@ -83,7 +83,7 @@ places_in_order d s it =
     (documents_of to_send end_of_numbers s.outbox outs) (ins_small end_of_numbers s.inbox ins) (documents_of to_hear end_of_numbers s.outbox outs) (documents_of to_end end_of_numbers s.outbox outs)
     (documents_rise to_send s.outbox ds) (receipts_rise s.inbox es) (documents_rise to_hear s.outbox ds) (documents_rise to_end s.outbox ds)
 
-pub holds : (a b : Connected) (s : State) → Stands a.now s → (rows : List Row) → Changed a b store_schema inbox_tree rows → Holds b.now (waiting s)
+pub holds : (a b : Connected) (s : State) → Stands a.now s → (rows : List Row) → Changed a b store_schema inbox_tree rows → Holds b.now (all_waiting s)
 holds a b s it rows one = record {
   schema = one.schema_is;
   rows = one.others.1.1.1.1.1.1.0 (λ e. omega arith) ∙ it.entries.waits;
@@ -102,7 +102,7 @@ abbrev pub to_send_from : ℕ → ℕ → Waiting
 to_send_from n m = record { kind = to_answer; number = n; due = Some m }
 
 waits_anew : (s : State) (n m : ℕ) → n < end_of_numbers → AllByRecursion (λ k. k < end_of_numbers) (map (λ (d : OutEntry). d.number) s.outbox) → Split n s.inbox
-    → put_row (waiting_row (to_send_from n m)) (map waiting_row (not_at (place (to_send_from n m)) (waiting s))) ≡ map waiting_row (waiting (change_received s n (requeued m)))
+    → put_row (waiting_row (to_send_from n m)) (map waiting_row (not_at (place (to_send_from n m)) (all_waiting s))) ≡ map waiting_row (all_waiting (change_received s n (requeued m)))
 waits_anew s n m small outs it =
     let send = documents_waiting to_send s.outbox in
     let late = documents_waiting to_hear s.outbox ++ documents_waiting to_end s.outbox in
@@ -136,7 +136,7 @@ same_numbers n m es = map_kept (λ (e : InEntry). e.number) (λ (e : InEntry). c
 
 -- the tables stand for the state with the receipt to be sent anew, where an entry has the number
 pub stands_requeued : (a b c : Connected) (s : State) (n w m : ℕ) → (n < end_of_numbers → w ≡ n) → Stands a.now s → length (filter (λ (e : InEntry). e.number == n) s.inbox) ≢ 0
-    → Changed a b store_schema inbox_tree (map in_row (change_received s n (requeued m)).inbox) → Renewed b c (to_send_from w m) (waiting s) → Stands c.now (change_received s n (requeued m))
+    → Changed a b store_schema inbox_tree (map in_row (change_received s n (requeued m)).inbox) → Renewed b c (to_send_from w m) (all_waiting s) → Stands c.now (change_received s n (requeued m))
 unfolding IsWhole
 stands_requeued a b c s n w m within it some one two =
     let has = it.entries in
@@ -155,7 +155,7 @@ stands_requeued a b c s n w m within it some one two =
         outbox = two.others.1.1.1.0 (λ e. omega arith) ∙ one.others.1.1.1.0 (λ e. omega arith) ∙ has.outbox;
         outbox_contents = unchanged (two.others.1.1.1.1.0 (λ e. omega arith) ∙ one.others.1.1.1.1.0 (λ e. omega arith)) has.outbox_contents;
         evidence = two.others.1.1.1.1.1.0 (λ e. omega arith) ∙ one.others.1.1.1.1.1.0 (λ e. omega arith) ∙ has.evidence;
-        waits = two.rows_are ∙ ap (λ k. put_row (waiting_row (to_send_from k m)) (map waiting_row (not_at (place (to_send_from k m)) (waiting s)))) (within small) ∙ waits_anew s n m small outs found;
+        waits = two.rows_are ∙ ap (λ k. put_row (waiting_row (to_send_from k m)) (map waiting_row (not_at (place (to_send_from k m)) (all_waiting s)))) (within small) ∙ waits_anew s n m small outs found;
       };
       receipts = (it.receipts.0, subst (AreNumbers s.next_in) (sym (same_numbers n m s.inbox)) it.receipts.1);
       documents = it.documents;
@@ -211,6 +211,6 @@ module _ {S : Type 0} (g : Ghosts S) (old : Held S) (mid : Connected) (n : ℕ) 
         let begun = state g (record old { in_transaction = true }) in
         let stood = r.stands (opened (was clean)) in
         let one = put (was clean) s stood in
-        let two = renewed clean (waiting s) (holds begun mid s stood _ one.0) in
+        let two = renewed clean (all_waiting s) (holds begun mid s stood _ one.0) in
         (change_received s n (requeued m), refl, stands_requeued begun mid last s n w m within stood (λ none. some (one.1 ∙ none)) one.0 two);
   }

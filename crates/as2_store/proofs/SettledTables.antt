@@ -42,7 +42,7 @@ use Rattle.as2_rows.specs.Contents.{pieces, piece_shown}
 use Rattle.as2_rows.specs.Waiting.{Waiting, out_kind, out_waiting, waiting_out, waiting_in, to_send, to_answer, to_hear, to_end}
 use Rattle.as2_store.specs.Tables.{store_schema, outbox_table, outbox_tree, outbox_piece_tree, evidence_table, evidence_tree, waiting_table, waiting_tree}
 use Rattle.as2_store.proofs.Statements.{out_settle_text, evidence_put_text, document_take_text}
-use Rattle.as2_store.specs.Stands.{IsWhole, Stands, place, waiting_row, documents_waiting, waiting, evidence_rows, outbox_pieces}
+use Rattle.as2_store.specs.Stands.{IsWhole, Stands, place, waiting_row, documents_waiting, all_waiting, evidence_rows, outbox_pieces}
 use Rattle.as2_store.specs.Requeuing.{Holds}
 use Rattle.as2_store.specs.Settling.{settled_as, settled_in, of_document, without_document}
 use Rattle.as2_store.proofs.Committing.{Done}
@@ -291,7 +291,7 @@ answers_left n next ws all = filter_all (λ w. not (of_document n w)) ws (all_we
     stays kind is false = refl
 
 pub waits_left : (s : State) (n : ℕ) (detail : Detail) (e : Evidence) → is_by_receipt detail ≡ true → AllByRecursion (λ k. k < s.next_in) (map (λ (x : InEntry). x.number) s.inbox)
-    → without_document n (waiting s) ≡ waiting (change_document s n (settled_as detail e))
+    → without_document n (all_waiting s) ≡ all_waiting (change_document s n (settled_as detail e))
 waits_left s n detail e by ins =
     let p = λ (w : Waiting). not (of_document n w) in
     let send = documents_waiting to_send s.outbox in
@@ -313,7 +313,7 @@ given a s n d it found =
     omega (arith, below, found_number n s.outbox d found, it.documents.0.most)
 
 -- what waits is untouched by the first two statements
-pub still_holds : (a b c : Connected) (s : State) → Stands a.now s → (documents receipts : List Row) → Changed a b store_schema outbox_tree documents → Changed b c store_schema evidence_tree receipts → Holds c.now (waiting s)
+pub still_holds : (a b c : Connected) (s : State) → Stands a.now s → (documents receipts : List Row) → Changed a b store_schema outbox_tree documents → Changed b c store_schema evidence_tree receipts → Holds c.now (all_waiting s)
 still_holds a b c s it documents receipts one two = record {
   schema = two.schema_is;
   rows = two.others.1.1.1.1.1.1.0 (λ e. omega arith) ∙ one.others.1.1.1.1.1.1.0 (λ e. omega arith) ∙ it.entries.waits;
@@ -327,7 +327,7 @@ no_evidence_yet (Some e) is = absurd cc
 -- the tables stand for the state with the document settled, where no receipt had settled it
 pub stands_settled : (a b c d : Connected) (s : State) (n : ℕ) (detail : Detail) (e : Evidence) (x : OutEntry) → is_by_receipt detail ≡ true → Stands a.now s → document s n ≡ Some x → is_settled x ≡ false
     → Changed a b store_schema outbox_tree (map out_row (change_document s n (settled_as detail e)).outbox) → Changed b c store_schema evidence_tree (put_row (evidence_row n e) (b.now.trees evidence_tree))
-    → Changed c d store_schema waiting_tree (map waiting_row (without_document n (waiting s))) → Stands d.now (change_document s n (settled_as detail e))
+    → Changed c d store_schema waiting_tree (map waiting_row (without_document n (all_waiting s))) → Stands d.now (change_document s n (settled_as detail e))
 unfolding IsWhole
 stands_settled a b c d s n detail e x by it found unsettled one two three =
     let has = it.entries in
@@ -375,7 +375,7 @@ ends g old one two last n w detail e by beyond within count some was_one was_two
           let low = given begun s w found.0 stood found.1 in
           let it : w ≡ n = same_number low in
           let next = put (was_two clean) first.0.schema_is in
-          let third = taken clean (waiting s) (still_holds begun one two s stood _ _ first.0 next.0) in
+          let third = taken clean (all_waiting s) (still_holds begun one two s stood _ _ first.0 next.0) in
           let rows : one.now.trees evidence_tree ≡ evidence_rows s.outbox = first.0.others.1.1.1.1.1.0 (λ e. omega arith) ∙ stood.entries.evidence in
           let not_yet = unsettled w e s.outbox found.0 found.1 (ap (λ l. are_fresh l (evidence_row w e ∷ [])) (sym rows) ∙ next.1) in
           let stands = stands_settled begun one two last s w detail e found.0 by stood found.1 not_yet first.0 next.0 third in

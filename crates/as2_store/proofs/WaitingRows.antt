@@ -23,7 +23,7 @@ use Rattle.as2_rows.specs.Rows.{whole, whole_or_null}
 use Rattle.as2_rows.specs.Waiting.{Waiting, out_kind, in_kind, in_waiting, waiting_in, waiting_out, waiting_shown, to_send, to_answer, to_hear, to_end}
 use Rattle.as2_store.specs.Tables.{store_schema, waiting_table}
 use Rattle.as2_store.proofs.Statements.{waiting_put_text}
-use Rattle.as2_store.specs.Stands.{place, waiting_row, documents_waiting, waiting}
+use Rattle.as2_store.specs.Stands.{place, waiting_row, documents_waiting, all_waiting}
 use Rattle.as2_store.specs.Adding.{Noted, with_received}
 use Rattle.as2_store.proofs.NumberedRows.{puts_between}
 use Rattle.as2_store.proofs.Texts.{waiting_put_terms, waiting_put_is, waiting_put_plain}
@@ -117,7 +117,7 @@ noted_in n (Some w) last small send answer hear end s a h e =
     ∙ ap (map waiting_row) (append_assoc send answer (w ∷ (hear ++ end)) ∙ ap (λ l. send ++ l) (sym (append_assoc answer (w ∷ []) (hear ++ end))))
 
 pub noted : (s : State) (e : InEntry) → AllByRecursion (λ n. n < s.next_in) (map (λ (x : InEntry). x.number) s.inbox) → AllByRecursion (λ n. n < end_of_numbers) (map (λ (x : OutEntry). x.number) s.outbox)
-    → e.number ≡ s.next_in → e.number < end_of_numbers → noted_rows (in_waiting e) (map waiting_row (waiting s)) ≡ map waiting_row (waiting (with_received s e))
+    → e.number ≡ s.next_in → e.number < end_of_numbers → noted_rows (in_waiting e) (map waiting_row (all_waiting s)) ≡ map waiting_row (all_waiting (with_received s e))
 noted s e ins outs is small =
     noted_in e.number (in_waiting e) (last_of e.mdn e.attempt e.number e.due) small (documents_waiting to_send s.outbox) (waiting_in s.inbox) (documents_waiting to_hear s.outbox) (documents_waiting to_end s.outbox)
     (documents_of to_send end_of_numbers s.outbox outs) (subst (λ n. AllByRecursion (IsOf to_answer n) (waiting_in s.inbox)) (sym is) (ins_small s.next_in s.inbox ins))

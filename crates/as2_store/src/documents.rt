@@ -36,7 +36,7 @@ fn content_of<S: Alter>(
 }
 
 /// The receipt that settled a document, if one has.
-fn evidence_of<S: Alter>(
+fn evidence_in<S: Alter>(
     conn: &mut Connection<S>,
     alloc: Global,
     number: u64,
@@ -56,7 +56,7 @@ fn evidence_of<S: Alter>(
 }
 
 /// The document that the first of the rows shows, with its content and its evidence.
-pub fn first_document<S: Alter>(
+pub fn shown_document<S: Alter>(
     conn: &mut Connection<S>,
     alloc: Global,
     rows: &[Row],
@@ -75,6 +75,6 @@ pub fn first_document<S: Alter>(
         return Err(StoreFault::Refused);
     }
     let content = content_of(conn, alloc, row.number, row.length)?;
-    let evidence = evidence_of(conn, alloc, row.number)?;
+    let evidence = evidence_in(conn, alloc, row.number)?;
     Ok(Some(row.with_content(content, evidence)))
 }

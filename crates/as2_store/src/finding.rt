@@ -38,7 +38,7 @@ fn content_of<S: Alter>(
 }
 
 /// The entry that the first of the rows shows, with its content.
-pub fn first_entry<S: Alter>(
+pub fn shown_entry<S: Alter>(
     conn: &mut Connection<S>,
     alloc: Global,
     rows: &[Row],

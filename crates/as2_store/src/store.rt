@@ -17,9 +17,9 @@ use crate::adding::add;
 use crate::adopting::check;
 use crate::counters::{NextNumbers, meta_rows, next_of};
 use crate::creating::make;
-use crate::documents::first_document;
+use crate::documents::shown_document;
 use crate::fault::fault_of;
-use crate::finding::{entries_in, first_entry};
+use crate::finding::{entries_in, shown_entry};
 use crate::inbox::{all_rows, rows_by_key, rows_by_number};
 use crate::numbers::fits;
 use crate::outbox::rows_by_id;
@@ -168,7 +168,7 @@ impl<S: Alter> Store<S> {
             id_value.as_bytes(),
         )
         .map_err(fault_of)?;
-        first_entry(&mut self.conn, alloc, &rows)
+        shown_entry(&mut self.conn, alloc, &rows)
     }
 
     /// The entry of the inbox of this number, if there is one.
@@ -181,7 +181,7 @@ impl<S: Alter> Store<S> {
         ensures fault { IfErr result (λ f. may_come f ≡ true) }
     {
         let rows = rows_by_number(&mut self.conn, number).map_err(fault_of)?;
-        first_entry(&mut self.conn, alloc, &rows)
+        shown_entry(&mut self.conn, alloc, &rows)
     }
 
     /// The document of the outbox with an identifier of this value, if there is one, with its content and its evidence.
@@ -195,7 +195,7 @@ impl<S: Alter> Store<S> {
         ensures fault { IfErr result (λ f. may_come f ≡ true) }
     {
         let rows = rows_by_id(&mut self.conn, id_value).map_err(fault_of)?;
-        first_document(&mut self.conn, alloc, &rows)
+        shown_document(&mut self.conn, alloc, &rows)
     }
 
     /// The entries of the inbox in order of number, each with the length of its content in place of the content.

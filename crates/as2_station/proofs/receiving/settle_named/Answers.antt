@@ -3,7 +3,7 @@ use Rattle.as2_exchange.specs.Readings.{verdict}
 use Rattle.as2_exchange.specs.Documents.{settle, settled}
 use Rattle.as2_exchange.specs.Lines.{http}
 use Rattle.as2_exchange.proofs.Standing.{verdict_range}
-use Rattle.as2_posts.specs.Openings.{came_in}
+use Rattle.as2_posts.specs.Openings.{receipt_by}
 use Rattle.as2_exchange.specs.declared.answer.HttpBody.TheVariants.{Nothing}
 use Rattle.as2_store.specs.Settling.{settled_as}
 use Rattle.as2_station.proofs.Doing.{at_once, never_full, passed_on, written, unwritten}
@@ -29,7 +29,7 @@ unfolding verdict
 returns-in_err-settle g c = record {
   taken = λ A.
       let d = c.args.document.now in
-      let r = came_in c.args.opened.now c.args.receipt.now c.args.body in
+      let r = receipt_by c.args.opened.now c.args.receipt.now c.args.body in
       let now = settled_as c.verdict_pieces-detail.result (record { moment = c.args.moment; content_type = c.in_ok-keep.field-0; body = c.args.body }) in
       let same : now d ≡ settled c.args.moment r d = rw (c.verdict_pieces-detail.ensures, c.in_ok-keep.ensures) refl in
       passed_on _ _ _ _ _ _ _ _ c.from_residual-in_err-settle.ensures.0 c.from_residual-in_err-settle.ensures.1
@@ -46,7 +46,7 @@ unfolding verdict
 returns g c = record {
   taken = λ A.
       let d = c.args.document.now in
-      let r = came_in c.args.opened.now c.args.receipt.now c.args.body in
+      let r = receipt_by c.args.opened.now c.args.receipt.now c.args.body in
       let now = settled_as c.verdict_pieces-detail.result (record { moment = c.args.moment; content_type = c.in_ok-keep.field-0; body = c.args.body }) in
       let same : now d ≡ settled c.args.moment r d = rw (c.verdict_pieces-detail.ensures, c.in_ok-keep.ensures) refl in
       rw c.taken-2.ensures (written _ _ _ _ _ _ _ _ _

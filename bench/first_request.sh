@@ -1,5 +1,5 @@
 #!/bin/sh
-# The speed of the first path: starts of the program per second on the plain post, beside starts of `true`; and the
+# The speed of the first request: starts of the program per second on the plain post, beside starts of `true`; and the
 # time of a post of 1,048,576 bytes, beside `sha1sum` of the same bytes. Each pair is measured in turn in one run.
 set -eu
 top=$(cd "$(dirname "$0")/.." && pwd)

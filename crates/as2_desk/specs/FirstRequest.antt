@@ -3,7 +3,7 @@ use Rattle.std.specs.Prelude.{◌≡◌, ℕ, ◌⊎◌, List, [], Option, true,
 use Rattle.std.specs.Io.KnownBytes.{Appends}
 use Rattle.as2_http.specs.Answers.{Answer}
 use Rattle.as2_http.specs.HeadText.{unblank}
-use Rattle.as2_http.specs.Requests.{Begins, Refuses, IsOpen, is_head}
+use Rattle.as2_http.specs.Requests.{Begins, IsRefused, IsOpen, is_head}
 use Rattle.as2_http.specs.Arrivals.{LeavesUnread}
 use Rattle.as2_http.specs.Replies.{IsReply, refusal}
 use Rattle.as2_http.specs.declared.arrival.Request.{Request}
@@ -12,8 +12,8 @@ use Rattle.as2_http.specs.declared.reply.Form.{Form}
 use Rattle.as2_agreement.specs.Agreements.{AgreedValues}
 use Rattle.as2_exchange.specs.State.{State}
 use Rattle.as2_desk.specs.Responses.{Responds, answer_of}
-use Rattle.as2_desk.specs.declared.first_path.Served.{Served}
-use Rattle.as2_desk.specs.declared.first_path.Served.TheVariants.{Closed, Truncated, BadFraming, ReadFault, WriteFault, Memory, TooLong}
+use Rattle.as2_desk.specs.declared.first_request.Served.{Served}
+use Rattle.as2_desk.specs.declared.first_request.Served.TheVariants.{Closed, Truncated, BadFraming, ReadFault, WriteFault, Memory, TooLong}
 use Rattle.as2_desk.specs.declared.response.Response.{Response}
 
 -- the form of the reply to a request
@@ -44,7 +44,7 @@ pub record Replies (agreements : AgreedValues) (moment : ℕ) (s : State) (Safe 
 -- the input begins with no request, the text is the reply that says why, and no more was read than that took
 pub record Refusal (moment : ℕ) (input : List ℕ) (after : Option (List ℕ)) (text : List ℕ) : Type 0 where
   pub refused : Refused
-  pub refuses : Refuses input refused
+  pub refuses : IsRefused input refused
   pub reply : IsReply moment (refusal_form refused) (refusal refused.reason) text
   pub unread : LeavesUnread input after
 
@@ -54,15 +54,15 @@ Leaves agreements moment s Safe t input after = (t ≡ s) ⊎ Gets agreements mo
 
 -- the text that is written for the input in the state s, the end that goes with it, and the state t that is left; what a write
 -- that failed wrote is not said
-abbrev pub FirstPath : AgreedValues → ℕ → State → (State → Type 0) → State → List ℕ → Option (List ℕ) → Served → List ℕ → Type 0
-FirstPath agreements moment s Safe t input after Closed text =
+abbrev pub FirstRequest : AgreedValues → ℕ → State → (State → Type 0) → State → List ℕ → Option (List ℕ) → Served → List ℕ → Type 0
+FirstRequest agreements moment s Safe t input after Closed text =
     Replies agreements moment s Safe t input after text ⊎ (IsOpen input × (unblank input ≡ []) × (text ≡ []) × (t ≡ s))
-FirstPath agreements moment s Safe t input after Truncated text = IsOpen input × ¬ (unblank input ≡ []) × (text ≡ []) × (t ≡ s)
-FirstPath agreements moment s Safe t input after BadFraming text = Refusal moment input after text × (t ≡ s)
-FirstPath agreements moment s Safe t input after ReadFault text = (text ≡ []) × (t ≡ s)
-FirstPath agreements moment s Safe t input after TooLong text = (text ≡ []) × (t ≡ s)
-FirstPath agreements moment s Safe t input after Memory text = (text ≡ []) × Leaves agreements moment s Safe t input after
-FirstPath agreements moment s Safe t input after WriteFault text = Leaves agreements moment s Safe t input after
+FirstRequest agreements moment s Safe t input after Truncated text = IsOpen input × ¬ (unblank input ≡ []) × (text ≡ []) × (t ≡ s)
+FirstRequest agreements moment s Safe t input after BadFraming text = Refusal moment input after text × (t ≡ s)
+FirstRequest agreements moment s Safe t input after ReadFault text = (text ≡ []) × (t ≡ s)
+FirstRequest agreements moment s Safe t input after TooLong text = (text ≡ []) × (t ≡ s)
+FirstRequest agreements moment s Safe t input after Memory text = (text ≡ []) × Leaves agreements moment s Safe t input after
+FirstRequest agreements moment s Safe t input after WriteFault text = Leaves agreements moment s Safe t input after
 
 -- P, unless a write failed
 abbrev pub UnlessWriteFault : Served → Type 0 → Type 0
@@ -77,7 +77,7 @@ UnlessWriteFault TooLong P = P
 -- such a text was written, where no write failed
 abbrev pub Serves : AgreedValues → ℕ → State → (State → Type 0) → State → List ℕ → Option (List ℕ) → (List ℕ → Type 0) → Served → Type 0
 Serves agreements moment s Safe t input after Wrote end =
-    (text : List ℕ) × FirstPath agreements moment s Safe t input after end text × UnlessWriteFault end (Wrote text)
+    (text : List ℕ) × FirstRequest agreements moment s Safe t input after end text × UnlessWriteFault end (Wrote text)
 
 -- the answer was written as its reply, and the end is that one; where memory was wanting nothing was written
 abbrev pub Sent : ℕ → Form → Answer → Option (List ℕ) → Option (List ℕ) → Served → Served → Type 0

@@ -6,9 +6,9 @@ ghost use Rattle.sqlite.specs.State.{HasCleanDisk};
 ghost use Rattle.as2_exchange.specs.State.{State};
 ghost use Rattle.as2_store.specs.Stands.{Rests};
 ghost use Rattle.as2_http.specs.Replies.{refusal};
-ghost use Rattle.as2_desk.specs.FirstPath.{Sent, Serves, form_of, refusal_form};
+ghost use Rattle.as2_desk.specs.FirstRequest.{Sent, Serves, form_of, refusal_form};
 ghost use Rattle.as2_desk.specs.Responses.{IsSafe, Responds, answer_of};
-ghost use Rattle.as2_desk.specs.declared.first_path.Served.TheVariants.{BadFraming, Closed};
+ghost use Rattle.as2_desk.specs.declared.first_request.Served.TheVariants.{BadFraming, Closed};
 ghost use Rattle.as2_desk.specs.declared.response.Response.{Response as TheResponse};
 
 use crate::response::respond;

@@ -1,8 +1,8 @@
 use Rattle.std.proofs.Common.{subst}
 use Rattle.as2_http.specs.Answers.{Answer}
-use Rattle.as2_desk.specs.FirstPath.{Sent, refusal_form}
-use Rattle.as2_desk.specs.declared.first_path.Served.TheVariants.{BadFraming}
-use Rattle.as2_desk.proofs.first_path.refuse.Goals as goal
+use Rattle.as2_desk.specs.FirstRequest.{Sent, refusal_form}
+use Rattle.as2_desk.specs.declared.first_request.Served.TheVariants.{BadFraming}
+use Rattle.as2_desk.proofs.first_request.refuse.Goals as goal
 
 pub returns : goal.returns
 returns g c =

@@ -7,7 +7,7 @@ use Rattle.as2_rows.specs.Summaries.{out_summary, out_entry}
 use Rattle.as2_store.proofs.QueriedRows.{none_first, some_first}
 use Rattle.as2_store.proofs.OutboxQueries.{document_is}
 use Rattle.as2_store.proofs.Querying.{read_ok, read_then, read_bad, told_ok, unread}
-use Rattle.as2_store.proofs.documents.first_document.Goals as goal
+use Rattle.as2_store.proofs.documents.shown_document.Goals as goal
 
 pub returns-in_default-clause-found : goal.returns-in_default-clause-found
 returns-in_default-clause-found g c = unread _ _ _ c.requires.open (λ s p all.
@@ -30,4 +30,4 @@ returns-clause-found g c =
 pub returns-in_err-evidence-clause-found : goal.returns-in_err-evidence-clause-found
 returns-in_err-evidence-clause-found g c =
     read_then _ (λ _ _. ⊥) _ _ _ _ c.in_ok-content.content c.from_residual-in_err-evidence.result (λ s b r content none. absurd none) c.in_ok-content.ensures.content
-    (read_bad _ (λ _ _. ⊥) _ _ c.evidence_of.result c.from_residual-in_err-evidence.result c.from_residual-in_err-evidence.ensures.0 c.evidence_of.ensures.evidence)
+    (read_bad _ (λ _ _. ⊥) _ _ c.evidence_in.result c.from_residual-in_err-evidence.result c.from_residual-in_err-evidence.ensures.0 c.evidence_in.ensures.evidence)

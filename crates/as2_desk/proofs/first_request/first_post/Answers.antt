@@ -3,7 +3,7 @@ use Rattle.std.proofs.KnownBytes.{Appends-nil}
 use Rattle.sqlite.specs.Held.{state}
 use Rattle.as2_desk.specs.Responses.{IsSafe}
 use Rattle.as2_desk.proofs.SentReplies.{request_sent, refusal_sent}
-use Rattle.as2_desk.proofs.first_path.first_post.Goals as goal
+use Rattle.as2_desk.proofs.first_request.first_post.Goals as goal
 
 pub returns-in-Request-clause-serves : goal.returns-in-Request-clause-serves
 returns-in-Request-clause-serves g c = λ clean s rests input known.

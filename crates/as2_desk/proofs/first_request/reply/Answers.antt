@@ -1,9 +1,9 @@
 use Rattle.std.proofs.Common.{Bool, false, subst}
 use Rattle.as2_http.specs.Answers.{Answer}
-use Rattle.as2_desk.specs.FirstPath.{Sent}
+use Rattle.as2_desk.specs.FirstRequest.{Sent}
 use Rattle.as2_desk.specs.Responses.{answer_of}
-use Rattle.as2_desk.specs.declared.first_path.Served.TheVariants.{Closed}
-use Rattle.as2_desk.proofs.first_path.reply.Goals as goal
+use Rattle.as2_desk.specs.declared.first_request.Served.TheVariants.{Closed}
+use Rattle.as2_desk.proofs.first_request.reply.Goals as goal
 
 pub returns-clause-sent : goal.returns-clause-sent
 returns-clause-sent g c = λ clean s rests.
