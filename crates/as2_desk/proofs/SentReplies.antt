@@ -2,7 +2,8 @@
 use Rattle.std.proofs.Common.{ℕ, List, [], Option, refl, sym, subst, inl, inr}
 use Rattle.std.specs.Io.KnownBytes.{Appends}
 use Rattle.as2_http.specs.Arrivals.{LeavesUnread}
-use Rattle.as2_http.specs.Replies.{refusal}
+use Rattle.as2_exchange.specs.Lines.{refusal}
+use Rattle.as2_http.specs.Replies.{refusal_line}
 use Rattle.as2_http.specs.Requests.{IsRefused}
 use Rattle.as2_http.specs.declared.framing.Refused.{Refused}
 use Rattle.as2_desk.specs.FirstRequest.{Gets, Sent, Serves, form_of, refusal_form}
@@ -25,7 +26,7 @@ request_sent agreements moment s Safe t input after before now result g (inr (in
 
 -- the reason was sent why no request begins there
 pub refusal_sent : (agreements : AgreedValues) (moment : ℕ) (s : State) (Safe : State → Type 0) (input : List ℕ) (after before now : Option (List ℕ)) (refused : Refused) (result : Served)
-    → IsRefused input refused → LeavesUnread input after → Sent moment (refusal_form refused) (refusal refused.reason) before now BadFraming result
+    → IsRefused input refused → LeavesUnread input after → Sent moment (refusal_form refused) (refusal (refusal_line refused.reason)) before now BadFraming result
     → Serves agreements moment s Safe s input after (Appends before now) result
 refusal_sent agreements moment s Safe input after before now refused result refuses unread (inl (is, (text, reply, app))) =
     subst (Serves agreements moment s Safe s input after (Appends before now)) (sym is)

@@ -1,11 +1,12 @@
 -- What is written for the first request of an input, how the stream ends, what it leaves, and what stays unread.
 use Rattle.std.specs.Prelude.{◌≡◌, ℕ, ◌⊎◌, List, [], Option, true, false, ⊤}
 use Rattle.std.specs.Io.KnownBytes.{Appends}
-use Rattle.as2_http.specs.Answers.{Answer}
+use Rattle.as2_exchange.specs.declared.answer.HttpAnswer.{HttpAnswer}
 use Rattle.as2_http.specs.HeadText.{unblank}
 use Rattle.as2_http.specs.Requests.{Begins, IsRefused, IsOpen, is_head}
 use Rattle.as2_http.specs.Arrivals.{LeavesUnread}
-use Rattle.as2_http.specs.Replies.{IsReply, refusal}
+use Rattle.as2_exchange.specs.Lines.{refusal}
+use Rattle.as2_http.specs.Replies.{IsReply, refusal_line}
 use Rattle.as2_http.specs.declared.arrival.Request.{Request}
 use Rattle.as2_http.specs.declared.framing.Refused.{Refused}
 use Rattle.as2_http.specs.declared.reply.Form.{Form}
@@ -45,7 +46,7 @@ pub record Replies (agreements : AgreedValues) (moment : ℕ) (s : State) (Safe 
 pub record Refusal (moment : ℕ) (input : List ℕ) (after : Option (List ℕ)) (text : List ℕ) : Type 0 where
   pub refused : Refused
   pub refuses : IsRefused input refused
-  pub reply : IsReply moment (refusal_form refused) (refusal refused.reason) text
+  pub reply : IsReply moment (refusal_form refused) (refusal (refusal_line refused.reason)) text
   pub unread : LeavesUnread input after
 
 -- nothing is changed but by a whole request
@@ -80,7 +81,7 @@ Serves agreements moment s Safe t input after Wrote end =
     (text : List ℕ) × FirstRequest agreements moment s Safe t input after end text × UnlessWriteFault end (Wrote text)
 
 -- the answer was written as its reply, and the end is that one; where memory was wanting nothing was written
-abbrev pub Sent : ℕ → Form → Answer → Option (List ℕ) → Option (List ℕ) → Served → Served → Type 0
+abbrev pub Sent : ℕ → Form → HttpAnswer → Option (List ℕ) → Option (List ℕ) → Served → Served → Type 0
 Sent moment form answer before after end result =
     ((result ≡ end) × ((text : List ℕ) × IsReply moment form answer text × Appends before after text))
     ⊎ (((result ≡ Memory) × Appends before after []) ⊎ (result ≡ WriteFault))

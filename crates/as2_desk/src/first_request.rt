@@ -5,7 +5,8 @@ ghost use Rattle.sqlite.specs.Held.{state};
 ghost use Rattle.sqlite.specs.State.{HasCleanDisk};
 ghost use Rattle.as2_exchange.specs.State.{State};
 ghost use Rattle.as2_store.specs.Stands.{Rests};
-ghost use Rattle.as2_http.specs.Replies.{refusal};
+ghost use Rattle.as2_exchange.specs.Lines.{refusal};
+ghost use Rattle.as2_http.specs.Replies.{refusal_line};
 ghost use Rattle.as2_desk.specs.FirstRequest.{Sent, Serves, form_of, refusal_form};
 ghost use Rattle.as2_desk.specs.Responses.{IsSafe, Responds, answer_of};
 ghost use Rattle.as2_desk.specs.declared.first_request.Served.TheVariants.{BadFraming, Closed};
@@ -13,7 +14,8 @@ ghost use Rattle.as2_desk.specs.declared.response.Response.{Response as TheRespo
 
 use crate::response::respond;
 use as2_agreement::Agreements;
-use as2_http::{Arrival, Form, HttpAnswer, Refused, Request, read_first, refusal, write_reply};
+use as2_exchange::HttpAnswer;
+use as2_http::{Arrival, Form, Refused, Request, read_first, refusal, write_reply};
 use as2_station::Station;
 use as2_text::Moment;
 use sqlite::Alter;
@@ -44,7 +46,7 @@ fn send<W: Write>(
     alloc: Global,
     moment: Moment,
     form: Form,
-    answer: &HttpAnswer<'_>,
+    answer: &HttpAnswer,
     writer: &mut W,
     end: Served,
 ) -> Served
@@ -91,7 +93,7 @@ fn reply<S: Alter, W: Write>(
 
 /// Writes the reply that says why no request begins there.
 fn refuse<W: Write>(alloc: Global, moment: Moment, refused: Refused, writer: &mut W) -> Served
-    ensures { Sent moment (refusal_form refused) (refusal refused.reason) (W.contents writer.old) (W.contents writer.new) BadFraming result }
+    ensures { Sent moment (refusal_form refused) (refusal (refusal_line refused.reason)) (W.contents writer.old) (W.contents writer.new) BadFraming result }
 {
     let form = Form {
         closes: true,

@@ -1,6 +1,6 @@
 -- A text begins with one thing at most: a request and what follows it, or a refusal, or it is open.
 use Rattle.std.specs.Prelude.{◌≡◌, ℕ, List}
-use Rattle.as2_http.specs.Answers.{Answer}
+use Rattle.as2_exchange.specs.declared.answer.HttpAnswer.{HttpAnswer}
 use Rattle.as2_http.specs.Replies.{IsReply}
 use Rattle.as2_http.specs.Requests.{Begins, IsRefused, IsOpen}
 use Rattle.as2_http.specs.declared.framing.Refused.{Refused}
@@ -29,4 +29,4 @@ NeverOpensRefused = (text : List ℕ) (refused : Refused) → IsRefused text ref
 
 -- an answer has one reply at a moment
 abbrev pub RepliesInOneWay : Type 0
-RepliesInOneWay = (moment : ℕ) (form : Form) (answer : Answer) (text same : List ℕ) → IsReply moment form answer text → IsReply moment form answer same → text ≡ same
+RepliesInOneWay = (moment : ℕ) (form : Form) (answer : HttpAnswer) (text same : List ℕ) → IsReply moment form answer text → IsReply moment form answer same → text ≡ same

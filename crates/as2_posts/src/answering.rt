@@ -3,7 +3,6 @@ ghost use Rattle.std.specs.Prelude.{◌≡◌, IfOk};
 ghost use Rattle.as2_exchange.specs.declared.answer.Answer.TheVariants.{Http};
 ghost use Rattle.as2_exchange.specs.declared.answer.HttpBody.TheVariants.{Nothing};
 ghost use Rattle.as2_exchange.specs.Recording.{answer_to, report};
-ghost use Rattle.as2_exchange.specs.Lines.{refusal};
 ghost use Rattle.as2_posts.specs.Answers.{receipt_answer, untold};
 
 use as2_agreement::Agreements;
@@ -11,16 +10,6 @@ use as2_exchange::{Bytes, How, HttpAnswer, HttpBody, Line, Posted};
 use as2_mdn::{Outcome, ReportOut, write_report};
 use as2_text::Memory;
 use std::alloc::{AllocError, Global};
-
-/// The answer that refuses a post by a line.
-pub fn refused(line: Line) -> HttpAnswer
-    ensures { result ≡ refusal line }
-{
-    HttpAnswer {
-        status: line.status(),
-        body: HttpBody::Words(line),
-    }
-}
 
 /// An answer without a body.
 fn nothing(status: u16) -> HttpAnswer
@@ -65,7 +54,7 @@ fn untold(outcome: Outcome) -> HttpAnswer
 {
     match outcome {
         Outcome::Processed => nothing(200),
-        _ => refused(Line::NotProcessed(outcome)),
+        _ => Line::NotProcessed(outcome).answer(),
     }
 }
 

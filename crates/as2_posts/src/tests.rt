@@ -163,8 +163,8 @@ fn refuses(alloc: Global, fields: &[(&str, &str)], line: Line) -> bool {
 fn lines_refuse_in_order(rt: HostRuntime) {
     assert!(rt; refuses(rt.alloc(), &[TO, TO], Line::BadId));
     assert!(rt; refuses(rt.alloc(), &[ID, TO, TO], Line::BadAsk));
-    assert!(rt; refused(Line::UnknownNames).status == 403);
-    assert!(rt; refused(Line::IdUsedBefore).status == 409);
+    assert!(rt; Line::UnknownNames.status() == 403);
+    assert!(rt; Line::IdUsedBefore.status() == 409);
 }
 
 // A document, and whether it repeats the usual one.

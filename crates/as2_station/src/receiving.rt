@@ -14,7 +14,7 @@ ghost use Rattle.as2_station.specs.Steps.{TakesPost, always};
 use as2_exchange::{Bytes, Evidence, HttpAnswer, HttpBody, Line, OutEntry, StoreFault};
 use as2_mdn::{Receipt, read_report, verdict_pieces};
 use as2_mic::Pieces;
-use as2_posts::{Opened, refused};
+use as2_posts::Opened;
 use as2_store::Store;
 use as2_text::{Moment, without_brackets};
 use sqlite::Alter;
@@ -59,7 +59,7 @@ fn settle_named<S: Alter>(
         (λ s. document_named s (named_by receipt.now) ≡ Some document.now) store.old store.new result }
 {
     if !is_for(opened, receipt, document) {
-        return Ok(refused(Line::NoSuchMessage));
+        return Ok(Line::NoSuchMessage.answer());
     }
     if document.evidence.is_some() {
         return Ok(taken());
@@ -89,7 +89,7 @@ fn take_receipt<S: Alter>(
     let id_value = without_brackets(receipt.original_id);
     match store.find_out_by_id(alloc, id_value)? {
         Some(document) => settle_named(store, alloc, opened, receipt, body, moment, &document),
-        None => Ok(refused(Line::NoSuchMessage)),
+        None => Ok(Line::NoSuchMessage.answer()),
     }
 }
 
@@ -107,6 +107,6 @@ pub fn receive<S: Alter>(
     let report = body.joined()?;
     match read_report(&opened.media, &report) {
         Ok(receipt) => take_receipt(store, alloc, opened, &receipt, body, moment),
-        Err(_) => Ok(refused(Line::UnreadableReceipt)),
+        Err(_) => Ok(Line::UnreadableReceipt.answer()),
     }
 }

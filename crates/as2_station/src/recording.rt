@@ -8,7 +8,7 @@ ghost use Rattle.as2_station.specs.Steps.{TakesPost, always};
 
 use as2_agreement::Agreements;
 use as2_exchange::{HttpAnswer, InEntry, Line, Posted, StoreFault};
-use as2_posts::{answer_to, first_entry, is_queued_again, refused, repeats};
+use as2_posts::{answer_to, first_entry, is_queued_again, repeats};
 use as2_store::Store;
 use as2_text::Moment;
 use sqlite::Alter;
@@ -29,7 +29,7 @@ fn record_again<S: Alter>(
     ensures taken { TakesPost S.Store agreements.now moment (IsDocument posted.now) (λ s. received_as s posted.now ≡ Some entry.now) store.old store.new result }
 {
     if !repeats(&entry.posted, posted) {
-        return Ok(refused(Line::IdUsedBefore));
+        return Ok(Line::IdUsedBefore.answer());
     }
     let answer = answer_to(alloc, agreements, entry.number, &entry.posted)?;
     if !is_queued_again(entry) {

@@ -14,7 +14,7 @@ pub returns-then-not-is_for : goal.returns-then-not-is_for
 unfolding settle
 returns-then-not-is_for g c = record {
   taken = λ A.
-      rw c.refused.ensures (at_once _ _ _ _ _ _ (λ clean asks. c.requires.open clean) (λ clean s rests named. rw (named, sym (c.if-not-is_for.ensures c.args.body)) refl));
+      rw c.answer.ensures (at_once _ _ _ _ _ _ (λ clean asks. c.requires.open clean) (λ clean s rests named. rw (named, sym (c.if-not-is_for.ensures c.args.body)) refl));
 }
 
 pub returns-then-is_some : goal.returns-then-is_some
