@@ -16,7 +16,7 @@ use Rattle.as2_exchange.specs.Events.{Event, Post, Submit, Begin, Outcome, Begin
 use Rattle.as2_exchange.specs.Posts.{Reading, Refuses, IsReceipt, IsDocument, needs, reading, repeats, ReceivedReceipt}
 use Rattle.as2_exchange.specs.Documents.{begun as begun_document, closed as closed_document}
 use Rattle.as2_exchange.specs.OwedReceipts.{is_pending, mdn_begun, mdn_closed}
-use Rattle.as2_exchange.specs.Recording.{record_post, queued_again, first_entry}
+use Rattle.as2_exchange.specs.Recording.{record_post, requeued_by_repeat, first_entry}
 use Rattle.as2_exchange.specs.Step.{post, step, acted_in}
 use Rattle.as2_exchange.specs.Run.{Trace, Run, Answered, Failed, accepted}
 use Rattle.as2_exchange.specs.Invariants.{IsCounter, IsWellFormed}
@@ -78,10 +78,10 @@ stands_still A n past x q e none h = stands_on A n past x q e e h (λ p facts ag
 
 -- ---- a repeat
 
-unqueued : (m : ℕ) (e : InEntry) → is_async e.posted.how ≡ false → queued_again m e ≡ e
+unqueued : (m : ℕ) (e : InEntry) → is_async e.posted.how ≡ false → requeued_by_repeat m e ≡ e
 unqueued m e h = rw h refl
 
-reposted : (how : How) (p : Partner) (facts : List ReceiptFact) (m : ℕ) (e : InEntry) → e.posted.how ≡ how → StandsAs how p facts e → StandsAs how p (facts ++ APost m ∷ []) (queued_again m e)
+reposted : (how : How) (p : Partner) (facts : List ReceiptFact) (m : ℕ) (e : InEntry) → e.posted.how ≡ how → StandsAs how p facts e → StandsAs how p (facts ++ APost m ∷ []) (requeued_by_repeat m e)
 reposted NoReceipt p facts m e is h = subst (StandsAs NoReceipt p (facts ++ APost m ∷ [])) (sym (unqueued m e (ap is_async is))) h
 reposted Sync p facts m e is h = subst (StandsAs Sync p (facts ++ APost m ∷ [])) (sym (unqueued m e (ap is_async is))) h
 reposted (Async url) p facts m e is h = (
@@ -409,9 +409,9 @@ others_not : (A : Agreements) (s : State) (q : Posted) (d e : InEntry) (n : ℕ)
 others_not A s q d e n formed found is other false h = h
 others_not A s q d e n formed found is other true h = absurd (other (repeated_is A s q d e n formed found is h))
 
-repeated_entry : (A : Agreements) (past : List Done) (s : State) (m : ℕ) (q : Posted) (x : Done) (d : InEntry) → KeepsReceipts A past s → PostsFor A x m q → received_as s q ≡ Some d → repeats d.posted q ≡ true → (n : ℕ) (e : InEntry) → received (change_received s d.number (queued_again m)) n ≡ Some e → (b : Bool) → (d.number == n) ≡ b → Stands A n (past ++ x ∷ []) e.posted e
+repeated_entry : (A : Agreements) (past : List Done) (s : State) (m : ℕ) (q : Posted) (x : Done) (d : InEntry) → KeepsReceipts A past s → PostsFor A x m q → received_as s q ≡ Some d → repeats d.posted q ≡ true → (n : ℕ) (e : InEntry) → received (change_received s d.number (requeued_by_repeat m)) n ≡ Some e → (b : Bool) → (d.number == n) ≡ b → Stands A n (past ++ x ∷ []) e.posted e
 repeated_entry A past s m q x d keeps post found same n e is false h =
-    let at : received s n ≡ Some e = sym (received-changed_other s d.number (queued_again m) n (queued_lasting m) (apart_turned d.number n d.number refl h)) ∙ is in
+    let at : received s n ≡ Some e = sym (received-changed_other s d.number (requeued_by_repeat m) n (queued_lasting m) (apart_turned d.number n d.number refl h)) ∙ is in
     let num : e.number ≡ n = received_number s n e at in
     stands_still A n past x e.posted e
     (not_posted A x m q n e.posted post (others_not A s q d e n keeps.formed found at (λ it. false≢true (sym h ∙ ap (λ (j : ℕ). d.number == j) (sym num ∙ ap (λ (z : InEntry). z.number) it) ∙ same_number d.number)) (repeats e.posted q) refl))
@@ -419,18 +419,18 @@ repeated_entry A past s m q x d keeps post found same n e is false h =
 repeated_entry A past s m q x d keeps post found same n e is true h =
     let num : d.number ≡ n = number_is d.number n h in
     let at : received s d.number ≡ Some d = found_by_key A s q d keeps.formed found in
-    let it : queued_again m d ≡ e = same_Some _ _ (sym (received-changed_same s d.number (queued_again m) d (queued_lasting m) at) ∙ ap (received (change_received s d.number (queued_again m))) num ∙ is) in
-    let posted : (queued_again m d).posted ≡ d.posted = ap (λ (z : ℕ × Posted). z.1) (queued_lasting m d) in
-    let stood = stands_on A d.number past x d.posted d (queued_again m d) (keeps.each d.number d at) (λ p facts agreed stands. subst (λ (o : Option ReceiptFact). StandsAs d.posted.how p (with_more facts o) (queued_again m d)) (sym (is_posted A x m q d.number d.posted post same)) (reposted d.posted.how p facts m d refl stands)) in
-    let of_it = subst (λ (p : Posted). Stands A d.number (past ++ x ∷ []) p (queued_again m d)) (sym posted) stood in
+    let it : requeued_by_repeat m d ≡ e = same_Some _ _ (sym (received-changed_same s d.number (requeued_by_repeat m) d (queued_lasting m) at) ∙ ap (received (change_received s d.number (requeued_by_repeat m))) num ∙ is) in
+    let posted : (requeued_by_repeat m d).posted ≡ d.posted = ap (λ (z : ℕ × Posted). z.1) (queued_lasting m d) in
+    let stood = stands_on A d.number past x d.posted d (requeued_by_repeat m d) (keeps.each d.number d at) (λ p facts agreed stands. subst (λ (o : Option ReceiptFact). StandsAs d.posted.how p (with_more facts o) (requeued_by_repeat m d)) (sym (is_posted A x m q d.number d.posted post same)) (reposted d.posted.how p facts m d refl stands)) in
+    let of_it = subst (λ (p : Posted). Stands A d.number (past ++ x ∷ []) p (requeued_by_repeat m d)) (sym posted) stood in
     let of_e = subst (λ (z : InEntry). Stands A d.number (past ++ x ∷ []) z.posted z) it of_it in
     subst (λ (j : ℕ). Stands A j (past ++ x ∷ []) e.posted e) num of_e
 
-repeated_receipts : (A : Agreements) (past : List Done) (s : State) (m : ℕ) (q : Posted) (x : Done) (d : InEntry) → KeepsReceipts A past s → PostsFor A x m q → received_as s q ≡ Some d → repeats d.posted q ≡ true → IsWellFormed A (change_received s d.number (queued_again m)) → Grows s (change_received s d.number (queued_again m)) → KeepsReceipts A (past ++ x ∷ []) (change_received s d.number (queued_again m))
+repeated_receipts : (A : Agreements) (past : List Done) (s : State) (m : ℕ) (q : Posted) (x : Done) (d : InEntry) → KeepsReceipts A past s → PostsFor A x m q → received_as s q ≡ Some d → repeats d.posted q ≡ true → IsWellFormed A (change_received s d.number (requeued_by_repeat m)) → Grows s (change_received s d.number (requeued_by_repeat m)) → KeepsReceipts A (past ++ x ∷ []) (change_received s d.number (requeued_by_repeat m))
 repeated_receipts A past s m q x d keeps post found same formed grows = record {
   formed = formed;
   each = λ n e is. repeated_entry A past s m q x d keeps post found same n e is (d.number == n) refl;
-  unposted = unposted_on A past s (change_received s d.number (queued_again m)) x keeps grows (never_new A s (change_received s d.number (queued_again m)) x m q d post grows found);
+  unposted = unposted_on A past s (change_received s d.number (requeued_by_repeat m)) x keeps grows (never_new A s (change_received s d.number (requeued_by_repeat m)) x m q d post grows found);
 }
 
 clash_not : (A : Agreements) (s : State) (q : Posted) (d e : InEntry) (n : ℕ) → IsWellFormed A s → received_as s q ≡ Some d → repeats d.posted q ≡ false → received s n ≡ Some e → (b : Bool) → repeats e.posted q ≡ b → repeats e.posted q ≡ false
@@ -449,7 +449,7 @@ left_receipts A past s m q x y keeps post known (fresh none small is) formed gro
     let at : y.1 ≡ with_first s m q = ap (λ (z : Answer × State). z.1) is in
     subst (KeepsReceipts A (past ++ x ∷ [])) (sym at) (fresh_receipts A past s m q x keeps post known none (subst (IsWellFormed A) at formed) (subst (Grows s) at grows))
 left_receipts A past s m q x y keeps post known (repeated d there same is) formed grows =
-    let at : y.1 ≡ change_received s d.number (queued_again m) = ap (λ (z : Answer × State). z.1) is in
+    let at : y.1 ≡ change_received s d.number (requeued_by_repeat m) = ap (λ (z : Answer × State). z.1) is in
     subst (KeepsReceipts A (past ++ x ∷ [])) (sym at) (repeated_receipts A past s m q x d keeps post there same (subst (IsWellFormed A) at formed) (subst (Grows s) at grows))
 left_receipts A past s m q x y keeps post known (clash d there other is) formed grows =
     subst (KeepsReceipts A (past ++ x ∷ [])) (sym is) (clash_receipts A past s m q x d keeps post there other (subst (Grows s) is grows))

@@ -14,7 +14,7 @@ use Rattle.as2_exchange.specs.Receipts.{receipt_in_answer, is_delivery, bears}
 use Rattle.as2_exchange.specs.Documents.{begun, waits, closed, closed_by, if_for, delivered, failed, submit, new_document, settle, settle_for, settled, tick}
 use Rattle.as2_exchange.specs.Lines.{http}
 use Rattle.as2_exchange.specs.OwedReceipts.{mdn_begun, mdn_closed, is_pending, is_shut}
-use Rattle.as2_exchange.specs.Recording.{record_post, recorded, queued_again, first_entry, answer_to}
+use Rattle.as2_exchange.specs.Recording.{record_post, recorded, requeued_by_repeat, first_entry, answer_to}
 use Rattle.as2_exchange.specs.Step.{is_refusal, acted, acted_in, post, step}
 use Rattle.as2_exchange.specs.Tries.{agreed, is_early, is_idle, is_last}
 use Rattle.as2_exchange.specs.Invariants.{HasDistinctNumbers}
@@ -157,7 +157,7 @@ answered_by A n p NoneAsked is = rw is (with_line (is_processed p.outcome) p.out
 recorded_acts : (A : Agreements) (s : State) (m : ℕ) (p : Posted) (o : Option InEntry) (y : Answer × State) → recorded A s m p o ≡ Some y → is_refusal y.0 ≡ false
 recorded_acts A s m p (Some e) y h = by (repeats e.posted p) h
   where
-    by : (b : Bool) → (if b then Some (answer_to A e.number e.posted, change_received s e.number (queued_again m)) else Some (http 409 (Words IdUsedBefore), s)) ≡ Some y → is_refusal y.0 ≡ false
+    by : (b : Bool) → (if b then Some (answer_to A e.number e.posted, change_received s e.number (requeued_by_repeat m)) else Some (http 409 (Words IdUsedBefore), s)) ≡ Some y → is_refusal y.0 ≡ false
     by true g = ap (λ (z : Answer × State). is_refusal z.0) (sym (same_Some _ y g)) ∙ answered_by A e.number e.posted e.posted.how refl
     by false g = ap (λ (z : Answer × State). is_refusal z.0) (sym (same_Some _ y g))
 recorded_acts A s m p None y h = by (nat_le end_of_numbers s.next_in) h

@@ -10,7 +10,7 @@ use Rattle.as2_exchange.specs.Events.{Event, Post, Submit, Begin, Outcome, Begin
 use Rattle.as2_exchange.specs.Posts.{ReceivedReceipt, Reading, Refuses, IsReceipt, IsDocument, needs, report_posted, document_posted, reading}
 use Rattle.as2_exchange.specs.Documents.{settle, settle_for, settled, submit, new_document, begun, closed, tick}
 use Rattle.as2_exchange.specs.OwedReceipts.{mdn_begun, mdn_closed}
-use Rattle.as2_exchange.specs.Recording.{record_post, first_entry, queued_again}
+use Rattle.as2_exchange.specs.Recording.{record_post, first_entry, requeued_by_repeat}
 use Rattle.as2_exchange.specs.Step.{post, step, acted, acted_in}
 use Rattle.as2_exchange.specs.Run.{Trace, Run, Answered, Failed}
 use Rattle.as2_exchange.specs.Invariants.{IsCounter, IsRecorded, IsWellFormed}
@@ -135,7 +135,7 @@ first_formed A s m p small good new h = record { received = inbox_push s.next_in
 
 left_formed : (A : Agreements) (s : State) (m : ℕ) (p : Posted) (o : Option InEntry) (y : Answer × State) → received_as s p ≡ o → IsRecorded p → IsWellFormed A s → Left A s m p o y → IsWellFormed A y.1
 left_formed A s m p o y at good h (fresh none small is) = subst (λ (z : Answer × State). IsWellFormed A z.1) (sym is) (first_formed A s m p small good (at ∙ none) h)
-left_formed A s m p o y at good h (repeated e there same is) = subst (λ (z : Answer × State). IsWellFormed A z.1) (sym is) (received_formed A s e.number (queued_again m) (queued_lasting m) h)
+left_formed A s m p o y at good h (repeated e there same is) = subst (λ (z : Answer × State). IsWellFormed A z.1) (sym is) (received_formed A s e.number (requeued_by_repeat m) (queued_lasting m) h)
 left_formed A s m p o y at good h (clash e there other is) = subst (IsWellFormed A) (sym is) h
 
 record_formed : (A : Agreements) (s : State) (m : ℕ) (p : Posted) (y : Answer × State) → IsRecorded p → IsWellFormed A s → record_post A s m p ≡ Some y → IsWellFormed A y.1

@@ -11,7 +11,7 @@ use Rattle.as2_exchange.specs.State.{State, InEntry, OutEntry, Evidence, empty}
 use Rattle.as2_exchange.specs.Events.{Begin, Outcome, Answer, NoAnswer, Reply, Job, Settled, Delivered, TryFailed, AlreadySettled, Submitted, Ticked, Refused, UnknownOrganization, UnknownPartner, NoSuchNumber, NotDue, AllSettled, NoOpenTry, TriesUsedUp}
 use Rattle.as2_exchange.specs.Documents.{begun, closed, submit, tick}
 use Rattle.as2_exchange.specs.OwedReceipts.{mdn_begun, mdn_closed}
-use Rattle.as2_exchange.specs.Recording.{queued_again, first_entry, report}
+use Rattle.as2_exchange.specs.Recording.{requeued_by_repeat, first_entry, report}
 use Rattle.as2_exchange.specs.Step.{step}
 use Rattle.as2_exchange.proofs.Fixture.{buyer, fixture, abc, receipt_head, receipt_body, q, q_for_2, q_type_text, q_names, q_typed, q_read, q_says, document_of, m1, sha1_text}
 use Rattle.as2_exchange.proofs.Rows.{play, submit_to, job_1, no_head, return_address, due_1}
@@ -175,16 +175,16 @@ first_kept : (first_entry 1 1000 (document_of (codes "Depot") m1 abc later sha1_
 first_kept = (refl, refl, refl)
 
 -- a repeat queues a receipt again that was sent, or is on or past its last try
-queued_by_repeat : (queued_again 2000 (entry_asked later Sent 1 Idle None) ≡ entry_asked later Pending 0 Idle (Some 2000))
-    × (queued_again 2000 (entry_asked later Pending 2 Last None) ≡ entry_asked later Pending 0 Idle (Some 2000))
-    × (queued_again 2000 (entry_asked later Pending 2 Used None) ≡ entry_asked later Pending 0 Idle (Some 2000))
+queued_by_repeat : (requeued_by_repeat 2000 (entry_asked later Sent 1 Idle None) ≡ entry_asked later Pending 0 Idle (Some 2000))
+    × (requeued_by_repeat 2000 (entry_asked later Pending 2 Last None) ≡ entry_asked later Pending 0 Idle (Some 2000))
+    × (requeued_by_repeat 2000 (entry_asked later Pending 2 Used None) ≡ entry_asked later Pending 0 Idle (Some 2000))
 queued_by_repeat = (refl, refl, refl)
 
 -- and leaves one that is still tried, or wasn't asked for later
-left_by_repeat : (queued_again 2000 (entry_asked later Pending 1 Idle (Some 1030)) ≡ entry_asked later Pending 1 Idle (Some 1030))
-    × (queued_again 2000 (entry_asked later Pending 1 Running (Some 1030)) ≡ entry_asked later Pending 1 Running (Some 1030))
-    × (queued_again 2000 (entry_asked Sync Sent 0 Idle None) ≡ entry_asked Sync Sent 0 Idle None)
-    × (queued_again 2000 (entry_asked NoReceipt Unasked 0 Idle None) ≡ entry_asked NoReceipt Unasked 0 Idle None)
+left_by_repeat : (requeued_by_repeat 2000 (entry_asked later Pending 1 Idle (Some 1030)) ≡ entry_asked later Pending 1 Idle (Some 1030))
+    × (requeued_by_repeat 2000 (entry_asked later Pending 1 Running (Some 1030)) ≡ entry_asked later Pending 1 Running (Some 1030))
+    × (requeued_by_repeat 2000 (entry_asked Sync Sent 0 Idle None) ≡ entry_asked Sync Sent 0 Idle None)
+    × (requeued_by_repeat 2000 (entry_asked NoReceipt Unasked 0 Idle None) ≡ entry_asked NoReceipt Unasked 0 Idle None)
 left_by_repeat = (refl, refl, refl, refl)
 
 -- what a BeginMdn at 1000 is answered

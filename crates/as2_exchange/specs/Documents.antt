@@ -4,16 +4,20 @@ use Rattle.std.specs.Prelude.{ℕ, ◌+◌, Bool, true, false, ◌&&◌, ◌||�
 use Rattle.as2_exchange.specs.Agreement.{Text, Agreements, Partner, Asked, NoReceipt, Sync, Async, is_organization, partner_of}
 use Rattle.as2_exchange.specs.Detail.{Detail, New, Sending, Awaiting, Retry, NoReceiptAsked, TriesUsed, Overdue, Attempt, Idle, Running, Last}
 use Rattle.as2_exchange.specs.Readings.{named_by, verdict, out_id, document_job}
-use Rattle.as2_exchange.specs.State.{OutEntry, State, content_limit, end_of_numbers, document_named, change_document, is_begun, is_settled}
+use Rattle.as2_exchange.specs.State.{Evidence, OutEntry, State, content_limit, end_of_numbers, document_named, change_document, is_begun, is_settled}
 use Rattle.as2_exchange.specs.Events.{TryAnswer, UnknownOrganization, UnknownPartner, NotDue, AllSettled, NoOpenTry, TriesUsedUp, TooLarge, NoSuchMessage, Nothing, Answer, Http, Submitted, Job, Settled, Delivered, TryFailed, AlreadySettled, Ticked, Refused}
 use Rattle.as2_exchange.specs.Lines.{http, refusal}
 use Rattle.as2_exchange.specs.Posts.{ReceivedReceipt}
 use Rattle.as2_exchange.specs.Receipts.{bears, receipt_in_answer, is_delivery, evidence_of}
 use Rattle.as2_exchange.specs.Tries.{agreed, is_early, is_due, is_last, is_idle}
 
--- the document once this receipt has settled it, which closes an open try
+-- the document once a receipt has settled it by this detail, which closes an open try
+abbrev pub settled_as : Detail → Evidence → OutEntry → OutEntry
+settled_as detail evidence d = record d { attempt = Idle; due = None; detail = detail; evidence = Some evidence }
+
+-- the document once this receipt has settled it
 abbrev pub settled : ℕ → ReceivedReceipt → OutEntry → OutEntry
-settled m r d = record d { attempt = Idle; due = None; detail = verdict r.receipt d.content; evidence = Some (evidence_of m r) }
+settled m r d = settled_as (verdict r.receipt d.content) (evidence_of m r) d
 
 -- it is waiting for what no try can bring
 abbrev pub waits : Detail → Bool

@@ -28,9 +28,13 @@ is_done_with mdn Last = true
 is_done_with mdn Used = true
 is_done_with mdn attempt = false
 
--- such a receipt, where it is asynchronous, is queued again
-abbrev pub queued_again : ℕ → InEntry → InEntry
-queued_again m e = if is_async e.posted.how && is_done_with e.mdn e.attempt then record e { mdn = Pending; tries = 0; attempt = Idle; due = Some m } else e
+-- the receipt is to be sent from this moment on, with all tries left
+abbrev pub requeued : ℕ → InEntry → InEntry
+requeued m e = record e { mdn = Pending; tries = 0; attempt = Idle; due = Some m }
+
+-- where it is asynchronous, and done with, a repeat of the document requeues it
+abbrev pub requeued_by_repeat : ℕ → InEntry → InEntry
+requeued_by_repeat m e = if is_async e.posted.how && is_done_with e.mdn e.attempt then requeued m e else e
 
 -- the entry of a post that is new
 abbrev pub first_entry : ℕ → ℕ → Posted → InEntry
@@ -44,7 +48,7 @@ first_entry n m p = record { number = n; posted = p; moment = m; mdn = mdn_of p.
 -- a posted document is a repeat, a clash or new; no number is left: nothing
 abbrev pub recorded : Agreements → State → ℕ → Posted → Option InEntry → Option (Answer × State)
 recorded A s m p (Some e) =
-    if repeats e.posted p then Some (answer_to A e.number e.posted, change_received s e.number (queued_again m))
+    if repeats e.posted p then Some (answer_to A e.number e.posted, change_received s e.number (requeued_by_repeat m))
     else Some (Http (refusal IdUsedBefore), s)
 recorded A s m p None =
     if nat_le end_of_numbers s.next_in then None

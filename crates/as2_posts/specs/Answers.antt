@@ -19,5 +19,5 @@ abbrev pub untold : Outcome → HttpAnswer
 untold outcome = if is_processed outcome then record { status = 200; body = Nothing } else refusal (NotProcessed outcome)
 
 -- the receipt of the entry is queued again by a repeat of its document
-abbrev pub is_queued_again : InEntry → Bool
-is_queued_again e = is_async e.posted.how && is_done_with e.mdn e.attempt
+abbrev pub is_requeued : InEntry → Bool
+is_requeued e = is_async e.posted.how && is_done_with e.mdn e.attempt

@@ -12,7 +12,7 @@ mod repeating;
 
 pub use answering::answer_to;
 pub use documents::document;
-pub use entry::{first_entry, is_queued_again};
+pub use entry::{first_entry, is_requeued};
 pub use opening::{Opened, open};
 pub use repeating::repeats;
 

@@ -202,12 +202,12 @@ fn entry(posted: Option<Result<Posted, Line>>) -> Option<InEntry> {
 fn is_sent(rt: &impl Abort, entry: &InEntry) {
     assert!(rt; entry.number == 7 && entry.due.is_none());
     assert!(rt; (entry.mdn, entry.attempt) == (MdnState::Sent, Attempt::Idle));
-    assert!(rt; !is_queued_again(entry));
+    assert!(rt; !is_requeued(entry));
 }
 
 fn is_pending(rt: &impl Abort, entry: &InEntry) {
     assert!(rt; entry.mdn == MdnState::Pending && entry.due == Some(1000));
-    assert!(rt; !is_queued_again(entry));
+    assert!(rt; !is_requeued(entry));
 }
 
 #[test]

@@ -8,7 +8,7 @@ ghost use Rattle.as2_station.specs.Steps.{TakesPost, always};
 
 use as2_agreement::Agreements;
 use as2_exchange::{HttpAnswer, InEntry, Line, Posted, StoreFault};
-use as2_posts::{answer_to, first_entry, is_queued_again, repeats};
+use as2_posts::{answer_to, first_entry, is_requeued, repeats};
 use as2_store::Store;
 use as2_text::Moment;
 use sqlite::Alter;
@@ -32,7 +32,7 @@ fn record_again<S: Alter>(
         return Ok(Line::IdUsedBefore.answer());
     }
     let answer = answer_to(alloc, agreements, entry.number, &entry.posted)?;
-    if !is_queued_again(entry) {
+    if !is_requeued(entry) {
         return Ok(answer);
     }
     store.requeue_mdn(entry.number, moment)?;

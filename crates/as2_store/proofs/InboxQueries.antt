@@ -26,7 +26,7 @@ use Rattle.as2_rows.specs.Rows.{in_row, in_shown}
 use Rattle.as2_store.specs.Tables.{store_schema, inbox_tree}
 use Rattle.as2_store.proofs.Statements.{in_by_key_text, in_by_number_text, in_all_text}
 use Rattle.as2_store.specs.Stands.{Rests}
-use Rattle.as2_store.specs.Finding.{has_key}
+use Rattle.as2_exchange.specs.State.{has_key}
 use Rattle.as2_store.proofs.NumberedRows.{entries_rise}
 use Rattle.as2_store.proofs.QueriedRows.{reads_rows, and_true}
 use Rattle.as2_store.proofs.Texts.{in_columns, in_names, key_terms, number_terms, in_by_number_is, in_by_number_plain, in_by_number_unlisted, in_by_key_is, in_by_key_plain, in_by_key_unlisted, in_all_is, in_all_plain, in_all_unlisted}
@@ -44,13 +44,13 @@ module _ (sql : List ℕ) (plain : IsPlain (understood store_schema sql)) (unlis
 abbrev pub key_params : List ℕ → List ℕ → List ℕ → Row
 key_params sender receiver value = Blob sender ∷ Blob receiver ∷ Blob value ∷ []
 
-of_key : (sender receiver value : List ℕ) (e : InEntry) → passes key_terms (key_params sender receiver value) (in_row e) ≡ has_key sender receiver value e
+of_key : (sender receiver value : List ℕ) (e : InEntry) → passes key_terms (key_params sender receiver value) (in_row e) ≡ has_key sender receiver value e.posted
 of_key sender receiver value e =
     ap₂ ◌&&◌ (blobs_equal e.posted.sender sender) (ap₂ ◌&&◌ (blobs_equal e.posted.receiver receiver) (ap (λ b. b && true) (blobs_equal (value_of e.posted.id) value) ∙ and_true _))
 
 pub finds_key : (sender receiver value : List ℕ) (old new : Connected) (rows : List Row) → Shown in_by_key_text (key_params sender receiver value) old new rows → (s : State) → Rests old s
-    → rows ≡ map in_shown (filter (has_key sender receiver value) s.inbox)
-finds_key sender receiver value = reads_entries in_by_key_text in_by_key_plain in_by_key_unlisted key_terms in_by_key_is (key_params sender receiver value) (has_key sender receiver value) (of_key sender receiver value)
+    → rows ≡ map in_shown (filter (λ (e : InEntry). has_key sender receiver value e.posted) s.inbox)
+finds_key sender receiver value = reads_entries in_by_key_text in_by_key_plain in_by_key_unlisted key_terms in_by_key_is (key_params sender receiver value) (λ (e : InEntry). has_key sender receiver value e.posted) (of_key sender receiver value)
 
 abbrev pub by_number_params : ℕ → Row
 by_number_params n = Int (pos n) ∷ []

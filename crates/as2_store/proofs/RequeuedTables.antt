@@ -26,7 +26,8 @@ use Rattle.as2_rows.specs.Waiting.{Waiting, in_waiting, waiting_in, to_send, to_
 use Rattle.as2_store.specs.Tables.{store_schema, inbox_table, inbox_tree, inbox_piece_tree}
 use Rattle.as2_store.proofs.Statements.{in_requeue_text}
 use Rattle.as2_store.specs.Stands.{IsWhole, Stands, place, waiting_row, documents_waiting, all_waiting, inbox_pieces}
-use Rattle.as2_store.specs.Requeuing.{requeued, requeued_in, not_at, Holds, Renewed}
+use Rattle.as2_exchange.specs.Recording.{requeued}
+use Rattle.as2_store.specs.Requeuing.{requeued_in, not_at, Holds, Renewed}
 use Rattle.as2_store.proofs.NumberedRows.{numbers_rise, entries_rise}
 use Rattle.as2_store.proofs.WaitingRows.{IsLast, documents_of, ins_small, last_of}
 use Rattle.as2_store.proofs.InboxRow.{cast_url, cast_digest, cast_mic}

@@ -44,7 +44,8 @@ use Rattle.as2_store.specs.Tables.{store_schema, outbox_table, outbox_tree, outb
 use Rattle.as2_store.proofs.Statements.{out_settle_text, evidence_put_text, document_take_text}
 use Rattle.as2_store.specs.Stands.{IsWhole, Stands, place, waiting_row, documents_waiting, all_waiting, evidence_rows, outbox_pieces}
 use Rattle.as2_store.specs.Requeuing.{Holds}
-use Rattle.as2_store.specs.Settling.{settled_as, settled_in, of_document, without_document}
+use Rattle.as2_exchange.specs.Documents.{settled_as}
+use Rattle.as2_store.specs.Settling.{settled_in, of_document, without_document}
 use Rattle.as2_store.proofs.Committing.{Done}
 use Rattle.as2_store.proofs.Unsettled.{some_found, unsettled}
 use Rattle.as2_store.proofs.MetaRow.{one_param, passed}

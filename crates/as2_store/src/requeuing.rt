@@ -9,7 +9,8 @@ ghost use Rattle.as2_exchange.specs.State.{State, change_received};
 ghost use Rattle.as2_rows.specs.Rows.{in_row};
 ghost use Rattle.as2_store.specs.Tables.{store_schema, inbox_tree};
 ghost use Rattle.as2_store.specs.Stands.{Stands};
-ghost use Rattle.as2_store.specs.Requeuing.{requeued, requeued_in};
+ghost use Rattle.as2_exchange.specs.Recording.{requeued};
+ghost use Rattle.as2_store.specs.Requeuing.{requeued_in};
 
 use crate::numbers::{asked, whole};
 use crate::waiting::wait_anew;

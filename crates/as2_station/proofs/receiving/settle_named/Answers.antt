@@ -5,7 +5,7 @@ use Rattle.as2_exchange.specs.Lines.{http}
 use Rattle.as2_exchange.proofs.Standing.{verdict_range}
 use Rattle.as2_posts.specs.Openings.{receipt_by}
 use Rattle.as2_exchange.specs.declared.answer.HttpBody.TheVariants.{Nothing}
-use Rattle.as2_store.specs.Settling.{settled_as}
+use Rattle.as2_exchange.specs.Documents.{settled_as}
 use Rattle.as2_station.proofs.Doing.{at_once, never_full, passed_on, written, unwritten}
 use Rattle.as2_station.proofs.Reaching.{settles}
 use Rattle.as2_station.proofs.receiving.settle_named.Goals as goal
