@@ -21,7 +21,7 @@ use Rattle.sql_tables.proofs.Inside.{shown_open}
 use Rattle.sql_tables.proofs.Queries.{by_number, blobs_equal, numbers_equal}
 use Rattle.as2_exchange.specs.State.{State, end_of_numbers}
 use Rattle.as2_exchange.specs.declared.inbox.InEntry.{InEntry}
-use Rattle.as2_names.specs.Identifiers.{value_of}
+use Rattle.as2_exchange.specs.Readings.{value_of}
 use Rattle.as2_rows.specs.Rows.{in_row, in_shown}
 use Rattle.as2_store.specs.Tables.{store_schema, inbox_tree}
 use Rattle.as2_store.proofs.Statements.{in_by_key_text, in_by_number_text, in_all_text}
@@ -45,6 +45,7 @@ abbrev pub key_params : List ℕ → List ℕ → List ℕ → Row
 key_params sender receiver value = Blob sender ∷ Blob receiver ∷ Blob value ∷ []
 
 of_key : (sender receiver value : List ℕ) (e : InEntry) → passes key_terms (key_params sender receiver value) (in_row e) ≡ has_key sender receiver value e.posted
+unfolding value_of
 of_key sender receiver value e =
     ap₂ ◌&&◌ (blobs_equal e.posted.sender sender) (ap₂ ◌&&◌ (blobs_equal e.posted.receiver receiver) (ap (λ b. b && true) (blobs_equal (value_of e.posted.id) value) ∙ and_true _))
 
