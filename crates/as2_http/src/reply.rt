@@ -91,7 +91,12 @@ fn add_fields(alloc: Global, text: &mut Vec<u8>, body: &HttpBody) -> Result<(), 
     match body {
         HttpBody::Nothing => text.extend_from_slice(b"Content-Length: 0\r\n")?,
         HttpBody::Words(line) => add_line_fields(text, line.text().len() + 1)?,
-        HttpBody::Report { out, bytes } => write_head_fields(alloc, text, out, bytes.as_slice().len())?,
+        HttpBody::Report { out, bytes } => write_head_fields(
+            alloc,
+            text,
+            out,
+            bytes.as_slice().len(),
+        )?,
     }
     Ok(())
 }
