@@ -1,8 +1,8 @@
 mod Given
-mod StreamEnds
+mod Ending
 mod Numbers
 mod Ranges
-pub mod SentReplies
-mod TakenPosts
+pub mod Sending
+mod Taking
 pub mod Unsaid
 mod OneReply

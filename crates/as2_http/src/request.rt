@@ -111,7 +111,10 @@ pub fn judge(alloc: Global, text: &[u8]) -> Result<Judged, NotJudged>
         return Err(NotJudged::BadHead);
     }
     let method = method_of(head.method.of(text));
-    let fields = fields_of(alloc, text, &spans[..head.headers])?;
+    let fields = match fields_of(alloc, text, &spans[..head.headers]) {
+        Ok(fields) => fields,
+        Err(fault) => return Err(fault),
+    };
     Ok(Judged {
         method,
         target: target_of(head.path.of(text)),

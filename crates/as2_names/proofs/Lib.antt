@@ -1,5 +1,4 @@
 pub mod Cuts
-pub mod CutLists
 pub mod Laws
 pub mod Numbers
 pub mod Printable

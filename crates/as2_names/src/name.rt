@@ -158,7 +158,10 @@ fn quoted_name(text: &[u8]) -> Result<AsName, NameFault>
                 Err(NameFault::BadQuoting)
             };
         }
-        scan.take(*b)?;
+        match scan.take(*b) {
+            Ok(()) => {}
+            Err(fault) => return Err(fault),
+        }
     }
     Err(NameFault::BadQuoting)
 }

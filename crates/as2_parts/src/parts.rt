@@ -27,7 +27,7 @@ pub enum PartFault {
 }
 
 /// The part that is written in a text.
-pub fn part_in(text: &[u8]) -> Part<'_>
+fn part_in(text: &[u8]) -> Part<'_>
     ensures { part_text result ≡ part_in text.now }
 {
     let mut length = 0;
