@@ -20,7 +20,7 @@ use Rattle.as2_agreement.specs.Partners.{SaysOrganization, SaysPartner, IsPartne
 use Rattle.as2_agreement.specs.Values.{value_at, HasText, IsAddress}
 use Rattle.as2_agreement.specs.Reading.{Read, ◌>>=◌, present, of_kind, text, address_in, items_len, few, entries, each, domain, return_url_in, organization, organizations, partner, partners, agreements, document_in, reading, OrMemory, GivesOrMemory}
 use Rattle.as2_agreement.proofs.Each.{each_read, each_again}
-use Rattle.as2_agreement.proofs.Keyed.{bound, same_ok, guarded, refused, present_ok, of_kind_ok, as_array_ok, str_ok, text_ok, domain_of_ok, domain_of_again, address_ok, address_in_again}
+use Rattle.as2_agreement.proofs.Keyed.{bound, guarded, refused, present_ok, of_kind_ok, as_array_ok, str_ok, text_ok, domain_of_ok, domain_of_again, address_ok, address_in_again}
 use Rattle.as2_agreement.proofs.Members.{organization_name, partner_name, IsOrganization, organization_reads, organization_again, partner_reads, partner_again}
 
 -- ---- arrays
@@ -147,10 +147,6 @@ at_said document (Some url) s = s
 
 -- ---- a document
 
-pub and_false : (t : Bool) → (t && false) ≡ false
-and_false true = refl
-and_false false = refl
-
 returned : (t : Bool) (r : Option (List ℕ)) → (t && is_none r) ≡ false → IsTrue t → IsSome r
 returned true None e h = absurd cc
 returned true (Some url) e h = refl
@@ -234,10 +230,6 @@ reading_found t a e =
 
 pub reading_again : (t : List ℕ) (a : AgreedValues) → Agreed t a → reading t ≡ Ok a
 reading_again t a g = rw g.parsed (agreements_again g.document a g.says g.are)
-
--- a text has one set of agreements at most
-pub one_agreed : (t : List ℕ) (a b : AgreedValues) → Agreed t a → Agreed t b → a ≡ b
-one_agreed t a b g h = same_ok a b (sym (reading_again t a g) ∙ reading_again t b h)
 
 -- ---- answers
 

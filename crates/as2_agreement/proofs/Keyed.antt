@@ -100,9 +100,6 @@ text_ok k entry t e =
     let (d, here, kind) = bound (present k (value_at k entry)) (λ d. of_kind k (as_str d)) t e in
     present_ok k (value_at k entry) d here ∙ ap Some (str_ok k d t kind)
 
-pub text_again : (k : Key) (entry : Members) (t : List ℕ) → HasText entry k t → text k entry ≡ Ok t
-text_again k entry t h = rw h refl
-
 -- ---- numbers
 
 count_in_ok : (k : Key) (most : ℕ) (z : ℤ) (n : ℕ) → count_in k most z ≡ Ok n → (z ≡ pos n) × IsCount most n

@@ -13,7 +13,7 @@ use crate::entries::{organizations, partners};
 use crate::fault::AgreementFault;
 use crate::partner::{Asked, Organization, Partner};
 use crate::texts::UrlText;
-use as2_names::{AsName, Domain};
+use as2_text::{AsName, Domain};
 use std::alloc::Global;
 use std::marker::Model;
 use toml::Table;

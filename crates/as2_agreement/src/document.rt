@@ -10,7 +10,7 @@ use crate::key::Key;
 use crate::terms::address_in;
 use crate::texts::UrlText;
 use crate::values::{text_at, value_at};
-use as2_names::Domain;
+use as2_text::Domain;
 use std::alloc::Global;
 use toml::Table;
 

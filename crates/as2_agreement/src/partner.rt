@@ -1,6 +1,6 @@
 use crate::texts::{ContentType, UrlText};
 use as2_mic::Alg;
-use as2_names::AsName;
+use as2_text::AsName;
 
 /// How a partner is asked for receipts (RFC 4130, section 7.3).
 #[derive(Clone, Copy, Debug, PartialEq, Eq)]

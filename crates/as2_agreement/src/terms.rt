@@ -12,10 +12,8 @@ use crate::fault::AgreementFault;
 use crate::key::Key;
 use crate::partner::{Asked, Organization, Partner};
 use crate::values::text_at;
-use as2_media::{Kind, MediaType};
 use as2_mic::Alg;
-use as2_names::{AsName, all_printable};
-use as2_text::Url;
+use as2_text::{AsName, Kind, MediaType, Url, all_printable};
 use toml::Table;
 
 /// Whether an organization has the name.

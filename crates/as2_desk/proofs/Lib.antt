@@ -1,8 +1,8 @@
 mod Given
-mod Ending
+mod StreamEnds
 mod Numbers
 mod Ranges
-pub mod Sending
-mod Taking
+pub mod SentReplies
+mod TakenPosts
 pub mod Unsaid
 mod OneReply

@@ -3,7 +3,7 @@ use Rattle.std.proofs.Common.{◌≡◌, ◌<◌, ◌^◌, ℕ, Option, Some, No
 use Rattle.std.specs.Str.Parse.{ParsesUnsigned}
 use Rattle.clap.specs.Walk.{Text}
 use Rattle.clap.specs.Matches.{TriesOne}
-use Rattle.as2_desk.specs.Options.{NumberIs, SecondsAre, Tells}
+use Rattle.as2_desk.specs.Options.{NumberIs, SecondsAre, TellsOption}
 
 -- no number is said
 abbrev pub SaysNone : Option Text → Type 0
@@ -12,7 +12,7 @@ SaysNone o = ((n : ℕ) → n < 2 ^ 64 → NumberIs o n → ⊥) × ((clock : Op
 pub number_told : (E : Type 0) (G : Text → Result ℕ E → Type 0) (o : Option Text) (r : Result (Option ℕ) E)
     → ((u : Text) (x : Result ℕ E) → G u x → ParsesUnsigned 64 10 u x)
     → (o ≡ None → r ≡ Ok None) → ((t : Text) → o ≡ Some t → TriesOne G t r)
-    → MatchResult r (Tells o) (λ _. SaysNone o)
+    → MatchResult r (TellsOption o) (λ _. SaysNone o)
 number_told E G None (Ok None) parses none some = tt
 number_told E G None (Ok (Some n)) parses none some = let bad : Ok (Some n) ≡ Ok None = none refl in cc
 number_told E G None (Err e) parses none some = let bad : Err e ≡ Ok None = none refl in cc

@@ -2,7 +2,8 @@
 use Rattle.std.proofs.Common.{◌≡◌, ℕ, List, Option, Some, refl, sym, ap, ◌∙◌, subst, inl, inr}
 use Rattle.as2_http.proofs.Dated.{replies_in_one_way}
 use Rattle.as2_http.proofs.Alone.{begins_with_one, refuses_in_one_way, never_refuses_requests, never_opens_requests, never_opens_refused}
-use Rattle.as2_http.specs.Replies.{IsReply, refusal}
+use Rattle.as2_exchange.specs.Lines.{refusal}
+use Rattle.as2_http.specs.Replies.{IsReply, refusal_line}
 use Rattle.as2_http.specs.declared.arrival.Request.{Request}
 use Rattle.as2_http.specs.declared.framing.Refused.{Refused}
 use Rattle.as2_http.specs.declared.framing.Method.{Method}
@@ -15,10 +16,10 @@ use Rattle.as2_exchange.specs.Step.{step}
 use Rattle.as2_exchange.specs.declared.answer.Answer.{Answer}
 use Rattle.as2_exchange.specs.declared.answer.HttpAnswer.{HttpAnswer}
 use Rattle.as2_exchange.specs.declared.answer.Answer.TheVariants.{Http}
-use Rattle.as2_desk.specs.FirstPath.{Replies, Refusal, form_of, refusal_form}
+use Rattle.as2_desk.specs.FirstRequest.{Replies, Refusal, form_of, refusal_form}
 use Rattle.as2_desk.specs.Laws.{OneReply, TellsFault}
 use Rattle.as2_desk.specs.Responses.{RespondsTo, Responds, Takes, Unsaid, answer_of, posted}
-use Rattle.as2_desk.specs.declared.first_path.Served.TheVariants.{Closed, Truncated, BadFraming, ReadFault, WriteFault, Memory, TooLong}
+use Rattle.as2_desk.specs.declared.first_request.Served.TheVariants.{Closed, Truncated, BadFraming, ReadFault, WriteFault, Memory, TooLong}
 use Rattle.as2_desk.specs.declared.response.Response.{Response}
 use Rattle.as2_desk.specs.declared.response.Response.TheVariants.{Answered, Failed, OnlyPost, NoPath}
 
@@ -76,8 +77,8 @@ replies_once agreements moment s t u input after later text same r q n k =
 refusals_once : (moment : ℕ) (input : List ℕ) (after later : Option (List ℕ)) (text same : List ℕ) → Refusal moment input after text → Refusal moment input later same → text ≡ same
 refusals_once moment input after later text same r q =
     let one = refuses_in_one_way input r.refused q.refused r.refuses q.refuses in
-    replies_in_one_way moment (refusal_form r.refused) (refusal r.refused.reason) text same r.reply
-    (subst (λ (x : Refused). IsReply moment (refusal_form x) (refusal x.reason) same) (sym one) q.reply)
+    replies_in_one_way moment (refusal_form r.refused) (refusal (refusal_line r.refused.reason)) text same r.reply
+    (subst (λ (x : Refused). IsReply moment (refusal_form x) (refusal (refusal_line x.reason)) same) (sym one) q.reply)
 
 pub one_reply : OneReply
 one_reply agreements moment s t u input after later Closed Closed text same (inl r) (inl q) n k = let one = replies_once agreements moment s t u input after later text same r q n k in (refl, one.0, one.1)

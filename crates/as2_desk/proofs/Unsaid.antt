@@ -1,4 +1,4 @@
--- What the first path comes to, with nothing said of what a crash leaves.
+-- What the first request comes to, with nothing said of what a crash leaves.
 use Rattle.std.proofs.Common.{ℕ, List, Option, inl, inr}
 use Rattle.as2_agreement.specs.Agreements.{AgreedValues}
 use Rattle.as2_exchange.specs.State.{State}
@@ -7,10 +7,10 @@ use Rattle.as2_http.specs.declared.framing.Method.{Method}
 use Rattle.as2_http.specs.declared.framing.Method.TheVariants.{Post, Head, Other as OtherMethod}
 use Rattle.as2_http.specs.declared.framing.Target.{Target}
 use Rattle.as2_http.specs.declared.framing.Target.TheVariants.{Station, Other as OtherTarget}
-use Rattle.as2_desk.specs.FirstPath.{FirstPath, Gets, Serves}
+use Rattle.as2_desk.specs.FirstRequest.{FirstRequest, Gets, Serves}
 use Rattle.as2_desk.specs.Responses.{RespondsTo, Takes, Unsaid}
-use Rattle.as2_desk.specs.declared.first_path.Served.{Served}
-use Rattle.as2_desk.specs.declared.first_path.Served.TheVariants.{Closed, Truncated, BadFraming, ReadFault, WriteFault, Memory, TooLong}
+use Rattle.as2_desk.specs.declared.first_request.Served.{Served}
+use Rattle.as2_desk.specs.declared.first_request.Served.TheVariants.{Closed, Truncated, BadFraming, ReadFault, WriteFault, Memory, TooLong}
 use Rattle.as2_desk.specs.declared.response.Response.{Response}
 use Rattle.as2_desk.specs.declared.response.Response.TheVariants.{Answered, Failed, OnlyPost, NoPath}
 
@@ -39,7 +39,7 @@ gets_unsaid A moment s Safe t input after g = record {
 
 -- so what is said with more holds with nothing said, as the law has it
 pub path_unsaid : (A : AgreedValues) (moment : ℕ) (s : State) (Safe : State → Type 0) (t : State) (input : List ℕ) (after : Option (List ℕ)) (end : Served) (text : List ℕ)
-    → FirstPath A moment s Safe t input after end text → FirstPath A moment s Unsaid t input after end text
+    → FirstRequest A moment s Safe t input after end text → FirstRequest A moment s Unsaid t input after end text
 path_unsaid A moment s Safe t input after Closed text (inl r) = inl (record { gets = gets_unsaid A moment s Safe t input after r.gets; reply = r.reply })
 path_unsaid A moment s Safe t input after Closed text (inr p) = inr p
 path_unsaid A moment s Safe t input after Truncated text p = p

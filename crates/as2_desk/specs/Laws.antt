@@ -5,10 +5,10 @@ use Rattle.as2_exchange.specs.State.{State}
 use Rattle.as2_exchange.specs.declared.fault.StoreFault.{StoreFault}
 use Rattle.as2_http.specs.Replies.{IsReply}
 use Rattle.as2_http.specs.declared.reply.Form.{Form}
-use Rattle.as2_desk.specs.FirstPath.{FirstPath}
+use Rattle.as2_desk.specs.FirstRequest.{FirstRequest}
 use Rattle.as2_desk.specs.Responses.{Unsaid, answer_of}
-use Rattle.as2_desk.specs.declared.first_path.Served.{Served}
-use Rattle.as2_desk.specs.declared.first_path.Served.TheVariants.{Closed, Truncated, BadFraming, ReadFault, WriteFault, Memory, TooLong}
+use Rattle.as2_desk.specs.declared.first_request.Served.{Served}
+use Rattle.as2_desk.specs.declared.first_request.Served.TheVariants.{Closed, Truncated, BadFraming, ReadFault, WriteFault, Memory, TooLong}
 use Rattle.as2_desk.specs.declared.response.Response.TheVariants.{Failed}
 
 -- P, at an end that the input alone decides: no read, write or memory failed
@@ -32,6 +32,6 @@ pub record TellsFault (moment : ℕ) (text : List ℕ) : Type 0 where
 abbrev pub OneReply : Type 0
 OneReply = (agreements : AgreedValues) (moment : ℕ) (s t u : State) (input : List ℕ) (after later : Option (List ℕ))
     → (end other : Served) (text same : List ℕ)
-    → FirstPath agreements moment s Unsaid t input after end text → FirstPath agreements moment s Unsaid u input later other same
+    → FirstRequest agreements moment s Unsaid t input after end text → FirstRequest agreements moment s Unsaid u input later other same
     → ¬ TellsFault moment text → ¬ TellsFault moment same
     → AtJudged end (AtJudged other ((end ≡ other) × (text ≡ same) × (t ≡ u)))

@@ -6,7 +6,7 @@ pub mod FileContents
 pub mod FileAgreements
 pub mod Stores
 pub mod Responses
-pub mod FirstPath
+pub mod FirstRequest
 pub mod Laws
 pub mod Checks
 pub mod Runs

@@ -19,10 +19,10 @@ NumberIs (Some text) n = Says text n
 NumberIs None n = ⊥
 
 -- the number that the value says, where it is there
-abbrev pub Tells : Option Text → Option ℕ → Type 0
-Tells (Some text) (Some n) = Says text n
-Tells None None = ⊤
-Tells _ _ = ⊥
+abbrev pub TellsOption : Option Text → Option ℕ → Type 0
+TellsOption (Some text) (Some n) = Says text n
+TellsOption None None = ⊤
+TellsOption _ _ = ⊥
 
 -- the value says the number of seconds, or it isn't there and the clock tells it
 abbrev pub SecondsAre : Option Text → Option ℕ → ℕ → Type 0

@@ -2,7 +2,7 @@
 use Rattle.std.specs.Prelude.{◌≡◌, ℕ, List, Some, codes, IsTrue, true, ⊤}
 use Rattle.sqlite.specs.State.{State as Connected}
 use Rattle.as2_agreement.specs.Agreements.{AgreedValues}
-use Rattle.as2_exchange.specs.Lines.{line_text}
+use Rattle.as2_exchange.specs.Lines.{refusal}
 use Rattle.as2_exchange.specs.Posts.{Refuses, reading}
 use Rattle.as2_exchange.specs.Run.{MayFail}
 use Rattle.as2_exchange.specs.State.{State}
@@ -12,12 +12,11 @@ use Rattle.as2_station.specs.Heads.{asks_store, is_of_head}
 use Rattle.as2_store.specs.Calls.{Lasts}
 use Rattle.as2_exchange.specs.declared.event.Event.{Event}
 use Rattle.as2_exchange.specs.declared.answer.Answer.TheVariants.{Http}
-use Rattle.as2_exchange.specs.declared.answer.HttpBody.{HttpBody}
-use Rattle.as2_exchange.specs.declared.answer.HttpBody.TheVariants as said
+use Rattle.as2_exchange.specs.declared.answer.HttpAnswer.{HttpAnswer}
+use Rattle.as2_exchange.specs.declared.answer.Line.TheVariants as line
 use Rattle.as2_exchange.specs.declared.event.Event.TheVariants as event
 use Rattle.as2_exchange.specs.declared.fault.StoreFault.{StoreFault}
 use Rattle.as2_exchange.specs.declared.fault.StoreFault.TheVariants.{Full}
-use Rattle.as2_http.specs.Answers.{Answer, Body, Nothing, Line, Report}
 use Rattle.as2_http.specs.declared.arrival.Request.{Request}
 use Rattle.as2_http.specs.declared.framing.Method.{Method}
 use Rattle.as2_http.specs.declared.framing.Method.TheVariants.{Post, Head, Other as OtherMethod}
@@ -28,32 +27,22 @@ use Rattle.as2_desk.specs.declared.response.Response.TheVariants.{Answered, Fail
 
 -- ---- the answer that a response is
 
--- an answer of one line
-abbrev pub line : ℕ → List ℕ → Answer
-line status text = record { status = status; body = Line text }
+-- the line that tells a fault of the store
+abbrev pub fault_line : StoreFault → TheLine
+fault_line Full = line.StoreFull
+fault_line other = line.StoreFailed
 
--- the body of the station's answer
-abbrev pub body_of : HttpBody → Body
-body_of said.Nothing = Nothing
-body_of (said.Words words) = Line (line_text words)
-body_of (said.Report out bytes) = Report out bytes
-
--- what is said of a fault of the store
-abbrev pub fault_text : StoreFault → List ℕ
-fault_text Full = codes "store is full"
-fault_text other = codes "store fault"
-
-abbrev pub answer_of : Response → Answer
-answer_of (Answered answer) = record { status = answer.status; body = body_of answer.body }
-answer_of (Failed fault) = line 503 (fault_text fault)
-answer_of OnlyPost = line 405 (codes "only POST")
-answer_of NoPath = line 404 (codes "no such path")
+abbrev pub answer_of : Response → HttpAnswer
+answer_of (Answered answer) = answer
+answer_of (Failed fault) = refusal (fault_line fault)
+answer_of OnlyPost = refusal line.OnlyPost
+answer_of NoPath = refusal line.NoSuchPath
 
 -- ---- what a request gets
 
 -- the head of a post doesn't decide its answer
 abbrev pub IsPastHead : AgreedValues → Request → Type 0
-IsPastHead A r = (status : ℕ) (line : TheLine) → reading A r.fields r.body ≡ Refuses status line → ¬ (is_of_head line ≡ true)
+IsPastHead A r = (line : TheLine) → reading A r.fields r.body ≡ Refuses line → ¬ (is_of_head line ≡ true)
 
 -- a post at this moment, as an event
 abbrev pub posted : Request → ℕ → Event

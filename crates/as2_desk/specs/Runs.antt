@@ -6,7 +6,7 @@ use Rattle.as2_agreement.specs.Agreements.{AgreedValues}
 use Rattle.as2_desk.specs.Checks.{counts_line}
 use Rattle.as2_desk.specs.FileAgreements.{Opened, Opens}
 use Rattle.as2_desk.specs.FileContents.{Content}
-use Rattle.as2_desk.specs.FirstPath.{Serves}
+use Rattle.as2_desk.specs.FirstRequest.{Serves}
 use Rattle.as2_desk.specs.Responses.{Unsaid}
 use Rattle.as2_desk.specs.Refusals.{end_line, line, refusal_status}
 use Rattle.as2_desk.specs.Statuses.{done, status_of}
@@ -15,7 +15,7 @@ use Rattle.as2_exchange.specs.State.{State}
 use Rattle.as2_exchange.specs.declared.fault.StoreFault.{StoreFault}
 use Rattle.as2_store.specs.Stands.{may_come}
 use Rattle.as2_desk.specs.declared.refusal.Refusal.{Refusal}
-use Rattle.as2_desk.specs.declared.first_path.Served.{Served}
+use Rattle.as2_desk.specs.declared.first_request.Served.{Served}
 use Rattle.as2_desk.specs.declared.options.Task.{Task}
 use Rattle.as2_desk.specs.declared.options.Task.TheVariants.{Check, Post}
 use Rattle.as2_desk.specs.declared.refusal.Refusal.TheVariants.{CannotWrite, Store}
@@ -27,13 +27,13 @@ pub record Ends (status : ℕ) (text : List ℕ) (Said : List ℕ → Type 0) (r
   pub said : ran.told ≡ true → Said text
 
 -- that is refused: status and line say so
-abbrev pub Refuses : Refusal → (List ℕ → Type 0) → Ran → Type 0
-Refuses refusal Said ran = Ends (refusal_status refusal) (line refusal) Said ran
+abbrev pub EndsRefused : Refusal → (List ℕ → Type 0) → Ran → Type 0
+EndsRefused refusal Said ran = Ends (refusal_status refusal) (line refusal) Said ran
 
 -- the members were counted on standard output, or that couldn't be written
 abbrev pub Counts : AgreedValues → (List ℕ → Type 0) → (List ℕ → Type 0) → Ran → Type 0
 Counts agreements Wrote Said ran =
-    (Wrote (counts_line agreements) × (ran.status ≡ done)) ⊎ Refuses CannotWrite Said ran
+    (Wrote (counts_line agreements) × (ran.status ≡ done)) ⊎ EndsRefused CannotWrite Said ran
 
 -- what was written, where the reader tells its bytes and the state is known that the tables stood for, is the text for the input in
 -- that state. Status and line tell the end.
@@ -47,15 +47,15 @@ pub record Posts (agreements : AgreedValues) (moment : ℕ) (known : Option Stat
 pub record Fails (kept : Kept) (first : ℕ) (Said : List ℕ → Type 0) (ran : Ran) : Type 0 where
   pub fault : StoreFault
   pub known : IfSome (stands_for kept first) (λ s. may_come fault ≡ true)
-  pub told : Refuses (Store fault) Said ran
+  pub told : EndsRefused (Store fault) Said ran
 
 -- a store has a fault: that is told, and nothing is read or written
 abbrev pub Stopped : Type 0 → Type 0 → (List ℕ → Type 0) → Ran → Type 0
-Stopped Unread Unwritten Said ran = Unread × Unwritten × ((fault : StoreFault) × Refuses (Store fault) Said ran)
+Stopped Unread Unwritten Said ran = Unread × Unwritten × ((fault : StoreFault) × EndsRefused (Store fault) Said ran)
 
 -- over agreements and a store the task is done; without any of them the refusal is told, and nothing is read or written. Counting needs no store.
 abbrev pub Comes : Opened → Kept → Task → Option (List ℕ) → Option (List ℕ) → Type 0 → Type 0 → (List ℕ → Type 0) → (List ℕ → Type 0) → Ran → Type 0
-Comes (Err refusal) kept task before after Unread Unwritten Wrote Said ran = Unread × Unwritten × Refuses refusal Said ran
+Comes (Err refusal) kept task before after Unread Unwritten Wrote Said ran = Unread × Unwritten × EndsRefused refusal Said ran
 Comes (Ok agreements) kept Check before after Unread Unwritten Wrote Said ran = Unread × Counts agreements Wrote Said ran
 Comes (Ok agreements) kept (Post posting) before after Unread Unwritten Wrote Said ran =
     (Unread × Unwritten × Fails kept posting.first Said ran) ⊎ Posts agreements posting.moment (stands_for kept posting.first) before after Wrote Said ran

@@ -5,6 +5,7 @@ ghost use Rattle.clap.specs.Words.{app_of, rule_of, shape_of};
 ghost use Rattle.clap.specs.declared.builder.command.Command.TheViews.{out-Command as fields_of};
 ghost use Rattle.as2_desk.specs.CommandLine.{command_line, first, moment, needed, option, program};
 
+use as2_exchange::END_OF_NUMBERS;
 use clap::{Arg, Command, value_parser};
 use std::alloc::{AllocError, Global};
 
@@ -115,7 +116,7 @@ fn first<'a>(alloc: Global) -> Arg<'a>
     let help = "First number of a store that is made: 1 to 999999999999";
     option(alloc, FIRST, "N", help)
         .default_value("1")
-        .value_parser(value_parser!(u64).range(1..=999_999_999_999))
+        .value_parser(value_parser!(u64).range(1..=END_OF_NUMBERS as i64 - 1))
 }
 
 fn moment<'a>(alloc: Global) -> Arg<'a>

@@ -7,7 +7,7 @@ ghost use Rattle.clap.specs.declared.error.kind.ErrorKind.TheVariants.{OutOfMemo
 ghost use Rattle.as2_desk.specs.CommandLine.{AsksForHelp, IsHelp, command_in, command_line, faults, values};
 ghost use Rattle.as2_desk.specs.Options.{Gives, GivesNone};
 ghost use Rattle.as2_desk.specs.Refusals.{end_line};
-ghost use Rattle.as2_desk.specs.Runs.{Counts, Ends, Fails, Posts, Refuses, Runs, Stopped};
+ghost use Rattle.as2_desk.specs.Runs.{Counts, Ends, Fails, Posts, EndsRefused, Runs, Stopped};
 ghost use Rattle.as2_desk.specs.Statuses.{done, failed, faulty, refused, status_of};
 ghost use Rattle.as2_desk.specs.Stores.{Holds, Kept, kept_at, stands_for};
 ghost use Rattle.as2_desk.specs.declared.options.Task.{Task as TheTask};
@@ -18,7 +18,7 @@ use crate::agreed::agreements_in;
 use crate::check::write_counts;
 use crate::command::command;
 use crate::files::ReadFiles;
-use crate::first_path::{Served, first_post};
+use crate::first_request::{Served, first_post};
 use crate::options::{OptionFault, Options, Posting, Task};
 use crate::refusal::{Refusal, is_said, status_of};
 use crate::status::{DONE, FAULTY, Ran};
@@ -58,7 +58,7 @@ pub fn run<F: ReadFiles, O: OpenStores, R: Read, W: Write, E: Write>(
         (R.remaining input.old) (R.remaining input.new) (input.new ≡ input.old) (output.new ≡ output.old)
         (Appends (W.contents output.old) (W.contents output.new)) (Appends (E.contents errors.old) (E.contents errors.new)) result
         ⊎ ((input.new ≡ input.old) × (output.new ≡ output.old)
-        × Refuses Memory (Appends (E.contents errors.old) (E.contents errors.new)) result) }
+        × EndsRefused Memory (Appends (E.contents errors.old) (E.contents errors.new)) result) }
     // Words that ask for nothing run nothing.
     ensures unread { GivesNone (texts words.entry.now) clock → input.new ≡ input.old }
     // They are faulty, unless they ask for the help or the version; memory may be wanting to say so.
@@ -217,7 +217,7 @@ fn tell_end<E: Write>(end: Served, errors: &mut E) -> Ran
 
 /// Says that something was refused.
 fn refuse<E: Write>(refusal: Refusal, errors: &mut E) -> Ran
-    ensures told { Refuses refusal (Appends (E.contents errors.old) (E.contents errors.new)) result }
+    ensures told { EndsRefused refusal (Appends (E.contents errors.old) (E.contents errors.new)) result }
     ensures status { (result.status ≡ refused) ⊎ (result.status ≡ failed) }
     ensures store { result.status ≡ failed → (fault : TheFault) × (refusal ≡ Failing fault) }
 {
@@ -234,7 +234,7 @@ fn tell<W: Write, E: Write>(alloc: Global, error: &Error, output: &mut W, errors
         → ((result.status ≡ faulty) ⊎ (result.status ≡ refused)) × (output.new ≡ output.old) }
     ensures help { IsHelp (kind_of error.now) → result.status ≢ faulty }
     // Want of memory is told as such, or the error is another.
-    ensures memory { ((output.new ≡ output.old) × Refuses Memory (Appends (E.contents errors.old) (E.contents errors.new)) result)
+    ensures memory { ((output.new ≡ output.old) × EndsRefused Memory (Appends (E.contents errors.old) (E.contents errors.new)) result)
         ⊎ (kind_of error.now ≢ OutOfMemory) }
 {
     if error.kind() == ErrorKind::OutOfMemory {

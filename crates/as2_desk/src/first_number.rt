@@ -3,6 +3,7 @@ ghost use Rattle.std.specs.Prelude.{◌≡◌, ◌<◌, ◌≤◌, ℕ};
 ghost use Rattle.as2_exchange.specs.State.{end_of_numbers};
 ghost use Rattle.as2_desk.specs.Options.{first_number};
 
+use as2_exchange::END_OF_NUMBERS;
 use std::marker::Model;
 
 /// The first number of a store that is made: 1 to 999,999,999,999.
@@ -29,7 +30,7 @@ impl FirstNumber {
     pub(crate) fn new(number: u64) -> Option<FirstNumber>
         ensures { result ≡ first_number number }
     {
-        if 1 <= number && number <= 999_999_999_999 {
+        if 1 <= number && number < END_OF_NUMBERS {
             Some(FirstNumber { number })
         } else {
             None

@@ -3,7 +3,7 @@ ghost use Rattle.std.specs.Prelude.{◌≡◌, ◌<◌, ◌≤◌, ◌^◌, ℕ,
 ghost use Rattle.as2_names.specs.Moments.{last_moment};
 ghost use Rattle.as2_exchange.specs.State.{end_of_numbers};
 ghost use Rattle.clap.specs.Words.{first_of, found_of, one_of, rows_of, subcommand_name_of};
-ghost use Rattle.as2_desk.specs.Options.{Asks, Give, NumberIs, SecondsAre, Tells};
+ghost use Rattle.as2_desk.specs.Options.{Asks, Give, NumberIs, SecondsAre, TellsOption};
 ghost use Rattle.as2_desk.specs.declared.options.Task.{Task as TheTask};
 
 use crate::command::{AGREEMENTS, CHECK, FIRST, MOMENT, POST, STORE};
@@ -109,7 +109,7 @@ fn asked_post<'a>(found: &ArgMatches<'a>, clock: Option<u64>) -> Result<Task, Op
 
 /// The number that an option says, if it is there.
 fn number<'a>(found: &ArgMatches<'a>, option: &'a str) -> Result<Option<u64>, OptionFault<'a>>
-    ensures said { IfOk result (Tells (one_of option.entry.now (rows_of (found_of found.now)))) }
+    ensures said { IfOk result (TellsOption (one_of option.entry.now (rows_of (found_of found.now)))) }
     ensures none { IfErr result (λ _. (n : ℕ) → n < 2 ^ 64
         → ¬ NumberIs (one_of option.entry.now (rows_of (found_of found.now))) n) }
     ensures no_seconds { IfErr result (λ _. (clock : Option ℕ) (n : ℕ) → n < 2 ^ 64

@@ -3,7 +3,7 @@ ghost use Rattle.std.specs.Prelude.{◌≡◌, OnOk, true};
 ghost use Rattle.std.specs.Io.KnownBytes.{Appends};
 ghost use Rattle.as2_desk.specs.Refusals.{agreements_line, line, refusal_status, refused_line, store_fault_name, store_line};
 
-use crate::first_path::Served;
+use crate::first_request::Served;
 use crate::status::{FAILED, REFUSED, end_name};
 use as2_agreement::AgreementFault;
 use as2_exchange::StoreFault;

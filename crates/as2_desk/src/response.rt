@@ -4,13 +4,11 @@ ghost use Rattle.sqlite.specs.Held.{state};
 ghost use Rattle.sqlite.specs.State.{HasCleanDisk};
 ghost use Rattle.as2_exchange.specs.State.{State};
 ghost use Rattle.as2_store.specs.Stands.{Rests};
-ghost use Rattle.as2_http.specs.Answers.{body_of as seen};
-ghost use Rattle.as2_desk.specs.Responses.{IsSafe, Responds, answer_of, body_of, fault_text};
-ghost use Rattle.as2_desk.specs.declared.response.Response.TheVariants.{Answered};
+ghost use Rattle.as2_desk.specs.Responses.{IsSafe, Responds, answer_of, fault_line};
 
 use as2_agreement::Agreements;
-use as2_exchange::{HttpAnswer, HttpBody, StoreFault};
-use as2_http::{HttpAnswer as ReplyAnswer, HttpBody as ReplyBody, Method, Request, Target};
+use as2_exchange::{HttpAnswer, Line, StoreFault};
+use as2_http::{Method, Request, Target};
 use as2_station::Station;
 use as2_text::Moment;
 use sqlite::Alter;
@@ -30,54 +28,26 @@ pub(crate) enum Response {
 }
 
 impl Response {
-    /// The answer that it is, as a reply has it.
-    pub(crate) fn answer(&self) -> ReplyAnswer<'_>
-        ensures { result ≡ answer_of self.now }
+    /// The answer that it is.
+    pub(crate) fn answer(self) -> HttpAnswer
+        ensures { result ≡ answer_of self }
     {
-        let (status, text) = match self {
-            Response::Answered(answer) => return shown(answer),
-            Response::Failed(fault) => (503, fault_text(*fault)),
-            Response::OnlyPost => (405, "only POST"),
-            Response::NoPath => (404, "no such path"),
-        };
-        ReplyAnswer {
-            status,
-            body: ReplyBody::Line(text),
+        match self {
+            Response::Answered(answer) => answer,
+            Response::Failed(fault) => fault_line(fault).answer(),
+            Response::OnlyPost => Line::OnlyPost.answer(),
+            Response::NoPath => Line::NoSuchPath.answer(),
         }
     }
 }
 
-/// The station's answer, as a reply has it.
-fn shown(answer: &HttpAnswer) -> ReplyAnswer<'_>
-    ensures { result ≡ answer_of (Answered answer.now) }
-{
-    ReplyAnswer {
-        status: answer.status,
-        body: body_of(&answer.body),
-    }
-}
-
-/// The body of the station's answer.
-fn body_of(body: &HttpBody) -> ReplyBody<'_>
-    ensures { seen result ≡ body_of body.now }
-{
-    match body {
-        HttpBody::Nothing => ReplyBody::Nothing,
-        HttpBody::Words(line) => ReplyBody::Line(line.text()),
-        HttpBody::Report { out, bytes } => ReplyBody::Report {
-            out,
-            bytes: bytes.as_slice(),
-        },
-    }
-}
-
-/// What is said of a fault of the store.
-fn fault_text(fault: StoreFault) -> &'static str
-    ensures { result.now ≡ fault_text fault }
+/// The line that tells a fault of the store.
+fn fault_line(fault: StoreFault) -> Line
+    ensures { result ≡ fault_line fault }
 {
     match fault {
-        StoreFault::Full => "store is full",
-        _ => "store fault",
+        StoreFault::Full => Line::StoreFull,
+        _ => Line::StoreFailed,
     }
 }
 

@@ -15,7 +15,7 @@ use Rattle.as2_exchange.specs.Agreement.{Text, Agreements, Partner, Asked, NoRec
 use Rattle.as2_exchange.specs.Detail.{Processed}
 use Rattle.as2_exchange.specs.Readings.{Head, Receipt, How, Sync as AtOnce, Async as Later, Processed as WasProcessed, names_of, version_fits, type_of, is_report, report_in, verdict, id_of, ask_of, how_of, outcome_of, encoding_refused, mic_for}
 use Rattle.as2_exchange.specs.State.{Posted}
-use Rattle.as2_exchange.specs.Posts.{IsDocument, IsReceipt, Came, reading}
+use Rattle.as2_exchange.specs.Posts.{IsDocument, IsReceipt, ReceivedReceipt, reading}
 
 -- ---- the agreements
 
@@ -97,7 +97,7 @@ abbrev pub md5_given : MicRead
 md5_given = Given (codes "kAFQmDzST7DWlj99KOF/cg==", codes "md5")
 
 -- the receipt as it came from that partner
-abbrev pub came_from : Text → Text → Text → Came
+abbrev pub came_from : Text → Text → Text → ReceivedReceipt
 came_from from id body = record { from = from; to = codes "Supplier"; receipt = tells id (codes "processed", []) md5_given; content_type = q_type_text; body = body }
 
 abbrev pub first_id : Text

@@ -9,7 +9,11 @@ use Rattle.as2_exchange.specs.Detail.{MdnState, Unasked, Pending, Sent}
 use Rattle.as2_exchange.specs.Readings.{Job, document_job, receipt_job}
 use Rattle.as2_exchange.specs.State.{State, InEntry, OutEntry, document, received, is_settled}
 use Rattle.as2_exchange.specs.Events.{Answer, Job as AJob, Refused, NoSuchNumber, UnknownOrganization, UnknownPartner, AllSettled, TriesUsedUp, NotDue, Begin, BeginMdn}
-use Rattle.as2_exchange.specs.Step.{agreed, begun, waits, is_early, is_pending, mdn_begun, acted, acted_in, report, step}
+use Rattle.as2_exchange.specs.Documents.{begun, waits}
+use Rattle.as2_exchange.specs.OwedReceipts.{is_pending, mdn_begun}
+use Rattle.as2_exchange.specs.Recording.{report}
+use Rattle.as2_exchange.specs.Step.{acted, acted_in, step}
+use Rattle.as2_exchange.specs.Tries.{agreed, is_early}
 
 less : (n k : ℕ) → nat_le n k ≡ false → k < n
 less n k h = grind (arith, nat_tests)

@@ -6,7 +6,9 @@ use Rattle.as2_exchange.specs.Agreement.{Text, Agreements, is_organization, part
 use Rattle.as2_exchange.specs.State.{Posted, InEntry, State, end_of_numbers, content_limit, received_as}
 use Rattle.as2_exchange.specs.Events.{Event, Post, Submit, Begin, Outcome, BeginMdn, OutcomeMdn, Tick, Answer}
 use Rattle.as2_exchange.specs.Posts.{Reading, Refuses, IsReceipt, IsDocument, reading, repeats}
-use Rattle.as2_exchange.specs.Step.{post, step, submit, recorded, record_post}
+use Rattle.as2_exchange.specs.Documents.{submit}
+use Rattle.as2_exchange.specs.Recording.{recorded, record_post}
+use Rattle.as2_exchange.specs.Step.{post, step}
 use Rattle.as2_exchange.specs.Run.{IsOutOfNumbers}
 
 used_up : (n : ℕ) → nat_le end_of_numbers n ≡ true → end_of_numbers ≤ n
@@ -26,7 +28,7 @@ none_recorded A s m p None h = by (nat_le end_of_numbers s.next_in) _ refl h
 
 none_posted : (A : Agreements) (s : State) (m : ℕ) (r : Reading) → post A s m r ≡ None → end_of_numbers ≤ s.next_in
 unfolding record_post
-none_posted A s m (Refuses status line) h = absurd (cc)
+none_posted A s m (Refuses line) h = absurd (cc)
 none_posted A s m (IsReceipt r) h = absurd (cc)
 none_posted A s m (IsDocument p) h = none_recorded A s m p (received_as s p) h
 

@@ -11,7 +11,9 @@ use Rattle.as2_exchange.specs.Readings.{Job as TheJob, is_async, receipt_job}
 use Rattle.as2_exchange.specs.State.{InEntry}
 use Rattle.as2_exchange.specs.Events.{Answer, Job, Refused, AllSettled, TriesUsedUp, NotDue, NoOpenTry, AlreadySettled, Delivered, TryFailed, TryAnswer}
 use Rattle.as2_exchange.specs.Receipts.{is_delivery}
-use Rattle.as2_exchange.specs.Step.{queued_again, is_done_with, is_pending, is_early, is_shut, is_last, mdn_begun, mdn_closed, report}
+use Rattle.as2_exchange.specs.OwedReceipts.{is_pending, is_shut, mdn_begun, mdn_closed}
+use Rattle.as2_exchange.specs.Recording.{requeued_by_repeat, is_done_with, report}
+use Rattle.as2_exchange.specs.Tries.{is_early, is_last}
 use Rattle.as2_exchange.specs.History.{Found, Fact, ATry, AnOutcome, is_job, try_in, tries, with_past, first_of, last_of}
 use Rattle.as2_exchange.specs.ReceiptHistory.{delivers, is_delivered, are_used, mdn_after, mdn_attempt, mdn_due}
 use Rattle.as2_exchange.proofs.Decisions.{or_false}
@@ -51,7 +53,7 @@ pub queued_owed : (p : Partner) (m : ℕ) (e : InEntry) → e.mdn ≡ Pending �
 unfolding with_past last_of first_of
 queued_owed p m e h g f k = record { state = h; count = g; try = f; wait = k }
 
-pub reposted_owed : (p : Partner) (since : Found ℕ Fact) (m : ℕ) (e : InEntry) → is_async e.posted.how ≡ true → Owed p since e → Owed p (if is_delivered since.after || are_used p since.after then place [] m else since) (queued_again m e)
+pub reposted_owed : (p : Partner) (since : Found ℕ Fact) (m : ℕ) (e : InEntry) → is_async e.posted.how ≡ true → Owed p since e → Owed p (if is_delivered since.after || are_used p since.after then place [] m else since) (requeued_by_repeat m e)
 reposted_owed p since m e async h = subst (λ (b : Bool). Owed p (if is_delivered since.after || are_used p since.after then place [] m else since) (if b then queued else e)) (sym same) (by (is_delivered since.after || are_used p since.after))
   where
     queued : InEntry

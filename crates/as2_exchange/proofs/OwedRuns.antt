@@ -13,8 +13,11 @@ use Rattle.as2_exchange.specs.Detail.{Idle, Unasked, Sent}
 use Rattle.as2_exchange.specs.Readings.{Head, How, NoReceipt, Sync, Async, is_async, is_report, names_of, version_fits, type_of, id_of, ask_of, report_in}
 use Rattle.as2_exchange.specs.State.{Posted, InEntry, State, empty, lasting, same_key, document, received, received_as, change_received}
 use Rattle.as2_exchange.specs.Events.{Event, Post, Submit, Begin, Outcome, BeginMdn, OutcomeMdn, Tick, Answer, Refused, NoSuchNumber, TryAnswer, Line, BadNames, BadVersion, UnknownNames, BadType, UnreadableReceipt, BadId, BadAsk, Done}
-use Rattle.as2_exchange.specs.Posts.{Reading, Refuses, IsReceipt, IsDocument, needs, reading, repeats, Came}
-use Rattle.as2_exchange.specs.Step.{post, step, record_post, queued_again, first_entry, is_pending, mdn_begun, mdn_closed, acted_in, begun as begun_document, closed as closed_document}
+use Rattle.as2_exchange.specs.Posts.{Reading, Refuses, IsReceipt, IsDocument, needs, reading, repeats, ReceivedReceipt}
+use Rattle.as2_exchange.specs.Documents.{begun as begun_document, closed as closed_document}
+use Rattle.as2_exchange.specs.OwedReceipts.{is_pending, mdn_begun, mdn_closed}
+use Rattle.as2_exchange.specs.Recording.{record_post, requeued_by_repeat, first_entry}
+use Rattle.as2_exchange.specs.Step.{post, step, acted_in}
 use Rattle.as2_exchange.specs.Run.{Trace, Run, Answered, Failed, accepted}
 use Rattle.as2_exchange.specs.Invariants.{IsCounter, IsWellFormed}
 use Rattle.as2_exchange.specs.History.{Found, Fact, ATry, AnOutcome, is_job}
@@ -75,10 +78,10 @@ stands_still A n past x q e none h = stands_on A n past x q e e h (λ p facts ag
 
 -- ---- a repeat
 
-unqueued : (m : ℕ) (e : InEntry) → is_async e.posted.how ≡ false → queued_again m e ≡ e
+unqueued : (m : ℕ) (e : InEntry) → is_async e.posted.how ≡ false → requeued_by_repeat m e ≡ e
 unqueued m e h = rw h refl
 
-reposted : (how : How) (p : Partner) (facts : List ReceiptFact) (m : ℕ) (e : InEntry) → e.posted.how ≡ how → StandsAs how p facts e → StandsAs how p (facts ++ APost m ∷ []) (queued_again m e)
+reposted : (how : How) (p : Partner) (facts : List ReceiptFact) (m : ℕ) (e : InEntry) → e.posted.how ≡ how → StandsAs how p facts e → StandsAs how p (facts ++ APost m ∷ []) (requeued_by_repeat m e)
 reposted NoReceipt p facts m e is h = subst (StandsAs NoReceipt p (facts ++ APost m ∷ [])) (sym (unqueued m e (ap is_async is))) h
 reposted Sync p facts m e is h = subst (StandsAs Sync p (facts ++ APost m ∷ [])) (sym (unqueued m e (ap is_async is))) h
 reposted (Async url) p facts m e is h = (
@@ -123,21 +126,21 @@ closed A (Async url) p facts got m e agreed h = (
 -- ---- the names of a posted document are agreed
 
 IsKnown : Agreements → Reading → Type 0
-IsKnown A (Refuses status line) = ⊤
+IsKnown A (Refuses line) = ⊤
 IsKnown A (IsReceipt r) = ⊤
 IsKnown A (IsDocument q) = (p : Partner) × AreAgreed A q.receiver q.sender p
 
-needs_known : {X : Type 0} (A : Agreements) (o : Option X) (status : ℕ) (line : Line) (rest : X → Reading) → ((x : X) → IsKnown A (rest x)) → IsKnown A (needs o status line rest)
+needs_known : {X : Type 0} (A : Agreements) (o : Option X) (line : Line) (rest : X → Reading) → ((x : X) → IsKnown A (rest x)) → IsKnown A (needs o line rest)
 unfolding IsKnown
-needs_known A None status line rest h = tt
-needs_known A (Some x) status line rest h = h x
+needs_known A None line rest h = tt
+needs_known A (Some x) line rest h = h x
 
 if_known : (A : Agreements) (b : Bool) (x y : Reading) → IsKnown A x → IsKnown A y → IsKnown A (if b then x else y)
 if_known A true x y h g = h
 if_known A false x y h g = g
 
 -- the agreements have both names, or the post is refused
-if_agreed : (A : Agreements) (ours theirs : Bool) (rest : Reading) → (ours ≡ true → theirs ≡ true → IsKnown A rest) → IsKnown A (if not (ours && theirs) then Refuses 403 UnknownNames else rest)
+if_agreed : (A : Agreements) (ours theirs : Bool) (rest : Reading) → (ours ≡ true → theirs ≡ true → IsKnown A rest) → IsKnown A (if not (ours && theirs) then Refuses UnknownNames else rest)
 unfolding IsKnown
 if_agreed A true true rest h = h refl refl
 if_agreed A true false rest h = tt
@@ -149,13 +152,13 @@ agreed_names A names ours theirs = let known = is_some_value (partner_of A names
 reading_known : (A : Agreements) (head : Head) (body : Text) → IsKnown A (reading A head body)
 unfolding reading IsKnown
 reading_known A head body =
-    needs_known A (names_of head) 400 BadNames _ (λ names.
-    if_known A (not (version_fits head)) (Refuses 400 BadVersion) _ tt
+    needs_known A (names_of head) BadNames _ (λ names.
+    if_known A (not (version_fits head)) (Refuses BadVersion) _ tt
     (if_agreed A (is_organization A names.1) (is_some (partner_of A names.0)) _ (λ ours theirs.
-    needs_known A (type_of head) 400 BadType _ (λ type.
+    needs_known A (type_of head) BadType _ (λ type.
     if_known A (is_report type.0) _ _
-    (needs_known A (report_in type.0 body) 400 UnreadableReceipt _ (λ r. tt))
-    (needs_known A (id_of head) 400 BadId _ (λ id. needs_known A (ask_of head) 400 BadAsk _ (λ ask. agreed_names A names ours theirs)))))))
+    (needs_known A (report_in type.0 body) UnreadableReceipt _ (λ r. tt))
+    (needs_known A (id_of head) BadId _ (λ id. needs_known A (ask_of head) BadAsk _ (λ ask. agreed_names A names ours theirs)))))))
 
 document_known : (A : Agreements) (r : Reading) (q : Posted) → IsKnown A r → r ≡ IsDocument q → (p : Partner) × AreAgreed A q.receiver q.sender p
 unfolding IsKnown
@@ -406,9 +409,9 @@ others_not : (A : Agreements) (s : State) (q : Posted) (d e : InEntry) (n : ℕ)
 others_not A s q d e n formed found is other false h = h
 others_not A s q d e n formed found is other true h = absurd (other (repeated_is A s q d e n formed found is h))
 
-repeated_entry : (A : Agreements) (past : List Done) (s : State) (m : ℕ) (q : Posted) (x : Done) (d : InEntry) → KeepsReceipts A past s → PostsFor A x m q → received_as s q ≡ Some d → repeats d.posted q ≡ true → (n : ℕ) (e : InEntry) → received (change_received s d.number (queued_again m)) n ≡ Some e → (b : Bool) → (d.number == n) ≡ b → Stands A n (past ++ x ∷ []) e.posted e
+repeated_entry : (A : Agreements) (past : List Done) (s : State) (m : ℕ) (q : Posted) (x : Done) (d : InEntry) → KeepsReceipts A past s → PostsFor A x m q → received_as s q ≡ Some d → repeats d.posted q ≡ true → (n : ℕ) (e : InEntry) → received (change_received s d.number (requeued_by_repeat m)) n ≡ Some e → (b : Bool) → (d.number == n) ≡ b → Stands A n (past ++ x ∷ []) e.posted e
 repeated_entry A past s m q x d keeps post found same n e is false h =
-    let at : received s n ≡ Some e = sym (received-changed_other s d.number (queued_again m) n (queued_lasting m) (apart_turned d.number n d.number refl h)) ∙ is in
+    let at : received s n ≡ Some e = sym (received-changed_other s d.number (requeued_by_repeat m) n (queued_lasting m) (apart_turned d.number n d.number refl h)) ∙ is in
     let num : e.number ≡ n = received_number s n e at in
     stands_still A n past x e.posted e
     (not_posted A x m q n e.posted post (others_not A s q d e n keeps.formed found at (λ it. false≢true (sym h ∙ ap (λ (j : ℕ). d.number == j) (sym num ∙ ap (λ (z : InEntry). z.number) it) ∙ same_number d.number)) (repeats e.posted q) refl))
@@ -416,18 +419,18 @@ repeated_entry A past s m q x d keeps post found same n e is false h =
 repeated_entry A past s m q x d keeps post found same n e is true h =
     let num : d.number ≡ n = number_is d.number n h in
     let at : received s d.number ≡ Some d = found_by_key A s q d keeps.formed found in
-    let it : queued_again m d ≡ e = same_Some _ _ (sym (received-changed_same s d.number (queued_again m) d (queued_lasting m) at) ∙ ap (received (change_received s d.number (queued_again m))) num ∙ is) in
-    let posted : (queued_again m d).posted ≡ d.posted = ap (λ (z : ℕ × Posted). z.1) (queued_lasting m d) in
-    let stood = stands_on A d.number past x d.posted d (queued_again m d) (keeps.each d.number d at) (λ p facts agreed stands. subst (λ (o : Option ReceiptFact). StandsAs d.posted.how p (with_more facts o) (queued_again m d)) (sym (is_posted A x m q d.number d.posted post same)) (reposted d.posted.how p facts m d refl stands)) in
-    let of_it = subst (λ (p : Posted). Stands A d.number (past ++ x ∷ []) p (queued_again m d)) (sym posted) stood in
+    let it : requeued_by_repeat m d ≡ e = same_Some _ _ (sym (received-changed_same s d.number (requeued_by_repeat m) d (queued_lasting m) at) ∙ ap (received (change_received s d.number (requeued_by_repeat m))) num ∙ is) in
+    let posted : (requeued_by_repeat m d).posted ≡ d.posted = ap (λ (z : ℕ × Posted). z.1) (queued_lasting m d) in
+    let stood = stands_on A d.number past x d.posted d (requeued_by_repeat m d) (keeps.each d.number d at) (λ p facts agreed stands. subst (λ (o : Option ReceiptFact). StandsAs d.posted.how p (with_more facts o) (requeued_by_repeat m d)) (sym (is_posted A x m q d.number d.posted post same)) (reposted d.posted.how p facts m d refl stands)) in
+    let of_it = subst (λ (p : Posted). Stands A d.number (past ++ x ∷ []) p (requeued_by_repeat m d)) (sym posted) stood in
     let of_e = subst (λ (z : InEntry). Stands A d.number (past ++ x ∷ []) z.posted z) it of_it in
     subst (λ (j : ℕ). Stands A j (past ++ x ∷ []) e.posted e) num of_e
 
-repeated_receipts : (A : Agreements) (past : List Done) (s : State) (m : ℕ) (q : Posted) (x : Done) (d : InEntry) → KeepsReceipts A past s → PostsFor A x m q → received_as s q ≡ Some d → repeats d.posted q ≡ true → IsWellFormed A (change_received s d.number (queued_again m)) → Grows s (change_received s d.number (queued_again m)) → KeepsReceipts A (past ++ x ∷ []) (change_received s d.number (queued_again m))
+repeated_receipts : (A : Agreements) (past : List Done) (s : State) (m : ℕ) (q : Posted) (x : Done) (d : InEntry) → KeepsReceipts A past s → PostsFor A x m q → received_as s q ≡ Some d → repeats d.posted q ≡ true → IsWellFormed A (change_received s d.number (requeued_by_repeat m)) → Grows s (change_received s d.number (requeued_by_repeat m)) → KeepsReceipts A (past ++ x ∷ []) (change_received s d.number (requeued_by_repeat m))
 repeated_receipts A past s m q x d keeps post found same formed grows = record {
   formed = formed;
   each = λ n e is. repeated_entry A past s m q x d keeps post found same n e is (d.number == n) refl;
-  unposted = unposted_on A past s (change_received s d.number (queued_again m)) x keeps grows (never_new A s (change_received s d.number (queued_again m)) x m q d post grows found);
+  unposted = unposted_on A past s (change_received s d.number (requeued_by_repeat m)) x keeps grows (never_new A s (change_received s d.number (requeued_by_repeat m)) x m q d post grows found);
 }
 
 clash_not : (A : Agreements) (s : State) (q : Posted) (d e : InEntry) (n : ℕ) → IsWellFormed A s → received_as s q ≡ Some d → repeats d.posted q ≡ false → received s n ≡ Some e → (b : Bool) → repeats e.posted q ≡ b → repeats e.posted q ≡ false
@@ -446,18 +449,18 @@ left_receipts A past s m q x y keeps post known (fresh none small is) formed gro
     let at : y.1 ≡ with_first s m q = ap (λ (z : Answer × State). z.1) is in
     subst (KeepsReceipts A (past ++ x ∷ [])) (sym at) (fresh_receipts A past s m q x keeps post known none (subst (IsWellFormed A) at formed) (subst (Grows s) at grows))
 left_receipts A past s m q x y keeps post known (repeated d there same is) formed grows =
-    let at : y.1 ≡ change_received s d.number (queued_again m) = ap (λ (z : Answer × State). z.1) is in
+    let at : y.1 ≡ change_received s d.number (requeued_by_repeat m) = ap (λ (z : Answer × State). z.1) is in
     subst (KeepsReceipts A (past ++ x ∷ [])) (sym at) (repeated_receipts A past s m q x d keeps post there same (subst (IsWellFormed A) at formed) (subst (Grows s) at grows))
 left_receipts A past s m q x y keeps post known (clash d there other is) formed grows =
     subst (KeepsReceipts A (past ++ x ∷ [])) (sym is) (clash_receipts A past s m q x d keeps post there other (subst (Grows s) is grows))
 
 -- ---- a step and a run
 
-refused_quiet : (A : Agreements) (head : Head) (body : Text) (m : ℕ) (a : Answer) (status : ℕ) (line : Line) → reading A head body ≡ Refuses status line → (n : ℕ) (q : Posted) → receipt_fact A n q (done (Post head body m) a) ≡ None
+refused_quiet : (A : Agreements) (head : Head) (body : Text) (m : ℕ) (a : Answer) (line : Line) → reading A head body ≡ Refuses line → (n : ℕ) (q : Posted) → receipt_fact A n q (done (Post head body m) a) ≡ None
 unfolding receipt_fact
-refused_quiet A head body m a status line is n q = rw is refl
+refused_quiet A head body m a line is n q = rw is refl
 
-receipt_quiet : (A : Agreements) (head : Head) (body : Text) (m : ℕ) (a : Answer) (r : Came) → reading A head body ≡ IsReceipt r → (n : ℕ) (q : Posted) → receipt_fact A n q (done (Post head body m) a) ≡ None
+receipt_quiet : (A : Agreements) (head : Head) (body : Text) (m : ℕ) (a : Answer) (r : ReceivedReceipt) → reading A head body ≡ IsReceipt r → (n : ℕ) (q : Posted) → receipt_fact A n q (done (Post head body m) a) ≡ None
 unfolding receipt_fact
 receipt_quiet A head body m a r is n q = rw is refl
 
@@ -467,7 +470,7 @@ other_quiet A e a n q h = h
 
 post_receipts : (A : Agreements) (past : List Done) (s : State) (head : Head) (body : Text) (m : ℕ) (r : Reading) (y : Answer × State) → reading A head body ≡ r → KeepsReceipts A past s → post A s m r ≡ Some y → IsWellFormed A y.1 → Grows s y.1 → KeepsReceipts A (past ++ done (Post head body m) y.0 ∷ []) y.1
 unfolding record_post
-post_receipts A past s head body m (Refuses status line) y is keeps h formed grows = quiet A past s y.1 (done (Post head body m) y.0) keeps formed grows (ap (λ (z : Answer × State). z.1.inbox) (sym (same_Some _ y h))) (refused_quiet A head body m y.0 status line is)
+post_receipts A past s head body m (Refuses line) y is keeps h formed grows = quiet A past s y.1 (done (Post head body m) y.0) keeps formed grows (ap (λ (z : Answer × State). z.1.inbox) (sym (same_Some _ y h))) (refused_quiet A head body m y.0 line is)
 post_receipts A past s head body m (IsReceipt r) y is keeps h formed grows = quiet A past s y.1 (done (Post head body m) y.0) keeps formed grows (ap (λ (z : Answer × State). z.1.inbox) (sym (same_Some _ y h)) ∙ (settle_inbox s m r).0) (receipt_quiet A head body m y.0 r is)
 post_receipts A past s head body m (IsDocument q) y is keeps h formed grows = left_receipts A past s m q (done (Post head body m) y.0) y keeps (posts_for A head body m y.0 q is) (document_known A (reading A head body) q (reading_known A head body) is) (left_is A s m q (received_as s q) y h) formed grows
 

@@ -1,5 +1,5 @@
 -- Worked rows of what a post is read as.
-use Rattle.std.proofs.Common.{◌≡◌, [], ◌∷◌, Option, Some, None, refl}
+use Rattle.std.proofs.Common.{◌≡◌, ℕ, [], ◌∷◌, Option, Some, None, refl}
 use Rattle.std.specs.Prelude.{codes, replicate, option_map}
 use Rattle.as2_names.specs.Blanks.{without_blanks}
 use Rattle.as2_names.specs.Identifiers.{value_of as bare}
@@ -7,9 +7,10 @@ use Rattle.as2_media.specs.Values.{between_quotes}
 use Rattle.as2_exchange.specs.Agreement.{Text, Alg, Sha1, Md5}
 use Rattle.as2_exchange.specs.Readings.{Head, How, NoReceipt, Sync, Outcome, Processed, DecryptionFailed, DecompressionFailed, AuthenticationFailed, UnsupportedFormat, UnsupportedMicAlgorithms, names_of, version_fits, type_of, is_report, report_in, id_of, value_of, ask_of, how_of, outcome_of, encoding_refused, mic_for}
 use Rattle.as2_exchange.specs.State.{empty}
-use Rattle.as2_exchange.specs.Events.{Post, Nothing, Words, BadNames, BadVersion, UnknownNames, BadType, UnreadableReceipt, BadId, BadAsk, IdUsedBefore, NotProcessed}
+use Rattle.as2_exchange.specs.Events.{Post, Nothing, Words, Line, BadNames, BadVersion, UnknownNames, BadType, UnreadableReceipt, BadId, BadAsk, IdUsedBefore, NotProcessed}
+use Rattle.as2_exchange.specs.Lines.{http, status_of}
 use Rattle.as2_exchange.specs.Posts.{Reading, Refuses, IsDocument, reading}
-use Rattle.as2_exchange.specs.Step.{http, record_post, answer_to}
+use Rattle.as2_exchange.specs.Recording.{record_post, answer_to}
 use Rattle.as2_exchange.proofs.Fixture.{fixture, abc, sha1_mic, q_type_text, m1}
 use Rattle.as2_exchange.proofs.Rows.{play}
 
@@ -36,36 +37,41 @@ usual = asks (codes "signed-receipt-micalg=optional, sha1")
 abbrev read : Head → Reading
 read head = reading fixture head abc
 
+-- the line that refuses a post, with its status
+abbrev refused : Reading → Option (ℕ × Line)
+refused (Refuses line) = Some (status_of line, line)
+refused other = None
+
 -- the lines that refuse a post
-refused_posts : (read [] ≡ Refuses 400 BadNames)
-    × (read (message (codes "1.0") (replicate 129 120) m1 edi usual) ≡ Refuses 400 BadNames)
-    × (read (message (codes "1.0") (codes "Buyer") m1 edi ((codes "as2-from", codes "Buyer") ∷ usual)) ≡ Refuses 400 BadNames)
-    × (read (message (codes "2.0") (codes "Buyer") m1 edi usual) ≡ Refuses 400 BadVersion)
-    × (read (message (codes "1.10") (codes "Buyer") m1 edi usual) ≡ Refuses 400 BadVersion)
-    × (read (message (codes "1.0") (codes "Nobody") m1 edi usual) ≡ Refuses 403 UnknownNames)
-    × (read (message (codes "1.0") (codes "buyer") m1 edi usual) ≡ Refuses 403 UnknownNames)
-    × (read (message (codes "1.0") (codes "Buyer") m1 (codes "edi") usual) ≡ Refuses 400 BadType)
-    × (read (message (codes "1.0") (codes "Buyer") m1 q_type_text usual) ≡ Refuses 400 UnreadableReceipt)
-    × (read (message (codes "1.0") (codes "Buyer") (codes "<>") edi usual) ≡ Refuses 400 BadId)
-    × (read (message (codes "1.0") (codes "Buyer") m1 edi ((codes "message-id", m1) ∷ usual)) ≡ Refuses 400 BadId)
-    × (read (message (codes "1.0") (codes "Buyer") m1 edi (asks (codes "x"))) ≡ Refuses 400 BadAsk)
+refused_posts : (refused (read []) ≡ Some (400, BadNames))
+    × (refused (read (message (codes "1.0") (replicate 129 120) m1 edi usual)) ≡ Some (400, BadNames))
+    × (refused (read (message (codes "1.0") (codes "Buyer") m1 edi ((codes "as2-from", codes "Buyer") ∷ usual))) ≡ Some (400, BadNames))
+    × (refused (read (message (codes "2.0") (codes "Buyer") m1 edi usual)) ≡ Some (400, BadVersion))
+    × (refused (read (message (codes "1.10") (codes "Buyer") m1 edi usual)) ≡ Some (400, BadVersion))
+    × (refused (read (message (codes "1.0") (codes "Nobody") m1 edi usual)) ≡ Some (403, UnknownNames))
+    × (refused (read (message (codes "1.0") (codes "buyer") m1 edi usual)) ≡ Some (403, UnknownNames))
+    × (refused (read (message (codes "1.0") (codes "Buyer") m1 (codes "edi") usual)) ≡ Some (400, BadType))
+    × (refused (read (message (codes "1.0") (codes "Buyer") m1 q_type_text usual)) ≡ Some (400, UnreadableReceipt))
+    × (refused (read (message (codes "1.0") (codes "Buyer") (codes "<>") edi usual)) ≡ Some (400, BadId))
+    × (refused (read (message (codes "1.0") (codes "Buyer") m1 edi ((codes "message-id", m1) ∷ usual))) ≡ Some (400, BadId))
+    × (refused (read (message (codes "1.0") (codes "Buyer") m1 edi (asks (codes "x")))) ≡ Some (400, BadAsk))
 unfolding reading names_of version_fits type_of is_report report_in id_of ask_of without_blanks between_quotes bare
 refused_posts = (refl, refl, refl, refl, refl, refl, refl, refl, refl, refl, refl, refl)
 
 -- where several lines fit, it is the first
-first_line_that_fits : (read (message (codes "2.0") [] (codes "<>") (codes "edi") (asks (codes "x"))) ≡ Refuses 400 BadNames)
-    × (read (message (codes "2.0") (codes "Nobody") (codes "<>") (codes "edi") (asks (codes "x"))) ≡ Refuses 400 BadVersion)
-    × (read (message (codes "1.0") (codes "Nobody") (codes "<>") (codes "edi") (asks (codes "x"))) ≡ Refuses 403 UnknownNames)
-    × (read (message (codes "1.9") (codes "Buyer") (codes "<>") (codes "edi") (asks (codes "x"))) ≡ Refuses 400 BadType)
-    × (read (message (codes "1.0") (codes "Buyer") (codes "<>") edi (asks (codes "x"))) ≡ Refuses 400 BadId)
+first_line_that_fits : (refused (read (message (codes "2.0") [] (codes "<>") (codes "edi") (asks (codes "x")))) ≡ Some (400, BadNames))
+    × (refused (read (message (codes "2.0") (codes "Nobody") (codes "<>") (codes "edi") (asks (codes "x")))) ≡ Some (400, BadVersion))
+    × (refused (read (message (codes "1.0") (codes "Nobody") (codes "<>") (codes "edi") (asks (codes "x")))) ≡ Some (403, UnknownNames))
+    × (refused (read (message (codes "1.9") (codes "Buyer") (codes "<>") (codes "edi") (asks (codes "x")))) ≡ Some (400, BadType))
+    × (refused (read (message (codes "1.0") (codes "Buyer") (codes "<>") edi (asks (codes "x")))) ≡ Some (400, BadId))
 unfolding reading names_of version_fits type_of is_report id_of ask_of without_blanks between_quotes bare
 first_line_that_fits = (refl, refl, refl, refl, refl)
 
 -- a field that is given twice; a receiver that is no organization
-given_twice : (read (message (codes "1.0") (codes "Buyer") m1 edi ((codes "as2-version", codes "1.0") ∷ usual)) ≡ Refuses 400 BadVersion)
-    × (read (message (codes "1.0") (codes "Buyer") m1 edi ((codes "content-type", edi) ∷ usual)) ≡ Refuses 400 BadType)
-    × (read (message (codes "1.0") (codes "Buyer") m1 edi ((codes "disposition-notification-to", codes "a@x") ∷ usual)) ≡ Refuses 400 BadAsk)
-    × (read ((codes "as2-from", codes "Buyer") ∷ (codes "as2-to", codes "Buyer") ∷ []) ≡ Refuses 403 UnknownNames)
+given_twice : (refused (read (message (codes "1.0") (codes "Buyer") m1 edi ((codes "as2-version", codes "1.0") ∷ usual))) ≡ Some (400, BadVersion))
+    × (refused (read (message (codes "1.0") (codes "Buyer") m1 edi ((codes "content-type", edi) ∷ usual))) ≡ Some (400, BadType))
+    × (refused (read (message (codes "1.0") (codes "Buyer") m1 edi ((codes "disposition-notification-to", codes "a@x") ∷ usual))) ≡ Some (400, BadAsk))
+    × (refused (read ((codes "as2-from", codes "Buyer") ∷ (codes "as2-to", codes "Buyer") ∷ [])) ≡ Some (403, UnknownNames))
 unfolding reading names_of version_fits type_of is_report id_of ask_of without_blanks between_quotes bare
 given_twice = (refl, refl, refl, refl)
 

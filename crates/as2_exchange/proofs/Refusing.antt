@@ -9,9 +9,14 @@ use Rattle.as2_exchange.specs.Agreement.{Text, Agreements, Partner, Asked, NoRec
 use Rattle.as2_exchange.specs.Readings.{How, NoReceipt as NoneAsked, Sync as AtOnce, Async as Later, Outcome as WhatBecame, is_processed, named_by}
 use Rattle.as2_exchange.specs.State.{Posted, InEntry, OutEntry, State, end_of_numbers, document, document_named, received, received_as, change_document, change_received, is_begun, is_settled}
 use Rattle.as2_exchange.specs.Events.{Event, Post, Submit, Begin, Outcome, BeginMdn, OutcomeMdn, Tick, Answer, Refused, Submitted, UnknownOrganization, UnknownPartner, TooLarge, TryAnswer, Nothing, Words, NotProcessed, IdUsedBefore, NoSuchMessage}
-use Rattle.as2_exchange.specs.Posts.{Came, Reading, Refuses, IsReceipt, IsDocument, reading, repeats}
-use Rattle.as2_exchange.specs.Receipts.{came_back, is_delivery, bears}
-use Rattle.as2_exchange.specs.Step.{is_refusal, agreed, begun, waits, is_early, closed, closed_by, if_for, is_idle, is_last, delivered, failed, mdn_begun, mdn_closed, is_pending, is_shut, acted, acted_in, post, step, submit, new_document, settle, settle_for, settled, record_post, recorded, queued_again, first_entry, answer_to, http, tick}
+use Rattle.as2_exchange.specs.Posts.{ReceivedReceipt, Reading, Refuses, IsReceipt, IsDocument, reading, repeats}
+use Rattle.as2_exchange.specs.Receipts.{receipt_in_answer, is_delivery, bears}
+use Rattle.as2_exchange.specs.Documents.{begun, waits, closed, closed_by, if_for, delivered, failed, submit, new_document, settle, settle_for, settled, tick}
+use Rattle.as2_exchange.specs.Lines.{http}
+use Rattle.as2_exchange.specs.OwedReceipts.{mdn_begun, mdn_closed, is_pending, is_shut}
+use Rattle.as2_exchange.specs.Recording.{record_post, recorded, requeued_by_repeat, first_entry, answer_to}
+use Rattle.as2_exchange.specs.Step.{is_refusal, acted, acted_in, post, step}
+use Rattle.as2_exchange.specs.Tries.{agreed, is_early, is_idle, is_last}
 use Rattle.as2_exchange.specs.Invariants.{HasDistinctNumbers}
 use Rattle.as2_exchange.proofs.Decisions.{number_is, apart_turned}
 
@@ -89,7 +94,7 @@ delivered_leaves Async p m d = acts d _ refl
 delivered_leaves NoReceipt p m d = acts d _ refl
 delivered_leaves Sync p m d = failed_leaves p m d
 
-closed_by_leaves : (p : Partner) (got : TryAnswer) (m : ℕ) (d : OutEntry) (o : Option Came) → Leaves d (closed_by p got m d o)
+closed_by_leaves : (p : Partner) (got : TryAnswer) (m : ℕ) (d : OutEntry) (o : Option ReceivedReceipt) → Leaves d (closed_by p got m d o)
 closed_by_leaves p got m d (Some r) = acts d _ refl
 closed_by_leaves p got m d None = either_acts d (is_delivery got) _ _ (delivered_leaves p.receipt p m d) (failed_leaves p m d)
 
@@ -97,7 +102,7 @@ closed_leaves : (A : Agreements) (got : TryAnswer) (m : ℕ) (d : OutEntry) → 
 unfolding closed
 closed_leaves A got m d = agreed_leaves A d.organization d.partner d _
     (λ p. test_leaves d (is_settled d) _ _
-    (test_leaves d (is_idle d.attempt) _ _ (closed_by_leaves p got m d (option_and_then (if_for d) (came_back got)))))
+    (test_leaves d (is_idle d.attempt) _ _ (closed_by_leaves p got m d (option_and_then (if_for d) (receipt_in_answer got)))))
 
 mdn_begun_leaves : (A : Agreements) (m : ℕ) (e : InEntry) → Leaves e (mdn_begun A m e)
 unfolding mdn_begun
@@ -152,7 +157,7 @@ answered_by A n p NoneAsked is = rw is (with_line (is_processed p.outcome) p.out
 recorded_acts : (A : Agreements) (s : State) (m : ℕ) (p : Posted) (o : Option InEntry) (y : Answer × State) → recorded A s m p o ≡ Some y → is_refusal y.0 ≡ false
 recorded_acts A s m p (Some e) y h = by (repeats e.posted p) h
   where
-    by : (b : Bool) → (if b then Some (answer_to A e.number e.posted, change_received s e.number (queued_again m)) else Some (http 409 (Words IdUsedBefore), s)) ≡ Some y → is_refusal y.0 ≡ false
+    by : (b : Bool) → (if b then Some (answer_to A e.number e.posted, change_received s e.number (requeued_by_repeat m)) else Some (http 409 (Words IdUsedBefore), s)) ≡ Some y → is_refusal y.0 ≡ false
     by true g = ap (λ (z : Answer × State). is_refusal z.0) (sym (same_Some _ y g)) ∙ answered_by A e.number e.posted e.posted.how refl
     by false g = ap (λ (z : Answer × State). is_refusal z.0) (sym (same_Some _ y g))
 recorded_acts A s m p None y h = by (nat_le end_of_numbers s.next_in) h
@@ -161,7 +166,7 @@ recorded_acts A s m p None y h = by (nat_le end_of_numbers s.next_in) h
     by true g = absurd (cc)
     by false g = ap (λ (z : Answer × State). is_refusal z.0) (sym (same_Some _ y g)) ∙ answered_by A s.next_in p p.how refl
 
-settle_acts : (s : State) (m : ℕ) (r : Came) (o : Option OutEntry) → is_refusal (settle_for s m r o).0 ≡ false
+settle_acts : (s : State) (m : ℕ) (r : ReceivedReceipt) (o : Option OutEntry) → is_refusal (settle_for s m r o).0 ≡ false
 settle_acts s m r None = refl
 settle_acts s m r (Some d) = by (not (bears r d.organization d.partner d.id && is_begun d)) (if is_settled d then s else change_document s d.number (settled m r))
   where
@@ -174,7 +179,7 @@ settle_acts s m r (Some d) = by (not (bears r d.organization d.partner d.id && i
 
 post_acts : (A : Agreements) (s : State) (m : ℕ) (r : Reading) (y : Answer × State) → post A s m r ≡ Some y → is_refusal y.0 ≡ false
 unfolding settle record_post
-post_acts A s m (Refuses status line) y h = ap (λ (z : Answer × State). is_refusal z.0) (sym (same_Some _ y h))
+post_acts A s m (Refuses line) y h = ap (λ (z : Answer × State). is_refusal z.0) (sym (same_Some _ y h))
 post_acts A s m (IsReceipt r) y h = ap (λ (z : Answer × State). is_refusal z.0) (sym (same_Some _ y h)) ∙ settle_acts s m r (document_named s (named_by r.receipt))
 post_acts A s m (IsDocument p) y h = recorded_acts A s m p (received_as s p) y h
 

@@ -9,9 +9,10 @@ use Rattle.as2_exchange.specs.Detail.{Detail, New, Sending, Awaiting, Retry, Pro
 use Rattle.as2_exchange.specs.Readings.{Receipt, verdict}
 use Rattle.as2_exchange.specs.State.{OutEntry, is_settled}
 use Rattle.as2_exchange.specs.Events.{Answer, TryAnswer, Refused, AllSettled, TriesUsedUp, NotDue, NoOpenTry, AlreadySettled}
-use Rattle.as2_exchange.specs.Posts.{Came}
-use Rattle.as2_exchange.specs.Receipts.{came_back, is_delivery}
-use Rattle.as2_exchange.specs.Step.{settled, passes, passed, passes_into, is_due, begun, waits, is_early, closed, closed_by, if_for, is_idle, is_last, delivered, failed}
+use Rattle.as2_exchange.specs.Posts.{ReceivedReceipt}
+use Rattle.as2_exchange.specs.Receipts.{receipt_in_answer, is_delivery}
+use Rattle.as2_exchange.specs.Documents.{settled, passes, passed, passes_into, begun, waits, closed, closed_by, if_for, delivered, failed}
+use Rattle.as2_exchange.specs.Tries.{is_due, is_early, is_idle, is_last}
 use Rattle.as2_exchange.specs.Invariants.{is_by_receipt, IsEntry}
 use Rattle.as2_exchange.proofs.Documents.{settled_names, passed_names, begun_names, closed_names, agreed_either, if_either, changed, changed_names}
 use Rattle.as2_exchange.proofs.WellFormed.{unsettled_entry, KeepsEntries}
@@ -32,10 +33,10 @@ pub verdict_range : (r : Receipt) (content : Text) → is_by_receipt (verdict r 
 unfolding verdict
 verdict_range r content = judged_range (not (is_processed r.disposition)) (has_error r.disposition) (differs (mic_compared r.mic content)) (has_modifier r.disposition) (is_missing (mic_compared r.mic content)) (is_unknown (mic_compared r.mic content))
 
-settled_entry : (m : ℕ) (r : Came) (d : OutEntry) → IsEntry (settled m r d)
+settled_entry : (m : ℕ) (r : ReceivedReceipt) (d : OutEntry) → IsEntry (settled m r d)
 settled_entry m r d = record { evidence = sym (verdict_range r.receipt d.content); at_rest = λ h. (refl, refl) }
 
-pub settled_keeps : (m : ℕ) (r : Came) → KeepsEntries (settled m r)
+pub settled_keeps : (m : ℕ) (r : ReceivedReceipt) → KeepsEntries (settled m r)
 settled_keeps m r = record { names = settled_names m r; entry = λ d h. settled_entry m r d }
 
 -- ---- a change of one document
@@ -116,14 +117,14 @@ delivered_entry Async p m d none = unsettled_entry _ none refl
 delivered_entry NoReceipt p m d none = unsettled_entry _ none refl
 delivered_entry Sync p m d none = failed_entry p m d none
 
-closed_by_entry : (p : Partner) (got : TryAnswer) (m : ℕ) (d : OutEntry) (o : Option Came) → is_settled d ≡ false → IsEntry (closed_by p got m d o).1
+closed_by_entry : (p : Partner) (got : TryAnswer) (m : ℕ) (d : OutEntry) (o : Option ReceivedReceipt) → is_settled d ≡ false → IsEntry (closed_by p got m d o).1
 closed_by_entry p got m d (Some r) none = settled_entry m r d
 closed_by_entry p got m d None none = if_either IsEntry (is_delivery got) (delivered p.receipt p m d) (failed p m d) (delivered_entry p.receipt p m d none) (failed_entry p m d none)
 
-abbrev closed_if : Partner → TryAnswer → ℕ → OutEntry → Option Came → Bool → Bool → Answer × OutEntry
+abbrev closed_if : Partner → TryAnswer → ℕ → OutEntry → Option ReceivedReceipt → Bool → Bool → Answer × OutEntry
 closed_if p got m d o b1 b2 = if b1 then (AlreadySettled, d) else if b2 then (Refused NoOpenTry, d) else closed_by p got m d o
 
-closed_as_entry : (p : Partner) (got : TryAnswer) (m : ℕ) (d : OutEntry) (o : Option Came) (b1 b2 : Bool) → is_settled d ≡ b1 → IsEntry d → IsEntry (closed_if p got m d o b1 b2).1
+closed_as_entry : (p : Partner) (got : TryAnswer) (m : ℕ) (d : OutEntry) (o : Option ReceivedReceipt) (b1 b2 : Bool) → is_settled d ≡ b1 → IsEntry d → IsEntry (closed_if p got m d o b1 b2).1
 closed_as_entry p got m d o true b2 is h = h
 closed_as_entry p got m d o false true is h = h
 closed_as_entry p got m d o false false is h = closed_by_entry p got m d o is
@@ -131,7 +132,7 @@ closed_as_entry p got m d o false false is h = closed_by_entry p got m d o is
 closed_entry : (A : Agreements) (got : TryAnswer) (m : ℕ) (d : OutEntry) → IsEntry d → IsEntry (closed A got m d).1
 unfolding closed
 closed_entry A got m d h = agreed_either IsEntry A d.organization d.partner d _ h
-    (λ p. closed_as_entry p got m d (option_and_then (if_for d) (came_back got)) (is_settled d) (is_idle d.attempt) refl h)
+    (λ p. closed_as_entry p got m d (option_and_then (if_for d) (receipt_in_answer got)) (is_settled d) (is_idle d.attempt) refl h)
 
 pub closed_keeps : (A : Agreements) (got : TryAnswer) (m : ℕ) → KeepsEntries (λ d. (closed A got m d).1)
 closed_keeps A got m = record { names = closed_names A got m; entry = closed_entry A got m }

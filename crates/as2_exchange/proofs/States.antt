@@ -7,8 +7,11 @@ use Rattle.as2_exchange.specs.Agreement.{Text, Agreements, is_organization, part
 use Rattle.as2_exchange.specs.Readings.{Head, MediaType, ReceiptAsk, Outcome as WhatBecame, Processed, DecryptionFailed, DecompressionFailed, AuthenticationFailed, UnsupportedFormat, UnsupportedMicAlgorithms, is_processed, mic_for, is_report, names_of, version_fits, type_of, id_of, ask_of, report_in, named_by}
 use Rattle.as2_exchange.specs.State.{Posted, InEntry, OutEntry, State, empty, end_of_numbers, document, document_named, received, received_as, change_document, change_received, lasting, is_settled}
 use Rattle.as2_exchange.specs.Events.{Event, Post, Submit, Begin, Outcome, BeginMdn, OutcomeMdn, Tick, Answer, Refused, Submitted, UnknownOrganization, UnknownPartner, TooLarge, Line, BadNames, BadVersion, UnknownNames, BadType, UnreadableReceipt, BadId, BadAsk}
-use Rattle.as2_exchange.specs.Posts.{Came, Reading, Refuses, IsReceipt, IsDocument, needs, report_posted, document_posted, reading}
-use Rattle.as2_exchange.specs.Step.{post, step, settle, settle_for, settled, submit, new_document, begun, closed, tick, record_post, first_entry, queued_again, mdn_begun, mdn_closed, acted, acted_in}
+use Rattle.as2_exchange.specs.Posts.{ReceivedReceipt, Reading, Refuses, IsReceipt, IsDocument, needs, report_posted, document_posted, reading}
+use Rattle.as2_exchange.specs.Documents.{settle, settle_for, settled, submit, new_document, begun, closed, tick}
+use Rattle.as2_exchange.specs.OwedReceipts.{mdn_begun, mdn_closed}
+use Rattle.as2_exchange.specs.Recording.{record_post, first_entry, requeued_by_repeat}
+use Rattle.as2_exchange.specs.Step.{post, step, acted, acted_in}
 use Rattle.as2_exchange.specs.Run.{Trace, Run, Answered, Failed}
 use Rattle.as2_exchange.specs.Invariants.{IsCounter, IsRecorded, IsWellFormed}
 use Rattle.as2_exchange.proofs.Documents.{if_either}
@@ -30,14 +33,14 @@ mic_there UnsupportedMicAlgorithms ask content = refl
 
 -- what a post is read as
 IsGood : Reading → Type 0
-IsGood (Refuses status line) = ⊤
+IsGood (Refuses line) = ⊤
 IsGood (IsReceipt r) = ⊤
 IsGood (IsDocument p) = IsRecorded p
 
-needs_good : {X : Type 0} (o : Option X) (status : ℕ) (line : Line) (rest : X → Reading) → ((x : X) → IsGood (rest x)) → IsGood (needs o status line rest)
+needs_good : {X : Type 0} (o : Option X) (line : Line) (rest : X → Reading) → ((x : X) → IsGood (rest x)) → IsGood (needs o line rest)
 unfolding IsGood
-needs_good None status line rest h = tt
-needs_good (Some x) status line rest h = h x
+needs_good None line rest h = tt
+needs_good (Some x) line rest h = h x
 
 if_good : (b : Bool) (x y : Reading) → IsGood x → IsGood y → IsGood (if b then x else y)
 if_good true x y h g = h
@@ -46,19 +49,19 @@ if_good false x y h g = g
 document_good : (names : Text × Text) (type : MediaType × Text) (head : Head) (body : Text) → IsGood (document_posted names type head body)
 unfolding IsGood
 document_good names type head body =
-    needs_good (id_of head) 400 BadId _ (λ id. needs_good (ask_of head) 400 BadAsk _ (λ ask. mic_there _ ask body))
+    needs_good (id_of head) BadId _ (λ id. needs_good (ask_of head) BadAsk _ (λ ask. mic_there _ ask body))
 
 report_good : (names : Text × Text) (type : MediaType × Text) (body : Text) → IsGood (report_posted names type body)
 unfolding IsGood
-report_good names type body = needs_good (report_in type.0 body) 400 UnreadableReceipt _ (λ r. tt)
+report_good names type body = needs_good (report_in type.0 body) UnreadableReceipt _ (λ r. tt)
 
 reading_good : (A : Agreements) (head : Head) (body : Text) → IsGood (reading A head body)
 unfolding reading IsGood
 reading_good A head body =
-    needs_good (names_of head) 400 BadNames _ (λ names.
-    if_good (not (version_fits head)) (Refuses 400 BadVersion) _ tt
-    (if_good (not (is_organization A names.1 && is_some (partner_of A names.0))) (Refuses 403 UnknownNames) _ tt
-    (needs_good (type_of head) 400 BadType _ (λ type.
+    needs_good (names_of head) BadNames _ (λ names.
+    if_good (not (version_fits head)) (Refuses BadVersion) _ tt
+    (if_good (not (is_organization A names.1 && is_some (partner_of A names.0))) (Refuses UnknownNames) _ tt
+    (needs_good (type_of head) BadType _ (λ type.
     if_good (is_report type.0) _ _ (report_good names type body) (document_good names type head body)))))
 
 document_recorded : (r : Reading) (p : Posted) → IsGood r → r ≡ IsDocument p → IsRecorded p
@@ -95,7 +98,7 @@ tick_formed : (A : Agreements) (m : ℕ) (s : State) → IsWellFormed A s → Is
 unfolding tick
 tick_formed A m s h = record { received = h.received; sent = outbox_map A s.next_out s.outbox _ (passed_keeps m) h.sent }
 
-settle_for_formed : (A : Agreements) (s : State) (m : ℕ) (r : Came) (o : Option OutEntry) → IsWellFormed A s → IsWellFormed A (settle_for s m r o).1
+settle_for_formed : (A : Agreements) (s : State) (m : ℕ) (r : ReceivedReceipt) (o : Option OutEntry) → IsWellFormed A s → IsWellFormed A (settle_for s m r o).1
 settle_for_formed A s m r None h = h
 settle_for_formed A s m r (Some d) h = if_either (IsWellFormed A) _ _ _ h (by (is_settled d))
   where
@@ -103,7 +106,7 @@ settle_for_formed A s m r (Some d) h = if_either (IsWellFormed A) _ _ _ h (by (i
     by true = h
     by false = document_formed A s d.number (settled m r) (settled_keeps m r) h
 
-settle_formed : (A : Agreements) (s : State) (m : ℕ) (r : Came) → IsWellFormed A s → IsWellFormed A (settle s m r).1
+settle_formed : (A : Agreements) (s : State) (m : ℕ) (r : ReceivedReceipt) → IsWellFormed A s → IsWellFormed A (settle s m r).1
 unfolding settle
 settle_formed A s m r h = settle_for_formed A s m r (document_named s (named_by r.receipt)) h
 
@@ -132,7 +135,7 @@ first_formed A s m p small good new h = record { received = inbox_push s.next_in
 
 left_formed : (A : Agreements) (s : State) (m : ℕ) (p : Posted) (o : Option InEntry) (y : Answer × State) → received_as s p ≡ o → IsRecorded p → IsWellFormed A s → Left A s m p o y → IsWellFormed A y.1
 left_formed A s m p o y at good h (fresh none small is) = subst (λ (z : Answer × State). IsWellFormed A z.1) (sym is) (first_formed A s m p small good (at ∙ none) h)
-left_formed A s m p o y at good h (repeated e there same is) = subst (λ (z : Answer × State). IsWellFormed A z.1) (sym is) (received_formed A s e.number (queued_again m) (queued_lasting m) h)
+left_formed A s m p o y at good h (repeated e there same is) = subst (λ (z : Answer × State). IsWellFormed A z.1) (sym is) (received_formed A s e.number (requeued_by_repeat m) (queued_lasting m) h)
 left_formed A s m p o y at good h (clash e there other is) = subst (IsWellFormed A) (sym is) h
 
 record_formed : (A : Agreements) (s : State) (m : ℕ) (p : Posted) (y : Answer × State) → IsRecorded p → IsWellFormed A s → record_post A s m p ≡ Some y → IsWellFormed A y.1
@@ -140,7 +143,7 @@ unfolding record_post
 record_formed A s m p y good h e = left_formed A s m p (received_as s p) y refl good h (left_is A s m p (received_as s p) y e)
 
 post_formed : (A : Agreements) (s : State) (m : ℕ) (r : Reading) (y : Answer × State) → IsGood r → IsWellFormed A s → post A s m r ≡ Some y → IsWellFormed A y.1
-post_formed A s m (Refuses status line) y good h e = subst (λ (z : Answer × State). IsWellFormed A z.1) (same_Some _ y e) h
+post_formed A s m (Refuses line) y good h e = subst (λ (z : Answer × State). IsWellFormed A z.1) (same_Some _ y e) h
 post_formed A s m (IsReceipt r) y good h e = subst (λ (z : Answer × State). IsWellFormed A z.1) (same_Some _ y e) (settle_formed A s m r h)
 post_formed A s m (IsDocument p) y good h e = record_formed A s m p y (document_recorded (IsDocument p) p good refl) h e
 

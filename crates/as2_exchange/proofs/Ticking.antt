@@ -7,7 +7,9 @@ use Rattle.as2_exchange.specs.Agreement.{Agreements}
 use Rattle.as2_exchange.specs.Detail.{Detail, New, Sending, Awaiting, Retry, Processed, NoReceiptAsked, Warning, NoMic, UnknownMic, NotProcessed, ErrorModifier, MicDiffers, TriesUsed, Overdue, Attempt, Idle, Running, Last, Used}
 use Rattle.as2_exchange.specs.State.{State, OutEntry}
 use Rattle.as2_exchange.specs.Events.{Answer, Ticked, Tick}
-use Rattle.as2_exchange.specs.Step.{is_due, passes, passed, passes_into, tick, step}
+use Rattle.as2_exchange.specs.Documents.{passes, passed, passes_into, tick}
+use Rattle.as2_exchange.specs.Step.{step}
+use Rattle.as2_exchange.specs.Tries.{is_due}
 use Rattle.as2_exchange.specs.Views.{is_given_up, given_up}
 
 one_if : Bool → ℕ

@@ -6,10 +6,13 @@ use Rattle.as2_names.specs.Identifiers.{value_of as bare}
 use Rattle.as2_media.specs.Values.{between_quotes}
 use Rattle.as2_exchange.specs.Agreement.{Text, Agreements}
 use Rattle.as2_exchange.specs.Detail.{Detail, New, Sending, Awaiting, Retry, Processed, NoReceiptAsked, TriesUsed, Overdue, Attempt, Idle, Running, Last, Used, MdnState, Unasked, Pending, Sent}
-use Rattle.as2_exchange.specs.Readings.{How, NoReceipt as NoneAsked, Sync as AtOnce, Async as Later, document_job, receipt_job as receipt_sent, names_of, type_of, report_in, named_by, value_of}
+use Rattle.as2_exchange.specs.Readings.{How, NoReceipt, Sync, Async, document_job, receipt_job as receipt_sent, names_of, type_of, report_in, named_by, value_of}
 use Rattle.as2_exchange.specs.State.{State, InEntry, OutEntry, Evidence, empty}
 use Rattle.as2_exchange.specs.Events.{Begin, Outcome, Answer, NoAnswer, Reply, Job, Settled, Delivered, TryFailed, AlreadySettled, Submitted, Ticked, Refused, UnknownOrganization, UnknownPartner, NoSuchNumber, NotDue, AllSettled, NoOpenTry, TriesUsedUp}
-use Rattle.as2_exchange.specs.Step.{begun, closed, mdn_begun, mdn_closed, submit, tick, queued_again, first_entry, report, step}
+use Rattle.as2_exchange.specs.Documents.{begun, closed, submit, tick}
+use Rattle.as2_exchange.specs.OwedReceipts.{mdn_begun, mdn_closed}
+use Rattle.as2_exchange.specs.Recording.{requeued_by_repeat, first_entry, report}
+use Rattle.as2_exchange.specs.Step.{step}
 use Rattle.as2_exchange.proofs.Fixture.{buyer, fixture, abc, receipt_head, receipt_body, q, q_for_2, q_type_text, q_names, q_typed, q_read, q_says, document_of, m1, sha1_text}
 use Rattle.as2_exchange.proofs.Rows.{play, submit_to, job_1, no_head, return_address, due_1}
 
@@ -163,25 +166,25 @@ abbrev entry_asked : How → MdnState → ℕ → Attempt → Option ℕ → InE
 entry_asked how mdn tries attempt due = record { number = 1; posted = document_of (codes "Depot") m1 abc how sha1_text; moment = 1000; mdn = mdn; tries = tries; attempt = attempt; due = due }
 
 abbrev later : How
-later = Later return_address
+later = Async return_address
 
 -- what a post that is new is kept as
 first_kept : (first_entry 1 1000 (document_of (codes "Depot") m1 abc later sha1_text) ≡ entry_asked later Pending 0 Idle (Some 1000))
-    × (first_entry 1 1000 (document_of (codes "Depot") m1 abc AtOnce sha1_text) ≡ entry_asked AtOnce Sent 0 Idle None)
-    × (first_entry 1 1000 (document_of (codes "Depot") m1 abc NoneAsked sha1_text) ≡ entry_asked NoneAsked Unasked 0 Idle None)
+    × (first_entry 1 1000 (document_of (codes "Depot") m1 abc Sync sha1_text) ≡ entry_asked Sync Sent 0 Idle None)
+    × (first_entry 1 1000 (document_of (codes "Depot") m1 abc NoReceipt sha1_text) ≡ entry_asked NoReceipt Unasked 0 Idle None)
 first_kept = (refl, refl, refl)
 
 -- a repeat queues a receipt again that was sent, or is on or past its last try
-queued_by_repeat : (queued_again 2000 (entry_asked later Sent 1 Idle None) ≡ entry_asked later Pending 0 Idle (Some 2000))
-    × (queued_again 2000 (entry_asked later Pending 2 Last None) ≡ entry_asked later Pending 0 Idle (Some 2000))
-    × (queued_again 2000 (entry_asked later Pending 2 Used None) ≡ entry_asked later Pending 0 Idle (Some 2000))
+queued_by_repeat : (requeued_by_repeat 2000 (entry_asked later Sent 1 Idle None) ≡ entry_asked later Pending 0 Idle (Some 2000))
+    × (requeued_by_repeat 2000 (entry_asked later Pending 2 Last None) ≡ entry_asked later Pending 0 Idle (Some 2000))
+    × (requeued_by_repeat 2000 (entry_asked later Pending 2 Used None) ≡ entry_asked later Pending 0 Idle (Some 2000))
 queued_by_repeat = (refl, refl, refl)
 
 -- and leaves one that is still tried, or wasn't asked for later
-left_by_repeat : (queued_again 2000 (entry_asked later Pending 1 Idle (Some 1030)) ≡ entry_asked later Pending 1 Idle (Some 1030))
-    × (queued_again 2000 (entry_asked later Pending 1 Running (Some 1030)) ≡ entry_asked later Pending 1 Running (Some 1030))
-    × (queued_again 2000 (entry_asked AtOnce Sent 0 Idle None) ≡ entry_asked AtOnce Sent 0 Idle None)
-    × (queued_again 2000 (entry_asked NoneAsked Unasked 0 Idle None) ≡ entry_asked NoneAsked Unasked 0 Idle None)
+left_by_repeat : (requeued_by_repeat 2000 (entry_asked later Pending 1 Idle (Some 1030)) ≡ entry_asked later Pending 1 Idle (Some 1030))
+    × (requeued_by_repeat 2000 (entry_asked later Pending 1 Running (Some 1030)) ≡ entry_asked later Pending 1 Running (Some 1030))
+    × (requeued_by_repeat 2000 (entry_asked Sync Sent 0 Idle None) ≡ entry_asked Sync Sent 0 Idle None)
+    × (requeued_by_repeat 2000 (entry_asked NoReceipt Unasked 0 Idle None) ≡ entry_asked NoReceipt Unasked 0 Idle None)
 left_by_repeat = (refl, refl, refl, refl)
 
 -- what a BeginMdn at 1000 is answered
@@ -195,7 +198,7 @@ sent_late = entry_asked later Sent 2 Idle (Some 2000)
 begin_mdn_refusals : (begin_mdn_answer no_organization sent_late ≡ Refused UnknownOrganization)
     × (begin_mdn_answer no_partner sent_late ≡ Refused UnknownPartner)
     × (begin_mdn_answer fixture sent_late ≡ Refused AllSettled)
-    × (begin_mdn_answer fixture (entry_asked NoneAsked Unasked 0 Idle None) ≡ Refused AllSettled)
+    × (begin_mdn_answer fixture (entry_asked NoReceipt Unasked 0 Idle None) ≡ Refused AllSettled)
     × (begin_mdn_answer fixture (entry_asked later Pending 2 Used (Some 2000)) ≡ Refused TriesUsedUp)
     × (begin_mdn_answer fixture (entry_asked later Pending 2 Last None) ≡ Refused TriesUsedUp)
     × (begin_mdn_answer fixture (entry_asked later Pending 1 Idle (Some 1001)) ≡ Refused NotDue)
@@ -215,7 +218,7 @@ outcome_mdn_answer A e = (mdn_closed A NoAnswer 1000 e).0
 outcome_mdn_refusals : (outcome_mdn_answer no_organization sent_late ≡ Refused UnknownOrganization)
     × (outcome_mdn_answer no_partner sent_late ≡ Refused UnknownPartner)
     × (outcome_mdn_answer fixture sent_late ≡ AlreadySettled)
-    × (outcome_mdn_answer fixture (entry_asked NoneAsked Unasked 0 Idle None) ≡ AlreadySettled)
+    × (outcome_mdn_answer fixture (entry_asked NoReceipt Unasked 0 Idle None) ≡ AlreadySettled)
     × (outcome_mdn_answer fixture (entry_asked later Pending 1 Idle (Some 1030)) ≡ Refused NoOpenTry)
     × (outcome_mdn_answer fixture (entry_asked later Pending 2 Used None) ≡ Refused NoOpenTry)
 unfolding mdn_closed

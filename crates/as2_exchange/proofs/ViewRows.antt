@@ -10,7 +10,9 @@ use Rattle.as2_exchange.specs.Readings.{value_of}
 use Rattle.as2_exchange.specs.State.{State, OutEntry, empty}
 use Rattle.as2_exchange.specs.Events.{Event, Post, Begin, Outcome, BeginMdn, OutcomeMdn, NoAnswer}
 use Rattle.as2_exchange.specs.Receipts.{is_success}
-use Rattle.as2_exchange.specs.Step.{begun, closed, mdn_begun, mdn_closed, submit, record_post, answer_to}
+use Rattle.as2_exchange.specs.Documents.{begun, closed, submit}
+use Rattle.as2_exchange.specs.OwedReceipts.{mdn_begun, mdn_closed}
+use Rattle.as2_exchange.specs.Recording.{record_post, answer_to}
 use Rattle.as2_exchange.specs.Views.{next, list_out, list_in, outstanding, show, fetch}
 use Rattle.as2_exchange.specs.declared.next.Next.{Next}
 use Rattle.as2_exchange.specs.declared.next.Next.TheVariants.{Receipt, Document}

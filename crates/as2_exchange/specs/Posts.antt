@@ -2,12 +2,12 @@
 use Rattle.std.specs.Prelude.{ℕ, Bool, true, false, ◌&&◌, not, Option, Some, None, is_some, if◌then◌else◌}
 use Rattle.std.specs.Str.{bytes_eq}
 use Rattle.as2_exchange.specs.Agreement.{Text, Alg, Md5, Sha1, Agreements, is_organization, partner_of}
-use Rattle.as2_exchange.specs.Readings.{Head, MediaType, Receipt, ReceiptAsk, How, NoReceipt as NoneAsked, Sync as AtOnce, Async as Later, Outcome as WhatBecame, Processed, DecryptionFailed, DecompressionFailed, AuthenticationFailed, UnsupportedFormat, UnsupportedMicAlgorithms, Mic, names_of, version_fits, type_of, is_report, report_in, id_of, ask_of, how_of, outcome_of, mic_for}
+use Rattle.as2_exchange.specs.Readings.{Head, MediaType, Receipt, ReceiptAsk, How, NoReceipt, Sync, Async, Outcome as WhatBecame, Processed, DecryptionFailed, DecompressionFailed, AuthenticationFailed, UnsupportedFormat, UnsupportedMicAlgorithms, Mic, names_of, version_fits, type_of, is_report, report_in, id_of, ask_of, how_of, outcome_of, mic_for}
 use Rattle.as2_exchange.specs.State.{Posted}
 use Rattle.as2_exchange.specs.Events.{Line, BadNames, BadVersion, UnknownNames, BadType, UnreadableReceipt, BadId, BadAsk}
 
 -- a receipt as it came: under these names, with this content type and body
-pub record Came : Type 0 where
+pub record ReceivedReceipt : Type 0 where
   pub from : Text
   pub to : Text
   pub receipt : Receipt
@@ -16,14 +16,14 @@ pub record Came : Type 0 where
 
 -- what a post is: refused by a line, a receipt, or a document
 pub data Reading : Type 0 where
-  Refuses : (status : ℕ) → Line → Reading
-  IsReceipt : Came → Reading
+  Refuses : Line → Reading
+  IsReceipt : ReceivedReceipt → Reading
   IsDocument : Posted → Reading
 
 -- goes on with what is there; else the post is refused
-abbrev pub needs : {X : Type 0} → Option X → ℕ → Line → (X → Reading) → Reading
-needs None status line rest = Refuses status line
-needs (Some x) status line rest = rest x
+abbrev pub needs : {X : Type 0} → Option X → Line → (X → Reading) → Reading
+needs None line rest = Refuses line
+needs (Some x) line rest = rest x
 
 -- the document of a post, with what is made of it
 abbrev pub posted : Text × Text → Text → MediaType × Text → Head → Text → ReceiptAsk → Posted
@@ -41,27 +41,27 @@ posted names id type head content ask =
     }
 
 -- the receipt that came under these names, with this content type and body
-abbrev pub came : Text × Text → MediaType × Text → Text → Receipt → Came
-came names type body receipt = record { from = names.0; to = names.1; receipt = receipt; content_type = type.1; body = body }
+abbrev pub received_receipt : Text × Text → MediaType × Text → Text → Receipt → ReceivedReceipt
+received_receipt names type body receipt = record { from = names.0; to = names.1; receipt = receipt; content_type = type.1; body = body }
 
 -- a post of a report: it needs no identifier and asks for nothing
 abbrev pub report_posted : Text × Text → MediaType × Text → Text → Reading
-report_posted names type body = needs (report_in type.0 body) 400 UnreadableReceipt λ receipt. IsReceipt (came names type body receipt)
+report_posted names type body = needs (report_in type.0 body) UnreadableReceipt λ receipt. IsReceipt (received_receipt names type body receipt)
 
 -- any other post
 abbrev pub document_posted : Text × Text → MediaType × Text → Head → Text → Reading
 document_posted names type head body =
-    needs (id_of head) 400 BadId λ id.
-    needs (ask_of head) 400 BadAsk λ ask.
+    needs (id_of head) BadId λ id.
+    needs (ask_of head) BadAsk λ ask.
     IsDocument (posted names id type head body ask)
 
 -- a post as it is read: the first line of the table of answers that fits
 unfoldable pub reading : Agreements → Head → Text → Reading
 reading A head body =
-    needs (names_of head) 400 BadNames λ names.
-    if not (version_fits head) then Refuses 400 BadVersion
-    else if not (is_organization A names.1 && is_some (partner_of A names.0)) then Refuses 403 UnknownNames
-    else needs (type_of head) 400 BadType λ type.
+    needs (names_of head) BadNames λ names.
+    if not (version_fits head) then Refuses BadVersion
+    else if not (is_organization A names.1 && is_some (partner_of A names.0)) then Refuses UnknownNames
+    else needs (type_of head) BadType λ type.
     if is_report type.0 then report_posted names type body else document_posted names type head body
 
 -- ---- repeats
@@ -78,9 +78,9 @@ outcome_eq a b = false
 
 -- both ask for a receipt in the same way, and later to the same address as spelled
 abbrev pub how_eq : How → How → Bool
-how_eq NoneAsked NoneAsked = true
-how_eq AtOnce AtOnce = true
-how_eq (Later url) (Later other) = bytes_eq url other
+how_eq NoReceipt NoReceipt = true
+how_eq Sync Sync = true
+how_eq (Async url) (Async other) = bytes_eq url other
 how_eq a b = false
 
 -- both are the same digest

@@ -10,7 +10,8 @@ use Rattle.as2_exchange.specs.Agreement.{Text}
 use Rattle.as2_exchange.specs.Detail.{Detail, New, Sending, Awaiting, Retry, TriesUsed, Overdue, Attempt, Idle, Running, MdnState, Unasked, Pending, Sent}
 use Rattle.as2_exchange.specs.Readings.{is_processed}
 use Rattle.as2_exchange.specs.State.{State, InEntry, OutEntry, Evidence, document, received, is_settled}
-use Rattle.as2_exchange.specs.Step.{is_due, is_pending}
+use Rattle.as2_exchange.specs.OwedReceipts.{is_pending}
+use Rattle.as2_exchange.specs.Tries.{is_due}
 use Rattle.as2_exchange.specs.declared.next.Next.{Next}
 use Rattle.as2_exchange.specs.declared.next.Next.TheVariants.{Receipt, Document}
 

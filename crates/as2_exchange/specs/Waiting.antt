@@ -5,7 +5,7 @@ use Rattle.as2_exchange.specs.Agreement.{Agreements, Partner, Asked, NoReceipt, 
 use Rattle.as2_exchange.specs.Detail.{Attempt, Idle, Running, Last}
 use Rattle.as2_exchange.specs.State.{OutEntry}
 use Rattle.as2_exchange.specs.Events.{TryAnswer, Done}
-use Rattle.as2_exchange.specs.Posts.{Came}
+use Rattle.as2_exchange.specs.Posts.{ReceivedReceipt}
 use Rattle.as2_exchange.specs.Receipts.{is_delivery}
 use Rattle.as2_exchange.specs.History.{Found, Submission, Fact, concerns, first_of, last_of, try_in, outcome_in, tries, first_receipt, is_tick_from}
 
@@ -21,7 +21,7 @@ abbrev pub last_tried : List Fact → Option Tried
 last_tried facts = option_map with_outcome (last_of try_in facts)
 
 -- a try is open where it is the last one, has no Outcome, and no receipt came; by its number it is the last agreed one or not
-abbrev pub attempt_of : Partner → ℕ → Option (ℕ × Came) → Option Tried → Attempt
+abbrev pub attempt_of : Partner → ℕ → Option (ℕ × ReceivedReceipt) → Option Tried → Attempt
 attempt_of p tried (Some r) l = Idle
 attempt_of p tried None None = Idle
 attempt_of p tried None (Some (t, None)) = if nat_le p.max_tries tried then Last else Running
@@ -39,7 +39,7 @@ due_after_delivery Sync p tried m after = due_after_failure p tried m
 
 -- When something is due: nothing once a receipt came; the first try at the submission; the next try, or the end of the last
 -- one, after the last try at moment t; what its Outcome calls for after that.
-abbrev pub due_of : Submission → Partner → ℕ → Option (ℕ × Came) → Option Tried → Option ℕ
+abbrev pub due_of : Submission → Partner → ℕ → Option (ℕ × ReceivedReceipt) → Option Tried → Option ℕ
 due_of d p tried (Some r) l = None
 due_of d p tried None None = Some d.moment
 due_of d p tried None (Some (t, None)) = if nat_le p.max_tries tried && list_any (is_tick_from (t.it + p.retry_seconds)) t.after then None else Some (t.it + p.retry_seconds)

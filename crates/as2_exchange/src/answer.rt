@@ -1,5 +1,5 @@
 ghost use Rattle.std.specs.Prelude.{◌≡◌};
-ghost use Rattle.as2_exchange.specs.Lines.{line_text};
+ghost use Rattle.as2_exchange.specs.Lines.{line_text, refusal, status_of};
 
 use crate::bytes::Bytes;
 use as2_mdn::{Detail, Outcome, ReportOut};
@@ -25,7 +25,7 @@ pub enum Refusal {
     TooLarge,
 }
 
-/// The line of text that answers a post.
+/// The line of text that is an answer to a request.
 #[derive(Clone, Copy, Debug, PartialEq, Eq)]
 pub enum Line {
     /// `AS2-From` or `AS2-To` is absent, given twice or unreadable.
@@ -48,9 +48,52 @@ pub enum Line {
     IdUsedBefore,
     /// The document wasn't processed, and no receipt was asked for.
     NotProcessed(Outcome),
+    /// The bytes aren't the head of a request.
+    BadRequestHead,
+    /// The body comes in a transfer coding.
+    UnsupportedCoding,
+    /// `Content-Length` is given twice or unreadable.
+    BadContentLength,
+    /// The body has more than 1,048,576 bytes.
+    BodyTooLarge,
+    /// A body comes without its length.
+    LengthRequired,
+    /// The method isn't POST.
+    OnlyPost,
+    /// The target isn't the station's path.
+    NoSuchPath,
+    /// The store failed.
+    StoreFailed,
+    /// No number is left.
+    StoreFull,
 }
 
 impl Line {
+    /// The status that goes with it (RFC 9110, section 15).
+    pub fn status(self) -> u16
+        ensures { result ≡ status_of self }
+    {
+        match self {
+            Line::UnknownNames => 403,
+            Line::NoSuchMessage | Line::NoSuchPath => 404,
+            Line::OnlyPost => 405,
+            Line::IdUsedBefore => 409,
+            Line::LengthRequired => 411,
+            Line::BodyTooLarge => 413,
+            Line::UnsupportedCoding => 501,
+            Line::StoreFailed | Line::StoreFull => 503,
+            Line::BadNames
+            | Line::BadVersion
+            | Line::BadType
+            | Line::UnreadableReceipt
+            | Line::BadId
+            | Line::BadAsk
+            | Line::BadRequestHead
+            | Line::BadContentLength
+            | Line::NotProcessed(_) => 400,
+        }
+    }
+
     /// The text, without a line end.
     pub fn text(self) -> &'static str
         ensures { result.now ≡ line_text self }
@@ -66,11 +109,30 @@ impl Line {
             Line::BadAsk => "bad receipt request",
             Line::IdUsedBefore => "message identifier used before",
             Line::NotProcessed(outcome) => outcome.text(),
+            Line::BadRequestHead => "bad request head",
+            Line::UnsupportedCoding => "transfer coding not supported",
+            Line::BadContentLength => "bad Content-Length",
+            Line::BodyTooLarge => "body too large",
+            Line::LengthRequired => "length required",
+            Line::OnlyPost => "only POST",
+            Line::NoSuchPath => "no such path",
+            Line::StoreFailed => "store fault",
+            Line::StoreFull => "store is full",
+        }
+    }
+
+    /// The answer that it is.
+    pub fn answer(self) -> HttpAnswer
+        ensures { result ≡ refusal self }
+    {
+        HttpAnswer {
+            status: self.status(),
+            body: HttpBody::Words(self),
         }
     }
 }
 
-/// The body of an answer to a post.
+/// The body of an answer to a request.
 #[derive(Drop)]
 pub enum HttpBody {
     /// No byte.
@@ -86,7 +148,7 @@ pub enum HttpBody {
     },
 }
 
-/// The answer to a post.
+/// The answer to a request.
 #[derive(Drop)]
 pub struct HttpAnswer {
     /// The status (RFC 9110, section 15).

@@ -1,6 +1,6 @@
 ghost use Rattle.std.specs.Prelude.{◌≡◌, IfOk};
 
-use as2_names::Memory;
+use as2_text::Memory;
 use std::alloc::Global;
 use std::marker::Model;
 

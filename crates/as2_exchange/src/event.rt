@@ -1,5 +1,5 @@
 use as2_mic::Pieces;
-use as2_names::{AsName, Head, Moment};
+use as2_text::{AsName, Head, Moment};
 
 /// What came of a try to send.
 #[derive(Drop)]

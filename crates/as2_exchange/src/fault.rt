@@ -1,7 +1,7 @@
 ghost use Rattle.std.specs.Prelude.{◌≡◌};
 ghost use Rattle.as2_exchange.specs.declared.fault.StoreFault.TheVariants.{Memory as OutOfMemory};
 
-use as2_names::Memory;
+use as2_text::Memory;
 
 /// Why a store couldn't answer. A fault changes nothing.
 #[derive(Clone, Copy, Debug, PartialEq, Eq)]

@@ -2,7 +2,7 @@ use crate::attempt::Attempt;
 use crate::bytes::Bytes;
 use as2_mdn::{Outcome, ReportMic};
 use as2_mic::Pieces;
-use as2_names::{AsName, MessageId, Moment};
+use as2_text::{AsName, MessageId, Moment};
 
 /// How a receipt is asked for in a post (RFC 4130, section 7.3).
 #[derive(Drop)]

@@ -2,7 +2,7 @@ use crate::attempt::Attempt;
 use crate::bytes::Bytes;
 use as2_mdn::Detail;
 use as2_mic::Pieces;
-use as2_names::{AsName, MessageId, Moment};
+use as2_text::{AsName, MessageId, Moment};
 
 /// The receipt that settled a document.
 #[derive(Drop)]

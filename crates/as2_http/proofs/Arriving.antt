@@ -5,7 +5,7 @@ use Rattle.std.specs.Io.KnownBytes.{Consumes, IsAtEnd}
 use Rattle.httparse.specs.Grammar.{RequestHead}
 use Rattle.as2_http.specs.HeadText.{HeadLies, unblank}
 use Rattle.as2_http.specs.Inputs.{ReadsWhile, IsHeadless, IsShort}
-use Rattle.as2_http.specs.Requests.{Begins, Refuses, IsOpen, in_head, IsHead, Fields}
+use Rattle.as2_http.specs.Requests.{Begins, IsRefused, IsOpen, in_head, IsHead, Fields}
 use Rattle.as2_http.specs.Arrivals.{LeavesUnread, Arrives}
 use Rattle.as2_http.specs.Stops.{UnlessStopFault, UnlessNoHeadFault}
 use Rattle.as2_http.specs.Reading.{Judges}
@@ -33,23 +33,23 @@ not_blank text n d le other none =
 -- ---- the input is what was read, and what is left
 
 -- these bytes were read first of the input, and those are left
-pub record Came (input text : List ℕ) (after : Option (List ℕ)) : Type 0 where
+pub record HasArrived (input text : List ℕ) (after : Option (List ℕ)) : Type 0 where
   pub left : List ℕ
   pub kept : after ≡ Some left
   pub whole : input ≡ text ++ left
 
-split : (before after : Option (List ℕ)) (got input : List ℕ) → Consumes before after got → before ≡ Some input → Came input got after
+split : (before after : Option (List ℕ)) (got input : List ℕ) → Consumes before after got → before ≡ Some input → HasArrived input got after
 split None after got input c e = absurd cc
 split (Some x) None got input c e = absurd c
 split (Some x) (Some y) got input c e = record { left = y; kept = refl; whole = (let same : x ≡ input = cc in sym same ∙ c) }
 
-pub came : (P : List ℕ → Type 0) (start text : List ℕ) (before after : Option (List ℕ)) → start ≡ [] → ReadsWhile P start text before after → (input : List ℕ) → before ≡ Some input → Came input text after
+pub came : (P : List ℕ → Type 0) (start text : List ℕ) (before after : Option (List ℕ)) → start ≡ [] → ReadsWhile P start text before after → (input : List ℕ) → before ≡ Some input → HasArrived input text after
 came P start text before after none r input e =
     let same : text ≡ r.got = r.grown ∙ ap (λ (t : List ℕ). t ++ r.got) none in
-    subst (λ (t : List ℕ). Came input t after) (sym same) (split before after r.got input r.consumed e)
+    subst (λ (t : List ℕ). HasArrived input t after) (sym same) (split before after r.got input r.consumed e)
 
 -- two runs of reads are one
-pub came_on : (P : List ℕ → Type 0) (input text grown : List ℕ) (before after : Option (List ℕ)) → Came input text before → ReadsWhile P text grown before after → Came input grown after
+pub came_on : (P : List ℕ → Type 0) (input text grown : List ℕ) (before after : Option (List ℕ)) → HasArrived input text before → ReadsWhile P text grown before after → HasArrived input grown after
 came_on P input text grown before after m r =
     let s = split before after r.got m.left r.consumed m.kept in
     record {
@@ -59,21 +59,21 @@ came_on P input text grown before after m r =
     }
 
 -- nothing is left at the end of the input
-pub came_all : (input text : List ℕ) (after : Option (List ℕ)) → Came input text after → IsAtEnd after → text ≡ input
+pub came_all : (input text : List ℕ) (after : Option (List ℕ)) → HasArrived input text after → IsAtEnd after → text ≡ input
 came_all input text after m done =
     let none : m.left ≡ [] = (let at : IsAtEnd (Some m.left) = subst IsAtEnd m.kept done in at) in
     sym (m.whole ∙ ap (λ (t : List ℕ). text ++ t) none ∙ append-nil text)
 
-pub begins_input : (input text : List ℕ) (after : Option (List ℕ)) (r : Request) (rest : List ℕ) → Came input text after → Begins text r rest → (end : List ℕ) × Begins input r end
+pub begins_input : (input text : List ℕ) (after : Option (List ℕ)) (r : Request) (rest : List ℕ) → HasArrived input text after → Begins text r rest → (end : List ℕ) × Begins input r end
 begins_input input text after r rest m b = (rest ++ m.left, rw m.whole (begins_append text m.left r rest b))
 
-pub refuses_input : (input text : List ℕ) (after : Option (List ℕ)) (refused : Refused) → Came input text after → Refuses text refused → Refuses input refused
+pub refuses_input : (input text : List ℕ) (after : Option (List ℕ)) (refused : Refused) → HasArrived input text after → IsRefused text refused → IsRefused input refused
 refuses_input input text after refused m f = rw m.whole (refuses_append text m.left refused f)
 
 -- ---- each read was needed
 
 -- the reads for a head
-unread_at : (start text input : List ℕ) (before mid after : Option (List ℕ)) → start ≡ [] → ReadsWhile IsHeadless start text before mid → 0 < length text → Came input text after → LeavesUnread input after
+unread_at : (start text input : List ℕ) (before mid after : Option (List ℕ)) → start ≡ [] → ReadsWhile IsHeadless start text before mid → 0 < length text → HasArrived input text after → LeavesUnread input after
 unread_at start text input before mid after none r some m =
     let same : text ≡ r.got = r.grown ∙ ap (λ (t : List ℕ). t ++ r.got) none in
     elim r.needed [
@@ -101,7 +101,7 @@ unread_body start text grown before mid after n none r some s opens input e =
     elim s.needed [
       | inl nothing ↦
           let same : grown ≡ text = s.grown ∙ ap (λ (t : List ℕ). text ++ t) nothing ∙ append-nil text in
-          unread_at start text input before mid after none r some (subst (λ (t : List ℕ). Came input t after) same w)
+          unread_at start text input before mid after none r some (subst (λ (t : List ℕ). HasArrived input t after) same w)
       | inr k ↦ record {
         front = text ++ k.0;
         last = k.1;
@@ -121,7 +121,7 @@ unless_map ReadFault P Q f p = tt
 unless_map Memory P Q f p = tt
 unless_map TooLong P Q f p = tt
 
-arrives_stopped : (stop : Stop) (text input : List ℕ) (after : Option (List ℕ)) (arrival : Arrival) → UnlessStopFault stop (Came input text after) → (stop ≡ Ended → IsOpen text × IsAtEnd after)
+arrives_stopped : (stop : Stop) (text input : List ℕ) (after : Option (List ℕ)) (arrival : Arrival) → UnlessStopFault stop (HasArrived input text after) → (stop ≡ Ended → IsOpen text × IsAtEnd after)
     → (stop ≡ Ended → IsOpen text → Arrives text arrival) → ((stop ≡ Ended → ⊥) → (i : List ℕ) → Arrives i arrival) → Arrives input arrival
 arrives_stopped Ended text input after arrival m opened ended fault =
     let o = opened refl in subst (λ (t : List ℕ). Arrives t arrival) (came_all input text after m o.1) (ended refl o.0)
@@ -135,7 +135,7 @@ pub stopped_head : (stop passed : Stop) (start text seen : List ℕ) (before aft
     → (passed ≡ Ended → IsOpen seen → Arrives seen arrival) → ((passed ≡ Ended → ⊥) → (i : List ℕ) → Arrives i arrival) → (input : List ℕ) → before ≡ Some input → Arrives input arrival
 stopped_head stop passed start text seen before after arrival is_passed none reads opened same ended fault input e =
     arrives_stopped stop text input after arrival
-    (unless_map stop (ReadsWhile IsHeadless start text before after) (Came input text after) (λ r. came IsHeadless start text before after none r input e) reads)
+    (unless_map stop (ReadsWhile IsHeadless start text before after) (HasArrived input text after) (λ r. came IsHeadless start text before after none r input e) reads)
     (λ is. let o = opened is in (in_head o.0.0 o.0.1, o.1))
     (λ is. subst (λ (t : List ℕ). IsOpen t → Arrives t arrival) same (ended (sym is_passed ∙ is)))
     (λ other. fault (λ is. other (is_passed ∙ is)))

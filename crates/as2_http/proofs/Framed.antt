@@ -4,7 +4,7 @@ use Rattle.std.proofs.lemmas.List.{take-append-le, length-append, length-drop, d
 use Rattle.httparse.specs.Grammar.{RequestHead}
 use Rattle.httparse.proofs.RunLemmas.{drop_split}
 use Rattle.as2_http.specs.HeadText.{HasNoHeadText, HeadLies, head_limit}
-use Rattle.as2_http.specs.Requests.{Fields, Frames, Begins, Refuses, too_long, no_head, framing, IsOpen, in_body, body_length}
+use Rattle.as2_http.specs.Requests.{Fields, Frames, Begins, IsRefused, too_long, no_head, framing, IsOpen, in_body, body_length}
 use Rattle.as2_http.specs.Reading.{Judges}
 use Rattle.as2_http.specs.declared.arrival.Request.{Request}
 use Rattle.as2_http.specs.declared.framing.Method.{Method}
@@ -37,7 +37,7 @@ begins_append text more r rest b = record {
 window_full : (text more : List ℕ) → head_limit ≤ length text → HasNoHeadText text → HasNoHeadText (text ++ more)
 window_full text more le h = rw (take-append-le head_limit text more le) h
 
-pub refuses_append : (text more : List ℕ) (refused : Refused) → Refuses text refused → Refuses (text ++ more) refused
+pub refuses_append : (text more : List ℕ) (refused : Refused) → IsRefused text refused → IsRefused (text ++ more) refused
 refuses_append text more refused (too_long none long is) = too_long (window_full text more long none) (omega (arith, long, length-append text more)) is
 refuses_append text more refused (no_head bytes after found never is) = no_head bytes (after ++ more) (head_append text more bytes after found) never is
 refuses_append text more refused (framing head fields after frames is) = framing head fields (after ++ more) (frames_append text more head fields after (Err refused.reason) frames) is

@@ -1,10 +1,13 @@
 -- A head that is found stays found when more bytes come.
-use Rattle.std.proofs.Common.{◌≡◌, ◌+◌, ◌-◌, ◌<◌, ◌≤◌, ℕ, suc, zero, true, false, eqb, ltb, ◌&&◌, List, [], ◌∷◌, ◌++◌, length, take, drop, slice_range, Option, Some, None, refl, sym, ap, ◌∙◌, append_assoc, arith, inl, inr}
-use Rattle.std.proofs.lemmas.Bool.{cases_Bool, and_parts}
+use Rattle.std.proofs.Common.{◌≡◌, ◌+◌, ◌-◌, ◌<◌, ◌≤◌, ℕ, suc, zero, Bool, true, false, eqb, List, [], ◌∷◌, ◌++◌, length, take, drop, slice_range, Option, Some, None, refl, sym, ap, ◌∙◌, append_assoc, length-append, arith, inl, inr}
+use Rattle.std.specs.List.{list_any, concat, onto_first}
+use Rattle.std.proofs.lemmas.Bool.{cases_Bool, or_parts, eqb-true}
 use Rattle.std.proofs.lemmas.List.{take_all, take-append-drop, length-take, length-drop, drop-append-le}
-use Rattle.as2_http.specs.HeadText.{is_line_byte, unblank, empty_line, empty_line_from, up_to_empty_line, window, HasHeadText, HasNoHeadText}
+use Rattle.as2_http.specs.HeadText.{is_line_byte, unblank, up_to_empty_line, window, HasHeadText, HasNoHeadText, HeadLies}
 use Rattle.httparse.proofs.RunLemmas.{drop_split, length-slice_range}
-use Rattle.as2_http.specs.HeadText.{HeadLies}
+use Rattle.as2_parts.specs.Lines.{lines, is_empty_line}
+use Rattle.as2_parts.specs.Parts.{cut_at_empty_line, part_in}
+use Rattle.as2_parts.proofs.Cutting.{lines_joined}
 
 -- the front of a longer text is the front of the text, and then more
 pub take_more : (n : ℕ) (xs ys : List ℕ) → (more : List ℕ) × (take n (xs ++ ys) ≡ take n xs ++ more)
@@ -20,37 +23,111 @@ unblank_append (a ∷ text) more b rest h =
       | inr f ↦ rw f refl
     ]
 
-line_append : (text more : List ℕ) → ltb 0 (empty_line text) ≡ true → empty_line (text ++ more) ≡ empty_line text
-line_append [] more h = absurd cc
-line_append (b ∷ []) more h =
+-- ---- the first empty line
+
+cut_none : (ls : List (List ℕ)) → list_any is_empty_line ls ≡ false → (cut_at_empty_line ls).0 ≡ concat ls
+cut_none [] h = refl
+cut_none (line ∷ rest) h = let p = or_parts (is_empty_line line) (list_any is_empty_line rest) h in rw p.0 (ap (λ (t : List ℕ). line ++ t) (cut_none rest p.1))
+
+cut_some : (ls : List (List ℕ)) → list_any is_empty_line ls ≡ true → length (cut_at_empty_line ls).0 + length (cut_at_empty_line ls).1 < length (concat ls)
+cut_some [] h = absurd cc
+cut_some ([] ∷ rest) h = cut_some rest h
+cut_some ((b ∷ line) ∷ rest) h =
+    elim (cases_Bool (is_empty_line (b ∷ line))) [
+      | inl t ↦ rw t (omega (arith, length-append line (concat rest)))
+      | inr f ↦ let s : list_any is_empty_line rest ≡ true = rw f at h in rw f (omega (arith, length-append line (cut_at_empty_line rest).0, length-append line (concat rest), cut_some rest s))
+    ]
+
+-- where there is one, it isn't all of the text that stands before it
+pub cut_of : (text : List ℕ) → list_any is_empty_line (lines text) ≡ true → length (part_in text).0 + length (part_in text).1 < length text
+cut_of text t = omega (arith, cut_some (lines text) t, ap length (lines_joined text))
+
+pub no_head : (text : List ℕ) (part : List ℕ × List ℕ) → part ≡ part_in text → length part.0 ≡ length text → None ≡ up_to_empty_line text
+no_head text part e h =
+    elim (cases_Bool (list_any is_empty_line (lines text))) [
+      | inl t ↦ absurd (omega (arith, cut_of text t, ap (λ (p : List ℕ × List ℕ). length p.0) e, h))
+      | inr f ↦ rw f refl
+    ]
+
+pub one_head : (text : List ℕ) (part : List ℕ × List ℕ) → part ≡ part_in text → (length part.0 ≡ length text → ⊥) → (length part.1 ≤ length text) × (Some (length text - length part.1) ≡ up_to_empty_line text)
+one_head text part e h =
+    let content = ap (λ (p : List ℕ × List ℕ). length p.1) e in
+    elim (cases_Bool (list_any is_empty_line (lines text))) [
+      | inl t ↦ (omega (arith, cut_of text t, content), rw (t, content) refl)
+      | inr f ↦ absurd (h (ap (λ (p : List ℕ × List ℕ). length p.0) e ∙ ap length (cut_none (lines text) f ∙ lines_joined text)))
+    ]
+
+-- an empty line that is found stays, and more comes behind what stands behind it
+abbrev Grows : List ℕ → List (List ℕ) → List (List ℕ) → Type 0
+Grows more old new = (list_any is_empty_line new ≡ true) × ((cut_at_empty_line new).1 ≡ (cut_at_empty_line old).1 ++ more)
+
+joined_more : (text more : List ℕ) → concat (lines (text ++ more)) ≡ concat (lines text) ++ more
+joined_more text more = lines_joined (text ++ more) ∙ ap (λ (t : List ℕ). t ++ more) (sym (lines_joined text))
+
+alone : (b : ℕ) → eqb b 10 ≡ false → is_empty_line (b ∷ []) ≡ false
+alone b f = elim (cases_Bool (eqb b 13)) [ inl t ↦ rw (f, t) refl | inr g ↦ rw (f, g) refl ]
+
+longer : (b c : ℕ) (line : List ℕ) → eqb b 10 ≡ false → eqb c 10 ≡ false → is_empty_line (b ∷ c ∷ line) ≡ false
+longer b c line f u = elim (cases_Bool (eqb b 13)) [ inl t ↦ rw (f, t, u) refl | inr g ↦ rw (f, g) refl ]
+
+first_longer : (b c : ℕ) (ls : List (List ℕ)) → eqb b 10 ≡ false → eqb c 10 ≡ false
+    → (list_any is_empty_line (onto_first b (onto_first c ls)) ≡ list_any is_empty_line (drop 1 ls)) × ((cut_at_empty_line (onto_first b (onto_first c ls))).1 ≡ (cut_at_empty_line (drop 1 ls)).1)
+first_longer b c [] f u = rw (longer b c [] f u) (refl, refl)
+first_longer b c (line ∷ ls) f u = rw (longer b c line f u) (refl, refl)
+
+onto_behind : (b : ℕ) (ls : List (List ℕ)) → drop 1 (onto_first b ls) ≡ drop 1 ls
+onto_behind b [] = refl
+onto_behind b (line ∷ ls) = refl
+
+-- of all lines, or of those behind the first
+abbrev lines_from : Bool → List ℕ → List (List ℕ)
+lines_from true text = lines text
+lines_from false text = drop 1 (lines text)
+
+grows : (all : Bool) (text more : List ℕ) → list_any is_empty_line (lines_from all text) ≡ true → Grows more (lines_from all text) (lines_from all (text ++ more))
+grows true [] more h = absurd cc
+grows false [] more h = absurd cc
+grows false (b ∷ rest) more h =
     elim (cases_Bool (eqb b 10)) [
-      | inl t ↦ rw t refl
-      | inr f ↦ elim (cases_Bool (eqb b 13)) [
-        | inl t ↦ let e : ltb 0 (empty_line (b ∷ [])) ≡ false = rw (f, t) refl in absurd (cc (sym e ∙ h))
-        | inr g ↦ rw (f, g) refl
+      | inl t ↦ rw t (grows true rest more (rw t at h))
+      | inr f ↦ let s : list_any is_empty_line (drop 1 (lines rest)) ≡ true = rw (f, onto_behind b (lines rest)) at h in
+          rw (f, onto_behind b (lines rest), onto_behind b (lines (rest ++ more))) (grows false rest more s)
+    ]
+grows true (b ∷ []) more h =
+    elim (cases_Bool (eqb b 10)) [
+      | inl t ↦ rw (eqb-true b 10 t) (refl, lines_joined more)
+      | inr f ↦ let s : false ≡ true = rw (f, alone b f) at h in absurd cc
+    ]
+grows true (b ∷ c ∷ rest) more h =
+    elim (cases_Bool (eqb b 10)) [
+      | inl t ↦ rw (eqb-true b 10 t) (refl, joined_more (c ∷ rest) more)
+      | inr f ↦ elim (cases_Bool (eqb c 10)) [
+        | inl u ↦ elim (cases_Bool (eqb b 13)) [
+          | inl v ↦ rw (eqb-true b 13 v, eqb-true c 10 u) (refl, joined_more rest more)
+          | inr w ↦ let e : is_empty_line (b ∷ c ∷ []) ≡ false = rw (f, w) refl in rw (f, u, e) (grows true rest more (rw (f, u, e) at h))
+        ]
+        | inr u ↦ let old = first_longer b c (lines rest) f u in
+            let new = first_longer b c (lines (rest ++ more)) f u in
+            let s : list_any is_empty_line (onto_first b (onto_first c (lines rest))) ≡ true = rw (f, u) at h in
+            let g = grows false rest more (sym old.0 ∙ s) in
+            rw (f, u) (new.0 ∙ g.0, new.1 ∙ g.1 ∙ ap (λ (t : List ℕ). t ++ more) (sym old.1))
       ]
     ]
-line_append (b ∷ c ∷ text) more h = refl
 
-later_line : (m : ℕ) (text more : List ℕ) (k : ℕ) → empty_line_from m text ≡ Some k → empty_line (text ++ more) ≡ empty_line text
-later_line m [] more k h = absurd cc
-later_line m (b ∷ []) more k h =
-    elim (cases_Bool (eqb b 10)) [
-      | inl t ↦ let e : empty_line_from m (b ∷ []) ≡ None = rw t refl in absurd (cc (sym e ∙ h))
-      | inr f ↦ let e : empty_line_from m (b ∷ []) ≡ None = rw f refl in absurd (cc (sym e ∙ h))
+-- how long the text is up to there
+line_end : (text : List ℕ) (k : ℕ) → up_to_empty_line text ≡ Some k → (list_any is_empty_line (lines text) ≡ true) × (length text - length (part_in text).1 ≡ k)
+line_end text k h =
+    elim (cases_Bool (list_any is_empty_line (lines text))) [
+      | inl t ↦ let e : Some (length text - length (part_in text).1) ≡ Some k = rw t at h in (t, cc)
+      | inr f ↦ let e : None ≡ Some k = rw f at h in absurd cc
     ]
-later_line m (b ∷ c ∷ text) more k h = refl
 
-pub from_append : (n : ℕ) (text more : List ℕ) (k : ℕ) → empty_line_from n text ≡ Some k → empty_line_from n (text ++ more) ≡ empty_line_from n text
-from_append n [] more k h = absurd cc
-from_append n (b ∷ text) more k h =
-    elim (cases_Bool (eqb b 10 && ltb 0 (empty_line text))) [
-      | inl t ↦ let p = and_parts (eqb b 10) (ltb 0 (empty_line text)) t in
-          let e = line_append text more p.1 in rw e (rw t refl)
-      | inr f ↦ let s : empty_line_from n (b ∷ text) ≡ empty_line_from (n + 1) text = rw f refl in
-          let e = later_line (n + 1) text more k (sym s ∙ h) in
-          rw e (rw f (from_append (n + 1) text more k (sym s ∙ h)))
-    ]
+pub line_stays : (text more : List ℕ) (k : ℕ) → up_to_empty_line text ≡ Some k → up_to_empty_line (text ++ more) ≡ Some k
+line_stays text more k h =
+    let l = line_end text k h in
+    let g = grows true text more l.0 in
+    let n : length (text ++ more) - length (part_in (text ++ more)).1 ≡ k = omega (arith, length-append text more, ap length g.1, length-append (part_in text).1 more, l.1) in
+    rw g.0 (ap Some n)
 
 some_first : (text : List ℕ) (k : ℕ) → up_to_empty_line text ≡ Some k → (b : ℕ) × (rest : List ℕ) × (text ≡ b ∷ rest)
 some_first [] k h = absurd cc
@@ -67,7 +144,7 @@ window_append text more k h =
     let f = some_first (window text) k h in
     let m = take_more 16384 text more in
     let e : window (text ++ more) ≡ window text ++ m.0 = ap unblank m.1 ∙ unblank_append (take 16384 text) m.0 f.0 f.1 f.2 in
-    ap up_to_empty_line e ∙ from_append 0 (window text) m.0 k h ∙ h
+    ap up_to_empty_line e ∙ line_stays (window text) m.0 k h
 
 pub head_append : (text more head after : List ℕ) → HasHeadText text head after → HasHeadText (text ++ more) head (after ++ more)
 head_append text more head after h =
@@ -78,29 +155,19 @@ head_append text more head after h =
       unblank_append text more f.0 (f.1 ++ drop 16384 text) e ∙ ap (λ (t : List ℕ). t ++ more) h.1 ∙ append_assoc head after more,
     )
 
-from_after : (n : ℕ) (text : List ℕ) (k : ℕ) → empty_line_from n text ≡ Some k → n < k
-from_after n [] k h = absurd cc
-from_after n (b ∷ text) k h =
-    elim (cases_Bool (eqb b 10 && ltb 0 (empty_line text))) [
-      | inl t ↦ let s : empty_line_from n (b ∷ text) ≡ Some (n + 1 + empty_line text) = rw t refl in
-          let e : n + 1 + empty_line text ≡ k = cc (sym s ∙ h) in omega (arith, e)
-      | inr f ↦ let s : empty_line_from n (b ∷ text) ≡ empty_line_from (n + 1) text = rw f refl in
-          let r = from_after (n + 1) text k (sym s ∙ h) in omega (arith, r)
-    ]
-
 pub length-slice : (text : List ℕ) (head n : ℕ) → head + n ≤ length text → length (slice_range text head (head + n)) ≡ n
 length-slice text head n le = omega (arith, length-slice_range text head (head + n) (omega arith) le)
 
 pub lies : (text : List ℕ) (head n : ℕ) → drop head (take 16384 text) ≡ window text → head ≤ length (take 16384 text) → up_to_empty_line (window text) ≡ Some n → n ≤ length (window text) → HeadLies text head (head + n)
 lies text head n d le h fits =
-    let some = from_after 0 (window text) n h in
+    let l = line_end (window text) n h in
     let total : length (window text) ≡ length (take 16384 text) - head = ap length (sym d) ∙ length-drop head (take 16384 text) in
     let most : length (take 16384 text) ≤ length text = omega (arith, length-take 16384 text) in
     let e : unblank text ≡ drop head text =
     unblank_window text n h ∙ ap (λ (t : List ℕ). t ++ drop 16384 text) (sym d)
     ∙ sym (drop-append-le head (take 16384 text) (drop 16384 text) le) ∙ ap (drop head) (take-append-drop 16384 text) in
     record {
-      some = omega (arith, some);
+      some = omega (arith, l.1, cut_of (window text) l.0);
       within = omega (arith, total, most, fits, le);
       found = (h ∙ ap (λ (m : ℕ). Some m) (sym (length-slice text head n (omega (arith, total, most, fits, le)))), e ∙ drop_split text head (head + n) (omega arith));
     }

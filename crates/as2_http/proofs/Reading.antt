@@ -1,11 +1,7 @@
 -- One more read.
-use Rattle.std.proofs.Common.{ℕ, List, [], ◌++◌, Option, refl, sym, ap, ◌∙◌, append_assoc, append-nil, inl, inr}
-use Rattle.std.proofs.KnownBytes.{Consumes-nil, Consumes-trans}
-use Rattle.as2_http.specs.Inputs.{GrowsBy, EndsAt, ReadsWhile}
-
--- no read was made yet
-pub reads_none : (P : List ℕ → Type 0) (text : List ℕ) (known : Option (List ℕ)) → ReadsWhile P text text known known
-reads_none P text known = record { got = []; grown = sym (append-nil text); consumed = Consumes-nil known; needed = inl refl }
+use Rattle.std.proofs.Common.{ℕ, List, ◌++◌, Option, refl, sym, ap, ◌∙◌, append_assoc, inr}
+use Rattle.std.proofs.KnownBytes.{Consumes-trans}
+use Rattle.as2_http.specs.Inputs.{GrowsBy, ReadsWhile}
 
 -- a read that was needed
 pub reads_more : (P : List ℕ → Type 0) (old mid new : List ℕ) (a b c : Option (List ℕ)) → ReadsWhile P old mid a b → P mid → GrowsBy mid new b c → ReadsWhile P old new a c
@@ -14,13 +10,4 @@ reads_more P old mid new a b c r wanting g = record {
   grown = g.grown ∙ ap (λ (t : List ℕ). t ++ g.last) r.grown ∙ append_assoc old r.got g.last;
   consumed = Consumes-trans a b c r.got g.last r.consumed g.consumed;
   needed = inr (r.got, g.last, refl, rw (sym r.grown) wanting, g.most);
-}
-
--- the reader was at its end
-pub reads_end : (P : List ℕ → Type 0) (old mid new : List ℕ) (a b c : Option (List ℕ)) → ReadsWhile P old mid a b → EndsAt mid new b c → ReadsWhile P old new a c
-reads_end P old mid new a b c r e = record {
-  got = r.got;
-  grown = e.kept ∙ r.grown;
-  consumed = rw (sym (append-nil r.got)) (Consumes-trans a b c r.got [] r.consumed e.consumed);
-  needed = r.needed;
 }

@@ -2,14 +2,14 @@
 use Rattle.std.specs.Prelude.{◌≡◌, ℕ, ◌≤◌, List, [], ◌++◌, length, Option, Some, Bool, true, false, ⊤}
 use Rattle.as2_http.specs.HeadText.{unblank}
 use Rattle.as2_http.specs.Inputs.{read_limit}
-use Rattle.as2_http.specs.Requests.{Begins, Refuses, IsOpen}
+use Rattle.as2_http.specs.Requests.{Begins, IsRefused, IsOpen}
 use Rattle.as2_http.specs.declared.arrival.Arrival.{Arrival}
 use Rattle.as2_http.specs.declared.arrival.Arrival.TheVariants as arrival
 
 -- what arrives is what the whole input begins with; a fault says nothing of it
 abbrev pub Arrives : List ℕ → Arrival → Type 0
 Arrives input (arrival.Request r) = (rest : List ℕ) × Begins input r rest
-Arrives input (arrival.Refused refused) = Refuses input refused
+Arrives input (arrival.Refused refused) = IsRefused input refused
 Arrives input arrival.Closed = IsOpen input × (unblank input ≡ [])
 Arrives input arrival.Truncated = IsOpen input × ¬ (unblank input ≡ [])
 Arrives input arrival.ReadFault = ⊤

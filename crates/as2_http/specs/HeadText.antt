@@ -1,6 +1,9 @@
 -- Where the head of a message lies in a text (RFC 9112, section 2.1): behind CR and LF bytes, up to its first empty line.
-use Rattle.std.specs.Prelude.{◌≡◌, ℕ, ◌+◌, ◌<◌, ◌≤◌, Bool, false, ◌&&◌, ◌||◌, List, [], ◌∷◌, ◌++◌, length, take, drop, slice_range, if◌then◌else◌, ◌==◌, nat_lt, Option, Some, None}
+use Rattle.std.specs.Prelude.{◌≡◌, ℕ, ◌-◌, ◌<◌, ◌≤◌, Bool, ◌||◌, List, [], ◌∷◌, ◌++◌, length, take, drop, slice_range, if◌then◌else◌, ◌==◌, Option, Some, None}
+use Rattle.std.specs.List.{list_any}
 use Rattle.httparse.specs.Ascii.{line_feed, carriage_return}
+use Rattle.as2_parts.specs.Lines.{lines, is_empty_line}
+use Rattle.as2_parts.specs.Parts.{part_in}
 
 -- CR or LF
 abbrev pub is_line_byte : ℕ → Bool
@@ -11,25 +14,9 @@ abbrev pub unblank : List ℕ → List ℕ
 unblank [] = []
 unblank (b ∷ text) = if is_line_byte b then unblank text else b ∷ text
 
--- the first byte is LF
-abbrev pub begins_with_lf : List ℕ → Bool
-begins_with_lf [] = false
-begins_with_lf (b ∷ text) = b == line_feed
-
--- the length of an empty line at the front, LF or CR LF; 0 where none stands there
-abbrev pub empty_line : List ℕ → ℕ
-empty_line [] = 0
-empty_line (b ∷ text) = if b == line_feed then 1 else if b == carriage_return && begins_with_lf text then 2 else 0
-
--- the place behind the first empty line that follows a line, where n bytes stand before the text
-abbrev pub empty_line_from : ℕ → List ℕ → Option ℕ
-empty_line_from n [] = None
-empty_line_from n (b ∷ text) =
-    if b == line_feed && nat_lt 0 (empty_line text) then Some (n + 1 + empty_line text) else empty_line_from (n + 1) text
-
--- the length of the text up to the end of its first empty line
+-- the length of the text up to the end of its first empty line, if it has one
 abbrev pub up_to_empty_line : List ℕ → Option ℕ
-up_to_empty_line text = empty_line_from 0 text
+up_to_empty_line text = if list_any is_empty_line (lines text) then Some (length text - length (part_in text).1) else None
 
 -- the bytes in which a head has to end, the skipped CR and LF among them
 abbrev pub head_limit : ℕ

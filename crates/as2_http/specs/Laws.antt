@@ -1,8 +1,8 @@
 -- A text begins with one thing at most: a request and what follows it, or a refusal, or it is open.
 use Rattle.std.specs.Prelude.{◌≡◌, ℕ, List}
-use Rattle.as2_http.specs.Answers.{Answer}
+use Rattle.as2_exchange.specs.declared.answer.HttpAnswer.{HttpAnswer}
 use Rattle.as2_http.specs.Replies.{IsReply}
-use Rattle.as2_http.specs.Requests.{Begins, Refuses, IsOpen}
+use Rattle.as2_http.specs.Requests.{Begins, IsRefused, IsOpen}
 use Rattle.as2_http.specs.declared.framing.Refused.{Refused}
 use Rattle.as2_http.specs.declared.arrival.Request.{Request}
 use Rattle.as2_http.specs.declared.reply.Form.{Form}
@@ -13,11 +13,11 @@ BeginsWithOne = (text : List ℕ) (r q : Request) (rest other : List ℕ) → Be
 
 -- a text is refused in one way
 abbrev pub RefusesInOneWay : Type 0
-RefusesInOneWay = (text : List ℕ) (refused other : Refused) → Refuses text refused → Refuses text other → refused ≡ other
+RefusesInOneWay = (text : List ℕ) (refused other : Refused) → IsRefused text refused → IsRefused text other → refused ≡ other
 
 -- a text that begins with a request isn't refused
 abbrev pub NeverRefusesRequests : Type 0
-NeverRefusesRequests = (text : List ℕ) (r : Request) (rest : List ℕ) (refused : Refused) → Begins text r rest → ¬ (Refuses text refused)
+NeverRefusesRequests = (text : List ℕ) (r : Request) (rest : List ℕ) (refused : Refused) → Begins text r rest → ¬ (IsRefused text refused)
 
 -- a text that begins with a request isn't open
 abbrev pub NeverOpensRequests : Type 0
@@ -25,8 +25,8 @@ NeverOpensRequests = (text : List ℕ) (r : Request) (rest : List ℕ) → Begin
 
 -- a text that is refused isn't open
 abbrev pub NeverOpensRefused : Type 0
-NeverOpensRefused = (text : List ℕ) (refused : Refused) → Refuses text refused → ¬ (IsOpen text)
+NeverOpensRefused = (text : List ℕ) (refused : Refused) → IsRefused text refused → ¬ (IsOpen text)
 
 -- an answer has one reply at a moment
 abbrev pub RepliesInOneWay : Type 0
-RepliesInOneWay = (moment : ℕ) (form : Form) (answer : Answer) (text same : List ℕ) → IsReply moment form answer text → IsReply moment form answer same → text ≡ same
+RepliesInOneWay = (moment : ℕ) (form : Form) (answer : HttpAnswer) (text same : List ℕ) → IsReply moment form answer text → IsReply moment form answer same → text ≡ same

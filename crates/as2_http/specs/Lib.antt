@@ -6,5 +6,4 @@ pub mod Requests
 pub mod Laws
 pub mod Reading
 pub mod Arrivals
-pub mod Answers
 pub mod Replies

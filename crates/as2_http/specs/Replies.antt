@@ -4,7 +4,12 @@ use Rattle.http.specs.StatusCode.{reason_phrase}
 use Rattle.httpdate.specs.Date.{unix_secs, date_text}
 use Rattle.httpdate.specs.declared.date.HttpDate.{HttpDate as Date}
 use Rattle.as2_mdn.specs.Reports.{line, head_fields_of}
-use Rattle.as2_http.specs.Answers.{Answer, Body, Nothing, Line, Report}
+use Rattle.as2_exchange.specs.Lines.{line_text}
+use Rattle.as2_exchange.specs.declared.answer.HttpAnswer.{HttpAnswer}
+use Rattle.as2_exchange.specs.declared.answer.HttpBody.{HttpBody}
+use Rattle.as2_exchange.specs.declared.answer.HttpBody.TheVariants.{Nothing, Words, Report}
+use Rattle.as2_exchange.specs.declared.answer.Line.{Line}
+use Rattle.as2_exchange.specs.declared.answer.Line.TheVariants.{BadRequestHead, UnsupportedCoding, BadContentLength, BodyTooLarge, LengthRequired}
 use Rattle.as2_http.specs.declared.framing.Refusal.{Refusal}
 use Rattle.as2_http.specs.declared.framing.Refusal.TheVariants.{BadHead, TransferCoding, BadLength, TooLarge, NoLength}
 use Rattle.as2_http.specs.declared.reply.Form.{Form}
@@ -18,9 +23,9 @@ abbrev pub phrase : ℕ → List ℕ
 phrase status = unwrap_or (reason_phrase status) []
 
 -- the bytes of a body
-abbrev pub content : Body → List ℕ
+abbrev pub content : HttpBody → List ℕ
 content Nothing = []
-content (Line text) = text ++ codes "\n"
+content (Words line) = line_text line ++ codes "\n"
 content (Report out bytes) = bytes
 
 -- the head fields of a line of n bytes
@@ -28,9 +33,9 @@ abbrev pub line_fields : ℕ → List ℕ
 line_fields n = line (codes "Content-Type: text/plain\r\nContent-Length: ") (decimal n)
 
 -- the head fields that a body has
-abbrev pub content_fields : Body → List ℕ
+abbrev pub content_fields : HttpBody → List ℕ
 content_fields Nothing = codes "Content-Length: 0\r\n"
-content_fields (Line text) = line_fields (length (content (Line text)))
+content_fields (Words line) = line_fields (length (content (Words line)))
 content_fields (Report out bytes) = head_fields_of out (length bytes)
 
 abbrev pub status_line : ℕ → List ℕ
@@ -45,7 +50,7 @@ reply_start date closes status =
     ++ (if status == 405 then codes "Allow: POST\r\n" else [])
 
 -- a reply; its body is left out where the request's method is HEAD
-abbrev pub reply : List ℕ → Form → Answer → List ℕ
+abbrev pub reply : List ℕ → Form → HttpAnswer → List ℕ
 reply date form answer =
     reply_start date form.closes answer.status
     ++ content_fields answer.body
@@ -53,13 +58,13 @@ reply date form answer =
     ++ (if not form.to_head then content answer.body else [])
 
 -- the text is that reply at that moment
-abbrev pub IsReply : ℕ → Form → Answer → List ℕ → Type 0
+abbrev pub IsReply : ℕ → Form → HttpAnswer → List ℕ → Type 0
 IsReply moment form answer text = (date : List ℕ) × IsDateOf moment date × (text ≡ reply date form answer)
 
--- the answer to bytes that no request begins with
-abbrev pub refusal : Refusal → Answer
-refusal BadHead = record { status = 400; body = Line (codes "bad request head") }
-refusal TransferCoding = record { status = 501; body = Line (codes "transfer coding not supported") }
-refusal BadLength = record { status = 400; body = Line (codes "bad Content-Length") }
-refusal TooLarge = record { status = 413; body = Line (codes "body too large") }
-refusal NoLength = record { status = 411; body = Line (codes "length required") }
+-- the line that says why no request begins there
+abbrev pub refusal_line : Refusal → Line
+refusal_line BadHead = BadRequestHead
+refusal_line TransferCoding = UnsupportedCoding
+refusal_line BadLength = BadContentLength
+refusal_line TooLarge = BodyTooLarge
+refusal_line NoLength = LengthRequired

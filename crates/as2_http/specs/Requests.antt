@@ -94,10 +94,10 @@ is_head method.Post = false
 is_head method.Other = false
 
 -- the text begins with no request, however it goes on: no head ends within its limit, the bytes up to the first empty line are no head, or the framing is refused
-pub data Refuses (text : List ℕ) (refused : Refused) : Type 0 where
-  too_long : (none : HasNoHeadText text) (long : head_limit ≤ length text) (is : refused ≡ bad_head) → Refuses text refused
-  no_head : (bytes after : List ℕ) (found : HasHeadText text bytes after) (never : (head : RequestHead) (fields : Fields) → ¬ (IsHead bytes head fields)) (is : refused ≡ bad_head) → Refuses text refused
-  framing : (head : RequestHead) (fields : Fields) (after : List ℕ) (frames : Frames text head fields after (Err refused.reason)) (is : refused.to_head ≡ is_head (method_of head.method)) → Refuses text refused
+pub data IsRefused (text : List ℕ) (refused : Refused) : Type 0 where
+  too_long : (none : HasNoHeadText text) (long : head_limit ≤ length text) (is : refused ≡ bad_head) → IsRefused text refused
+  no_head : (bytes after : List ℕ) (found : HasHeadText text bytes after) (never : (head : RequestHead) (fields : Fields) → ¬ (IsHead bytes head fields)) (is : refused ≡ bad_head) → IsRefused text refused
+  framing : (head : RequestHead) (fields : Fields) (after : List ℕ) (frames : Frames text head fields after (Err refused.reason)) (is : refused.to_head ≡ is_head (method_of head.method)) → IsRefused text refused
 
 -- the text ends before its first request does: before its head, or before its body
 pub data IsOpen (text : List ℕ) : Type 0 where

@@ -1,6 +1,8 @@
 //! Where the head of a message lies in a text (RFC 9112, sections 2.1 and 2.2).
-ghost use Rattle.std.specs.Prelude.{◌≡◌, ◌≤◌, ◌+◌, ◌<◌, length, take, drop, IfSome, IfNone};
-ghost use Rattle.as2_http.specs.HeadText.{unblank, empty_line, up_to_empty_line, head_limit, HeadLies, HasNoHeadText};
+ghost use Rattle.std.specs.Prelude.{◌≡◌, ◌≤◌, ◌<◌, length, take, drop, IfSome, IfNone};
+ghost use Rattle.as2_http.specs.HeadText.{unblank, up_to_empty_line, head_limit, HeadLies, HasNoHeadText};
+
+use as2_text::part_in;
 
 /// How many bytes a head may have, the CR and LF skipped before it among them.
 pub const HEAD_LIMIT: usize = 16_384;
@@ -18,37 +20,17 @@ pub fn blank_length(text: &[u8]) -> usize
     text.len()
 }
 
-/// The length of an empty line at `i`, or 0.
-fn empty_line_at(text: &[u8], i: usize) -> usize
-    requires { i ≤ length text.now }
-    ensures exact { result ≡ empty_line (drop i text.now) }
-    ensures within { i + result ≤ length text.now }
-{
-    if i == text.len() {
-        0
-    } else if text[i] == b'\n' {
-        1
-    } else if text[i] == b'\r' && i + 1 < text.len() && text[i + 1] == b'\n' {
-        2
-    } else {
-        0
-    }
-}
-
 /// The length of the text up to the end of its first empty line.
 fn head_length(text: &[u8]) -> Option<usize>
     ensures exact { result ≡ up_to_empty_line text.now }
     ensures within { IfSome result (λ n. n ≤ length text.now) }
 {
-    for (i, byte) in text.iter().enumerate() {
-        if *byte == b'\n' {
-            let line = empty_line_at(text, i + 1);
-            if line > 0 {
-                return Some(i + 1 + line);
-            }
-        }
+    let part = part_in(text);
+    if part.head.len() == text.len() {
+        None
+    } else {
+        Some(text.len() - part.content.len())
     }
-    None
 }
 
 /// The bytes in which a head has to end.

@@ -1,7 +1,6 @@
 //! HTTP over any reader and writer: the request that a stream begins with, and replies.
 #![tactic(auto)]
 
-mod answer;
 mod arrival;
 mod framing;
 mod head_text;
@@ -10,7 +9,6 @@ mod laws;
 mod reply;
 mod request;
 
-pub use answer::{HttpAnswer, HttpBody};
 pub use arrival::{Arrival, Request, read_first};
 pub use framing::{Method, Refusal, Refused, Target};
 pub use laws::{one_arrival, one_refusal, one_reply_text, one_request};

@@ -1,10 +1,10 @@
 //! The texts of replies (RFC 9112, section 4).
 ghost use Rattle.std.specs.Prelude.{◌≡◌, ◌++◌, List, ℕ, [], if◌then◌else◌, length, IfOk, OnOk};
-ghost use Rattle.as2_http.specs.Answers.{Line, body_of};
-ghost use Rattle.as2_http.specs.Replies.{IsDateOf, IsReply, content, content_fields, line_fields, phrase, refusal, reply, reply_start, status_line};
+ghost use Rattle.as2_exchange.specs.Lines.{refusal};
+ghost use Rattle.as2_http.specs.Replies.{IsDateOf, IsReply, content, content_fields, line_fields, phrase, refusal_line, reply, reply_start, status_line};
 
-use crate::answer::{HttpAnswer, HttpBody};
 use crate::framing::Refusal;
+use as2_exchange::{HttpAnswer, HttpBody, Line};
 use as2_mdn::{add_line, write_head_fields};
 use as2_text::{Memory, Moment};
 use http::StatusCode;
@@ -85,28 +85,33 @@ fn add_line_fields(text: &mut Vec<u8>, size: usize) -> Result<(), AllocError>
 }
 
 /// Appends the head fields of a body.
-fn add_fields(alloc: Global, text: &mut Vec<u8>, body: HttpBody<'_>) -> Result<(), Memory>
-    ensures { OnOk result (text.new.items ≡ text.old.items ++ content_fields (body_of body.entry)) }
+fn add_fields(alloc: Global, text: &mut Vec<u8>, body: &HttpBody) -> Result<(), Memory>
+    ensures { OnOk result (text.new.items ≡ text.old.items ++ content_fields body.now) }
 {
     match body {
         HttpBody::Nothing => text.extend_from_slice(b"Content-Length: 0\r\n")?,
-        HttpBody::Line(line) => add_line_fields(text, line.len() + 1)?,
-        HttpBody::Report { out, bytes } => write_head_fields(alloc, text, out, bytes.len())?,
+        HttpBody::Words(line) => add_line_fields(text, line.text().len() + 1)?,
+        HttpBody::Report { out, bytes } => write_head_fields(
+            alloc,
+            text,
+            out,
+            bytes.as_slice().len(),
+        )?,
     }
     Ok(())
 }
 
 /// Appends the bytes of a body.
-fn add_content(text: &mut Vec<u8>, body: HttpBody<'_>) -> Result<(), AllocError>
-    ensures { OnOk result (text.new.items ≡ text.old.items ++ content (body_of body.entry)) }
+fn add_content(text: &mut Vec<u8>, body: &HttpBody) -> Result<(), AllocError>
+    ensures { OnOk result (text.new.items ≡ text.old.items ++ content body.now) }
 {
     match body {
         HttpBody::Nothing => {}
-        HttpBody::Line(line) => {
-            text.extend_from_slice(line.as_bytes())?;
+        HttpBody::Words(line) => {
+            text.extend_from_slice(line.text().as_bytes())?;
             text.extend_from_slice(b"\n")?;
         }
-        HttpBody::Report { bytes, .. } => text.extend_from_slice(bytes)?,
+        HttpBody::Report { bytes, .. } => text.extend_from_slice(bytes.as_slice())?,
     }
     Ok(())
 }
@@ -116,38 +121,29 @@ pub fn write_reply(
     alloc: Global,
     moment: Moment,
     form: Form,
-    answer: &HttpAnswer<'_>,
+    answer: &HttpAnswer,
 ) -> Result<Vec<u8>, Memory>
     ensures { IfOk result (λ text. IsReply moment form answer.now text.items) }
 {
     let mut text = start(alloc, &date_of(moment), form.closes, answer.status)?;
-    add_fields(alloc, &mut text, answer.body)?;
+    add_fields(alloc, &mut text, &answer.body)?;
     text.extend_from_slice(b"\r\n")?;
     if !form.to_head {
-        add_content(&mut text, answer.body)?;
+        add_content(&mut text, &answer.body)?;
     }
     Ok(text)
 }
 
-/// An answer of one line.
-fn line(status: u16, text: &'static str) -> HttpAnswer<'static>
-    ensures { result ≡ record { status = status; body = Line text.now } }
-{
-    HttpAnswer {
-        status,
-        body: HttpBody::Line(text),
-    }
-}
-
 /// The answer to bytes that no request begins with.
-pub fn refusal(reason: Refusal) -> HttpAnswer<'static>
-    ensures { result ≡ refusal reason }
+pub fn refusal(reason: Refusal) -> HttpAnswer
+    ensures { result ≡ refusal (refusal_line reason) }
 {
-    match reason {
-        Refusal::BadHead => line(400, "bad request head"),
-        Refusal::TransferCoding => line(501, "transfer coding not supported"),
-        Refusal::BadLength => line(400, "bad Content-Length"),
-        Refusal::TooLarge => line(413, "body too large"),
-        Refusal::NoLength => line(411, "length required"),
-    }
+    let line = match reason {
+        Refusal::BadHead => Line::BadRequestHead,
+        Refusal::TransferCoding => Line::UnsupportedCoding,
+        Refusal::BadLength => Line::BadContentLength,
+        Refusal::TooLarge => Line::BodyTooLarge,
+        Refusal::NoLength => Line::LengthRequired,
+    };
+    line.answer()
 }

@@ -111,10 +111,7 @@ pub fn judge(alloc: Global, text: &[u8]) -> Result<Judged, NotJudged>
         return Err(NotJudged::BadHead);
     }
     let method = method_of(head.method.of(text));
-    let fields = match fields_of(alloc, text, &spans[..head.headers]) {
-        Ok(fields) => fields,
-        Err(fault) => return Err(fault),
-    };
+    let fields = fields_of(alloc, text, &spans[..head.headers])?;
     Ok(Judged {
         method,
         target: target_of(head.path.of(text)),

@@ -4,12 +4,13 @@ use Rattle.std.specs.Prelude.{IsTrue, not, codes}
 use Rattle.std.specs.Char.{to_ascii_lowercase}
 use Rattle.std.specs.List.{list_all}
 use Rattle.std.specs.Str.{str_to_ascii_lowercase}
-use Rattle.std.proofs.lemmas.Bool.{cases_Bool, and_parts, or_cases, eqb-true, eq-eqb, true≢false}
+use Rattle.std.proofs.lemmas.Bool.{cases_Bool, and_parts, or_cases, eqb-true, eq-eqb, true≢false, not-true}
 use Rattle.std.proofs.lemmas.List.Elements.{All-head, All-tail, All-cons, All-nil}
 use Rattle.as2_names.specs.Ascii.{slash, semicolon}
 use Rattle.as2_names.specs.Trim.{falls_off, all_fall_off, without_front, without_back, trimmed}
 use Rattle.as2_names.specs.Cuts.{Lacks}
-use Rattle.as2_mdn.specs.Dispositions.{is_word, is_action_mode, is_sending_mode}
+use Rattle.as2_names.specs.Options.{is_word}
+use Rattle.as2_mdn.specs.Dispositions.{is_action_mode, is_sending_mode}
 
 -- the byte is no blank and of no line end
 abbrev Stays : ℕ → Type 0
@@ -59,10 +60,6 @@ trimmed_has_none byte text stays h = front_has_none byte text stays (back_has_no
 abbrev lacks : ℕ → List ℕ → Bool
 lacks byte text = list_all (λ b. not (b == byte)) text
 
-not_so : (t : Bool) → not t ≡ true → t ≡ false
-not_so true h = absurd cc
-not_so false h = refl
-
 -- a byte without case that the word lacks
 record IsApart (byte : ℕ) (word : List ℕ) : Type 0 where
   pub uncased : to_ascii_lowercase byte ≡ byte
@@ -79,7 +76,7 @@ word_has_none byte (x ∷ text) (y ∷ word) a h =
       | inl is ↦
           let at_x : to_ascii_lowercase x ≡ byte = ap to_ascii_lowercase (eqb-true x byte is) ∙ a.uncased in
           let at_y : to_ascii_lowercase y ≡ byte = sym (eqb-true (to_ascii_lowercase x) (to_ascii_lowercase y) same.0) ∙ at_x in
-          absurd (true≢false (sym (eq-eqb (to_ascii_lowercase y) byte at_y) ∙ not_so (to_ascii_lowercase y == byte) apart.0))
+          absurd (true≢false (sym (eq-eqb (to_ascii_lowercase y) byte at_y) ∙ not-true (to_ascii_lowercase y == byte) apart.0))
       | inr other ↦ All-cons (λ b. (b == byte) ≡ false) x text other rest
     ]
 

@@ -2,7 +2,7 @@
 use Rattle.std.proofs.Common.{◌≡◌, ◌==◌, ℕ, Bool, true, false, List, [], ◌∷◌, ◌++◌, map, reverse, refl, sym, ap, ◌∙◌, append_assoc, append-nil}
 use Rattle.std.specs.Prelude.{not, ⊤, ◌||◌}
 use Rattle.std.specs.List.{concat, list_all}
-use Rattle.std.proofs.lemmas.Bool.{and_parts, and_from}
+use Rattle.std.proofs.lemmas.Bool.{and_parts, and_from, not-true}
 use Rattle.std.proofs.lemmas.List.{reverse-append, reverse-reverse}
 use Rattle.std.proofs.lemmas.List.Elements.{All-nil, All-cons}
 use Rattle.as2_parts.specs.Lines.{lines, without_feed, without_line_end, behind, is_blanks, is_hyphens}
@@ -95,15 +95,11 @@ not_behind boundary (b ∷ rest) h = rw h refl
 unmarked : (boundary text : List ℕ) → begins_with_hyphen text ≡ false → ¬ IsMark boundary (crlf text)
 unmarked boundary text h = plain_is boundary (crlf text) (ap (behind_mark boundary) (line_end_off text) ∙ not_behind boundary text h)
 
-is_no : (t : Bool) → not t ≡ true → t ≡ false
-is_no true h = absurd cc
-is_no false h = refl
-
 pub no_marks : (boundary : List ℕ) (texts : List (List ℕ)) → list_all (λ text. not (begins_with_hyphen text)) texts ≡ true → HasNoMark boundary (map crlf texts)
 no_marks boundary [] h = All-nil (λ line. ¬ IsMark boundary line)
 no_marks boundary (text ∷ texts) h =
     let p = and_parts (not (begins_with_hyphen text)) (list_all (λ text. not (begins_with_hyphen text)) texts) h in
-    All-cons (λ line. ¬ IsMark boundary line) (crlf text) (map crlf texts) (unmarked boundary text (is_no (begins_with_hyphen text) p.0)) (no_marks boundary texts p.1)
+    All-cons (λ line. ¬ IsMark boundary line) (crlf text) (map crlf texts) (unmarked boundary text (not-true (begins_with_hyphen text) p.0)) (no_marks boundary texts p.1)
 
 -- ---- fields
 

@@ -82,9 +82,6 @@ spelling_no_feed name n =
 
 -- ---- texts with no blank at their ends
 
-pub inside_of : (p : ℕ → Bool) (b : ℕ) → p 9 ≡ false → p 10 ≡ false → p 13 ≡ false → p b ≡ true → is_blank b ≡ false → is_margin b ≡ false
-inside_of p b tab feed return h blank = rw (blank, other p b 10 feed h, other p b 13 return h) refl
-
 skip_shorter : (text : List ℕ) → length (skip_blanks text) ≤ length text
 skip_shorter [] = omega arith
 skip_shorter (b ∷ rest) =
@@ -131,9 +128,6 @@ ends_back text (x ∷ turned) e printable some le =
     let whole : text ≡ reverse turned ++ x ∷ [] = sym (reverse-reverse text) ∙ ap reverse e ∙ reverse-append (x ∷ []) turned in
     let last : is_printable x ≡ true = printable_append (reverse turned) x (rw (← whole) printable) in
     subst Ends (sym whole) (front_ends (reverse turned) (x ∷ []) (one_ends x (is_margin_of x last (first_seen x turned le))))
-
-not_empty : (b : ℕ) (rest : List ℕ) → b ∷ rest ≡ [] → ⊥
-not_empty b rest e = absurd cc
 
 bare_solid : (text : List ℕ) → without_blanks text ≡ text → list_all is_printable text ≡ true → (text ≡ [] → ⊥) → IsSolid text
 bare_solid [] bare printable some = absurd (some refl)

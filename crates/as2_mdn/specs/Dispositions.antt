@@ -1,8 +1,8 @@
 -- The value of a `Disposition` field (RFC 8098, section 3.2.6; RFC 4130, section 7.4.3): which value has which
 -- disposition, and the first fault of a value that has none.
 use Rattle.std.specs.Prelude.{◌≡◌, ◌≢◌, ◌⊎◌, ℕ, Bool, ◌&&◌, ◌||◌, not, ◌==◌, nat_le, List, [], ◌∷◌, ◌++◌, length, take, codes, if◌then◌else◌, IsTrue, Option, Some, None, Result, Ok, Err}
-use Rattle.std.specs.Str.{str_eq_ignore_ascii_case}
 use Rattle.as2_names.specs.Ascii.{slash, semicolon}
+use Rattle.as2_names.specs.Options.{is_word}
 use Rattle.as2_names.specs.Trim.{trimmed}
 use Rattle.as2_names.specs.Cuts.{Lacks, IsCutAt, cut_at}
 use Rattle.as2_mdn.specs.declared.disposition.DispositionFault.{DispositionFault}
@@ -14,10 +14,6 @@ type_of disposition = disposition.0
 
 abbrev pub modifier_of : List ℕ × List ℕ → List ℕ
 modifier_of disposition = disposition.1
-
--- the text is the word, without regard to the case of ASCII letters
-abbrev pub is_word : List ℕ → List ℕ → Bool
-is_word text word = str_eq_ignore_ascii_case text word
 
 -- action-mode, with blanks and line ends around it
 abbrev pub is_action_mode : List ℕ → Bool

@@ -4,7 +4,7 @@ ghost use Rattle.as2_names.specs.Ascii.{slash};
 ghost use Rattle.as2_names.specs.Cuts.{cut_at};
 ghost use Rattle.as2_mdn.specs.Dispositions.{IsDisposition, reading, type_and_modifier, given_modifier, has_modifier, has_error, begins_with, is_processed, is_action_mode, is_sending_mode};
 
-use as2_names::{cut_at, without_blanks_and_line_ends};
+use as2_text::{cut_at, without_blanks_and_line_ends};
 use std::marker::Model;
 
 /// Why a value has no disposition: the first fault in this order.

@@ -3,7 +3,7 @@ ghost use Rattle.as2_names.specs.Identifiers.{value_of};
 
 use crate::Disposition;
 use as2_mic::MicField;
-use as2_names::without_brackets;
+use as2_text::without_brackets;
 use std::marker::Model;
 
 /// What a receipt gives as the MIC of the document (RFC 4130, section 7.4.3).

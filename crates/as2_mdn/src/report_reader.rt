@@ -7,8 +7,7 @@ ghost use Rattle.as2_mdn.specs.ReportReading.{IsReport, body_reading, content_re
 
 use crate::{Disposition, MicPart, Receipt};
 use as2_mic::MicField;
-use as2_names::is_identifier;
-use as2_text::{Kind, MediaType, Part, find_once, two_parts};
+use as2_text::{Kind, MediaType, Part, find_once, is_identifier, two_parts};
 
 /// Why a body is no report that can be read: the first that fits in the order `NotReport`, `Parts`, `NotNotification`,
 /// `Encoded`, `Twice`, `NoId`, `NoDisposition`, `BadDisposition`.

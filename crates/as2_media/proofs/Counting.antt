@@ -1,19 +1,16 @@
 -- Parameters that are read one after the other.
-use Rattle.std.proofs.Common.{◌≡◌, ℕ, zero, suc, ◌-◌, ◌<◌, false, List, [], ◌∷◌, ◌++◌, length, Some, Result, Ok, Err, refl, ap, append_assoc, arith}
+use Rattle.std.proofs.Common.{◌≡◌, ℕ, zero, suc, ◌-◌, ◌<◌, false, List, [], ◌∷◌, ◌++◌, length, Some, arith}
 use Rattle.std.specs.Prelude.{◌==◌}
 use Rattle.std.proofs.lemmas.List.{length_push}
+use Rattle.as2_names.specs.Names.{with_front}
 use Rattle.as2_names.specs.Trim.{trimmed}
-use Rattle.as2_media.specs.Parameters.{parameter, parameters, with_front}
-use Rattle.as2_media.specs.declared.fault.TypeFault.{TypeFault}
-
-front_front : (held : List (List ℕ × List ℕ)) (p : List ℕ × List ℕ) (r : Result (List (List ℕ × List ℕ)) TypeFault) → with_front (held ++ p ∷ []) r ≡ with_front held (with_front (p ∷ []) r)
-front_front held p (Ok more) = ap (λ (x : List (List ℕ × List ℕ)). Ok x) (append_assoc held (p ∷ []) more)
-front_front held p (Err e) = refl
+use Rattle.as2_names.proofs.Scanning.{front_push}
+use Rattle.as2_media.specs.Parameters.{parameter, parameters}
 
 one_more : (room : ℕ) (held : List (List ℕ × List ℕ)) (p : List ℕ × List ℕ) (text : List ℕ) (texts : List (List ℕ)) → 0 < room → (length (trimmed text) == 0) ≡ false → parameter text ≡ Some p
     → with_front (held ++ p ∷ []) (parameters (room - 1) texts) ≡ with_front held (parameters room (text ∷ texts))
 one_more zero held p text texts lt some is = absurd (omega (arith, lt))
-one_more (suc room) held p text texts lt some is = rw (some, is) (front_front held p (parameters (suc room - 1) texts))
+one_more (suc room) held p text texts lt some is = rw (some, is) (front_push held p (parameters (suc room - 1) texts))
 
 -- the parameter goes behind those that are held, where there is room
 pub taken : (held : List (List ℕ × List ℕ)) (p : List ℕ × List ℕ) (text : List ℕ) (texts : List (List ℕ)) → length held < 8 → (length (trimmed text) == 0) ≡ false → parameter text ≡ Some p

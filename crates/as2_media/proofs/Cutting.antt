@@ -2,7 +2,7 @@
 use Rattle.std.proofs.Common.{◌≡◌, ℕ, Bool, true, false, List, [], ◌∷◌, ◌++◌, length, Some, None, refl, sym, ap, ◌∙◌, arith, inl, inr}
 use Rattle.std.specs.Prelude.{◌&&◌, ◌==◌, not}
 use Rattle.std.specs.List.{list_all}
-use Rattle.std.proofs.lemmas.Bool.{cases_Bool, and_parts, and_from, eqb-true}
+use Rattle.std.proofs.lemmas.Bool.{cases_Bool, and_parts, and_from, eqb-true, not-true}
 use Rattle.as2_names.specs.Cuts.{Lacks, cut_at}
 use Rattle.as2_names.specs.Trim.{falls_off, all_fall_off}
 use Rattle.as2_names.proofs.Cuts.{lacks_front, cut_some, cut_none}
@@ -15,15 +15,11 @@ abbrev pub is_free : ℕ → List ℕ → Bool
 is_free mark [] = true
 is_free mark (b ∷ rest) = not (b == mark) && is_free mark rest
 
-pub not_false : (x : Bool) → not x ≡ true → x ≡ false
-not_false true h = absurd cc
-not_false false h = refl
-
 free_lacks : (mark : ℕ) (text : List ℕ) → is_free mark text ≡ true → Lacks mark text
 free_lacks mark [] h = λ k d lt. absurd (omega (arith, lt))
 free_lacks mark (b ∷ rest) h =
     let p = and_parts (not (b == mark)) (is_free mark rest) h in
-    lacks_front mark b rest (not_false (b == mark) p.0) (free_lacks mark rest p.1)
+    lacks_front mark b rest (not-true (b == mark) p.0) (free_lacks mark rest p.1)
 
 pub cut_free : (mark : ℕ) (text rest : List ℕ) → is_free mark text ≡ true → cut_at mark (text ++ mark ∷ rest) ≡ Some (text, rest)
 cut_free mark text rest h = cut_some mark (text ++ mark ∷ rest) text rest (record { whole = refl; first = free_lacks mark text h })

@@ -1,7 +1,6 @@
 pub mod Counting
 pub mod Cutting
 pub mod Fronts
-pub mod Laws
 pub mod Padding
 pub mod Quotes
 pub mod Readings

@@ -1,5 +1,7 @@
 -- What blanks and line ends around a text are to it.
 use Rattle.std.proofs.Common.{◌≡◌, ℕ, Bool, true, false, List, [], ◌∷◌, ◌++◌, refl, sym, ap, ◌∙◌, append_assoc, inl, inr}
+use Rattle.std.proofs.Math.Bool.{and-false}
+use Rattle.as2_names.proofs.Trims.{none_stays}
 use Rattle.std.specs.Prelude.{◌&&◌, ◌||◌, ◌==◌}
 use Rattle.std.proofs.lemmas.Bool.{cases_Bool, and_parts, and_from}
 use Rattle.as2_names.specs.Ascii.{line_feed, carriage_return}
@@ -36,10 +38,6 @@ front_off [] text h = refl
 front_off (b ∷ rest) text h =
     let p = and_parts (falls_off b rest) (all_fall_off rest) h in
     rw (falls_more b rest text p.0) (front_off rest text p.1)
-
-pub none_stays : (text : List ℕ) → all_fall_off text ≡ true → without_back text ≡ []
-none_stays [] h = refl
-none_stays (b ∷ rest) h = rw h refl
 
 none_in_front : (text : List ℕ) → all_fall_off text ≡ true → without_front text ≡ []
 none_in_front [] h = refl
@@ -81,10 +79,6 @@ one_ends b h = record {
   back = λ blanks off. rw (stays b blanks h, none_stays blanks off) refl;
 }
 
-and_no : (a : Bool) → (a && false) ≡ false
-and_no true = refl
-and_no false = refl
-
 some_stays : (text blanks : List ℕ) → Ends text → all_fall_off blanks ≡ true → all_fall_off (text ++ blanks) ≡ false
 some_stays text blanks e off =
     elim (cases_Bool (all_fall_off (text ++ blanks))) [
@@ -95,7 +89,7 @@ some_stays text blanks e off =
 pub more_ends : (b : ℕ) (text : List ℕ) → Ends text → Ends (b ∷ text)
 more_ends b text e = record {
   some = λ n. absurd cc;
-  back = λ blanks off. rw (some_stays text blanks e off, and_no (falls_off b (text ++ blanks)), e.back blanks off) refl;
+  back = λ blanks off. rw (some_stays text blanks e off, and-false (falls_off b (text ++ blanks)), e.back blanks off) refl;
 }
 
 pub front_ends : (front text : List ℕ) → Ends text → Ends (front ++ text)

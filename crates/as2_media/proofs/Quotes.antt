@@ -2,14 +2,13 @@
 use Rattle.std.proofs.Common.{◌≡◌, ℕ, ◌+◌, ◌-◌, ◌≤◌, Bool, true, false, eq-eqb, List, [], ◌∷◌, ◌++◌, length, drop, get_or, Some, None, refl, ap, ◌∙◌, arith, inl, inr}
 use Rattle.std.specs.Prelude.{◌&&◌, ◌==◌, nat_le, not, slice_range}
 use Rattle.std.specs.List.{flat_map, list_all}
-use Rattle.std.proofs.lemmas.Bool.{cases_Bool, and_parts, and_from, eqb-true}
+use Rattle.std.proofs.lemmas.Bool.{cases_Bool, and_parts, and_from, eqb-true, not-true}
 use Rattle.std.proofs.lemmas.Bool.Decides.{nat_tests}
 use Rattle.std.proofs.lemmas.List.{length_push, take_at, get_or_push, drop_more, length-drop, nil_from_length}
 use Rattle.std.proofs.lemmas.List.Folds.{drop_split}
 use Rattle.as2_names.specs.Ascii.{quote, backslash}
 use Rattle.as2_media.specs.Bytes.{is_line_byte}
 use Rattle.as2_media.specs.Values.{QuotedUnit, qtext, pair, print_unit, is_unit, IsQuoted, is_quoted_text, quoted, is_enclosed, between_quotes}
-use Rattle.as2_media.proofs.Cutting.{not_false}
 
 -- what stands between the quotes of a quoted value is the value
 pub between_quoted : (value : List ℕ) → between_quotes (quoted value) ≡ Some value
@@ -70,7 +69,7 @@ units_again (qtext b ∷ rest) h =
     let p = and_parts (is_unit (qtext b)) (list_all is_unit rest) h in
     let q = and_parts (not (is_line_byte b)) (not (b == quote) && not (b == backslash)) p.0 in
     let r = and_parts (not (b == quote)) (not (b == backslash)) q.1 in
-    rw (q.0, r.0, not_false (b == backslash) r.1) (units_again rest p.1)
+    rw (q.0, r.0, not-true (b == backslash) r.1) (units_again rest p.1)
 units_again (pair b ∷ rest) h =
     let p = and_parts (is_unit (pair b)) (list_all is_unit rest) h in
     and_from (not (is_line_byte b)) (is_quoted_text false (flat_map print_unit rest)) p.0 (units_again rest p.1)

@@ -2,7 +2,7 @@
 use Rattle.std.proofs.Common.{◌≡◌, ℕ, zero, suc, ◌-◌, ◌≤◌, true, false, List, [], ◌∷◌, ◌++◌, length, Some, Ok, refl, ap, ◌∙◌, append-nil, arith, inl, inr}
 use Rattle.std.specs.Prelude.{◌==◌}
 use Rattle.std.specs.List.{list_all}
-use Rattle.std.proofs.lemmas.Bool.{and_parts, ne_eqb}
+use Rattle.std.proofs.lemmas.Bool.{and_parts, ne_eqb, not-true}
 use Rattle.std.proofs.lemmas.List.{nil_from_length}
 use Rattle.as2_names.specs.Ascii.{quote, equals_sign, slash, semicolon}
 use Rattle.as2_names.specs.Cuts.{cut_at}
@@ -14,7 +14,7 @@ use Rattle.as2_media.specs.MediaTypes.{Media, IsMediaType, behind_semicolons, re
 use Rattle.as2_media.proofs.Padding.{padded_trimmed, blank_trimmed}
 use Rattle.as2_media.proofs.Fronts.{nothing_kept}
 use Rattle.as2_media.proofs.Solid.{token_solid, tokens_solid, value_solid}
-use Rattle.as2_media.proofs.Cutting.{is_free, not_false, other_byte, cut_free, cut_nowhere, token_free, padded_free, free_append}
+use Rattle.as2_media.proofs.Cutting.{is_free, other_byte, cut_free, cut_nowhere, token_free, padded_free, free_append}
 use Rattle.as2_media.proofs.Segments.{segments_joined}
 use Rattle.as2_media.proofs.Quotes.{between_quoted, between_none, quoted_again}
 
@@ -24,7 +24,7 @@ bare_again (b ∷ rest) v =
     let p = and_parts (is_bare_byte b) (list_all is_bare_byte rest) v.bytes in
     let all : list_all is_bare_byte (b ∷ rest) ≡ true = v.bytes in
     let some : (length (b ∷ rest) == 0) ≡ false = ne_eqb (length (b ∷ rest)) 0 (λ e. absurd (omega (arith, e))) in
-    rw (between_none b rest (not_false (b == quote) (other_byte is_bare_byte b quote p.0 refl)), some, all) refl
+    rw (between_none b rest (not-true (b == quote) (other_byte is_bare_byte b quote p.0 refl)), some, all) refl
 
 value_again : (text value : List ℕ) → SpellsValue text value → value_of text ≡ Some value
 value_again text value s =

@@ -1,30 +1,41 @@
 -- Texts that are cut at each `;` outside quotes.
-use Rattle.std.proofs.Common.{◌≡◌, ℕ, Bool, true, false, List, [], ◌∷◌, ◌++◌, drop, refl, sym, ap, ◌∙◌, append-nil, inl, inr}
+use Rattle.std.proofs.Common.{◌≡◌, ℕ, ◌+◌, ◌-◌, ◌<◌, Bool, true, false, List, [], ◌∷◌, ◌++◌, length, take, drop, get_or, refl, sym, ap, ◌∙◌, append-nil, arith, inl, inr}
 use Rattle.std.specs.Prelude.{◌&&◌, ◌==◌, not}
-use Rattle.std.proofs.lemmas.Bool.{cases_Bool, and_parts, and_from, eqb-true}
+use Rattle.std.specs.List.{onto_first}
+use Rattle.std.proofs.lemmas.Bool.{cases_Bool, and_parts, and_from, eqb-true, ne_eqb, not-true}
+use Rattle.std.proofs.lemmas.List.{drop_more, drop_all, take_all, take_rest}
 use Rattle.as2_names.specs.Ascii.{quote, semicolon, backslash, equals_sign}
 use Rattle.as2_names.specs.Trim.{all_fall_off}
+use Rattle.as2_names.proofs.CutLists.{Cuts, cuts_on, cuts_here}
 use Rattle.as2_media.specs.declared.cuts.Place.{Place}
 use Rattle.as2_media.specs.declared.cuts.Place.TheVariants.{Outside, Quoted, Escaped}
 use Rattle.as2_media.specs.Bytes.{is_bare_byte, is_line_byte}
-use Rattle.as2_media.specs.Cuts.{next, is_end, with_front, segments}
+use Rattle.as2_media.specs.Cuts.{next, is_end, segments}
 use Rattle.as2_media.specs.Values.{SpellsValue, is_quoted_text}
 use Rattle.as2_media.specs.Parameters.{IsPadded, SpellsParameter, Spell}
 use Rattle.as2_media.specs.MediaTypes.{behind_semicolons}
 use Rattle.as2_media.proofs.Quotes.{quoted_again}
-use Rattle.as2_media.proofs.Cutting.{is_free, not_false, blank_free, passing_free, token_free, padded_free}
+use Rattle.as2_media.proofs.Cutting.{is_free, blank_free, passing_free, token_free, padded_free}
 
-front_more : (b : ℕ) (texts : List (List ℕ)) → with_front [] (with_front (b ∷ []) texts) ≡ with_front (b ∷ []) texts
-front_more b [] = refl
-front_more b (text ∷ texts) = refl
+-- ---- a scan up to a place
 
-pub front_nothing : (place : Place) (text : List ℕ) → with_front [] (segments place text) ≡ segments place text
-front_nothing place [] = refl
-front_nothing place (b ∷ rest) =
-    elim (cases_Bool (is_end place b)) [
-      | inl end ↦ rw end refl
-      | inr on ↦ rw on (front_more b (segments (next place b) rest))
-    ]
+not_end : (place : Place) (b : ℕ) → (place ≡ Outside → b ≡ 59 → ⊥) → is_end place b ≡ false
+not_end Outside b on = ne_eqb b 59 (on refl)
+not_end Quoted b on = refl
+not_end Escaped b on = refl
+
+pub scan_on : (place : Place) (text : List ℕ) (i : ℕ) → i < length text → (place ≡ Outside → get_or text i 0 ≡ 59 → ⊥) → Cuts (segments Outside text) (segments place) text i → Cuts (segments Outside text) (segments (next place (get_or text i 0))) text (i + 1)
+scan_on place text i lt on = cuts_on (segments Outside text) (segments place) (segments (next place (get_or text i 0))) text i lt (ap (segments place) (drop_more text i 0 lt) ∙ rw (not_end place (get_or text i 0) on) refl)
+
+pub scan_ends : (place : Place) (text : List ℕ) (i : ℕ) → i < length text → place ≡ Outside → get_or text i 0 ≡ 59 → Cuts (segments Outside text) (segments place) text i → segments Outside text ≡ take i text ∷ segments Outside (take (length text - (i + 1)) (drop (i + 1) text))
+scan_ends place text i lt outside end seen =
+    cuts_here (segments Outside text) (segments place) (segments Outside) text [] i (ap (segments place) (drop_more text i 0 lt) ∙ rw (outside, end) refl) seen
+    ∙ rw (append-nil (take i text), take_rest text (i + 1)) refl
+
+pub scan_all : (place : Place) (text : List ℕ) → Cuts (segments Outside text) (segments place) text (length text) → segments Outside text ≡ text ∷ []
+scan_all place text seen =
+    cuts_here (segments Outside text) (segments place) (λ (rest : List ℕ). []) text [] (length text) (ap (segments place) (drop_all (length text) text (omega arith))) seen
+    ∙ rw (append-nil (take (length text) text), take_all (length text) text (omega arith)) refl
 
 -- ---- a text that is one segment
 
@@ -52,13 +63,13 @@ segments_closed Quoted [] rest h = absurd cc
 segments_closed Escaped [] rest h = absurd cc
 segments_closed place (b ∷ text) rest h =
     let p = and_parts (not (is_end place b)) (is_closed (next place b) text) h in
-    rw (not_false (is_end place b) p.0, segments_closed (next place b) text rest p.1) refl
+    rw (not-true (is_end place b) p.0, segments_closed (next place b) text rest p.1) refl
 
 pub segments_last : (place : Place) (text : List ℕ) → is_closed place text ≡ true → segments place text ≡ text ∷ []
 segments_last place [] h = refl
 segments_last place (b ∷ text) h =
     let p = and_parts (not (is_end place b)) (is_closed (next place b) text) h in
-    rw (not_false (is_end place b) p.0, segments_last (next place b) text p.1) refl
+    rw (not-true (is_end place b) p.0, segments_last (next place b) text p.1) refl
 
 -- a text without quotes and `;`
 pub plain_closed : (text : List ℕ) → is_free quote text ≡ true → is_free semicolon text ≡ true → is_closed Outside text ≡ true
@@ -66,7 +77,7 @@ plain_closed [] q s = refl
 plain_closed (b ∷ rest) q s =
     let p = and_parts (not (b == quote)) (is_free quote rest) q in
     let r = and_parts (not (b == semicolon)) (is_free semicolon rest) s in
-    rw (not_false (b == quote) p.0, not_false (b == semicolon) r.0) (plain_closed rest p.1 r.1)
+    rw (not-true (b == quote) p.0, not-true (b == semicolon) r.0) (plain_closed rest p.1 r.1)
 
 pub blank_closed : (text : List ℕ) → all_fall_off text ≡ true → is_closed Outside text ≡ true
 blank_closed text h = plain_closed text (blank_free quote text refl h) (blank_free semicolon text refl h)
@@ -89,7 +100,7 @@ units_closed false (b ∷ rest) h =
     let r = and_parts (not (b == quote)) (is_quoted_text (b == backslash) rest) p.1 in
     elim (cases_Bool (b == backslash)) [
       | inl back ↦ rw back (units_closed true rest (let t : is_quoted_text true rest ≡ true = rw back at r.1 in t))
-      | inr other ↦ rw (other, not_false (b == quote) r.0) (units_closed false rest (let t : is_quoted_text false rest ≡ true = rw other at r.1 in t))
+      | inr other ↦ rw (other, not-true (b == quote) r.0) (units_closed false rest (let t : is_quoted_text false rest ≡ true = rw other at r.1 in t))
     ]
 
 value_closed : (text value : List ℕ) → SpellsValue text value → is_closed Outside text ≡ true
@@ -128,7 +139,7 @@ segments_joined text (behind ∷ texts) ps s =
 
 -- ---- the segments of a text, each behind a `;`, are the text behind one
 
-front_joined : (b : ℕ) (texts : List (List ℕ)) (rest : List ℕ) → behind_semicolons texts ≡ semicolon ∷ rest → behind_semicolons (with_front (b ∷ []) texts) ≡ semicolon ∷ b ∷ rest
+front_joined : (b : ℕ) (texts : List (List ℕ)) (rest : List ℕ) → behind_semicolons texts ≡ semicolon ∷ rest → behind_semicolons (onto_first b texts) ≡ semicolon ∷ b ∷ rest
 front_joined b [] rest h = absurd cc
 front_joined b (text ∷ texts) rest h = ap (λ (x : List ℕ). semicolon ∷ b ∷ drop 1 x) h
 

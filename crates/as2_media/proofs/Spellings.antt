@@ -2,7 +2,7 @@
 use Rattle.std.proofs.Common.{◌≡◌, ℕ, zero, suc, ◌-◌, ◌<◌, ◌≤◌, Bool, true, false, List, [], ◌∷◌, ◌++◌, length, Option, Some, None, Result, Ok, Err, refl, sym, ap, ◌∙◌, append-nil, arith, inl, inr}
 use Rattle.std.specs.Prelude.{◌&&◌, ◌==◌, not, IfOk, if◌then◌else◌}
 use Rattle.std.specs.List.{list_all}
-use Rattle.std.proofs.lemmas.Bool.{cases_Bool, and_parts, eqb-true, eqb-false}
+use Rattle.std.proofs.lemmas.Bool.{cases_Bool, and_parts, eqb-true, eqb-false, not-true}
 use Rattle.std.proofs.lemmas.List.{nil_from_length}
 use Rattle.as2_names.specs.Ascii.{equals_sign, slash, semicolon}
 use Rattle.as2_names.specs.Cuts.{cut_at}
@@ -16,7 +16,6 @@ use Rattle.as2_media.specs.Values.{SpellsValue, is_quoted_text, between_quotes, 
 use Rattle.as2_media.specs.Parameters.{IsPadded, SpellsParameter, Spell, parameter, parameter_of, parameters, with_name, and_then}
 use Rattle.as2_media.specs.MediaTypes.{Media, IsMediaType, behind_semicolons, reading, reading_of, essence, tokens, media_of}
 use Rattle.as2_media.proofs.Fronts.{trimmed_padded, trimmed_again, nothing_kept}
-use Rattle.as2_media.proofs.Cutting.{not_false}
 use Rattle.as2_media.proofs.Segments.{joined_segments}
 use Rattle.as2_media.proofs.Quotes.{quotes_whole, quoted_found}
 
@@ -34,7 +33,7 @@ value_among_found text value None t b h =
     let g = given (not (length text == 0) && list_all is_bare_byte text) (Some text) value h in
     let p = and_parts (not (length text == 0)) (list_all is_bare_byte text) g.0 in
     let e : text ≡ value = let same : Some text ≡ Some value = g.1 in cc in
-    inl (record { some = λ n. eqb-false (length text) 0 (not_false (length text == 0) p.0) (ap length (e ∙ n)); trim = rw (← e) t; bytes = rw (← e) p.1 }, e)
+    inl (record { some = λ n. eqb-false (length text) 0 (not-true (length text == 0) p.0) (ap length (e ∙ n)); trim = rw (← e) t; bytes = rw (← e) p.1 }, e)
 
 value_found : (text value : List ℕ) → trimmed text ≡ text → value_of text ≡ Some value → SpellsValue text value
 value_found text value t h = value_among_found text value (between_quotes text) t refl h

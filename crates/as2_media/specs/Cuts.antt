@@ -1,5 +1,6 @@
 -- Texts that are cut at each `;` outside quotes.
-use Rattle.std.specs.Prelude.{ℕ, Bool, false, ◌==◌, List, [], ◌∷◌, ◌++◌, if◌then◌else◌, Option, Some, None}
+use Rattle.std.specs.Prelude.{ℕ, Bool, false, ◌==◌, List, [], ◌∷◌, if◌then◌else◌, Option, Some, None}
+use Rattle.std.specs.List.{onto_first}
 use Rattle.as2_names.specs.Ascii.{quote, semicolon, backslash}
 use Rattle.as2_media.specs.declared.cuts.Place.{Place}
 use Rattle.as2_media.specs.declared.cuts.Place.TheVariants.{Outside, Quoted, Escaped}
@@ -16,15 +17,10 @@ is_end Outside b = b == semicolon
 is_end Quoted b = false
 is_end Escaped b = false
 
--- the first of the texts has these bytes in front
-abbrev pub with_front : List ℕ → List (List ℕ) → List (List ℕ)
-with_front front [] = front ∷ []
-with_front front (text ∷ texts) = (front ++ text) ∷ texts
-
 -- the texts between each `;` outside quotes, from a place on
 abbrev pub segments : Place → List ℕ → List (List ℕ)
 segments place [] = [] ∷ []
-segments place (b ∷ rest) = if is_end place b then [] ∷ segments Outside rest else with_front (b ∷ []) (segments (next place b) rest)
+segments place (b ∷ rest) = if is_end place b then [] ∷ segments Outside rest else onto_first b (segments (next place b) rest)
 
 -- no text has no segment
 abbrev pub segments_of : Option (List ℕ) → List (List ℕ)

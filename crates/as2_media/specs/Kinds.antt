@@ -2,21 +2,21 @@
 -- (RFC 2046, section 5.1.1).
 use Rattle.std.specs.Prelude.{ℕ, ◌-◌, Bool, false, ◌&&◌, ◌||◌, not, ◌==◌, nat_le, List, length, slice_index, codes, if◌then◌else◌, Option, Some, None}
 use Rattle.std.specs.List.{list_all}
-use Rattle.std.specs.Str.{str_eq_ignore_ascii_case}
 use Rattle.as2_names.specs.Ascii.{space, backslash, is_printable}
+use Rattle.as2_names.specs.Options.{is_word}
 use Rattle.as2_media.specs.Parameters.{first_value}
 use Rattle.as2_media.specs.MediaTypes.{Media, media_is_type}
 use Rattle.as2_media.specs.declared.kind.Kind.{Kind}
 use Rattle.as2_media.specs.declared.kind.Kind.TheVariants as kind
 
--- a value is given, and is that word whatever the case of its letters
-abbrev pub is_word : List ℕ → Option (List ℕ) → Bool
-is_word word None = false
-is_word word (Some value) = str_eq_ignore_ascii_case value word
+-- a value is given, and is that word
+abbrev pub is_given : List ℕ → Option (List ℕ) → Bool
+is_given word None = false
+is_given word (Some value) = is_word value word
 
 -- the first parameter of that name is that word
 abbrev pub says : List ℕ → List ℕ → Media → Bool
-says name word media = is_word word (first_value name media.parameters)
+says name word media = is_given word (first_value name media.parameters)
 
 -- what a body of type `application/pkcs7-mime` is
 abbrev pub secured : Media → Kind

@@ -3,6 +3,7 @@ use Rattle.std.specs.Prelude.{◌≡◌, ℕ, zero, suc, ◌-◌, ◌⊎◌, ◌
 use Rattle.std.specs.Str.{str_eq_ignore_ascii_case}
 use Rattle.as2_names.specs.Ascii.{equals_sign}
 use Rattle.as2_names.specs.Cuts.{cut_at}
+use Rattle.as2_names.specs.Names.{with_front}
 use Rattle.as2_names.specs.Trim.{trimmed, all_fall_off}
 use Rattle.as2_media.specs.Bytes.{is_token}
 use Rattle.as2_media.specs.Values.{SpellsValue, value_of}
@@ -64,11 +65,6 @@ parameter_of (Some cut) =
 -- the parameter that a text spells
 abbrev pub parameter : List ℕ → Option (List ℕ × List ℕ)
 parameter text = parameter_of (cut_at equals_sign text)
-
--- these parameters stand before those
-abbrev pub with_front : List (List ℕ × List ℕ) → Result (List (List ℕ × List ℕ)) TypeFault → Result (List (List ℕ × List ℕ)) TypeFault
-with_front front (Ok parameters) = Ok (front ++ parameters)
-with_front front (Err e) = Err e
 
 -- the parameter, where there is room for it, and those behind it
 abbrev pub and_then : ℕ → Option (List ℕ × List ℕ) → Result (List (List ℕ × List ℕ)) TypeFault → Result (List (List ℕ × List ℕ)) TypeFault

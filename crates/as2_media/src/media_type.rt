@@ -52,17 +52,10 @@ fn is_boundary(text: &[u8]) -> bool
 fn media_type<'a>(text: &'a [u8], behind: Option<&'a [u8]>) -> Result<MediaType<'a>, TypeFault>
     ensures { result ≡ media_of (essence text.now) (parameters 8 (segments_of (option_map (λ t. t.now) behind.entry))) }
 {
-    let essence = match Essence::parse(text) {
-        Ok(essence) => essence,
-        Err(fault) => return Err(fault),
-    };
-    match Parameters::parse(behind) {
-        Ok(parameters) => Ok(MediaType {
-            essence,
-            parameters,
-        }),
-        Err(fault) => Err(fault),
-    }
+    Ok(MediaType {
+        essence: Essence::parse(text)?,
+        parameters: Parameters::parse(behind)?,
+    })
 }
 
 fn read(field: &[u8]) -> Result<MediaType<'_>, TypeFault>

@@ -79,7 +79,3 @@ pub all_same : (xs ys : List ℕ) (i : ℕ) → length xs ≡ length ys → piec
 all_same xs ys i lengths ge fronts =
     let all : length xs ≤ i * 65536 = omega (arith, ge) in
     same xs ys (sym (take_all (i * 65536) xs all) ∙ fronts ∙ take_all (i * 65536) ys (omega (arith, all, lengths)))
-
--- contents of different lengths aren't the same
-pub lengths_tell : (xs ys : List ℕ) → (length xs ≡ length ys → ⊥) → false ≡ bytes_eq xs ys
-lengths_tell xs ys n = apart xs ys (λ e. n (ap length e))

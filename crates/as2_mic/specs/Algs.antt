@@ -1,15 +1,10 @@
 -- The digests of MICs and their names (RFC 4130, section 7.3.1; the names of RFC 3851 and RFC 5751 are read alike).
-use Rattle.std.specs.Prelude.{ℕ, Bool, ◌||◌, List, [], ◌∷◌, Option, Some, None, if◌then◌else◌, codes}
+use Rattle.std.specs.Prelude.{ℕ, ◌||◌, List, [], ◌∷◌, Option, Some, None, if◌then◌else◌, codes}
 use Rattle.std.specs.List.{slice_split}
-use Rattle.std.specs.Str.{str_eq_ignore_ascii_case}
 use Rattle.as2_mic.specs.declared.alg.Alg.{Alg}
 use Rattle.as2_mic.specs.declared.alg.Alg.TheVariants.{Md5, Sha1}
-use Rattle.as2_names.specs.Options.{is_comma}
+use Rattle.as2_names.specs.Options.{is_comma, is_word}
 use Rattle.as2_names.specs.Blanks.{without_blanks}
-
--- the text is the word, without regard to the case of ASCII letters
-abbrev pub is_word : List ℕ → List ℕ → Bool
-is_word text word = str_eq_ignore_ascii_case text word
 
 -- the digest that a name names
 abbrev pub alg_named : List ℕ → Option Alg

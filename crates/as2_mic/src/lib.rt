@@ -11,7 +11,7 @@ pub use alg::Alg;
 pub use digester::{Digester, mic_of};
 pub use field::{Compared, MicField};
 pub use mic_text::MicText;
-pub use pieces::{Pieces, mic_of_pieces};
+pub use pieces::{PIECE, Pieces, mic_of_pieces};
 
 #[cfg(test)]
 mod tests;

@@ -11,8 +11,8 @@ use std::cmp::min;
 use std::marker::Model;
 use std::mem;
 
-/// The bytes of a piece.
-const PIECE: usize = 65_536;
+/// The bytes of a piece but the last.
+pub const PIECE: usize = 65_536;
 
 /// A content as it is kept: one list of bytes, in pieces of 65,536 of which the last may be shorter
 /// and none is empty.

@@ -1,4 +1,5 @@
 pub mod Cuts
+pub mod CutLists
 pub mod Laws
 pub mod Numbers
 pub mod Printable

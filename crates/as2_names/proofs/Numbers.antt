@@ -1,6 +1,6 @@
 -- Digits are text, and what they are parsed as.
-use Rattle.std.proofs.Common.{◌≡◌, ℕ, suc, zero, ◌<◌, ◌^◌, true, List, [], ◌∷◌, length, None, Result, Ok, Err, refl, sym, arith, rules, inl, inr, nat_lt}
-use Rattle.std.specs.Prelude.{IsAscii, IsUtf8, IsOk, MatchResult}
+use Rattle.std.proofs.Common.{◌≡◌, ℕ, ◌<◌, ◌^◌, true, List, length, None, Result, Ok, Err, refl, sym, arith, rules, inl, inr, nat_lt}
+use Rattle.std.specs.Prelude.{IsUtf8}
 use Rattle.std.specs.Char.{is_ascii_digit}
 use Rattle.std.specs.List.{list_all}
 use Rattle.std.specs.Result.{OkIff}
@@ -9,15 +9,11 @@ use Rattle.std.proofs.lemmas.Bool.{cases_Bool, and_parts}
 use Rattle.std.proofs.lemmas.Bool.Decides.{nat_tests}
 use Rattle.std.proofs.lemmas.Str.{IsUtf8-from_ascii}
 use Rattle.std.proofs.lemmas.Str.Parse.{IsNumeralModel, numerals_by_value, parse_digits}
+use Rattle.as2_names.proofs.Printable.{all_ascii}
 use Rattle.as2_names.specs.Numbers.{is_number, decimal_value}
 
 digit_small : (b : ℕ) → is_ascii_digit b ≡ true → b < 128
 digit_small b h = grind (arith, nat_tests)
-
-digits_ascii : (bs : List ℕ) → list_all is_ascii_digit bs ≡ true → IsAscii bs
-digits_ascii [] h i = omega arith
-digits_ascii (b ∷ rest) h zero = digit_small b (and_parts (is_ascii_digit b) (list_all is_ascii_digit rest) h).0
-digits_ascii (b ∷ rest) h (suc i) = digits_ascii rest (and_parts (is_ascii_digit b) (list_all is_ascii_digit rest) h).1 i
 
 own : IsNumeralModel (λ ds. list_all is_ascii_digit ds ≡ true) (digits_value 10)
 own = numerals_by_value _ (search rules)
@@ -27,16 +23,10 @@ pub digits_of : (bs : List ℕ) → is_number bs ≡ true → list_all is_ascii_
 digits_of bs h = (and_parts _ _ h).1
 
 pub number_text : (bs : List ℕ) → is_number bs ≡ true → IsUtf8 bs
-number_text bs h = IsUtf8-from_ascii bs (digits_ascii bs (digits_of bs h))
+number_text bs h = IsUtf8-from_ascii bs (all_ascii is_ascii_digit digit_small bs (digits_of bs h))
 
 pub parsed : {E : Type 0} (bs : List ℕ) (r : Result ℕ E) → ParsesUnsigned 64 10 bs r → is_number bs ≡ true → OkIff r ((0 < length bs) × (digits_value 10 bs < 2 ^ 64)) (digits_value 10 bs)
 parsed bs r p h = parse_digits own 64 bs r p (digits_of bs h)
-
--- bytes that are text are read as text
-pub read_ok : {T E : Type 0} (bs : List ℕ) (r : Result T E) (P : T → Type 0) (Q : E → Type 0) → IsUtf8 bs
-    → MatchResult r P (λ e. ¬ (IsUtf8 bs) × Q e) → IsOk r
-read_ok bs (Ok x) P Q h m = refl
-read_ok bs (Err e) P Q h m = absurd (m.0 h)
 
 -- a number that isn't parsed has no value
 pub none_parsed : {E : Type 0} (bs text : List ℕ) (r : Result ℕ E) (e : E) → text ≡ bs → ParsesUnsigned 64 10 text r → r ≡ Err e → is_number bs ≡ true → None ≡ decimal_value bs

@@ -1,5 +1,5 @@
 -- Printable bytes are text, and so is each part of them.
-use Rattle.std.proofs.Common.{◌≡◌, ℕ, suc, zero, ◌-◌, ◌<◌, true, List, [], ◌∷◌, length, drop, Result, Ok, Err, refl, arith, inl, inr}
+use Rattle.std.proofs.Common.{◌≡◌, ℕ, suc, zero, ◌-◌, ◌<◌, true, List, [], ◌∷◌, length, drop, Result, Ok, Err, refl, arith, inl, inr, Bool}
 use Rattle.std.specs.Prelude.{IsAscii, IsUtf8, IsOk, MatchResult}
 use Rattle.std.specs.List.{list_all}
 use Rattle.std.proofs.lemmas.Bool.{cases_Bool, and_parts}
@@ -11,10 +11,13 @@ use Rattle.as2_names.specs.Identifiers.{is_bracketed, value_of}
 printable_small : (b : ℕ) → is_printable b ≡ true → b < 128
 printable_small b h = grind (arith, nat_tests)
 
+pub all_ascii : (test : ℕ → Bool) → ((b : ℕ) → test b ≡ true → b < 128) → (bs : List ℕ) → list_all test bs ≡ true → IsAscii bs
+all_ascii test small [] h i = omega arith
+all_ascii test small (b ∷ rest) h zero = small b (and_parts (test b) (list_all test rest) h).0
+all_ascii test small (b ∷ rest) h (suc i) = all_ascii test small rest (and_parts (test b) (list_all test rest) h).1 i
+
 printable_ascii : (bs : List ℕ) → list_all is_printable bs ≡ true → IsAscii bs
-printable_ascii [] h i = omega arith
-printable_ascii (b ∷ rest) h zero = printable_small b (and_parts (is_printable b) (list_all is_printable rest) h).0
-printable_ascii (b ∷ rest) h (suc i) = printable_ascii rest (and_parts (is_printable b) (list_all is_printable rest) h).1 i
+printable_ascii = all_ascii is_printable printable_small
 
 pub printable_text : (bs : List ℕ) → list_all is_printable bs ≡ true → IsUtf8 bs
 printable_text bs h = IsUtf8-from_ascii bs (printable_ascii bs h)

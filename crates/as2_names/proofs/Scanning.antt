@@ -4,7 +4,6 @@ use Rattle.std.proofs.lemmas.Bool.{cases_lt, ne_eqb}
 use Rattle.std.proofs.lemmas.Bool.Decides.{nat_tests}
 use Rattle.std.proofs.lemmas.List.{append-nil, take_all, take_at, take-append-le, length-take, length_push}
 use Rattle.std.proofs.lemmas.List.Folds.{list_all-append}
-use Rattle.as2_names.specs.declared.name.NameFault.{NameFault}
 use Rattle.as2_names.specs.Ascii.{quote, backslash, is_printable}
 use Rattle.as2_names.specs.Names.{units, with_front, is_special, fitted, fitting, IsName}
 use Rattle.as2_names.specs.Scan.{Scans}
@@ -16,13 +15,9 @@ take_push n met b =
       | inr le ↦ rw (take-append-le n met (b ∷ []) le, take_at (take n met) (b ∷ []) n (omega (arith, length-take n met))) refl
     ]
 
-front_push : (met : List ℕ) (b : ℕ) (r : Result (List ℕ) NameFault) → with_front (met ++ b ∷ []) r ≡ with_front met (with_front (b ∷ []) r)
-front_push met b (Ok us) = ap (λ (x : List ℕ). Ok x) (append_assoc met (b ∷ []) us)
+pub front_push : {X E : Type 0} → (met : List X) (b : X) (r : Result (List X) E) → with_front (met ++ b ∷ []) r ≡ with_front met (with_front (b ∷ []) r)
+front_push met b (Ok more) = ap Ok (append_assoc met (b ∷ []) more)
 front_push met b (Err e) = refl
-
-front_err : (met : List ℕ) (r : Result (List ℕ) NameFault) (e : NameFault) → r ≡ Err e → with_front met r ≡ Err e
-front_err met (Ok us) e h = absurd cc
-front_err met (Err d) e h = h
 
 pub scans_unit : (text items next : List ℕ) (count : ℕ) (escaping : Bool) (b : ℕ) (rest : List ℕ) → Scans text items count escaping (b ∷ rest) → units escaping (b ∷ rest) ≡ with_front (b ∷ []) (units false rest) → is_printable b ≡ true → next ≡ take 128 (items ++ b ∷ []) → Scans text next (count + 1) false rest
 scans_unit text items next count escaping b rest s step printable e = record {
@@ -32,9 +27,6 @@ scans_unit text items next count escaping b rest s step printable e = record {
   printable = rw (list_all-append is_printable s.met (b ∷ []), s.printable, printable) refl;
   whole = front_push s.met b (units false rest) ∙ ap (with_front s.met) (sym step) ∙ s.whole;
 }
-
-pub scans_fault : (text items : List ℕ) (count : ℕ) (escaping : Bool) (rest : List ℕ) (e : NameFault) → Scans text items count escaping rest → units escaping rest ≡ Err e → units false text ≡ Err e
-scans_fault text items count escaping rest e s h = sym s.whole ∙ front_err s.met (units escaping rest) e h
 
 pub special_printable : (b : ℕ) → is_special b ≡ true → is_printable b ≡ true
 special_printable b h = grind (arith, nat_tests)

@@ -8,7 +8,7 @@ use Rattle.as2_names.specs.Trim.{falls_off, all_fall_off, without_back}
 abbrev pub Stays : List ℕ → List ℕ → List ℕ → List ℕ → Type 0
 Stays text kept seen rest = without_back text ≡ cond (all_fall_off rest) kept (seen ++ without_back rest)
 
-none_stays : (text : List ℕ) → all_fall_off text ≡ true → without_back text ≡ []
+pub none_stays : (text : List ℕ) → all_fall_off text ≡ true → without_back text ≡ []
 none_stays [] h = refl
 none_stays (b ∷ rest) h = rw h refl
 

@@ -47,9 +47,9 @@ Tells (once.One v) vs = vs ≡ v.now ∷ []
 Tells once.Twice vs = (a b : List ℕ) × (others : List (List ℕ)) × (vs ≡ a ∷ b ∷ others)
 
 -- the value that is told, if there is one, has no blanks at its ends
-abbrev pub IsBare : Once → Type 0
-IsBare (once.One v) = without_blanks v.now ≡ v.now
-IsBare told = ⊤
+abbrev pub IsTrimmed : Once → Type 0
+IsTrimmed (once.One v) = without_blanks v.now ≡ v.now
+IsTrimmed told = ⊤
 
 -- ---- adding a field
 

@@ -37,9 +37,9 @@ spelling name = if list_all is_text_byte name then name else quoted name
 
 -- ---- reading from the left, up to the first fault
 
--- the units are these and then those
-abbrev pub with_front : List ℕ → Result (List ℕ) NameFault → Result (List ℕ) NameFault
-with_front front (Ok units) = Ok (front ++ units)
+-- what is read is these and then those
+abbrev pub with_front : {X E : Type 0} → List X → Result (List X) E → Result (List X) E
+with_front front (Ok more) = Ok (front ++ more)
 with_front front (Err e) = Err e
 
 -- nothing follows the closing quote

@@ -8,9 +8,13 @@ use Rattle.as2_names.specs.Blanks.{without_blanks}
 abbrev pub is_comma : ℕ → Bool
 is_comma b = b == comma
 
+-- the text is the word, without regard to the case of ASCII letters
+abbrev pub is_word : List ℕ → List ℕ → Bool
+is_word text word = str_eq_ignore_ascii_case text word
+
 -- the member, without the blanks around it, is that option, whatever the case of its letters
 abbrev pub is_option : List ℕ → List ℕ → Bool
-is_option option member = str_eq_ignore_ascii_case (without_blanks member) option
+is_option option member = is_word (without_blanks member) option
 
 -- the value has the option among its members
 abbrev pub lists : List ℕ → List ℕ → Bool

@@ -4,7 +4,7 @@ ghost use Rattle.std.specs.Str.{bytes_eq, str_to_ascii_lowercase};
 ghost use Rattle.as2_names.specs.Options.{lists};
 ghost use Rattle.as2_names.specs.Blanks.{without_blanks};
 ghost use Rattle.as2_names.specs.declared.head.HeadFault.TheVariants.{Memory};
-ghost use Rattle.as2_names.specs.Heads.{IsKept, field_of, is_name_byte, is_name, is_value_byte, is_field, values, Tells, IsBare, Answers, append_fault};
+ghost use Rattle.as2_names.specs.Heads.{IsKept, field_of, is_name_byte, is_name, is_value_byte, is_field, values, Tells, IsTrimmed, Answers, append_fault};
 
 use crate::blanks::without_blanks;
 use crate::options::lists;
@@ -141,7 +141,7 @@ impl Model for Head {
 /// What the fields say of a name.
 fn told<'a>(fields: &'a [Field], name: &[u8]) -> Once<'a>
     ensures tells { Tells result (values (str_to_ascii_lowercase name.now) fields.now) }
-    ensures bare { IsBare result }
+    ensures bare { IsTrimmed result }
 {
     let mut found = None;
     for field in fields {
@@ -212,7 +212,7 @@ impl Head {
     pub fn value(&self, name: &[u8]) -> Once<'_>
         ensures tells { Tells result (values (str_to_ascii_lowercase name.now) self.now) }
         // A value has no blanks at its ends.
-        ensures bare { IsBare result }
+        ensures bare { IsTrimmed result }
     {
         told(&self.fields, name)
     }

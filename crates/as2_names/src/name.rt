@@ -158,10 +158,7 @@ fn quoted_name(text: &[u8]) -> Result<AsName, NameFault>
                 Err(NameFault::BadQuoting)
             };
         }
-        match scan.take(*b) {
-            Ok(()) => {}
-            Err(fault) => return Err(fault),
-        }
+        scan.take(*b)?;
     }
     Err(NameFault::BadQuoting)
 }

@@ -1,31 +1,11 @@
 -- What the definitions say of texts that are put together, for the crates above.
-use Rattle.std.proofs.Common.{◌≡◌, ◌==◌, ℕ, true, false, List, [], ◌∷◌, ◌++◌, Ok, refl, sym, ap, ◌∙◌}
+use Rattle.std.proofs.Common.{◌≡◌, ◌==◌, ℕ, true, false, List, [], ◌∷◌, ◌++◌, refl, ap, ◌∙◌}
 use Rattle.std.specs.Prelude.{not, filter_map}
 use Rattle.std.specs.List.{list_all}
 use Rattle.std.proofs.lemmas.Bool.{and_parts, not-true}
 use Rattle.as2_parts.specs.Lines.{lines}
-use Rattle.as2_parts.specs.Parts.{PartText, IsTwoParts}
-use Rattle.as2_parts.specs.Fields.{FieldText, IsField, HasFields, begins_with_blank, folded_lines, field_of, fields}
+use Rattle.as2_parts.specs.Fields.{FieldText, IsField, begins_with_blank, folded_lines, field_of, fields}
 use Rattle.as2_parts.proofs.FieldText.{field_again}
-use Rattle.as2_parts.proofs.TwoParts.{again}
-use Rattle.as2_parts.proofs.Folding.{fields_only}
-
--- ---- what a text has is one
-
-pub one_first_part : (boundary body : List ℕ) (first second first' second' : PartText) → IsTwoParts boundary body first second → IsTwoParts boundary body first' second' → first ≡ first'
-one_first_part boundary body first second first' second' t u =
-    let same : Ok (first, second) ≡ Ok (first', second') = sym (again boundary body first second t) ∙ again boundary body first' second' u in
-    let pairs : (first, second) ≡ (first', second') = cc same in
-    ap (λ (p : PartText × PartText). p.0) pairs
-
-pub one_second_part : (boundary body : List ℕ) (first second first' second' : PartText) → IsTwoParts boundary body first second → IsTwoParts boundary body first' second' → second ≡ second'
-one_second_part boundary body first second first' second' t u =
-    let same : Ok (first, second) ≡ Ok (first', second') = sym (again boundary body first second t) ∙ again boundary body first' second' u in
-    let pairs : (first, second) ≡ (first', second') = cc same in
-    ap (λ (p : PartText × PartText). p.1) pairs
-
-pub one_list_of_fields : (text : List ℕ) (some others : List FieldText) → HasFields text some → HasFields text others → some ≡ others
-one_list_of_fields text some others h k = sym (fields_only text some h) ∙ fields_only text others k
 
 -- ---- a text with a line in front
 

@@ -106,7 +106,7 @@ abbrev pub field_text : Field → FieldText
 field_text field = (field.name.now, field.value.now)
 
 -- none of the fields, the only one, or that there are more
-abbrev pub Tells : Result (Option Field) Twice → List FieldText → Type 0
-Tells (Ok None) fields = fields ≡ []
-Tells (Ok (Some field)) fields = fields ≡ field_text field ∷ []
-Tells (Err twice) fields = (a b : FieldText) × (others : List FieldText) × (fields ≡ a ∷ b ∷ others)
+abbrev pub TellsField : Result (Option Field) Twice → List FieldText → Type 0
+TellsField (Ok None) fields = fields ≡ []
+TellsField (Ok (Some field)) fields = fields ≡ field_text field ∷ []
+TellsField (Err twice) fields = (a b : FieldText) × (others : List FieldText) × (fields ≡ a ∷ b ∷ others)

@@ -10,7 +10,7 @@ mod marks;
 mod parts;
 
 pub use fields::{Field, Fields, Twice, find_once};
-pub use parts::{Part, PartFault, two_parts};
+pub use parts::{Part, PartFault, part_in, two_parts};
 
 #[cfg(test)]
 mod tests;

@@ -27,7 +27,7 @@ pub enum PartFault {
 }
 
 /// The part that is written in a text.
-fn part_in(text: &[u8]) -> Part<'_>
+pub fn part_in(text: &[u8]) -> Part<'_>
     ensures { part_text result ≡ part_in text.now }
 {
     let mut length = 0;

@@ -1,19 +1,14 @@
 -- The answers to posts, each as the exchange machine has it.
 use Rattle.std.specs.Prelude.{Bool, ◌&&◌, if◌then◌else◌}
-use Rattle.as2_exchange.specs.declared.answer.Line.{Line}
 use Rattle.as2_exchange.specs.declared.answer.Line.TheVariants.{NotProcessed}
 use Rattle.as2_mdn.specs.declared.report.ReportOut.{ReportOut}
 use Rattle.as2_mdn.specs.declared.outcome.Outcome.{Outcome}
 use Rattle.as2_exchange.specs.Readings.{is_async, is_processed, report_text}
 use Rattle.as2_exchange.specs.declared.inbox.InEntry.{InEntry}
 use Rattle.as2_exchange.specs.declared.answer.HttpAnswer.{HttpAnswer}
-use Rattle.as2_exchange.specs.declared.answer.HttpBody.TheVariants.{Nothing, Words, Report}
-use Rattle.as2_exchange.specs.Step.{is_done_with}
-use Rattle.as2_posts.specs.Openings.{status_of}
-
--- the answer that refuses a post
-abbrev pub refusal : Line → HttpAnswer
-refusal line = record { status = status_of line; body = Words line }
+use Rattle.as2_exchange.specs.declared.answer.HttpBody.TheVariants.{Nothing, Report}
+use Rattle.as2_exchange.specs.Recording.{is_done_with}
+use Rattle.as2_exchange.specs.Lines.{refusal}
 
 -- the answer that carries a receipt
 abbrev pub receipt_answer : ReportOut → HttpAnswer
@@ -24,5 +19,5 @@ abbrev pub untold : Outcome → HttpAnswer
 untold outcome = if is_processed outcome then record { status = 200; body = Nothing } else refusal (NotProcessed outcome)
 
 -- the receipt of the entry is queued again by a repeat of its document
-abbrev pub is_queued_again : InEntry → Bool
-is_queued_again e = is_async e.posted.how && is_done_with e.mdn e.attempt
+abbrev pub is_requeued : InEntry → Bool
+is_requeued e = is_async e.posted.how && is_done_with e.mdn e.attempt

@@ -11,7 +11,6 @@ use Rattle.as2_exchange.specs.Agreement.{Text}
 use Rattle.as2_exchange.specs.Readings.{Head, are_refused, is_plain_coding}
 use Rattle.as2_exchange.specs.declared.inbox.Posted.{Posted}
 use Rattle.as2_exchange.specs.Posts.{Reading, Refuses, IsDocument}
-use Rattle.as2_posts.specs.Openings.{status_of}
 
 -- the identifier that a text is (RFC 4130, section 5.3.3)
 abbrev pub identified : Option Text → Option Text
@@ -30,4 +29,4 @@ is_asked head request = requests.reading head ≡ Ok request
 -- a post that is this document, or is refused by this line
 abbrev pub read_as : Result Posted Line → Reading
 read_as (Ok document) = IsDocument document
-read_as (Err line) = Refuses (status_of line) line
+read_as (Err line) = Refuses line

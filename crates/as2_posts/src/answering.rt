@@ -2,43 +2,14 @@
 ghost use Rattle.std.specs.Prelude.{◌≡◌, IfOk};
 ghost use Rattle.as2_exchange.specs.declared.answer.Answer.TheVariants.{Http};
 ghost use Rattle.as2_exchange.specs.declared.answer.HttpBody.TheVariants.{Nothing};
-ghost use Rattle.as2_exchange.specs.Step.{answer_to, report};
-ghost use Rattle.as2_posts.specs.Answers.{receipt_answer, refusal, untold};
-ghost use Rattle.as2_posts.specs.Openings.{status_of};
+ghost use Rattle.as2_exchange.specs.Recording.{answer_to, report};
+ghost use Rattle.as2_posts.specs.Answers.{receipt_answer, untold};
 
 use as2_agreement::Agreements;
 use as2_exchange::{Bytes, How, HttpAnswer, HttpBody, Line, Posted};
 use as2_mdn::{Outcome, ReportOut, write_report};
-use as2_names::Memory;
+use as2_text::Memory;
 use std::alloc::{AllocError, Global};
-
-/// The status that goes with a line (RFC 9110, section 15).
-fn status_of(line: Line) -> u16
-    ensures { result ≡ status_of line }
-{
-    match line {
-        Line::UnknownNames => 403,
-        Line::NoSuchMessage => 404,
-        Line::IdUsedBefore => 409,
-        Line::BadNames
-        | Line::BadVersion
-        | Line::BadType
-        | Line::UnreadableReceipt
-        | Line::BadId
-        | Line::BadAsk
-        | Line::NotProcessed(_) => 400,
-    }
-}
-
-/// The answer that refuses a post by a line.
-pub fn refused(line: Line) -> HttpAnswer
-    ensures { result ≡ refusal line }
-{
-    HttpAnswer {
-        status: status_of(line),
-        body: HttpBody::Words(line),
-    }
-}
 
 /// An answer without a body.
 fn nothing(status: u16) -> HttpAnswer
@@ -83,12 +54,12 @@ fn untold(outcome: Outcome) -> HttpAnswer
 {
     match outcome {
         Outcome::Processed => nothing(200),
-        _ => refused(Line::NotProcessed(outcome)),
+        _ => Line::NotProcessed(outcome).answer(),
     }
 }
 
 /// The answer to a recorded document whose receipt has that number; a repeat of the document gets the same.
-#[tactic(auto, unfolding(as2_exchange::specs::Step::answer_to))]
+#[tactic(auto, unfolding(as2_exchange::specs::Recording::answer_to))]
 pub fn answer_to(
     alloc: Global,
     agreements: &Agreements,

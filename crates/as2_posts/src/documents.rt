@@ -15,8 +15,7 @@ use crate::opening::Opened;
 use as2_exchange::{Bytes, How, Line, Posted};
 use as2_mdn::{Outcome, ReportMic, outcome_of};
 use as2_mic::{Alg, Pieces, mic_of_pieces};
-use as2_names::{Head, Memory, MessageId, Once};
-use as2_text::{How as Asked, ReceiptAsk};
+use as2_text::{Head, How as Asked, Memory, MessageId, Once, ReceiptAsk};
 use std::alloc::Global;
 
 /// The text of the address that the receipt is to be sent to.

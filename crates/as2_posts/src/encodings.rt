@@ -6,7 +6,7 @@ ghost use Rattle.as2_mdn.specs.ReportReading.{is_plain_encoding};
 ghost use Rattle.as2_posts.specs.Documents.{is_encoded};
 
 use as2_mdn::is_plain_encoding;
-use as2_names::{Head, Once};
+use as2_text::{Head, Once};
 
 /// `Content-Transfer-Encoding` stands there twice, or is none that leaves the content as it is.
 fn transfer_refused(head: &Head) -> bool

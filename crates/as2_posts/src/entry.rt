@@ -1,10 +1,10 @@
 //! Entries of the inbox.
 ghost use Rattle.std.specs.Prelude.{◌≡◌};
-ghost use Rattle.as2_exchange.specs.Step.{first_entry};
-ghost use Rattle.as2_posts.specs.Answers.{is_queued_again};
+ghost use Rattle.as2_exchange.specs.Recording.{first_entry};
+ghost use Rattle.as2_posts.specs.Answers.{is_requeued};
 
 use as2_exchange::{Attempt, How, InEntry, MdnState, Posted};
-use as2_names::Moment;
+use as2_text::Moment;
 
 /// The entry of a document that is posted for the first time.
 pub fn first_entry(number: u64, moment: Moment, posted: Posted) -> InEntry
@@ -28,8 +28,8 @@ pub fn first_entry(number: u64, moment: Moment, posted: Posted) -> InEntry
 
 /// Whether a repeat of the document queues its receipt again: it is sent later, and was sent, or is on or past its last
 /// try.
-pub fn is_queued_again(entry: &InEntry) -> bool
-    ensures { result ≡ is_queued_again entry.now }
+pub fn is_requeued(entry: &InEntry) -> bool
+    ensures { result ≡ is_requeued entry.now }
 {
     matches!(entry.posted.how, How::Async(_))
         && (entry.mdn == MdnState::Sent || matches!(entry.attempt, Attempt::Last | Attempt::Used))

@@ -5,8 +5,7 @@ ghost use Rattle.as2_names.specs.Heads.{values};
 ghost use Rattle.as2_exchange.specs.Readings.{are_known, is_version, name_in, only, type_in, typed};
 ghost use Rattle.as2_posts.specs.Documents.{identified};
 
-use as2_media::MediaType;
-use as2_names::{AsName, Head, IdFault, Memory, MessageId, Once};
+use as2_text::{AsName, Head, IdFault, MediaType, Memory, MessageId, Once};
 use std::alloc::Global;
 
 /// The AS2 name that the one field of that name spells (RFC 4130, section 6.2).

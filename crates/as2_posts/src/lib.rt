@@ -10,9 +10,9 @@ mod fields;
 mod opening;
 mod repeating;
 
-pub use answering::{answer_to, refused};
+pub use answering::answer_to;
 pub use documents::document;
-pub use entry::{first_entry, is_queued_again};
+pub use entry::{first_entry, is_requeued};
 pub use opening::{Opened, open};
 pub use repeating::repeats;
 

@@ -3,13 +3,12 @@ ghost use Rattle.std.specs.Prelude.{◌≡◌, IfOk, IfErr};
 ghost use Rattle.as2_exchange.specs.Agreement.{Text};
 ghost use Rattle.as2_exchange.specs.Posts.{Refuses, reading};
 ghost use Rattle.as2_exchange.specs.Readings.{is_report};
-ghost use Rattle.as2_posts.specs.Openings.{read_further, status_of};
+ghost use Rattle.as2_posts.specs.Openings.{read_further};
 
 use crate::fields::{name_in, type_in, version_fits};
 use as2_agreement::Agreements;
 use as2_exchange::Line;
-use as2_media::{Kind, MediaType};
-use as2_names::{AsName, Head};
+use as2_text::{AsName, Head, Kind, MediaType};
 
 /// What the head of a post says, where its names are agreed, and its version and content type can be read.
 #[derive(Drop)]
@@ -38,7 +37,7 @@ impl Opened<'_> {
 /// It takes no memory.
 #[tactic(auto, unfolding(as2_exchange::specs::Posts::reading, as2_exchange::specs::Readings::names_of, as2_exchange::specs::Readings::version_fits, as2_exchange::specs::Readings::type_of))]
 pub fn open<'a>(agreements: &Agreements, head: &'a Head) -> Result<Opened<'a>, Line>
-    ensures refused { IfErr result (λ line. (body : Text) → reading agreements.now head.now body ≡ Refuses (status_of line) line) }
+    ensures refused { IfErr result (λ line. (body : Text) → reading agreements.now head.now body ≡ Refuses line) }
     ensures opened { IfOk result (λ o. (body : Text)
         → reading agreements.now head.now body ≡ read_further o head.now body) }
 {

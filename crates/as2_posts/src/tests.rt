@@ -1,9 +1,8 @@
 use super::*;
 use as2_exchange::{Attempt, How, InEntry, Line, MdnState, Posted};
 use as2_mdn::Outcome;
-use as2_media::MediaType;
 use as2_mic::Pieces;
-use as2_names::{AsName, Head, Moment};
+use as2_text::{AsName, Head, MediaType, Moment};
 use std::alloc::Global;
 use std::process::Abort;
 
@@ -164,8 +163,8 @@ fn refuses(alloc: Global, fields: &[(&str, &str)], line: Line) -> bool {
 fn lines_refuse_in_order(rt: HostRuntime) {
     assert!(rt; refuses(rt.alloc(), &[TO, TO], Line::BadId));
     assert!(rt; refuses(rt.alloc(), &[ID, TO, TO], Line::BadAsk));
-    assert!(rt; refused(Line::UnknownNames).status == 403);
-    assert!(rt; refused(Line::IdUsedBefore).status == 409);
+    assert!(rt; Line::UnknownNames.status() == 403);
+    assert!(rt; Line::IdUsedBefore.status() == 409);
 }
 
 // A document, and whether it repeats the usual one.
@@ -203,12 +202,12 @@ fn entry(posted: Option<Result<Posted, Line>>) -> Option<InEntry> {
 fn is_sent(rt: &impl Abort, entry: &InEntry) {
     assert!(rt; entry.number == 7 && entry.due.is_none());
     assert!(rt; (entry.mdn, entry.attempt) == (MdnState::Sent, Attempt::Idle));
-    assert!(rt; !is_queued_again(entry));
+    assert!(rt; !is_requeued(entry));
 }
 
 fn is_pending(rt: &impl Abort, entry: &InEntry) {
     assert!(rt; entry.mdn == MdnState::Pending && entry.due == Some(1000));
-    assert!(rt; !is_queued_again(entry));
+    assert!(rt; !is_requeued(entry));
 }
 
 #[test]

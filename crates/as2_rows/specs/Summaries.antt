@@ -85,5 +85,5 @@ out_entry r content evidence = record {
 -- ---- the evidence
 
 -- the receipt, and the number of its document
-abbrev pub evidence_of : ℕ → Evidence → EvidenceRow
-evidence_of number e = record { number = number; evidence = e }
+abbrev pub evidence_in : ℕ → Evidence → EvidenceRow
+evidence_in number e = record { number = number; evidence = e }

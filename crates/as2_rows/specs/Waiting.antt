@@ -11,6 +11,8 @@ use Rattle.as2_exchange.specs.declared.inbox.MdnState.TheVariants.{Pending}
 use Rattle.as2_exchange.specs.declared.inbox.InEntry.{InEntry}
 use Rattle.as2_exchange.specs.declared.outbox.OutEntry.{OutEntry}
 use Rattle.as2_rows.specs.Rows.{whole, whole_or_null}
+use Rattle.as2_rows.specs.declared.waiting.Wait.{Wait}
+use Rattle.as2_rows.specs.declared.waiting.Wait.TheVariants.{ToSend, ToAnswer, ToHear, ToEnd}
 
 -- what waits: its kind, the number of the entry, and from when on it is due
 pub record Waiting : Type 0 where
@@ -33,6 +35,13 @@ to_hear = 3
 -- a document whose last try is open: 4
 abbrev pub to_end : ℕ
 to_end = 4
+
+-- the code of what an entry waits for
+abbrev pub kind_code : Wait → ℕ
+kind_code ToSend = to_send
+kind_code ToAnswer = to_answer
+kind_code ToHear = to_hear
+kind_code ToEnd = to_end
 
 -- what a document waits for
 abbrev pub out_kind : Detail → Attempt → Option ℕ

@@ -20,7 +20,7 @@ use crate::RowFault;
 use as2_exchange::{Bytes, How};
 use as2_mdn::ReportMic;
 use as2_mic::{Alg, MicText, Pieces};
-use as2_names::{AsName, IdFault, MessageId, Moment, is_identifier, without_brackets};
+use as2_text::{AsName, IdFault, MessageId, Moment, is_identifier, without_brackets};
 use sqlite::Row;
 use sqlite::types::ValueRef;
 use std::alloc::Global;

@@ -4,16 +4,13 @@ ghost use Rattle.as2_rows.specs.declared.fault.RowFault.TheVariants as fault;
 
 use crate::RowFault;
 use crate::cells::{blob, column, whole};
-use as2_mic::Pieces;
+use as2_mic::{PIECE, Pieces};
 use sqlite::Row;
 use std::alloc::Global;
 use std::cmp::min;
 
 /// The columns that a piece shows.
 const COLUMNS: usize = 3;
-
-/// The bytes of a piece but the last.
-const PIECE: u64 = 65_536;
 
 /// The bytes of the piece of that number and position, of a row that shows number, position and bytes.
 fn piece_in<'a>(row: &'a Row, number: u64, position: u64) -> Result<&'a [u8], RowFault>
@@ -41,7 +38,7 @@ pub fn content_in(alloc: Global, rows: &[Row], number: u64, size: u64) -> Result
     'rows: for row in rows {
         let bytes = piece_in(row, number, content.count() as u64)?;
         let left = size - content.len() as u64;
-        if bytes.is_empty() || bytes.len() as u64 != min(PIECE, left) {
+        if bytes.is_empty() || bytes.len() as u64 != min(PIECE as u64, left) {
             return Err(RowFault::NotAnEntry);
         }
         content.append(bytes)?;

@@ -2,7 +2,7 @@ ghost use Rattle.std.specs.Prelude.{◌≡◌, ◌≤◌, ℕ, IfOk, IfErr};
 ghost use Rattle.as2_names.specs.Moments.{last_moment};
 ghost use Rattle.as2_exchange.specs.declared.outbox.Evidence.{Evidence as Receipt};
 ghost use Rattle.as2_rows.specs.Rows.{evidence_shown};
-ghost use Rattle.as2_rows.specs.Summaries.{evidence_of};
+ghost use Rattle.as2_rows.specs.Summaries.{evidence_in};
 ghost use Rattle.as2_rows.specs.declared.fault.RowFault.TheVariants as fault;
 
 use crate::RowFault;
@@ -27,7 +27,7 @@ impl EvidenceRow {
     /// Reads a row that shows all columns of the table, in their order.
     pub fn read(alloc: Global, row: &Row) -> Result<EvidenceRow, RowFault>
         ensures shown { IfOk result (λ r. row.now ≡ evidence_shown r.number r.evidence) }
-        ensures read { IfOk result (λ r. (number : ℕ) (e : Receipt) → row.now ≡ evidence_shown number e → r ≡ evidence_of number e) }
+        ensures read { IfOk result (λ r. (number : ℕ) (e : Receipt) → row.now ≡ evidence_shown number e → r ≡ evidence_in number e) }
         ensures taken { IfErr result (λ f. (number : ℕ) (e : Receipt) → e.moment ≤ last_moment → row.now ≡ evidence_shown number e → f ≡ fault.Memory) }
     {
         if row.column_count() != COLUMNS {

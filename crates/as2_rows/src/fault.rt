@@ -1,4 +1,4 @@
-use as2_names::Memory;
+use as2_text::Memory;
 
 /// Why a row couldn't be read.
 #[derive(Clone, Copy, Debug, PartialEq, Eq)]

@@ -11,7 +11,7 @@ use crate::codes::{attempt_in, mdn_in, outcome_in};
 use as2_exchange::{Attempt, Bytes, How, InEntry, MdnState, Posted};
 use as2_mdn::{Outcome, ReportMic};
 use as2_mic::Pieces;
-use as2_names::{AsName, MessageId, Moment};
+use as2_text::{AsName, MessageId, Moment};
 use sqlite::Row;
 use std::alloc::Global;
 

@@ -14,6 +14,7 @@ mod fault;
 mod inbox;
 mod optional;
 mod outbox;
+mod waiting;
 
 pub use codes::{
     attempt_code, attempt_of_code, detail_code, detail_of_code, how_code, mdn_code, mdn_of_code,
@@ -25,6 +26,7 @@ pub use fault::RowFault;
 pub use inbox::InRow;
 pub use optional::{digest_of, mic_of, url_of};
 pub use outbox::OutRow;
+pub use waiting::Wait;
 
 /// An entry is the one that its row and its content, and a document's evidence, are.
 pub fn entries_come_back()

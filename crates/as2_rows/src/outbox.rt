@@ -11,7 +11,7 @@ use crate::codes::{attempt_in, detail_in};
 use as2_exchange::{Attempt, Evidence, OutEntry};
 use as2_mdn::Detail;
 use as2_mic::Pieces;
-use as2_names::{AsName, MessageId, Moment};
+use as2_text::{AsName, MessageId, Moment};
 use sqlite::Row;
 use std::alloc::Global;
 

@@ -8,22 +8,25 @@ use Rattle.sqlite.specs.State.{State as Connected}
 use Rattle.as2_mdn.specs.declared.detail.Detail.{Detail}
 use Rattle.as2_exchange.specs.Agreement.{Agreements}
 use Rattle.as2_exchange.specs.Invariants.{IsCounter, is_by_receipt}
-use Rattle.as2_exchange.specs.Posts.{Came, repeats}
+use Rattle.as2_exchange.specs.Posts.{ReceivedReceipt, repeats}
 use Rattle.as2_exchange.specs.Readings.{named_by}
 use Rattle.as2_exchange.specs.Receipts.{bears}
 use Rattle.as2_exchange.specs.State.{State, change_document, change_received, document, document_named, end_of_numbers, is_begun, is_settled, received_as}
-use Rattle.as2_exchange.specs.Step.{answer_to, first_entry, http, queued_again, recorded, settle, settled}
+use Rattle.as2_exchange.specs.Documents.{settle, settled}
+use Rattle.as2_exchange.specs.Lines.{http}
+use Rattle.as2_exchange.specs.Recording.{answer_to, first_entry, requeued_by_repeat, recorded}
 use Rattle.as2_exchange.specs.declared.answer.HttpBody.TheVariants.{Nothing}
 use Rattle.as2_exchange.specs.declared.inbox.InEntry.{InEntry}
 use Rattle.as2_exchange.specs.declared.inbox.Posted.{Posted}
 use Rattle.as2_exchange.specs.declared.outbox.Evidence.{Evidence}
 use Rattle.as2_exchange.specs.declared.outbox.OutEntry.{OutEntry}
-use Rattle.as2_posts.specs.Answers.{is_queued_again}
+use Rattle.as2_posts.specs.Answers.{is_requeued}
 use Rattle.as2_store.specs.Adding.{added, with_received}
 use Rattle.as2_store.specs.Stands.{Rests, Stands}
 use Rattle.as2_store.specs.Calls.{Keeps, Lasts}
 use Rattle.as2_store.specs.Requeuing.{requeued_in}
-use Rattle.as2_store.specs.Settling.{settled_as, settled_in}
+use Rattle.as2_exchange.specs.Documents.{settled_as}
+use Rattle.as2_store.specs.Settling.{settled_in}
 use Rattle.as2_store.specs.Tables.{store_schema}
 use Rattle.as2_station.proofs.Numbers.{changes_alike, found_number, left_alone, sent_anew}
 
@@ -31,7 +34,7 @@ settles_to : (s : State) (n : ℕ) (detail : Detail) (e : Evidence) (d : OutEntr
 settles_to s n detail e d by found unsettled = rw (found, unsettled, by) refl
 
 -- a receipt settles the document that it is for
-pub settles : (s t : State) (db : Database) (m : ℕ) (r : Came) (d : OutEntry) (detail : Detail) (e : Evidence) → Stands db s → document_named s (named_by r.receipt) ≡ Some d → (bears r d.organization d.partner d.id && is_begun d) ≡ true
+pub settles : (s t : State) (db : Database) (m : ℕ) (r : ReceivedReceipt) (d : OutEntry) (detail : Detail) (e : Evidence) → Stands db s → document_named s (named_by r.receipt) ≡ Some d → (bears r d.organization d.partner d.id && is_begun d) ≡ true
     → is_settled d ≡ false → is_by_receipt detail ≡ true → settled_as detail e d ≡ settled m r d → settled_in d.number detail e s ≡ Some t → Some (settle s m r) ≡ Some (http 200 Nothing, t)
 unfolding settle
 settles s t db m r d detail e stands named this unsettled by same is =
@@ -44,17 +47,17 @@ settles s t db m r d detail e stands named this unsettled by same is =
     rw (named, this, unsettled) (ap (λ (x : State). Some (http 200 Nothing, x)) (alike ∙ there))
 
 -- a repeat queues the receipt of its entry again
-pub requeues : (A : Agreements) (s t : State) (db : Database) (m : ℕ) (p : Posted) (e : InEntry) → Stands db s → received_as s p ≡ Some e → repeats e.posted p ≡ true → is_queued_again e ≡ true → requeued_in e.number m s ≡ Some t
+pub requeues : (A : Agreements) (s t : State) (db : Database) (m : ℕ) (p : Posted) (e : InEntry) → Stands db s → received_as s p ≡ Some e → repeats e.posted p ≡ true → is_requeued e ≡ true → requeued_in e.number m s ≡ Some t
     → recorded A s m p (Some e) ≡ Some (answer_to A e.number e.posted, t)
 requeues A s t db m p e stands found same queued is =
     let apart = stands.receipts.1.distinct in
     let number = found_number (λ (x : InEntry). x.number) _ s.inbox e apart found in
-    let left : Some (change_received s e.number (queued_again m)) ≡ Some t = ap Some (sym (sent_anew s m e apart number queued)) ∙ is in
-    let there : change_received s e.number (queued_again m) ≡ t = cc in
+    let left : Some (change_received s e.number (requeued_by_repeat m)) ≡ Some t = ap Some (sym (sent_anew s m e apart number queued)) ∙ is in
+    let there : change_received s e.number (requeued_by_repeat m) ≡ t = cc in
     rw same (ap (λ (x : State). Some (answer_to A e.number e.posted, x)) there)
 
 -- or leaves it
-pub stays : (A : Agreements) (s : State) (db : Database) (m : ℕ) (p : Posted) (e : InEntry) → Stands db s → received_as s p ≡ Some e → repeats e.posted p ≡ true → is_queued_again e ≡ false
+pub stays : (A : Agreements) (s : State) (db : Database) (m : ℕ) (p : Posted) (e : InEntry) → Stands db s → received_as s p ≡ Some e → repeats e.posted p ≡ true → is_requeued e ≡ false
     → recorded A s m p (Some e) ≡ Some (answer_to A e.number e.posted, s)
 stays A s db m p e stands found same left =
     let apart = stands.receipts.1.distinct in

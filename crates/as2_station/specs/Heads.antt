@@ -5,7 +5,7 @@ use Rattle.as2_exchange.specs.declared.event.Event.{Event}
 use Rattle.as2_exchange.specs.declared.event.Event.TheVariants.{Post}
 use Rattle.as2_exchange.specs.Posts.{reading, Reading, Refuses, IsReceipt, IsDocument}
 use Rattle.as2_exchange.specs.declared.answer.Line.{Line}
-use Rattle.as2_exchange.specs.declared.answer.Line.TheVariants.{BadNames, BadVersion, UnknownNames, BadType, UnreadableReceipt, NoSuchMessage, BadId, BadAsk, IdUsedBefore, NotProcessed}
+use Rattle.as2_exchange.specs.declared.answer.Line.TheVariants.{BadNames, BadVersion, UnknownNames, BadType}
 
 -- it is about names, version or content type
 abbrev pub is_of_head : Line → Bool
@@ -13,16 +13,11 @@ is_of_head BadNames = true
 is_of_head BadVersion = true
 is_of_head UnknownNames = true
 is_of_head BadType = true
-is_of_head UnreadableReceipt = false
-is_of_head NoSuchMessage = false
-is_of_head BadId = false
-is_of_head BadAsk = false
-is_of_head IdUsedBefore = false
-is_of_head (NotProcessed outcome) = false
+is_of_head other = false
 
 -- it can be read, as a receipt or as a document: the answer is looked for in the store
 abbrev pub takes_store : Reading → Bool
-takes_store (Refuses status line) = false
+takes_store (Refuses line) = false
 takes_store (IsReceipt receipt) = true
 takes_store (IsDocument posted) = true
 

@@ -12,7 +12,7 @@ use Rattle.as2_exchange.specs.declared.event.Event.{Event}
 use Rattle.as2_exchange.specs.declared.event.Event.TheVariants.{Post}
 use Rattle.as2_exchange.specs.declared.answer.HttpAnswer.{HttpAnswer}
 use Rattle.as2_exchange.specs.declared.answer.Line.{Line}
-use Rattle.as2_posts.specs.Answers.{refusal}
+use Rattle.as2_exchange.specs.Lines.{refusal}
 use Rattle.as2_exchange.specs.State.{State}
 use Rattle.as2_exchange.specs.declared.answer.Answer.{Answer}
 use Rattle.as2_exchange.specs.declared.answer.Answer.TheVariants.{Http}
@@ -67,5 +67,5 @@ TakesPost g agreed moment reads given old new r = Does (λ s. post agreed s mome
 
 -- a post that its head alone refuses is answered by that line, and nothing else happens
 pub record TakesHead {A H : Type 0} (agreed : Agreements) (event : Event) (told : HttpAnswer → A) (old new : H) (r : Result A StoreFault) : Type 0 where
-  pub answer : (head : Head) (body : List ℕ) (moment status : ℕ) (line : Line) → event ≡ Post head body moment → reading agreed head body ≡ Refuses status line → is_of_head line ≡ true → r ≡ Ok (told (refusal line))
-  pub same : (head : Head) (body : List ℕ) (moment status : ℕ) (line : Line) → event ≡ Post head body moment → reading agreed head body ≡ Refuses status line → is_of_head line ≡ true → new ≡ old
+  pub answer : (head : Head) (body : List ℕ) (moment : ℕ) (line : Line) → event ≡ Post head body moment → reading agreed head body ≡ Refuses line → is_of_head line ≡ true → r ≡ Ok (told (refusal line))
+  pub same : (head : Head) (body : List ℕ) (moment : ℕ) (line : Line) → event ≡ Post head body moment → reading agreed head body ≡ Refuses line → is_of_head line ≡ true → new ≡ old

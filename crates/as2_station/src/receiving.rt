@@ -8,15 +8,15 @@ ghost use Rattle.as2_exchange.specs.Readings.{named_by};
 ghost use Rattle.as2_exchange.specs.Receipts.{bears};
 ghost use Rattle.as2_exchange.specs.State.{document_named, is_begun};
 ghost use Rattle.as2_exchange.specs.declared.answer.HttpBody.TheVariants.{Nothing};
-ghost use Rattle.as2_posts.specs.Openings.{came_in, report_by};
+ghost use Rattle.as2_posts.specs.Openings.{receipt_by, report_by};
 ghost use Rattle.as2_station.specs.Steps.{TakesPost, always};
 
 use as2_exchange::{Bytes, Evidence, HttpAnswer, HttpBody, Line, OutEntry, StoreFault};
 use as2_mdn::{Receipt, read_report, verdict_pieces};
 use as2_mic::Pieces;
-use as2_names::{Moment, without_brackets};
-use as2_posts::{Opened, refused};
+use as2_posts::Opened;
 use as2_store::Store;
+use as2_text::{Moment, without_brackets};
 use sqlite::Alter;
 use std::alloc::Global;
 
@@ -24,7 +24,7 @@ use std::alloc::Global;
 /// and names its identifier (RFC 4130, section 6.2; RFC 8098, section 3.2.5).
 #[tactic(auto, unfolding(as2_exchange::specs::Readings::named_by, as2_exchange::specs::Readings::value_of))]
 fn is_for(opened: &Opened<'_>, receipt: &Receipt<'_>, document: &OutEntry) -> bool
-    ensures { (body : List ℕ) → result ≡ (bears (came_in opened.now receipt.now body) document.now.organization document.now.partner document.now.id
+    ensures { (body : List ℕ) → result ≡ (bears (receipt_by opened.now receipt.now body) document.now.organization document.now.partner document.now.id
         && is_begun document.now) }
 {
     document.organization.bytes() == opened.to.bytes()
@@ -44,7 +44,7 @@ fn taken() -> HttpAnswer
 }
 
 /// Takes a receipt that names this document: it settles the document if it is for it, unless one has settled it before.
-#[tactic(auto, unfolding(as2_exchange::specs::Step::settle, as2_exchange::specs::Readings::verdict))]
+#[tactic(auto, unfolding(as2_exchange::specs::Documents::settle, as2_exchange::specs::Readings::verdict))]
 fn settle_named<S: Alter>(
     store: &mut Store<S>,
     alloc: Global,
@@ -55,11 +55,11 @@ fn settle_named<S: Alter>(
     document: &OutEntry,
 ) -> Result<HttpAnswer, StoreFault>
     requires open { HasCleanDisk (state S.Store store.old) → IsTrue (state S.Store store.old).is_open }
-    ensures taken { (A : Agreements) → TakesPost S.Store A moment (IsReceipt (came_in opened.now receipt.now body))
+    ensures taken { (A : Agreements) → TakesPost S.Store A moment (IsReceipt (receipt_by opened.now receipt.now body))
         (λ s. document_named s (named_by receipt.now) ≡ Some document.now) store.old store.new result }
 {
     if !is_for(opened, receipt, document) {
-        return Ok(refused(Line::NoSuchMessage));
+        return Ok(Line::NoSuchMessage.answer());
     }
     if document.evidence.is_some() {
         return Ok(taken());
@@ -75,7 +75,7 @@ fn settle_named<S: Alter>(
 }
 
 /// Takes a receipt: the document that it is for is settled, if one is there.
-#[tactic(auto, unfolding(as2_exchange::specs::Step::settle))]
+#[tactic(auto, unfolding(as2_exchange::specs::Documents::settle))]
 fn take_receipt<S: Alter>(
     store: &mut Store<S>,
     alloc: Global,
@@ -84,12 +84,12 @@ fn take_receipt<S: Alter>(
     body: Pieces,
     moment: Moment,
 ) -> Result<HttpAnswer, StoreFault>
-    ensures taken { (A : Agreements) → TakesPost S.Store A moment (IsReceipt (came_in opened.now receipt.now body)) always store.old store.new result }
+    ensures taken { (A : Agreements) → TakesPost S.Store A moment (IsReceipt (receipt_by opened.now receipt.now body)) always store.old store.new result }
 {
     let id_value = without_brackets(receipt.original_id);
     match store.find_out_by_id(alloc, id_value)? {
         Some(document) => settle_named(store, alloc, opened, receipt, body, moment, &document),
-        None => Ok(refused(Line::NoSuchMessage)),
+        None => Ok(Line::NoSuchMessage.answer()),
     }
 }
 
@@ -107,6 +107,6 @@ pub fn receive<S: Alter>(
     let report = body.joined()?;
     match read_report(&opened.media, &report) {
         Ok(receipt) => take_receipt(store, alloc, opened, &receipt, body, moment),
-        Err(_) => Ok(refused(Line::UnreadableReceipt)),
+        Err(_) => Ok(Line::UnreadableReceipt.answer()),
     }
 }

@@ -8,15 +8,15 @@ ghost use Rattle.as2_station.specs.Steps.{TakesPost, always};
 
 use as2_agreement::Agreements;
 use as2_exchange::{HttpAnswer, InEntry, Line, Posted, StoreFault};
-use as2_names::Moment;
-use as2_posts::{answer_to, first_entry, is_queued_again, refused, repeats};
+use as2_posts::{answer_to, first_entry, is_requeued, repeats};
 use as2_store::Store;
+use as2_text::Moment;
 use sqlite::Alter;
 use std::alloc::Global;
 
 /// Takes a document whose key an entry has: a repeat of the entry's document is answered as that was, and its receipt is
 /// queued again where a repeat does so; any other is refused.
-#[tactic(auto, unfolding(as2_exchange::specs::Step::record_post))]
+#[tactic(auto, unfolding(as2_exchange::specs::Recording::record_post))]
 fn record_again<S: Alter>(
     store: &mut Store<S>,
     alloc: Global,
@@ -29,10 +29,10 @@ fn record_again<S: Alter>(
     ensures taken { TakesPost S.Store agreements.now moment (IsDocument posted.now) (λ s. received_as s posted.now ≡ Some entry.now) store.old store.new result }
 {
     if !repeats(&entry.posted, posted) {
-        return Ok(refused(Line::IdUsedBefore));
+        return Ok(Line::IdUsedBefore.answer());
     }
     let answer = answer_to(alloc, agreements, entry.number, &entry.posted)?;
-    if !is_queued_again(entry) {
+    if !is_requeued(entry) {
         return Ok(answer);
     }
     store.requeue_mdn(entry.number, moment)?;
@@ -40,7 +40,7 @@ fn record_again<S: Alter>(
 }
 
 /// Takes a document whose key no entry has, under the next number.
-#[tactic(auto, unfolding(as2_exchange::specs::Step::record_post))]
+#[tactic(auto, unfolding(as2_exchange::specs::Recording::record_post))]
 fn record_first<S: Alter>(
     store: &mut Store<S>,
     alloc: Global,

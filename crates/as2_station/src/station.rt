@@ -12,9 +12,9 @@ use crate::recording::record;
 use as2_agreement::Agreements;
 use as2_exchange::{Answer, Event, HttpAnswer, StoreFault};
 use as2_mic::Pieces;
-use as2_names::{Head, Memory, Moment};
-use as2_posts::{Opened, document, open, refused};
+use as2_posts::{Opened, document, open};
 use as2_store::Store;
+use as2_text::{Head, Memory, Moment};
 use sqlite::Alter;
 use std::alloc::Global;
 use std::marker::Model;
@@ -68,7 +68,7 @@ impl<S: Alter> Station<S> {
         }
         match document(alloc, opened, head, body)? {
             Ok(posted) => record(&mut self.store, alloc, agreements, posted, moment),
-            Err(line) => Ok(refused(line)),
+            Err(line) => Ok(line.answer()),
         }
     }
 
@@ -87,7 +87,7 @@ impl<S: Alter> Station<S> {
     {
         match open(agreements, head) {
             Ok(opened) => self.take(alloc, agreements, opened, head, body, moment),
-            Err(line) => Ok(refused(line)),
+            Err(line) => Ok(line.answer()),
         }
     }
 

@@ -1,5 +1,5 @@
 -- What a transaction leaves: the commit of what its statements did, or nothing.
-use Rattle.std.proofs.Common.{◌≡◌, ap, sym, subst, ◌∙◌, arith, Option, Some, ℕ, List, Result, Ok, Err, IsErr, IsTrue, false, true}
+use Rattle.std.proofs.Common.{◌≡◌, ap, sym, subst, ◌∙◌, arith, Option, Some, ℕ, List, Result, Ok, Err, IsErr, IsErrAnd, IsTrue, MatchResult, false, true}
 use Rattle.sqlite.specs.Store.{Ghosts}
 use Rattle.sqlite.specs.Held.{Held, state}
 use Rattle.sqlite.specs.Effect.{Database}
@@ -14,7 +14,7 @@ use Rattle.as2_exchange.specs.State.{State}
 use Rattle.as2_store.specs.Tables.{store_schema}
 use Rattle.as2_store.specs.Stands.{Stands, Rests}
 use Rattle.as2_store.specs.Calls.{IsInside, Keeps, Commits, Writes}
-use Rattle.as2_store.proofs.Resting.{rests_committed, rests_after, keeps_then}
+use Rattle.as2_store.proofs.TransactionEnds.{rests_committed, rests_after, keeps_then}
 use Rattle.sqlite_schema.specs.declared.schema.Schema.{Schema}
 
 -- ---- statements one after the other
@@ -114,8 +114,13 @@ module _ {S : Type 0} (g : Ghosts S) (old : Held S) (last : Connected) (end : He
 
 -- ---- the same write, by other names
 
-pub write_err : {A B E F : Type 0} (next : State → Option State) (old new : Connected) (e : E) (f : F) → Writes {A = A} {E = E} next old new (Err e) → Writes {A = B} {E = F} next old new (Err f)
-write_err next old new e f it = record { clean = it.clean; was_open = it.was_open; is_open = it.is_open; done = it.done; failed = it.failed; crash = it.crash }
+-- its failure is told otherwise
+pub write_told : {A E F : Type 0} (next : State → Option State) (old new : Connected) (r : Result A E) (told : Result A F) (Q : E → F → Type 0) → MatchResult r (λ x. told ≡ Ok x) (λ e. IsErrAnd told (Q e)) → Writes next old new r → Writes next old new told
+write_told {A} {E} {F} next old new (Ok x) told Q is it =
+    let same : Writes {A = A} {E = F} next old new (Ok x) = record { clean = it.clean; was_open = it.was_open; is_open = it.is_open; done = it.done; failed = it.failed; crash = it.crash } in
+    subst (Writes next old new) (sym is) same
+write_told next old new (Err e) (Ok x) Q is it = absurd is
+write_told next old new (Err e) (Err f) Q is it = record { clean = it.clean; was_open = it.was_open; is_open = it.is_open; done = it.done; failed = it.failed; crash = it.crash }
 
 -- seen from where the store is
 pub write_of : {A E : Type 0} (next : State → Option State) (inside outside new : Connected) (r : Result A E) → inside ≡ outside → Writes next inside new r → Writes next outside new r

@@ -2,7 +2,7 @@
 use Rattle.std.proofs.Common.{◌≡◌, ◌≢◌, ◌+◌, ◌==◌, ◌&&◌, length, cond, inl, inr, ℕ, ◌<◌, ◌^◌, List, [], ◌∷◌, map, codes, Option, Ok, true, true≢false, refl, sym, ap, subst, ◌∙◌, pos, negsuc, arith, rules, w64, to_z, of_z, IsPermutation, Bool, false}
 use Rattle.std.proofs.lemmas.Int.{to_z-of_z}
 use Rattle.std.proofs.lemmas.Bool.Decides.{nat_tests}
-use Rattle.as2_store.proofs.Showing.{and_true}
+use Rattle.as2_store.proofs.QueriedRows.{and_true}
 use Rattle.sqlite.specs.declared.types.Value.TheVariants.{Int, Text}
 use Rattle.sqlite.specs.Order.{Row}
 use Rattle.sqlite.specs.Term.{lit}
@@ -30,8 +30,8 @@ use Rattle.as2_exchange.specs.State.{State}
 use Rattle.as2_rows.specs.Rows.{whole, meta_row, meta_shown}
 use Rattle.as2_store.specs.Tables.{store_schema, meta_tree, meta_table, inbox_table, inbox_piece_table, outbox_table, outbox_piece_table, evidence_table, waiting_table}
 use Rattle.as2_store.proofs.Statements.{meta_read_text, receipt_text}
-use Rattle.as2_store.specs.Stands.{Stands, Rests, Says, HasCounters}
-use Rattle.as2_store.proofs.Quiet.{quiet}
+use Rattle.as2_store.specs.Stands.{Stands, Rests, MetaSays, HasCounters}
+use Rattle.as2_store.proofs.ForeignKeys.{quiet}
 use Rattle.as2_store.proofs.Texts.{meta_command, meta_columns, with_meta_first, meta_read_is, meta_read_plain, meta_read_unlisted, receipt_terms, receipt_project, receipt_is, receipt_plain}
 
 -- a number that is passed as i64
@@ -53,7 +53,7 @@ stops tables indexes limit db e has (inr (inl over)) = absurd (elim over.1 [ inl
 stops tables indexes limit db e has (inr (inr stop)) = stop.0
 
 -- where the row is there, it can be read but for a cause from outside
-pub said_fails : (old new : Connected) (e : Error) (kind : List ℕ) (version : ℕ) → Says old kind version → FailsToQuery meta_read_text [] old new e → IsOutside e
+pub said_fails : (old new : Connected) (e : Error) (kind : List ℕ) (version : ℕ) → MetaSays old kind version → FailsToQuery meta_read_text [] old new e → IsOutside e
 said_fails old new e kind version it h =
     let has = it.schema in
     fails_outside meta_read_text [] old new e (subst (λ s. IsPlain (understood s meta_read_text)) (sym has) (meta_read_plain it.tables it.indexes))
@@ -68,14 +68,14 @@ abbrev pub told : List ℕ → ℕ → ℕ → ℕ → Row
 told kind version n m = Text kind ∷ whole version ∷ whole n ∷ whole m ∷ []
 
 -- the row is shown as it is
-pub reads_said : (old new : Connected) (rows : List Row) → Shown meta_read_text [] old new rows → (kind : List ℕ) (version : ℕ) → (it : Says old kind version) → rows ≡ told kind version it.next_receipt it.next_document ∷ []
+pub reads_said : (old new : Connected) (rows : List Row) → Shown meta_read_text [] old new rows → (kind : List ℕ) (version : ℕ) → (it : MetaSays old kind version) → rows ≡ told kind version it.next_receipt it.next_document ∷ []
 reads_said old new rows h kind version it =
     let read = reads_as meta_read_text [] old new (with_meta_first it.tables it.indexes) it.schema meta_command (meta_read_is it.tables it.indexes) (meta_read_plain it.tables it.indexes) (meta_read_unlisted it.tables it.indexes) rows h in
     let all = in_any_order meta_tree [] meta_columns old.now.trees [] rows read.answer in
     one_permutation (told kind version it.next_receipt it.next_document) rows (subst (λ l. IsPermutation (map (shown_of meta_columns []) (chosen [] [] l)) rows) it.meta all)
 
 -- the tables of a store say its kind and its version
-pub says_of : (c : Connected) (s : State) → Stands c.now s → Says c (codes "as2-station") 1
+pub says_of : (c : Connected) (s : State) → Stands c.now s → MetaSays c (codes "as2-station") 1
 says_of c s it = record {
   next_receipt = s.next_in;
   next_document = s.next_out;

@@ -1,5 +1,5 @@
 -- A query in a transaction of its own.
-use Rattle.std.proofs.Common.{◌≡◌, ◌⊎◌, inl, ℕ, List, Some, Result, Ok, Err, IfOk, IfErr, OnOk, IsErr, IsTrue, true, refl, sym, subst, arith}
+use Rattle.std.proofs.Common.{◌≡◌, ◌⊎◌, inl, ℕ, List, Some, Result, Ok, Err, IfOk, IfErr, OnOk, IsErr, IsErrAnd, IsTrue, MatchResult, true, refl, sym, subst, arith}
 use Rattle.sqlite_trees.specs.Tree.{Trees}
 use Rattle.sqlite.specs.Store.{Ghosts}
 use Rattle.sqlite.specs.Held.{Held, state}
@@ -107,6 +107,24 @@ read_ok fits more old new a b then it = record {
 -- a read that fails, or whose answer is no answer
 pub read_err : {A B E F : Type 0} (fits : State → A → Type 0) (more : State → B → Type 0) (old new : Connected) (r : Result A E) (f : F) → Reads fits old new r → Reads {A = B} {E = F} more old new (Err f)
 read_err fits more old new r f it = record { clean = it.clean; was_open = λ clean. tt; is_open = λ clean. tt; answer = λ clean. tt; same = it.same; crash = it.crash }
+
+-- an answer whose failure was told otherwise
+pub told_ok : {A E F : Type 0} (r : Result A E) (told : Result A F) (Q : E → F → Type 0) (a : A) → MatchResult r (λ x. told ≡ Ok x) (λ e. IsErrAnd told (Q e)) → told ≡ Ok a → r ≡ Ok a
+told_ok (Ok x) told Q a cases is = cc
+told_ok (Err e) told Q a cases is = absurd (subst (λ t. IsErrAnd t (Q e)) is cases)
+
+-- what a read answered whose failure was told otherwise
+pub mapped : {A E F : Type 0} (fits : State → A → Type 0) (old new : Connected) (r : Result A E) (told : Result A F) (Q : E → F → Type 0) (a : A) → MatchResult r (λ x. told ≡ Ok x) (λ e. IsErrAnd told (Q e)) → told ≡ Ok a
+    → Reads fits old new r → Reads {A = A} {E = F} fits old new (Ok a)
+mapped fits old new r told Q a cases is it = read_ok fits fits old new a a (λ s r found. found) (subst (λ r. Reads fits old new r) (told_ok r told Q a cases is) it)
+
+-- a read, and what is made of its answer, if anything is
+pub read_told : {A B D E F : Type 0} (fits : State → A → Type 0) (more : State → B → Type 0) (old new : Connected) (a : A) (r : Result B E) (told : Result B F) (Q : E → F → Type 0) (P : B → Type 0)
+    → MatchResult r (λ x. told ≡ Ok x) (λ e. IsErrAnd told (Q e)) → IfOk r P → ((s : State) (b : B) → P b → fits s a → more s b) → Reads {A = A} {E = D} fits old new (Ok a) → Reads more old new told
+read_told {B = B} {F = F} fits more old new a (Ok b) told Q P cases is then it =
+    subst (λ (t : Result B F). Reads more old new t) (sym cases) (read_ok fits more old new a b (λ s r found. then s b is found) it)
+read_told fits more old new a (Err e) (Ok b) Q P cases is then it = absurd cases
+read_told fits more old new a (Err e) (Err f) Q P cases is then it = read_err fits more old new (Ok a) f it
 
 survives_same : (c : Connected) (P : Trees → Type 0) → Survives c c P
 survives_same c P = record { clean = omega arith; shield = λ is. is; counts = omega arith; limit = refl; closes = λ clean is. inl is; crash = λ clean db may. inl may }

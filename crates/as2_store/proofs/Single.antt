@@ -35,14 +35,14 @@ use Rattle.as2_exchange.specs.declared.outbox.OutEntry.{OutEntry}
 use Rattle.as2_rows.specs.Rows.{whole, whole_or_null, url_value, digest_value, mic_value, in_columns, out_columns, in_row, out_row, meta_row}
 use Rattle.as2_rows.specs.Codes.{outcome_code, how_code, mdn_code, attempt_code, detail_code}
 use Rattle.as2_rows.specs.Contents.{Piece, pieces, piece_bytes, piece_shown}
-use Rattle.as2_rows.specs.Summaries.{in_summary, in_entry, out_summary, out_entry, evidence_of}
+use Rattle.as2_rows.specs.Summaries.{in_summary, in_entry, out_summary, out_entry, evidence_in}
 use Rattle.as2_rows.specs.declared.evidence.EvidenceRow.{EvidenceRow}
 use Rattle.as2_rows.specs.declared.inbox.InRow.{InRow}
 use Rattle.as2_rows.specs.declared.outbox.OutRow.{OutRow}
 use Rattle.as2_rows.proofs.Joining.{as_many, bytes_at, one_more, all_taken, pieces_rise}
 use Rattle.as2_store.specs.Stands.{Stands, evidence_rows}
-use Rattle.as2_store.proofs.Gathering.{all_pieces, gathers}
-use Rattle.as2_store.proofs.Recalling.{receipts, row_of, of_number, rows_of, own_receipt}
+use Rattle.as2_store.proofs.EntryPieces.{all_pieces, gathers}
+use Rattle.as2_store.proofs.OutboxQueries.{receipts, row_of, of_number, rows_of, own_receipt}
 
 -- ---- values
 
@@ -296,7 +296,7 @@ abbrev first_of : List EvidenceRow → Option Evidence
 first_of [] = None
 first_of (r ∷ rs) = Some r.evidence
 
-of_first : (n : ℕ) (o : Option Evidence) → first_of (cons_option (option_map (evidence_of n) o) []) ≡ o
+of_first : (n : ℕ) (o : Option Evidence) → first_of (cons_option (option_map (evidence_in n) o) []) ≡ o
 of_first n None = refl
 of_first n (Some e) = refl
 

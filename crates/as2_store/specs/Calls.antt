@@ -6,7 +6,7 @@ use Rattle.as2_exchange.specs.State.{State, empty}
 use Rattle.as2_exchange.specs.declared.fault.StoreFault.{StoreFault}
 use Rattle.as2_exchange.specs.declared.fault.StoreFault.TheVariants.{NotAStore}
 use Rattle.as2_store.specs.Tables.{store_schema}
-use Rattle.as2_store.specs.Stands.{Stands, Rests, IsBlank, Says, judged, may_come}
+use Rattle.as2_store.specs.Stands.{Stands, Rests, IsBlank, MetaSays, adoption_fault, may_come}
 
 -- a statement inside a transaction: nothing is committed, and nothing is left to a crash that wasn't
 pub record IsInside (old new : Connected) : Type 0 where
@@ -81,7 +81,7 @@ pub record Adopts (old new : Connected) : Type 0 where
   pub clean : HasCleanDisk new → HasCleanDisk old
   pub is_open : HasCleanDisk new → IsTrue new.is_open
   pub done : HasCleanDisk new → (s : State) → Rests old s → Reaches new (Some s)
-  pub judged : HasCleanDisk new → (kind : List ℕ) (version : ℕ) → Says old kind version → judged kind version ≡ None
+  pub adoption_fault : HasCleanDisk new → (kind : List ℕ) (version : ℕ) → MetaSays old kind version → adoption_fault kind version ≡ None
   pub no_blank : HasCleanDisk new → ¬ IsBlank old
   pub crash : Survives old new (Commits Some old)
 
@@ -89,7 +89,7 @@ pub record Adopts (old new : Connected) : Type 0 where
 -- a database without tables is no store
 pub record IsReason (old : Connected) (f : StoreFault) : Type 0 where
   pub of_store : (s : State) → Rests old s → may_come f ≡ true
-  pub of_row : (kind : List ℕ) (version : ℕ) → Says old kind version → (may_come f ≡ true) ⊎ (judged kind version ≡ Some f)
+  pub of_row : (kind : List ℕ) (version : ℕ) → MetaSays old kind version → (may_come f ≡ true) ⊎ (adoption_fault kind version ≡ Some f)
   pub of_blank : IsBlank old → (may_come f ≡ true) ⊎ (f ≡ NotAStore)
 
 -- a connection that is refused is given back with its tables as they were, whatever they are, where nothing was uncommitted

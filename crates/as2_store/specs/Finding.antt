@@ -1,21 +1,17 @@
 -- Which entry is looked for, and what is shown of a document that is found.
-use Rattle.std.specs.Prelude.{◌≡◌, find, ℕ, List, [], ◌∷◌, Option, Some, None, Bool, ◌&&◌, bytes_eq}
+use Rattle.std.specs.Prelude.{◌≡◌, find, ℕ, List, [], ◌∷◌, Option, Some, None, Bool, bytes_eq}
 use Rattle.as2_names.specs.Identifiers.{value_of}
 use Rattle.sqlite.specs.Order.{Row}
-use Rattle.as2_exchange.specs.State.{State}
+use Rattle.as2_exchange.specs.State.{State, has_key}
 use Rattle.as2_store.specs.declared.counters.NextNumbers.{NextNumbers}
 use Rattle.as2_exchange.specs.declared.inbox.InEntry.{InEntry}
 use Rattle.as2_exchange.specs.declared.outbox.Evidence.{Evidence}
 use Rattle.as2_exchange.specs.declared.outbox.OutEntry.{OutEntry}
 use Rattle.as2_rows.specs.Rows.{evidence_shown}
 
--- it was posted by this sender to this receiver, under an identifier of this value
-abbrev pub has_key : List ℕ → List ℕ → List ℕ → InEntry → Bool
-has_key sender receiver value e = bytes_eq e.posted.sender sender && (bytes_eq e.posted.receiver receiver && bytes_eq (value_of e.posted.id) value)
-
 -- what is found is the entry that this sender posted to this receiver under an identifier of this value, if there is one
 abbrev pub IsPostedAs : List ℕ → List ℕ → List ℕ → State → Option InEntry → Type 0
-IsPostedAs sender receiver value s found = found ≡ find (has_key sender receiver value) s.inbox
+IsPostedAs sender receiver value s found = found ≡ find (λ e. has_key sender receiver value e.posted) s.inbox
 
 -- the numbers that the next entries get
 pub record AreNext (next : NextNumbers) (s : State) : Type 0 where

@@ -4,17 +4,11 @@ use Rattle.std.specs.List.{AllByRecursion}
 use Rattle.sqlite.specs.Effect.{Database, IsDatabase}
 use Rattle.sqlite.specs.State.{State as Connected}
 use Rattle.sqlite.specs.Tree.{put_row, IsTable}
+use Rattle.as2_exchange.specs.Recording.{requeued}
 use Rattle.as2_exchange.specs.State.{State, change_received}
-use Rattle.as2_exchange.specs.declared.inbox.InEntry.{InEntry}
-use Rattle.as2_exchange.specs.declared.inbox.MdnState.TheVariants.{Pending}
-use Rattle.as2_exchange.specs.declared.attempt.Attempt.TheVariants.{Idle}
 use Rattle.as2_rows.specs.Waiting.{Waiting}
 use Rattle.as2_store.specs.Tables.{store_schema, waiting_tree}
 use Rattle.as2_store.specs.Stands.{place, waiting_row}
-
--- the entry with its receipt to be sent from this moment on, and with all tries left
-abbrev pub requeued : ℕ → InEntry → InEntry
-requeued m e = record e { mdn = Pending; tries = 0; attempt = Idle; due = Some m }
 
 -- the state once the receipt of the entry of this number, if there is one, is to be sent so
 abbrev pub requeued_in : ℕ → ℕ → State → Option State

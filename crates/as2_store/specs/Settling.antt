@@ -2,16 +2,11 @@
 use Rattle.std.specs.Prelude.{ℕ, Bool, true, ◌==◌, ◌&&◌, ◌||◌, not, if◌then◌else◌, List, filter, Option, Some, None}
 use Rattle.std.specs.Option.{option_map_or}
 use Rattle.as2_mdn.specs.declared.detail.Detail.{Detail}
+use Rattle.as2_exchange.specs.Documents.{settled_as}
 use Rattle.as2_exchange.specs.State.{State, document, change_document, is_settled}
 use Rattle.as2_exchange.specs.Invariants.{is_by_receipt}
-use Rattle.as2_exchange.specs.declared.attempt.Attempt.TheVariants.{Idle}
 use Rattle.as2_exchange.specs.declared.outbox.Evidence.{Evidence}
-use Rattle.as2_exchange.specs.declared.outbox.OutEntry.{OutEntry}
 use Rattle.as2_rows.specs.Waiting.{Waiting, to_answer}
-
--- the document once a receipt has settled it so: no try is open, and nothing is waited for
-abbrev pub settled_as : Detail → Evidence → OutEntry → OutEntry
-settled_as detail evidence d = record d { attempt = Idle; due = None; detail = detail; evidence = Some evidence }
 
 -- the state once a receipt settles the document of this number so: one that no receipt has settled, by a detail that a receipt
 -- gives

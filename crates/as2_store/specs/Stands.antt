@@ -50,8 +50,8 @@ abbrev pub documents_waiting : ℕ → List OutEntry → List Waiting
 documents_waiting kind outbox = filter (λ w. w.kind == kind) (waiting_out outbox)
 
 -- all that waits, in the order of the places: documents to send, receipts to send, receipts awaited, last tries
-abbrev pub waiting : State → List Waiting
-waiting s = documents_waiting to_send s.outbox ++ (waiting_in s.inbox ++ (documents_waiting to_hear s.outbox ++ documents_waiting to_end s.outbox))
+abbrev pub all_waiting : State → List Waiting
+all_waiting s = documents_waiting to_send s.outbox ++ (waiting_in s.inbox ++ (documents_waiting to_hear s.outbox ++ documents_waiting to_end s.outbox))
 
 -- ---- the state
 
@@ -67,7 +67,7 @@ pub record HasEntries (d : Database) (s : State) : Type 0 where
   pub outbox : d.trees outbox_tree ≡ map out_row s.outbox
   pub outbox_contents : HasRows (d.trees outbox_piece_tree) (map piece_shown (outbox_pieces s.outbox))
   pub evidence : d.trees evidence_tree ≡ evidence_rows s.outbox
-  pub waits : d.trees waiting_tree ≡ map waiting_row (waiting s)
+  pub waits : d.trees waiting_tree ≡ map waiting_row (all_waiting s)
 
 -- the catalog lists the tables of the schema, and each tree is in order
 unfoldable pub IsWhole : Database → Type 0
@@ -96,7 +96,7 @@ pub record IsBlank (c : Connected) : Type 0 where
   pub committed : IsTrue c.is_open → c.committed ≡ c.now
 
 -- the tables of the schema are there, and no row
-pub record IsBare (d : Database) (schema : Schema) : Type 0 where
+pub record HasNoRow (d : Database) (schema : Schema) : Type 0 where
   pub schema_is : d.schema ≡ schema
   pub empty : AllByRecursion (λ t. d.trees t.tree ≡ []) schema.tables
 
@@ -112,11 +112,11 @@ may_come NotAStore = false
 may_come OtherVersion = false
 
 -- what kind and version say
-abbrev pub judged : List ℕ → ℕ → Option StoreFault
-judged kind version = if bytes_eq kind (codes "as2-station") then (if version == current.number then None else Some OtherVersion) else Some NotAStore
+abbrev pub adoption_fault : List ℕ → ℕ → Option StoreFault
+adoption_fault kind version = if bytes_eq kind (codes "as2-station") then (if version == current.number then None else Some OtherVersion) else Some NotAStore
 
 -- the table `meta` of this version stands before all others, and its row says this kind and this version
-pub record Says (c : Connected) (kind : List ℕ) (version : ℕ) : Type 0 where
+pub record MetaSays (c : Connected) (kind : List ℕ) (version : ℕ) : Type 0 where
   pub next_receipt : ℕ
   pub next_document : ℕ
   pub tables : List Table

@@ -7,7 +7,7 @@ ghost use Rattle.sqlite.specs.declared.types.Value.TheVariants.{Text};
 ghost use Rattle.sql_tables.specs.Changes.{IsOutside};
 ghost use Rattle.as2_exchange.specs.declared.fault.StoreFault.TheVariants.{NotAStore};
 ghost use Rattle.as2_rows.specs.Rows.{whole};
-ghost use Rattle.as2_store.specs.Stands.{judged, may_come};
+ghost use Rattle.as2_store.specs.Stands.{adoption_fault, may_come};
 ghost use Rattle.as2_store.specs.Calls.{Adopts, Commits, IsGivenBack, IsReason};
 
 use crate::fault::fault_of;
@@ -37,7 +37,7 @@ fn unread(error: &Error) -> StoreFault
 
 /// Why these rows of `meta` aren't those of a store, unless they are.
 fn refused(rows: &[Row]) -> Option<StoreFault>
-    ensures { (kind : List ℕ) (version n m : ℕ) → rows.now ≡ (Text kind ∷ whole version ∷ whole n ∷ whole m ∷ []) ∷ [] → result ≡ judged kind version }
+    ensures { (kind : List ℕ) (version n m : ℕ) → rows.now ≡ (Text kind ∷ whole version ∷ whole n ∷ whole m ∷ []) ∷ [] → result ≡ adoption_fault kind version }
 {
     let [row] = rows else {
         return Some(StoreFault::NotAStore);
@@ -80,5 +80,5 @@ pub fn check<S: Alter>(conn: &mut Connection<S>) -> Result<(), StoreFault>
     let Err(error) = tx.commit() else {
         return Ok(());
     };
-    Err(fault_of(&error))
+    Err(fault_of(error))
 }

@@ -9,7 +9,7 @@ ghost use Rattle.sql_tables.specs.Changes.{Changed, IsOutside};
 ghost use Rattle.as2_exchange.specs.State.{State};
 ghost use Rattle.as2_rows.specs.Rows.{whole, meta_row, meta_shown};
 ghost use Rattle.as2_store.specs.Tables.{store_schema, meta_tree};
-ghost use Rattle.as2_store.specs.Stands.{Rests, Says, IsBare, HasCounters};
+ghost use Rattle.as2_store.specs.Stands.{Rests, MetaSays, HasNoRow, HasCounters};
 
 use crate::numbers::whole;
 use crate::reading::query_all;
@@ -31,7 +31,7 @@ pub fn put_meta<S: Alter>(tx: &mut Transaction<'_, S>, first: u64) -> Result<(),
     ensures within { IsInside (state S.Store tx.old.conn.now) (state S.Store tx.new.conn.now) }
     ensures open { HasCleanDisk (state S.Store tx.new.conn.now) → OnOk result (IsTrue (state S.Store tx.old.conn.now).is_open) }
     ensures inside { HasCleanDisk (state S.Store tx.new.conn.now) → OnOk result (IsTrue (state S.Store tx.new.conn.now).in_transaction) }
-    ensures put { HasCleanDisk (state S.Store tx.new.conn.now) → OnOk result (IsBare (state S.Store tx.old.conn.now).now store_schema
+    ensures put { HasCleanDisk (state S.Store tx.new.conn.now) → OnOk result (HasNoRow (state S.Store tx.old.conn.now).now store_schema
         → Changed (state S.Store tx.old.conn.now) (state S.Store tx.new.conn.now) store_schema meta_tree (meta_row first first ∷ [])) }
 {
     let first = whole(first);

@@ -6,7 +6,7 @@ ghost use Rattle.sqlite.specs.State.{HasCleanDisk, Executes};
 ghost use Rattle.as2_store.specs.Calls.{IsInside, Creates, CommitsFirst, IsGivenBack};
 ghost use Rattle.as2_exchange.specs.State.{empty, end_of_numbers};
 ghost use Rattle.as2_store.specs.Tables.{no_schema, inbox_schema, outbox_schema, store_schema};
-ghost use Rattle.as2_store.specs.Stands.{Rests, IsBlank, IsBare};
+ghost use Rattle.as2_store.specs.Stands.{Rests, IsBlank, HasNoRow};
 
 use crate::counters::put_meta;
 use sqlite::{Alter, Connection, Error, Transaction};
@@ -27,7 +27,7 @@ fn make_inbox<S: Alter>(tx: &mut Transaction<'_, S>) -> Result<(), Error>
     ensures same_reference { tx.new.conn.ghost_name ≡ tx.old.conn.ghost_name }
     ensures within { IsInside (state S.Store tx.old.conn.now) (state S.Store tx.new.conn.now) }
     ensures open { HasCleanDisk (state S.Store tx.new.conn.now) → OnOk result (IsTrue (state S.Store tx.old.conn.now).is_open) }
-    ensures made { HasCleanDisk (state S.Store tx.new.conn.now) → OnOk result (IsBare (state S.Store tx.old.conn.now).now no_schema → IsBare (state S.Store tx.new.conn.now).now inbox_schema) }
+    ensures made { HasCleanDisk (state S.Store tx.new.conn.now) → OnOk result (HasNoRow (state S.Store tx.old.conn.now).now no_schema → HasNoRow (state S.Store tx.new.conn.now).now inbox_schema) }
 {
     run(
         tx,
@@ -49,7 +49,7 @@ fn make_outbox<S: Alter>(tx: &mut Transaction<'_, S>) -> Result<(), Error>
     ensures same_reference { tx.new.conn.ghost_name ≡ tx.old.conn.ghost_name }
     ensures within { IsInside (state S.Store tx.old.conn.now) (state S.Store tx.new.conn.now) }
     ensures open { HasCleanDisk (state S.Store tx.new.conn.now) → OnOk result (IsTrue (state S.Store tx.old.conn.now).is_open) }
-    ensures made { HasCleanDisk (state S.Store tx.new.conn.now) → OnOk result (IsBare (state S.Store tx.old.conn.now).now inbox_schema → IsBare (state S.Store tx.new.conn.now).now outbox_schema) }
+    ensures made { HasCleanDisk (state S.Store tx.new.conn.now) → OnOk result (HasNoRow (state S.Store tx.old.conn.now).now inbox_schema → HasNoRow (state S.Store tx.new.conn.now).now outbox_schema) }
 {
     run(
         tx,
@@ -71,7 +71,7 @@ fn make_waiting<S: Alter>(tx: &mut Transaction<'_, S>) -> Result<(), Error>
     ensures same_reference { tx.new.conn.ghost_name ≡ tx.old.conn.ghost_name }
     ensures within { IsInside (state S.Store tx.old.conn.now) (state S.Store tx.new.conn.now) }
     ensures open { HasCleanDisk (state S.Store tx.new.conn.now) → OnOk result (IsTrue (state S.Store tx.old.conn.now).is_open) }
-    ensures made { HasCleanDisk (state S.Store tx.new.conn.now) → OnOk result (IsBare (state S.Store tx.old.conn.now).now outbox_schema → IsBare (state S.Store tx.new.conn.now).now store_schema) }
+    ensures made { HasCleanDisk (state S.Store tx.new.conn.now) → OnOk result (HasNoRow (state S.Store tx.old.conn.now).now outbox_schema → HasNoRow (state S.Store tx.new.conn.now).now store_schema) }
 {
     run(
         tx,
@@ -89,7 +89,7 @@ fn make_tables<S: Alter>(tx: &mut Transaction<'_, S>) -> Result<(), Error>
     ensures same_reference { tx.new.conn.ghost_name ≡ tx.old.conn.ghost_name }
     ensures within { IsInside (state S.Store tx.old.conn.now) (state S.Store tx.new.conn.now) }
     ensures open { HasCleanDisk (state S.Store tx.new.conn.now) → OnOk result (IsTrue (state S.Store tx.old.conn.now).is_open) }
-    ensures made { HasCleanDisk (state S.Store tx.new.conn.now) → OnOk result (IsBare (state S.Store tx.old.conn.now).now no_schema → IsBare (state S.Store tx.new.conn.now).now store_schema) }
+    ensures made { HasCleanDisk (state S.Store tx.new.conn.now) → OnOk result (HasNoRow (state S.Store tx.old.conn.now).now no_schema → HasNoRow (state S.Store tx.new.conn.now).now store_schema) }
 {
     make_inbox(tx)?;
     make_outbox(tx)?;

@@ -12,7 +12,7 @@ ghost use Rattle.as2_store.specs.Stands.{Rests, may_come};
 use crate::contents::out_piece_rows;
 use crate::fault::{fault_of, unread_row};
 use crate::outbox::evidence_rows;
-use as2_exchange::{Evidence, OutEntry, StoreFault};
+use as2_exchange::{END_OF_NUMBERS, Evidence, OutEntry, StoreFault};
 use as2_mic::Pieces;
 use as2_rows::{EvidenceRow, OutRow, content_in};
 use sqlite::{Alter, Connection, Row};
@@ -31,18 +31,12 @@ fn content_of<S: Alter>(
     ensures content { Reads (λ s content. (p : Document → Bool) (d : Document) → find p s.outbox ≡ Some d → number ≡ d.number → content ≡ d.content) (state S.Store conn.old) (state S.Store conn.new) result }
     ensures fault { IfErr result (λ f. may_come f ≡ true) }
 {
-    let rows = match out_piece_rows(conn, number) {
-        Ok(rows) => rows,
-        Err(error) => return Err(fault_of(&error)),
-    };
-    match content_in(alloc, &rows, number, length) {
-        Ok(content) => Ok(content),
-        Err(fault) => Err(unread_row(fault)),
-    }
+    let rows = out_piece_rows(conn, number).map_err(fault_of)?;
+    content_in(alloc, &rows, number, length).map_err(unread_row)
 }
 
 /// The receipt that settled a document, if one has.
-fn evidence_of<S: Alter>(
+fn evidence_in<S: Alter>(
     conn: &mut Connection<S>,
     alloc: Global,
     number: u64,
@@ -53,21 +47,16 @@ fn evidence_of<S: Alter>(
     ensures evidence { Reads (λ s evidence. (p : Document → Bool) (d : Document) → find p s.outbox ≡ Some d → number ≡ d.number → evidence ≡ d.evidence) (state S.Store conn.old) (state S.Store conn.new) result }
     ensures fault { IfErr result (λ f. may_come f ≡ true) }
 {
-    let rows = match evidence_rows(conn, number) {
-        Ok(rows) => rows,
-        Err(error) => return Err(fault_of(&error)),
-    };
+    let rows = evidence_rows(conn, number).map_err(fault_of)?;
     let Some(row) = rows.first() else {
         return Ok(None);
     };
-    match EvidenceRow::read(alloc, row) {
-        Ok(row) => Ok(Some(row.evidence)),
-        Err(fault) => Err(unread_row(fault)),
-    }
+    let row = EvidenceRow::read(alloc, row).map_err(unread_row)?;
+    Ok(Some(row.evidence))
 }
 
 /// The document that the first of the rows shows, with its content and its evidence.
-pub fn first_document<S: Alter>(
+pub fn shown_document<S: Alter>(
     conn: &mut Connection<S>,
     alloc: Global,
     rows: &[Row],
@@ -81,14 +70,11 @@ pub fn first_document<S: Alter>(
     let Some(row) = rows.first() else {
         return Ok(None);
     };
-    let row = match OutRow::read(alloc, row) {
-        Ok(row) => row,
-        Err(fault) => return Err(unread_row(fault)),
-    };
-    if row.number > 999_999_999_999 {
+    let row = OutRow::read(alloc, row).map_err(unread_row)?;
+    if row.number >= END_OF_NUMBERS {
         return Err(StoreFault::Refused);
     }
     let content = content_of(conn, alloc, row.number, row.length)?;
-    let evidence = evidence_of(conn, alloc, row.number)?;
+    let evidence = evidence_in(conn, alloc, row.number)?;
     Ok(Some(row.with_content(content, evidence)))
 }

@@ -8,7 +8,7 @@ use as2_rows::RowFault;
 use sqlite::{Error, ErrorCode};
 
 /// The fault that a failed statement is.
-pub fn fault_of(error: &Error) -> StoreFault
+pub fn fault_of(error: Error) -> StoreFault
     ensures { may_come result ≡ true }
 {
     match error {

@@ -12,7 +12,7 @@ ghost use Rattle.as2_store.specs.Stands.{Rests, may_come};
 
 use crate::contents::in_piece_rows;
 use crate::fault::{fault_of, unread_row};
-use as2_exchange::{InEntry, StoreFault};
+use as2_exchange::{END_OF_NUMBERS, InEntry, StoreFault};
 use as2_mic::Pieces;
 use as2_rows::{InRow, content_in};
 use sqlite::{Alter, Connection, Row};
@@ -30,21 +30,15 @@ fn content_of<S: Alter>(
     ensures content { Reads (λ s content. (p : Entry → Bool) (e : Entry) → find p s.inbox ≡ Some e → number ≡ e.number → content ≡ e.posted.content) (state S.Store conn.old) (state S.Store conn.new) result }
     ensures fault { IfErr result (λ f. may_come f ≡ true) }
 {
-    if number > 999_999_999_999 {
+    if number >= END_OF_NUMBERS {
         return Err(StoreFault::Refused);
     }
-    let rows = match in_piece_rows(conn, number) {
-        Ok(rows) => rows,
-        Err(error) => return Err(fault_of(&error)),
-    };
-    match content_in(alloc, &rows, number, length) {
-        Ok(content) => Ok(content),
-        Err(fault) => Err(unread_row(fault)),
-    }
+    let rows = in_piece_rows(conn, number).map_err(fault_of)?;
+    content_in(alloc, &rows, number, length).map_err(unread_row)
 }
 
 /// The entry that the first of the rows shows, with its content.
-pub fn first_entry<S: Alter>(
+pub fn shown_entry<S: Alter>(
     conn: &mut Connection<S>,
     alloc: Global,
     rows: &[Row],
@@ -58,10 +52,7 @@ pub fn first_entry<S: Alter>(
     let Some(row) = rows.first() else {
         return Ok(None);
     };
-    let row = match InRow::read(alloc, row) {
-        Ok(row) => row,
-        Err(fault) => return Err(unread_row(fault)),
-    };
+    let row = InRow::read(alloc, row).map_err(unread_row)?;
     let content = content_of(conn, alloc, row.number, row.length)?;
     Ok(Some(row.with_content(content)))
 }
@@ -73,10 +64,7 @@ pub fn entries_in(alloc: Global, rows: &[Row]) -> Result<Vec<InRow>, StoreFault>
 {
     let mut entries = Vec::new(alloc);
     'rows: for row in rows {
-        let entry = match InRow::read(alloc, row) {
-            Ok(entry) => entry,
-            Err(fault) => return Err(unread_row(fault)),
-        };
+        let entry = InRow::read(alloc, row).map_err(unread_row)?;
         match entries.push(entry) {
             Ok(()) => (),
             Err(_) => return Err(StoreFault::Memory),

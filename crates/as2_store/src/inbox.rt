@@ -11,7 +11,7 @@ ghost use Rattle.as2_exchange.specs.State.{State};
 ghost use Rattle.as2_store.specs.Tables.{store_schema, inbox_tree};
 ghost use Rattle.as2_store.specs.Adding.{Fits};
 ghost use Rattle.as2_store.specs.Stands.{Rests};
-ghost use Rattle.as2_store.specs.Finding.{has_key};
+ghost use Rattle.as2_exchange.specs.State.{has_key};
 
 use crate::numbers::{asked, whole, whole_or_none};
 use crate::reading::query_all;
@@ -69,7 +69,7 @@ pub fn rows_by_key<S: Alter>(
 ) -> Result<Vec<Row>, Error>
     requires autocommit { conn.old.in_transaction ≡ false }
     ensures autocommit { conn.new.in_transaction ≡ false }
-    ensures rows { Reads (λ s rows. rows.items ≡ map in_shown (filter (has_key sender.now receiver.now value.now) s.inbox)) (state S.Store conn.old) (state S.Store conn.new) result }
+    ensures rows { Reads (λ s rows. rows.items ≡ map in_shown (filter (λ e. has_key sender.now receiver.now value.now e.posted) s.inbox)) (state S.Store conn.old) (state S.Store conn.new) result }
 {
     query_all(
         conn,

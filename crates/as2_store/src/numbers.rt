@@ -4,7 +4,8 @@ ghost use Rattle.std.specs.Prelude.{◌≡◌, ◌<◌, ◌≤◌, ◌^◌, pos,
 ghost use Rattle.as2_exchange.specs.State.{end_of_numbers};
 ghost use Rattle.as2_store.specs.Adding.{Fits};
 
-use as2_exchange::InEntry;
+use as2_exchange::{END_OF_NUMBERS, InEntry};
+use std::cmp::min;
 
 /// The greatest number that fits into a column.
 const MOST: u64 = 9_223_372_036_854_775_807;
@@ -50,9 +51,5 @@ pub fn asked(number: u64) -> u64
     ensures beyond { end_of_numbers ≤ number → result ≡ end_of_numbers }
     ensures within { number < end_of_numbers → result ≡ number }
 {
-    if number > 999_999_999_999 {
-        1_000_000_000_000
-    } else {
-        number
-    }
+    min(number, END_OF_NUMBERS)
 }

@@ -9,11 +9,12 @@ ghost use Rattle.as2_exchange.specs.State.{State, change_received};
 ghost use Rattle.as2_rows.specs.Rows.{in_row};
 ghost use Rattle.as2_store.specs.Tables.{store_schema, inbox_tree};
 ghost use Rattle.as2_store.specs.Stands.{Stands};
-ghost use Rattle.as2_store.specs.Requeuing.{requeued, requeued_in};
+ghost use Rattle.as2_exchange.specs.Recording.{requeued};
+ghost use Rattle.as2_store.specs.Requeuing.{requeued_in};
 
 use crate::numbers::{asked, whole};
 use crate::waiting::wait_anew;
-use as2_names::Moment;
+use as2_text::Moment;
 use sqlite::{Alter, Connection, Error, Transaction, params};
 
 /// Sets the receipt of the entry of this number to be sent anew, and answers how many entries have the number.

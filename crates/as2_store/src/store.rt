@@ -17,18 +17,18 @@ use crate::adding::add;
 use crate::adopting::check;
 use crate::counters::{NextNumbers, meta_rows, next_of};
 use crate::creating::make;
-use crate::documents::first_document;
+use crate::documents::shown_document;
 use crate::fault::fault_of;
-use crate::finding::{entries_in, first_entry};
+use crate::finding::{entries_in, shown_entry};
 use crate::inbox::{all_rows, rows_by_key, rows_by_number};
 use crate::numbers::fits;
 use crate::outbox::rows_by_id;
 use crate::requeuing::requeue;
 use crate::settling::{is_by_receipt, settle};
-use as2_exchange::{Evidence, InEntry, OutEntry, StoreFault};
+use as2_exchange::{END_OF_NUMBERS, Evidence, InEntry, OutEntry, StoreFault};
 use as2_mdn::Detail;
-use as2_names::{AsName, Moment};
 use as2_rows::InRow;
+use as2_text::{AsName, Moment};
 use sqlite::{Alter, Connection};
 use std::alloc::Global;
 use std::marker::Model;
@@ -68,7 +68,7 @@ impl<S: Alter> Store<S> {
     {
         match make(&mut conn, first) {
             Ok(()) => Ok(Store { conn }),
-            Err(error) => Err((conn, fault_of(&error))),
+            Err(error) => Err((conn, fault_of(error))),
         }
     }
 
@@ -99,14 +99,8 @@ impl<S: Alter> Store<S> {
         ensures numbers { Reads (λ s next. AreNext next s) (state S.Store self.old) (state S.Store self.new) result }
         ensures fault { IfErr result (λ f. may_come f ≡ true) }
     {
-        let rows = match meta_rows(&mut self.conn) {
-            Ok(rows) => rows,
-            Err(error) => return Err(fault_of(&error)),
-        };
-        match next_of(&rows) {
-            Ok(next) => Ok(next),
-            Err(error) => Err(fault_of(&error)),
-        }
+        let rows = meta_rows(&mut self.conn).map_err(fault_of)?;
+        next_of(&rows).map_err(fault_of)
     }
 
     /// Adds an entry to the inbox under the next number of a receipt, as `next_numbers` gives it. Answers Full exactly where the
@@ -117,16 +111,13 @@ impl<S: Alter> Store<S> {
         ensures full_alone { end_of_numbers ≤ entry.now.number → result ≡ Err Full }
         ensures fault { IfErr result (λ f. (f ≡ Full) ⊎ (may_come f ≡ true)) }
     {
-        if entry.number > 999_999_999_999 {
+        if entry.number >= END_OF_NUMBERS {
             return Err(StoreFault::Full);
         }
         if !fits(entry) {
             return Err(StoreFault::Refused);
         }
-        let Err(error) = add(&mut self.conn, entry) else {
-            return Ok(());
-        };
-        Err(fault_of(&error))
+        add(&mut self.conn, entry).map_err(fault_of)
     }
 
     /// Sets the receipt of the entry of the inbox of this number, if there is one, to be sent from this moment on, with all
@@ -135,10 +126,7 @@ impl<S: Alter> Store<S> {
         ensures requeued { Writes (requeued_in number moment) (state S.Store self.old) (state S.Store self.new) result }
         ensures fault { IfErr result (λ f. may_come f ≡ true) }
     {
-        let Err(error) = requeue(&mut self.conn, number, moment) else {
-            return Ok(());
-        };
-        Err(fault_of(&error))
+        requeue(&mut self.conn, number, moment).map_err(fault_of)
     }
 
     /// Settles the document of this number by a receipt: it gets this detail and this evidence, no try of it is open, and
@@ -159,10 +147,7 @@ impl<S: Alter> Store<S> {
         let Ok(body) = evidence.body.joined() else {
             return Err(StoreFault::Memory);
         };
-        let Err(error) = settle(&mut self.conn, number, detail, evidence, &body) else {
-            return Ok(());
-        };
-        Err(fault_of(&error))
+        settle(&mut self.conn, number, detail, evidence, &body).map_err(fault_of)
     }
 
     /// The entry of the inbox that this sender posted to this receiver under an identifier of this value, if there is one.
@@ -176,16 +161,14 @@ impl<S: Alter> Store<S> {
         ensures found { Reads (IsPostedAs sender.now receiver.now id_value.now) (state S.Store self.old) (state S.Store self.new) result }
         ensures fault { IfErr result (λ f. may_come f ≡ true) }
     {
-        let rows = match rows_by_key(
+        let rows = rows_by_key(
             &mut self.conn,
             sender.bytes(),
             receiver.bytes(),
             id_value.as_bytes(),
-        ) {
-            Ok(rows) => rows,
-            Err(error) => return Err(fault_of(&error)),
-        };
-        first_entry(&mut self.conn, alloc, &rows)
+        )
+        .map_err(fault_of)?;
+        shown_entry(&mut self.conn, alloc, &rows)
     }
 
     /// The entry of the inbox of this number, if there is one.
@@ -197,11 +180,8 @@ impl<S: Alter> Store<S> {
         ensures found { Reads (λ s found. found ≡ received s number) (state S.Store self.old) (state S.Store self.new) result }
         ensures fault { IfErr result (λ f. may_come f ≡ true) }
     {
-        let rows = match rows_by_number(&mut self.conn, number) {
-            Ok(rows) => rows,
-            Err(error) => return Err(fault_of(&error)),
-        };
-        first_entry(&mut self.conn, alloc, &rows)
+        let rows = rows_by_number(&mut self.conn, number).map_err(fault_of)?;
+        shown_entry(&mut self.conn, alloc, &rows)
     }
 
     /// The document of the outbox with an identifier of this value, if there is one, with its content and its evidence.
@@ -214,11 +194,8 @@ impl<S: Alter> Store<S> {
         ensures found { Reads (λ s found. found ≡ document_named s id_value.now) (state S.Store self.old) (state S.Store self.new) result }
         ensures fault { IfErr result (λ f. may_come f ≡ true) }
     {
-        let rows = match rows_by_id(&mut self.conn, id_value) {
-            Ok(rows) => rows,
-            Err(error) => return Err(fault_of(&error)),
-        };
-        first_document(&mut self.conn, alloc, &rows)
+        let rows = rows_by_id(&mut self.conn, id_value).map_err(fault_of)?;
+        shown_document(&mut self.conn, alloc, &rows)
     }
 
     /// The entries of the inbox in order of number, each with the length of its content in place of the content.
@@ -226,10 +203,7 @@ impl<S: Alter> Store<S> {
         ensures entries { Reads (λ s entries. entries.items ≡ map in_summary s.inbox) (state S.Store self.old) (state S.Store self.new) result }
         ensures fault { IfErr result (λ f. may_come f ≡ true) }
     {
-        let rows = match all_rows(&mut self.conn) {
-            Ok(rows) => rows,
-            Err(error) => return Err(fault_of(&error)),
-        };
+        let rows = all_rows(&mut self.conn).map_err(fault_of)?;
         entries_in(alloc, &rows)
     }
 }

@@ -6,7 +6,7 @@ ghost use Rattle.sqlite.specs.State.{HasCleanDisk};
 ghost use Rattle.as2_store.specs.Calls.{IsInside};
 ghost use Rattle.sql_tables.specs.Changes.{Changed};
 ghost use Rattle.as2_exchange.specs.State.{end_of_numbers};
-ghost use Rattle.as2_rows.specs.Waiting.{Waiting, in_waiting, to_answer};
+ghost use Rattle.as2_rows.specs.Waiting.{Waiting, in_waiting, kind_code, to_answer};
 ghost use Rattle.as2_store.specs.Tables.{store_schema, waiting_tree};
 ghost use Rattle.as2_store.specs.Stands.{waiting_row};
 ghost use Rattle.as2_store.specs.Adding.{Noted};
@@ -14,28 +14,26 @@ ghost use Rattle.as2_store.specs.Requeuing.{Holds, Renewed, not_at};
 ghost use Rattle.as2_store.specs.Settling.{without_document};
 
 use crate::numbers::{whole, whole_or_none};
-use as2_exchange::{Attempt, InEntry, MdnState};
+use as2_exchange::{Attempt, END_OF_NUMBERS, InEntry, MdnState};
+use as2_rows::Wait;
 use sqlite::{Alter, Error, Transaction, params};
-
-/// The first number that is never given: the places of one kind lie so far apart.
-const END_OF_NUMBERS: u64 = 1_000_000_000_000;
 
 /// Puts in a row of what waits.
 fn put_waiting<S: Alter>(
     tx: &mut Transaction<'_, S>,
-    kind: u64,
+    wait: Wait,
     number: u64,
     due: Option<u64>,
 ) -> Result<(), Error>
-    requires kind { kind ≤ 4 }
     requires number { number ≤ end_of_numbers }
     requires due { IfSome due (λ due. due < 2 ^ 63) }
     ensures same_reference { tx.new.conn.ghost_name ≡ tx.old.conn.ghost_name }
     ensures within { IsInside (state S.Store tx.old.conn.now) (state S.Store tx.new.conn.now) }
     ensures inside { HasCleanDisk (state S.Store tx.new.conn.now) → OnOk result (IsTrue (state S.Store tx.new.conn.now).in_transaction) }
     ensures put { HasCleanDisk (state S.Store tx.new.conn.now) → OnOk result ((state S.Store tx.old.conn.now).now.schema ≡ store_schema
-        → Noted (state S.Store tx.old.conn.now) (state S.Store tx.new.conn.now) (Some (record { kind = kind; number = number; due = due }))) }
+        → Noted (state S.Store tx.old.conn.now) (state S.Store tx.new.conn.now) (Some (record { kind = kind_code wait; number = number; due = due }))) }
 {
+    let kind = wait.code();
     let place = whole(kind * END_OF_NUMBERS + number);
     let kind = whole(kind);
     let number = whole(number);
@@ -81,7 +79,7 @@ pub fn put_in_waiting<S: Alter>(tx: &mut Transaction<'_, S>, entry: &InEntry) ->
         → Noted (state S.Store tx.old.conn.now) (state S.Store tx.new.conn.now) (in_waiting entry.now)) }
 {
     if is_waiting(entry) {
-        put_waiting(tx, 2, entry.number, entry.due)?;
+        put_waiting(tx, Wait::ToAnswer, entry.number, entry.due)?;
     }
     Ok(())
 }
@@ -96,8 +94,8 @@ pub fn wait_anew<S: Alter>(tx: &mut Transaction<'_, S>, number: u64, due: u64) -
     ensures put { HasCleanDisk (state S.Store tx.new.conn.now) → OnOk result ((ws : List Waiting) → Holds (state S.Store tx.old.conn.now).now ws
         → Renewed (state S.Store tx.old.conn.now) (state S.Store tx.new.conn.now) (record { kind = to_answer; number = number; due = Some due }) ws) }
 {
-    take_waiting(tx, 2 * END_OF_NUMBERS + number)?;
-    put_waiting(tx, 2, number, Some(due))?;
+    take_waiting(tx, Wait::ToAnswer.code() * END_OF_NUMBERS + number)?;
+    put_waiting(tx, Wait::ToAnswer, number, Some(due))?;
     Ok(())
 }
 

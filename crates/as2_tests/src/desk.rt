@@ -223,11 +223,8 @@ fn compare(
 ) -> Result<(), AllocError> {
     compare_errors(rt, alloc, case, outcome)?;
     let output = case.output.made(alloc)?;
-    assert_eq!(rt;
-        str::from_utf8(outcome.output.as_slice()),
-        Ok(output.as_str())
-    );
-    assert_eq!(rt; outcome.ran.status, case.status);
+    assert!(rt; outcome.output.as_slice() == output.as_bytes(), "{output}");
+    assert!(rt; outcome.ran.status == case.status);
     assert!(rt; outcome.left.0 >= case.left.0 && outcome.left.1 >= case.left.1);
     Ok(())
 }
@@ -239,11 +236,8 @@ fn compare_errors(
     outcome: &Outcome,
 ) -> Result<(), AllocError> {
     let errors = joined(alloc, case.errors)?;
-    assert_eq!(rt;
-        str::from_utf8(outcome.errors.as_slice()),
-        Ok(errors.as_str())
-    );
-    assert_eq!(rt; outcome.ran.told, case.is_told);
+    assert!(rt; outcome.errors.as_slice() == errors.as_bytes(), "{errors}");
+    assert!(rt; outcome.ran.told == case.is_told);
     Ok(())
 }
 

@@ -1,9 +1,8 @@
 //! The plain post, and posts that differ from it.
 use as2_exchange::{InEntry, Posted};
-use as2_media::MediaType;
 use as2_mic::Pieces;
-use as2_names::{AsName, Head, HeadFault, Memory, Moment};
 use as2_posts::{Opened, document, first_entry};
+use as2_text::{AsName, Head, HeadFault, MediaType, Memory, Moment};
 use std::alloc::Global;
 
 /// The report on the content `abc` that the plain post brings.

@@ -4,9 +4,9 @@ ghost use Rattle.as2_exchange.specs.State.{end_of_numbers};
 
 use crate::posts::{entry, posted};
 use as2_exchange::{Attempt, InEntry, MdnState, StoreFault};
-use as2_names::{AsName, MessageId};
 use as2_posts::repeats;
 use as2_store::Store;
+use as2_text::{AsName, MessageId};
 use sqlite::{Alter, Connection, MemStore};
 use std::alloc::Global;
 

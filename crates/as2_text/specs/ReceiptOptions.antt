@@ -136,10 +136,6 @@ options_in value = filter_map option_of (slice_split is_semicolon value)
 abbrev pub are_options : List ℕ → Bool
 are_options value = list_all is_readable (slice_split is_semicolon value) && are_distinct (options_in value)
 
--- the options that a value says, if it says some
-abbrev pub options_of : List ℕ → Option (List ReceiptOption)
-options_of value = if are_options value then Some (options_in value) else None
-
 -- the option, where it has that name
 abbrev pub where_named : List ℕ → Option ReceiptOption → Option ReceiptOption
 where_named name None = None

@@ -1,4 +1,5 @@
-use crate::{Form, HttpAnswer, HttpBody, Refusal, refusal, write_reply};
+use crate::{Form, Refusal, refusal, write_reply};
+use as2_exchange::{Bytes, HttpAnswer, HttpBody, Line};
 use as2_mdn::{Outcome, ReportOut, write_report};
 use as2_text::{AsName, Domain, MessageId, Moment};
 use std::alloc::Global;
@@ -27,31 +28,28 @@ const CLOSING_TO_HEAD: Form = Form {
 #[derive(Clone, Copy)]
 enum Said {
     Nothing(u16),
-    Line(u16, &'static str),
+    Line(Line),
     Refusal(Refusal),
 }
 
-fn answer(said: Said) -> HttpAnswer<'static> {
+fn answer(said: Said) -> HttpAnswer {
     match said {
         Said::Nothing(status) => HttpAnswer {
             status,
             body: HttpBody::Nothing,
         },
-        Said::Line(status, text) => HttpAnswer {
-            status,
-            body: HttpBody::Line(text),
-        },
+        Said::Line(line) => line.answer(),
         Said::Refusal(reason) => refusal(reason),
     }
 }
 
-fn reply(alloc: Global, seconds: u64, form: Form, answer: &HttpAnswer<'_>) -> Option<Vec<u8>> {
+fn reply(alloc: Global, seconds: u64, form: Form, answer: &HttpAnswer) -> Option<Vec<u8>> {
     let moment = Moment::new(seconds)?;
     write_reply(alloc, moment, form, answer).ok()
 }
 
 /// The reply is the text, at the 1000th second.
-fn is_reply(alloc: Global, form: Form, answer: &HttpAnswer<'_>, text: &str) -> bool {
+fn is_reply(alloc: Global, form: Form, answer: &HttpAnswer, text: &str) -> bool {
     match reply(alloc, 1000, form, answer) {
         Some(reply) => reply.as_slice() == text.as_bytes(),
         None => false,
@@ -66,20 +64,20 @@ static REPLIES: [(Form, Said, &str); 6] = [
     ),
     (
         PLAIN,
-        Said::Line(404, "no such path"),
+        Said::Line(Line::NoSuchPath),
         "HTTP/1.1 404 Not Found\r\nDate: Thu, 01 Jan 1970 00:16:40 GMT\r\n\
 Content-Type: text/plain\r\nContent-Length: 13\r\n\r\nno such path\n",
     ),
     // The reply to HEAD says of its body what that to GET says, and leaves it out.
     (
         TO_HEAD,
-        Said::Line(405, "only POST"),
+        Said::Line(Line::OnlyPost),
         "HTTP/1.1 405 Method Not Allowed\r\nDate: Thu, 01 Jan 1970 00:16:40 GMT\r\nAllow: POST\r\n\
 Content-Type: text/plain\r\nContent-Length: 10\r\n\r\n",
     ),
     (
         PLAIN,
-        Said::Line(405, "only POST"),
+        Said::Line(Line::OnlyPost),
         "HTTP/1.1 405 Method Not Allowed\r\nDate: Thu, 01 Jan 1970 00:16:40 GMT\r\nAllow: POST\r\n\
 Content-Type: text/plain\r\nContent-Length: 10\r\n\r\nonly POST\n",
     ),
@@ -298,10 +296,11 @@ fn report_out(alloc: Global) -> Option<ReportOut> {
     })
 }
 
-fn is_report(alloc: Global, out: &ReportOut) -> bool {
-    match write_report(alloc, out) {
+fn is_report(alloc: Global, out: ReportOut) -> bool {
+    match write_report(alloc, &out) {
         Ok(bytes) => {
-            let body = HttpBody::Report { out, bytes: &bytes };
+            let bytes = Bytes::of(bytes);
+            let body = HttpBody::Report { out, bytes };
             is_reply(alloc, PLAIN, &HttpAnswer { status: 200, body }, REPORT)
         }
         Err(_) => false,
@@ -311,7 +310,7 @@ fn is_report(alloc: Global, out: &ReportOut) -> bool {
 #[test]
 fn report(rt: HostRuntime) {
     match report_out(rt.alloc()) {
-        Some(out) => assert!(rt; is_report(rt.alloc(), &out)),
+        Some(out) => assert!(rt; is_report(rt.alloc(), out)),
         None => assert!(rt; false),
     }
 }

@@ -1,4 +1,4 @@
-use Rattle.as2_desk.proofs.Ending.{told_end}
+use Rattle.as2_desk.proofs.StreamEnds.{told_end}
 use Rattle.as2_desk.proofs.desk.tell_end.Goals as goal
 
 pub returns-in_default : goal.returns-in_default

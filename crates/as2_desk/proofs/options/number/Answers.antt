@@ -2,14 +2,14 @@ use Rattle.std.proofs.Common.{Ok, Err, subst}
 use Rattle.std.specs.Str.Parse.{ParsesUnsigned, ExplainsUnsignedError, HasUnsignedDigitsIfOk}
 use Rattle.clap.proofs.WalkLemmas.{one_text-rows}
 use Rattle.clap.specs.Words.{found_of, one_text}
-use Rattle.as2_desk.specs.Options.{Tells}
+use Rattle.as2_desk.specs.Options.{TellsOption}
 use Rattle.as2_desk.proofs.Numbers.{SaysNone, number_told}
 use Rattle.as2_desk.proofs.options.number.Goals as goal
 
 pub returns-in-Ok-clause-said : goal.returns-in-Ok-clause-said
 returns-in-Ok-clause-said c =
     let f = found_of c.args.found.now in let id = c.args.option.now in
-    subst (λ o. Tells o c.in-Ok.number) (one_text-rows f id)
+    subst (λ o. TellsOption o c.in-Ok.number) (one_text-rows f id)
     (number_told _ (λ t r. ParsesUnsigned 64 10 t r × ExplainsUnsignedError 10 t r × HasUnsignedDigitsIfOk t r) (one_text f id) (Ok c.in-Ok.number) (λ u x g. g.0) c.in-Ok.ensures.none c.in-Ok.ensures.value)
 
 pub returns-in-Err-clause-none : goal.returns-in-Err-clause-none

@@ -4,7 +4,7 @@ use Rattle.as2_http.specs.declared.framing.Method.TheVariants.{Post}
 use Rattle.as2_http.specs.declared.framing.Target.TheVariants.{Station}
 use Rattle.as2_desk.specs.Responses.{IsSafe}
 use Rattle.as2_desk.specs.declared.response.Response.TheVariants.{Answered, Failed}
-use Rattle.as2_desk.proofs.Taking.{answered, failed, posts}
+use Rattle.as2_desk.proofs.TakenPosts.{answered, failed, posts}
 use Rattle.as2_desk.proofs.response.respond.Goals as goal
 
 pub returns-in-Ok-clause-responds : goal.returns-in-Ok-clause-responds

@@ -1,6 +1,4 @@
-use Rattle.std.proofs.Common.{rules, ◌≡◌, ap, ◌∙◌, Err}
-use Rattle.as2_http.specs.declared.request.NotJudged.{NotJudged}
-use Rattle.as2_http.specs.declared.request.NotJudged.TheVariants.{BadHead}
+use Rattle.std.proofs.Common.{rules}
 use Rattle.as2_http.proofs.Judging.{not_partial, not_invalid, not_shorter, not_taken}
 use Rattle.as2_http.proofs.request.judge.Goals as goal
 
@@ -13,8 +11,7 @@ returns-in-Err-clause-none c = λ is. not_invalid c.args.text.now c.parse_reques
 pub returns-then-head-text-clause-none : goal.returns-then-head-text-clause-none
 returns-then-head-text-clause-none c = λ is. not_shorter c.args.text.now c.parse_request.new.headers c.parse_request.result c.in-Ok-Complete.head c.parse_request.ensures.found (search rules) (search rules)
 
-pub returns-in-Err-fields_of-clause-none : goal.returns-in-Err-fields_of-clause-none
-returns-in-Err-fields_of-clause-none c = λ is.
-    let e : c.in-Err-fields_of.fault ≡ BadHead = cc in
+pub returns-in_err-fields-clause-none : goal.returns-in_err-fields-clause-none
+returns-in_err-fields-clause-none c = λ is.
     not_taken c.args.text.now c.parse_request.new.headers c.parse_request.result c.in-Ok-Complete.head c.parse_request.ensures.found (search rules)
-    (c.fields_of.ensures.none (c.in-Err-fields_of.is ∙ ap (λ (f : NotJudged). Err f) e))
+    (c.fields_of.ensures.none (search rules))

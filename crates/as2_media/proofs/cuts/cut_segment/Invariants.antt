@@ -1,7 +1,7 @@
-use Rattle.std.proofs.Common.{◌≡◌, take, drop}
-use Rattle.as2_media.specs.Cuts.{segments, with_front}
+use Rattle.as2_names.proofs.CutLists.{Cuts}
+use Rattle.as2_media.specs.Cuts.{segments}
 use Rattle.as2_media.specs.declared.cuts.Place.TheVariants.{Outside}
 use Rattle.as2_media.proofs.cuts.cut_segment.Given as goal
 
 abbrev pub invariant-loop-i : goal.invariant-loop-i
-invariant-loop-i l = with_front (take l.i l.text) (segments l.place (drop l.i l.text)) ≡ segments Outside l.text
+invariant-loop-i l = Cuts (segments Outside l.text) (segments l.place) l.text l.i

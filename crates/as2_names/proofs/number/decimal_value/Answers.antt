@@ -1,5 +1,6 @@
 use Rattle.std.proofs.Common.{rules}
-use Rattle.as2_names.proofs.Numbers.{number_text, read_ok, none_parsed}
+use Rattle.as2_names.proofs.Numbers.{number_text, none_parsed}
+use Rattle.as2_names.proofs.Printable.{read_ok}
 use Rattle.as2_names.proofs.number.decimal_value.Goals as goal
 
 pub unwrap-requires : goal.unwrap-requires

@@ -1,5 +1,7 @@
-use Rattle.std.proofs.Common.{arith, subst, sym, ◌∙◌}
-use Rattle.as2_parts.proofs.Cutting.{CutsFolded, cut_here, no_cut_before_blank, no_cut_elsewhere, folded_on, folded_cut, folded_end}
+use Rattle.std.proofs.Common.{arith, refl, subst, sym, ◌∙◌}
+use Rattle.as2_parts.specs.Fields.{folded_lines}
+use Rattle.as2_names.proofs.CutLists.{Cuts, cuts_end}
+use Rattle.as2_parts.proofs.Cutting.{cut_here, no_cut_before_blank, no_cut_elsewhere, folded_on, folded_cut}
 use Rattle.as2_parts.proofs.fields.first_folded_line.Goals as goal
 use Rattle.as2_parts.proofs.fields.first_folded_line.Goals.{else-b-eq10-via-then-b-eq10+else-not-begins_with_blank, else-b-eq10-via-else-b-eq10}
 
@@ -18,4 +20,4 @@ returns-then-not-begins_with_blank-clause-first c =
     rw (c.split_at.ensures.front, c.split_at.ensures.back) (folded_cut c.args.text.now c.loop-i.i c.loop-i-test.true cut c.loop-i.invariant)
 
 pub returns-clause-first : goal.returns-clause-first
-returns-clause-first c = rw (c.split_at-2.ensures.front, c.split_at-2.ensures.back) (folded_end c.args.text.now c.requires (subst (CutsFolded c.args.text.now) (omega (arith, c.loop-i-test.false, c.loop-i.auto.i-end)) c.loop-i.invariant))
+returns-clause-first c = rw (c.split_at-2.ensures.front, c.split_at-2.ensures.back) (cuts_end (folded_lines c.args.text.now) folded_lines c.args.text.now refl c.requires (subst (Cuts (folded_lines c.args.text.now) folded_lines c.args.text.now) (omega (arith, c.loop-i-test.false, c.loop-i.auto.i-end)) c.loop-i.invariant))

@@ -1,10 +1,11 @@
 use Rattle.std.proofs.Common.{◌≡◌, inr, refl, sym}
 use Rattle.as2_exchange.specs.Readings.{verdict}
-use Rattle.as2_exchange.specs.Step.{http, settle, settled}
+use Rattle.as2_exchange.specs.Documents.{settle, settled}
+use Rattle.as2_exchange.specs.Lines.{http}
 use Rattle.as2_exchange.proofs.Standing.{verdict_range}
-use Rattle.as2_posts.specs.Openings.{came_in}
+use Rattle.as2_posts.specs.Openings.{receipt_by}
 use Rattle.as2_exchange.specs.declared.answer.HttpBody.TheVariants.{Nothing}
-use Rattle.as2_store.specs.Settling.{settled_as}
+use Rattle.as2_exchange.specs.Documents.{settled_as}
 use Rattle.as2_station.proofs.Doing.{at_once, never_full, passed_on, written, unwritten}
 use Rattle.as2_station.proofs.Reaching.{settles}
 use Rattle.as2_station.proofs.receiving.settle_named.Goals as goal
@@ -13,7 +14,7 @@ pub returns-then-not-is_for : goal.returns-then-not-is_for
 unfolding settle
 returns-then-not-is_for g c = record {
   taken = λ A.
-      rw c.refused.ensures (at_once _ _ _ _ _ _ (λ clean asks. c.requires.open clean) (λ clean s rests named. rw (named, sym (c.if-not-is_for.ensures c.args.body)) refl));
+      rw c.answer.ensures (at_once _ _ _ _ _ _ (λ clean asks. c.requires.open clean) (λ clean s rests named. rw (named, sym (c.if-not-is_for.ensures c.args.body)) refl));
 }
 
 pub returns-then-is_some : goal.returns-then-is_some
@@ -28,7 +29,7 @@ unfolding verdict
 returns-in_err-settle g c = record {
   taken = λ A.
       let d = c.args.document.now in
-      let r = came_in c.args.opened.now c.args.receipt.now c.args.body in
+      let r = receipt_by c.args.opened.now c.args.receipt.now c.args.body in
       let now = settled_as c.verdict_pieces-detail.result (record { moment = c.args.moment; content_type = c.in_ok-keep.field-0; body = c.args.body }) in
       let same : now d ≡ settled c.args.moment r d = rw (c.verdict_pieces-detail.ensures, c.in_ok-keep.ensures) refl in
       passed_on _ _ _ _ _ _ _ _ c.from_residual-in_err-settle.ensures.0 c.from_residual-in_err-settle.ensures.1
@@ -45,7 +46,7 @@ unfolding verdict
 returns g c = record {
   taken = λ A.
       let d = c.args.document.now in
-      let r = came_in c.args.opened.now c.args.receipt.now c.args.body in
+      let r = receipt_by c.args.opened.now c.args.receipt.now c.args.body in
       let now = settled_as c.verdict_pieces-detail.result (record { moment = c.args.moment; content_type = c.in_ok-keep.field-0; body = c.args.body }) in
       let same : now d ≡ settled c.args.moment r d = rw (c.verdict_pieces-detail.ensures, c.in_ok-keep.ensures) refl in
       rw c.taken-2.ensures (written _ _ _ _ _ _ _ _ _

@@ -2,7 +2,7 @@ use Rattle.std.proofs.Common.{◌≡◌, ◌∙◌, sym, ap, refl, None}
 use Rattle.as2_names.specs.Identifiers.{value_of}
 use Rattle.as2_exchange.specs.Readings.{named_by}
 use Rattle.as2_exchange.specs.State.{document_named}
-use Rattle.as2_exchange.specs.Step.{settle}
+use Rattle.as2_exchange.specs.Documents.{settle}
 use Rattle.as2_station.proofs.Doing.{after_read, at_once}
 use Rattle.as2_station.proofs.receiving.take_receipt.Goals as goal
 
@@ -19,7 +19,7 @@ unfolding named_by settle
 returns-in-None g c = record {
   taken = λ A.
       let id = c.without_brackets-id_value.ensures ∙ ap (λ x. value_of x.original_id) c.receipt.view_is in
-      rw c.refused.ensures (after_read _ _ _ _ _ (λ s. document_named s (named_by c.args.receipt.now) ≡ None) _ _ _ _ _ (λ s known found. ap (document_named s) (sym id) ∙ sym found ∙ c.in-None.is)
+      rw c.answer.ensures (after_read _ _ _ _ _ (λ s. document_named s (named_by c.args.receipt.now) ≡ None) _ _ _ _ _ (λ s known found. ap (document_named s) (sym id) ∙ sym found ∙ c.in-None.is)
       c.in_ok-document.ensures.found
       (at_once _ _ _ _ _ _ (λ clean asks. c.in_ok-document.ensures.found.is_open clean) (λ clean s rests none. rw none refl)));
 }

@@ -1,6 +1,6 @@
 use Rattle.std.proofs.Common.{◌≡◌, refl, None}
 use Rattle.as2_exchange.specs.State.{received_as}
-use Rattle.as2_exchange.specs.Step.{answer_to, record_post}
+use Rattle.as2_exchange.specs.Recording.{answer_to, record_post}
 use Rattle.as2_station.proofs.Doing.{after_read, failing, passed_on, written, unwritten}
 use Rattle.as2_station.proofs.Reaching.{adds, fills_up}
 use Rattle.as2_station.proofs.recording.record_first.Goals as goal

@@ -4,9 +4,9 @@ use Rattle.sqlite.specs.State.{HasCleanDisk, Shows}
 use Rattle.sqlite.specs.declared.error.Error.TheVariants.{QueryReturnedNoRows}
 use Rattle.as2_store.specs.Adding.{added}
 use Rattle.as2_store.specs.Calls.{IsInside, Writes}
-use Rattle.as2_store.proofs.Resting.{undone}
+use Rattle.as2_store.proofs.TransactionEnds.{undone}
 use Rattle.as2_store.proofs.Committing.{inside_then, commits, gives_up, fails_to_commit}
-use Rattle.as2_store.proofs.Growing.{adds}
+use Rattle.as2_store.proofs.AddedTables.{adds}
 use Rattle.as2_store.proofs.adding.add.Goals as goal
 
 pub returns-clause-added : goal.returns-clause-added

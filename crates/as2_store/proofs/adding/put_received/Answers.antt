@@ -1,5 +1,5 @@
 use Rattle.sqlite.specs.Held.{state}
-use Rattle.as2_store.proofs.Growing.{entered}
+use Rattle.as2_store.proofs.AddedTables.{entered}
 use Rattle.as2_store.proofs.adding.put_received.Goals as goal
 
 pub returns-clause-put : goal.returns-clause-put

@@ -7,10 +7,10 @@ use Rattle.sql_tables.proofs.Inside.{shown_open}
 use Rattle.sql_tables.proofs.Asking.{shown_stays}
 use Rattle.as2_store.proofs.Statements.{meta_read_text}
 use Rattle.as2_store.specs.Calls.{Adopts, Commits, IsGivenBack}
-use Rattle.as2_store.proofs.Resting.{undone}
+use Rattle.as2_store.proofs.TransactionEnds.{undone}
 use Rattle.as2_store.proofs.Committing.{commits, committed_next}
 use Rattle.as2_store.proofs.Querying.{queried_inside, asked}
-use Rattle.as2_store.proofs.Handing.{gives_back, unread_by, bare_by, said_by, adopts, comes}
+use Rattle.as2_store.proofs.HandedBack.{gives_back, unread_by, bare_by, said_by, adopts, comes}
 use Rattle.as2_store.proofs.Texts.{meta_read_plain}
 use Rattle.as2_store.proofs.adopting.check.Goals as goal
 

@@ -4,7 +4,7 @@ use Rattle.as2_store.proofs.Statements.{in_pieces_text}
 use Rattle.as2_store.proofs.Texts.{in_pieces_plain}
 use Rattle.as2_store.proofs.Querying.{read_as}
 use Rattle.as2_store.proofs.MetaRow.{passed}
-use Rattle.as2_store.proofs.Gathering.{finds_in_pieces, number_params}
+use Rattle.as2_store.proofs.EntryPieces.{finds_in_pieces, number_params}
 use Rattle.as2_store.proofs.contents.in_piece_rows.Goals as goal
 
 pub query_all-requires-clause-plain : goal.query_all-requires-clause-plain

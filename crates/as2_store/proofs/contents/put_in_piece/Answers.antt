@@ -5,7 +5,7 @@ use Rattle.sql_tables.proofs.Inside.{made}
 use Rattle.as2_rows.specs.Contents.{Piece, piece_shown}
 use Rattle.as2_store.proofs.Statements.{in_piece_put_text}
 use Rattle.as2_store.proofs.MetaRow.{passed}
-use Rattle.as2_store.proofs.Piling.{puts_in_piece}
+use Rattle.as2_store.proofs.AddedPieces.{puts_in_piece}
 use Rattle.as2_store.proofs.contents.put_in_piece.Goals as goal
 
 pub returns-clause-put : goal.returns-clause-put

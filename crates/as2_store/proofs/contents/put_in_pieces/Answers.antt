@@ -5,7 +5,7 @@ use Rattle.as2_rows.specs.Contents.{Piece}
 use Rattle.as2_store.specs.Tables.{inbox_piece_tree}
 use Rattle.as2_store.specs.Adding.{Appended}
 use Rattle.as2_store.proofs.Committing.{inside_then}
-use Rattle.as2_store.proofs.Piling.{some_piece, pieces_before, appended_then, one_before}
+use Rattle.as2_store.proofs.AddedPieces.{some_piece, pieces_before, appended_then, one_before}
 use Rattle.as2_store.proofs.contents.put_in_pieces.Goals as goal
 
 pub pieces-preserved : goal.pieces-preserved

@@ -5,7 +5,7 @@ use Rattle.as2_store.specs.Calls.{IsInside}
 use Rattle.as2_mic.specs.Pieces.{piece_size}
 use Rattle.as2_store.specs.Tables.{store_schema, inbox_piece_tree}
 use Rattle.as2_store.specs.Adding.{Appended}
-use Rattle.as2_store.proofs.Piling.{pieces_before}
+use Rattle.as2_store.proofs.AddedPieces.{pieces_before}
 use Rattle.as2_store.proofs.contents.put_in_pieces.Given as goal
 
 abbrev pub invariant-pieces : goal.invariant-pieces

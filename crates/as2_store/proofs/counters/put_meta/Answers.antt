@@ -4,7 +4,7 @@ use Rattle.sqlite.specs.State.{Executes}
 use Rattle.sql_tables.proofs.Inside.{made, stays}
 use Rattle.as2_store.proofs.Statements.{meta_put_text}
 use Rattle.as2_store.proofs.MetaRow.{passed}
-use Rattle.as2_store.proofs.Beginning.{puts_meta, first_params}
+use Rattle.as2_store.proofs.CreatedTables.{puts_meta, first_params}
 use Rattle.as2_store.proofs.counters.put_meta.Goals as goal
 
 pub returns-clause-put : goal.returns-clause-put

@@ -1,10 +1,10 @@
 use Rattle.std.proofs.Common.{rules, true, ◌≡◌, subst, arith}
 use Rattle.sqlite.specs.Held.{state}
 use Rattle.as2_store.specs.Calls.{IsInside, Creates, CommitsFirst, IsGivenBack}
-use Rattle.as2_store.proofs.Resting.{undone, if_error}
+use Rattle.as2_store.proofs.TransactionEnds.{undone, if_error}
 use Rattle.as2_store.proofs.Committing.{inside_then}
-use Rattle.as2_store.proofs.Handing.{gives_back}
-use Rattle.as2_store.proofs.Beginning.{made_first, first_commits, creates}
+use Rattle.as2_store.proofs.HandedBack.{gives_back}
+use Rattle.as2_store.proofs.CreatedTables.{made_first, first_commits, creates}
 use Rattle.as2_store.proofs.creating.make.Goals as goal
 
 pub returns-in_err-make_tables-clause-given_back : goal.returns-in_err-make_tables-clause-given_back

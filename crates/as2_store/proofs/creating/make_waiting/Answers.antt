@@ -1,5 +1,5 @@
 use Rattle.sqlite.specs.Held.{state}
-use Rattle.as2_store.proofs.Beginning.{makes_waiting}
+use Rattle.as2_store.proofs.CreatedTables.{makes_waiting}
 use Rattle.as2_store.proofs.creating.make_waiting.Goals as goal
 
 pub returns-clause-made : goal.returns-clause-made

@@ -4,7 +4,7 @@ use Rattle.as2_store.proofs.Statements.{in_all_text}
 use Rattle.as2_store.proofs.Texts.{in_all_plain}
 use Rattle.as2_store.proofs.Querying.{read_as}
 use Rattle.std.proofs.Common.{[]}
-use Rattle.as2_store.proofs.Looking.{lists_all}
+use Rattle.as2_store.proofs.InboxQueries.{lists_all}
 use Rattle.as2_store.proofs.inbox.all_rows.Goals as goal
 
 pub query_all-requires-clause-plain : goal.query_all-requires-clause-plain

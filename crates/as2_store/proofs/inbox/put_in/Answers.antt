@@ -5,8 +5,8 @@ use Rattle.sql_tables.proofs.Inside.{made}
 use Rattle.as2_rows.specs.Rows.{in_shown}
 use Rattle.as2_store.proofs.Statements.{in_put_text}
 use Rattle.as2_store.proofs.MetaRow.{passed}
-use Rattle.as2_store.proofs.Placing.{bound_optional}
-use Rattle.as2_store.proofs.Writing.{puts_in, passed_outcome, passed_how, passed_mdn, passed_attempt, bound_url, bound_digest, bound_mic}
+use Rattle.as2_store.proofs.WaitingRows.{bound_optional}
+use Rattle.as2_store.proofs.InboxRow.{puts_in, passed_outcome, passed_how, passed_mdn, passed_attempt, bound_url, bound_digest, bound_mic}
 use Rattle.as2_store.proofs.Committing.{ran_inside}
 use Rattle.as2_store.proofs.inbox.put_in.Goals as goal
 

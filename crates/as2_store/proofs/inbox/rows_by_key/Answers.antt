@@ -3,7 +3,7 @@ use Rattle.sqlite.specs.State.{Shown}
 use Rattle.as2_store.proofs.Statements.{in_by_key_text}
 use Rattle.as2_store.proofs.Texts.{in_by_key_plain}
 use Rattle.as2_store.proofs.Querying.{read_as}
-use Rattle.as2_store.proofs.Looking.{finds_key, key_params}
+use Rattle.as2_store.proofs.InboxQueries.{finds_key, key_params}
 use Rattle.as2_store.proofs.inbox.rows_by_key.Goals as goal
 
 pub query_all-requires-clause-plain : goal.query_all-requires-clause-plain

@@ -4,7 +4,7 @@ use Rattle.as2_store.proofs.Statements.{in_by_number_text}
 use Rattle.as2_store.proofs.Texts.{in_by_number_plain}
 use Rattle.as2_store.proofs.Querying.{read_as}
 use Rattle.as2_store.proofs.MetaRow.{passed}
-use Rattle.as2_store.proofs.Looking.{finds_number, by_number_params, asked_small}
+use Rattle.as2_store.proofs.InboxQueries.{finds_number, by_number_params, asked_small}
 use Rattle.as2_store.proofs.inbox.rows_by_number.Goals as goal
 
 pub query_all-requires-clause-plain : goal.query_all-requires-clause-plain

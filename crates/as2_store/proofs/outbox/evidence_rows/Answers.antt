@@ -4,8 +4,8 @@ use Rattle.as2_store.proofs.Statements.{evidence_by_number_text}
 use Rattle.as2_store.proofs.Texts.{evidence_by_number_plain}
 use Rattle.as2_store.proofs.Querying.{read_as}
 use Rattle.as2_store.proofs.MetaRow.{passed}
-use Rattle.as2_store.proofs.Looking.{by_number_params}
-use Rattle.as2_store.proofs.Recalling.{finds_evidence}
+use Rattle.as2_store.proofs.InboxQueries.{by_number_params}
+use Rattle.as2_store.proofs.OutboxQueries.{finds_evidence}
 use Rattle.as2_store.proofs.outbox.evidence_rows.Goals as goal
 
 pub query_all-requires-clause-plain : goal.query_all-requires-clause-plain

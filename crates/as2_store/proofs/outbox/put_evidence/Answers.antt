@@ -4,7 +4,7 @@ use Rattle.sqlite.specs.State.{Executes}
 use Rattle.sql_tables.proofs.Inside.{made}
 use Rattle.as2_store.proofs.Statements.{evidence_put_text}
 use Rattle.as2_store.proofs.MetaRow.{passed}
-use Rattle.as2_store.proofs.Ending.{puts_evidence, fresh_evidence, receipt_params}
+use Rattle.as2_store.proofs.SettledTables.{puts_evidence, fresh_evidence, receipt_params}
 use Rattle.as2_store.proofs.Committing.{ran_inside}
 use Rattle.as2_store.proofs.outbox.put_evidence.Goals as goal
 

@@ -3,7 +3,7 @@ use Rattle.sqlite.specs.State.{Shown}
 use Rattle.as2_store.proofs.Statements.{out_by_id_text}
 use Rattle.as2_store.proofs.Texts.{out_by_id_plain}
 use Rattle.as2_store.proofs.Querying.{read_as}
-use Rattle.as2_store.proofs.Recalling.{finds_id, id_params}
+use Rattle.as2_store.proofs.OutboxQueries.{finds_id, id_params}
 use Rattle.as2_store.proofs.outbox.rows_by_id.Goals as goal
 
 pub query_all-requires-clause-plain : goal.query_all-requires-clause-plain

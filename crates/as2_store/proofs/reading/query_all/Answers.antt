@@ -3,7 +3,7 @@ use Rattle.sqlite.specs.Held.{state}
 use Rattle.sqlite.specs.Values.{bound}
 use Rattle.sqlite.specs.State.{HasCleanDisk, Shown}
 use Rattle.as2_store.specs.Calls.{Reads}
-use Rattle.as2_store.proofs.Resting.{undone}
+use Rattle.as2_store.proofs.TransactionEnds.{undone}
 use Rattle.as2_store.proofs.Committing.{commits, gives_up, fails_to_commit}
 use Rattle.as2_store.proofs.Querying.{queried_inside, asked, answers, as_read, if_failed}
 use Rattle.sql_tables.proofs.Asking.{shown_stays}

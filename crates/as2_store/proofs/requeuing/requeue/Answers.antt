@@ -2,9 +2,9 @@ use Rattle.std.proofs.Common.{true, rules, ◌≡◌, subst, arith, Ok}
 use Rattle.sqlite.specs.Held.{state}
 use Rattle.as2_store.specs.Requeuing.{requeued_in}
 use Rattle.as2_store.specs.Calls.{IsInside, Writes}
-use Rattle.as2_store.proofs.Resting.{undone}
+use Rattle.as2_store.proofs.TransactionEnds.{undone}
 use Rattle.as2_store.proofs.Committing.{inside_then, commits, gives_up, fails_to_commit}
-use Rattle.as2_store.proofs.Resetting.{requeues_some, requeues_none}
+use Rattle.as2_store.proofs.RequeuedTables.{requeues_some, requeues_none}
 use Rattle.as2_store.proofs.requeuing.requeue.Goals as goal
 
 pub returns-then-branch-eq0-clause-requeued : goal.returns-then-branch-eq0-clause-requeued

@@ -4,8 +4,8 @@ use Rattle.sqlite.specs.State.{Executes}
 use Rattle.sql_tables.proofs.Inside.{made, if_made}
 use Rattle.as2_store.proofs.Statements.{in_requeue_text}
 use Rattle.as2_store.proofs.MetaRow.{passed}
-use Rattle.as2_store.proofs.Looking.{asked_small}
-use Rattle.as2_store.proofs.Resetting.{requeues, requeue_params}
+use Rattle.as2_store.proofs.InboxQueries.{asked_small}
+use Rattle.as2_store.proofs.RequeuedTables.{requeues, requeue_params}
 use Rattle.as2_store.proofs.requeuing.set_requeued.Goals as goal
 
 pub returns-clause-put : goal.returns-clause-put

@@ -4,7 +4,7 @@ use Rattle.sqlite.specs.State.{Executes}
 use Rattle.sql_tables.proofs.Inside.{if_made, made}
 use Rattle.as2_store.proofs.Statements.{out_settle_text}
 use Rattle.as2_store.proofs.MetaRow.{passed}
-use Rattle.as2_store.proofs.Ending.{settles, settle_params, passed_detail}
+use Rattle.as2_store.proofs.SettledTables.{settles, settle_params, passed_detail}
 use Rattle.as2_store.proofs.Committing.{ran_inside}
 use Rattle.as2_store.proofs.settling.set_settled.Goals as goal
 

@@ -2,9 +2,9 @@ use Rattle.std.proofs.Common.{true, rules, ◌≡◌, subst, arith, Ok}
 use Rattle.sqlite.specs.Held.{state}
 use Rattle.as2_store.specs.Settling.{settled_in}
 use Rattle.as2_store.specs.Calls.{IsInside, Writes}
-use Rattle.as2_store.proofs.Resting.{undone}
+use Rattle.as2_store.proofs.TransactionEnds.{undone}
 use Rattle.as2_store.proofs.Committing.{inside_then, commits, gives_up, fails_to_commit}
-use Rattle.as2_store.proofs.Ending.{ends}
+use Rattle.as2_store.proofs.SettledTables.{ends}
 use Rattle.as2_store.proofs.settling.settle.Goals as goal
 
 pub returns-clause-settled : goal.returns-clause-settled

@@ -4,7 +4,7 @@ use Rattle.sqlite.specs.State.{Executes}
 use Rattle.sql_tables.proofs.Inside.{made}
 use Rattle.as2_store.proofs.Statements.{document_take_text}
 use Rattle.as2_store.proofs.MetaRow.{one_param, passed}
-use Rattle.as2_store.proofs.Ending.{takes_document}
+use Rattle.as2_store.proofs.SettledTables.{takes_document}
 use Rattle.as2_store.proofs.waiting.take_document.Goals as goal
 
 pub returns-clause-put : goal.returns-clause-put

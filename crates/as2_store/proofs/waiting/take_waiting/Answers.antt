@@ -4,7 +4,7 @@ use Rattle.sqlite.specs.State.{Executes}
 use Rattle.sql_tables.proofs.Inside.{made}
 use Rattle.as2_store.proofs.Statements.{waiting_take_text}
 use Rattle.as2_store.proofs.MetaRow.{one_param, passed}
-use Rattle.as2_store.proofs.Renewing.{takes_waiting}
+use Rattle.as2_store.proofs.WaitingPlaces.{takes_waiting}
 use Rattle.as2_store.proofs.waiting.take_waiting.Goals as goal
 
 pub returns-clause-put : goal.returns-clause-put

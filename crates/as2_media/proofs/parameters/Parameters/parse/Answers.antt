@@ -3,7 +3,8 @@ use Rattle.std.specs.Prelude.{◌==◌}
 use Rattle.std.proofs.lemmas.Bool.{eqb-false}
 use Rattle.as2_names.specs.Trim.{trimmed}
 use Rattle.as2_media.specs.Cuts.{segments_of}
-use Rattle.as2_media.specs.Parameters.{parameter, parameters, with_front}
+use Rattle.as2_names.specs.Names.{with_front}
+use Rattle.as2_media.specs.Parameters.{parameter, parameters}
 use Rattle.as2_media.proofs.Counting.{taken}
 use Rattle.as2_media.proofs.parameters.Parameters.parse.Goals as goal
 

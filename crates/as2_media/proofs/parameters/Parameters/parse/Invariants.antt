@@ -1,7 +1,8 @@
 use Rattle.std.proofs.Common.{◌≡◌, ◌-◌, length}
 use Rattle.std.specs.Prelude.{option_map}
 use Rattle.as2_media.specs.Cuts.{segments_of}
-use Rattle.as2_media.specs.Parameters.{parameters, with_front}
+use Rattle.as2_names.specs.Names.{with_front}
+use Rattle.as2_media.specs.Parameters.{parameters}
 use Rattle.as2_media.proofs.parameters.Parameters.parse.Given as goal
 
 abbrev pub invariant-loop-rest : goal.invariant-loop-rest

@@ -1,0 +1,103 @@
+-- What the queries of the inbox answer.
+use Rattle.std.proofs.Common.{◌≡◌, ℕ, pos, ◌+◌, ◌<◌, ◌≤◌, ◌^◌, ◌==◌, nat_le, inl, inr, List, [], ◌∷◌, ◌++◌, map, take, length, get_or, Bool, true, false, ◌&&◌, refl, sym, ap, ap₂, ◌∙◌, negsuc, arith}
+use Rattle.std.specs.List.{filter}
+use Rattle.std.proofs.lemmas.List.{take_more, get_or-map, length-map, map-append}
+use Rattle.as2_rows.specs.declared.inbox.InRow.{InRow}
+use Rattle.as2_rows.specs.Summaries.{in_entry, in_summary}
+use Rattle.std.specs.List.{AllByRecursion}
+use Rattle.std.proofs.lemmas.Bool.{cases_Bool}
+use Rattle.std.proofs.lemmas.Bool.Decides.{nat_tests}
+use Rattle.sqlite_trees.proofs.ListLemmas.{filter_same}
+use Rattle.as2_exchange.proofs.Lists.{all_weaken}
+use Rattle.sqlite.specs.declared.types.Value.TheVariants.{Int, Blob}
+use Rattle.sqlite.specs.Order.{Row}
+use Rattle.sqlite.specs.Term.{Term, lit}
+use Rattle.sqlite.specs.Command.TheVariants.{Select}
+use Rattle.sqlite.specs.Listing.{understood, reads_listing}
+use Rattle.sqlite.specs.State.{State as Connected, Shown}
+use Rattle.sqlite.proofs.Callers.{IsPlain, command_of}
+use Rattle.sql_tables.specs.Changes.{over_table, passes}
+use Rattle.sql_tables.proofs.Inside.{shown_open}
+use Rattle.sql_tables.proofs.Queries.{by_number, blobs_equal, numbers_equal}
+use Rattle.as2_exchange.specs.State.{State, end_of_numbers}
+use Rattle.as2_exchange.specs.declared.inbox.InEntry.{InEntry}
+use Rattle.as2_exchange.specs.Readings.{value_of}
+use Rattle.as2_rows.specs.Rows.{in_row, in_shown}
+use Rattle.as2_store.specs.Tables.{store_schema, inbox_tree}
+use Rattle.as2_store.proofs.Statements.{in_by_key_text, in_by_number_text, in_all_text}
+use Rattle.as2_store.specs.Stands.{Rests}
+use Rattle.as2_exchange.specs.State.{has_key}
+use Rattle.as2_store.proofs.NumberedRows.{entries_rise}
+use Rattle.as2_store.proofs.QueriedRows.{reads_rows, and_true}
+use Rattle.as2_store.proofs.Texts.{in_columns, in_names, key_terms, number_terms, in_by_number_is, in_by_number_plain, in_by_number_unlisted, in_by_key_is, in_by_key_plain, in_by_key_unlisted, in_all_is, in_all_plain, in_all_unlisted}
+
+-- a query over the inbox, in the order of the numbers
+module _ (sql : List ℕ) (plain : IsPlain (understood store_schema sql)) (unlisted : reads_listing store_schema sql ≡ false) (terms : List Term)
+    (is : command_of (understood store_schema sql) ≡ Select (record { lets = []; body = over_table inbox_tree terms in_columns by_number (lit (Int (negsuc 0))) }) in_names) (params : Row)
+    (p : InEntry → Bool) (same : (e : InEntry) → passes terms params (in_row e) ≡ p e) where
+  reads_entries : (old new : Connected) (rows : List Row) → Shown sql params old new rows → (s : State) → Rests old s → rows ≡ map in_shown (filter p s.inbox)
+  reads_entries old new rows h s r =
+      let it = r.stands (shown_open sql params old new rows h) in
+      reads_rows sql plain unlisted inbox_tree terms in_columns in_names is params in_row in_shown (λ _. refl) p same old new rows h it.schema s.inbox it.entries.inbox
+      (entries_rise in_row (λ (e : InEntry). e.number) (λ _. refl) s.next_in s.inbox it.receipts.1)
+
+abbrev pub key_params : List ℕ → List ℕ → List ℕ → Row
+key_params sender receiver value = Blob sender ∷ Blob receiver ∷ Blob value ∷ []
+
+of_key : (sender receiver value : List ℕ) (e : InEntry) → passes key_terms (key_params sender receiver value) (in_row e) ≡ has_key sender receiver value e.posted
+unfolding value_of
+of_key sender receiver value e =
+    ap₂ ◌&&◌ (blobs_equal e.posted.sender sender) (ap₂ ◌&&◌ (blobs_equal e.posted.receiver receiver) (ap (λ b. b && true) (blobs_equal (value_of e.posted.id) value) ∙ and_true _))
+
+pub finds_key : (sender receiver value : List ℕ) (old new : Connected) (rows : List Row) → Shown in_by_key_text (key_params sender receiver value) old new rows → (s : State) → Rests old s
+    → rows ≡ map in_shown (filter (λ (e : InEntry). has_key sender receiver value e.posted) s.inbox)
+finds_key sender receiver value = reads_entries in_by_key_text in_by_key_plain in_by_key_unlisted key_terms in_by_key_is (key_params sender receiver value) (λ (e : InEntry). has_key sender receiver value e.posted) (of_key sender receiver value)
+
+abbrev pub by_number_params : ℕ → Row
+by_number_params n = Int (pos n) ∷ []
+
+-- a number that is never given may stand for any that is never given
+same_test : (n w m : ℕ) → (end_of_numbers ≤ n → w ≡ end_of_numbers) → (n < end_of_numbers → w ≡ n) → m < end_of_numbers → (m == w) ≡ (m == n)
+same_test n w m beyond within small = elim (cases_Bool (nat_le end_of_numbers n)) [
+  | inl high ↦ let past : end_of_numbers ≤ n = grind (arith, nat_tests) in ap (λ k. m == k) (beyond past) ∙ other m end_of_numbers small ∙ sym (other m n (omega (arith, small, past)))
+  | inr low ↦ let under : n < end_of_numbers = grind (arith, nat_tests) in ap (λ k. m == k) (within under)
+]
+  where
+    other : (a b : ℕ) → a < b → (a == b) ≡ false
+    other a b less = grind (arith, nat_tests)
+
+pub asked_small : (n w : ℕ) → (end_of_numbers ≤ n → w ≡ end_of_numbers) → (n < end_of_numbers → w ≡ n) → w < 2 ^ 63
+asked_small n w beyond within = elim (cases_Bool (nat_le end_of_numbers n)) [
+  | inl high ↦ let past : end_of_numbers ≤ n = grind (arith, nat_tests) in omega (arith, beyond past)
+  | inr low ↦ let under : n < end_of_numbers = grind (arith, nat_tests) in omega (arith, under, within under)
+]
+
+pub same_tests : (n w : ℕ) → (end_of_numbers ≤ n → w ≡ end_of_numbers) → (n < end_of_numbers → w ≡ n) → (es : List InEntry) → AllByRecursion (λ m. m < end_of_numbers) (map (λ (e : InEntry). e.number) es)
+    → AllByRecursion (λ (e : InEntry). (e.number == w) ≡ (e.number == n)) es
+same_tests n w beyond within [] all = tt
+same_tests n w beyond within (e ∷ es) all = (same_test n w e.number beyond within all.0, same_tests n w beyond within es all.1)
+
+pub finds_number : (n w : ℕ) → (end_of_numbers ≤ n → w ≡ end_of_numbers) → (n < end_of_numbers → w ≡ n) → (old new : Connected) (rows : List Row) → Shown in_by_number_text (by_number_params w) old new rows → (s : State) → Rests old s
+    → rows ≡ map in_shown (filter (λ (e : InEntry). e.number == n) s.inbox)
+finds_number n w beyond within old new rows h s r =
+    let it = r.stands (shown_open in_by_number_text (by_number_params w) old new rows h) in
+    let low = all_weaken (λ m. m < s.next_in) (λ m. m < end_of_numbers) (λ m less. omega (arith, less, it.receipts.0.most)) (map (λ (e : InEntry). e.number) s.inbox) it.receipts.1.below in
+    reads_entries in_by_number_text in_by_number_plain in_by_number_unlisted number_terms in_by_number_is (by_number_params w) (λ e. e.number == w) (λ e. ap (λ b. b && true) (numbers_equal e.number w) ∙ and_true _) old new rows h s r
+    ∙ ap (map in_shown) (filter_same (λ (e : InEntry). e.number == w) (λ (e : InEntry). e.number == n) s.inbox (same_tests n w beyond within s.inbox low))
+
+every : (es : List InEntry) → filter (λ _. true) es ≡ es
+every [] = refl
+every (e ∷ es) = ap (λ l. e ∷ l) (every es)
+
+pub lists_all : (old new : Connected) (rows : List Row) → Shown in_all_text [] old new rows → (s : State) → Rests old s → rows ≡ map in_shown s.inbox
+lists_all old new rows h s r = reads_entries in_all_text in_all_plain in_all_unlisted [] in_all_is [] (λ _. true) (λ _. refl) old new rows h s r ∙ ap (map in_shown) (every s.inbox)
+
+-- ---- all rows, one after another
+
+pub more_read : (rows : List Row) (es : List InEntry) (done : List InRow) (i : ℕ) (x : InRow) (d : Row) → rows ≡ map in_shown es → i < length rows → done ≡ map in_summary (take i es)
+    → ((e : InEntry) → get_or rows i d ≡ in_shown e → x ≡ in_summary e) → done ++ x ∷ [] ≡ map in_summary (take (i + 1) es)
+more_read rows es done i x d all within so_far is =
+    let short : i < length es = omega (arith, within, ap length all, length-map es in_shown) in
+    let here : get_or rows i d ≡ in_shown (get_or es i (in_entry x [])) = ap (λ l. get_or l i d) all ∙ get_or-map in_shown es i (in_entry x []) d short in
+    ap₂ (λ l y. l ++ y ∷ []) so_far (is (get_or es i (in_entry x [])) here)
+    ∙ sym (ap (map in_summary) (take_more es i (in_entry x []) short) ∙ map-append in_summary (take i es) (get_or es i (in_entry x []) ∷ []))

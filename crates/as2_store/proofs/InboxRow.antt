@@ -1,0 +1,101 @@
+-- The row of an entry goes into the inbox.
+use Rattle.std.proofs.Common.{◌≡◌, ◌<◌, ◌^◌, ℕ, Option, Some, None, Ok, refl, pos, arith, w64, to_z, of_z}
+use Rattle.sqlite.specs.Values.{bound_value}
+use Rattle.sqlite.specs.Kind.TheVariants.{Text, Blob}
+use Rattle.sqlite.specs.Cast.{cast}
+use Rattle.sqlite.specs.Tree.{put_row}
+use Rattle.sqlite.specs.State.{State as Connected, Executes}
+use Rattle.sql_tables.specs.Changes.{Changed}
+use Rattle.sql_tables.proofs.Writes.{cast_int, cast_null, IsOneRow, inserts_given}
+use Rattle.as2_mdn.specs.declared.report.ReportMic.{ReportMic}
+use Rattle.as2_exchange.specs.declared.inbox.InEntry.{InEntry}
+use Rattle.as2_exchange.specs.declared.inbox.How.{How}
+use Rattle.as2_exchange.specs.declared.inbox.How.TheVariants.{NoReceipt, Sync, Async}
+use Rattle.as2_mdn.specs.declared.outcome.Outcome.{Outcome}
+use Rattle.as2_mdn.specs.declared.outcome.Outcome.TheVariants.{DecryptionFailed, DecompressionFailed, AuthenticationFailed, UnsupportedFormat, UnsupportedMicAlgorithms, Processed}
+use Rattle.as2_exchange.specs.declared.inbox.MdnState.{MdnState}
+use Rattle.as2_exchange.specs.declared.inbox.MdnState.TheVariants.{Unasked, Pending, Sent}
+use Rattle.as2_exchange.specs.declared.attempt.Attempt.{Attempt}
+use Rattle.as2_exchange.specs.declared.attempt.Attempt.TheVariants.{Idle, Running, Last, Used}
+use Rattle.as2_rows.specs.Codes.{outcome_code, how_code, mdn_code, attempt_code}
+use Rattle.as2_store.proofs.MetaRow.{passed}
+use Rattle.as2_rows.specs.Rows.{in_row, in_shown, url_value, digest_value, mic_value}
+use Rattle.as2_store.specs.Tables.{store_schema, inbox_table, inbox_tree}
+use Rattle.as2_store.proofs.Statements.{in_put_text}
+use Rattle.as2_store.proofs.WaitingRows.{cast_optional}
+use Rattle.as2_store.proofs.Texts.{in_put_terms, in_put_is, in_put_plain}
+
+pub cast_url : (how : How) → cast Blob (url_value how) ≡ url_value how
+cast_url NoReceipt = refl
+cast_url Sync = refl
+cast_url (Async url) = refl
+
+pub cast_digest : (mic : Option ReportMic) → cast Text (digest_value mic) ≡ digest_value mic
+cast_digest None = refl
+cast_digest (Some mic) = refl
+
+pub cast_mic : (mic : Option ReportMic) → cast Blob (mic_value mic) ≡ mic_value mic
+cast_mic None = refl
+cast_mic (Some mic) = refl
+
+-- ---- as it is bound
+
+pub bound_url : (how : How) → bound_value (url_value how) ≡ url_value how
+bound_url NoReceipt = refl
+bound_url Sync = refl
+bound_url (Async url) = refl
+
+pub bound_digest : (mic : Option ReportMic) → bound_value (digest_value mic) ≡ digest_value mic
+bound_digest None = refl
+bound_digest (Some mic) = refl
+
+pub bound_mic : (mic : Option ReportMic) → bound_value (mic_value mic) ≡ mic_value mic
+bound_mic None = refl
+bound_mic (Some mic) = refl
+
+-- a code passes as i64
+pub passed_outcome : (o : Outcome) → to_z w64 (of_z w64 (pos (outcome_code o))) ≡ pos (outcome_code o)
+passed_outcome o = passed (outcome_code o) (small o)
+  where
+    small : (o : Outcome) → outcome_code o < 2 ^ 63
+    small DecryptionFailed = omega arith
+    small DecompressionFailed = omega arith
+    small AuthenticationFailed = omega arith
+    small UnsupportedFormat = omega arith
+    small UnsupportedMicAlgorithms = omega arith
+    small Processed = omega arith
+
+pub passed_how : (how : How) → to_z w64 (of_z w64 (pos (how_code how))) ≡ pos (how_code how)
+passed_how how = passed (how_code how) (small how)
+  where
+    small : (how : How) → how_code how < 2 ^ 63
+    small NoReceipt = omega arith
+    small Sync = omega arith
+    small (Async url) = omega arith
+
+pub passed_mdn : (mdn : MdnState) → to_z w64 (of_z w64 (pos (mdn_code mdn))) ≡ pos (mdn_code mdn)
+passed_mdn mdn = passed (mdn_code mdn) (small mdn)
+  where
+    small : (mdn : MdnState) → mdn_code mdn < 2 ^ 63
+    small Unasked = omega arith
+    small Pending = omega arith
+    small Sent = omega arith
+
+pub passed_attempt : (attempt : Attempt) → to_z w64 (of_z w64 (pos (attempt_code attempt))) ≡ pos (attempt_code attempt)
+passed_attempt attempt = passed (attempt_code attempt) (small attempt)
+  where
+    small : (attempt : Attempt) → attempt_code attempt < 2 ^ 63
+    small Idle = omega arith
+    small Running = omega arith
+    small Last = omega arith
+    small Used = omega arith
+
+-- ---- the statement
+
+one_in : (e : InEntry) → IsOneRow inbox_table (in_shown e) in_put_terms 18 (in_row e)
+one_in e = record { source = in_row e; made = refl; cast_is = simp (cast_int, cast_null, cast_optional, cast_url, cast_digest, cast_mic) }
+
+pub puts_in : (old new : Connected) (e : InEntry) (count : ℕ) → old.now.schema ≡ store_schema → Executes in_put_text (in_shown e) old new (Ok count)
+    → Changed old new store_schema inbox_tree (put_row (in_row e) (old.now.trees inbox_tree))
+puts_in old new e count has h =
+    inserts_given in_put_text (in_shown e) old new store_schema has 1 inbox_table refl refl in_put_terms 18 (in_row e) (one_in e) refl in_put_is in_put_plain count h

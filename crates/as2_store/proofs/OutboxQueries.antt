@@ -1,0 +1,125 @@
+-- What the queries of the outbox and of the evidence answer.
+use Rattle.std.proofs.Common.{◌≡◌, ℕ, ◌==◌, List, [], ◌∷◌, map, slice_get, Option, option_map, Some, None, IfSome, Bool, true, false, ◌&&◌, cond, refl, ap, ap₂, subst, ◌∙◌, arith}
+use Rattle.std.specs.List.{AllByRecursion, IsDistinct, filter, filter_map, find, cons_option}
+use Rattle.std.proofs.lemmas.Bool.Decides.{nat_tests}
+use Rattle.sqlite.specs.declared.types.Value.TheVariants.{Blob}
+use Rattle.sqlite.specs.Order.{Row}
+use Rattle.sqlite.specs.State.{State as Connected, Shown}
+use Rattle.sql_tables.proofs.Inside.{shown_open}
+use Rattle.sql_tables.proofs.Queries.{blobs_equal, numbers_equal}
+use Rattle.as2_names.specs.Identifiers.{value_of}
+use Rattle.as2_exchange.specs.State.{State}
+use Rattle.as2_exchange.specs.declared.outbox.Evidence.{Evidence}
+use Rattle.as2_exchange.specs.declared.outbox.OutEntry.{OutEntry}
+use Rattle.as2_rows.specs.Rows.{out_row, out_shown, evidence_row, evidence_shown}
+use Rattle.as2_rows.specs.Summaries.{evidence_in, out_entry, out_summary}
+use Rattle.as2_rows.specs.declared.evidence.EvidenceRow.{EvidenceRow}
+use Rattle.as2_rows.specs.declared.outbox.OutRow.{OutRow}
+use Rattle.as2_store.specs.Tables.{outbox_tree, evidence_tree}
+use Rattle.as2_store.proofs.Statements.{out_by_id_text, evidence_by_number_text}
+use Rattle.as2_store.specs.Stands.{Rests, evidence_rows}
+use Rattle.as2_store.specs.Finding.{has_id, shown_evidence}
+use Rattle.as2_store.proofs.NumberedRows.{numbers_rise, given_rise, ordered_rise, entries_rise}
+use Rattle.as2_store.proofs.QueriedRows.{reads_rows, and_true, found_all}
+use Rattle.as2_store.proofs.InboxQueries.{by_number_params}
+use Rattle.as2_store.proofs.EntryPieces.{turned}
+use Rattle.as2_store.proofs.Texts.{out_columns, out_names, id_terms, number_terms, out_by_id_is, out_by_id_plain, out_by_id_unlisted, evidence_columns, evidence_names, evidence_by_number_is, evidence_by_number_plain, evidence_by_number_unlisted}
+
+abbrev pub id_params : List ℕ → Row
+id_params value = Blob value ∷ []
+
+pub finds_id : (value : List ℕ) (old new : Connected) (rows : List Row) → Shown out_by_id_text (id_params value) old new rows → (s : State) → Rests old s → rows ≡ map out_shown (filter (has_id value) s.outbox)
+finds_id value old new rows h s r =
+    let it = r.stands (shown_open out_by_id_text (id_params value) old new rows h) in
+    reads_rows out_by_id_text out_by_id_plain out_by_id_unlisted outbox_tree id_terms out_columns out_names out_by_id_is (id_params value) out_row out_shown (λ _. refl) (has_id value)
+    (λ d. ap (λ b. b && true) (blobs_equal (value_of d.id) value) ∙ and_true _) old new rows h it.schema s.outbox it.entries.outbox
+    (entries_rise out_row (λ (d : OutEntry). d.number) (λ _. refl) s.next_out s.outbox it.documents.1)
+
+-- ---- the evidence
+
+abbrev pub receipt_in : OutEntry → Option EvidenceRow
+receipt_in d = option_map (evidence_in d.number) d.evidence
+
+abbrev pub receipts : List OutEntry → List EvidenceRow
+receipts ds = filter_map receipt_in ds
+
+abbrev pub row_of : EvidenceRow → Row
+row_of r = evidence_row r.number r.evidence
+
+abbrev shown_of_row : EvidenceRow → Row
+shown_of_row r = evidence_shown r.number r.evidence
+
+pub rows_of : (ds : List OutEntry) → evidence_rows ds ≡ map row_of (receipts ds)
+rows_of [] = refl
+rows_of (d ∷ ds) = go d.evidence (rows_of ds)
+  where
+    go : (o : Option Evidence) → evidence_rows ds ≡ map row_of (receipts ds) → cons_option (option_map (evidence_row d.number) o) (evidence_rows ds) ≡ map row_of (cons_option (option_map (evidence_in d.number) o) (receipts ds))
+    go None rest = rest
+    go (Some e) rest = ap (λ l. evidence_row d.number e ∷ l) rest
+
+kept : (d : OutEntry) → IfSome (receipt_in d) (λ r. r.number ≡ d.number)
+kept d = go d.evidence
+  where
+    go : (o : Option Evidence) → IfSome (option_map (evidence_in d.number) o) (λ r. r.number ≡ d.number)
+    go None = tt
+    go (Some e) = refl
+
+abbrev pub of_number : ℕ → List EvidenceRow → List EvidenceRow
+of_number n rs = filter (λ r. r.number == n) rs
+
+other_first : (m n : ℕ) (o : Option Evidence) (rest : List EvidenceRow) → (m == n) ≡ false → of_number n (cons_option (option_map (evidence_in m) o) rest) ≡ of_number n rest
+other_first m n None rest other = refl
+other_first m n (Some e) rest other = ap (λ t. cond t (evidence_in m e ∷ of_number n rest) (of_number n rest)) other
+
+own_first : (n : ℕ) (o : Option Evidence) (rest : List EvidenceRow) → of_number n rest ≡ [] → of_number n (cons_option (option_map (evidence_in n) o) rest) ≡ cons_option (option_map (evidence_in n) o) []
+own_first n None rest none = none
+own_first n (Some e) rest none = ap (λ t. cond t (evidence_in n e ∷ of_number n rest) (of_number n rest)) (itself n) ∙ ap (λ l. evidence_in n e ∷ l) none
+  where
+    itself : (n : ℕ) → (n == n) ≡ true
+    itself n = grind (arith, nat_tests)
+
+of_others : (n : ℕ) (ds : List OutEntry) → AllByRecursion (λ m. (n == m) ≡ false) (map (λ (d : OutEntry). d.number) ds) → of_number n (receipts ds) ≡ []
+of_others n [] other = refl
+of_others n (d ∷ ds) other = other_first d.number n d.evidence (receipts ds) (turned d.number n other.0) ∙ of_others n ds other.1
+
+pub own_receipt : (p : OutEntry → Bool) (ds : List OutEntry) (d : OutEntry) → IsDistinct (λ a b. a == b) (map (λ (x : OutEntry). x.number) ds) → find p ds ≡ Some d → of_number d.number (receipts ds) ≡ cons_option (receipt_in d) []
+unfolding IsDistinct
+own_receipt p [] d distinct found = absurd cc
+own_receipt p (x ∷ ds) d distinct found = go (p x) found (own_receipt p ds d distinct.1)
+  where
+    go : (t : Bool) → cond t (Some x) (find p ds) ≡ Some d → (find p ds ≡ Some d → of_number d.number (receipts ds) ≡ cons_option (receipt_in d) []) → of_number d.number (cons_option (receipt_in x) (receipts ds)) ≡ cons_option (receipt_in d) []
+    go true is later =
+        let same : x ≡ d = cc in
+        subst (λ (y : OutEntry). of_number y.number (cons_option (receipt_in x) (receipts ds)) ≡ cons_option (receipt_in y) []) same (own_first x.number x.evidence (receipts ds) (of_others x.number ds distinct.0))
+    go false is later =
+        other_first x.number d.number x.evidence (receipts ds) (found_all (λ (y : OutEntry). y.number) (λ m. (x.number == m) ≡ false) p ds d distinct.0 is) ∙ later is
+
+as_shown : (n : ℕ) (o : Option Evidence) → map shown_of_row (cons_option (option_map (evidence_in n) o) []) ≡ shown_evidence n o
+as_shown n None = refl
+as_shown n (Some e) = refl
+
+pub finds_evidence : (old new : Connected) (n : ℕ) (rows : List Row) → Shown evidence_by_number_text (by_number_params n) old new rows → (s : State) → Rests old s → (p : OutEntry → Bool) (d : OutEntry) → find p s.outbox ≡ Some d → n ≡ d.number
+    → rows ≡ shown_evidence d.number d.evidence
+finds_evidence old new n rows h s r p d found is =
+    let it = r.stands (shown_open evidence_by_number_text (by_number_params n) old new rows h) in
+    reads_rows evidence_by_number_text evidence_by_number_plain evidence_by_number_unlisted evidence_tree number_terms evidence_columns evidence_names evidence_by_number_is (by_number_params n) row_of shown_of_row (λ _. refl)
+    (λ r. r.number == n) (λ r. ap (λ b. b && true) (numbers_equal r.number n) ∙ and_true _) old new rows h it.schema (receipts s.outbox) (it.entries.evidence ∙ rows_of s.outbox)
+    (ordered_rise row_of (λ r. r.number) (λ _. refl) (receipts s.outbox) (given_rise receipt_in (λ (d : OutEntry). d.number) (λ r. r.number) kept s.outbox (numbers_rise (λ (d : OutEntry). d.number) s.next_out s.outbox it.documents.1)))
+    ∙ ap (λ k. map shown_of_row (of_number k (receipts s.outbox))) is
+    ∙ ap (map shown_of_row) (own_receipt p s.outbox d it.documents.1.distinct found)
+    ∙ as_shown d.number d.evidence
+
+-- ---- the first row of the evidence
+
+pub no_evidence : (n : ℕ) (o : Option Evidence) (rows : List Row) → rows ≡ shown_evidence n o → slice_get rows 0 ≡ None → None ≡ o
+no_evidence n None rows all none = refl
+no_evidence n (Some e) rows all none = absurd (let f = ap (λ l. slice_get l 0) all in cc)
+
+pub some_evidence : (n : ℕ) (o : Option Evidence) (rows : List Row) (row : Row) → rows ≡ shown_evidence n o → slice_get rows 0 ≡ Some row → (e : Evidence) × (o ≡ Some e) × (row ≡ evidence_shown n e)
+some_evidence n None rows row all got = absurd (let f = ap (λ l. slice_get l 0) all in cc)
+some_evidence n (Some e) rows row all got = (e, refl, (let f = ap (λ l. slice_get l 0) all in cc))
+
+-- ---- the document that is put together
+
+pub document_is : (r : OutRow) (content : List ℕ) (e : Option Evidence) (d : OutEntry) → r ≡ out_summary d → content ≡ d.content → e ≡ d.evidence → out_entry r content e ≡ d
+document_is r content e d row whole settled = ap₂ (λ x y. out_entry x y e) row whole ∙ ap (out_entry (out_summary d) d.content) settled

@@ -1,0 +1,390 @@
+-- What the tables stand for once a receipt has settled a document.
+use Rattle.std.proofs.Common.{◌≡◌, ℕ, ◌<◌, ◌^◌, ◌==◌, ◌&&◌, not, List, [], ◌∷◌, ◌++◌, map, filter, find, length, Option, option_map, Some, None, IfSome, is_some, Bool, true, false, cond, Ok, refl, sym, ap, ap₂, subst, ◌∙◌, ◌≢◌, ◌≤◌, nat_lt, inl, inr, IsTrue, pos, arith, w64, to_z, of_z}
+use Rattle.std.specs.List.{AllByRecursion, cons_option}
+use Rattle.std.specs.Ordering.{match_ordering}
+use Rattle.std.proofs.lemmas.Int.{ints}
+use Rattle.std.proofs.lemmas.Bool.{cases_Bool}
+use Rattle.std.proofs.lemmas.Bool.Decides.{nat_tests}
+use Rattle.std.proofs.lemmas.List.Elements.{filter-append, filter_agree}
+use Rattle.sqlite.specs.declared.types.Value.TheVariants.{Int}
+use Rattle.sqlite.specs.Collation.TheVariants.{Binary}
+use Rattle.sqlite.specs.Ops.{binary, is_true, from_truth}
+use Rattle.sqlite.specs.Order.{Row, value_cmp}
+use Rattle.sqlite.specs.Tree.{put_row, IsAscending}
+use Rattle.sqlite.specs.Edit.{are_fresh}
+use Rattle.sqlite.specs.Store.{Ghosts}
+use Rattle.sqlite.specs.Held.{Held, state}
+use Rattle.sqlite.specs.State.{State as Connected, HasCleanDisk, Executes}
+use Rattle.sqlite_sql.specs.declared.ops.BinaryOp.TheVariants.{Compare}
+use Rattle.sqlite_sql.specs.declared.ops.CompareOp.TheVariants.{Ne}
+use Rattle.std.specs.Ordering.{is_ne}
+use Rattle.sqlite_value.proofs.OrderLemmas.{value_cmp-Int}
+use Rattle.sqlite_trees.proofs.ListLemmas.{all_weaker, filter_all}
+use Rattle.sql_tables.specs.Changes.{Changed, HasRows, passes}
+use Rattle.sql_tables.proofs.Sorting.{unchanged}
+use Rattle.sql_tables.proofs.Changing.{updates}
+use Rattle.sql_tables.proofs.Deleting.{deletes}
+use Rattle.sql_tables.proofs.Queries.{numbers_equal}
+use Rattle.sql_tables.proofs.Writes.{cast_int, cast_null, IsOneRow, inserts_given, inserts_fresh}
+use Rattle.as2_mdn.specs.declared.detail.Detail.{Detail}
+use Rattle.as2_mdn.specs.declared.detail.Detail.TheVariants.{New, Sending, Awaiting, Retry, Processed, NoReceiptAsked, Warning, NoMic, UnknownMic, NotProcessed, ErrorModifier, MicDiffers, TriesUsed, Overdue}
+use Rattle.as2_exchange.specs.State.{State, end_of_numbers, document, change_document, is_settled}
+use Rattle.as2_exchange.specs.Invariants.{AreNumbers, is_by_receipt}
+use Rattle.as2_exchange.specs.declared.attempt.Attempt.{Attempt}
+use Rattle.as2_exchange.specs.declared.attempt.Attempt.TheVariants.{Idle, Running, Last, Used}
+use Rattle.as2_exchange.specs.declared.inbox.InEntry.{InEntry}
+use Rattle.as2_exchange.specs.declared.outbox.Evidence.{Evidence}
+use Rattle.as2_exchange.specs.declared.outbox.OutEntry.{OutEntry}
+use Rattle.as2_exchange.proofs.Lists.{map_kept}
+use Rattle.as2_rows.specs.Rows.{out_row, evidence_row, evidence_shown}
+use Rattle.as2_rows.specs.Codes.{detail_code}
+use Rattle.as2_rows.specs.Contents.{pieces, piece_shown}
+use Rattle.as2_rows.specs.Waiting.{Waiting, out_kind, out_waiting, waiting_out, waiting_in, to_send, to_answer, to_hear, to_end}
+use Rattle.as2_store.specs.Tables.{store_schema, outbox_table, outbox_tree, outbox_piece_tree, evidence_table, evidence_tree, waiting_table, waiting_tree}
+use Rattle.as2_store.proofs.Statements.{out_settle_text, evidence_put_text, document_take_text}
+use Rattle.as2_store.specs.Stands.{IsWhole, Stands, place, waiting_row, documents_waiting, all_waiting, evidence_rows, outbox_pieces}
+use Rattle.as2_store.specs.Requeuing.{Holds}
+use Rattle.as2_exchange.specs.Documents.{settled_as}
+use Rattle.as2_store.specs.Settling.{settled_in, of_document, without_document}
+use Rattle.as2_store.proofs.Committing.{Done}
+use Rattle.as2_store.proofs.Unsettled.{some_found, unsettled}
+use Rattle.as2_store.proofs.MetaRow.{one_param, passed}
+use Rattle.as2_store.proofs.NumberedRows.{numbers_rise, entries_rise, rises, falls}
+use Rattle.as2_store.proofs.WaitingRows.{IsOf, ins_small}
+use Rattle.as2_store.proofs.RequeuedTables.{places_in_order}
+use Rattle.as2_store.proofs.QueriedRows.{and_true, found_all}
+use Rattle.as2_store.proofs.ForeignKeys.{quiet}
+use Rattle.as2_store.proofs.Texts.{number_terms, settle_project, out_settle_is, out_settle_plain, evidence_put_terms, evidence_put_is, evidence_put_plain, document_terms, document_take_is, document_take_plain}
+
+-- ---- the document
+
+abbrev pub ended : ℕ → Detail → Evidence → List OutEntry → List OutEntry
+ended n detail e ds = map (λ (d : OutEntry). cond (d.number == n) (settled_as detail e d) d) ds
+
+abbrev pub settle_params : ℕ → Detail → Row
+settle_params n detail = Int (pos n) ∷ Int (pos (detail_code detail)) ∷ []
+
+pub passed_detail : (detail : Detail) → to_z w64 (of_z w64 (pos (detail_code detail))) ≡ pos (detail_code detail)
+passed_detail detail = passed (detail_code detail) (small detail)
+  where
+    small : (detail : Detail) → detail_code detail < 2 ^ 63
+    small New = omega arith
+    small Sending = omega arith
+    small Awaiting = omega arith
+    small Retry = omega arith
+    small Processed = omega arith
+    small NoReceiptAsked = omega arith
+    small Warning = omega arith
+    small NoMic = omega arith
+    small UnknownMic = omega arith
+    small NotProcessed = omega arith
+    small ErrorModifier = omega arith
+    small MicDiffers = omega arith
+    small TriesUsed = omega arith
+    small Overdue = omega arith
+
+as_rows : (n : ℕ) (detail : Detail) (e : Evidence) (ds : List OutEntry)
+    → map (λ (d : OutEntry). cond (passes number_terms (settle_params n detail) (out_row d)) (out_row (settled_as detail e d)) (out_row d)) ds ≡ map out_row (ended n detail e ds)
+as_rows n detail e [] = refl
+as_rows n detail e (d ∷ ds) =
+    ap₂ ◌∷◌ (ap (λ t. cond t (out_row (settled_as detail e d)) (out_row d)) (ap (λ b. b && true) (numbers_equal d.number n) ∙ and_true _) ∙ by_case (d.number == n)) (as_rows n detail e ds)
+  where
+    by_case : (t : Bool) → cond t (out_row (settled_as detail e d)) (out_row d) ≡ out_row (cond t (settled_as detail e d) d)
+    by_case true = refl
+    by_case false = refl
+
+pub settles : (n count : ℕ) (detail : Detail) (e : Evidence) (old new : Connected) (s : State) → Stands old.now s → Executes out_settle_text (settle_params n detail) old new (Ok count)
+    → Changed old new store_schema outbox_tree (map out_row (change_document s n (settled_as detail e)).outbox) × (count ≡ length (filter (λ (d : OutEntry). d.number == n) s.outbox))
+settles n count detail e old new s it h =
+    let done = updates out_settle_text (settle_params n detail) old new store_schema it.schema 3 outbox_table refl number_terms settle_project (λ (d : OutEntry). pos d.number) out_row (λ _. refl) (λ (d : OutEntry). out_row (settled_as detail e d)) (λ _. refl)
+    (λ d. simp (cast_int, cast_null)) s.outbox it.entries.outbox (entries_rise out_row (λ (d : OutEntry). d.number) (λ _. refl) s.next_out s.outbox it.documents.1) (quiet outbox_tree) out_settle_is out_settle_plain count h in
+    (subst (Changed old new store_schema outbox_tree) (as_rows n detail e s.outbox) done.0, done.1 ∙ ap length (of_number s.outbox))
+  where
+    of_number : (ds : List OutEntry) → filter (λ (d : OutEntry). passes number_terms (settle_params n detail) (out_row d)) ds ≡ filter (λ (d : OutEntry). d.number == n) ds
+    of_number ds = filter_agree (λ (d : OutEntry). passes number_terms (settle_params n detail) (out_row d)) (λ (d : OutEntry). d.number == n) (λ d. ap (λ b. b && true) (numbers_equal d.number n) ∙ and_true _) ds
+
+same_numbers : (n : ℕ) (detail : Detail) (e : Evidence) (ds : List OutEntry) → map (λ (d : OutEntry). d.number) (ended n detail e ds) ≡ map (λ (d : OutEntry). d.number) ds
+same_numbers n detail e ds = map_kept (λ (d : OutEntry). d.number) (λ (d : OutEntry). cond (d.number == n) (settled_as detail e d) d) (λ d. by_case d (d.number == n)) ds
+  where
+    by_case : (d : OutEntry) (t : Bool) → (cond t (settled_as detail e d) d).number ≡ d.number
+    by_case d true = refl
+    by_case d false = refl
+
+same_pieces : (n : ℕ) (detail : Detail) (e : Evidence) (ds : List OutEntry) → outbox_pieces (ended n detail e ds) ≡ outbox_pieces ds
+same_pieces n detail e [] = refl
+same_pieces n detail e (d ∷ ds) = ap₂ ◌++◌ (by_case (d.number == n)) (same_pieces n detail e ds)
+  where
+    by_case : (t : Bool) → pieces (cond t (settled_as detail e d) d).number (cond t (settled_as detail e d) d).content ≡ pieces d.number d.content
+    by_case true = refl
+    by_case false = refl
+
+-- ---- its evidence
+
+abbrev pub receipt_params : ℕ → Evidence → Row
+receipt_params n e = evidence_shown n e
+
+one_receipt : (n : ℕ) (e : Evidence) → IsOneRow evidence_table (receipt_params n e) evidence_put_terms 5 (evidence_row n e)
+one_receipt n e = record { source = evidence_row n e; made = refl; cast_is = simp (cast_int, cast_null) }
+
+pub puts_evidence : (old new : Connected) (n : ℕ) (e : Evidence) (count : ℕ) → old.now.schema ≡ store_schema → Executes evidence_put_text (receipt_params n e) old new (Ok count)
+    → Changed old new store_schema evidence_tree (put_row (evidence_row n e) (old.now.trees evidence_tree))
+puts_evidence old new n e count has h =
+    inserts_given evidence_put_text (receipt_params n e) old new store_schema has 5 evidence_table refl refl evidence_put_terms 5 (evidence_row n e) (one_receipt n e) refl evidence_put_is evidence_put_plain count h
+
+pub fresh_evidence : (old new : Connected) (n : ℕ) (e : Evidence) (count : ℕ) → old.now.schema ≡ store_schema → Executes evidence_put_text (receipt_params n e) old new (Ok count)
+    → are_fresh (old.now.trees evidence_tree) (evidence_row n e ∷ []) ≡ true
+fresh_evidence old new n e count has h =
+    inserts_fresh evidence_put_text (receipt_params n e) old new store_schema has 5 evidence_table refl refl evidence_put_terms 5 (evidence_row n e) (one_receipt n e) refl evidence_put_is evidence_put_plain count h
+
+others_stay : (n : ℕ) (detail : Detail) (e : Evidence) (ds : List OutEntry) → AllByRecursion (λ (d : OutEntry). n < d.number) ds → ended n detail e ds ≡ ds
+others_stay n detail e [] all = refl
+others_stay n detail e (d ∷ ds) all = ap₂ ◌∷◌ (ap (λ t. cond t (settled_as detail e d) d) (other d.number all.0)) (others_stay n detail e ds all.1)
+  where
+    other : (m : ℕ) → n < m → (m == n) ≡ false
+    other m less = grind (arith, nat_tests)
+
+pub found_number : (n : ℕ) (ds : List OutEntry) (d : OutEntry) → find (λ (x : OutEntry). x.number == n) ds ≡ Some d → d.number ≡ n
+found_number n [] d found = absurd cc
+found_number n (x ∷ ds) d found = go (x.number == n) refl found (found_number n ds d)
+  where
+    go : (t : Bool) → (x.number == n) ≡ t → cond t (Some x) (find (λ (y : OutEntry). y.number == n) ds) ≡ Some d → (find (λ (y : OutEntry). y.number == n) ds ≡ Some d → d.number ≡ n) → d.number ≡ n
+    go true is here later = let same : x ≡ d = cc in let it : x.number ≡ n = grind (arith, nat_tests) in ap (λ (y : OutEntry). y.number) (sym same) ∙ it
+    go false is here later = later here
+
+-- the row goes before those of greater numbers
+put_first : (n : ℕ) (e : Evidence) (ds : List OutEntry) → AllByRecursion (λ (d : OutEntry). n < d.number) ds → put_row (evidence_row n e) (evidence_rows ds) ≡ evidence_row n e ∷ evidence_rows ds
+put_first n e [] all = refl
+put_first n e (d ∷ ds) all = go d.evidence (put_first n e ds all.1)
+  where
+    go : (o : Option Evidence) → put_row (evidence_row n e) (evidence_rows ds) ≡ evidence_row n e ∷ evidence_rows ds
+        → put_row (evidence_row n e) (cons_option (option_map (evidence_row d.number) o) (evidence_rows ds)) ≡ evidence_row n e ∷ cons_option (option_map (evidence_row d.number) o) (evidence_rows ds)
+    go None rest = rest
+    go (Some r) rest =
+        ap (λ o. match_ordering o (evidence_row d.number r ∷ put_row (evidence_row n e) (evidence_rows ds)) (evidence_row n e ∷ evidence_rows ds) (evidence_row n e ∷ evidence_row d.number r ∷ evidence_rows ds)) (falls d.number n all.0)
+
+-- and behind those of lower ones, as that of the document which had none
+put_among : (n : ℕ) (detail : Detail) (e : Evidence) (ds : List OutEntry) → IsAscending (λ (x y : OutEntry). x.number < y.number) ds → (d : OutEntry) → find (λ (x : OutEntry). x.number == n) ds ≡ Some d → d.evidence ≡ None
+    → put_row (evidence_row n e) (evidence_rows ds) ≡ evidence_rows (ended n detail e ds)
+put_among n detail e [] up d found none = absurd cc
+put_among n detail e (x ∷ ds) up d found none = go (x.number == n) refl found (λ later. put_among n detail e ds up.1 d later none)
+  where
+    behind : (o : Option Evidence) → x.number < n → put_row (evidence_row n e) (evidence_rows ds) ≡ evidence_rows (ended n detail e ds)
+        → put_row (evidence_row n e) (cons_option (option_map (evidence_row x.number) o) (evidence_rows ds)) ≡ cons_option (option_map (evidence_row x.number) o) (evidence_rows (ended n detail e ds))
+    behind None less rest = rest
+    behind (Some r) less rest =
+        ap (λ o. match_ordering o (evidence_row x.number r ∷ put_row (evidence_row n e) (evidence_rows ds)) (evidence_row n e ∷ evidence_rows ds) (evidence_row n e ∷ evidence_row x.number r ∷ evidence_rows ds)) (rises x.number n less)
+        ∙ ap (λ l. evidence_row x.number r ∷ l) rest
+
+    go : (t : Bool) → (x.number == n) ≡ t → cond t (Some x) (find (λ (y : OutEntry). y.number == n) ds) ≡ Some d
+        → (find (λ (y : OutEntry). y.number == n) ds ≡ Some d → put_row (evidence_row n e) (evidence_rows ds) ≡ evidence_rows (ended n detail e ds))
+        → put_row (evidence_row n e) (evidence_rows (x ∷ ds)) ≡ evidence_rows (cond t (settled_as detail e x) x ∷ ended n detail e ds)
+    go true is it later =
+        let here : x.number ≡ n = grind (arith, nat_tests) in
+        let same : x ≡ d = cc in
+        let after = subst (λ k. AllByRecursion (λ (y : OutEntry). k < y.number) ds) here up.0 in
+        ap (λ o. put_row (evidence_row n e) (cons_option (option_map (evidence_row x.number) o) (evidence_rows ds))) (ap (λ (y : OutEntry). y.evidence) same ∙ none)
+        ∙ put_first n e ds after
+        ∙ ap₂ (λ k l. evidence_row k e ∷ evidence_rows l) (sym here) (sym (others_stay n detail e ds after))
+    go false is it later =
+        let more = found_all (λ (y : OutEntry). y.number) (λ k. x.number < k) (λ (y : OutEntry). y.number == n) ds d (from ds up.0) it in
+        behind x.evidence (subst (λ k. x.number < k) (found_number n ds d it) more) (later it)
+      where
+        from : (ys : List OutEntry) → AllByRecursion (λ (y : OutEntry). x.number < y.number) ys → AllByRecursion (λ k. x.number < k) (map (λ (y : OutEntry). y.number) ys)
+        from [] all = tt
+        from (y ∷ ys) all = (all.0, from ys all.1)
+
+-- ---- what waits
+
+numbers_differ : (m n : ℕ) → is_true (binary (Compare Ne Binary) (Int (pos m)) (Int (pos n))) ≡ not (m == n)
+unfolding binary
+numbers_differ m n = truth_of (is_ne (value_cmp (Int (pos m)) (Int (pos n)))) ∙ ap is_ne (value_cmp-Int (pos m) (pos n)) ∙ (grind (arith, ints, nat_tests))
+  where
+    truth_of : (t : Bool) → is_true (from_truth (Some t)) ≡ t
+    truth_of true = refl
+    truth_of false = refl
+
+pub takes_document : (n count : ℕ) (old new : Connected) (ws : List Waiting) → Holds old.now ws → Executes document_take_text (one_param n) old new (Ok count) → Changed old new store_schema waiting_tree (map waiting_row (without_document n ws))
+takes_document n count old new ws it h =
+    let done = deletes document_take_text (one_param n) old new store_schema it.schema 6 waiting_table refl document_terms (λ (w : Waiting). pos (place w)) waiting_row (λ _. refl) ws it.rows it.in_order (quiet waiting_tree) document_take_is document_take_plain count h in
+    subst (λ l. Changed old new store_schema waiting_tree (map waiting_row l))
+    (filter_agree (λ (w : Waiting). not (passes document_terms (one_param n) (waiting_row w))) (λ (w : Waiting). not (of_document n w))
+    (λ w. ap not (ap₂ ◌&&◌ (numbers_equal w.number n) (ap (λ b. b && true) (numbers_differ w.kind 2) ∙ and_true _))) ws) done.0
+
+at_rest : (detail : Detail) → is_by_receipt detail ≡ true → out_kind detail Idle ≡ None
+at_rest New is = absurd cc
+at_rest Sending is = absurd cc
+at_rest Awaiting is = absurd cc
+at_rest Retry is = absurd cc
+at_rest Processed is = refl
+at_rest NoReceiptAsked is = absurd cc
+at_rest Warning is = refl
+at_rest NoMic is = refl
+at_rest UnknownMic is = refl
+at_rest NotProcessed is = refl
+at_rest ErrorModifier is = refl
+at_rest MicDiffers is = refl
+at_rest TriesUsed is = absurd cc
+at_rest Overdue is = absurd cc
+
+-- a document waits for no receipt to be sent
+no_answer : (detail : Detail) (a : Attempt) → IfSome (out_kind detail a) (λ kind. (kind == to_answer) ≡ false)
+no_answer New a = refl
+no_answer Sending Idle = tt
+no_answer Sending Running = refl
+no_answer Sending Last = refl
+no_answer Sending Used = tt
+no_answer Awaiting a = refl
+no_answer Retry a = refl
+no_answer Processed a = tt
+no_answer NoReceiptAsked a = tt
+no_answer Warning a = tt
+no_answer NoMic a = tt
+no_answer UnknownMic a = tt
+no_answer NotProcessed a = tt
+no_answer ErrorModifier a = tt
+no_answer MicDiffers a = tt
+no_answer TriesUsed a = tt
+no_answer Overdue a = tt
+
+abbrev waits_as : OutEntry → Option ℕ → Option Waiting
+waits_as d o = option_map (λ kind. record { kind = kind; number = d.number; due = d.due }) o
+
+documents_left : (n : ℕ) (detail : Detail) (e : Evidence) → is_by_receipt detail ≡ true → (ds : List OutEntry) → without_document n (waiting_out ds) ≡ waiting_out (ended n detail e ds)
+documents_left n detail e by [] = refl
+documents_left n detail e by (d ∷ ds) =
+    go (d.number == n) refl (out_kind d.detail d.attempt) (no_answer d.detail d.attempt) (documents_left n detail e by ds)
+    ∙ ap (λ o. cons_option o (waiting_out (ended n detail e ds))) (sym (one (d.number == n)))
+  where
+    one : (t : Bool) → out_waiting (cond t (settled_as detail e d) d) ≡ cond t None (out_waiting d)
+    one true = ap (λ o. option_map (λ kind. record { kind = kind; number = d.number; due = None }) o) (at_rest detail by)
+    one false = refl
+
+    go : (t : Bool) → (d.number == n) ≡ t → (o : Option ℕ) → IfSome o (λ kind. (kind == to_answer) ≡ false) → without_document n (waiting_out ds) ≡ waiting_out (ended n detail e ds)
+        → without_document n (cons_option (waits_as d o) (waiting_out ds)) ≡ cons_option (cond t None (waits_as d o)) (waiting_out (ended n detail e ds))
+    go true is None other rest = rest
+    go false is None other rest = rest
+    go true is (Some kind) other rest =
+        ap₂ (λ a b. cond (not (a && not b)) (record { kind = kind; number = d.number; due = d.due } ∷ without_document n (waiting_out ds)) (without_document n (waiting_out ds))) is other ∙ rest
+    go false is (Some kind) other rest =
+        ap₂ (λ a b. cond (not (a && not b)) (record { kind = kind; number = d.number; due = d.due } ∷ without_document n (waiting_out ds)) (without_document n (waiting_out ds))) is other
+        ∙ ap (λ l. record { kind = kind; number = d.number; due = d.due } ∷ l) rest
+
+swapped : (p q : Waiting → Bool) (ws : List Waiting) → filter p (filter q ws) ≡ filter q (filter p ws)
+swapped p q [] = refl
+swapped p q (w ∷ ws) = go (p w) refl (q w) refl (swapped p q ws)
+  where
+    go : (a : Bool) → p w ≡ a → (b : Bool) → q w ≡ b → filter p (filter q ws) ≡ filter q (filter p ws) → filter p (cond b (w ∷ filter q ws) (filter q ws)) ≡ filter q (cond a (w ∷ filter p ws) (filter p ws))
+    go true pa true qb rest = ap (λ t. cond t (w ∷ filter p (filter q ws)) (filter p (filter q ws))) pa ∙ ap (λ l. w ∷ l) rest ∙ sym (ap (λ t. cond t (w ∷ filter q (filter p ws)) (filter q (filter p ws))) qb)
+    go true pa false qb rest = rest ∙ sym (ap (λ t. cond t (w ∷ filter q (filter p ws)) (filter q (filter p ws))) qb)
+    go false pa true qb rest = ap (λ t. cond t (w ∷ filter p (filter q ws)) (filter p (filter q ws))) pa ∙ rest
+    go false pa false qb rest = rest
+
+of_kind_left : (kind n : ℕ) (detail : Detail) (e : Evidence) → is_by_receipt detail ≡ true → (ds : List OutEntry) → without_document n (documents_waiting kind ds) ≡ documents_waiting kind (ended n detail e ds)
+of_kind_left kind n detail e by ds =
+    swapped (λ w. not (of_document n w)) (λ w. w.kind == kind) (waiting_out ds) ∙ ap (filter (λ w. w.kind == kind)) (documents_left n detail e by ds)
+
+-- receipts that are to be sent stay
+answers_left : (n next : ℕ) (ws : List Waiting) → AllByRecursion (IsOf to_answer next) ws → without_document n ws ≡ ws
+answers_left n next ws all = filter_all (λ w. not (of_document n w)) ws (all_weaker (IsOf to_answer next) (λ w. not (of_document n w) ≡ true) (λ w of. stays w.kind of.0 (w.number == n)) ws all)
+  where
+    stays : (kind : ℕ) → kind ≡ to_answer → (t : Bool) → not (t && not (kind == to_answer)) ≡ true
+    stays kind is true = grind (arith, nat_tests)
+    stays kind is false = refl
+
+pub waits_left : (s : State) (n : ℕ) (detail : Detail) (e : Evidence) → is_by_receipt detail ≡ true → AllByRecursion (λ k. k < s.next_in) (map (λ (x : InEntry). x.number) s.inbox)
+    → without_document n (all_waiting s) ≡ all_waiting (change_document s n (settled_as detail e))
+waits_left s n detail e by ins =
+    let p = λ (w : Waiting). not (of_document n w) in
+    let send = documents_waiting to_send s.outbox in
+    let answer = waiting_in s.inbox in
+    let hear = documents_waiting to_hear s.outbox in
+    let end = documents_waiting to_end s.outbox in
+    filter-append p send (answer ++ (hear ++ end))
+    ∙ ap₂ ◌++◌ (of_kind_left to_send n detail e by s.outbox)
+    (filter-append p answer (hear ++ end)
+    ∙ ap₂ ◌++◌ (answers_left n s.next_in answer (ins_small s.next_in s.inbox ins))
+    (filter-append p hear end ∙ ap₂ ◌++◌ (of_kind_left to_hear n detail e by s.outbox) (of_kind_left to_end n detail e by s.outbox)))
+
+-- ---- the state
+
+-- a document that is found has a number that was given
+pub given : (a : Connected) (s : State) (n : ℕ) (d : OutEntry) → Stands a.now s → document s n ≡ Some d → n < end_of_numbers
+given a s n d it found =
+    let below = found_all (λ (x : OutEntry). x.number) (λ k. k < s.next_out) (λ (x : OutEntry). x.number == n) s.outbox d it.documents.1.below found in
+    omega (arith, below, found_number n s.outbox d found, it.documents.0.most)
+
+-- what waits is untouched by the first two statements
+pub still_holds : (a b c : Connected) (s : State) → Stands a.now s → (documents receipts : List Row) → Changed a b store_schema outbox_tree documents → Changed b c store_schema evidence_tree receipts → Holds c.now (all_waiting s)
+still_holds a b c s it documents receipts one two = record {
+  schema = two.schema_is;
+  rows = two.others.1.1.1.1.1.1.0 (λ e. omega arith) ∙ one.others.1.1.1.1.1.1.0 (λ e. omega arith) ∙ it.entries.waits;
+  in_order = places_in_order a.now s it;
+}
+
+no_evidence_yet : (o : Option Evidence) → is_some o ≡ false → o ≡ None
+no_evidence_yet None is = refl
+no_evidence_yet (Some e) is = absurd cc
+
+-- the tables stand for the state with the document settled, where no receipt had settled it
+pub stands_settled : (a b c d : Connected) (s : State) (n : ℕ) (detail : Detail) (e : Evidence) (x : OutEntry) → is_by_receipt detail ≡ true → Stands a.now s → document s n ≡ Some x → is_settled x ≡ false
+    → Changed a b store_schema outbox_tree (map out_row (change_document s n (settled_as detail e)).outbox) → Changed b c store_schema evidence_tree (put_row (evidence_row n e) (b.now.trees evidence_tree))
+    → Changed c d store_schema waiting_tree (map waiting_row (without_document n (all_waiting s))) → Stands d.now (change_document s n (settled_as detail e))
+unfolding IsWhole
+stands_settled a b c d s n detail e x by it found unsettled one two three =
+    let has = it.entries in
+    let rising = numbers_rise (λ (y : OutEntry). y.number) s.next_out s.outbox it.documents.1 in
+    record {
+      sound = three.sound;
+      schema = three.schema_is;
+      meta = three.others.0 (λ e. omega arith) ∙ two.others.0 (λ e. omega arith) ∙ one.others.0 (λ e. omega arith) ∙ it.meta;
+      entries = record {
+        inbox = three.others.1.0 (λ e. omega arith) ∙ two.others.1.0 (λ e. omega arith) ∙ one.others.1.0 (λ e. omega arith) ∙ has.inbox;
+        inbox_contents = unchanged (three.others.1.1.0 (λ e. omega arith) ∙ two.others.1.1.0 (λ e. omega arith) ∙ one.others.1.1.0 (λ e. omega arith)) has.inbox_contents;
+        outbox = three.others.1.1.1.0 (λ e. omega arith) ∙ two.others.1.1.1.0 (λ e. omega arith) ∙ one.rows_are;
+        outbox_contents = subst (λ ps. HasRows (d.now.trees outbox_piece_tree) (map piece_shown ps)) (sym (same_pieces n detail e s.outbox))
+            (unchanged (three.others.1.1.1.1.0 (λ e. omega arith) ∙ two.others.1.1.1.1.0 (λ e. omega arith) ∙ one.others.1.1.1.1.0 (λ e. omega arith)) has.outbox_contents);
+        evidence = three.others.1.1.1.1.1.0 (λ e. omega arith) ∙ two.rows_are ∙ ap (put_row (evidence_row n e)) (one.others.1.1.1.1.1.0 (λ e. omega arith) ∙ has.evidence)
+            ∙ put_among n detail e s.outbox rising x found (no_evidence_yet x.evidence unsettled);
+        waits = three.rows_are ∙ ap (map waiting_row) (waits_left s n detail e by it.receipts.1.below);
+      };
+      receipts = it.receipts;
+      documents = (it.documents.0, subst (AreNumbers s.next_out) (sym (same_numbers n detail e s.outbox)) it.documents.1);
+    }
+
+-- ---- the transaction
+
+settled_next : (s : State) (n : ℕ) (detail : Detail) (e : Evidence) (d : OutEntry) → document s n ≡ Some d → is_settled d ≡ false → is_by_receipt detail ≡ true → settled_in n detail e s ≡ Some (change_document s n (settled_as detail e))
+settled_next s n detail e d found not_yet by = rw (found, not_yet, by) refl
+
+-- an Ok of the three statements: there is such a document, and no receipt has settled it
+pub ends : {S : Type 0} (g : Ghosts S) (old : Held S) (one two last : Connected) (n w : ℕ) (detail : Detail) (e : Evidence) → is_by_receipt detail ≡ true → (end_of_numbers ≤ n → w ≡ end_of_numbers) → (n < end_of_numbers → w ≡ n)
+    → (count : ℕ) → count ≢ 0 → (HasCleanDisk two → HasCleanDisk one) → (HasCleanDisk last → HasCleanDisk two) → (HasCleanDisk one → IsTrue (state g old).is_open)
+    → (HasCleanDisk one → (s : State) → Stands (state g old).now s → (e : Evidence)
+    → Changed (state g (record old { in_transaction = true })) one store_schema outbox_tree (map out_row (change_document s w (settled_as detail e)).outbox) × (count ≡ length (filter (λ (d : OutEntry). d.number == w) s.outbox)))
+    → (HasCleanDisk two → one.now.schema ≡ store_schema → Changed one two store_schema evidence_tree (put_row (evidence_row w e) (one.now.trees evidence_tree)) × (are_fresh (one.now.trees evidence_tree) (evidence_row w e ∷ []) ≡ true))
+    → (HasCleanDisk last → (ws : List Waiting) → Holds two.now ws → Changed two last store_schema waiting_tree (map waiting_row (without_document w ws)))
+    → HasCleanDisk last → Done g old last (settled_in n detail e)
+ends g old one two last n w detail e by beyond within count some was_one was_two opened set put taken clean =
+    let begun = state g (record old { in_transaction = true }) in
+    let late = was_one (was_two clean) in
+    record {
+      was_open = opened late;
+      reaches = λ s r.
+          let stood = r.stands (opened late) in
+          let first = set late s stood e in
+          let found = some_found (λ (d : OutEntry). d.number == w) s.outbox (λ none. some (first.1 ∙ none)) in
+          let low = given begun s w found.0 stood found.1 in
+          let it : w ≡ n = same_number low in
+          let next = put (was_two clean) first.0.schema_is in
+          let third = taken clean (all_waiting s) (still_holds begun one two s stood _ _ first.0 next.0) in
+          let rows : one.now.trees evidence_tree ≡ evidence_rows s.outbox = first.0.others.1.1.1.1.1.0 (λ e. omega arith) ∙ stood.entries.evidence in
+          let not_yet = unsettled w e s.outbox found.0 found.1 (ap (λ l. are_fresh l (evidence_row w e ∷ [])) (sym rows) ∙ next.1) in
+          let stands = stands_settled begun one two last s w detail e found.0 by stood found.1 not_yet first.0 next.0 third in
+          subst (λ k. (t : State) × (settled_in k detail e s ≡ Some t) × Stands last.now t) it (change_document s w (settled_as detail e), settled_next s w detail e found.0 found.1 not_yet by, stands);
+    }
+  where
+    same_number : w < end_of_numbers → w ≡ n
+    same_number low = elim (cases_Bool (nat_lt n end_of_numbers)) [
+      | inl small ↦ within (grind (arith, nat_tests, small))
+      | inr large ↦ absurd (let end : w ≡ end_of_numbers = beyond (grind (arith, nat_tests, large)) in omega (arith, low, end))
+    ]

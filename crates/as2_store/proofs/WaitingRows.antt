@@ -1,0 +1,125 @@
+-- Where the row of a receipt that is to be sent goes among what waits.
+use Rattle.std.proofs.Common.{◌≡◌, ℕ, ◌<◌, ◌==◌, List, [], ◌∷◌, ◌++◌, map, Option, option_map, Some, None, IfSome, Bool, true, false, cond, Ok, refl, sym, ap, subst, pos, ◌∙◌, arith, append-nil, append_assoc}
+use Rattle.std.specs.List.{AllByRecursion, filter, cons_option}
+use Rattle.std.proofs.lemmas.List.Elements.{filter_map-append}
+use Rattle.std.proofs.lemmas.Bool.Decides.{nat_tests}
+use Rattle.sqlite.specs.declared.types.Value.TheVariants.{Int}
+use Rattle.sqlite.specs.Order.{Row}
+use Rattle.sqlite.specs.Kind.TheVariants.{Integer}
+use Rattle.sqlite.specs.Cast.{cast}
+use Rattle.sqlite.specs.Values.{bound_value, or_null}
+use Rattle.sqlite.specs.Tree.{put_row}
+use Rattle.sqlite.specs.State.{State as Connected, Executes}
+use Rattle.sqlite_trees.proofs.ListLemmas.{all-append, all_weaker}
+use Rattle.sql_tables.proofs.Writes.{cast_int, cast_null, IsOneRow, inserts_given}
+use Rattle.as2_exchange.specs.State.{State, end_of_numbers}
+use Rattle.as2_exchange.specs.declared.inbox.InEntry.{InEntry}
+use Rattle.as2_exchange.specs.declared.inbox.MdnState.{MdnState}
+use Rattle.as2_exchange.specs.declared.inbox.MdnState.TheVariants.{Unasked, Pending, Sent}
+use Rattle.as2_exchange.specs.declared.attempt.Attempt.{Attempt}
+use Rattle.as2_exchange.specs.declared.attempt.Attempt.TheVariants.{Idle, Running, Last, Used}
+use Rattle.as2_exchange.specs.declared.outbox.OutEntry.{OutEntry}
+use Rattle.as2_rows.specs.Rows.{whole, whole_or_null}
+use Rattle.as2_rows.specs.Waiting.{Waiting, out_kind, in_kind, in_waiting, waiting_in, waiting_out, waiting_shown, to_send, to_answer, to_hear, to_end}
+use Rattle.as2_store.specs.Tables.{store_schema, waiting_table}
+use Rattle.as2_store.proofs.Statements.{waiting_put_text}
+use Rattle.as2_store.specs.Stands.{place, waiting_row, documents_waiting, all_waiting}
+use Rattle.as2_store.specs.Adding.{Noted, with_received}
+use Rattle.as2_store.proofs.NumberedRows.{puts_between}
+use Rattle.as2_store.proofs.Texts.{waiting_put_terms, waiting_put_is, waiting_put_plain}
+
+-- ---- the statement
+
+pub cast_optional : (n : Option ℕ) → cast Integer (whole_or_null n) ≡ whole_or_null n
+cast_optional None = cast_null
+cast_optional (Some n) = cast_int (pos n)
+
+pub bound_optional : (n : Option ℕ) → bound_value (or_null Int (option_map pos n)) ≡ whole_or_null n
+bound_optional None = refl
+bound_optional (Some n) = refl
+
+abbrev pub waiting_params : Waiting → Row
+waiting_params w = whole (place w) ∷ waiting_shown w
+
+one_waiting : (w : Waiting) → IsOneRow waiting_table (waiting_params w) waiting_put_terms 5 (waiting_row w)
+one_waiting w = record { source = waiting_row w; made = refl; cast_is = simp (cast_int, cast_null, cast_optional) }
+
+pub puts_waiting : (old new : Connected) (w : Waiting) (count : ℕ) → old.now.schema ≡ store_schema → Executes waiting_put_text (waiting_params w) old new (Ok count) → Noted old new (Some w)
+puts_waiting old new w count has h =
+    inserts_given waiting_put_text (waiting_params w) old new store_schema has 6 waiting_table refl refl waiting_put_terms 5 (waiting_row w) (one_waiting w) refl waiting_put_is waiting_put_plain count h
+
+-- ---- kinds and numbers of what waits
+
+abbrev pub IsOf : ℕ → ℕ → Waiting → Type 0
+IsOf kind next w = (w.kind ≡ kind) × (w.number < next)
+
+small_out : (next n : ℕ) (due : Option ℕ) (o : Option ℕ) (rest : List Waiting) → n < next → AllByRecursion (λ w. w.number < next) rest
+    → AllByRecursion (λ w. w.number < next) (cons_option (option_map (λ kind. record { kind = kind; number = n; due = due }) o) rest)
+small_out next n due None rest small all = all
+small_out next n due (Some kind) rest small all = (small, all)
+
+outs_small : (next : ℕ) (ds : List OutEntry) → AllByRecursion (λ n. n < next) (map (λ (d : OutEntry). d.number) ds) → AllByRecursion (λ w. w.number < next) (waiting_out ds)
+outs_small next [] all = tt
+outs_small next (d ∷ ds) all = small_out next d.number d.due (out_kind d.detail d.attempt) (waiting_out ds) all.0 (outs_small next ds all.1)
+
+small_in : (next n : ℕ) (due : Option ℕ) (m : MdnState) (a : Attempt) (rest : List Waiting) → n < next → AllByRecursion (IsOf to_answer next) rest
+    → AllByRecursion (IsOf to_answer next) (cons_option (option_map (λ kind. record { kind = kind; number = n; due = due }) (in_kind m a)) rest)
+small_in next n due Pending Idle rest small all = ((refl, small), all)
+small_in next n due Pending Running rest small all = ((refl, small), all)
+small_in next n due Pending Last rest small all = all
+small_in next n due Pending Used rest small all = all
+small_in next n due Unasked a rest small all = all
+small_in next n due Sent a rest small all = all
+
+pub ins_small : (next : ℕ) (es : List InEntry) → AllByRecursion (λ n. n < next) (map (λ (e : InEntry). e.number) es) → AllByRecursion (IsOf to_answer next) (waiting_in es)
+ins_small next [] all = tt
+ins_small next (e ∷ es) all = small_in next e.number e.due e.mdn e.attempt (waiting_in es) all.0 (ins_small next es all.1)
+
+of_kind : (kind next : ℕ) (ws : List Waiting) → AllByRecursion (λ w. w.number < next) ws → AllByRecursion (IsOf kind next) (filter (λ w. w.kind == kind) ws)
+of_kind kind next [] all = tt
+of_kind kind next (w ∷ ws) all = go (w.kind == kind) refl (of_kind kind next ws all.1)
+  where
+    go : (t : Bool) → (w.kind == kind) ≡ t → AllByRecursion (IsOf kind next) (filter (λ w. w.kind == kind) ws) → AllByRecursion (IsOf kind next) (cond t (w ∷ filter (λ w. w.kind == kind) ws) (filter (λ w. w.kind == kind) ws))
+    go true is rest = ((grind (arith, nat_tests), all.0), rest)
+    go false is rest = rest
+
+pub documents_of : (kind next : ℕ) (ds : List OutEntry) → AllByRecursion (λ n. n < next) (map (λ (d : OutEntry). d.number) ds) → AllByRecursion (IsOf kind next) (documents_waiting kind ds)
+documents_of kind next ds all = of_kind kind next (waiting_out ds) (outs_small next ds all)
+
+-- ---- the rows with one more
+
+abbrev pub noted_rows : Option Waiting → List Row → List Row
+noted_rows None rows = rows
+noted_rows (Some w) rows = put_row (waiting_row w) rows
+
+abbrev pub IsLast : ℕ → Waiting → Type 0
+IsLast n w = (w.kind ≡ to_answer) × (w.number ≡ n)
+
+pub last_of : (m : MdnState) (a : Attempt) (n : ℕ) (due : Option ℕ) → IfSome (option_map (λ kind. record { kind = kind; number = n; due = due }) (in_kind m a)) (IsLast n)
+last_of Pending Idle n due = (refl, refl)
+last_of Pending Running n due = (refl, refl)
+last_of Pending Last n due = tt
+last_of Pending Used n due = tt
+last_of Unasked a n due = tt
+last_of Sent a n due = tt
+
+noted_in : (n : ℕ) (o : Option Waiting) → IfSome o (IsLast n) → n < end_of_numbers → (send answer hear end : List Waiting) → AllByRecursion (IsOf to_send end_of_numbers) send → AllByRecursion (IsOf to_answer n) answer
+    → AllByRecursion (IsOf to_hear end_of_numbers) hear → AllByRecursion (IsOf to_end end_of_numbers) end
+    → noted_rows o (map waiting_row (send ++ (answer ++ (hear ++ end)))) ≡ map waiting_row (send ++ ((answer ++ cons_option o []) ++ (hear ++ end)))
+noted_in n None last small send answer hear end s a h e = ap (λ l. map waiting_row (send ++ (l ++ (hear ++ end)))) (sym (append-nil answer))
+noted_in n (Some w) last small send answer hear end s a h e =
+    let low = all-append (λ q. place q < place w) send answer (all_weaker (IsOf to_send end_of_numbers) (λ q. place q < place w) (λ q is. omega (arith, is.0, is.1, last.0, last.1)) send s)
+    (all_weaker (IsOf to_answer n) (λ q. place q < place w) (λ q is. omega (arith, is.0, is.1, last.0, last.1)) answer a) in
+    let high = all-append (λ q. place w < place q) hear end (all_weaker (IsOf to_hear end_of_numbers) (λ q. place w < place q) (λ q is. omega (arith, is.0, is.1, last.0, last.1)) hear h)
+    (all_weaker (IsOf to_end end_of_numbers) (λ q. place w < place q) (λ q is. omega (arith, is.0, is.1, last.0, last.1)) end e) in
+    ap (λ l. put_row (waiting_row w) (map waiting_row l)) (sym (append_assoc send answer (hear ++ end)))
+    ∙ puts_between waiting_row place (λ _. refl) w (send ++ answer) (hear ++ end) low high
+    ∙ ap (map waiting_row) (append_assoc send answer (w ∷ (hear ++ end)) ∙ ap (λ l. send ++ l) (sym (append_assoc answer (w ∷ []) (hear ++ end))))
+
+pub noted : (s : State) (e : InEntry) → AllByRecursion (λ n. n < s.next_in) (map (λ (x : InEntry). x.number) s.inbox) → AllByRecursion (λ n. n < end_of_numbers) (map (λ (x : OutEntry). x.number) s.outbox)
+    → e.number ≡ s.next_in → e.number < end_of_numbers → noted_rows (in_waiting e) (map waiting_row (all_waiting s)) ≡ map waiting_row (all_waiting (with_received s e))
+noted s e ins outs is small =
+    noted_in e.number (in_waiting e) (last_of e.mdn e.attempt e.number e.due) small (documents_waiting to_send s.outbox) (waiting_in s.inbox) (documents_waiting to_hear s.outbox) (documents_waiting to_end s.outbox)
+    (documents_of to_send end_of_numbers s.outbox outs) (subst (λ n. AllByRecursion (IsOf to_answer n) (waiting_in s.inbox)) (sym is) (ins_small s.next_in s.inbox ins))
+    (documents_of to_hear end_of_numbers s.outbox outs) (documents_of to_end end_of_numbers s.outbox outs)
+    ∙ ap (λ l. map waiting_row (documents_waiting to_send s.outbox ++ (l ++ (documents_waiting to_hear s.outbox ++ documents_waiting to_end s.outbox)))) (sym (filter_map-append in_waiting s.inbox (e ∷ [])))
