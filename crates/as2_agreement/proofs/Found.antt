@@ -15,10 +15,10 @@ use Rattle.as2_agreement.specs.declared.key.Key.{Key}
 use Rattle.as2_agreement.specs.declared.key.Key.TheVariants as key
 use Rattle.as2_agreement.specs.declared.partner.Organization.{Organization}
 use Rattle.as2_agreement.specs.declared.partner.Partner.{Partner}
-use Rattle.as2_agreement.specs.Agreements.{AgreedValues, AreAgreements, Agreed, SaysAgreements, SaysReturnUrl, SayEach, HasEntries, names, wants_return, organizations_limit, partners_limit}
+use Rattle.as2_agreement.specs.Agreements.{AgreedValues, AreAgreements, Agreed, SaysAgreements, SaysReturnUrl, SayEach, HasEntriesAt, names, wants_return, organizations_limit, partners_limit}
 use Rattle.as2_agreement.specs.Partners.{SaysOrganization, SaysPartner, IsPartner}
 use Rattle.as2_agreement.specs.Values.{value_at, HasText, IsAddress}
-use Rattle.as2_agreement.specs.Reading.{Read, ◌>>=◌, present, of_kind, text, address_in, items_len, few, entries, each, domain, return_url_in, organization, organizations, partner, partners, agreements, document_in, reading, OrMemory, GivesOrMemory}
+use Rattle.as2_agreement.specs.Reading.{Read, ◌>>=◌, present, of_kind, text, agreed_address, items_len, few, entries, each, domain, return_url_in, organization, organizations, partner, partners, agreements, document_in, reading, OrMemory, GivesOrMemory}
 use Rattle.as2_agreement.proofs.Each.{each_read, each_again}
 use Rattle.as2_agreement.proofs.Keyed.{bound, guarded, refused, present_ok, of_kind_ok, as_array_ok, str_ok, text_ok, domain_of_ok, domain_of_again, address_ok, address_in_again}
 use Rattle.as2_agreement.proofs.Members.{organization_name, partner_name, IsOrganization, organization_reads, organization_again, partner_reads, partner_again}
@@ -51,7 +51,7 @@ nothing_distinct = tt
 
 -- what is read of the organizations, and what reads them
 pub record AreOrganizations (document : Members) (os : List Organization) : Type 0 where
-  pub says : HasEntries SaysOrganization document key.Organization os
+  pub says : HasEntriesAt SaysOrganization document key.Organization os
   pub good : AllByRecursion IsOrganization os
   pub few : length os ≤ organizations_limit
   pub distinct : IsDistinct bytes_eq (map organization_name os)
@@ -74,7 +74,7 @@ organizations_again document os a =
 
 -- the same of the partners
 pub record ArePartners (document : Members) (os : List Organization) (ps : List Partner) : Type 0 where
-  pub says : HasEntries SaysPartner document key.Partner ps
+  pub says : HasEntriesAt SaysPartner document key.Partner ps
   pub good : AllByRecursion IsPartner ps
   pub few : length ps ≤ partners_limit
   pub distinct : IsDistinct bytes_eq (names os ps)
@@ -127,8 +127,8 @@ return_url_ok None r e =
     let same : None ≡ r = cc in
     rw (← same) (refl, tt)
 return_url_ok (Some d) r e =
-    let (u, read, end) = bound (of_kind key.ReturnUrl (as_str d) >>= address_in key.ReturnUrl) (λ url. Ok (Some url)) r e in
-    let (t, kind, fits) = bound (of_kind key.ReturnUrl (as_str d)) (address_in key.ReturnUrl) u read in
+    let (u, read, end) = bound (of_kind key.ReturnUrl (as_str d) >>= agreed_address key.ReturnUrl) (λ url. Ok (Some url)) r e in
+    let (t, kind, fits) = bound (of_kind key.ReturnUrl (as_str d)) (agreed_address key.ReturnUrl) u read in
     let a = address_ok key.ReturnUrl t u fits in
     let same : Some u ≡ r = cc in
     rw (← same) (ap Some (str_ok key.ReturnUrl d t kind ∙ ap string a.0), a.1)

@@ -21,7 +21,7 @@ use Rattle.as2_agreement.specs.declared.partner.Asked.{Asked}
 use Rattle.as2_agreement.specs.declared.partner.Asked.TheVariants as asked
 use Rattle.as2_agreement.specs.Values.{value_at, HasText, HasNumber, IsAddress, is_address, IsContentType, is_content_type, IsCount}
 use Rattle.as2_agreement.specs.Partners.{asked_word}
-use Rattle.as2_agreement.specs.Reading.{Read, ◌>>=◌, present, of_kind, text, address_in, count_in, count, name_in, free, name, url, asked_named, receipt, digest_named, digest, content_type_in, content_type}
+use Rattle.as2_agreement.specs.Reading.{Read, ◌>>=◌, present, of_kind, text, agreed_address, count_in, count, readable_name, free, agreed_name, url, asked_named, agreed_receipt, digest_named, agreed_digest, content_type_in, content_type}
 use Rattle.as2_agreement.proofs.Decided.{address_found, address_again, content_type_found, content_type_again}
 
 -- ---- steps that met no fault
@@ -141,17 +141,17 @@ domain_of_again d h =
     let short : nat_le (length d) 253 ≡ true = grind (arith, nat_tests) in
     rw (some, short, h.made) refl
 
-pub address_ok : (k : Key) (t u : List ℕ) → address_in k t ≡ Ok u → (t ≡ u) × IsAddress u
+pub address_ok : (k : Key) (t u : List ℕ) → agreed_address k t ≡ Ok u → (t ≡ u) × IsAddress u
 address_ok k t u e =
     let g = guarded (is_address t) _ t u e in
     (g.1, rw (← g.1) (address_found t g.0))
 
-pub address_in_again : (k : Key) (u : List ℕ) → IsAddress u → address_in k u ≡ Ok u
+pub address_in_again : (k : Key) (u : List ℕ) → IsAddress u → agreed_address k u ≡ Ok u
 address_in_again k u h = rw (address_again u h) refl
 
 pub url_ok : (entry : Members) (u : List ℕ) → url entry ≡ Ok u → HasText entry key.Url u × IsAddress u
 url_ok entry u e =
-    let (t, read, fits) = bound (text key.Url entry) (address_in key.Url) u e in
+    let (t, read, fits) = bound (text key.Url entry) (agreed_address key.Url) u e in
     let a = address_ok key.Url t u fits in
     (text_ok key.Url entry t read ∙ ap (λ (x : List ℕ). Some (string x)) a.0, a.1)
 
@@ -183,12 +183,12 @@ asked_named_again asked.NoReceipt = refl
 asked_named_again asked.Sync = refl
 asked_named_again asked.Async = refl
 
-pub receipt_ok : (entry : Members) (a : Asked) → receipt entry ≡ Ok a → HasText entry key.Receipt (asked_word a)
+pub receipt_ok : (entry : Members) (a : Asked) → agreed_receipt entry ≡ Ok a → HasText entry key.Receipt (asked_word a)
 receipt_ok entry a e =
     let (t, read, kind) = bound (text key.Receipt entry) (λ word. of_kind key.Receipt (asked_named word)) a e in
     text_ok key.Receipt entry t read ∙ ap (λ (x : List ℕ). Some (string x)) (asked_named_ok t a (of_kind_ok key.Receipt (asked_named t) a kind))
 
-pub receipt_again : (entry : Members) (a : Asked) → HasText entry key.Receipt (asked_word a) → receipt entry ≡ Ok a
+pub receipt_again : (entry : Members) (a : Asked) → HasText entry key.Receipt (asked_word a) → agreed_receipt entry ≡ Ok a
 receipt_again entry a h = rw h (ap (of_kind key.Receipt) (asked_named_again a))
 
 digest_named_ok : (word : List ℕ) (a : Alg) → digest_named word ≡ Some a → word ≡ alg_name a
@@ -206,12 +206,12 @@ digest_named_again : (a : Alg) → digest_named (alg_name a) ≡ Some a
 digest_named_again alg.Md5 = refl
 digest_named_again alg.Sha1 = refl
 
-pub digest_ok : (entry : Members) (a : Alg) → digest entry ≡ Ok a → HasText entry key.Digest (alg_name a)
+pub digest_ok : (entry : Members) (a : Alg) → agreed_digest entry ≡ Ok a → HasText entry key.Digest (alg_name a)
 digest_ok entry a e =
     let (t, read, kind) = bound (text key.Digest entry) (λ word. of_kind key.Digest (digest_named word)) a e in
     text_ok key.Digest entry t read ∙ ap (λ (x : List ℕ). Some (string x)) (digest_named_ok t a (of_kind_ok key.Digest (digest_named t) a kind))
 
-pub digest_again : (entry : Members) (a : Alg) → HasText entry key.Digest (alg_name a) → digest entry ≡ Ok a
+pub digest_again : (entry : Members) (a : Alg) → HasText entry key.Digest (alg_name a) → agreed_digest entry ≡ Ok a
 digest_again entry a h = rw h (ap (of_kind key.Digest) (digest_named_again a))
 
 -- ---- content types
@@ -227,7 +227,7 @@ content_type_in_again entry c h i = rw (h, content_type_again c i) refl
 
 -- ---- names
 
-name_in_ok : (r : Result (List ℕ) NameFault) (n : List ℕ) → name_in r ≡ Ok n → r ≡ Ok n
+name_in_ok : (r : Result (List ℕ) NameFault) (n : List ℕ) → readable_name r ≡ Ok n → r ≡ Ok n
 name_in_ok (Ok x) n e = cc
 name_in_ok (Err f) n e = absurd cc
 
@@ -254,15 +254,15 @@ plain_again n h =
     let short : nat_lt 128 (length n) ≡ false = grind (arith, nat_tests) in
     rw (some, h.printable, short) refl
 
-pub name_ok : (taken : List (List ℕ)) (entry : Members) (n : List ℕ) → name taken entry ≡ Ok n
+pub name_ok : (taken : List (List ℕ)) (entry : Members) (n : List ℕ) → agreed_name taken entry ≡ Ok n
     → HasText entry key.Name n × IsName n × (list_any (bytes_eq n) taken ≡ false)
 name_ok taken entry n e =
-    let (m, read, is_free) = bound (text key.Name entry >>= (λ t. name_in (plain t))) (free taken) n e in
-    let (t, here, named_) = bound (text key.Name entry) (λ t. name_in (plain t)) m read in
+    let (m, read, is_free) = bound (text key.Name entry >>= (λ t. readable_name (plain t))) (free taken) n e in
+    let (t, here, named_) = bound (text key.Name entry) (λ t. readable_name (plain t)) m read in
     let p = plain_ok t m (name_in_ok (plain t) m named_) in
     let f = refused (list_any (bytes_eq m) taken) _ m n is_free in
     rw (← f.1) (text_ok key.Name entry t here ∙ ap (λ (x : List ℕ). Some (string x)) p.0, p.1, f.0)
 
 pub name_again : (taken : List (List ℕ)) (entry : Members) (n : List ℕ) → HasText entry key.Name n → IsName n → list_any (bytes_eq n) taken ≡ false
-    → name taken entry ≡ Ok n
+    → agreed_name taken entry ≡ Ok n
 name_again taken entry n h i absent = rw (h, plain_again n i, absent) refl

@@ -10,7 +10,7 @@ use Rattle.as2_agreement.specs.declared.partner.Organization.{Organization}
 use Rattle.as2_agreement.specs.declared.partner.Partner.{Partner}
 use Rattle.as2_agreement.specs.Agreements.{names}
 use Rattle.as2_agreement.specs.Partners.{SaysOrganization, SaysPartner, IsPartner, tries_limit, seconds_limit}
-use Rattle.as2_agreement.specs.Reading.{of_kind, name, url, receipt, digest, content_type, count, organization, partner}
+use Rattle.as2_agreement.specs.Reading.{of_kind, agreed_name, url, agreed_receipt, agreed_digest, content_type, count, organization, partner}
 use Rattle.as2_agreement.proofs.Each.{Reads, Again}
 use Rattle.as2_agreement.proofs.Keyed.{same_ok, bound, of_kind_ok, as_table_ok, name_ok, name_again, url_ok, url_again, receipt_ok, receipt_again, digest_ok, digest_again, content_type_ok, content_type_in_again, count_ok, count_again}
 
@@ -30,7 +30,7 @@ names_alone os = append-nil (map organization_name os)
 pub organization_reads : Reads organization SaysOrganization IsOrganization organization_name []
 organization_reads before d o e =
     let (entry, kind, read) = bound (of_kind key.Organization (as_table d)) _ o e in
-    let (n, named, made) = bound (name (names before []) entry) _ o read in
+    let (n, named, made) = bound (agreed_name (names before []) entry) _ o read in
     let h = name_ok (names before []) entry n named in
     subst (λ (o : Organization). ((entry : Members) × (d ≡ table entry) × SaysOrganization entry o) × IsOrganization o × (list_any (bytes_eq o.name) ([] ++ map organization_name before) ≡ false))
     (same_ok (record { name = n }) o made)
@@ -38,17 +38,17 @@ organization_reads before d o e =
 
 pub organization_again : Again organization SaysOrganization IsOrganization organization_name []
 organization_again before entry o says good absent =
-    let named : name (names before []) entry ≡ Ok o.name = name_again (names before []) entry o.name says good (rw (names_alone before) absent) in
+    let named : agreed_name (names before []) entry ≡ Ok o.name = name_again (names before []) entry o.name says good (rw (names_alone before) absent) in
     rw named refl
 
 module _ (os : List Organization) where
   pub partner_reads : Reads (partner os) SaysPartner IsPartner partner_name (map organization_name os)
   partner_reads before d p e =
       let (entry, kind, r0) = bound (of_kind key.Partner (as_table d)) _ p e in
-      let (n, named, r1) = bound (name (names os before) entry) _ p r0 in
+      let (n, named, r1) = bound (agreed_name (names os before) entry) _ p r0 in
       let (u, at_url, r2) = bound (url entry) _ p r1 in
-      let (r, at_receipt, r3) = bound (receipt entry) _ p r2 in
-      let (a, at_digest, r4) = bound (digest entry) _ p r3 in
+      let (r, at_receipt, r3) = bound (agreed_receipt entry) _ p r2 in
+      let (a, at_digest, r4) = bound (agreed_digest entry) _ p r3 in
       let (c, at_type, r5) = bound (content_type entry) _ p r4 in
       let (t, at_tries, r6) = bound (count key.MaxTries tries_limit entry) _ p r5 in
       let (s, at_retry, r7) = bound (count key.RetrySeconds seconds_limit entry) _ p r6 in

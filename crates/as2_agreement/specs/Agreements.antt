@@ -11,7 +11,7 @@ use Rattle.as2_agreement.specs.declared.key.Key.TheVariants as key
 use Rattle.as2_agreement.specs.declared.partner.Organization.{Organization}
 use Rattle.as2_agreement.specs.declared.partner.Partner.{Partner}
 use Rattle.as2_agreement.specs.Values.{value_at, HasText, IsAddress}
-use Rattle.as2_agreement.specs.Partners.{SaysOrganization, SaysPartner, IsPartner, is_async}
+use Rattle.as2_agreement.specs.Partners.{SaysOrganization, SaysPartner, IsPartner, asks_async}
 
 -- the station's domain and address, its own names, and its partners with their terms
 pub record AgreedValues : Type 0 where
@@ -26,7 +26,7 @@ names organizations partners = map (λ o. o.name) organizations ++ map (λ p. p.
 
 -- some partner is asked for receipts that come later
 abbrev pub wants_return : List Partner → Bool
-wants_return partners = list_any (λ p. is_async p.receipt) partners
+wants_return partners = list_any (λ p. asks_async p.receipt) partners
 
 abbrev pub organizations_limit : ℕ
 organizations_limit = 64
@@ -55,8 +55,8 @@ SayEach Says (item d entries) [] = ⊥
 SayEach Says (item d entries) (x ∷ others) = ((entry : Members) × (d ≡ table entry) × Says entry x) × SayEach Says entries others
 
 -- the key holds an array of such entries
-abbrev pub HasEntries : {X : Type 0} → (Members → X → Type 0) → Members → Key → List X → Type 0
-HasEntries Says document key xs = (entries : Items) × (value_at key document ≡ Some (array entries)) × SayEach Says entries xs
+abbrev pub HasEntriesAt : {X : Type 0} → (Members → X → Type 0) → Members → Key → List X → Type 0
+HasEntriesAt Says document key xs = (entries : Items) × (value_at key document ≡ Some (array entries)) × SayEach Says entries xs
 
 -- the address for receipts, which may be absent
 abbrev pub SaysReturnUrl : Members → Option (List ℕ) → Type 0
@@ -66,8 +66,8 @@ SaysReturnUrl document (Some url) = HasText document key.ReturnUrl url
 pub record SaysAgreements (document : Members) (a : AgreedValues) : Type 0 where
   pub domain : HasText document key.Domain a.domain
   pub return_url : SaysReturnUrl document a.return_url
-  pub organizations : HasEntries SaysOrganization document key.Organization a.organizations
-  pub partners : HasEntries SaysPartner document key.Partner a.partners
+  pub organizations : HasEntriesAt SaysOrganization document key.Organization a.organizations
+  pub partners : HasEntriesAt SaysPartner document key.Partner a.partners
 
 -- The text has the agreements: its document says them, and they may be agreed.
 pub record Agreed (text : List ℕ) (a : AgreedValues) : Type 0 where

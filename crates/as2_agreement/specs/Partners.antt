@@ -17,10 +17,10 @@ asked_word Sync = codes "sync"
 asked_word Async = codes "async"
 
 -- receipts come later, by a request of their own
-abbrev pub is_async : Asked → Bool
-is_async NoReceipt = false
-is_async Sync = false
-is_async Async = true
+abbrev pub asks_async : Asked → Bool
+asks_async NoReceipt = false
+asks_async Sync = false
+asks_async Async = true
 
 -- the most tries of a document
 abbrev pub tries_limit : ℕ

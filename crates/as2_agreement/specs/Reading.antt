@@ -46,8 +46,8 @@ of_kind key (Some value) = Ok value
 abbrev pub text : Key → Members → Read (List ℕ)
 text key table = present key (value_at key table) >>= (λ value. of_kind key (as_str value))
 
-abbrev pub address_in : Key → List ℕ → Read (List ℕ)
-address_in key text = if is_address text then Ok text else Err (fault.BadUrl key)
+abbrev pub agreed_address : Key → List ℕ → Read (List ℕ)
+agreed_address key text = if is_address text then Ok text else Err (fault.BadUrl key)
 
 -- a number from 1 to the most
 abbrev pub count_in : Key → ℕ → ℤ → Read ℕ
@@ -59,19 +59,19 @@ count key most table = present key (value_at key table) >>= (λ value. of_kind k
 
 -- ---- an organization, a partner
 
-abbrev pub name_in : Result (List ℕ) NameFault → Read (List ℕ)
-name_in (Ok name) = Ok name
-name_in (Err e) = Err fault.BadName
+abbrev pub readable_name : Result (List ℕ) NameFault → Read (List ℕ)
+readable_name (Ok name) = Ok name
+readable_name (Err e) = Err fault.BadName
 
 -- a name that none before has
 abbrev pub free : List (List ℕ) → List ℕ → Read (List ℕ)
 free taken name = if list_any (bytes_eq name) taken then Err fault.NameTwice else Ok name
 
-abbrev pub name : List (List ℕ) → Members → Read (List ℕ)
-name taken entry = text key.Name entry >>= (λ text. name_in (plain text)) >>= free taken
+abbrev pub agreed_name : List (List ℕ) → Members → Read (List ℕ)
+agreed_name taken entry = text key.Name entry >>= (λ text. readable_name (plain text)) >>= free taken
 
 abbrev pub url : Members → Read (List ℕ)
-url entry = text key.Url entry >>= address_in key.Url
+url entry = text key.Url entry >>= agreed_address key.Url
 
 abbrev pub asked_named : List ℕ → Option Asked
 asked_named word =
@@ -80,8 +80,8 @@ asked_named word =
     else if bytes_eq word (codes "async") then Some asked.Async
     else None
 
-abbrev pub receipt : Members → Read Asked
-receipt entry = text key.Receipt entry >>= (λ word. of_kind key.Receipt (asked_named word))
+abbrev pub agreed_receipt : Members → Read Asked
+agreed_receipt entry = text key.Receipt entry >>= (λ word. of_kind key.Receipt (asked_named word))
 
 abbrev pub digest_named : List ℕ → Option Alg
 digest_named word =
@@ -89,8 +89,8 @@ digest_named word =
     else if bytes_eq word (codes "md5") then Some alg.Md5
     else None
 
-abbrev pub digest : Members → Read Alg
-digest entry = text key.Digest entry >>= (λ word. of_kind key.Digest (digest_named word))
+abbrev pub agreed_digest : Members → Read Alg
+agreed_digest entry = text key.Digest entry >>= (λ word. of_kind key.Digest (digest_named word))
 
 abbrev pub content_type_in : List ℕ → Read (List ℕ)
 content_type_in text = if is_content_type text then Ok text else Err (fault.WrongKind key.ContentType)
@@ -101,16 +101,16 @@ content_type entry = text key.ContentType entry >>= content_type_in
 abbrev pub organization : List Organization → Data → Read Organization
 organization before value =
     of_kind key.Organization (as_table value) >>= (λ entry.
-    name (names before []) entry >>= (λ name.
+    agreed_name (names before []) entry >>= (λ name.
     Ok (record { name = name })))
 
 abbrev pub partner : List Organization → List Partner → Data → Read Partner
 partner organizations before value =
     of_kind key.Partner (as_table value) >>= (λ entry.
-    name (names organizations before) entry >>= (λ name.
+    agreed_name (names organizations before) entry >>= (λ name.
     url entry >>= (λ url.
-    receipt entry >>= (λ receipt.
-    digest entry >>= (λ digest.
+    agreed_receipt entry >>= (λ receipt.
+    agreed_digest entry >>= (λ digest.
     content_type entry >>= (λ content_type.
     count key.MaxTries tries_limit entry >>= (λ max_tries.
     count key.RetrySeconds seconds_limit entry >>= (λ retry_seconds.
@@ -151,7 +151,7 @@ domain document = text key.Domain document >>= (λ text. of_kind key.Domain (dom
 abbrev pub return_url_in : Option Data → Read (Option (List ℕ))
 return_url_in None = Ok None
 return_url_in (Some value) =
-    of_kind key.ReturnUrl (as_str value) >>= address_in key.ReturnUrl >>= (λ url. Ok (Some url))
+    of_kind key.ReturnUrl (as_str value) >>= agreed_address key.ReturnUrl >>= (λ url. Ok (Some url))
 
 abbrev pub organizations : Members → Read (List Organization)
 organizations document = entries key.Organization organizations_limit document >>= each organization []
@@ -183,9 +183,9 @@ reading text = document_in (parse_document text) >>= agreements
 -- ---- answers
 
 -- that answer, seen so; for a result that holds a reference
-abbrev pub Gives : {A B : Type 0} → (A → B) → Read A → Read B → Type 0
-Gives view (Ok value) answer = answer ≡ Ok (view value)
-Gives view (Err e) answer = answer ≡ Err e
+abbrev pub IsSeenAs : {A B : Type 0} → (A → B) → Read A → Read B → Type 0
+IsSeenAs view (Ok value) answer = answer ≡ Ok (view value)
+IsSeenAs view (Err e) answer = answer ≡ Err e
 
 -- that answer, seen so, but memory may be wanting in its place
 abbrev pub GivesOrMemory : {A B : Type 0} → (A → B) → Read A → Read B → Type 0

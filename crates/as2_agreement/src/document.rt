@@ -2,7 +2,7 @@
 ghost use Rattle.std.specs.Prelude.{◌≡◌, option_map, IfOk, IfSome};
 ghost use Rattle.toml.specs.View.{table_view};
 ghost use Rattle.as2_agreement.specs.Values.{value_at, IsAddress};
-ghost use Rattle.as2_agreement.specs.Reading.{Gives, GivesOrMemory, domain, return_url_in};
+ghost use Rattle.as2_agreement.specs.Reading.{IsSeenAs, GivesOrMemory, domain, return_url_in};
 ghost use Rattle.as2_agreement.specs.declared.key.Key.TheVariants.{ReturnUrl};
 
 use crate::fault::AgreementFault;

@@ -6,7 +6,7 @@ ghost use Rattle.toml.specs.View.{table_view};
 ghost use Rattle.as2_agreement.specs.Values.{IsAddress, IsContentType, is_address, is_content_type, is_document_type};
 ghost use Rattle.as2_media.specs.MediaTypes.{reading};
 ghost use Rattle.as2_agreement.specs.Agreements.{names};
-ghost use Rattle.as2_agreement.specs.Reading.{Gives, name, name_in, free, asked_named, digest_named, address_in, url, receipt, digest, content_type, content_type_in};
+ghost use Rattle.as2_agreement.specs.Reading.{IsSeenAs, agreed_name, readable_name, free, asked_named, digest_named, agreed_address, url, agreed_receipt, agreed_digest, content_type, content_type_in};
 
 use crate::fault::AgreementFault;
 use crate::key::Key;
@@ -43,7 +43,7 @@ pub(crate) fn name_at(
     organizations: &[Organization],
     partners: &[Partner],
 ) -> Result<AsName, AgreementFault>
-    ensures { result ≡ name (names organizations.now partners.now) (table_view entry.now) }
+    ensures { result ≡ agreed_name (names organizations.now partners.now) (table_view entry.now) }
 {
     let text = text_at(entry, Key::Name)?;
     match AsName::plain(text.as_bytes()) {
@@ -67,7 +67,7 @@ fn is_address(text: &[u8]) -> bool
 
 /// The text, where it is an address.
 pub(crate) fn address_in(key: Key, text: &str) -> Result<&str, AgreementFault>
-    ensures gives { Gives (λ s. s.now) result (address_in key text.now) }
+    ensures gives { IsSeenAs (λ s. s.now) result (agreed_address key text.now) }
     ensures address { IfOk result (λ s. IsAddress s.now) }
 {
     if is_address(text.as_bytes()) {
@@ -79,7 +79,7 @@ pub(crate) fn address_in(key: Key, text: &str) -> Result<&str, AgreementFault>
 
 /// The address of a partner.
 pub(crate) fn url_at(entry: &Table) -> Result<&str, AgreementFault>
-    ensures gives { Gives (λ s. s.now) result (url (table_view entry.now)) }
+    ensures gives { IsSeenAs (λ s. s.now) result (url (table_view entry.now)) }
     ensures address { IfOk result (λ s. IsAddress s.now) }
 {
     address_in(Key::Url, text_at(entry, Key::Url)?)
@@ -98,7 +98,7 @@ fn asked_named(word: &str) -> Option<Asked>
 
 /// How a partner is asked for receipts.
 pub(crate) fn receipt_at(entry: &Table) -> Result<Asked, AgreementFault>
-    ensures { result ≡ receipt (table_view entry.now) }
+    ensures { result ≡ agreed_receipt (table_view entry.now) }
 {
     match asked_named(text_at(entry, Key::Receipt)?) {
         Some(asked) => Ok(asked),
@@ -118,7 +118,7 @@ fn digest_named(word: &str) -> Option<Alg>
 
 /// The digest that a partner is asked for.
 pub(crate) fn digest_at(entry: &Table) -> Result<Alg, AgreementFault>
-    ensures { result ≡ digest (table_view entry.now) }
+    ensures { result ≡ agreed_digest (table_view entry.now) }
 {
     match digest_named(text_at(entry, Key::Digest)?) {
         Some(alg) => Ok(alg),
@@ -145,7 +145,7 @@ fn is_content_type(text: &[u8]) -> bool
 
 /// The content type of documents for a partner.
 pub(crate) fn content_type_at(entry: &Table) -> Result<&str, AgreementFault>
-    ensures gives { Gives (λ s. s.now) result (content_type (table_view entry.now)) }
+    ensures gives { IsSeenAs (λ s. s.now) result (content_type (table_view entry.now)) }
     ensures content_type { IfOk result (λ s. IsContentType s.now) }
 {
     let text = text_at(entry, Key::ContentType)?;

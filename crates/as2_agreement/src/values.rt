@@ -3,7 +3,7 @@ ghost use Rattle.std.specs.Prelude.{◌≡◌, option_map};
 ghost use Rattle.toml.specs.Data.{as_table};
 ghost use Rattle.toml.specs.View.{view, table_view, items_view};
 ghost use Rattle.as2_agreement.specs.Values.{value_at};
-ghost use Rattle.as2_agreement.specs.Reading.{Gives, present, of_kind, text, count, count_in, entries, few};
+ghost use Rattle.as2_agreement.specs.Reading.{IsSeenAs, present, of_kind, text, count, count_in, entries, few};
 
 use crate::fault::AgreementFault;
 use crate::key::Key;
@@ -18,7 +18,7 @@ pub(crate) fn value_at<'a>(table: &'a Table, key: Key) -> Option<&'a Value>
 
 /// The value at a key that must be there.
 fn present(table: &Table, key: Key) -> Result<&Value, AgreementFault>
-    ensures { Gives (λ v. view v.now) result (present key (value_at key (table_view table.now))) }
+    ensures { IsSeenAs (λ v. view v.now) result (present key (value_at key (table_view table.now))) }
 {
     match value_at(table, key) {
         Some(value) => Ok(value),
@@ -28,7 +28,7 @@ fn present(table: &Table, key: Key) -> Result<&Value, AgreementFault>
 
 /// The text at a key.
 pub(crate) fn text_at(table: &Table, key: Key) -> Result<&str, AgreementFault>
-    ensures { Gives (λ s. s.now) result (text key (table_view table.now)) }
+    ensures { IsSeenAs (λ s. s.now) result (text key (table_view table.now)) }
 {
     match present(table, key)?.as_str() {
         Some(text) => Ok(text),
@@ -58,7 +58,7 @@ pub(crate) fn count_at(table: &Table, key: Key, most: u64) -> Result<u64, Agreem
 
 /// The entries of an array, where there are not too many.
 fn few(entries: &[Value], most: usize) -> Result<&[Value], AgreementFault>
-    ensures { Gives (λ v. items_view v.now) result (few most (items_view entries.now)) }
+    ensures { IsSeenAs (λ v. items_view v.now) result (few most (items_view entries.now)) }
 {
     if entries.len() <= most {
         Ok(entries)
@@ -69,7 +69,7 @@ fn few(entries: &[Value], most: usize) -> Result<&[Value], AgreementFault>
 
 /// The entries of the array at a key, where there are not too many.
 pub(crate) fn entries_at(table: &Table, key: Key, most: usize) -> Result<&[Value], AgreementFault>
-    ensures { Gives (λ v. items_view v.now) result (entries key most (table_view table.now)) }
+    ensures { IsSeenAs (λ v. items_view v.now) result (entries key most (table_view table.now)) }
 {
     match present(table, key)?.as_array() {
         Some(entries) => few(entries, most),
@@ -79,7 +79,7 @@ pub(crate) fn entries_at(table: &Table, key: Key, most: usize) -> Result<&[Value
 
 /// The table that an entry of the array at a key is.
 pub(crate) fn table_of(entry: &Value, key: Key) -> Result<&Table, AgreementFault>
-    ensures { Gives (λ t. table_view t.now) result (of_kind key (as_table (view entry.now))) }
+    ensures { IsSeenAs (λ t. table_view t.now) result (of_kind key (as_table (view entry.now))) }
 {
     match entry.as_table() {
         Some(table) => Ok(table),

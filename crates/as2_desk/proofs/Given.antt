@@ -1,8 +1,8 @@
 -- The words ask for one thing.
 use Rattle.std.proofs.Common.{◌≡◌, ℕ, List, Option, Some, None, refl, sym, ap, subst, ◌∙◌, codes}
 use Rattle.clap.specs.Walk.{Row, Text}
-use Rattle.as2_desk.specs.CommandLine.{command_in, values}
-use Rattle.as2_desk.specs.Options.{Asks, Gives, NumberIs, SecondsAre}
+use Rattle.as2_desk.specs.CommandLine.{command_in, option_values}
+use Rattle.as2_desk.specs.Options.{AsksToRun, Gives, NumberIs, SecondsAre}
 use Rattle.as2_desk.specs.declared.options.Posting.{Posting}
 use Rattle.as2_desk.specs.declared.options.Task.{Task}
 use Rattle.as2_desk.specs.declared.options.Task.TheVariants.{Check, Post}
@@ -22,7 +22,7 @@ two_commands command x y = let same : Some (codes "check") ≡ Some (codes "post
 posting_one : (a b : Posting) → a.first ≡ b.first → a.moment ≡ b.moment → a ≡ b
 posting_one a b x y = ap (λ (n : ℕ). record a { first = n }) x ∙ ap (λ (m : ℕ). record b { moment = m }) y
 
-task_one : (values : List Row) (command : Option Text) (clock : Option ℕ) (a b : Task) → Asks values command clock a → Asks values command clock b → a ≡ b
+task_one : (values : List Row) (command : Option Text) (clock : Option ℕ) (a b : Task) → AsksToRun values command clock a → AsksToRun values command clock b → a ≡ b
 task_one values command clock Check Check x y = refl
 task_one values command clock Check (Post posting) x y = absurd (two_commands command x y.0)
 task_one values command clock (Post posting) Check x y = absurd (two_commands command y x.0)
@@ -37,6 +37,6 @@ path_one o a b x y = cc
 pub given_one : (words : List Text) (clock : Option ℕ) (path other store base : Text) (task later : Task) (P : Text → Text → Task → Type 0)
     → Gives words clock path store task → Gives words clock other base later → P path store task → P other base later
 given_one words clock path other store base task later P x y p =
-    subst (λ (t : Task). P other base t) (task_one (values words) (command_in words) clock task later x.given.asked y.given.asked)
+    subst (λ (t : Task). P other base t) (task_one (option_values words) (command_in words) clock task later x.given.asked y.given.asked)
     (subst (λ (b : Text). P other b task) (path_one _ store base x.given.records y.given.records)
     (subst (λ (t : Text). P t store task) (path_one _ path other x.given.agreements y.given.agreements) p))

@@ -18,7 +18,7 @@ use Rattle.as2_exchange.specs.declared.answer.HttpAnswer.{HttpAnswer}
 use Rattle.as2_exchange.specs.declared.answer.Answer.TheVariants.{Http}
 use Rattle.as2_desk.specs.FirstRequest.{Replies, Refusal, form_of, refusal_form}
 use Rattle.as2_desk.specs.Laws.{OneReply, TellsFault}
-use Rattle.as2_desk.specs.Responses.{RespondsTo, Responds, Takes, Unsaid, answer_of, posted}
+use Rattle.as2_desk.specs.Responses.{RespondsTo, Responds, Takes, Unsaid, answer_of, post_event}
 use Rattle.as2_desk.specs.declared.first_request.Served.TheVariants.{Closed, Truncated, BadFraming, ReadFault, WriteFault, Memory, TooLong}
 use Rattle.as2_desk.specs.declared.response.Response.{Response}
 use Rattle.as2_desk.specs.declared.response.Response.TheVariants.{Answered, Failed, OnlyPost, NoPath}
@@ -38,7 +38,7 @@ steps_once : (came : Option (Answer × State)) (a b : HttpAnswer) (t u : State) 
 steps_once came a b t u x y = let both = some_once (Http a, t) (Http b, u) (sym x ∙ y) in (answers_once a b (ap (λ p. p.0) both), ap (λ p. p.1) both)
 
 takes_once : (A : AgreedValues) (moment : ℕ) (s : State) (r : Request) (x y : Response) (t u : State) → Takes A moment s r x Unsaid t → Takes A moment s r y Unsaid u → IsNoFault x → IsNoFault y → (x ≡ y) × (t ≡ u)
-takes_once A moment s r (Answered a) (Answered b) t u x y _ _ = steps_once (step A s (posted r moment)) a b t u x.0 y.0
+takes_once A moment s r (Answered a) (Answered b) t u x y _ _ = steps_once (step A s (post_event r moment)) a b t u x.0 y.0
 takes_once A moment s r (Answered a) (Failed f) t u x y _ failed = absurd failed
 takes_once A moment s r (Answered a) OnlyPost t u x y _ _ = absurd y
 takes_once A moment s r (Answered a) NoPath t u x y _ _ = absurd y

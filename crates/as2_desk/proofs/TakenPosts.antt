@@ -14,11 +14,11 @@ use Rattle.as2_http.specs.declared.framing.Target.TheVariants.{Station}
 use Rattle.as2_desk.specs.declared.response.Response.{Response}
 use Rattle.as2_station.specs.Steps.{TakesEvent, TakesHead}
 use Rattle.as2_store.specs.Stands.{Rests}
-use Rattle.as2_desk.specs.Responses.{IsSafe, Responds, RespondsTo, Takes, posted}
+use Rattle.as2_desk.specs.Responses.{IsSafe, Responds, RespondsTo, Takes, post_event}
 use Rattle.as2_desk.specs.declared.response.Response.TheVariants.{Answered, Failed}
 
 -- it is answered, and what is left is safe where the store was asked
-pub answered : (A : AgreedValues) (moment : ℕ) (r : Request) (old new : Connected) (a : HttpAnswer) → TakesEvent A (posted r moment) Http old new (Ok a)
+pub answered : (A : AgreedValues) (moment : ℕ) (r : Request) (old new : Connected) (a : HttpAnswer) → TakesEvent A (post_event r moment) Http old new (Ok a)
     → HasCleanDisk new → (s : State) → Rests old s → (t : State) × Rests new t × Takes A moment s r (Answered a) (IsSafe new) t
 answered A moment r old new a taken clean s rests =
     let left = taken.does.answered clean s rests tt in (
@@ -29,7 +29,7 @@ answered A moment r old new a taken clean s rests =
 
 -- the store failed, and its head didn't decide
 pub failed : {H : Type 0} (A : AgreedValues) (moment : ℕ) (r : Request) (old new : Connected) (before after : H) (f : StoreFault)
-    → TakesEvent A (posted r moment) Http old new (Err f) → TakesHead A (posted r moment) (λ (a : HttpAnswer). a) before after (Err f)
+    → TakesEvent A (post_event r moment) Http old new (Err f) → TakesHead A (post_event r moment) (λ (a : HttpAnswer). a) before after (Err f)
     → HasCleanDisk new → (s : State) → Rests old s → (t : State) × Rests new t × Takes A moment s r (Failed f) (IsSafe new) t
 failed A moment r old new before after f taken head clean s rests =
     let fault = taken.does.failed clean s rests tt in (

@@ -13,8 +13,8 @@ abbrev pub option : Text → Rule
 option name = record (new_rule name) { long = Some name; value_names = 1 }
 
 -- an option that must be there
-abbrev pub needed : Text → Rule
-needed name = record (option name) { required = true }
+abbrev pub required_option : Text → Rule
+required_option name = record (option name) { required = true }
 
 -- an option whose value is a number from `low` to `high`
 abbrev pub number : Text → ℕ → ℕ → Rule
@@ -34,7 +34,7 @@ program = on_top (λ s. record s { has_version = true; subcommand_required = tru
     (new_app (codes "as2desk"))
 
 abbrev pub options : App
-options = with_rule (with_rule (with_rule (with_rule program (needed (codes "agreements"))) (needed (codes "store"))) first) moment
+options = with_rule (with_rule (with_rule (with_rule program (required_option (codes "agreements"))) (required_option (codes "store"))) first) moment
 
 -- as2desk OPTIONS check, as2desk OPTIONS post
 abbrev pub command_line : App
@@ -45,8 +45,8 @@ abbrev pub faults : List Text → Kinds
 faults words = fault_of command_line words
 
 -- the values that the words give the options
-abbrev pub values : List Text → List Row
-values words = matches_of command_line words
+abbrev pub option_values : List Text → List Row
+option_values words = matches_of command_line words
 
 -- the command that the words name
 abbrev pub command_in : List Text → Option Text

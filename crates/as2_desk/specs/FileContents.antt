@@ -13,8 +13,8 @@ pub data Content : Type 0 where
   file : List ℕ → Content
 
 -- the bytes are read, or it is told why not; memory may be wanting for the bytes of a file
-abbrev pub Reads : {V : Type 0} → (V → List ℕ) → Content → Result V FileFault → Type 0
-Reads view untold result = ⊤
-Reads view unreadable result = result ≡ Err fault.CannotRead
-Reads view (file bytes) (Ok read) = view read ≡ bytes
-Reads view (file bytes) (Err e) = e ≡ fault.Memory
+abbrev pub ReadsFile : {V : Type 0} → (V → List ℕ) → Content → Result V FileFault → Type 0
+ReadsFile view untold result = ⊤
+ReadsFile view unreadable result = result ≡ Err fault.CannotRead
+ReadsFile view (file bytes) (Ok read) = view read ≡ bytes
+ReadsFile view (file bytes) (Err e) = e ≡ fault.Memory

@@ -4,7 +4,7 @@ use Rattle.std.specs.Str.Parse.{IsNumeral, digits_value, without_leading_plus}
 use Rattle.as2_names.specs.Moments.{last_moment}
 use Rattle.clap.specs.Words.{Row, Text, first_of, one_of}
 use Rattle.as2_exchange.specs.State.{end_of_numbers}
-use Rattle.as2_desk.specs.CommandLine.{command_in, faults, values}
+use Rattle.as2_desk.specs.CommandLine.{command_in, faults, option_values}
 use Rattle.as2_desk.specs.declared.options.Posting.{Posting}
 use Rattle.as2_desk.specs.declared.options.Task.{Task}
 use Rattle.as2_desk.specs.declared.options.Task.TheVariants.{Check, Post}
@@ -42,20 +42,20 @@ abbrev pub first_number : ℕ → Option ℕ
 first_number n = if nat_le 1 n && nat_lt n end_of_numbers then Some n else None
 
 -- what the command and the values ask for; a check needs no moment
-abbrev pub Asks : List Row → Option Text → Option ℕ → Task → Type 0
-Asks values command clock Check = command ≡ Some (codes "check")
-Asks values command clock (Post posting) = (command ≡ Some (codes "post")) × AsksPost values clock posting
+abbrev pub AsksToRun : List Row → Option Text → Option ℕ → Task → Type 0
+AsksToRun values command clock Check = command ≡ Some (codes "check")
+AsksToRun values command clock (Post posting) = (command ≡ Some (codes "post")) × AsksPost values clock posting
 
 -- the paths of the file of agreements and of the store, and what is asked for
 pub record Give (values : List Row) (command : Option Text) (clock : Option ℕ) (path store : Text) (task : Task) : Type 0 where
   pub agreements : first_of (codes "agreements") values ≡ Some path
   pub records : first_of (codes "store") values ≡ Some store
-  pub asked : Asks values command clock task
+  pub asked : AsksToRun values command clock task
 
 -- the same of the words of a command line
 pub record Gives (words : List Text) (clock : Option ℕ) (path store : Text) (task : Task) : Type 0 where
   pub read : faults words ≡ []
-  pub given : Give (values words) (command_in words) clock path store task
+  pub given : Give (option_values words) (command_in words) clock path store task
 
 -- the words ask for nothing
 abbrev pub GivesNone : List Text → Option ℕ → Type 0

@@ -16,12 +16,12 @@ abbrev pub refused_line : List ℕ → List ℕ
 refused_line name = codes "refused: " ++ (name ++ codes "\n")
 
 -- `agreements: NAME`, and the key where there is one
-abbrev pub fault_line : List ℕ → Option Key → List ℕ
-fault_line name None = codes "agreements: " ++ (name ++ codes "\n")
-fault_line name (Some key) = codes "agreements: " ++ (name ++ (codes " " ++ (key_name key ++ codes "\n")))
+abbrev pub fault_name_line : List ℕ → Option Key → List ℕ
+fault_name_line name None = codes "agreements: " ++ (name ++ codes "\n")
+fault_name_line name (Some key) = codes "agreements: " ++ (name ++ (codes " " ++ (key_name key ++ codes "\n")))
 
 abbrev pub agreements_line : AgreementFault → List ℕ
-agreements_line fault = fault_line (fault_name fault) (fault_key fault)
+agreements_line fault = fault_name_line (fault_name fault) (fault_key fault)
 
 abbrev pub store_fault_name : StoreFault → List ℕ
 store_fault_name store_fault.Memory = codes "Memory"
@@ -36,13 +36,13 @@ abbrev pub store_line : StoreFault → List ℕ
 store_line fault = codes "store: " ++ (store_fault_name fault ++ codes "\n")
 
 -- the line of a refusal
-abbrev pub line : Refusal → List ℕ
-line refusal.CannotRead = refused_line (codes "CannotRead")
-line refusal.CannotWrite = refused_line (codes "CannotWrite")
-line refusal.Memory = refused_line (codes "Memory")
-line (refusal.Agreements fault) = agreements_line fault
-line (refusal.Store fault) = store_line fault
-line (refusal.Stream ended) = refused_line (end_name ended)
+abbrev pub error_line : Refusal → List ℕ
+error_line refusal.CannotRead = refused_line (codes "CannotRead")
+error_line refusal.CannotWrite = refused_line (codes "CannotWrite")
+error_line refusal.Memory = refused_line (codes "Memory")
+error_line (refusal.Agreements fault) = agreements_line fault
+error_line (refusal.Store fault) = store_line fault
+error_line (refusal.Stream ended) = refused_line (end_name ended)
 
 -- the exit status that goes with it
 abbrev pub refusal_status : Refusal → ℕ
@@ -52,4 +52,4 @@ refusal_status other = refused
 -- what there is to say of the end of a stream: nothing where it is in good order
 abbrev pub end_line : Served → List ℕ
 end_line end.Closed = codes ""
-end_line ended = line (refusal.Stream ended)
+end_line ended = error_line (refusal.Stream ended)

@@ -28,13 +28,13 @@ use Rattle.as2_desk.specs.declared.response.Response.TheVariants.{Answered, Fail
 -- ---- the answer that a response is
 
 -- the line that tells a fault of the store
-abbrev pub fault_line : StoreFault → TheLine
-fault_line Full = line.StoreFull
-fault_line other = line.StoreFailed
+abbrev pub store_fault_line : StoreFault → TheLine
+store_fault_line Full = line.StoreFull
+store_fault_line other = line.StoreFailed
 
 abbrev pub answer_of : Response → HttpAnswer
 answer_of (Answered answer) = answer
-answer_of (Failed fault) = refusal (fault_line fault)
+answer_of (Failed fault) = refusal (store_fault_line fault)
 answer_of OnlyPost = refusal line.OnlyPost
 answer_of NoPath = refusal line.NoSuchPath
 
@@ -45,8 +45,8 @@ abbrev pub IsPastHead : AgreedValues → Request → Type 0
 IsPastHead A r = (line : TheLine) → reading A r.fields r.body ≡ Refuses line → ¬ (is_of_head line ≡ true)
 
 -- a post at this moment, as an event
-abbrev pub posted : Request → ℕ → Event
-posted r moment = event.Post r.fields r.body moment
+abbrev pub post_event : Request → ℕ → Event
+post_event r moment = event.Post r.fields r.body moment
 
 -- the connection is open, and whatever stops the machine now, what an open finds stands for this state
 pub record IsSafe (c : Connected) (t : State) : Type 0 where
@@ -61,8 +61,8 @@ Unsaid t = ⊤
 -- changes nothing, and never stands in place of what the head decides
 abbrev pub Takes : AgreedValues → ℕ → State → Request → Response → (State → Type 0) → State → Type 0
 Takes A moment s r (Answered answer) Safe t =
-    (step A s (posted r moment) ≡ Some (Http answer, t)) × (asks_store A (posted r moment) ≡ true → Safe t)
-Takes A moment s r (Failed fault) Safe t = MayFail A s (posted r moment) fault × (t ≡ s) × IsPastHead A r
+    (step A s (post_event r moment) ≡ Some (Http answer, t)) × (asks_store A (post_event r moment) ≡ true → Safe t)
+Takes A moment s r (Failed fault) Safe t = MayFail A s (post_event r moment) fault × (t ≡ s) × IsPastHead A r
 Takes A moment s r OnlyPost Safe t = ⊥
 Takes A moment s r NoPath Safe t = ⊥
 

@@ -8,8 +8,8 @@ use Rattle.as2_desk.specs.FileAgreements.{Opened, Opens}
 use Rattle.as2_desk.specs.FileContents.{Content}
 use Rattle.as2_desk.specs.FirstRequest.{Serves}
 use Rattle.as2_desk.specs.Responses.{Unsaid}
-use Rattle.as2_desk.specs.Refusals.{end_line, line, refusal_status}
-use Rattle.as2_desk.specs.Statuses.{done, status_of}
+use Rattle.as2_desk.specs.Refusals.{end_line, error_line, refusal_status}
+use Rattle.as2_desk.specs.Statuses.{done, exit_status}
 use Rattle.as2_desk.specs.Stores.{Kept, stands_for}
 use Rattle.as2_exchange.specs.State.{State}
 use Rattle.as2_exchange.specs.declared.fault.StoreFault.{StoreFault}
@@ -28,7 +28,7 @@ pub record Ends (status : ℕ) (text : List ℕ) (Said : List ℕ → Type 0) (r
 
 -- that is refused: status and line say so
 abbrev pub EndsRefused : Refusal → (List ℕ → Type 0) → Ran → Type 0
-EndsRefused refusal Said ran = Ends (refusal_status refusal) (line refusal) Said ran
+EndsRefused refusal Said ran = Ends (refusal_status refusal) (error_line refusal) Said ran
 
 -- the members were counted on standard output, or that couldn't be written
 abbrev pub Counts : AgreedValues → (List ℕ → Type 0) → (List ℕ → Type 0) → Ran → Type 0
@@ -41,7 +41,7 @@ pub record Posts (agreements : AgreedValues) (moment : ℕ) (known : Option Stat
   pub end : Served
   pub serves : IfSome known (λ s. (input : List ℕ) → before ≡ Some input
       → (t : State) × Serves agreements moment s Unsaid t input after Wrote end)
-  pub told : Ends (status_of end) (end_line end) Said ran
+  pub told : Ends (exit_status end) (end_line end) Said ran
 
 -- no store could be opened, for a fault that may come of any call where it is known what was kept
 pub record Fails (kept : Kept) (first : ℕ) (Said : List ℕ → Type 0) (ran : Ran) : Type 0 where

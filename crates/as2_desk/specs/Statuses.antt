@@ -17,9 +17,9 @@ abbrev pub failed : ℕ
 failed = 3
 
 -- only an end in good order is no refusal
-abbrev pub status_of : Served → ℕ
-status_of end.Closed = done
-status_of _ = refused
+abbrev pub exit_status : Served → ℕ
+exit_status end.Closed = done
+exit_status _ = refused
 
 abbrev pub end_name : Served → List ℕ
 end_name end.Closed = codes "Closed"

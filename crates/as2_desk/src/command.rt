@@ -3,7 +3,7 @@ ghost use Rattle.std.specs.Prelude.{◌≡◌, codes, false, IfOk};
 ghost use Rattle.clap.specs.Simple.{new_shape};
 ghost use Rattle.clap.specs.Words.{app_of, rule_of, shape_of};
 ghost use Rattle.clap.specs.declared.builder.command.Command.TheViews.{out-Command as fields_of};
-ghost use Rattle.as2_desk.specs.CommandLine.{command_line, first, moment, needed, option, program};
+ghost use Rattle.as2_desk.specs.CommandLine.{command_line, first, moment, required_option, option, program};
 
 use as2_exchange::END_OF_NUMBERS;
 use clap::{Arg, Command, value_parser};
@@ -103,7 +103,7 @@ fn option<'a>(alloc: Global, name: &'a str, value: &'a str, help: &'a str) -> Ar
 
 /// An option that must be there.
 fn needed<'a>(alloc: Global, name: &'a str, value: &'a str, help: &'a str) -> Arg<'a>
-    ensures rule { rule_of result ≡ needed name.entry.now }
+    ensures rule { rule_of result ≡ required_option name.entry.now }
     ensures local { result.global ≡ false }
 {
     option(alloc, name, value, help).required(true)

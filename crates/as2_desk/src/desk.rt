@@ -4,11 +4,11 @@ ghost use Rattle.std.specs.Io.KnownBytes.{Appends};
 ghost use Rattle.clap.specs.Walk.{texts};
 ghost use Rattle.clap.specs.Words.{HasKind, app_of, found_of, kind_of, rows_of, subcommand_name_of};
 ghost use Rattle.clap.specs.declared.error.kind.ErrorKind.TheVariants.{OutOfMemory, ValueValidation};
-ghost use Rattle.as2_desk.specs.CommandLine.{AsksForHelp, IsHelp, command_in, command_line, faults, values};
+ghost use Rattle.as2_desk.specs.CommandLine.{AsksForHelp, IsHelp, command_in, command_line, faults, option_values};
 ghost use Rattle.as2_desk.specs.Options.{Gives, GivesNone};
 ghost use Rattle.as2_desk.specs.Refusals.{end_line};
 ghost use Rattle.as2_desk.specs.Runs.{Counts, Ends, Fails, Posts, EndsRefused, Runs, Stopped};
-ghost use Rattle.as2_desk.specs.Statuses.{done, failed, faulty, refused, status_of};
+ghost use Rattle.as2_desk.specs.Statuses.{done, failed, faulty, refused, exit_status};
 ghost use Rattle.as2_desk.specs.Stores.{Holds, Kept, kept_at, stands_for};
 ghost use Rattle.as2_desk.specs.declared.options.Task.{Task as TheTask};
 ghost use Rattle.as2_exchange.specs.declared.fault.StoreFault.{StoreFault as TheFault};
@@ -98,7 +98,7 @@ fn options<'a>(
 fn parse<'a>(command: &mut Command<'a>, words: &'a [&'a str]) -> Result<ArgMatches<'a>, Error>
     requires { app_of command.old ≡ command_line }
     ensures found { IfOk result (λ m. (faults (texts words.entry.now) ≡ [])
-        × (rows_of (found_of m) ≡ values (texts words.entry.now))
+        × (rows_of (found_of m) ≡ option_values (texts words.entry.now))
         × (subcommand_name_of m ≡ command_in (texts words.entry.now))) }
     ensures fault { IfErr result (HasKind (faults (texts words.entry.now))) }
 {
@@ -204,7 +204,7 @@ fn post<S: Alter + Drop, R: Read, W: Write, E: Write>(
 
 /// Tells the end of a stream.
 fn tell_end<E: Write>(end: Served, errors: &mut E) -> Ran
-    ensures { Ends (status_of end) (end_line end) (Appends (E.contents errors.old) (E.contents errors.new)) result }
+    ensures { Ends (exit_status end) (end_line end) (Appends (E.contents errors.old) (E.contents errors.new)) result }
 {
     match end {
         Served::Closed => Ran {

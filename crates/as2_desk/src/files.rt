@@ -1,6 +1,6 @@
 //! Files, as far as the program reads them.
 ghost use Rattle.std.specs.Prelude.{ℕ, List};
-ghost use Rattle.as2_desk.specs.FileContents.{Content, Reads};
+ghost use Rattle.as2_desk.specs.FileContents.{Content, ReadsFile};
 
 use std::alloc::Global;
 
@@ -20,5 +20,5 @@ pub trait ReadFiles {
 
     /// All bytes of the file of that path.
     fn read_file(&self, alloc: Global, path: &str) -> Result<Vec<u8>, FileFault>
-        ensures { Reads (λ bytes. bytes.items) (content self.now path.now) result };
+        ensures { ReadsFile (λ bytes. bytes.items) (content self.now path.now) result };
 }

@@ -3,7 +3,7 @@ ghost use Rattle.std.specs.Prelude.{◌≡◌, ◌<◌, ◌≤◌, ◌^◌, ℕ,
 ghost use Rattle.as2_names.specs.Moments.{last_moment};
 ghost use Rattle.as2_exchange.specs.State.{end_of_numbers};
 ghost use Rattle.clap.specs.Words.{first_of, found_of, one_of, rows_of, subcommand_name_of};
-ghost use Rattle.as2_desk.specs.Options.{Asks, Give, NumberIs, SecondsAre, TellsOption};
+ghost use Rattle.as2_desk.specs.Options.{AsksToRun, Give, NumberIs, SecondsAre, TellsOption};
 ghost use Rattle.as2_desk.specs.declared.options.Task.{Task as TheTask};
 
 use crate::command::{AGREEMENTS, CHECK, FIRST, MOMENT, POST, STORE};
@@ -84,9 +84,9 @@ fn text<'a>(found: &ArgMatches<'a>, option: &str) -> Option<&'a str>
 
 /// What the command and its options ask for.
 fn asked<'a>(found: &ArgMatches<'a>, clock: Option<u64>) -> Result<Task, OptionFault<'a>>
-    ensures given { IfOk result (Asks (rows_of (found_of found.now)) (subcommand_name_of found.now) clock) }
+    ensures given { IfOk result (AsksToRun (rows_of (found_of found.now)) (subcommand_name_of found.now) clock) }
     ensures none { IfErr result (λ _. (task : TheTask)
-        → ¬ Asks (rows_of (found_of found.now)) (subcommand_name_of found.now) clock task) }
+        → ¬ AsksToRun (rows_of (found_of found.now)) (subcommand_name_of found.now) clock task) }
 {
     match found.subcommand_name() {
         Some(name) if name == CHECK => Ok(Task::Check),
@@ -98,9 +98,9 @@ fn asked<'a>(found: &ArgMatches<'a>, clock: Option<u64>) -> Result<Task, OptionF
 /// What the options of a post ask for.
 fn asked_post<'a>(found: &ArgMatches<'a>, clock: Option<u64>) -> Result<Task, OptionFault<'a>>
     requires { subcommand_name_of found.now ≡ Some (codes "post") }
-    ensures given { IfOk result (Asks (rows_of (found_of found.now)) (subcommand_name_of found.now) clock) }
+    ensures given { IfOk result (AsksToRun (rows_of (found_of found.now)) (subcommand_name_of found.now) clock) }
     ensures none { IfErr result (λ _. (task : TheTask)
-        → ¬ Asks (rows_of (found_of found.now)) (subcommand_name_of found.now) clock task) }
+        → ¬ AsksToRun (rows_of (found_of found.now)) (subcommand_name_of found.now) clock task) }
 {
     let first = first(found)?;
     let moment = moment(found, clock)?;

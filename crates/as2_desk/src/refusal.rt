@@ -1,7 +1,7 @@
 //! Why something was refused, in one line on standard error.
 ghost use Rattle.std.specs.Prelude.{◌≡◌, OnOk, true};
 ghost use Rattle.std.specs.Io.KnownBytes.{Appends};
-ghost use Rattle.as2_desk.specs.Refusals.{agreements_line, line, refusal_status, refused_line, store_fault_name, store_line};
+ghost use Rattle.as2_desk.specs.Refusals.{agreements_line, error_line, refusal_status, refused_line, store_fault_name, store_line};
 
 use crate::first_request::Served;
 use crate::status::{FAILED, REFUSED, end_name};
@@ -79,7 +79,7 @@ fn say_store<E: Write>(fault: StoreFault, errors: &mut E) -> io::Result<()>
 
 /// Writes the line of a refusal.
 fn say<E: Write>(refusal: Refusal, errors: &mut E) -> io::Result<()>
-    ensures { OnOk result (Appends (E.contents errors.old) (E.contents errors.new) (line refusal)) }
+    ensures { OnOk result (Appends (E.contents errors.old) (E.contents errors.new) (error_line refusal)) }
 {
     match refusal {
         Refusal::CannotRead => say_refused("CannotRead", errors),
@@ -93,7 +93,7 @@ fn say<E: Write>(refusal: Refusal, errors: &mut E) -> io::Result<()>
 
 /// Says why something was refused, and whether that could be said: where not, there is nobody else to say it to.
 pub(crate) fn is_said<E: Write>(refusal: Refusal, errors: &mut E) -> bool
-    ensures { result ≡ true → Appends (E.contents errors.old) (E.contents errors.new) (line refusal) }
+    ensures { result ≡ true → Appends (E.contents errors.old) (E.contents errors.new) (error_line refusal) }
 {
     say(refusal, errors).is_ok()
 }

@@ -4,7 +4,7 @@ ghost use Rattle.sqlite.specs.Held.{state};
 ghost use Rattle.sqlite.specs.State.{HasCleanDisk};
 ghost use Rattle.as2_exchange.specs.State.{State};
 ghost use Rattle.as2_store.specs.Stands.{Rests};
-ghost use Rattle.as2_desk.specs.Responses.{IsSafe, Responds, answer_of, fault_line};
+ghost use Rattle.as2_desk.specs.Responses.{IsSafe, Responds, answer_of, store_fault_line};
 
 use as2_agreement::Agreements;
 use as2_exchange::{HttpAnswer, Line, StoreFault};
@@ -43,7 +43,7 @@ impl Response {
 
 /// The line that tells a fault of the store.
 fn fault_line(fault: StoreFault) -> Line
-    ensures { result ≡ fault_line fault }
+    ensures { result ≡ store_fault_line fault }
 {
     match fault {
         StoreFault::Full => Line::StoreFull,

@@ -13,7 +13,7 @@ use Rattle.as2_mic.specs.Mic.{mic, encoded}
 use Rattle.as2_mdn.specs.Receipts.{Mic as MicRead, Given}
 use Rattle.as2_exchange.specs.Agreement.{Text, Agreements, Partner, Asked, NoReceipt, Sync, Async, Sha1, Md5}
 use Rattle.as2_exchange.specs.Detail.{Processed}
-use Rattle.as2_exchange.specs.Readings.{Head, Receipt, How, Sync as AtOnce, Async as Later, Processed as WasProcessed, names_of, version_fits, type_of, is_report, report_in, verdict, id_of, ask_of, how_of, outcome_of, encoding_refused, mic_for}
+use Rattle.as2_exchange.specs.Readings.{Head, Receipt, How, Sync as SyncReceipt, Async as AsyncReceipt, Processed as WasProcessed, names_of, version_fits, type_of, is_report, report_in, verdict, id_of, ask_of, how_of, outcome_of, encoding_refused, mic_for}
 use Rattle.as2_exchange.specs.State.{Posted}
 use Rattle.as2_exchange.specs.Posts.{IsDocument, IsReceipt, ReceivedReceipt, reading}
 
@@ -174,27 +174,27 @@ sha1_text = codes "qZk+NkcGgWq6PiVxeFDCbJzQ2J0="
 abbrev pub m1 : Text
 m1 = codes "<m1@x>"
 
-pub p1_posted : reading fixture (post_head (codes "Buyer") m1 []) abc ≡ IsDocument (document_of (codes "Buyer") m1 abc AtOnce sha1_text)
+pub p1_posted : reading fixture (post_head (codes "Buyer") m1 []) abc ≡ IsDocument (document_of (codes "Buyer") m1 abc SyncReceipt sha1_text)
 unfolding post_head reading names_of version_fits type_of is_report id_of ask_of how_of outcome_of encoding_refused mic_for without_blanks between_quotes bare
-p1_posted = ap (λ (text : Text). IsDocument (document_of (codes "Buyer") m1 abc AtOnce text)) sha1_mic
+p1_posted = ap (λ (text : Text). IsDocument (document_of (codes "Buyer") m1 abc SyncReceipt text)) sha1_mic
 
 -- with another content
-pub p1_changed : reading fixture (post_head (codes "Buyer") m1 []) (codes "abd") ≡ IsDocument (document_of (codes "Buyer") m1 (codes "abd") AtOnce (mic Sha1 (codes "abd")))
+pub p1_changed : reading fixture (post_head (codes "Buyer") m1 []) (codes "abd") ≡ IsDocument (document_of (codes "Buyer") m1 (codes "abd") SyncReceipt (mic Sha1 (codes "abd")))
 unfolding post_head reading names_of version_fits type_of is_report id_of ask_of how_of outcome_of encoding_refused mic_for without_blanks between_quotes bare
 p1_changed = refl
 
 -- under another identifier
-pub p2_posted : reading fixture (post_head (codes "Buyer") (codes "<m2@x>") []) abc ≡ IsDocument (document_of (codes "Buyer") (codes "<m2@x>") abc AtOnce sha1_text)
+pub p2_posted : reading fixture (post_head (codes "Buyer") (codes "<m2@x>") []) abc ≡ IsDocument (document_of (codes "Buyer") (codes "<m2@x>") abc SyncReceipt sha1_text)
 unfolding post_head reading names_of version_fits type_of is_report id_of ask_of how_of outcome_of encoding_refused mic_for without_blanks between_quotes bare
-p2_posted = ap (λ (text : Text). IsDocument (document_of (codes "Buyer") (codes "<m2@x>") abc AtOnce text)) sha1_mic
+p2_posted = ap (λ (text : Text). IsDocument (document_of (codes "Buyer") (codes "<m2@x>") abc SyncReceipt text)) sha1_mic
 
 -- the receipt is to come later, to an address
 abbrev pub return_field : Head
 return_field = (codes "receipt-delivery-option", codes "http://127.0.0.1:8082/mdn") ∷ []
 
-pub p1_from_depot : reading fixture (post_head (codes "Depot") m1 return_field) abc ≡ IsDocument (document_of (codes "Depot") m1 abc (Later (codes "http://127.0.0.1:8082/mdn")) sha1_text)
+pub p1_from_depot : reading fixture (post_head (codes "Depot") m1 return_field) abc ≡ IsDocument (document_of (codes "Depot") m1 abc (AsyncReceipt (codes "http://127.0.0.1:8082/mdn")) sha1_text)
 unfolding post_head reading names_of version_fits type_of is_report id_of ask_of how_of outcome_of encoding_refused mic_for without_blanks between_quotes bare
-p1_from_depot = ap (λ (text : Text). IsDocument (document_of (codes "Depot") m1 abc (Later (codes "http://127.0.0.1:8082/mdn")) text)) sha1_mic
+p1_from_depot = ap (λ (text : Text). IsDocument (document_of (codes "Depot") m1 abc (AsyncReceipt (codes "http://127.0.0.1:8082/mdn")) text)) sha1_mic
 
 -- the MIC of no content
 empty_content_md5 : mic Md5 [] ≡ codes "1B2M2Y8AsgTpgAmY7PhCfg=="

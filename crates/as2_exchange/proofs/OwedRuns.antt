@@ -21,7 +21,7 @@ use Rattle.as2_exchange.specs.Step.{post, step, acted_in}
 use Rattle.as2_exchange.specs.Run.{Trace, Run, Answered, Failed, accepted}
 use Rattle.as2_exchange.specs.Invariants.{IsCounter, IsWellFormed}
 use Rattle.as2_exchange.specs.History.{Found, Fact, ATry, AnOutcome, is_job}
-use Rattle.as2_exchange.specs.ReceiptHistory.{ReceiptFact, APost, OfATry, receipt_fact, receipt_fact_of, sent_later, is_delivered, are_used, queued_by, since_queued, receipt_by, receipt_history, receipt_told}
+use Rattle.as2_exchange.specs.ReceiptHistory.{ReceiptFact, APost, OfATry, receipt_fact, receipt_fact_of, sent_later, is_delivered, are_used, queued_by, since_queued, history_by_how, receipt_history, receipt_told}
 use Rattle.as2_exchange.proofs.Decisions.{same_number, number_is, is_some_value, apart_turned}
 use Rattle.as2_exchange.proofs.Finds.{find-map, find_passes, find_none, one_found}
 use Rattle.as2_exchange.proofs.Lists.{fold_last}
@@ -502,7 +502,7 @@ run_receipts A past old ((e, Failed fault) ∷ rest) new keeps run = run_receipt
 
 -- ---- the law
 
-stands_told : (how : How) (p : Partner) (facts : List ReceiptFact) (e : InEntry) → StandsAs how p facts e → receipt_by how p (since_queued p facts) ≡ Some (receipt_told e)
+stands_told : (how : How) (p : Partner) (facts : List ReceiptFact) (e : InEntry) → StandsAs how p facts e → history_by_how how p (since_queued p facts) ≡ Some (receipt_told e)
 stands_told NoReceipt p facts e h = λ i. Some (record { mdn = sym h.0 i; tries = sym h.1 i; attempt = sym h.2 i; due = sym h.3 i })
 stands_told Sync p facts e h = λ i. Some (record { mdn = sym h.0 i; tries = sym h.1 i; attempt = sym h.2 i; due = sym h.3 i })
 stands_told (Async url) p facts e h = ap (option_map (sent_later p)) h.1 ∙ (λ i. Some (record { mdn = sym h.2.state i; tries = sym h.2.count i; attempt = sym h.2.try i; due = sym h.2.wait i }))
@@ -510,5 +510,5 @@ stands_told (Async url) p facts e h = ap (option_map (sent_later p)) h.1 ∙ (λ
 pub receipts_law : (A : Agreements) (first : ℕ) (trace : Trace) (s : State) → IsCounter first → Run A (empty first) trace s → (n : ℕ) (e : InEntry) → received s n ≡ Some e → receipt_history A (accepted trace) n e.posted ≡ Some (receipt_told e)
 receipts_law A first trace s h run n e is =
     let stands = (run_receipts A [] (empty first) trace s (nothing_received A first h) run).each n e is in
-    ap (λ (o : Option Partner). option_and_then (λ (p : Partner). receipt_by e.posted.how p (since_queued p (filter_map (receipt_fact A n e.posted) (accepted trace)))) o) stands.agreed.theirs
+    ap (λ (o : Option Partner). option_and_then (λ (p : Partner). history_by_how e.posted.how p (since_queued p (filter_map (receipt_fact A n e.posted) (accepted trace)))) o) stands.agreed.theirs
     ∙ stands_told e.posted.how stands.partner (filter_map (receipt_fact A n e.posted) (accepted trace)) e stands.stands

@@ -6,12 +6,12 @@ use Rattle.std.specs.List.{AllByRecursion, IsDistinct, find}
 use Rattle.std.proofs.lemmas.Bool.{false≢true}
 use Rattle.std.proofs.lemmas.Option.{same_Some}
 use Rattle.as2_exchange.specs.Agreement.{Text, Agreements, Partner, Asked, NoReceipt, Sync, Async, is_organization, partner_of}
-use Rattle.as2_exchange.specs.Readings.{How, NoReceipt as NoneAsked, Sync as AtOnce, Async as Later, Outcome as WhatBecame, is_processed, named_by}
+use Rattle.as2_exchange.specs.Readings.{How, NoReceipt as NoneAsked, Sync as SyncReceipt, Async as AsyncReceipt, Outcome as WhatBecame, is_processed, named_by}
 use Rattle.as2_exchange.specs.State.{Posted, InEntry, OutEntry, State, end_of_numbers, document, document_named, received, received_as, change_document, change_received, is_begun, is_settled}
 use Rattle.as2_exchange.specs.Events.{Event, Post, Submit, Begin, Outcome, BeginMdn, OutcomeMdn, Tick, Answer, Refused, Submitted, UnknownOrganization, UnknownPartner, TooLarge, TryAnswer, Nothing, Words, NotProcessed, IdUsedBefore, NoSuchMessage}
 use Rattle.as2_exchange.specs.Posts.{ReceivedReceipt, Reading, Refuses, IsReceipt, IsDocument, reading, repeats}
 use Rattle.as2_exchange.specs.Receipts.{receipt_in_answer, is_delivery, bears}
-use Rattle.as2_exchange.specs.Documents.{begun, waits, closed, closed_by, if_for, delivered, failed, submit, new_document, settle, settle_for, settled, tick}
+use Rattle.as2_exchange.specs.Documents.{begun, waits, closed, closed_by, if_for, delivered, failed_try, submit, new_document, settle, settle_for, settled, tick}
 use Rattle.as2_exchange.specs.Lines.{http}
 use Rattle.as2_exchange.specs.OwedReceipts.{mdn_begun, mdn_closed, is_pending, is_shut}
 use Rattle.as2_exchange.specs.Recording.{record_post, recorded, requeued_by_repeat, first_entry, answer_to}
@@ -86,7 +86,7 @@ begun_leaves A m d = agreed_leaves A d.organization d.partner d _
     (test_leaves d (nat_le p.max_tries d.tries) _ _
     (test_leaves d (waits d.detail || is_early m d.due) _ _ (acts d _ refl))))
 
-failed_leaves : (p : Partner) (m : ℕ) (d : OutEntry) → Leaves d (failed p m d)
+failed_leaves : (p : Partner) (m : ℕ) (d : OutEntry) → Leaves d (failed_try p m d)
 failed_leaves p m d = either_acts d (is_last d.attempt) _ _ (acts d _ refl) (acts d _ refl)
 
 delivered_leaves : (a : Asked) (p : Partner) (m : ℕ) (d : OutEntry) → Leaves d (delivered a p m d)
@@ -150,8 +150,8 @@ with_line false became = refl
 
 answered_by : (A : Agreements) (n : ℕ) (p : Posted) (how : How) → p.how ≡ how → is_refusal (answer_to A n p) ≡ false
 unfolding answer_to
-answered_by A n p AtOnce is = rw is refl
-answered_by A n p (Later url) is = rw is refl
+answered_by A n p SyncReceipt is = rw is refl
+answered_by A n p (AsyncReceipt url) is = rw is refl
 answered_by A n p NoneAsked is = rw is (with_line (is_processed p.outcome) p.outcome)
 
 recorded_acts : (A : Agreements) (s : State) (m : ℕ) (p : Posted) (o : Option InEntry) (y : Answer × State) → recorded A s m p o ≡ Some y → is_refusal y.0 ≡ false

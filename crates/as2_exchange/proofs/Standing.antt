@@ -2,7 +2,7 @@
 use Rattle.std.proofs.Common.{◌≡◌, ℕ, Bool, true, false, not, ◌||◌, Option, Some, None, refl, sym, ap, subst}
 use Rattle.std.specs.Prelude.{option_and_then, if◌then◌else◌, nat_le}
 use Rattle.std.proofs.lemmas.Option.{same_Some}
-use Rattle.as2_mdn.specs.Dispositions.{is_processed, has_modifier, has_error}
+use Rattle.as2_mdn.specs.Dispositions.{says_processed, has_modifier, has_error}
 use Rattle.as2_mdn.specs.Verdicts.{differs, is_missing, is_unknown, mic_compared}
 use Rattle.as2_exchange.specs.Agreement.{Text, Agreements, Partner, Asked, NoReceipt, Sync, Async}
 use Rattle.as2_exchange.specs.Detail.{Detail, New, Sending, Awaiting, Retry, Processed, NoReceiptAsked, Warning, NoMic, UnknownMic, NotProcessed, ErrorModifier, MicDiffers, TriesUsed, Overdue, Attempt, Idle, Running, Last, Used}
@@ -11,7 +11,7 @@ use Rattle.as2_exchange.specs.State.{OutEntry, is_settled}
 use Rattle.as2_exchange.specs.Events.{Answer, TryAnswer, Refused, AllSettled, TriesUsedUp, NotDue, NoOpenTry, AlreadySettled}
 use Rattle.as2_exchange.specs.Posts.{ReceivedReceipt}
 use Rattle.as2_exchange.specs.Receipts.{receipt_in_answer, is_delivery}
-use Rattle.as2_exchange.specs.Documents.{settled, passes, passed, passes_into, begun, waits, closed, closed_by, if_for, delivered, failed}
+use Rattle.as2_exchange.specs.Documents.{settled, passes_at, passed, passes_into, begun, waits, closed, closed_by, if_for, delivered, failed_try}
 use Rattle.as2_exchange.specs.Tries.{is_due, is_early, is_idle, is_last}
 use Rattle.as2_exchange.specs.Invariants.{is_by_receipt, IsEntry}
 use Rattle.as2_exchange.proofs.Documents.{settled_names, passed_names, begun_names, closed_names, agreed_either, if_either, changed, changed_names}
@@ -31,7 +31,7 @@ judged_range false false false false false false = refl
 
 pub verdict_range : (r : Receipt) (content : Text) → is_by_receipt (verdict r content) ≡ true
 unfolding verdict
-verdict_range r content = judged_range (not (is_processed r.disposition)) (has_error r.disposition) (differs (mic_compared r.mic content)) (has_modifier r.disposition) (is_missing (mic_compared r.mic content)) (is_unknown (mic_compared r.mic content))
+verdict_range r content = judged_range (not (says_processed r.disposition)) (has_error r.disposition) (differs (mic_compared r.mic content)) (has_modifier r.disposition) (is_missing (mic_compared r.mic content)) (is_unknown (mic_compared r.mic content))
 
 settled_entry : (m : ℕ) (r : ReceivedReceipt) (d : OutEntry) → IsEntry (settled m r d)
 settled_entry m r d = record { evidence = sym (verdict_range r.receipt d.content); at_rest = λ h. (refl, refl) }
@@ -70,7 +70,7 @@ passes_range TriesUsed a y h = absurd (cc)
 passes_range Overdue a y h = absurd (cc)
 
 -- a settled document waits for nothing
-passed_settled : (m : ℕ) (d : OutEntry) → d.due ≡ None → passed d (passes m d) ≡ d
+passed_settled : (m : ℕ) (d : OutEntry) → d.due ≡ None → passed d (passes_at m d) ≡ d
 passed_settled m d h = rw h refl
 
 passed_by : (d : OutEntry) (o : Option Detail) → ((y : Detail) → o ≡ Some y → is_by_receipt y ≡ false) → is_settled d ≡ false → IsEntry d → IsEntry (passed d o)
@@ -81,11 +81,11 @@ due_range : (b : Bool) (x : Detail) (a : Attempt) (y : Detail) → (if b then pa
 due_range true x a y h = passes_range x a y h
 due_range false x a y h = absurd (cc)
 
-passed_entry : (m : ℕ) (d : OutEntry) (b : Bool) → is_settled d ≡ b → IsEntry d → IsEntry (passed d (passes m d))
+passed_entry : (m : ℕ) (d : OutEntry) (b : Bool) → is_settled d ≡ b → IsEntry d → IsEntry (passed d (passes_at m d))
 passed_entry m d true is h = subst IsEntry (sym (passed_settled m d (h.at_rest is).1)) h
-passed_entry m d false is h = passed_by d (passes m d) (due_range (is_due m d.due) d.detail d.attempt) is h
+passed_entry m d false is h = passed_by d (passes_at m d) (due_range (is_due m d.due) d.detail d.attempt) is h
 
-pub passed_keeps : (m : ℕ) → KeepsEntries (λ d. passed d (passes m d))
+pub passed_keeps : (m : ℕ) → KeepsEntries (λ d. passed d (passes_at m d))
 passed_keeps m = record { names = passed_names m; entry = λ d h. passed_entry m d (is_settled d) refl h }
 
 -- ---- a try begins
@@ -109,7 +109,7 @@ begun_keeps A m = record { names = begun_names A m; entry = begun_entry A m }
 
 -- ---- a try ends
 
-failed_entry : (p : Partner) (m : ℕ) (d : OutEntry) → is_settled d ≡ false → IsEntry (failed p m d).1
+failed_entry : (p : Partner) (m : ℕ) (d : OutEntry) → is_settled d ≡ false → IsEntry (failed_try p m d).1
 failed_entry p m d none = if_either IsEntry (is_last d.attempt) _ _ (unsettled_entry _ none refl) (unsettled_entry _ none refl)
 
 delivered_entry : (a : Asked) (p : Partner) (m : ℕ) (d : OutEntry) → is_settled d ≡ false → IsEntry (delivered a p m d).1
@@ -119,7 +119,7 @@ delivered_entry Sync p m d none = failed_entry p m d none
 
 closed_by_entry : (p : Partner) (got : TryAnswer) (m : ℕ) (d : OutEntry) (o : Option ReceivedReceipt) → is_settled d ≡ false → IsEntry (closed_by p got m d o).1
 closed_by_entry p got m d (Some r) none = settled_entry m r d
-closed_by_entry p got m d None none = if_either IsEntry (is_delivery got) (delivered p.receipt p m d) (failed p m d) (delivered_entry p.receipt p m d none) (failed_entry p m d none)
+closed_by_entry p got m d None none = if_either IsEntry (is_delivery got) (delivered p.receipt p m d) (failed_try p m d) (delivered_entry p.receipt p m d none) (failed_entry p m d none)
 
 abbrev closed_if : Partner → TryAnswer → ℕ → OutEntry → Option ReceivedReceipt → Bool → Bool → Answer × OutEntry
 closed_if p got m d o b1 b2 = if b1 then (AlreadySettled, d) else if b2 then (Refused NoOpenTry, d) else closed_by p got m d o

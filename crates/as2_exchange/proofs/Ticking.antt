@@ -7,7 +7,7 @@ use Rattle.as2_exchange.specs.Agreement.{Agreements}
 use Rattle.as2_exchange.specs.Detail.{Detail, New, Sending, Awaiting, Retry, Processed, NoReceiptAsked, Warning, NoMic, UnknownMic, NotProcessed, ErrorModifier, MicDiffers, TriesUsed, Overdue, Attempt, Idle, Running, Last, Used}
 use Rattle.as2_exchange.specs.State.{State, OutEntry}
 use Rattle.as2_exchange.specs.Events.{Answer, Ticked, Tick}
-use Rattle.as2_exchange.specs.Documents.{passes, passed, passes_into, tick}
+use Rattle.as2_exchange.specs.Documents.{passes_at, passed, passes_into, tick}
 use Rattle.as2_exchange.specs.Step.{step}
 use Rattle.as2_exchange.specs.Tries.{is_due}
 use Rattle.as2_exchange.specs.Views.{is_given_up, given_up}
@@ -41,19 +41,19 @@ unfolding one_if
 passing_if true d = passing d.detail d.attempt d refl
 passing_if false d = omega arith
 
-counted : (m : ℕ) (ds : List OutEntry) → count_by (λ d. is_given_up d.detail) (map (λ d. passed d (passes m d)) ds) ≡ count_by (λ d. is_given_up d.detail) ds + count_by (λ d. is_some (passes m d)) ds
+counted : (m : ℕ) (ds : List OutEntry) → count_by (λ d. is_given_up d.detail) (map (λ d. passed d (passes_at m d)) ds) ≡ count_by (λ d. is_given_up d.detail) ds + count_by (λ d. is_some (passes_at m d)) ds
 unfolding one_if
 counted m [] = refl
 counted m (d ∷ ds) =
-    let after = sum_by-cons (λ (x : OutEntry). if is_given_up x.detail then 1 else 0) (passed d (passes m d)) (map (λ (x : OutEntry). passed x (passes m x)) ds) in
+    let after = sum_by-cons (λ (x : OutEntry). if is_given_up x.detail then 1 else 0) (passed d (passes_at m d)) (map (λ (x : OutEntry). passed x (passes_at m x)) ds) in
     let before = sum_by-cons (λ (x : OutEntry). if is_given_up x.detail then 1 else 0) d ds in
-    let passing = sum_by-cons (λ (x : OutEntry). if is_some (passes m x) then 1 else 0) d ds in
+    let passing = sum_by-cons (λ (x : OutEntry). if is_some (passes_at m x) then 1 else 0) d ds in
     let one = passing_if (is_due m d.due) d in
     omega (arith, after, before, passing, one, counted m ds)
 
 tick_counted : (m : ℕ) (s : State) → (n : ℕ) × ((tick m s).0 ≡ Ticked n) × (given_up (tick m s).1 ≡ given_up s + n)
 unfolding tick
-tick_counted m s = (count_by (λ d. is_some (passes m d)) s.outbox, refl, counted m s.outbox)
+tick_counted m s = (count_by (λ d. is_some (passes_at m d)) s.outbox, refl, counted m s.outbox)
 
 pub ticked_counts : (A : Agreements) (s t : State) (m : ℕ) (a : Answer) → step A s (Tick m) ≡ Some (a, t) → (n : ℕ) × (a ≡ Ticked n) × (given_up t ≡ given_up s + n)
 ticked_counts A s t m a h = subst (λ (y : Answer × State). (n : ℕ) × (y.0 ≡ Ticked n) × (given_up y.1 ≡ given_up s + n)) (same_Some _ (a, t) h) (tick_counted m s)

@@ -44,8 +44,8 @@ begun A m d =
     )
 
 -- the document after a try that failed
-abbrev pub failed : Partner → ℕ → OutEntry → Answer × OutEntry
-failed p m d =
+abbrev pub failed_try : Partner → ℕ → OutEntry → Answer × OutEntry
+failed_try p m d =
     if is_last d.attempt
     then (TryFailed, record d { attempt = Idle; due = None; detail = TriesUsed })
     else (TryFailed, record d { attempt = Idle; due = Some (m + p.retry_seconds); detail = Retry })
@@ -54,7 +54,7 @@ failed p m d =
 abbrev pub delivered : Asked → Partner → ℕ → OutEntry → Answer × OutEntry
 delivered Async p m d = (Delivered, record d { attempt = Idle; due = Some (m + p.overdue_seconds); detail = Awaiting })
 delivered NoReceipt p m d = (Delivered, record d { attempt = Idle; due = None; detail = NoReceiptAsked })
-delivered Sync p m d = failed p m d
+delivered Sync p m d = failed_try p m d
 
 -- the receipt, where it is for this document
 abbrev pub if_for : OutEntry → ReceivedReceipt → Option ReceivedReceipt
@@ -63,7 +63,7 @@ if_for d r = if bears r d.organization d.partner d.id then Some r else None
 -- the receipt for it that came closes the open try; else the answer does
 abbrev pub closed_by : Partner → TryAnswer → ℕ → OutEntry → Option ReceivedReceipt → Answer × OutEntry
 closed_by p got m d (Some r) = (Settled (verdict r.receipt d.content), settled m r d)
-closed_by p got m d None = if is_delivery got then delivered p.receipt p m d else failed p m d
+closed_by p got m d None = if is_delivery got then delivered p.receipt p m d else failed_try p m d
 
 -- the outcome of a document's try
 unfoldable pub closed : Agreements → TryAnswer → ℕ → OutEntry → Answer × OutEntry
@@ -80,8 +80,8 @@ passes_into Sending Last = Some TriesUsed
 passes_into detail attempt = None
 
 -- and at this moment, where it is due
-abbrev pub passes : ℕ → OutEntry → Option Detail
-passes m d = if is_due m d.due then passes_into d.detail d.attempt else None
+abbrev pub passes_at : ℕ → OutEntry → Option Detail
+passes_at m d = if is_due m d.due then passes_into d.detail d.attempt else None
 
 -- the document as it passes into another detail; the attempt stays, so that a late outcome is still taken
 abbrev pub passed : OutEntry → Option Detail → OutEntry
@@ -90,7 +90,7 @@ passed d (Some detail) = record d { due = None; detail = detail }
 
 -- each document as time goes by, and how many pass into another detail
 unfoldable pub tick : ℕ → State → Answer × State
-tick m s = (Ticked (count_by (λ d. is_some (passes m d)) s.outbox), record s { outbox = map (λ d. passed d (passes m d)) s.outbox })
+tick m s = (Ticked (count_by (λ d. is_some (passes_at m d)) s.outbox), record s { outbox = map (λ d. passed d (passes_at m d)) s.outbox })
 
 -- a receipt that was posted settles its document, if that was begun and nothing has settled it
 abbrev pub settle_for : State → ℕ → ReceivedReceipt → Option OutEntry → Answer × State

@@ -105,11 +105,11 @@ sent_later p since =
     }
 
 -- by how it was asked for: not at all, in the answer to the post, or later
-abbrev pub receipt_by : How → Partner → Option (Found ℕ Fact) → Option ReceiptHistory
-receipt_by NoReceipt p since = Some (at_rest Unasked)
-receipt_by Sync p since = Some (at_rest Sent)
-receipt_by (Async url) p since = option_map (sent_later p) since
+abbrev pub history_by_how : How → Partner → Option (Found ℕ Fact) → Option ReceiptHistory
+history_by_how NoReceipt p since = Some (at_rest Unasked)
+history_by_how Sync p since = Some (at_rest Sent)
+history_by_how (Async url) p since = option_map (sent_later p) since
 
 -- What the answered events say of receipt n, which is for this document.
 abbrev pub receipt_history : Agreements → List Done → ℕ → Posted → Option ReceiptHistory
-receipt_history A done n p = option_and_then (λ partner. receipt_by p.how partner (since_queued partner (filter_map (receipt_fact A n p) done))) (partner_of A p.sender)
+receipt_history A done n p = option_and_then (λ partner. history_by_how p.how partner (since_queued partner (filter_map (receipt_fact A n p) done))) (partner_of A p.sender)

@@ -220,8 +220,8 @@ abbrev pub evidence_text : Option Evidence → Text
 evidence_text None = codes "-"
 evidence_text (Some receipt) = codes "R at " ++ decimal receipt.moment ++ codes ", " ++ decimal (length receipt.body) ++ codes " bytes"
 
-abbrev pub shown : OutEntry → Text
-shown d =
+abbrev pub shown_words : OutEntry → Text
+shown_words d =
     named_line (codes "number") (decimal d.number)
     ++ named_line (codes "state") (state_text (state_of d.detail) ++ codes " " ++ name_of d.detail)
     ++ named_line (codes "tries") (decimal d.tries)
@@ -234,7 +234,7 @@ shown d =
 
 -- the document of this number, if there is one
 abbrev pub show : State → ℕ → Option Text
-show s n = option_map shown (document s n)
+show s n = option_map shown_words (document s n)
 
 -- the content of the received entry of this number, if there is one
 abbrev pub fetch : State → ℕ → Option Text

@@ -26,7 +26,7 @@ pub enum Event {
         head: Head,
         /// Its body.
         body: Pieces,
-        /// When.
+        /// When it came, in seconds since 1970.
         moment: Moment,
     },
     /// A document is handed in for a partner.
@@ -37,14 +37,14 @@ pub enum Event {
         partner: AsName,
         /// Its bytes.
         content: Pieces,
-        /// When.
+        /// When it was handed in, in seconds since 1970.
         moment: Moment,
     },
     /// A try to send a document begins.
     Begin {
         /// The document's number.
         number: u64,
-        /// When.
+        /// When the try begins, in seconds since 1970.
         moment: Moment,
     },
     /// A try to send a document has ended.
@@ -53,14 +53,14 @@ pub enum Event {
         number: u64,
         /// What came of it.
         answer: TryAnswer,
-        /// When.
+        /// When the answer came, or none was waited for any more, in seconds since 1970.
         moment: Moment,
     },
     /// A try to send a receipt begins.
     BeginMdn {
         /// The receipt's number.
         number: u64,
-        /// When.
+        /// When the try begins, in seconds since 1970.
         moment: Moment,
     },
     /// A try to send a receipt has ended.
@@ -69,12 +69,12 @@ pub enum Event {
         number: u64,
         /// What came of it.
         answer: TryAnswer,
-        /// When.
+        /// When the answer came, or none was waited for any more, in seconds since 1970.
         moment: Moment,
     },
     /// Time has come to this moment.
     Tick {
-        /// When.
+        /// The moment, in seconds since 1970.
         moment: Moment,
     },
 }

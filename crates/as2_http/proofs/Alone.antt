@@ -6,7 +6,7 @@ use Rattle.httparse.specs.Grammar.{RequestHead}
 use Rattle.httparse.specs.Spans.{name_and_value}
 use Rattle.httparse.proofs.GrammarLemmas.{request_unique}
 use Rattle.as2_http.specs.HeadText.{HasHeadText, HasNoHeadText}
-use Rattle.as2_http.specs.Requests.{Fields, IsHead, Frames, too_long, no_head, framing, in_head, in_body, appended, method_of, target_of, body_length, is_last, is_head}
+use Rattle.as2_http.specs.Requests.{Fields, IsHead, Frames, too_long, no_head, framing, in_head, in_body, appended, method_of, target_of, body_length, is_last_request, is_head}
 use Rattle.as2_http.specs.Laws.{BeginsWithOne, RefusesInOneWay, NeverRefusesRequests, NeverOpensRequests, NeverOpensRefused}
 use Rattle.as2_http.specs.declared.framing.Method.{Method}
 use Rattle.as2_http.specs.declared.framing.Target.{Target}
@@ -65,7 +65,7 @@ begins_with_one text r q rest other b c =
           (b.method ∙ ap (λ (h : RequestHead). method_of h.method) f.0 ∙ sym c.method)
           (b.target ∙ ap (λ (h : RequestHead). target_of h.target) f.0 ∙ sym c.target)
           f.1 parts.0
-          (b.last ∙ ap (λ (h : RequestHead). is_last h.minor r.fields) f.0 ∙ ap (is_last c.head.minor) f.1 ∙ sym c.last),
+          (b.last ∙ ap (λ (h : RequestHead). is_last_request h.minor r.fields) f.0 ∙ ap (is_last_request c.head.minor) f.1 ∙ sym c.last),
       parts.1,
     )
 

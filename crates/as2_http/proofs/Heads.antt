@@ -3,7 +3,8 @@ use Rattle.std.proofs.Common.{◌≡◌, ◌+◌, ◌-◌, ◌<◌, ◌≤◌, �
 use Rattle.std.specs.List.{list_any, concat, onto_first}
 use Rattle.std.proofs.lemmas.Bool.{cases_Bool, or_parts, eqb-true}
 use Rattle.std.proofs.lemmas.List.{take_all, take-append-drop, length-take, length-drop, drop-append-le}
-use Rattle.as2_http.specs.HeadText.{is_line_byte, unblank, up_to_empty_line, window, HasHeadText, HasNoHeadText, HeadLies}
+use Rattle.as2_media.specs.Bytes.{is_line_byte}
+use Rattle.as2_http.specs.HeadText.{unblank, up_to_empty_line, window, HasHeadText, HasNoHeadText, HeadLies}
 use Rattle.httparse.proofs.RunLemmas.{drop_split, length-slice_range}
 use Rattle.as2_parts.specs.Lines.{lines, is_empty_line}
 use Rattle.as2_parts.specs.Parts.{cut_at_empty_line, part_in}

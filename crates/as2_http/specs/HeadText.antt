@@ -1,13 +1,9 @@
 -- Where the head of a message lies in a text (RFC 9112, section 2.1): behind CR and LF bytes, up to its first empty line.
 use Rattle.std.specs.Prelude.{◌≡◌, ℕ, ◌-◌, ◌<◌, ◌≤◌, Bool, ◌||◌, List, [], ◌∷◌, ◌++◌, length, take, drop, slice_range, if◌then◌else◌, ◌==◌, Option, Some, None}
 use Rattle.std.specs.List.{list_any}
-use Rattle.httparse.specs.Ascii.{line_feed, carriage_return}
+use Rattle.as2_media.specs.Bytes.{is_line_byte}
 use Rattle.as2_parts.specs.Lines.{lines, is_empty_line}
 use Rattle.as2_parts.specs.Parts.{part_in}
-
--- CR or LF
-abbrev pub is_line_byte : ℕ → Bool
-is_line_byte b = b == carriage_return || b == line_feed
 
 -- the text without the CR and LF bytes at its front (RFC 9112, section 2.2)
 abbrev pub unblank : List ℕ → List ℕ

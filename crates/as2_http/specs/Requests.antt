@@ -6,6 +6,7 @@ use Rattle.httparse.specs.Grammar.{RequestHead, ReadsRequest}
 use Rattle.httparse.specs.Spans.{name_and_value}
 use Rattle.as2_names.specs.Heads.{is_field, field_of, values}
 use Rattle.as2_names.specs.Options.{lists}
+pub use Rattle.as2_text.specs.ReceiptRequests.{Fields}
 use Rattle.as2_http.specs.HeadText.{HasHeadText, HasNoHeadText, head_limit}
 use Rattle.as2_http.specs.Framing.{content_length}
 use Rattle.as2_http.specs.declared.framing.Refusal.{Refusal}
@@ -16,10 +17,6 @@ use Rattle.as2_http.specs.declared.framing.Target.{Target}
 use Rattle.as2_http.specs.declared.framing.Target.TheVariants as target
 use Rattle.as2_http.specs.declared.framing.Refused.{Refused}
 use Rattle.as2_http.specs.declared.arrival.Request.{Request}
-
--- the fields of a head, each its name in lower case and its value
-abbrev pub Fields : Type 0
-Fields = List (List ℕ × List ℕ)
 
 -- ---- the head
 
@@ -61,8 +58,8 @@ abbrev pub body_length : Method → Fields → Result ℕ Refusal
 body_length m fields = length_by m (values (codes "transfer-encoding") fields) (values (codes "content-length") fields)
 
 -- no further request is read behind this one: version 1.0, or a Connection field says `close` (RFC 9112, section 9.6)
-abbrev pub is_last : ℕ → Fields → Bool
-is_last minor fields = minor == 0 || list_any (lists (codes "close")) (values (codes "connection") fields)
+abbrev pub is_last_request : ℕ → Fields → Bool
+is_last_request minor fields = minor == 0 || list_any (lists (codes "close")) (values (codes "connection") fields)
 
 -- ---- requests
 
@@ -81,7 +78,7 @@ pub record Begins (text : List ℕ) (r : Request) (rest : List ℕ) : Type 0 whe
   pub follows : after ≡ r.body ++ rest
   pub method : r.method ≡ method_of head.method
   pub target : r.target ≡ target_of head.target
-  pub last : r.last ≡ is_last head.minor r.fields
+  pub last : r.last ≡ is_last_request head.minor r.fields
 
 -- a head that can't be read
 abbrev pub bad_head : Refused

@@ -3,7 +3,7 @@ ghost use Rattle.std.specs.Prelude.{◌≡◌, List, ℕ, length, map, All, IfOk
 ghost use Rattle.std.specs.Prelude.{◌≤◌};
 ghost use Rattle.httparse.specs.Grammar.{RequestHead};
 ghost use Rattle.httparse.specs.Spans.{IsHeaderWithin, header_bytes};
-ghost use Rattle.as2_http.specs.Requests.{Fields, IsHead, appended, method_of, target_of, body_length, is_last};
+ghost use Rattle.as2_http.specs.Requests.{Fields, IsHead, appended, method_of, target_of, body_length, is_last_request};
 ghost use Rattle.as2_http.specs.Reading.{Judges};
 
 use crate::framing::{BODY_LIMIT, Method, Refusal, Target, content_length};
@@ -74,7 +74,7 @@ fn body_length(method: Method, fields: &Head) -> Result<usize, Refusal>
 
 /// No further request is read behind this one.
 fn is_last(minor: u8, fields: &Head) -> bool
-    ensures { result ≡ is_last minor fields.now }
+    ensures { result ≡ is_last_request minor fields.now }
 {
     minor == 0 || fields.lists(b"connection", b"close")
 }

@@ -6,7 +6,7 @@ use Rattle.std.proofs.lemmas.Option.{same_Some}
 use Rattle.as2_mic.specs.declared.field.Compared.{Compared}
 use Rattle.as2_mic.specs.declared.field.Compared.TheVariants.{UnknownAlg, Same, Differs}
 use Rattle.as2_mic.specs.Field.{compared}
-use Rattle.as2_mdn.specs.Dispositions.{modifier_of, is_processed, has_modifier, has_error}
+use Rattle.as2_mdn.specs.Dispositions.{modifier_of, says_processed, has_modifier, has_error}
 use Rattle.as2_mdn.specs.Receipts.{ReceiptRead, Mic, Missing, Unreadable, Given}
 use Rattle.as2_mdn.specs.Verdicts.{mic_compared, differs, is_missing, is_unknown, verdict_of, Confirms}
 use Rattle.as2_mdn.specs.declared.detail.Detail.TheVariants.{Processed, Warning, NoMic, UnknownMic, NotProcessed, ErrorModifier, MicDiffers}
@@ -39,7 +39,7 @@ confirmed receipt content = (there, back)
   where
     there : verdict_of receipt content ≡ Processed → Confirms receipt content
     there h =
-        let lines = no_other_line (is_processed receipt.disposition) (has_error receipt.disposition) (has_modifier receipt.disposition) (mic_compared receipt.mic content) h in
+        let lines = no_other_line (says_processed receipt.disposition) (has_error receipt.disposition) (has_modifier receipt.disposition) (mic_compared receipt.mic content) h in
         let given = given_so receipt.mic content lines.2 in
         record { field = given.0; processed = lines.0; unmodified = nothing_there (modifier_of receipt.disposition) lines.1; given = given.1; same = given.2 }
 

@@ -14,15 +14,15 @@ use Rattle.as2_mic.specs.declared.alg.Alg.TheVariants.{Md5, Sha1}
 use Rattle.as2_mic.specs.Algs.{alg_name}
 use Rattle.as2_mic.specs.Field.{IsMicField}
 use Rattle.as2_mic.specs.Mic.{IsMicText}
-use Rattle.as2_parts.specs.Fields.{FieldText, begins_with_blank, fields, is_name_byte}
+use Rattle.as2_parts.specs.Fields.{FieldText, begins_with_blank, fields, is_field_name_byte}
 use Rattle.as2_parts.proofs.Laws.{HasNoFeed}
 use Rattle.as2_parts.proofs.Folding.{fields_found}
 use Rattle.as2_mdn.specs.Dispositions.{IsDisposition}
-use Rattle.as2_mdn.specs.Laws.{disposition_of, given_mic, HasMicBytes, HasMicText}
+use Rattle.as2_mdn.specs.Laws.{disposition_of, mic_in_report, HasMicBytes, HasMicText}
 use Rattle.as2_mdn.specs.MicBytes.{is_mic_byte, IsOfMicBytes}
 use Rattle.as2_mdn.specs.Outcomes.{outcome_text}
-use Rattle.as2_mdn.specs.ReportReading.{values, IsMic, IsNotification, IsNotificationHead}
-use Rattle.as2_mdn.specs.Reports.{mic_text}
+use Rattle.as2_mdn.specs.ReportReading.{field_values, IsMic, IsNotification, IsNotificationHead}
+use Rattle.as2_mdn.specs.Reports.{mic_with_digest}
 use Rattle.as2_mdn.specs.declared.outcome.Outcome.{Outcome}
 use Rattle.as2_mdn.specs.declared.outcome.Outcome.TheVariants.{DecryptionFailed, DecompressionFailed, AuthenticationFailed, UnsupportedFormat, UnsupportedMicAlgorithms, Processed}
 use Rattle.as2_mdn.specs.declared.report.ReportMic.{ReportMic}
@@ -47,11 +47,11 @@ notification_head = record {
   typed = record {
     text = codes "message/disposition-notification";
     media = record { type_name = codes "message"; subtype = codes "disposition-notification"; parameters = [] };
-    one = ap (values (codes "content-type")) head_fields;
+    one = ap (field_values (codes "content-type")) head_fields;
     is = notification_type;
     notification = refl;
   };
-  unencoded = inl (ap (values (codes "content-transfer-encoding")) head_fields);
+  unencoded = inl (ap (field_values (codes "content-transfer-encoding")) head_fields);
 }
 
 -- ---- the fields of the content
@@ -62,7 +62,7 @@ value_of raw = trimmed (raw ++ 13 ∷ 10 ∷ [])
 
 abbrev mic_fields : Option ReportMic → List FieldText
 mic_fields None = []
-mic_fields (Some mic) = (codes "Received-content-MIC", value_of (32 ∷ mic_text mic)) ∷ []
+mic_fields (Some mic) = (codes "Received-content-MIC", value_of (32 ∷ mic_with_digest mic)) ∷ []
 
 abbrev fields_with : ReportOut → List FieldText → List FieldText
 fields_with out more =
@@ -72,12 +72,12 @@ fields_with out more =
     ∷ (codes "Disposition", value_of (codes " automatic-action/MDN-sent-automatically; " ++ outcome_text out.outcome))
     ∷ more
 
-named : (name raw : List ℕ) → (name ≡ [] → ⊥) → list_all is_name_byte name ≡ true → HasNoFeed (name ++ 58 ∷ raw) → Names name raw
+named : (name raw : List ℕ) → (name ≡ [] → ⊥) → list_all is_field_name_byte name ≡ true → HasNoFeed (name ++ 58 ∷ raw) → Names name raw
 named name raw some bytes whole = record { some = some; named = bytes; whole = whole }
 
 mic_fields_are : (mic : Option ReportMic) → HaveNoFeed (mic_texts mic) → fields (joined (mic_texts mic)) ≡ mic_fields mic
 mic_fields_are None f = refl
-mic_fields_are (Some mic) f = field_line (codes "Received-content-MIC") (32 ∷ mic_text mic) [] (named (codes "Received-content-MIC") (32 ∷ mic_text mic) (λ e. absurd cc) refl f.0) refl
+mic_fields_are (Some mic) f = field_line (codes "Received-content-MIC") (32 ∷ mic_with_digest mic) [] (named (codes "Received-content-MIC") (32 ∷ mic_with_digest mic) (λ e. absurd cc) refl f.0) refl
 
 mic_free : (mic : Option ReportMic) → begins_with_blank (joined (mic_texts mic)) ≡ false
 mic_free None = refl
@@ -138,7 +138,7 @@ text_some (b ∷ rest) some e = absurd cc
 solid_trimmed : (text : List ℕ) → IsSolid text → text ≡ trimmed text
 solid_trimmed text s = sym (padded_trimmed text text (record { front = []; back = []; whole = sym (append-nil text); blank_front = refl; blank_back = refl }) s)
 
-mic_value : (mic : ReportMic) → IsMicText mic.text → IsOfMicBytes mic.text → value_of (32 ∷ mic_text mic) ≡ mic.text ++ (codes ", " ++ alg_name mic.digest)
+mic_value : (mic : ReportMic) → IsMicText mic.text → IsOfMicBytes mic.text → value_of (32 ∷ mic_with_digest mic) ≡ mic.text ++ (codes ", " ++ alg_name mic.digest)
 mic_value mic t b =
     let text = mic.text ++ (codes ", " ++ alg_name mic.digest) in
     ap (λ (x : List ℕ). value_of (32 ∷ x)) (append_assoc mic.text (codes ", ") (alg_name mic.digest))
@@ -155,33 +155,33 @@ mic_is mic t b = record {
   has_digest = name_some mic.digest;
 }
 
-mic_given : (out : ReportOut) (mic : Option ReportMic) → HasMicText mic → HasMicBytes mic → IsMic (values (codes "received-content-mic") (fields_with out (mic_fields mic))) (given_mic mic)
+mic_given : (out : ReportOut) (mic : Option ReportMic) → HasMicText mic → HasMicBytes mic → IsMic (field_values (codes "received-content-mic") (fields_with out (mic_fields mic))) (mic_in_report mic)
 mic_given out None h b = refl
 mic_given out (Some mic) h b =
     inl ((mic.text, alg_name mic.digest), subst (λ (x : List ℕ). IsMicField x (mic.text, alg_name mic.digest)) (sym (mic_value mic h b)) (mic_is mic h b), refl)
 
 -- ---- the content
 
-one_id : (out : ReportOut) (mic : Option ReportMic) → values (codes "original-message-id") (fields_with out (mic_fields mic)) ≡ value_of (32 ∷ out.original_id) ∷ []
+one_id : (out : ReportOut) (mic : Option ReportMic) → field_values (codes "original-message-id") (fields_with out (mic_fields mic)) ≡ value_of (32 ∷ out.original_id) ∷ []
 one_id out None = refl
 one_id out (Some mic) = refl
 
-one_disposition : (out : ReportOut) (mic : Option ReportMic) → values (codes "disposition") (fields_with out (mic_fields mic)) ≡ value_of (codes " automatic-action/MDN-sent-automatically; " ++ outcome_text out.outcome) ∷ []
+one_disposition : (out : ReportOut) (mic : Option ReportMic) → field_values (codes "disposition") (fields_with out (mic_fields mic)) ≡ value_of (codes " automatic-action/MDN-sent-automatically; " ++ outcome_text out.outcome) ∷ []
 one_disposition out None = refl
 one_disposition out (Some mic) = refl
 
 pub notification_content : (out : ReportOut) (mic : Option ReportMic) → IsIdentifier out.original_id → HasMicText mic → HasMicBytes mic → ContentFeedless out mic
-    → IsNotification (joined (field_texts out (mic_texts mic))) (record { original_id = out.original_id; disposition = disposition_of out.outcome; mic = given_mic mic })
+    → IsNotification (joined (field_texts out (mic_texts mic))) (record { original_id = out.original_id; disposition = disposition_of out.outcome; mic = mic_in_report mic })
 notification_content out mic x h b f =
     let content = joined (field_texts out (mic_texts mic)) in
     let are : fields content ≡ fields_with out (mic_fields mic) = fields_are out mic f in
     record {
       content_fields = fields content;
       whole = fields_found content;
-      one_id = ap (values (codes "original-message-id")) are ∙ one_id out mic ∙ ap (λ (id : List ℕ). id ∷ []) (value_trimmed out.original_id (identifier_solid out.original_id x));
+      one_id = ap (field_values (codes "original-message-id")) are ∙ one_id out mic ∙ ap (λ (id : List ℕ). id ∷ []) (value_trimmed out.original_id (identifier_solid out.original_id x));
       is_id = x;
       disposition_text = value_of (codes " automatic-action/MDN-sent-automatically; " ++ outcome_text out.outcome);
-      one_disposition = ap (values (codes "disposition")) are ∙ one_disposition out mic;
+      one_disposition = ap (field_values (codes "disposition")) are ∙ one_disposition out mic;
       is_disposition = disposition_is out.outcome;
-      is_mic = subst (λ (fs : List FieldText). IsMic (values (codes "received-content-mic") fs) (given_mic mic)) (sym are) (mic_given out mic h b);
+      is_mic = subst (λ (fs : List FieldText). IsMic (field_values (codes "received-content-mic") fs) (mic_in_report mic)) (sym are) (mic_given out mic h b);
     }

@@ -12,14 +12,14 @@ use Rattle.as2_parts.proofs.Laws.{HasNoFeed}
 use Rattle.as2_mdn.specs.declared.report.ReportMic.{ReportMic}
 use Rattle.as2_mdn.specs.declared.report.ReportOut.{ReportOut}
 use Rattle.as2_mdn.specs.Outcomes.{outcome_text}
-use Rattle.as2_mdn.specs.Reports.{boundary_text, mic_text, mic_line, report_text}
+use Rattle.as2_mdn.specs.Reports.{boundary_text, mic_with_digest, mic_line, report_text}
 use Rattle.as2_mdn.proofs.Written.{Joint, leaf, both, bytes, same_bytes, crlf, joined, HaveNoFeed, no_feed_append, lines_of_joined, concat_crlf, joined_push, line_end_off, begins_with_hyphen, no_marks}
 
 -- ---- the lines, without their ends
 
 abbrev pub mic_texts : Option ReportMic → List (List ℕ)
 mic_texts None = []
-mic_texts (Some mic) = (codes "Received-content-MIC: " ++ mic_text mic) ∷ []
+mic_texts (Some mic) = (codes "Received-content-MIC: " ++ mic_with_digest mic) ∷ []
 
 abbrev pub field_texts : ReportOut → List (List ℕ) → List (List ℕ)
 field_texts out more =

@@ -6,7 +6,7 @@ use Rattle.std.proofs.lemmas.List.{nil_from_length}
 use Rattle.std.proofs.lemmas.List.Elements.{All-cons, All-append}
 use Rattle.as2_names.specs.Ascii.{slash, semicolon}
 use Rattle.as2_names.specs.Cuts.{IsCutAt, cut_at}
-use Rattle.as2_mdn.specs.Dispositions.{type_of, is_action_mode, is_sending_mode, IsModified, IsUnmodified, IsDisposition, type_and_modifier, with_type, with_mode, with_both, reading}
+use Rattle.as2_mdn.specs.Dispositions.{type_in_disposition, is_action_mode, is_sending_mode, IsModified, IsUnmodified, IsDisposition, type_and_modifier, with_type, with_mode, with_both, reading}
 use Rattle.as2_mdn.specs.declared.disposition.DispositionFault.{DispositionFault}
 use Rattle.as2_mdn.specs.declared.disposition.DispositionFault.TheVariants as fault
 use Rattle.as2_names.proofs.Cuts.{cut_some, cut_none, cut_found}
@@ -22,10 +22,10 @@ typed_again text d t =
       | inr u ↦ rw (cut_none slash text u.whole) (λ i. ((sym u.is_type) i, (sym u.no_modifier) i))
     ]
 
-type_again : (d : List ℕ × List ℕ) → (type_of d ≡ [] → ⊥) → with_type d ≡ Ok d
+type_again : (d : List ℕ × List ℕ) → (type_in_disposition d ≡ [] → ⊥) → with_type d ≡ Ok d
 type_again d some =
-    elim (cases_Bool (length (type_of d) == 0)) [
-      | inl none ↦ absurd (some (nil_from_length (type_of d) (eqb-true (length (type_of d)) 0 none)))
+    elim (cases_Bool (length (type_in_disposition d) == 0)) [
+      | inl none ↦ absurd (some (nil_from_length (type_in_disposition d) (eqb-true (length (type_in_disposition d)) 0 none)))
       | inr other ↦ rw other refl
     ]
 
@@ -50,15 +50,15 @@ typed_found : (text : List ℕ) (cut : Option (List ℕ × List ℕ)) → cut_at
 typed_found text None e = inr (record { whole = found_none slash text e; is_type = refl; no_modifier = refl })
 typed_found text (Some p) e = inl (record { before = p.0; behind = p.1; cut = cut_found slash text p e; is_type = refl; is_modifier = refl })
 
-type_found : (d found : List ℕ × List ℕ) → with_type found ≡ Ok d → (found ≡ d) × (type_of found ≡ [] → ⊥)
+type_found : (d found : List ℕ × List ℕ) → with_type found ≡ Ok d → (found ≡ d) × (type_in_disposition found ≡ [] → ⊥)
 type_found d found h =
-    elim (cases_Bool (length (type_of found) == 0)) [
+    elim (cases_Bool (length (type_in_disposition found) == 0)) [
       | inl none ↦
           let no : Err fault.NoType ≡ Ok d = sym (ap (λ t. cond t (Err fault.NoType) (Ok found)) none) ∙ h in
           absurd cc
       | inr other ↦
           let yes : Ok found ≡ Ok d = sym (ap (λ t. cond t (Err fault.NoType) (Ok found)) other) ∙ h in
-          let some : type_of found ≡ [] → ⊥ = λ e. let zero : (length (type_of found) == 0) ≡ true = ap (λ (x : List ℕ). length x == 0) e in absurd cc in
+          let some : type_in_disposition found ≡ [] → ⊥ = λ e. let zero : (length (type_in_disposition found) == 0) ≡ true = ap (λ (x : List ℕ). length x == 0) e in absurd cc in
           (cc, some)
     ]
 

@@ -37,7 +37,7 @@ use Rattle.as2_mdn.specs.declared.report_reader.Found.TheVariants as found_in
 use Rattle.as2_mdn.specs.declared.report_reader.ReportFault.{ReportFault}
 use Rattle.as2_mdn.specs.declared.report_reader.ReportFault.TheVariants as fault
 use Rattle.as2_mdn.specs.Receipts.{ReceiptRead, Mic, Unreadable, Given}
-use Rattle.as2_mdn.specs.ReportReading.{values, IsTyped, IsUnencoded, IsNotificationHead, IsMic, IsNotification, IsReport, Once, Absent, One, Twice, once, once_in, with_both, mic_cut, mic_field, read_mic, mic_once, once_of, with_disposition, disposed, identified, is_twice, told, content_reading, is_media_of_notification, is_type_of_notification, leaves_content, part_reading, second_reading, body_reading, is_report, reading}
+use Rattle.as2_mdn.specs.ReportReading.{field_values, IsTyped, IsUnencoded, IsNotificationHead, IsMic, IsNotification, IsReport, Once, Absent, One, Twice, once, once_in, mic_with_both, mic_cut, mic_field, read_mic, mic_once, once_of, with_disposition, disposed, identified_receipt, is_twice, told_receipt, content_reading, is_media_of_notification, is_type_of_notification, leaves_content, part_reading, second_reading, body_reading, is_kind_report, reading}
 use Rattle.as2_mdn.proofs.Reading as disposition_laws
 
 -- ---- which way a test went
@@ -76,7 +76,7 @@ mic_again text field f =
     let digest_some : (length (trimmed f.behind) == 0) ≡ false = some_bytes (trimmed f.behind) (λ e. f.has_digest (f.digest ∙ e)) in
     rw (cut_some comma text f.before f.behind f.cut, mic_some, digest_some) (λ i. Some ((sym f.mic) i, (sym f.digest) i))
 
-both_found : (mic digest : List ℕ) (field : List ℕ × List ℕ) → with_both mic digest ≡ Some field → ((length mic == 0) ≡ false) × ((length digest == 0) ≡ false) × ((mic, digest) ≡ field)
+both_found : (mic digest : List ℕ) (field : List ℕ × List ℕ) → mic_with_both mic digest ≡ Some field → ((length mic == 0) ≡ false) × ((length digest == 0) ≡ false) × ((mic, digest) ≡ field)
 both_found mic digest field h =
     elim (cases_Bool (length mic == 0 || length digest == 0)) [
       | inl none ↦
@@ -194,8 +194,8 @@ content_again content receipt n =
 part_again : (part : PartText) (receipt : ReceiptRead) → IsNotificationHead part.0 → IsNotification part.1 receipt → part_reading part ≡ Ok receipt
 part_again part receipt h n =
     let same : fields part.0 ≡ h.head_fields = fields_only part.0 h.head_fields h.whole in
-    let typed : is_type_of_notification (once_in part.0 (codes "content-type")) ≡ true = ap (λ (fs : List FieldText). is_type_of_notification (once (values (codes "content-type") fs))) same ∙ typed_again _ h.typed in
-    let plain : leaves_content (once_in part.0 (codes "content-transfer-encoding")) ≡ true = ap (λ (fs : List FieldText). leaves_content (once (values (codes "content-transfer-encoding") fs))) same ∙ unencoded_again _ h.unencoded in
+    let typed : is_type_of_notification (once_in part.0 (codes "content-type")) ≡ true = ap (λ (fs : List FieldText). is_type_of_notification (once (field_values (codes "content-type") fs))) same ∙ typed_again _ h.typed in
+    let plain : leaves_content (once_in part.0 (codes "content-transfer-encoding")) ≡ true = ap (λ (fs : List FieldText). leaves_content (once (field_values (codes "content-transfer-encoding") fs))) same ∙ unencoded_again _ h.unencoded in
     rw (typed, plain) (content_again part.1 receipt n)
 
 pub again : (media : Media) (body : List ℕ) (receipt : ReceiptRead) → IsReport media body receipt → reading media body ≡ Ok receipt
@@ -230,16 +230,16 @@ says_disposed id Absent mic receipt good h = absurd cc
 says_disposed id (One text) mic receipt good h = says_read id text mic receipt (dispositions.reading text) good refl h
 says_disposed id Twice mic receipt good h = absurd cc
 
-says_identified : (id disposition : Once) (mic : Mic) (receipt : ReceiptRead) → identified mic id disposition ≡ Ok receipt → Says id disposition mic receipt
+says_identified : (id disposition : Once) (mic : Mic) (receipt : ReceiptRead) → identified_receipt mic id disposition ≡ Ok receipt → Says id disposition mic receipt
 says_identified Absent disposition mic receipt h = absurd cc
 says_identified (One id) disposition mic receipt h =
     let w = when (is_identifier id) fault.NoId (disposed id mic disposition) receipt h in
     says_disposed id disposition mic receipt w.0 w.1
 says_identified Twice disposition mic receipt h = absurd cc
 
-says : (id disposition : Once) (mic : Mic) (receipt : ReceiptRead) → told id disposition mic ≡ Ok receipt → Says id disposition mic receipt
+says : (id disposition : Once) (mic : Mic) (receipt : ReceiptRead) → told_receipt id disposition mic ≡ Ok receipt → Says id disposition mic receipt
 says id disposition mic receipt h =
-    says_identified id disposition mic receipt (unless (is_twice id || is_twice disposition) fault.Twice (identified mic id disposition) receipt h).1
+    says_identified id disposition mic receipt (unless (is_twice id || is_twice disposition) fault.Twice (identified_receipt mic id disposition) receipt h).1
 
 content_found : (content : List ℕ) (receipt : ReceiptRead) → content_reading content ≡ Ok receipt → IsNotification content receipt
 content_found content receipt h =
@@ -252,7 +252,7 @@ content_found content receipt h =
       disposition_text = s.text;
       one_disposition = one_value _ s.text s.one_disposition;
       is_disposition = disposition_laws.found_by s.text (Ok receipt.disposition) (sym s.read);
-      is_mic = subst (IsMic (values (codes "received-content-mic") (fields content))) (sym s.mic_is) (mic_told (values (codes "received-content-mic") (fields content)));
+      is_mic = subst (IsMic (field_values (codes "received-content-mic") (fields content))) (sym s.mic_is) (mic_told (field_values (codes "received-content-mic") (fields content)));
     }
 
 record IsToldBy (part : PartText) (receipt : ReceiptRead) : Type 0 where
@@ -275,7 +275,7 @@ part_found part receipt h =
       content = content_found part.1 receipt b.1;
     }
 
-report_by : (k : Kind) → is_report k ≡ true → k ≡ kind.Report
+report_by : (k : Kind) → is_kind_report k ≡ true → k ≡ kind.Report
 report_by kind.Document h = absurd cc
 report_by kind.Enveloped h = absurd cc
 report_by kind.Compressed h = absurd cc
@@ -303,7 +303,7 @@ body_found media body receipt (Some boundary) k e h = two_found media body recei
 
 pub found : (media : Media) (body : List ℕ) (receipt : ReceiptRead) → reading media body ≡ Ok receipt → IsReport media body receipt
 found media body receipt h =
-    let w = when (is_report (kind_of media)) fault.NotReport (body_reading (boundary_of media) body) receipt h in
+    let w = when (is_kind_report (kind_of media)) fault.NotReport (body_reading (boundary_of media) body) receipt h in
     body_found media body receipt (boundary_of media) (report_by (kind_of media) w.0) refl w.1
 
 pub found_by : (media : Media) (body : List ℕ) (r : Result ReceiptRead ReportFault) → r ≡ reading media body → IfOk r (IsReport media body)

@@ -7,7 +7,7 @@ use Rattle.std.proofs.lemmas.List.{reverse-append, reverse-reverse}
 use Rattle.std.proofs.lemmas.List.Elements.{All-nil, All-cons}
 use Rattle.as2_parts.specs.Lines.{lines, without_feed, without_line_end, behind, is_blanks, is_hyphens}
 use Rattle.as2_parts.specs.Parts.{IsMark, HasNoMark}
-use Rattle.as2_parts.specs.Fields.{IsField, begins_with_blank, fields, is_name_byte}
+use Rattle.as2_parts.specs.Fields.{IsField, begins_with_blank, fields, is_field_name_byte}
 use Rattle.as2_parts.proofs.Deciding.{plain_is}
 use Rattle.as2_parts.proofs.Laws.{HasNoFeed, lines_front, fields_front}
 use Rattle.as2_names.specs.Trim.{trimmed}
@@ -106,7 +106,7 @@ no_marks boundary (text ∷ texts) h =
 -- the text is that of a field
 pub record Names (name raw : List ℕ) : Type 0 where
   pub some : name ≡ [] → ⊥
-  pub named : list_all is_name_byte name ≡ true
+  pub named : list_all is_field_name_byte name ≡ true
   pub whole : HasNoFeed (name ++ 58 ∷ raw)
 
 pub field_line : (name raw : List ℕ) (texts : List (List ℕ)) → Names name raw → begins_with_blank (joined texts) ≡ false → fields (joined ((name ++ 58 ∷ raw) ∷ texts)) ≡ (name, trimmed (raw ++ 13 ∷ 10 ∷ [])) ∷ fields (joined texts)

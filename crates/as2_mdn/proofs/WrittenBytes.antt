@@ -12,7 +12,7 @@ use Rattle.as2_names.specs.Ascii.{is_printable}
 use Rattle.as2_names.specs.Blanks.{is_blank, skip_blanks, without_blanks}
 use Rattle.as2_names.specs.Cuts.{Lacks}
 use Rattle.as2_names.specs.Identifiers.{IsIdentifier, value_of}
-use Rattle.as2_names.specs.Names.{IsName, is_special, is_text_byte, escaped, spelling}
+use Rattle.as2_names.specs.Names.{IsName, is_escaped_mark, is_text_byte, escaped, spelling}
 use Rattle.as2_names.proofs.Cuts.{lacks_front}
 use Rattle.as2_names.specs.Trim.{trimmed}
 use Rattle.as2_media.proofs.Padding.{is_margin, IsSolid, Ends, one_ends, more_ends, front_ends, solid, padded_trimmed}
@@ -68,7 +68,7 @@ escaped_no_feed : (name : List ℕ) → list_all is_printable name ≡ true → 
 escaped_no_feed [] h = refl
 escaped_no_feed (b ∷ rest) h =
     let q = and_parts (is_printable b) (list_all is_printable rest) h in
-    elim (cases_Bool (is_special b)) [
+    elim (cases_Bool (is_escaped_mark b)) [
       | inl special ↦ rw (special, other is_printable b 10 refl q.0) (escaped_no_feed rest q.1)
       | inr apart ↦ rw (apart, other is_printable b 10 refl q.0) (escaped_no_feed rest q.1)
     ]

@@ -9,8 +9,8 @@ use Rattle.as2_mdn.specs.declared.disposition.DispositionFault.{DispositionFault
 use Rattle.as2_mdn.specs.declared.disposition.DispositionFault.TheVariants as fault
 
 -- a disposition: its type, and its modifier, which is empty where there is none
-abbrev pub type_of : List ℕ × List ℕ → List ℕ
-type_of disposition = disposition.0
+abbrev pub type_in_disposition : List ℕ × List ℕ → List ℕ
+type_in_disposition disposition = disposition.0
 
 abbrev pub modifier_of : List ℕ × List ℕ → List ℕ
 modifier_of disposition = disposition.1
@@ -28,13 +28,13 @@ pub record IsModified (text : List ℕ) (disposition : List ℕ × List ℕ) : T
   pub before : List ℕ
   pub behind : List ℕ
   pub cut : IsCutAt slash text before behind
-  pub is_type : type_of disposition ≡ trimmed before
+  pub is_type : type_in_disposition disposition ≡ trimmed before
   pub is_modifier : modifier_of disposition ≡ trimmed behind
 
 -- `type` alone, with blanks and line ends around it
 pub record IsUnmodified (text : List ℕ) (disposition : List ℕ × List ℕ) : Type 0 where
   pub whole : Lacks slash text
-  pub is_type : type_of disposition ≡ trimmed text
+  pub is_type : type_in_disposition disposition ≡ trimmed text
   pub no_modifier : modifier_of disposition ≡ []
 
 -- The value has the disposition: an action mode, `/`, a sending mode, `;`, a type that isn't empty, and perhaps `/` and a
@@ -47,7 +47,7 @@ pub record IsDisposition (value : List ℕ) (disposition : List ℕ × List ℕ)
   pub is_action : IsTrue (is_action_mode action)
   pub is_sending : IsTrue (is_sending_mode sending)
   pub is_typed : IsModified typed disposition ⊎ IsUnmodified typed disposition
-  pub has_type : type_of disposition ≢ []
+  pub has_type : type_in_disposition disposition ≢ []
 
 -- the modifier, if there is one
 abbrev pub given_modifier : List ℕ × List ℕ → Option (List ℕ)
@@ -66,8 +66,8 @@ abbrev pub has_error : List ℕ × List ℕ → Bool
 has_error disposition = begins_with (modifier_of disposition) (codes "error") || begins_with (modifier_of disposition) (codes "failure")
 
 -- the type is `processed`
-abbrev pub is_processed : List ℕ × List ℕ → Bool
-is_processed disposition = is_word (type_of disposition) (codes "processed")
+abbrev pub says_processed : List ℕ × List ℕ → Bool
+says_processed disposition = is_word (type_in_disposition disposition) (codes "processed")
 
 -- ---- the first fault
 
@@ -78,7 +78,7 @@ type_and_modifier text (Some p) = (trimmed p.0, trimmed p.1)
 
 -- the disposition, unless its type is empty
 abbrev pub with_type : List ℕ × List ℕ → Result (List ℕ × List ℕ) DispositionFault
-with_type disposition = if length (type_of disposition) == 0 then Err fault.NoType else Ok disposition
+with_type disposition = if length (type_in_disposition disposition) == 0 then Err fault.NoType else Ok disposition
 
 -- a mode that is cut so at its first `/`, and what stands behind the `;`
 abbrev pub with_mode : Option (List ℕ × List ℕ) → List ℕ → Result (List ℕ × List ℕ) DispositionFault

@@ -26,14 +26,14 @@ disposition_of UnsupportedMicAlgorithms = (codes "failed", codes "failure: unsup
 disposition_of Processed = (codes "processed", codes "")
 
 -- the text of the MIC and the name of its digest
-abbrev pub given_mic : Option ReportMic → Mic
-given_mic None = Missing
-given_mic (Some mic) = Given (mic.text, alg_name mic.digest)
+abbrev pub mic_in_report : Option ReportMic → Mic
+mic_in_report None = Missing
+mic_in_report (Some mic) = Given (mic.text, alg_name mic.digest)
 
 -- the receipt that a report is of
 abbrev pub receipt_of : ReportOut → ReceiptRead
 receipt_of out =
-    record { original_id = out.original_id; disposition = disposition_of out.outcome; mic = given_mic out.mic }
+    record { original_id = out.original_id; disposition = disposition_of out.outcome; mic = mic_in_report out.mic }
 
 -- ---- the reports that are written
 

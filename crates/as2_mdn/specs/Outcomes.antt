@@ -5,7 +5,7 @@ use Rattle.as2_media.specs.declared.kind.Kind.{Kind}
 use Rattle.as2_media.specs.declared.kind.Kind.TheVariants.{Enveloped, Compressed, Signed}
 use Rattle.as2_mic.specs.declared.alg.Alg.{Alg}
 use Rattle.as2_mic.specs.declared.alg.Alg.TheVariants.{Sha1}
-use Rattle.as2_mic.specs.Algs.{first_of}
+use Rattle.as2_mic.specs.Algs.{first_known_of}
 use Rattle.as2_mic.specs.Mic.{mic}
 use Rattle.as2_text.specs.ReceiptRequests.{Request}
 use Rattle.as2_mdn.specs.declared.outcome.Outcome.{Outcome}
@@ -25,7 +25,7 @@ outcome_text Processed = codes "processed"
 
 -- a digest is required, and none that is listed is known
 abbrev pub requires_unknown_digest : Request → Bool
-requires_unknown_digest request = request.digests_required && is_none (first_of request.digests)
+requires_unknown_digest request = request.digests_required && is_none (first_known_of request.digests)
 
 -- the outcome of a content that is neither enveloped nor compressed nor signed
 abbrev pub outcome_of_plain : Bool → Request → Outcome
@@ -54,5 +54,5 @@ mic_under digest content = record { digest = digest; text = mic digest content }
 
 -- a processed document has a MIC, under the first digest that is listed and known
 abbrev pub report_mic : Outcome → Request → List ℕ → Option ReportMic
-report_mic Processed request content = Some (mic_under (or_sha1 (first_of request.digests)) content)
+report_mic Processed request content = Some (mic_under (or_sha1 (first_known_of request.digests)) content)
 report_mic outcome request content = None

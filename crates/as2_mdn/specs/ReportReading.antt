@@ -28,8 +28,8 @@ use Rattle.as2_mdn.specs.declared.report_reader.ReportFault.{ReportFault}
 use Rattle.as2_mdn.specs.declared.report_reader.ReportFault.TheVariants as fault
 
 -- the values of the fields of that name, whatever the case of its letters
-abbrev pub values : List ℕ → List FieldText → List (List ℕ)
-values name fields = map (λ (field : FieldText). field.1) (named name fields)
+abbrev pub field_values : List ℕ → List FieldText → List (List ℕ)
+field_values name fields = map (λ (field : FieldText). field.1) (named name fields)
 
 -- ---- the head of the second part
 
@@ -60,8 +60,8 @@ IsUnencoded texts = (texts ≡ []) ⊎ ((encoding : List ℕ) × (texts ≡ enco
 pub record IsNotificationHead (head : List ℕ) : Type 0 where
   pub head_fields : List FieldText
   pub whole : HasFields head head_fields
-  pub typed : IsTyped (values (codes "content-type") head_fields)
-  pub unencoded : IsUnencoded (values (codes "content-transfer-encoding") head_fields)
+  pub typed : IsTyped (field_values (codes "content-type") head_fields)
+  pub unencoded : IsUnencoded (field_values (codes "content-transfer-encoding") head_fields)
 
 -- ---- the content of the second part
 
@@ -77,12 +77,12 @@ IsMic (first ∷ second ∷ others) mic = mic ≡ Unreadable
 pub record IsNotification (content : List ℕ) (receipt : ReceiptRead) : Type 0 where
   pub content_fields : List FieldText
   pub whole : HasFields content content_fields
-  pub one_id : values (codes "original-message-id") content_fields ≡ receipt.original_id ∷ []
+  pub one_id : field_values (codes "original-message-id") content_fields ≡ receipt.original_id ∷ []
   pub is_id : IsIdentifier receipt.original_id
   pub disposition_text : List ℕ
-  pub one_disposition : values (codes "disposition") content_fields ≡ disposition_text ∷ []
+  pub one_disposition : field_values (codes "disposition") content_fields ≡ disposition_text ∷ []
   pub is_disposition : IsDisposition disposition_text receipt.disposition
-  pub is_mic : IsMic (values (codes "received-content-mic") content_fields) receipt.mic
+  pub is_mic : IsMic (field_values (codes "received-content-mic") content_fields) receipt.mic
 
 -- ---- the report
 
@@ -114,7 +114,7 @@ once (first ∷ second ∷ others) = Twice
 
 -- the fields of that name in a text
 abbrev pub once_in : List ℕ → List ℕ → Once
-once_in text name = once (values name (fields text))
+once_in text name = once (field_values name (fields text))
 
 -- what the code hands out
 abbrev pub once_of : Found → Once
@@ -125,13 +125,13 @@ once_of found.Twice = Twice
 -- ---- the first fault
 
 -- a MIC and the name of its digest, neither empty
-abbrev pub with_both : List ℕ → List ℕ → Option (List ℕ × List ℕ)
-with_both mic digest = if length mic == 0 || length digest == 0 then None else Some (mic, digest)
+abbrev pub mic_with_both : List ℕ → List ℕ → Option (List ℕ × List ℕ)
+mic_with_both mic digest = if length mic == 0 || length digest == 0 then None else Some (mic, digest)
 
 -- those of a value that is cut so at its first comma
 abbrev pub mic_cut : Option (List ℕ × List ℕ) → Option (List ℕ × List ℕ)
 mic_cut None = None
-mic_cut (Some cut) = with_both (trimmed cut.0) (trimmed cut.1)
+mic_cut (Some cut) = mic_with_both (trimmed cut.0) (trimmed cut.1)
 
 -- the MIC and the name that a value has, if it has them
 abbrev pub mic_field : List ℕ → Option (List ℕ × List ℕ)
@@ -159,9 +159,9 @@ disposed id mic (One text) = with_disposition id mic (dispositions.reading text)
 disposed id mic other = Err fault.NoDisposition
 
 -- the same of the identifier that a field gives
-abbrev pub identified : Mic → Once → Once → Result ReceiptRead ReportFault
-identified mic (One id) disposition = if is_identifier id then disposed id mic disposition else Err fault.NoId
-identified mic other disposition = Err fault.NoId
+abbrev pub identified_receipt : Mic → Once → Once → Result ReceiptRead ReportFault
+identified_receipt mic (One id) disposition = if is_identifier id then disposed id mic disposition else Err fault.NoId
+identified_receipt mic other disposition = Err fault.NoId
 
 -- there are more values than one
 abbrev pub is_twice : Once → Bool
@@ -169,13 +169,13 @@ is_twice Twice = true
 is_twice other = false
 
 -- the receipt of what the fields give; more than one of either comes before all else
-abbrev pub told : Once → Once → Mic → Result ReceiptRead ReportFault
-told id disposition mic = if is_twice id || is_twice disposition then Err fault.Twice else identified mic id disposition
+abbrev pub told_receipt : Once → Once → Mic → Result ReceiptRead ReportFault
+told_receipt id disposition mic = if is_twice id || is_twice disposition then Err fault.Twice else identified_receipt mic id disposition
 
 -- the receipt that the content of a notification tells
 abbrev pub content_reading : List ℕ → Result ReceiptRead ReportFault
 content_reading content =
-    told (once_in content (codes "original-message-id")) (once_in content (codes "disposition"))
+    told_receipt (once_in content (codes "original-message-id")) (once_in content (codes "disposition"))
     (mic_once (once_in content (codes "received-content-mic")))
 
 -- a media type was read, and is that of a notification
@@ -212,10 +212,10 @@ body_reading None body = Err fault.NotReport
 body_reading (Some boundary) body = second_reading (parts.reading boundary body)
 
 -- a body of that kind is a report
-abbrev pub is_report : Kind → Bool
-is_report kind.Report = true
-is_report other = false
+abbrev pub is_kind_report : Kind → Bool
+is_kind_report kind.Report = true
+is_kind_report other = false
 
 -- the receipt that a body of that media type tells, or its first fault
 abbrev pub reading : Media → List ℕ → Result ReceiptRead ReportFault
-reading media body = if is_report (kind_of media) then body_reading (boundary_of media) body else Err fault.NotReport
+reading media body = if is_kind_report (kind_of media) then body_reading (boundary_of media) body else Err fault.NotReport

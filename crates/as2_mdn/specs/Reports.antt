@@ -9,8 +9,8 @@ use Rattle.as2_mdn.specs.declared.report.ReportMic.{ReportMic}
 use Rattle.as2_mdn.specs.declared.outcome.Outcome.{Outcome}
 
 -- a line: its start, its value and CRLF
-abbrev pub line : List ℕ → List ℕ → List ℕ
-line start value = start ++ value ++ codes "\r\n"
+abbrev pub report_line : List ℕ → List ℕ → List ℕ
+report_line start value = start ++ value ++ codes "\r\n"
 
 -- ---- what is made of the number
 
@@ -35,26 +35,26 @@ explanation_text number outcome =
     codes "Content-Type: text/plain\r\n"
     ++ codes "\r\n"
     ++ codes "Receipt " ++ decimal number ++ codes " for the message named below.\r\n"
-    ++ line (codes "Outcome: ") (outcome_text outcome)
+    ++ report_line (codes "Outcome: ") (outcome_text outcome)
 
 -- a MIC and the name of its digest
-abbrev pub mic_text : ReportMic → List ℕ
-mic_text mic = mic.text ++ codes ", " ++ alg_name mic.digest
+abbrev pub mic_with_digest : ReportMic → List ℕ
+mic_with_digest mic = mic.text ++ codes ", " ++ alg_name mic.digest
 
 -- the line of the MIC, where there is one (RFC 4130, section 7.4.3)
 abbrev pub mic_line : Option ReportMic → List ℕ
 mic_line None = []
-mic_line (Some mic) = line (codes "Received-content-MIC: ") (mic_text mic)
+mic_line (Some mic) = report_line (codes "Received-content-MIC: ") (mic_with_digest mic)
 
 -- the second part, which programs read (RFC 8098, section 3.2)
 abbrev pub notification_text : ReportOut → List ℕ
 notification_text out =
     codes "Content-Type: message/disposition-notification\r\n"
     ++ codes "\r\n"
-    ++ line (codes "Reporting-UA: ") (codes "as2-station")
-    ++ line (codes "Final-Recipient: rfc822; ") (spelling out.from)
-    ++ line (codes "Original-Message-ID: ") out.original_id
-    ++ line (codes "Disposition: automatic-action/MDN-sent-automatically; ") (outcome_text out.outcome)
+    ++ report_line (codes "Reporting-UA: ") (codes "as2-station")
+    ++ report_line (codes "Final-Recipient: rfc822; ") (spelling out.from)
+    ++ report_line (codes "Original-Message-ID: ") out.original_id
+    ++ report_line (codes "Disposition: automatic-action/MDN-sent-automatically; ") (outcome_text out.outcome)
     ++ mic_line out.mic
 
 -- ---- the report
@@ -62,9 +62,9 @@ notification_text out =
 -- The body. The line end before a delimiter belongs to the delimiter, and not to the part.
 abbrev pub report_text : ReportOut → List ℕ
 report_text out =
-    line (codes "--") (boundary_text out.number)
+    report_line (codes "--") (boundary_text out.number)
     ++ explanation_text out.number out.outcome
-    ++ line (codes "\r\n--") (boundary_text out.number)
+    ++ report_line (codes "\r\n--") (boundary_text out.number)
     ++ notification_text out
     ++ codes "\r\n--" ++ boundary_text out.number ++ codes "--\r\n"
 
@@ -72,16 +72,16 @@ report_text out =
 abbrev pub as2_fields_text : ReportOut → List ℕ
 as2_fields_text out =
     codes "AS2-Version: 1.0\r\n"
-    ++ line (codes "AS2-From: ") (spelling out.from)
-    ++ line (codes "AS2-To: ") (spelling out.to)
+    ++ report_line (codes "AS2-From: ") (spelling out.from)
+    ++ report_line (codes "AS2-To: ") (spelling out.to)
 
 -- the head fields of a body of n bytes (RFC 4130, section 7.3)
 abbrev pub head_fields_of : ReportOut → ℕ → List ℕ
 head_fields_of out n =
     as2_fields_text out
-    ++ line (codes "Message-ID: ") (report_id_text out.number out.domain)
-    ++ line (codes "Content-Type: ") (content_type_text out.number)
-    ++ line (codes "Content-Length: ") (decimal n)
+    ++ report_line (codes "Message-ID: ") (report_id_text out.number out.domain)
+    ++ report_line (codes "Content-Type: ") (content_type_text out.number)
+    ++ report_line (codes "Content-Length: ") (decimal n)
 
 -- the head fields of the report
 abbrev pub head_fields : ReportOut → List ℕ

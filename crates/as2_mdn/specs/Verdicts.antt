@@ -3,7 +3,7 @@ use Rattle.std.specs.Prelude.{◌≡◌, ℕ, Bool, true, false, not, List, [], 
 use Rattle.as2_mic.specs.declared.field.Compared.{Compared}
 use Rattle.as2_mic.specs.declared.field.Compared.TheVariants.{UnknownAlg, Same, Differs}
 use Rattle.as2_mic.specs.Field.{compared}
-use Rattle.as2_mdn.specs.Dispositions.{modifier_of, is_processed, has_modifier, has_error}
+use Rattle.as2_mdn.specs.Dispositions.{modifier_of, says_processed, has_modifier, has_error}
 use Rattle.as2_mdn.specs.Receipts.{ReceiptRead, Mic, Missing, Unreadable, Given}
 use Rattle.as2_mdn.specs.declared.detail.Detail.{Detail}
 use Rattle.as2_mdn.specs.declared.detail.Detail.TheVariants.{Processed, Warning, NoMic, UnknownMic, NotProcessed, ErrorModifier, MicDiffers}
@@ -33,7 +33,7 @@ is_unknown found = false
 -- the verdict on a disposition and what came of comparing: the first line that fits
 abbrev pub judged : List ℕ × List ℕ → Option Compared → Detail
 judged disposition found =
-    if not (is_processed disposition) then NotProcessed
+    if not (says_processed disposition) then NotProcessed
     else if has_error disposition then ErrorModifier
     else if differs found then MicDiffers
     else if has_modifier disposition then Warning
@@ -49,7 +49,7 @@ verdict_of receipt content = judged receipt.disposition (mic_compared receipt.mi
 -- the digest that it names, whichever of the known ones.
 pub record Confirms (receipt : ReceiptRead) (content : List ℕ) : Type 0 where
   pub field : List ℕ × List ℕ
-  pub processed : IsTrue (is_processed receipt.disposition)
+  pub processed : IsTrue (says_processed receipt.disposition)
   pub unmodified : modifier_of receipt.disposition ≡ []
   pub given : receipt.mic ≡ Given field
   pub same : compared field content ≡ Same

@@ -2,7 +2,7 @@ ghost use Rattle.std.specs.Prelude.{◌≡◌, ℕ, List, Ok, IfOk, option_map};
 ghost use Rattle.std.specs.Str.{str_eq_ignore_ascii_case};
 ghost use Rattle.as2_names.specs.Ascii.{slash};
 ghost use Rattle.as2_names.specs.Cuts.{cut_at};
-ghost use Rattle.as2_mdn.specs.Dispositions.{IsDisposition, reading, type_and_modifier, given_modifier, has_modifier, has_error, begins_with, is_processed, is_action_mode, is_sending_mode};
+ghost use Rattle.as2_mdn.specs.Dispositions.{IsDisposition, reading, type_and_modifier, given_modifier, has_modifier, has_error, begins_with, says_processed, is_action_mode, is_sending_mode};
 
 use as2_text::{cut_at, without_blanks_and_line_ends};
 use std::marker::Model;
@@ -111,7 +111,7 @@ impl<'a> Disposition<'a> {
 
     /// Whether the type is `processed`, whatever its case.
     pub fn is_processed(&self) -> bool
-        ensures { result ≡ is_processed self.now }
+        ensures { result ≡ says_processed self.now }
     {
         self.disposition_type.eq_ignore_ascii_case(b"processed")
     }

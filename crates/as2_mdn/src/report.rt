@@ -4,7 +4,7 @@ ghost use Rattle.as2_names.specs.Identifiers.{IsIdentifier};
 ghost use Rattle.as2_names.specs.Names.{IsName, spelling};
 ghost use Rattle.as2_mic.specs.Mic.{IsMicText};
 ghost use Rattle.as2_mdn.specs.Laws.{HasMicText, IsItsReport, IsOut};
-ghost use Rattle.as2_mdn.specs.Reports.{as2_fields_text, boundary_text, content_type_text, explanation_text, head_fields_of, line, mic_line, mic_text, notification_text, report_id_text, report_text};
+ghost use Rattle.as2_mdn.specs.Reports.{as2_fields_text, boundary_text, content_type_text, explanation_text, head_fields_of, report_line, mic_line, mic_with_digest, notification_text, report_id_text, report_text};
 
 use crate::outcome::Outcome;
 use as2_mic::{Alg, MicText};
@@ -42,7 +42,7 @@ pub struct ReportOut {
 
 /// Appends a line: its start, its value and CRLF. Where memory runs out, a part of it may be appended.
 pub fn add_line(text: &mut Vec<u8>, start: &[u8], value: &[u8]) -> Result<(), AllocError>
-    ensures { OnOk result (text.new.items ≡ text.old.items ++ line start.now value.now) }
+    ensures { OnOk result (text.new.items ≡ text.old.items ++ report_line start.now value.now) }
 {
     text.extend_from_slice(start)?;
     text.extend_from_slice(value)?;
@@ -52,7 +52,7 @@ pub fn add_line(text: &mut Vec<u8>, start: &[u8], value: &[u8]) -> Result<(), Al
 
 /// Appends a line whose value is a name as it is spelled.
 fn add_name(text: &mut Vec<u8>, start: &[u8], name: &AsName) -> Result<(), AllocError>
-    ensures added { OnOk result (text.new.items ≡ text.old.items ++ line start.now (spelling name.now)) }
+    ensures added { OnOk result (text.new.items ≡ text.old.items ++ report_line start.now (spelling name.now)) }
     ensures name { IsName name.now }
 {
     add_line(text, start, name.spelling().as_str().as_bytes())
@@ -103,7 +103,7 @@ fn explanation(alloc: Global, number: u64, outcome: Outcome) -> Result<Vec<u8>, 
 
 /// A MIC and the name of its digest.
 fn mic_value(alloc: Global, mic: ReportMic) -> Result<Vec<u8>, AllocError>
-    ensures text { IfOk result (λ text. text.items ≡ mic_text mic) }
+    ensures text { IfOk result (λ text. text.items ≡ mic_with_digest mic) }
     ensures mic { IfOk result (λ text. IsMicText mic.text) }
 {
     let mut text = Vec::from_slice(alloc, mic.text.bytes())?;
@@ -125,7 +125,7 @@ fn add_mic_line(alloc: Global, text: &mut Vec<u8>, mic: Option<ReportMic>) -> Re
 
 /// Appends the line of the document's identifier, with its angle brackets where it was received with them.
 fn add_identifier(text: &mut Vec<u8>, id: &MessageId) -> Result<(), AllocError>
-    ensures added { OnOk result (text.new.items ≡ text.old.items ++ line (codes "Original-Message-ID: ") id.now) }
+    ensures added { OnOk result (text.new.items ≡ text.old.items ++ report_line (codes "Original-Message-ID: ") id.now) }
     ensures identifier { IsIdentifier id.now }
 {
     add_line(text, b"Original-Message-ID: ", id.as_received().as_bytes())

@@ -3,7 +3,7 @@ ghost use Rattle.std.specs.Prelude.{◌≡◌, IfOk, Ok};
 ghost use Rattle.as2_media.specs.MediaTypes.{reading as type_reading};
 ghost use Rattle.as2_parts.specs.Parts.{part_text};
 ghost use Rattle.as2_mdn.specs.Receipts.{ReceiptRead, mic_of};
-ghost use Rattle.as2_mdn.specs.ReportReading.{IsReport, body_reading, content_reading, disposed, identified, is_plain_encoding, is_media_of_notification, is_type_of_notification, leaves_content, mic_once, once_in, once_of, part_reading, reading};
+ghost use Rattle.as2_mdn.specs.ReportReading.{IsReport, body_reading, content_reading, disposed, identified_receipt, is_plain_encoding, is_media_of_notification, is_type_of_notification, leaves_content, mic_once, once_in, once_of, part_reading, reading};
 
 use crate::{Disposition, MicPart, Receipt};
 use as2_mic::MicField;

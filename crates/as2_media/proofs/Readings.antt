@@ -8,7 +8,7 @@ use Rattle.as2_names.specs.Ascii.{quote, equals_sign, slash, semicolon}
 use Rattle.as2_names.specs.Cuts.{cut_at}
 use Rattle.as2_names.specs.Trim.{all_fall_off, trimmed}
 use Rattle.as2_media.specs.Bytes.{is_bare_byte, is_token}
-use Rattle.as2_media.specs.Values.{IsBare, SpellsValue, value_of}
+use Rattle.as2_media.specs.Values.{IsBare, SpellsValue, spelled_value}
 use Rattle.as2_media.specs.Parameters.{IsPadded, SpellsParameter, Spell, parameter, parameter_of, parameters}
 use Rattle.as2_media.specs.MediaTypes.{Media, IsMediaType, behind_semicolons, reading, reading_of, essence, media_of}
 use Rattle.as2_media.proofs.Padding.{padded_trimmed, blank_trimmed}
@@ -18,7 +18,7 @@ use Rattle.as2_media.proofs.Cutting.{is_free, other_byte, cut_free, cut_nowhere,
 use Rattle.as2_media.proofs.Segments.{segments_joined}
 use Rattle.as2_media.proofs.Quotes.{between_quoted, between_none, quoted_again}
 
-bare_again : (value : List ℕ) → IsBare value → value_of value ≡ Some value
+bare_again : (value : List ℕ) → IsBare value → spelled_value value ≡ Some value
 bare_again [] v = absurd (v.some refl)
 bare_again (b ∷ rest) v =
     let p = and_parts (is_bare_byte b) (list_all is_bare_byte rest) v.bytes in
@@ -26,7 +26,7 @@ bare_again (b ∷ rest) v =
     let some : (length (b ∷ rest) == 0) ≡ false = ne_eqb (length (b ∷ rest)) 0 (λ e. absurd (omega (arith, e))) in
     rw (between_none b rest (not-true (b == quote) (other_byte is_bare_byte b quote p.0 refl)), some, all) refl
 
-value_again : (text value : List ℕ) → SpellsValue text value → value_of text ≡ Some value
+value_again : (text value : List ℕ) → SpellsValue text value → spelled_value text ≡ Some value
 value_again text value s =
     elim s [
       | inl x ↦ rw x.1 (bare_again value x.0)
@@ -39,7 +39,7 @@ parameter_again text p s =
     let cut : cut_at equals_sign text ≡ Some (s.left, s.right) = ap (cut_at equals_sign) s.whole ∙ cut_free equals_sign s.left s.right free in
     let name : trimmed s.left ≡ p.0 = padded_trimmed s.left p.0 s.named (token_solid p.0 s.token) in
     let spelled : trimmed s.right ≡ s.spelled = padded_trimmed s.right s.spelled s.given (value_solid s.spelled p.1 s.spells) in
-    let value : value_of (trimmed s.right) ≡ Some p.1 = ap value_of spelled ∙ value_again s.spelled p.1 s.spells in
+    let value : spelled_value (trimmed s.right) ≡ Some p.1 = ap spelled_value spelled ∙ value_again s.spelled p.1 s.spells in
     ap parameter_of cut ∙ rw (name, s.token, value) refl
 
 -- a text with `=` is not of blanks alone

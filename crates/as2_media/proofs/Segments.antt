@@ -10,7 +10,7 @@ use Rattle.as2_names.proofs.CutLists.{Cuts, cuts_on, cuts_here}
 use Rattle.as2_media.specs.declared.cuts.Place.{Place}
 use Rattle.as2_media.specs.declared.cuts.Place.TheVariants.{Outside, Quoted, Escaped}
 use Rattle.as2_media.specs.Bytes.{is_bare_byte, is_line_byte}
-use Rattle.as2_media.specs.Cuts.{next, is_end, segments}
+use Rattle.as2_media.specs.Cuts.{next_place, is_end, segments}
 use Rattle.as2_media.specs.Values.{SpellsValue, is_quoted_text}
 use Rattle.as2_media.specs.Parameters.{IsPadded, SpellsParameter, Spell}
 use Rattle.as2_media.specs.MediaTypes.{behind_semicolons}
@@ -24,8 +24,8 @@ not_end Outside b on = ne_eqb b 59 (on refl)
 not_end Quoted b on = refl
 not_end Escaped b on = refl
 
-pub scan_on : (place : Place) (text : List ℕ) (i : ℕ) → i < length text → (place ≡ Outside → get_or text i 0 ≡ 59 → ⊥) → Cuts (segments Outside text) (segments place) text i → Cuts (segments Outside text) (segments (next place (get_or text i 0))) text (i + 1)
-scan_on place text i lt on = cuts_on (segments Outside text) (segments place) (segments (next place (get_or text i 0))) text i lt (ap (segments place) (drop_more text i 0 lt) ∙ rw (not_end place (get_or text i 0) on) refl)
+pub scan_on : (place : Place) (text : List ℕ) (i : ℕ) → i < length text → (place ≡ Outside → get_or text i 0 ≡ 59 → ⊥) → Cuts (segments Outside text) (segments place) text i → Cuts (segments Outside text) (segments (next_place place (get_or text i 0))) text (i + 1)
+scan_on place text i lt on = cuts_on (segments Outside text) (segments place) (segments (next_place place (get_or text i 0))) text i lt (ap (segments place) (drop_more text i 0 lt) ∙ rw (not_end place (get_or text i 0) on) refl)
 
 pub scan_ends : (place : Place) (text : List ℕ) (i : ℕ) → i < length text → place ≡ Outside → get_or text i 0 ≡ 59 → Cuts (segments Outside text) (segments place) text i → segments Outside text ≡ take i text ∷ segments Outside (take (length text - (i + 1)) (drop (i + 1) text))
 scan_ends place text i lt outside end seen =
@@ -47,29 +47,29 @@ is_outside Escaped = false
 -- from a place on, its quotes are closed and no `;` stands outside them
 abbrev pub is_closed : Place → List ℕ → Bool
 is_closed place [] = is_outside place
-is_closed place (b ∷ rest) = not (is_end place b) && is_closed (next place b) rest
+is_closed place (b ∷ rest) = not (is_end place b) && is_closed (next_place place b) rest
 
 pub closed_append : (place : Place) (front text : List ℕ) → is_closed place front ≡ true → is_closed Outside text ≡ true → is_closed place (front ++ text) ≡ true
 closed_append Outside [] text f t = t
 closed_append Quoted [] text f t = absurd cc
 closed_append Escaped [] text f t = absurd cc
 closed_append place (b ∷ front) text f t =
-    let p = and_parts (not (is_end place b)) (is_closed (next place b) front) f in
-    and_from (not (is_end place b)) (is_closed (next place b) (front ++ text)) p.0 (closed_append (next place b) front text p.1 t)
+    let p = and_parts (not (is_end place b)) (is_closed (next_place place b) front) f in
+    and_from (not (is_end place b)) (is_closed (next_place place b) (front ++ text)) p.0 (closed_append (next_place place b) front text p.1 t)
 
 pub segments_closed : (place : Place) (text rest : List ℕ) → is_closed place text ≡ true → segments place (text ++ semicolon ∷ rest) ≡ text ∷ segments Outside rest
 segments_closed Outside [] rest h = refl
 segments_closed Quoted [] rest h = absurd cc
 segments_closed Escaped [] rest h = absurd cc
 segments_closed place (b ∷ text) rest h =
-    let p = and_parts (not (is_end place b)) (is_closed (next place b) text) h in
-    rw (not-true (is_end place b) p.0, segments_closed (next place b) text rest p.1) refl
+    let p = and_parts (not (is_end place b)) (is_closed (next_place place b) text) h in
+    rw (not-true (is_end place b) p.0, segments_closed (next_place place b) text rest p.1) refl
 
 pub segments_last : (place : Place) (text : List ℕ) → is_closed place text ≡ true → segments place text ≡ text ∷ []
 segments_last place [] h = refl
 segments_last place (b ∷ text) h =
-    let p = and_parts (not (is_end place b)) (is_closed (next place b) text) h in
-    rw (not-true (is_end place b) p.0, segments_last (next place b) text p.1) refl
+    let p = and_parts (not (is_end place b)) (is_closed (next_place place b) text) h in
+    rw (not-true (is_end place b) p.0, segments_last (next_place place b) text p.1) refl
 
 -- a text without quotes and `;`
 pub plain_closed : (text : List ℕ) → is_free quote text ≡ true → is_free semicolon text ≡ true → is_closed Outside text ≡ true
@@ -153,5 +153,5 @@ joined_segments place [] = refl
 joined_segments place (b ∷ rest) =
     elim (cases_Bool (is_end place b)) [
       | inl end ↦ rw end (ap (λ (x : List ℕ). semicolon ∷ x) (joined_segments Outside rest ∙ ap (λ (x : ℕ). x ∷ rest) (sym (end_semicolon place b end))))
-      | inr on ↦ rw on (front_joined b (segments (next place b) rest) rest (joined_segments (next place b) rest))
+      | inr on ↦ rw on (front_joined b (segments (next_place place b) rest) rest (joined_segments (next_place place b) rest))
     ]

@@ -12,7 +12,7 @@ use Rattle.as2_media.specs.declared.cuts.Place.TheVariants.{Outside}
 use Rattle.as2_media.specs.declared.fault.TypeFault.{TypeFault}
 use Rattle.as2_media.specs.Bytes.{is_bare_byte, is_token}
 use Rattle.as2_media.specs.Cuts.{segments}
-use Rattle.as2_media.specs.Values.{SpellsValue, is_quoted_text, between_quotes, value_among, value_of}
+use Rattle.as2_media.specs.Values.{SpellsValue, is_quoted_text, between_quotes, value_among, spelled_value}
 use Rattle.as2_media.specs.Parameters.{IsPadded, SpellsParameter, Spell, parameter, parameter_of, parameters, with_name, and_then}
 use Rattle.as2_media.specs.MediaTypes.{Media, IsMediaType, behind_semicolons, reading, reading_of, essence, tokens, media_of}
 use Rattle.as2_media.proofs.Fronts.{trimmed_padded, trimmed_again, nothing_kept}
@@ -35,11 +35,11 @@ value_among_found text value None t b h =
     let e : text ≡ value = let same : Some text ≡ Some value = g.1 in cc in
     inl (record { some = λ n. eqb-false (length text) 0 (not-true (length text == 0) p.0) (ap length (e ∙ n)); trim = rw (← e) t; bytes = rw (← e) p.1 }, e)
 
-value_found : (text value : List ℕ) → trimmed text ≡ text → value_of text ≡ Some value → SpellsValue text value
+value_found : (text value : List ℕ) → trimmed text ≡ text → spelled_value text ≡ Some value → SpellsValue text value
 value_found text value t h = value_among_found text value (between_quotes text) t refl h
 
-named_found : (name text : List ℕ) (value : Option (List ℕ)) (p : List ℕ × List ℕ) → value_of (trimmed text) ≡ value → with_name name value ≡ Some p
-    → (name ≡ p.0) × (value_of (trimmed text) ≡ Some p.1)
+named_found : (name text : List ℕ) (value : Option (List ℕ)) (p : List ℕ × List ℕ) → spelled_value (trimmed text) ≡ value → with_name name value ≡ Some p
+    → (name ≡ p.0) × (spelled_value (trimmed text) ≡ Some p.1)
 named_found name text None p v h = absurd cc
 named_found name text (Some value) p v h =
     let e : (name, value) ≡ p = cc in
@@ -48,8 +48,8 @@ named_found name text (Some value) p v h =
 parameter_of_found : (text : List ℕ) (cut : Option (List ℕ × List ℕ)) (p : List ℕ × List ℕ) → cut_at equals_sign text ≡ cut → parameter_of cut ≡ Some p → SpellsParameter text p
 parameter_of_found text None p e h = absurd cc
 parameter_of_found text (Some cut) p e h =
-    let g = given (is_token (trimmed cut.0)) (with_name (trimmed cut.0) (value_of (trimmed cut.1))) p h in
-    let n = named_found (trimmed cut.0) cut.1 (value_of (trimmed cut.1)) p refl g.1 in
+    let g = given (is_token (trimmed cut.0)) (with_name (trimmed cut.0) (spelled_value (trimmed cut.1))) p h in
+    let n = named_found (trimmed cut.0) cut.1 (spelled_value (trimmed cut.1)) p refl g.1 in
     let padded : IsPadded cut.0 (trimmed cut.0) = trimmed_padded cut.0 in
     record {
       left = cut.0;

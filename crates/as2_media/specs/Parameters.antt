@@ -6,13 +6,13 @@ use Rattle.as2_names.specs.Cuts.{cut_at}
 use Rattle.as2_names.specs.Names.{with_front}
 use Rattle.as2_names.specs.Trim.{trimmed, all_fall_off}
 use Rattle.as2_media.specs.Bytes.{is_token}
-use Rattle.as2_media.specs.Values.{SpellsValue, value_of}
+use Rattle.as2_media.specs.Values.{SpellsValue, spelled_value}
 use Rattle.as2_media.specs.declared.fault.TypeFault.{TypeFault}
 use Rattle.as2_media.specs.declared.fault.TypeFault.TheVariants as fault
 
 -- a parameter: its name and its value
-abbrev pub name : List ℕ × List ℕ → List ℕ
-name parameter = parameter.0
+abbrev pub parameter_name : List ℕ × List ℕ → List ℕ
+parameter_name parameter = parameter.0
 
 abbrev pub value : List ℕ × List ℕ → List ℕ
 value parameter = parameter.1
@@ -31,8 +31,8 @@ pub record SpellsParameter (text : List ℕ) (parameter : List ℕ × List ℕ) 
   pub right : List ℕ
   pub spelled : List ℕ
   pub whole : text ≡ left ++ equals_sign ∷ right
-  pub token : IsTrue (is_token (name parameter))
-  pub named : IsPadded left (name parameter)
+  pub token : IsTrue (is_token (parameter_name parameter))
+  pub named : IsPadded left (parameter_name parameter)
   pub spells : SpellsValue spelled (value parameter)
   pub given : IsPadded right spelled
 
@@ -47,7 +47,7 @@ Spell (text ∷ texts) parameters =
 abbrev pub first_value : List ℕ → List (List ℕ × List ℕ) → Option (List ℕ)
 first_value wanted [] = None
 first_value wanted (parameter ∷ others) =
-    if str_eq_ignore_ascii_case (name parameter) wanted then Some (value parameter) else first_value wanted others
+    if str_eq_ignore_ascii_case (parameter_name parameter) wanted then Some (value parameter) else first_value wanted others
 
 -- ---- reading
 
@@ -60,7 +60,7 @@ with_name name (Some value) = Some (name, value)
 abbrev pub parameter_of : Option (List ℕ × List ℕ) → Option (List ℕ × List ℕ)
 parameter_of None = None
 parameter_of (Some cut) =
-    if is_token (trimmed cut.0) then with_name (trimmed cut.0) (value_of (trimmed cut.1)) else None
+    if is_token (trimmed cut.0) then with_name (trimmed cut.0) (spelled_value (trimmed cut.1)) else None
 
 -- the parameter that a text spells
 abbrev pub parameter : List ℕ → Option (List ℕ × List ℕ)

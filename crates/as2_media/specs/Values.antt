@@ -64,5 +64,5 @@ value_among (Some value) text = if is_quoted_text false value then Some value el
 value_among None text = if not (length text == 0) && list_all is_bare_byte text then Some text else None
 
 -- the value that a text without blanks at its ends spells
-abbrev pub value_of : List ℕ → Option (List ℕ)
-value_of text = value_among (between_quotes text) text
+abbrev pub spelled_value : List ℕ → Option (List ℕ)
+spelled_value text = value_among (between_quotes text) text

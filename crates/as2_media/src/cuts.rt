@@ -1,6 +1,6 @@
 // Texts that are cut in two at the first `;` outside quotes.
 ghost use Rattle.std.specs.Prelude.{◌≡◌, ◌∷◌, option_map};
-ghost use Rattle.as2_media.specs.Cuts.{next, segments, segments_of};
+ghost use Rattle.as2_media.specs.Cuts.{next_place, segments, segments_of};
 ghost use Rattle.as2_media.specs.declared.cuts.Place.TheVariants.{Outside};
 
 /// Where a byte of a text stands.
@@ -16,7 +16,7 @@ enum Place {
 
 /// The place behind a byte.
 fn next(place: Place, b: u8) -> Place
-    ensures { result ≡ next place b }
+    ensures { result ≡ next_place place b }
 {
     match place {
         Place::Outside if b == b'"' => Place::Quoted,

@@ -1,6 +1,6 @@
 // The spelling of a parameter's value.
 ghost use Rattle.std.specs.Prelude.{◌≡◌, false, option_map};
-ghost use Rattle.as2_media.specs.Values.{is_quoted_text, between_quotes, value_of};
+ghost use Rattle.as2_media.specs.Values.{is_quoted_text, between_quotes, spelled_value};
 
 use crate::token::{all_bare_bytes, is_line_byte};
 
@@ -32,7 +32,7 @@ fn between_quotes(text: &[u8]) -> Option<&[u8]>
 /// The value that a text without blanks at its ends spells: what stands between its quotes, or the text itself where it
 /// has none.
 pub(crate) fn value_of(spelled: &[u8]) -> Option<&[u8]>
-    ensures { option_map (λ v. v.now) result ≡ value_of spelled.now }
+    ensures { option_map (λ v. v.now) result ≡ spelled_value spelled.now }
 {
     match between_quotes(spelled) {
         Some(value) => {

@@ -29,5 +29,5 @@ first_known [] = None
 first_known (name ∷ names) = or_else (alg_named (without_blanks name)) (first_known names)
 
 -- the first known name of a list, which is cut at its commas
-abbrev pub first_of : List ℕ → Option Alg
-first_of list = first_known (slice_split is_comma list)
+abbrev pub first_known_of : List ℕ → Option Alg
+first_known_of list = first_known (slice_split is_comma list)

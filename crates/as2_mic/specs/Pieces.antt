@@ -17,8 +17,8 @@ piece_at content i =
 
 -- ---- how they are kept: whole pieces, and what stands behind them; `bytes` gives the bytes of a whole one
 
-abbrev pub content_of : {X : Type 0} → (X → List ℕ) → List X → List ℕ → List ℕ
-content_of bytes whole last = flat_map bytes whole ++ last
+abbrev pub joined_pieces : {X : Type 0} → (X → List ℕ) → List X → List ℕ → List ℕ
+joined_pieces bytes whole last = flat_map bytes whole ++ last
 
 abbrev pub AreWhole : {X : Type 0} → (X → List ℕ) → List X → Type 0
 AreWhole bytes whole = All (λ piece. length (bytes piece) ≡ piece_size) whole
@@ -27,4 +27,4 @@ AreWhole bytes whole = All (λ piece. length (bytes piece) ≡ piece_size) whole
 pub record IsKeptAs {X : Type 0} (bytes : X → List ℕ) (whole : List X) (last all : List ℕ) : Type 0 where
   pub whole_ones : AreWhole bytes whole
   pub short : length last ≤ piece_size
-  pub content : content_of bytes whole last ≡ all
+  pub content : joined_pieces bytes whole last ≡ all

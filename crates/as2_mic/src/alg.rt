@@ -1,5 +1,5 @@
 ghost use Rattle.std.specs.Prelude.{◌≡◌};
-ghost use Rattle.as2_mic.specs.Algs.{alg_named, alg_name, first_of};
+ghost use Rattle.as2_mic.specs.Algs.{alg_named, alg_name, first_known_of};
 
 use as2_names::{cut_at, without_blanks};
 
@@ -41,7 +41,7 @@ impl Alg {
 
     /// The first known name of a list with commas between its names.
     pub fn first_of(list: &[u8]) -> Option<Alg>
-        ensures { result ≡ first_of list.now }
+        ensures { result ≡ first_known_of list.now }
     {
         let mut rest = list;
         while let Some((name, names)) = cut_at(rest, b',') {

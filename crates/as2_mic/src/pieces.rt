@@ -2,7 +2,7 @@ ghost use Rattle.std.specs.Prelude.{◌≡◌, ◌<◌, ◌≤◌, ◌+◌, ◌^
 ghost use Rattle.std.specs.Option.{option_map};
 ghost use Rattle.std.specs.Str.{bytes_eq};
 ghost use Rattle.as2_mic.specs.Mic.{mic};
-ghost use Rattle.as2_mic.specs.Pieces.{AreWhole, IsKeptAs, content_of, piece_size, piece_count, piece_at};
+ghost use Rattle.as2_mic.specs.Pieces.{AreWhole, IsKeptAs, joined_pieces, piece_size, piece_count, piece_at};
 
 use crate::{Alg, Digester, MicText};
 use as2_names::Memory;
@@ -28,14 +28,14 @@ pub struct Pieces {
 
 impl Model for Pieces {
     ghost use Rattle.std.specs.Prelude.{◌≡◌, ◌≤◌, List, ℕ, length};
-    ghost use Rattle.as2_mic.specs.Pieces.{AreWhole, content_of, piece_size};
+    ghost use Rattle.as2_mic.specs.Pieces.{AreWhole, joined_pieces, piece_size};
 
     ghost Value = { List ℕ };
 
-    ghost view = { λ p. content_of (λ v. v.items) p.full.items p.last.items };
+    ghost view = { λ p. joined_pieces (λ v. v.items) p.full.items p.last.items };
 
     ghost invariant = { λ p. AreWhole (λ v. v.items) p.full.items × (length p.last.items ≤ piece_size)
-        × (p.total ≡ length (content_of (λ v. v.items) p.full.items p.last.items)) };
+        × (p.total ≡ length (joined_pieces (λ v. v.items) p.full.items p.last.items)) };
 }
 
 /// Puts the last piece behind the full ones, and begins an empty one.
@@ -59,9 +59,9 @@ fn shelve(alloc: Global, full: &mut Vec<Vec<u8>>, last: &mut Vec<u8>) -> Result<
 fn cut(full: &mut Vec<Vec<u8>>, last: &mut Vec<u8>, len: usize)
     requires whole { AreWhole (λ v. v.items) full.old.items }
     requires short { length last.old.items ≤ piece_size }
-    requires within { len ≤ length (content_of (λ v. v.items) full.old.items last.old.items) }
+    requires within { len ≤ length (joined_pieces (λ v. v.items) full.old.items last.old.items) }
     ensures { IsKeptAs (λ v. v.items) full.new.items last.new.items
-        (take len (content_of (λ v. v.items) full.old.items last.old.items)) }
+        (take len (joined_pieces (λ v. v.items) full.old.items last.old.items)) }
 {
     let whole = len.saturating_sub(1) / PIECE;
     if whole < full.len() {

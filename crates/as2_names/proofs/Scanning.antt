@@ -5,7 +5,7 @@ use Rattle.std.proofs.lemmas.Bool.Decides.{nat_tests}
 use Rattle.std.proofs.lemmas.List.{append-nil, take_all, take_at, take-append-le, length-take, length_push}
 use Rattle.std.proofs.lemmas.List.Folds.{list_all-append}
 use Rattle.as2_names.specs.Ascii.{quote, backslash, is_printable}
-use Rattle.as2_names.specs.Names.{units, with_front, is_special, fitted, fitting, IsName}
+use Rattle.as2_names.specs.Names.{units, with_front, is_escaped_mark, fitted, fitting, IsName}
 use Rattle.as2_names.specs.Scan.{Scans}
 
 pub take_push : (n : ℕ) (met : List ℕ) (b : ℕ) → take n (take n met ++ b ∷ []) ≡ take n (met ++ b ∷ [])
@@ -28,10 +28,10 @@ scans_unit text items next count escaping b rest s step printable e = record {
   whole = front_push s.met b (units false rest) ∙ ap (with_front s.met) (sym step) ∙ s.whole;
 }
 
-pub special_printable : (b : ℕ) → is_special b ≡ true → is_printable b ≡ true
+pub special_printable : (b : ℕ) → is_escaped_mark b ≡ true → is_printable b ≡ true
 special_printable b h = grind (arith, nat_tests)
 
-pub step_escaped : (escaping : Bool) (b : ℕ) (rest : List ℕ) → escaping ≡ true → is_special b ≡ true → units escaping (b ∷ rest) ≡ with_front (b ∷ []) (units false rest)
+pub step_escaped : (escaping : Bool) (b : ℕ) (rest : List ℕ) → escaping ≡ true → is_escaped_mark b ≡ true → units escaping (b ∷ rest) ≡ with_front (b ∷ []) (units false rest)
 step_escaped escaping b rest e s = rw (e, s) refl
 
 pub step_printable : (escaping : Bool) (b : ℕ) (rest : List ℕ) → escaping ≡ false → (b ≡ quote → ⊥) → (b ≡ backslash → ⊥) → is_printable b ≡ true → units escaping (b ∷ rest) ≡ with_front (b ∷ []) (units false rest)

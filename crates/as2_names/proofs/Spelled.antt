@@ -7,7 +7,7 @@ use Rattle.std.proofs.lemmas.Bool.Decides.{nat_tests}
 use Rattle.as2_names.specs.declared.name.NameFault.{NameFault}
 use Rattle.as2_names.specs.declared.name.NameFault.TheVariants.{Empty, TooLong, BadByte, BadQuoting}
 use Rattle.as2_names.specs.Ascii.{quote, backslash, is_printable}
-use Rattle.as2_names.specs.Names.{units, closed, with_front, is_special, is_text_byte, fitting, fitted, atomic, reading, IsName, Spells, escaped, quoted}
+use Rattle.as2_names.specs.Names.{units, at_closing_quote, with_front, is_escaped_mark, is_text_byte, fitting, fitted, atomic, reading, IsName, Spells, escaped, quoted}
 use Rattle.as2_names.specs.Scan.{Scans}
 use Rattle.as2_names.proofs.Scanning.{special_printable, met_all, is_name, finished}
 
@@ -42,7 +42,7 @@ chosen : (t : Bool) (x y : Result (List ℕ) NameFault) (name : List ℕ) → Re
 chosen true x y name h = inl (refl, h)
 chosen false x y name h = inr (refl, h)
 
-closed_ok : (rest name : List ℕ) → Reads (closed rest) name → (rest ≡ []) × (name ≡ [])
+closed_ok : (rest name : List ℕ) → Reads (at_closing_quote rest) name → (rest ≡ []) × (name ≡ [])
 closed_ok [] name h = (refl, cc)
 closed_ok (b ∷ rest) name h = absurd cc
 
@@ -56,13 +56,13 @@ record Unquotes (escaping : Bool) (text name : List ℕ) : Type 0 where
   pub spelled : behind escaping text ≡ flat_map escaped name ++ quote ∷ []
   pub printable : list_all is_printable name ≡ true
 
-unquotes_special : (b : ℕ) (rest more : List ℕ) → is_special b ≡ true → Unquotes false rest more → Unquotes true (b ∷ rest) (b ∷ more)
+unquotes_special : (b : ℕ) (rest more : List ℕ) → is_escaped_mark b ≡ true → Unquotes false rest more → Unquotes true (b ∷ rest) (b ∷ more)
 unquotes_special b rest more s u = record {
   spelled = rw (s, u.spelled) refl;
   printable = and_from (is_printable b) (list_all is_printable more) (special_printable b s) u.printable;
 }
 
-plain_byte : (b : ℕ) → eqb b quote ≡ false → eqb b backslash ≡ false → is_special b ≡ false
+plain_byte : (b : ℕ) → eqb b quote ≡ false → eqb b backslash ≡ false → is_escaped_mark b ≡ false
 plain_byte b q s = rw (q, s) refl
 
 unquotes_plain : (b : ℕ) (rest more : List ℕ) → eqb b quote ≡ false → eqb b backslash ≡ false → is_printable b ≡ true → Unquotes false rest more → Unquotes false (b ∷ rest) (b ∷ more)
@@ -77,11 +77,11 @@ unquotes_end b q = record { spelled = rw (eqb-true b quote q) refl; printable = 
 units_take : (escaping : Bool) (text name : List ℕ) → Reads (units escaping text) name → Unquotes escaping text name
 units_take escaping [] name h = absurd cc
 units_take true (b ∷ rest) name h =
-    let g = guard_ok (is_special b) BadQuoting (with_front (b ∷ []) (units false rest)) name h in
+    let g = guard_ok (is_escaped_mark b) BadQuoting (with_front (b ∷ []) (units false rest)) name h in
     let f = front_ok b (units false rest) name g.1 in
     rw f.2 (unquotes_special b rest f.0 g.0 (units_take false rest f.0 f.1))
 units_take false (b ∷ rest) name h =
-    elim (chosen (eqb b quote) (closed rest) (cond (eqb b backslash) (units true rest) (cond (is_printable b) (with_front (b ∷ []) (units false rest)) (Err BadByte))) name h) [
+    elim (chosen (eqb b quote) (at_closing_quote rest) (cond (eqb b backslash) (units true rest) (cond (is_printable b) (with_front (b ∷ []) (units false rest)) (Err BadByte))) name h) [
       | inl x ↦
           let e = closed_ok rest name x.1 in
           rw (e.0, e.1) (unquotes_end b x.0)
@@ -102,7 +102,7 @@ units_again [] h = refl
 units_again (b ∷ more) h =
     let p = and_parts (is_printable b) (list_all is_printable more) h in
     let again = units_again more p.1 in
-    elim (cases_Bool (is_special b)) [
+    elim (cases_Bool (is_escaped_mark b)) [
       | inl s ↦ rw (s, s, again) refl
       | inr s ↦
           let q = or_parts (eqb b quote) (eqb b backslash) s in

@@ -49,5 +49,5 @@ abbrev pub reading : List ℕ → Result (List ℕ) IdFault
 reading field = identified (without_blanks field)
 
 -- that answer, but memory may be wanting for an identifier
-abbrev pub OrMemory : Result (List ℕ) IdFault → Result (List ℕ) IdFault → Type 0
-OrMemory result answer = (result ≡ answer) ⊎ ((result ≡ Err fault.Memory) × IsOk answer)
+abbrev pub OrNoMemory : Result (List ℕ) IdFault → Result (List ℕ) IdFault → Type 0
+OrNoMemory result answer = (result ≡ answer) ⊎ ((result ≡ Err fault.Memory) × IsOk answer)

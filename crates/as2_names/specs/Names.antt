@@ -6,12 +6,12 @@ use Rattle.as2_names.specs.declared.name.NameFault.{NameFault}
 use Rattle.as2_names.specs.declared.name.NameFault.TheVariants.{Empty, TooLong, BadByte, BadQuoting}
 
 -- `"` and `\`, which stand in quotes behind a backslash
-abbrev pub is_special : ℕ → Bool
-is_special b = b == quote || b == backslash
+abbrev pub is_escaped_mark : ℕ → Bool
+is_escaped_mark b = b == quote || b == backslash
 
 -- AS2-text: printable, no space, and not special
 abbrev pub is_text_byte : ℕ → Bool
-is_text_byte b = nat_lt space b && (nat_le b tilde && not (is_special b))
+is_text_byte b = nat_lt space b && (nat_le b tilde && not (is_escaped_mark b))
 
 -- a name
 pub record IsName (name : List ℕ) : Type 0 where
@@ -21,7 +21,7 @@ pub record IsName (name : List ℕ) : Type 0 where
 
 -- a byte as it stands between quotes
 abbrev pub escaped : ℕ → List ℕ
-escaped b = if is_special b then backslash ∷ b ∷ [] else b ∷ []
+escaped b = if is_escaped_mark b then backslash ∷ b ∷ [] else b ∷ []
 
 -- the name between double quotes
 abbrev pub quoted : List ℕ → List ℕ
@@ -43,16 +43,16 @@ with_front front (Ok more) = Ok (front ++ more)
 with_front front (Err e) = Err e
 
 -- nothing follows the closing quote
-abbrev pub closed : List ℕ → Result (List ℕ) NameFault
-closed [] = Ok []
-closed (b ∷ rest) = Err BadQuoting
+abbrev pub at_closing_quote : List ℕ → Result (List ℕ) NameFault
+at_closing_quote [] = Ok []
+at_closing_quote (b ∷ rest) = Err BadQuoting
 
 -- the units behind the opening quote; behind a backslash where `escaping`
 abbrev pub units : Bool → List ℕ → Result (List ℕ) NameFault
 units escaping [] = Err BadQuoting
-units true (b ∷ rest) = if is_special b then with_front (b ∷ []) (units false rest) else Err BadQuoting
+units true (b ∷ rest) = if is_escaped_mark b then with_front (b ∷ []) (units false rest) else Err BadQuoting
 units false (b ∷ rest) =
-    if b == quote then closed rest
+    if b == quote then at_closing_quote rest
     else if b == backslash then units true rest
     else if is_printable b then with_front (b ∷ []) (units false rest) else Err BadByte
 

@@ -1,6 +1,6 @@
 ghost use Rattle.std.specs.Prelude.{◌≡◌, ◌⊎◌, ◌↔◌, ℕ, List, IfOk, Ok, Err, IsTrue, string_bytes};
 ghost use Rattle.as2_names.specs.Blanks.{without_blanks};
-ghost use Rattle.as2_names.specs.Identifiers.{IsIdentifier, OrMemory, identified, is_identifier, reading, value_of};
+ghost use Rattle.as2_names.specs.Identifiers.{IsIdentifier, OrNoMemory, identified, is_identifier, reading, value_of};
 ghost use Rattle.as2_names.specs.declared.identifier.IdFault.TheVariants.{Memory};
 
 use crate::ascii::all_printable;
@@ -67,7 +67,7 @@ pub fn is_identifier(text: &[u8]) -> bool
 /// Keeps an identifier.
 fn keep(alloc: Global, text: &[u8]) -> Result<MessageId, IdFault>
     requires { IsIdentifier text.now }
-    ensures { OrMemory result (Ok text.now) }
+    ensures { OrNoMemory result (Ok text.now) }
 {
     let text = str::from_utf8(text).unwrap();
     Ok(MessageId {
@@ -78,7 +78,7 @@ fn keep(alloc: Global, text: &[u8]) -> Result<MessageId, IdFault>
 /// The identifier that a text without blanks at its ends is.
 fn identify(alloc: Global, text: &[u8]) -> Result<MessageId, IdFault>
     requires { without_blanks text.now ≡ text.now }
-    ensures { OrMemory result (identified text.now) }
+    ensures { OrNoMemory result (identified text.now) }
 {
     let value = without_brackets(text);
     if value.is_empty() {
@@ -101,7 +101,7 @@ impl MessageId {
         // A field that holds an identifier is read, or there was no memory.
         ensures only { IsIdentifier (without_blanks field.now) → (result ≡ Ok (without_blanks field.now)) ⊎ (result ≡ Err Memory) }
         // Which fault it is; memory is wanting only for an identifier.
-        ensures exact { OrMemory result (reading field.now) }
+        ensures exact { OrNoMemory result (reading field.now) }
     {
         identify(alloc, without_blanks(field))
     }

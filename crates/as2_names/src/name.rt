@@ -2,7 +2,7 @@ ghost use Rattle.std.specs.Prelude.{◌≡◌, ◌==◌, ◌≢◌, ◌<◌, ◌
 ghost use Rattle.std.specs.List.{list_all};
 ghost use Rattle.arrayvec.specs.ArrayString.{array_string_len};
 ghost use Rattle.as2_names.specs.Ascii.{is_printable, quote};
-ghost use Rattle.as2_names.specs.Names.{IsName, Spells, spelling, quoted, reading, fitting, fitted, atomic, plain, units, is_text_byte, is_special};
+ghost use Rattle.as2_names.specs.Names.{IsName, Spells, spelling, quoted, reading, fitting, fitted, atomic, plain, units, is_text_byte, is_escaped_mark};
 ghost use Rattle.as2_names.specs.Scan.{Scans};
 
 use crate::ascii::{all_printable, is_printable};
@@ -38,7 +38,7 @@ impl Model for AsName {
 }
 
 fn is_special(b: u8) -> bool
-    ensures { result ≡ is_special b }
+    ensures { result ≡ is_escaped_mark b }
 {
     b == b'"' || b == b'\\'
 }

@@ -5,7 +5,7 @@ use Rattle.std.specs.List.{concat, onto_first, cons_option}
 use Rattle.std.proofs.lemmas.Bool.{cases_Bool, not_from_false, not-true, eqb-true}
 use Rattle.std.proofs.lemmas.List.Elements.{All-nil, All-cons, All-head, All-tail}
 use Rattle.as2_parts.specs.Lines.{lines}
-use Rattle.as2_parts.specs.Fields.{FieldText, Folded, lines_of, GoOn, IsFolded, Holds, HasFields, begins_with_blank, folded_lines, field_of, fields}
+use Rattle.as2_parts.specs.Fields.{FieldText, Folded, lines_of, GoOn, IsFolded, HoldsFields, HasFields, begins_with_blank, folded_lines, folded_field, fields}
 use Rattle.as2_parts.proofs.FieldText.{field_take, field_again, no_field, blank_no_field}
 
 -- the lines at the front that go on with none, and the others with those that go on with them
@@ -111,28 +111,28 @@ blank_longer [] rest blank = absurd cc
 blank_longer (b ∷ line) rest blank = blank
 
 -- lines that go on with none are no field
-fields_joined : (ls : List (List ℕ)) → filter_map field_of (blocks ls) ≡ filter_map field_of (joined (group ls).1)
+fields_joined : (ls : List (List ℕ)) → filter_map folded_field (blocks ls) ≡ filter_map folded_field (joined (group ls).1)
 fields_joined [] = refl
 fields_joined (line ∷ rest) =
     elim (cases_Bool (begins_with_blank line)) [
       | inl blank ↦
-          let none : field_of (line ++ concat (group rest).0) ≡ None = blank_no_field (line ++ concat (group rest).0) (blank_longer line (concat (group rest).0) blank) in
+          let none : folded_field (line ++ concat (group rest).0) ≡ None = blank_no_field (line ++ concat (group rest).0) (blank_longer line (concat (group rest).0) blank) in
           rw (none, blank) refl
       | inr first ↦ rw first refl
     ]
 
-fields_are : (text : List ℕ) → fields text ≡ filter_map field_of (joined (group (lines text)).1)
-fields_are text = ap (filter_map field_of) (folded_is text) ∙ fields_joined (lines text)
+fields_are : (text : List ℕ) → fields text ≡ filter_map folded_field (joined (group (lines text)).1)
+fields_are text = ap (filter_map folded_field) (folded_is text) ∙ fields_joined (lines text)
 
-holds_one : (f : Folded) (rest : List Folded) (others : List FieldText) → Holds rest others → (o : Option FieldText) → field_of (concat (lines_of f)) ≡ o → Holds (f ∷ rest) (cons_option o others)
+holds_one : (f : Folded) (rest : List Folded) (others : List FieldText) → HoldsFields rest others → (o : Option FieldText) → folded_field (concat (lines_of f)) ≡ o → HoldsFields (f ∷ rest) (cons_option o others)
 holds_one f rest others more None e = inr ((λ field i. absurd (cc (sym e ∙ field_again (concat (lines_of f)) field i))), more)
 holds_one f rest others more (Some field) e = inl (field, others, refl, field_take (concat (lines_of f)) field e, more)
 
-holds : (groups : List Folded) → Holds groups (filter_map field_of (joined groups))
+holds : (groups : List Folded) → HoldsFields groups (filter_map folded_field (joined groups))
 holds [] = refl
-holds (f ∷ rest) = holds_one f rest (filter_map field_of (joined rest)) (holds rest) (field_of (concat (lines_of f))) refl
+holds (f ∷ rest) = holds_one f rest (filter_map folded_field (joined rest)) (holds rest) (folded_field (concat (lines_of f))) refl
 
-holds_again : (groups : List Folded) (given : List FieldText) → Holds groups given → filter_map field_of (joined groups) ≡ given
+holds_again : (groups : List Folded) (given : List FieldText) → HoldsFields groups given → filter_map folded_field (joined groups) ≡ given
 holds_again [] given h = sym h
 holds_again (f ∷ rest) given (inl h) = rw (field_again (concat (lines_of f)) h.0 h.3, holds_again rest h.1 h.4) (sym h.2)
 holds_again (f ∷ rest) given (inr h) = rw (no_field (concat (lines_of f)) h.0) (holds_again rest given h.1)
@@ -144,10 +144,10 @@ fields_found text = record {
   whole = group_whole (lines text);
   loose_go_on = group_loose (lines text);
   each = group_each (lines text);
-  fields_are = subst (Holds (group (lines text)).1) (sym (fields_are text)) (holds (group (lines text)).1);
+  fields_are = subst (HoldsFields (group (lines text)).1) (sym (fields_are text)) (holds (group (lines text)).1);
 }
 
 pub fields_only : (text : List ℕ) (given : List FieldText) → HasFields text given → fields text ≡ given
 fields_only text given h =
     let same : group (lines text) ≡ (h.loose, h.groups) = ap group h.whole ∙ group_front h.loose (flat_map lines_of h.groups) h.groups h.loose_go_on (group_again h.groups h.each) in
-    fields_are text ∙ ap (λ (g : Groups). filter_map field_of (joined g.1)) same ∙ holds_again h.groups given h.fields_are
+    fields_are text ∙ ap (λ (g : Groups). filter_map folded_field (joined g.1)) same ∙ holds_again h.groups given h.fields_are

@@ -4,7 +4,7 @@ use Rattle.std.specs.Prelude.{not, filter_map}
 use Rattle.std.specs.List.{list_all}
 use Rattle.std.proofs.lemmas.Bool.{and_parts, not-true}
 use Rattle.as2_parts.specs.Lines.{lines}
-use Rattle.as2_parts.specs.Fields.{FieldText, IsField, begins_with_blank, folded_lines, field_of, fields}
+use Rattle.as2_parts.specs.Fields.{FieldText, IsField, begins_with_blank, folded_lines, folded_field, fields}
 use Rattle.as2_parts.proofs.FieldText.{field_again}
 
 -- ---- a text with a line in front
@@ -28,4 +28,4 @@ folded_front (b ∷ line) rest h free =
 -- a line that is a field gives it before the fields of the rest, where that begins with no blank
 pub fields_front : (line rest : List ℕ) (field : FieldText) → HasNoFeed line → begins_with_blank rest ≡ false → IsField (line ++ 10 ∷ []) field → fields (line ++ 10 ∷ rest) ≡ field ∷ fields rest
 fields_front line rest field h free f =
-    ap (filter_map field_of) (folded_front line rest h free) ∙ rw (field_again (line ++ 10 ∷ []) field f) refl
+    ap (filter_map folded_field) (folded_front line rest h free) ∙ rw (field_again (line ++ 10 ∷ []) field f) refl

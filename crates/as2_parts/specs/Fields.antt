@@ -14,8 +14,8 @@ abbrev pub FieldText : Type 0
 FieldText = List ℕ × List ℕ
 
 -- ftext: a printable byte, neither a blank nor `:`
-abbrev pub is_name_byte : ℕ → Bool
-is_name_byte b = nat_lt space b && nat_le b tilde && not (b == colon)
+abbrev pub is_field_name_byte : ℕ → Bool
+is_field_name_byte b = nat_lt space b && nat_le b tilde && not (b == colon)
 
 -- the text begins with a blank
 abbrev pub begins_with_blank : List ℕ → Bool
@@ -27,7 +27,7 @@ pub record IsField (text : List ℕ) (field : FieldText) : Type 0 where
   pub raw : List ℕ
   pub whole : text ≡ field.0 ++ colon ∷ raw
   pub some : field.0 ≢ []
-  pub named : IsTrue (list_all is_name_byte field.0)
+  pub named : IsTrue (list_all is_field_name_byte field.0)
   pub value : field.1 ≡ trimmed raw
 
 -- a line, and the lines that go on with it
@@ -47,11 +47,11 @@ abbrev pub IsFolded : Folded → Type 0
 IsFolded f = IsTrue (not (begins_with_blank f.line)) × GoOn f.more
 
 -- these are the fields among those lines, in order
-abbrev pub Holds : List Folded → List FieldText → Type 0
-Holds [] fields = fields ≡ []
-Holds (f ∷ rest) fields =
-    ((field : FieldText) × (others : List FieldText) × (fields ≡ field ∷ others) × IsField (concat (lines_of f)) field × Holds rest others)
-    ⊎ (((field : FieldText) → ¬ IsField (concat (lines_of f)) field) × Holds rest fields)
+abbrev pub HoldsFields : List Folded → List FieldText → Type 0
+HoldsFields [] fields = fields ≡ []
+HoldsFields (f ∷ rest) fields =
+    ((field : FieldText) × (others : List FieldText) × (fields ≡ field ∷ others) × IsField (concat (lines_of f)) field × HoldsFields rest others)
+    ⊎ (((field : FieldText) → ¬ IsField (concat (lines_of f)) field) × HoldsFields rest fields)
 
 -- The text has these fields: at its front may stand lines that begin with a blank, which belong to no field; then come
 -- lines, each with those that go on with it; and these are the fields among them.
@@ -61,7 +61,7 @@ pub record HasFields (text : List ℕ) (fields : List FieldText) : Type 0 where
   pub whole : lines text ≡ loose ++ flat_map lines_of groups
   pub loose_go_on : GoOn loose
   pub each : All IsFolded groups
-  pub fields_are : Holds groups fields
+  pub fields_are : HoldsFields groups fields
 
 -- ---- the fields as a function
 
@@ -75,12 +75,12 @@ abbrev pub is_colon : ℕ → Bool
 is_colon b = b == colon
 
 -- the name may be one
-abbrev pub is_name : List ℕ → Bool
-is_name name = nat_lt 0 (length name) && list_all is_name_byte name
+abbrev pub is_field_name : List ℕ → Bool
+is_field_name name = nat_lt 0 (length name) && list_all is_field_name_byte name
 
 -- the field of that name and that text behind its colon, where the name may be one
 abbrev pub field_with : List ℕ → List ℕ → Option FieldText
-field_with name raw = if is_name name then Some (name, trimmed raw) else None
+field_with name raw = if is_field_name name then Some (name, trimmed raw) else None
 
 -- the field of a line that has its first colon at that place
 abbrev pub field_cut : Option ℕ → List ℕ → Option FieldText
@@ -88,12 +88,12 @@ field_cut (Some colon_place) line = field_with (take colon_place line) (drop (co
 field_cut None line = None
 
 -- the field that a line is, with those that go on with it, if it is one
-abbrev pub field_of : List ℕ → Option FieldText
-field_of line = field_cut (position is_colon line) line
+abbrev pub folded_field : List ℕ → Option FieldText
+folded_field line = field_cut (position is_colon line) line
 
 -- the fields of a text, in order
 abbrev pub fields : List ℕ → List FieldText
-fields text = filter_map field_of (folded_lines text)
+fields text = filter_map folded_field (folded_lines text)
 
 -- ---- the fields of a name
 

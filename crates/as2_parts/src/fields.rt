@@ -1,6 +1,6 @@
 ghost use Rattle.std.specs.Prelude.{◌≡◌, ◌<◌, ◌∷◌, length, IfSome, option_map, position, List};
 ghost use Rattle.std.specs.List.{list_all};
-ghost use Rattle.as2_parts.specs.Fields.{HasFields, FieldText, is_name_byte, is_name, is_colon, begins_with_blank, folded_lines, field_of, fields, named, field_text, TellsField};
+ghost use Rattle.as2_parts.specs.Fields.{HasFields, FieldText, is_field_name_byte, is_field_name, is_colon, begins_with_blank, folded_lines, folded_field, fields, named, field_text, TellsField};
 
 use as2_names::{is_blank, without_blanks_and_line_ends};
 use std::marker::Model;
@@ -35,19 +35,19 @@ impl<'a> Model for Fields<'a> {
 }
 
 fn is_name_byte(b: u8) -> bool
-    ensures { result ≡ is_name_byte b }
+    ensures { result ≡ is_field_name_byte b }
 {
     matches!(b, b'!'..=b'~') && b != b':'
 }
 
 fn all_name_bytes(bytes: &[u8]) -> bool
-    ensures { result ≡ list_all is_name_byte bytes.now }
+    ensures { result ≡ list_all is_field_name_byte bytes.now }
 {
     bytes.iter().all(|b| is_name_byte(*b))
 }
 
 fn is_name(name: &[u8]) -> bool
-    ensures { result ≡ is_name name.now }
+    ensures { result ≡ is_field_name name.now }
 {
     !name.is_empty() && all_name_bytes(name)
 }
@@ -86,7 +86,7 @@ fn colon_place(line: &[u8]) -> Option<usize>
 
 /// The field that a line is, with the lines that go on with it.
 fn field_of(line: &[u8]) -> Option<Field<'_>>
-    ensures { option_map field_text result ≡ field_of line.now }
+    ensures { option_map field_text result ≡ folded_field line.now }
 {
     let Some(colon) = colon_place(line) else {
         return None;

@@ -9,19 +9,19 @@ use Rattle.as2_posts.specs.declared.opening.Opened.{Opened}
 abbrev pub names_in : Opened → Text × Text
 names_in opened = (opened.from, opened.to)
 
-abbrev pub type_in : Opened → MediaType × Text
-type_in opened = (opened.media, opened.content_type.now)
+abbrev pub opened_type : Opened → MediaType × Text
+opened_type opened = (opened.media, opened.content_type.now)
 
 -- the receipt that came so
 abbrev pub receipt_by : Opened → Receipt → Text → ReceivedReceipt
-receipt_by opened receipt body = received_receipt (names_in opened) (type_in opened) body receipt
+receipt_by opened receipt body = received_receipt (names_in opened) (opened_type opened) body receipt
 
 -- a post that came so is read as a receipt, or as a document
 abbrev pub report_by : Opened → Text → Reading
-report_by opened body = report_posted (names_in opened) (type_in opened) body
+report_by opened body = report_posted (names_in opened) (opened_type opened) body
 
 abbrev pub document_by : Opened → Head → Text → Reading
-document_by opened head body = document_posted (names_in opened) (type_in opened) head body
+document_by opened head body = document_posted (names_in opened) (opened_type opened) head body
 
 abbrev pub read_further : Opened → Head → Text → Reading
 read_further opened head body = if is_report opened.media then report_by opened body else document_by opened head body

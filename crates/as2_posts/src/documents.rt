@@ -2,12 +2,12 @@
 ghost use Rattle.std.specs.Prelude.{◌≡◌, false, IfOk, codes};
 ghost use Rattle.as2_names.specs.Heads.{values};
 ghost use Rattle.as2_media.specs.Kinds.{kind_of};
-ghost use Rattle.as2_text.specs.ReceiptRequests.{delivery_option, is_twice, request_of, text_of};
+ghost use Rattle.as2_text.specs.ReceiptRequests.{delivery_option, is_given_twice, request_of, text_of};
 ghost use Rattle.as2_mdn.specs.Outcomes.{report_mic};
 ghost use Rattle.as2_exchange.specs.Readings.{asked_how};
 ghost use Rattle.as2_exchange.specs.Posts.{posted};
 ghost use Rattle.as2_posts.specs.Documents.{is_asked, read_as};
-ghost use Rattle.as2_posts.specs.Openings.{document_by, names_in, type_in};
+ghost use Rattle.as2_posts.specs.Openings.{document_by, names_in, opened_type};
 
 use crate::encodings::is_encoded;
 use crate::fields::id_in;
@@ -20,7 +20,7 @@ use std::alloc::Global;
 
 /// The text of the address that the receipt is to be sent to.
 fn delivery_address(head: &Head) -> &[u8]
-    ensures { is_twice (delivery_option head.now) ≡ false → result.now ≡ text_of (delivery_option head.now) }
+    ensures { is_given_twice (delivery_option head.now) ≡ false → result.now ≡ text_of (delivery_option head.now) }
 {
     match head.value(b"receipt-delivery-option") {
         Once::One(text) => text,
@@ -69,7 +69,7 @@ fn posted(
     content: Pieces,
 ) -> Result<Posted, Memory>
     requires { is_asked head.now (request_of ask.now) }
-    ensures { IfOk result (λ p. p ≡ posted (names_in opened.entry) id (type_in opened.entry) head.now content (request_of ask.now)) }
+    ensures { IfOk result (λ p. p ≡ posted (names_in opened.entry) id (opened_type opened.entry) head.now content (request_of ask.now)) }
 {
     let outcome = outcome_of(opened.media.kind(), is_encoded(head), ask);
     let how = how_of(alloc, head, ask)?;

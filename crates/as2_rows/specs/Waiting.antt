@@ -15,7 +15,7 @@ use Rattle.as2_rows.specs.declared.waiting.Wait.{Wait}
 use Rattle.as2_rows.specs.declared.waiting.Wait.TheVariants.{ToSend, ToAnswer, ToHear, ToEnd}
 
 -- what waits: its kind, the number of the entry, and from when on it is due
-pub record Waiting : Type 0 where
+pub record WaitingRow : Type 0 where
   pub kind : ℕ
   pub number : ℕ
   pub due : Option ℕ
@@ -58,19 +58,19 @@ in_kind Pending Idle = Some to_answer
 in_kind Pending Running = Some to_answer
 in_kind mdn attempt = None
 
-abbrev pub out_waiting : OutEntry → Option Waiting
+abbrev pub out_waiting : OutEntry → Option WaitingRow
 out_waiting d = option_map (λ kind. record { kind = kind; number = d.number; due = d.due }) (out_kind d.detail d.attempt)
 
-abbrev pub in_waiting : InEntry → Option Waiting
+abbrev pub in_waiting : InEntry → Option WaitingRow
 in_waiting e = option_map (λ kind. record { kind = kind; number = e.number; due = e.due }) (in_kind e.mdn e.attempt)
 
 -- all that waits in the inbox, and in the outbox, in order of the numbers
-abbrev pub waiting_in : List InEntry → List Waiting
+abbrev pub waiting_in : List InEntry → List WaitingRow
 waiting_in inbox = filter_map in_waiting inbox
 
-abbrev pub waiting_out : List OutEntry → List Waiting
+abbrev pub waiting_out : List OutEntry → List WaitingRow
 waiting_out outbox = filter_map out_waiting outbox
 
 -- as a query shows it: kind, number, due
-abbrev pub waiting_shown : Waiting → Row
+abbrev pub waiting_shown : WaitingRow → Row
 waiting_shown w = whole w.kind ∷ whole w.number ∷ whole_or_null w.due ∷ []

@@ -18,7 +18,7 @@ use Rattle.as2_exchange.proofs.Lists.{map_last, all_weaken}
 use Rattle.as2_exchange.proofs.WellFormed.{numbers_push}
 use Rattle.as2_rows.specs.Rows.{in_row, meta_row}
 use Rattle.as2_rows.specs.Contents.{pieces, piece_shown}
-use Rattle.as2_rows.specs.Waiting.{Waiting, in_waiting}
+use Rattle.as2_rows.specs.Waiting.{WaitingRow, in_waiting}
 use Rattle.as2_store.specs.Tables.{store_schema, meta_tree, inbox_tree, inbox_piece_tree, waiting_tree}
 use Rattle.as2_store.specs.Stands.{IsWhole, Stands, HasCounters, inbox_pieces}
 use Rattle.as2_store.specs.Adding.{Appended, Noted, IsEntered, with_received, added}
@@ -32,7 +32,7 @@ record Wrote (old new : Connected) (tree : ℕ) (rows : List Row) : Type 0 where
   pub rows_are : new.now.trees tree ≡ rows
   pub others : AllByRecursion (λ t. t.tree ≢ tree → new.now.trees t.tree ≡ old.now.trees t.tree) store_schema.tables
 
-wrote : (old new : Connected) (o : Option Waiting) → old.now.schema ≡ store_schema → Noted old new o → Wrote old new waiting_tree (noted_rows o (old.now.trees waiting_tree))
+wrote : (old new : Connected) (o : Option WaitingRow) → old.now.schema ≡ store_schema → Noted old new o → Wrote old new waiting_tree (noted_rows o (old.now.trees waiting_tree))
 wrote old new None has same = record {
   schema_is = ap (λ d. d.schema) same ∙ has;
   rows_are = ap (λ d. d.trees waiting_tree) same;

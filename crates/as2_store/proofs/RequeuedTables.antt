@@ -22,12 +22,12 @@ use Rattle.as2_exchange.specs.declared.outbox.OutEntry.{OutEntry}
 use Rattle.as2_exchange.proofs.Lists.{all_weaken, map_kept}
 use Rattle.as2_rows.specs.Rows.{in_row}
 use Rattle.as2_rows.specs.Contents.{pieces, piece_shown}
-use Rattle.as2_rows.specs.Waiting.{Waiting, in_waiting, waiting_in, to_send, to_answer, to_hear, to_end}
+use Rattle.as2_rows.specs.Waiting.{WaitingRow, in_waiting, waiting_in, to_send, to_answer, to_hear, to_end}
 use Rattle.as2_store.specs.Tables.{store_schema, inbox_table, inbox_tree, inbox_piece_tree}
 use Rattle.as2_store.proofs.Statements.{in_requeue_text}
 use Rattle.as2_store.specs.Stands.{IsWhole, Stands, place, waiting_row, documents_waiting, all_waiting, inbox_pieces}
 use Rattle.as2_exchange.specs.Recording.{requeued}
-use Rattle.as2_store.specs.Requeuing.{requeued_in, not_at, Holds, Renewed}
+use Rattle.as2_store.specs.Requeuing.{requeued_in, not_at, HoldsWaiting, Renewed}
 use Rattle.as2_store.proofs.NumberedRows.{numbers_rise, entries_rise}
 use Rattle.as2_store.proofs.WaitingRows.{IsLast, documents_of, ins_small, last_of}
 use Rattle.as2_store.proofs.InboxRow.{cast_url, cast_digest, cast_mic}
@@ -84,7 +84,7 @@ places_in_order d s it =
     (documents_of to_send end_of_numbers s.outbox outs) (ins_small end_of_numbers s.inbox ins) (documents_of to_hear end_of_numbers s.outbox outs) (documents_of to_end end_of_numbers s.outbox outs)
     (documents_rise to_send s.outbox ds) (receipts_rise s.inbox es) (documents_rise to_hear s.outbox ds) (documents_rise to_end s.outbox ds)
 
-pub holds : (a b : Connected) (s : State) → Stands a.now s → (rows : List Row) → Changed a b store_schema inbox_tree rows → Holds b.now (all_waiting s)
+pub holds : (a b : Connected) (s : State) → Stands a.now s → (rows : List Row) → Changed a b store_schema inbox_tree rows → HoldsWaiting b.now (all_waiting s)
 holds a b s it rows one = record {
   schema = one.schema_is;
   rows = one.others.1.1.1.1.1.1.0 (λ e. omega arith) ∙ it.entries.waits;
@@ -95,11 +95,11 @@ behind : (n : ℕ) (es : List InEntry) → AllByRecursion (λ (e : InEntry). n <
 behind n [] all = tt
 behind n (e ∷ es) all = go (in_waiting e) (last_of e.mdn e.attempt e.number e.due) (behind n es all.1)
   where
-    go : (o : Option Waiting) → IfSome o (IsLast e.number) → AllByRecursion (λ v. (v.kind ≡ to_answer) × (n < v.number)) (waiting_in es) → AllByRecursion (λ v. (v.kind ≡ to_answer) × (n < v.number)) (cons_option o (waiting_in es))
+    go : (o : Option WaitingRow) → IfSome o (IsLast e.number) → AllByRecursion (λ v. (v.kind ≡ to_answer) × (n < v.number)) (waiting_in es) → AllByRecursion (λ v. (v.kind ≡ to_answer) × (n < v.number)) (cons_option o (waiting_in es))
     go None is rest = rest
     go (Some v) is rest = ((is.0, omega (arith, is.1, all.0)), rest)
 
-abbrev pub to_send_from : ℕ → ℕ → Waiting
+abbrev pub to_send_from : ℕ → ℕ → WaitingRow
 to_send_from n m = record { kind = to_answer; number = n; due = Some m }
 
 waits_anew : (s : State) (n m : ℕ) → n < end_of_numbers → AllByRecursion (λ k. k < end_of_numbers) (map (λ (d : OutEntry). d.number) s.outbox) → Split n s.inbox
@@ -205,7 +205,7 @@ module _ {S : Type 0} (g : Ghosts S) (old : Held S) (mid : Connected) (n : ℕ) 
   }
 
   pub requeues_some : (last : Connected) (w m : ℕ) → (n < end_of_numbers → w ≡ n) → (count : ℕ) → count ≢ 0 → (HasCleanDisk last → HasCleanDisk mid) → (HasCleanDisk mid → IsTrue (state g old).is_open) → (HasCleanDisk mid → Set m count)
-      → (HasCleanDisk last → (ws : List Waiting) → Holds mid.now ws → Renewed mid last (to_send_from w m) ws) → HasCleanDisk last → Done g old last (requeued_in n m)
+      → (HasCleanDisk last → (ws : List WaitingRow) → HoldsWaiting mid.now ws → Renewed mid last (to_send_from w m) ws) → HasCleanDisk last → Done g old last (requeued_in n m)
   requeues_some last w m within count some was opened put renewed clean = record {
     was_open = opened (was clean);
     reaches = λ s r.

@@ -39,11 +39,11 @@ use Rattle.as2_exchange.proofs.Lists.{map_kept}
 use Rattle.as2_rows.specs.Rows.{out_row, evidence_row, evidence_shown}
 use Rattle.as2_rows.specs.Codes.{detail_code}
 use Rattle.as2_rows.specs.Contents.{pieces, piece_shown}
-use Rattle.as2_rows.specs.Waiting.{Waiting, out_kind, out_waiting, waiting_out, waiting_in, to_send, to_answer, to_hear, to_end}
+use Rattle.as2_rows.specs.Waiting.{WaitingRow, out_kind, out_waiting, waiting_out, waiting_in, to_send, to_answer, to_hear, to_end}
 use Rattle.as2_store.specs.Tables.{store_schema, outbox_table, outbox_tree, outbox_piece_tree, evidence_table, evidence_tree, waiting_table, waiting_tree}
 use Rattle.as2_store.proofs.Statements.{out_settle_text, evidence_put_text, document_take_text}
 use Rattle.as2_store.specs.Stands.{IsWhole, Stands, place, waiting_row, documents_waiting, all_waiting, evidence_rows, outbox_pieces}
-use Rattle.as2_store.specs.Requeuing.{Holds}
+use Rattle.as2_store.specs.Requeuing.{HoldsWaiting}
 use Rattle.as2_exchange.specs.Documents.{settled_as}
 use Rattle.as2_store.specs.Settling.{settled_in, of_document, without_document}
 use Rattle.as2_store.proofs.Committing.{Done}
@@ -203,11 +203,11 @@ numbers_differ m n = truth_of (is_ne (value_cmp (Int (pos m)) (Int (pos n)))) �
     truth_of true = refl
     truth_of false = refl
 
-pub takes_document : (n count : ℕ) (old new : Connected) (ws : List Waiting) → Holds old.now ws → Executes document_take_text (one_param n) old new (Ok count) → Changed old new store_schema waiting_tree (map waiting_row (without_document n ws))
+pub takes_document : (n count : ℕ) (old new : Connected) (ws : List WaitingRow) → HoldsWaiting old.now ws → Executes document_take_text (one_param n) old new (Ok count) → Changed old new store_schema waiting_tree (map waiting_row (without_document n ws))
 takes_document n count old new ws it h =
-    let done = deletes document_take_text (one_param n) old new store_schema it.schema 6 waiting_table refl document_terms (λ (w : Waiting). pos (place w)) waiting_row (λ _. refl) ws it.rows it.in_order (quiet waiting_tree) document_take_is document_take_plain count h in
+    let done = deletes document_take_text (one_param n) old new store_schema it.schema 6 waiting_table refl document_terms (λ (w : WaitingRow). pos (place w)) waiting_row (λ _. refl) ws it.rows it.in_order (quiet waiting_tree) document_take_is document_take_plain count h in
     subst (λ l. Changed old new store_schema waiting_tree (map waiting_row l))
-    (filter_agree (λ (w : Waiting). not (passes document_terms (one_param n) (waiting_row w))) (λ (w : Waiting). not (of_document n w))
+    (filter_agree (λ (w : WaitingRow). not (passes document_terms (one_param n) (waiting_row w))) (λ (w : WaitingRow). not (of_document n w))
     (λ w. ap not (ap₂ ◌&&◌ (numbers_equal w.number n) (ap (λ b. b && true) (numbers_differ w.kind 2) ∙ and_true _))) ws) done.0
 
 at_rest : (detail : Detail) → is_by_receipt detail ≡ true → out_kind detail Idle ≡ None
@@ -246,7 +246,7 @@ no_answer MicDiffers a = tt
 no_answer TriesUsed a = tt
 no_answer Overdue a = tt
 
-abbrev waits_as : OutEntry → Option ℕ → Option Waiting
+abbrev waits_as : OutEntry → Option ℕ → Option WaitingRow
 waits_as d o = option_map (λ kind. record { kind = kind; number = d.number; due = d.due }) o
 
 documents_left : (n : ℕ) (detail : Detail) (e : Evidence) → is_by_receipt detail ≡ true → (ds : List OutEntry) → without_document n (waiting_out ds) ≡ waiting_out (ended n detail e ds)
@@ -269,7 +269,7 @@ documents_left n detail e by (d ∷ ds) =
         ap₂ (λ a b. cond (not (a && not b)) (record { kind = kind; number = d.number; due = d.due } ∷ without_document n (waiting_out ds)) (without_document n (waiting_out ds))) is other
         ∙ ap (λ l. record { kind = kind; number = d.number; due = d.due } ∷ l) rest
 
-swapped : (p q : Waiting → Bool) (ws : List Waiting) → filter p (filter q ws) ≡ filter q (filter p ws)
+swapped : (p q : WaitingRow → Bool) (ws : List WaitingRow) → filter p (filter q ws) ≡ filter q (filter p ws)
 swapped p q [] = refl
 swapped p q (w ∷ ws) = go (p w) refl (q w) refl (swapped p q ws)
   where
@@ -284,7 +284,7 @@ of_kind_left kind n detail e by ds =
     swapped (λ w. not (of_document n w)) (λ w. w.kind == kind) (waiting_out ds) ∙ ap (filter (λ w. w.kind == kind)) (documents_left n detail e by ds)
 
 -- receipts that are to be sent stay
-answers_left : (n next : ℕ) (ws : List Waiting) → AllByRecursion (IsOf to_answer next) ws → without_document n ws ≡ ws
+answers_left : (n next : ℕ) (ws : List WaitingRow) → AllByRecursion (IsOf to_answer next) ws → without_document n ws ≡ ws
 answers_left n next ws all = filter_all (λ w. not (of_document n w)) ws (all_weaker (IsOf to_answer next) (λ w. not (of_document n w) ≡ true) (λ w of. stays w.kind of.0 (w.number == n)) ws all)
   where
     stays : (kind : ℕ) → kind ≡ to_answer → (t : Bool) → not (t && not (kind == to_answer)) ≡ true
@@ -294,7 +294,7 @@ answers_left n next ws all = filter_all (λ w. not (of_document n w)) ws (all_we
 pub waits_left : (s : State) (n : ℕ) (detail : Detail) (e : Evidence) → is_by_receipt detail ≡ true → AllByRecursion (λ k. k < s.next_in) (map (λ (x : InEntry). x.number) s.inbox)
     → without_document n (all_waiting s) ≡ all_waiting (change_document s n (settled_as detail e))
 waits_left s n detail e by ins =
-    let p = λ (w : Waiting). not (of_document n w) in
+    let p = λ (w : WaitingRow). not (of_document n w) in
     let send = documents_waiting to_send s.outbox in
     let answer = waiting_in s.inbox in
     let hear = documents_waiting to_hear s.outbox in
@@ -314,7 +314,7 @@ given a s n d it found =
     omega (arith, below, found_number n s.outbox d found, it.documents.0.most)
 
 -- what waits is untouched by the first two statements
-pub still_holds : (a b c : Connected) (s : State) → Stands a.now s → (documents receipts : List Row) → Changed a b store_schema outbox_tree documents → Changed b c store_schema evidence_tree receipts → Holds c.now (all_waiting s)
+pub still_holds : (a b c : Connected) (s : State) → Stands a.now s → (documents receipts : List Row) → Changed a b store_schema outbox_tree documents → Changed b c store_schema evidence_tree receipts → HoldsWaiting c.now (all_waiting s)
 still_holds a b c s it documents receipts one two = record {
   schema = two.schema_is;
   rows = two.others.1.1.1.1.1.1.0 (λ e. omega arith) ∙ one.others.1.1.1.1.1.1.0 (λ e. omega arith) ∙ it.entries.waits;
@@ -362,7 +362,7 @@ pub ends : {S : Type 0} (g : Ghosts S) (old : Held S) (one two last : Connected)
     → (HasCleanDisk one → (s : State) → Stands (state g old).now s → (e : Evidence)
     → Changed (state g (record old { in_transaction = true })) one store_schema outbox_tree (map out_row (change_document s w (settled_as detail e)).outbox) × (count ≡ length (filter (λ (d : OutEntry). d.number == w) s.outbox)))
     → (HasCleanDisk two → one.now.schema ≡ store_schema → Changed one two store_schema evidence_tree (put_row (evidence_row w e) (one.now.trees evidence_tree)) × (are_fresh (one.now.trees evidence_tree) (evidence_row w e ∷ []) ≡ true))
-    → (HasCleanDisk last → (ws : List Waiting) → Holds two.now ws → Changed two last store_schema waiting_tree (map waiting_row (without_document w ws)))
+    → (HasCleanDisk last → (ws : List WaitingRow) → HoldsWaiting two.now ws → Changed two last store_schema waiting_tree (map waiting_row (without_document w ws)))
     → HasCleanDisk last → Done g old last (settled_in n detail e)
 ends g old one two last n w detail e by beyond within count some was_one was_two opened set put taken clean =
     let begun = state g (record old { in_transaction = true }) in

@@ -12,11 +12,11 @@ use Rattle.sql_tables.proofs.Deleting.{deletes}
 use Rattle.as2_exchange.specs.State.{end_of_numbers}
 use Rattle.as2_exchange.specs.declared.inbox.InEntry.{InEntry}
 use Rattle.as2_exchange.specs.declared.outbox.OutEntry.{OutEntry}
-use Rattle.as2_rows.specs.Waiting.{Waiting, out_kind, in_kind, in_waiting, out_waiting, waiting_in, to_send, to_answer, to_hear, to_end}
+use Rattle.as2_rows.specs.Waiting.{WaitingRow, out_kind, in_kind, in_waiting, out_waiting, waiting_in, to_send, to_answer, to_hear, to_end}
 use Rattle.as2_store.specs.Tables.{store_schema, waiting_table, waiting_tree}
 use Rattle.as2_store.proofs.Statements.{waiting_take_text}
 use Rattle.as2_store.specs.Stands.{place, waiting_row, documents_waiting}
-use Rattle.as2_store.specs.Requeuing.{Holds, not_at}
+use Rattle.as2_store.specs.Requeuing.{HoldsWaiting, not_at}
 use Rattle.as2_store.proofs.MetaRow.{one_param}
 use Rattle.as2_store.proofs.NumberedRows.{given_rise, ordered_rise, puts_between}
 use Rattle.as2_store.proofs.WaitingRows.{IsOf, IsLast}
@@ -26,48 +26,48 @@ use Rattle.as2_store.proofs.Texts.{number_terms, waiting_take_is, waiting_take_p
 
 -- ---- the statement
 
-pub takes_waiting : (p count : ℕ) (old new : Connected) (ws : List Waiting) → Holds old.now ws → Executes waiting_take_text (one_param p) old new (Ok count) → Changed old new store_schema waiting_tree (map waiting_row (not_at p ws))
+pub takes_waiting : (p count : ℕ) (old new : Connected) (ws : List WaitingRow) → HoldsWaiting old.now ws → Executes waiting_take_text (one_param p) old new (Ok count) → Changed old new store_schema waiting_tree (map waiting_row (not_at p ws))
 takes_waiting p count old new ws it h =
-    let done = deletes waiting_take_text (one_param p) old new store_schema it.schema 6 waiting_table refl number_terms (λ (w : Waiting). pos (place w)) waiting_row (λ _. refl) ws it.rows it.in_order (quiet waiting_tree) waiting_take_is waiting_take_plain count h in
+    let done = deletes waiting_take_text (one_param p) old new store_schema it.schema 6 waiting_table refl number_terms (λ (w : WaitingRow). pos (place w)) waiting_row (λ _. refl) ws it.rows it.in_order (quiet waiting_tree) waiting_take_is waiting_take_plain count h in
     subst (λ l. Changed old new store_schema waiting_tree (map waiting_row l))
-    (filter_agree (λ (w : Waiting). not (passes number_terms (one_param p) (waiting_row w))) (λ (w : Waiting). not (place w == p)) (λ w. ap not (ap (λ b. b && true) (numbers_equal (place w) p) ∙ and_true _)) ws) done.0
+    (filter_agree (λ (w : WaitingRow). not (passes number_terms (one_param p) (waiting_row w))) (λ (w : WaitingRow). not (place w == p)) (λ w. ap not (ap (λ b. b && true) (numbers_equal (place w) p) ∙ and_true _)) ws) done.0
 
 -- ---- the places rise
 
-abbrev IsUnder : Waiting → Waiting → Type 0
+abbrev IsUnder : WaitingRow → WaitingRow → Type 0
 IsUnder v w = v.number < w.number
 
-abbrev IsBefore : Waiting → Waiting → Type 0
+abbrev IsBefore : WaitingRow → WaitingRow → Type 0
 IsBefore v w = place v < place w
 
-named : (n : ℕ) (due : Option ℕ) (o : Option ℕ) → IfSome (option_map (λ kind. record { kind = kind; number = n; due = due }) o) (λ (w : Waiting). w.number ≡ n)
+named : (n : ℕ) (due : Option ℕ) (o : Option ℕ) → IfSome (option_map (λ kind. record { kind = kind; number = n; due = due }) o) (λ (w : WaitingRow). w.number ≡ n)
 named n due None = tt
 named n due (Some kind) = refl
 
-by_place : (kind next : ℕ) (ws : List Waiting) → AllByRecursion (IsOf kind next) ws → IsAscending IsUnder ws → IsAscending IsBefore ws
+by_place : (kind next : ℕ) (ws : List WaitingRow) → AllByRecursion (IsOf kind next) ws → IsAscending IsUnder ws → IsAscending IsBefore ws
 by_place kind next [] of up = tt
 by_place kind next (w ∷ ws) of up =
     (all_both (IsOf kind next) (λ v. w.number < v.number) (λ v. place w < place v) (λ v is less. omega (arith, of.0.0, is.0, less)) ws of.1 up.0, by_place kind next ws of.1 up.1)
 
-abbrev IsPast : ℕ → Waiting → Type 0
+abbrev IsPast : ℕ → WaitingRow → Type 0
 IsPast kind w = kind < w.kind
 
-past : (low kind next : ℕ) → low < kind → (ws : List Waiting) → AllByRecursion (IsOf kind next) ws → AllByRecursion (IsPast low) ws
+past : (low kind next : ℕ) → low < kind → (ws : List WaitingRow) → AllByRecursion (IsOf kind next) ws → AllByRecursion (IsPast low) ws
 past low kind next less ws of = all_weaker (IsOf kind next) (IsPast low) (λ w is. omega (arith, less, is.0)) ws of
 
 -- those of one kind, and behind them those of greater kinds
-then : (kind : ℕ) (xs ys : List Waiting) → AllByRecursion (IsOf kind end_of_numbers) xs → IsAscending IsUnder xs → AllByRecursion (IsPast kind) ys → IsAscending IsBefore ys → IsAscending IsBefore (xs ++ ys)
+then : (kind : ℕ) (xs ys : List WaitingRow) → AllByRecursion (IsOf kind end_of_numbers) xs → IsAscending IsUnder xs → AllByRecursion (IsPast kind) ys → IsAscending IsBefore ys → IsAscending IsBefore (xs ++ ys)
 then kind xs ys of up behind later =
     ascending-append IsBefore xs ys (by_place kind end_of_numbers xs of up) later
     (all_weaker (IsOf kind end_of_numbers) (λ x. AllByRecursion (IsBefore x) ys) (λ x is. all_weaker (IsPast kind) (IsBefore x) (λ y far. omega (arith, is.0, is.1, far)) ys behind) xs of)
 
 pub documents_rise : (kind : ℕ) (ds : List OutEntry) → IsAscending (λ (x y : OutEntry). x.number < y.number) ds → IsAscending IsUnder (documents_waiting kind ds)
-documents_rise kind ds up = ascending-filter IsUnder (λ w. w.kind == kind) (filter_map out_waiting ds) (given_rise out_waiting (λ (d : OutEntry). d.number) (λ (w : Waiting). w.number) (λ d. named d.number d.due (out_kind d.detail d.attempt)) ds up)
+documents_rise kind ds up = ascending-filter IsUnder (λ w. w.kind == kind) (filter_map out_waiting ds) (given_rise out_waiting (λ (d : OutEntry). d.number) (λ (w : WaitingRow). w.number) (λ d. named d.number d.due (out_kind d.detail d.attempt)) ds up)
 
 pub receipts_rise : (es : List InEntry) → IsAscending (λ (x y : InEntry). x.number < y.number) es → IsAscending IsUnder (waiting_in es)
-receipts_rise es up = given_rise in_waiting (λ (e : InEntry). e.number) (λ (w : Waiting). w.number) (λ e. named e.number e.due (in_kind e.mdn e.attempt)) es up
+receipts_rise es up = given_rise in_waiting (λ (e : InEntry). e.number) (λ (w : WaitingRow). w.number) (λ e. named e.number e.due (in_kind e.mdn e.attempt)) es up
 
-pub places_rise : (send answer hear end : List Waiting) → AllByRecursion (IsOf to_send end_of_numbers) send → AllByRecursion (IsOf to_answer end_of_numbers) answer → AllByRecursion (IsOf to_hear end_of_numbers) hear
+pub places_rise : (send answer hear end : List WaitingRow) → AllByRecursion (IsOf to_send end_of_numbers) send → AllByRecursion (IsOf to_answer end_of_numbers) answer → AllByRecursion (IsOf to_hear end_of_numbers) hear
     → AllByRecursion (IsOf to_end end_of_numbers) end → IsAscending IsUnder send → IsAscending IsUnder answer → IsAscending IsUnder hear → IsAscending IsUnder end → IsTable (map waiting_row (send ++ (answer ++ (hear ++ end))))
 places_rise send answer hear end s a h e us ua uh ue =
     let hears = past to_answer to_hear end_of_numbers (omega arith) hear h in
@@ -81,16 +81,16 @@ places_rise send answer hear end s a h e us ua uh ue =
 
 -- ---- one is put in anew
 
-joined : (a f b r : List Waiting) → a ++ ((f ++ b) ++ r) ≡ (a ++ f) ++ (b ++ r)
+joined : (a f b r : List WaitingRow) → a ++ ((f ++ b) ++ r) ≡ (a ++ f) ++ (b ++ r)
 joined a f b r = ap (λ l. a ++ l) (append_assoc f b r) ∙ sym (append_assoc a f (b ++ r))
 
-kept_low : (p : ℕ) (ws : List Waiting) → AllByRecursion (λ w. place w < p) ws → AllByRecursion (λ w. not (place w == p) ≡ true) ws
+kept_low : (p : ℕ) (ws : List WaitingRow) → AllByRecursion (λ w. place w < p) ws → AllByRecursion (λ w. not (place w == p) ≡ true) ws
 kept_low p ws all = all_weaker (λ w. place w < p) (λ w. not (place w == p) ≡ true) (λ w less. one (place w) less) ws all
   where
     one : (q : ℕ) → q < p → not (q == p) ≡ true
     one q less = grind (arith, nat_tests)
 
-kept_high : (p : ℕ) (ws : List Waiting) → AllByRecursion (λ w. p < place w) ws → AllByRecursion (λ w. not (place w == p) ≡ true) ws
+kept_high : (p : ℕ) (ws : List WaitingRow) → AllByRecursion (λ w. p < place w) ws → AllByRecursion (λ w. not (place w == p) ≡ true) ws
 kept_high p ws all = all_weaker (λ w. p < place w) (λ w. not (place w == p) ≡ true) (λ w less. one (place w) less) ws all
   where
     one : (q : ℕ) → p < q → not (q == p) ≡ true
@@ -99,7 +99,7 @@ kept_high p ws all = all_weaker (λ w. p < place w) (λ w. not (place w == p) �
 dropped : (p q : ℕ) → q ≡ p → not (q == p) ≡ false
 dropped p q same = grind (arith, nat_tests)
 
-taken : (p : ℕ) (o : Option Waiting) → IfSome o (λ w. place w ≡ p) → (front back : List Waiting) → AllByRecursion (λ w. place w < p) front → AllByRecursion (λ w. p < place w) back
+taken : (p : ℕ) (o : Option WaitingRow) → IfSome o (λ w. place w ≡ p) → (front back : List WaitingRow) → AllByRecursion (λ w. place w < p) front → AllByRecursion (λ w. p < place w) back
     → not_at p (front ++ cons_option o back) ≡ front ++ back
 taken p None at front back low high =
     filter-append (λ w. not (place w == p)) front back ∙ ap₂ ◌++◌ (filter_all _ front (kept_low p front low)) (filter_all _ back (kept_high p back high))
@@ -107,7 +107,7 @@ taken p (Some w) at front back low high =
     filter-append (λ w. not (place w == p)) front (w ∷ back)
     ∙ ap₂ ◌++◌ (filter_all _ front (kept_low p front low)) (ap (λ b. cond b (w ∷ not_at p back) (not_at p back)) (dropped p (place w) at) ∙ filter_all _ back (kept_high p back high))
 
-pub renewed : (n : ℕ) (w : Waiting) → IsLast n w → n < end_of_numbers → (o : Option Waiting) → IfSome o (IsLast n) → (send front back hear end : List Waiting)
+pub renewed : (n : ℕ) (w : WaitingRow) → IsLast n w → n < end_of_numbers → (o : Option WaitingRow) → IfSome o (IsLast n) → (send front back hear end : List WaitingRow)
     → AllByRecursion (IsOf to_send end_of_numbers) send → AllByRecursion (IsOf to_answer n) front → AllByRecursion (λ v. (v.kind ≡ to_answer) × (n < v.number)) back
     → AllByRecursion (IsOf to_hear end_of_numbers) hear → AllByRecursion (IsOf to_end end_of_numbers) end
     → put_row (waiting_row w) (map waiting_row (not_at (place w) (send ++ ((front ++ cons_option o back) ++ (hear ++ end))))) ≡ map waiting_row (send ++ ((front ++ w ∷ back) ++ (hear ++ end)))
@@ -122,10 +122,10 @@ renewed n w is small o was send front back hear end s f b h e =
     ∙ puts_between waiting_row place (λ _. refl) w (send ++ front) (back ++ (hear ++ end)) low high
     ∙ ap (map waiting_row) (sym (joined send front (w ∷ back) (hear ++ end)))
   where
-    spread : (o : Option Waiting) → send ++ ((front ++ cons_option o back) ++ (hear ++ end)) ≡ (send ++ front) ++ cons_option o (back ++ (hear ++ end))
+    spread : (o : Option WaitingRow) → send ++ ((front ++ cons_option o back) ++ (hear ++ end)) ≡ (send ++ front) ++ cons_option o (back ++ (hear ++ end))
     spread None = joined send front back (hear ++ end)
     spread (Some v) = joined send front (v ∷ back) (hear ++ end)
 
-    stood : (o : Option Waiting) → IfSome o (IsLast n) → IfSome o (λ v. place v ≡ place w)
+    stood : (o : Option WaitingRow) → IfSome o (IsLast n) → IfSome o (λ v. place v ≡ place w)
     stood None was = tt
     stood (Some v) was = omega (arith, was.0, was.1, is.0, is.1)

@@ -20,7 +20,7 @@ use Rattle.as2_exchange.specs.declared.attempt.Attempt.{Attempt}
 use Rattle.as2_exchange.specs.declared.attempt.Attempt.TheVariants.{Idle, Running, Last, Used}
 use Rattle.as2_exchange.specs.declared.outbox.OutEntry.{OutEntry}
 use Rattle.as2_rows.specs.Rows.{whole, whole_or_null}
-use Rattle.as2_rows.specs.Waiting.{Waiting, out_kind, in_kind, in_waiting, waiting_in, waiting_out, waiting_shown, to_send, to_answer, to_hear, to_end}
+use Rattle.as2_rows.specs.Waiting.{WaitingRow, out_kind, in_kind, in_waiting, waiting_in, waiting_out, waiting_shown, to_send, to_answer, to_hear, to_end}
 use Rattle.as2_store.specs.Tables.{store_schema, waiting_table}
 use Rattle.as2_store.proofs.Statements.{waiting_put_text}
 use Rattle.as2_store.specs.Stands.{place, waiting_row, documents_waiting, all_waiting}
@@ -38,22 +38,22 @@ pub bound_optional : (n : Option ℕ) → bound_value (or_null Int (option_map p
 bound_optional None = refl
 bound_optional (Some n) = refl
 
-abbrev pub waiting_params : Waiting → Row
+abbrev pub waiting_params : WaitingRow → Row
 waiting_params w = whole (place w) ∷ waiting_shown w
 
-one_waiting : (w : Waiting) → IsOneRow waiting_table (waiting_params w) waiting_put_terms 5 (waiting_row w)
+one_waiting : (w : WaitingRow) → IsOneRow waiting_table (waiting_params w) waiting_put_terms 5 (waiting_row w)
 one_waiting w = record { source = waiting_row w; made = refl; cast_is = simp (cast_int, cast_null, cast_optional) }
 
-pub puts_waiting : (old new : Connected) (w : Waiting) (count : ℕ) → old.now.schema ≡ store_schema → Executes waiting_put_text (waiting_params w) old new (Ok count) → Noted old new (Some w)
+pub puts_waiting : (old new : Connected) (w : WaitingRow) (count : ℕ) → old.now.schema ≡ store_schema → Executes waiting_put_text (waiting_params w) old new (Ok count) → Noted old new (Some w)
 puts_waiting old new w count has h =
     inserts_given waiting_put_text (waiting_params w) old new store_schema has 6 waiting_table refl refl waiting_put_terms 5 (waiting_row w) (one_waiting w) refl waiting_put_is waiting_put_plain count h
 
 -- ---- kinds and numbers of what waits
 
-abbrev pub IsOf : ℕ → ℕ → Waiting → Type 0
+abbrev pub IsOf : ℕ → ℕ → WaitingRow → Type 0
 IsOf kind next w = (w.kind ≡ kind) × (w.number < next)
 
-small_out : (next n : ℕ) (due : Option ℕ) (o : Option ℕ) (rest : List Waiting) → n < next → AllByRecursion (λ w. w.number < next) rest
+small_out : (next n : ℕ) (due : Option ℕ) (o : Option ℕ) (rest : List WaitingRow) → n < next → AllByRecursion (λ w. w.number < next) rest
     → AllByRecursion (λ w. w.number < next) (cons_option (option_map (λ kind. record { kind = kind; number = n; due = due }) o) rest)
 small_out next n due None rest small all = all
 small_out next n due (Some kind) rest small all = (small, all)
@@ -62,7 +62,7 @@ outs_small : (next : ℕ) (ds : List OutEntry) → AllByRecursion (λ n. n < nex
 outs_small next [] all = tt
 outs_small next (d ∷ ds) all = small_out next d.number d.due (out_kind d.detail d.attempt) (waiting_out ds) all.0 (outs_small next ds all.1)
 
-small_in : (next n : ℕ) (due : Option ℕ) (m : MdnState) (a : Attempt) (rest : List Waiting) → n < next → AllByRecursion (IsOf to_answer next) rest
+small_in : (next n : ℕ) (due : Option ℕ) (m : MdnState) (a : Attempt) (rest : List WaitingRow) → n < next → AllByRecursion (IsOf to_answer next) rest
     → AllByRecursion (IsOf to_answer next) (cons_option (option_map (λ kind. record { kind = kind; number = n; due = due }) (in_kind m a)) rest)
 small_in next n due Pending Idle rest small all = ((refl, small), all)
 small_in next n due Pending Running rest small all = ((refl, small), all)
@@ -75,7 +75,7 @@ pub ins_small : (next : ℕ) (es : List InEntry) → AllByRecursion (λ n. n < n
 ins_small next [] all = tt
 ins_small next (e ∷ es) all = small_in next e.number e.due e.mdn e.attempt (waiting_in es) all.0 (ins_small next es all.1)
 
-of_kind : (kind next : ℕ) (ws : List Waiting) → AllByRecursion (λ w. w.number < next) ws → AllByRecursion (IsOf kind next) (filter (λ w. w.kind == kind) ws)
+of_kind : (kind next : ℕ) (ws : List WaitingRow) → AllByRecursion (λ w. w.number < next) ws → AllByRecursion (IsOf kind next) (filter (λ w. w.kind == kind) ws)
 of_kind kind next [] all = tt
 of_kind kind next (w ∷ ws) all = go (w.kind == kind) refl (of_kind kind next ws all.1)
   where
@@ -88,11 +88,11 @@ documents_of kind next ds all = of_kind kind next (waiting_out ds) (outs_small n
 
 -- ---- the rows with one more
 
-abbrev pub noted_rows : Option Waiting → List Row → List Row
+abbrev pub noted_rows : Option WaitingRow → List Row → List Row
 noted_rows None rows = rows
 noted_rows (Some w) rows = put_row (waiting_row w) rows
 
-abbrev pub IsLast : ℕ → Waiting → Type 0
+abbrev pub IsLast : ℕ → WaitingRow → Type 0
 IsLast n w = (w.kind ≡ to_answer) × (w.number ≡ n)
 
 pub last_of : (m : MdnState) (a : Attempt) (n : ℕ) (due : Option ℕ) → IfSome (option_map (λ kind. record { kind = kind; number = n; due = due }) (in_kind m a)) (IsLast n)
@@ -103,7 +103,7 @@ last_of Pending Used n due = tt
 last_of Unasked a n due = tt
 last_of Sent a n due = tt
 
-noted_in : (n : ℕ) (o : Option Waiting) → IfSome o (IsLast n) → n < end_of_numbers → (send answer hear end : List Waiting) → AllByRecursion (IsOf to_send end_of_numbers) send → AllByRecursion (IsOf to_answer n) answer
+noted_in : (n : ℕ) (o : Option WaitingRow) → IfSome o (IsLast n) → n < end_of_numbers → (send answer hear end : List WaitingRow) → AllByRecursion (IsOf to_send end_of_numbers) send → AllByRecursion (IsOf to_answer n) answer
     → AllByRecursion (IsOf to_hear end_of_numbers) hear → AllByRecursion (IsOf to_end end_of_numbers) end
     → noted_rows o (map waiting_row (send ++ (answer ++ (hear ++ end)))) ≡ map waiting_row (send ++ ((answer ++ cons_option o []) ++ (hear ++ end)))
 noted_in n None last small send answer hear end s a h e = ap (λ l. map waiting_row (send ++ (l ++ (hear ++ end)))) (sym (append-nil answer))

@@ -7,7 +7,7 @@ use Rattle.sql_tables.specs.Changes.{Changed, HasRows}
 use Rattle.as2_exchange.specs.State.{State}
 use Rattle.as2_exchange.specs.declared.inbox.InEntry.{InEntry}
 use Rattle.as2_rows.specs.Contents.{Piece, piece_shown}
-use Rattle.as2_rows.specs.Waiting.{Waiting}
+use Rattle.as2_rows.specs.Waiting.{WaitingRow}
 use Rattle.as2_store.specs.Tables.{store_schema, waiting_tree}
 use Rattle.as2_store.specs.Stands.{HasCounters, HasEntries, waiting_row}
 use Rattle.sqlite.specs.Effect.{Database}
@@ -33,7 +33,7 @@ pub record Appended (old new : Connected) (tree : ℕ) (ps : List Piece) : Type 
   pub others : AllByRecursion (λ t. t.tree ≢ tree → new.now.trees t.tree ≡ old.now.trees t.tree) store_schema.tables
 
 -- a row was put in for what waits, if something does
-abbrev pub Noted : Connected → Connected → Option Waiting → Type 0
+abbrev pub Noted : Connected → Connected → Option WaitingRow → Type 0
 Noted old new None = new.now ≡ old.now
 Noted old new (Some w) = Changed old new store_schema waiting_tree (put_row (waiting_row w) (old.now.trees waiting_tree))
 

@@ -6,7 +6,7 @@ use Rattle.sqlite.specs.State.{State as Connected}
 use Rattle.sqlite.specs.Tree.{put_row, IsTable}
 use Rattle.as2_exchange.specs.Recording.{requeued}
 use Rattle.as2_exchange.specs.State.{State, change_received}
-use Rattle.as2_rows.specs.Waiting.{Waiting}
+use Rattle.as2_rows.specs.Waiting.{WaitingRow}
 use Rattle.as2_store.specs.Tables.{store_schema, waiting_tree}
 use Rattle.as2_store.specs.Stands.{place, waiting_row}
 
@@ -15,17 +15,17 @@ abbrev pub requeued_in : ℕ → ℕ → State → Option State
 requeued_in n m s = Some (change_received s n (requeued m))
 
 -- what waits, in order of the places
-pub record Holds (d : Database) (ws : List Waiting) : Type 0 where
+pub record HoldsWaiting (d : Database) (ws : List WaitingRow) : Type 0 where
   pub schema : d.schema ≡ store_schema
   pub rows : d.trees waiting_tree ≡ map waiting_row ws
   pub in_order : IsTable (map waiting_row ws)
 
 -- what stands at another place
-abbrev pub not_at : ℕ → List Waiting → List Waiting
+abbrev pub not_at : ℕ → List WaitingRow → List WaitingRow
 not_at p ws = filter (λ w. not (place w == p)) ws
 
 -- this waits, in place of what stood at its place, and the other tables are as they were
-pub record Renewed (old new : Connected) (w : Waiting) (ws : List Waiting) : Type 0 where
+pub record Renewed (old new : Connected) (w : WaitingRow) (ws : List WaitingRow) : Type 0 where
   pub sound : IsDatabase new.now
   pub schema_is : new.now.schema ≡ store_schema
   pub rows_are : new.now.trees waiting_tree ≡ put_row (waiting_row w) (map waiting_row (not_at (place w) ws))

@@ -6,7 +6,7 @@ use Rattle.as2_exchange.specs.Documents.{settled_as}
 use Rattle.as2_exchange.specs.State.{State, document, change_document, is_settled}
 use Rattle.as2_exchange.specs.Invariants.{is_by_receipt}
 use Rattle.as2_exchange.specs.declared.outbox.Evidence.{Evidence}
-use Rattle.as2_rows.specs.Waiting.{Waiting, to_answer}
+use Rattle.as2_rows.specs.Waiting.{WaitingRow, to_answer}
 
 -- the state once a receipt settles the document of this number so: one that no receipt has settled, by a detail that a receipt
 -- gives
@@ -16,9 +16,9 @@ settled_in n detail evidence s =
     else Some (change_document s n (settled_as detail evidence))
 
 -- the document of this number waits
-abbrev pub of_document : ℕ → Waiting → Bool
+abbrev pub of_document : ℕ → WaitingRow → Bool
 of_document n w = w.number == n && not (w.kind == to_answer)
 
 -- all but what the document of this number waits for
-abbrev pub without_document : ℕ → List Waiting → List Waiting
+abbrev pub without_document : ℕ → List WaitingRow → List WaitingRow
 without_document n ws = filter (λ w. not (of_document n w)) ws

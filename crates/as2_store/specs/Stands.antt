@@ -17,7 +17,7 @@ use Rattle.as2_exchange.specs.declared.fault.StoreFault.{StoreFault}
 use Rattle.as2_exchange.specs.declared.fault.StoreFault.TheVariants.{Memory, Disk, Refused, Full, NotAStore, OtherVersion}
 use Rattle.as2_rows.specs.Rows.{whole, in_row, out_row, evidence_row, meta_row}
 use Rattle.as2_rows.specs.Contents.{Piece, pieces, piece_shown}
-use Rattle.as2_rows.specs.Waiting.{Waiting, waiting_in, waiting_out, waiting_shown, to_send, to_hear, to_end}
+use Rattle.as2_rows.specs.Waiting.{WaitingRow, waiting_in, waiting_out, waiting_shown, to_send, to_hear, to_end}
 use Rattle.as2_store.specs.Tables.{current, no_schema, store_schema, meta_table, meta_tree, inbox_tree, inbox_piece_tree, outbox_tree, outbox_piece_tree, evidence_tree, waiting_tree}
 
 -- ---- contents
@@ -39,18 +39,18 @@ evidence_rows outbox = filter_map (λ d. option_map (evidence_row d.number) d.ev
 -- ---- what waits
 
 -- where it stands: one kind after the other, each in order of number
-abbrev pub place : Waiting → ℕ
+abbrev pub place : WaitingRow → ℕ
 place w = w.kind * end_of_numbers + w.number
 
-abbrev pub waiting_row : Waiting → Row
+abbrev pub waiting_row : WaitingRow → Row
 waiting_row w = whole (place w) ∷ Null ∷ waiting_shown w
 
 -- what waits of this kind, in the outbox
-abbrev pub documents_waiting : ℕ → List OutEntry → List Waiting
+abbrev pub documents_waiting : ℕ → List OutEntry → List WaitingRow
 documents_waiting kind outbox = filter (λ w. w.kind == kind) (waiting_out outbox)
 
 -- all that waits, in the order of the places: documents to send, receipts to send, receipts awaited, last tries
-abbrev pub all_waiting : State → List Waiting
+abbrev pub all_waiting : State → List WaitingRow
 all_waiting s = documents_waiting to_send s.outbox ++ (waiting_in s.inbox ++ (documents_waiting to_hear s.outbox ++ documents_waiting to_end s.outbox))
 
 -- ---- the state

@@ -6,11 +6,11 @@ ghost use Rattle.sqlite.specs.State.{HasCleanDisk};
 ghost use Rattle.as2_store.specs.Calls.{IsInside};
 ghost use Rattle.sql_tables.specs.Changes.{Changed};
 ghost use Rattle.as2_exchange.specs.State.{end_of_numbers};
-ghost use Rattle.as2_rows.specs.Waiting.{Waiting, in_waiting, kind_code, to_answer};
+ghost use Rattle.as2_rows.specs.Waiting.{WaitingRow, in_waiting, kind_code, to_answer};
 ghost use Rattle.as2_store.specs.Tables.{store_schema, waiting_tree};
 ghost use Rattle.as2_store.specs.Stands.{waiting_row};
 ghost use Rattle.as2_store.specs.Adding.{Noted};
-ghost use Rattle.as2_store.specs.Requeuing.{Holds, Renewed, not_at};
+ghost use Rattle.as2_store.specs.Requeuing.{HoldsWaiting, Renewed, not_at};
 ghost use Rattle.as2_store.specs.Settling.{without_document};
 
 use crate::numbers::{whole, whole_or_none};
@@ -50,7 +50,7 @@ fn take_waiting<S: Alter>(tx: &mut Transaction<'_, S>, place: u64) -> Result<(),
     requires { place < 2 ^ 63 }
     ensures same_reference { tx.new.conn.ghost_name ≡ tx.old.conn.ghost_name }
     ensures within { IsInside (state S.Store tx.old.conn.now) (state S.Store tx.new.conn.now) }
-    ensures put { HasCleanDisk (state S.Store tx.new.conn.now) → OnOk result ((ws : List Waiting) → Holds (state S.Store tx.old.conn.now).now ws
+    ensures put { HasCleanDisk (state S.Store tx.new.conn.now) → OnOk result ((ws : List WaitingRow) → HoldsWaiting (state S.Store tx.old.conn.now).now ws
         → Changed (state S.Store tx.old.conn.now) (state S.Store tx.new.conn.now) store_schema waiting_tree (map waiting_row (not_at place ws))) }
 {
     let place = whole(place);
@@ -91,7 +91,7 @@ pub fn wait_anew<S: Alter>(tx: &mut Transaction<'_, S>, number: u64, due: u64) -
     ensures same_reference { tx.new.conn.ghost_name ≡ tx.old.conn.ghost_name }
     ensures within { IsInside (state S.Store tx.old.conn.now) (state S.Store tx.new.conn.now) }
     ensures inside { HasCleanDisk (state S.Store tx.new.conn.now) → OnOk result (IsTrue (state S.Store tx.new.conn.now).in_transaction) }
-    ensures put { HasCleanDisk (state S.Store tx.new.conn.now) → OnOk result ((ws : List Waiting) → Holds (state S.Store tx.old.conn.now).now ws
+    ensures put { HasCleanDisk (state S.Store tx.new.conn.now) → OnOk result ((ws : List WaitingRow) → HoldsWaiting (state S.Store tx.old.conn.now).now ws
         → Renewed (state S.Store tx.old.conn.now) (state S.Store tx.new.conn.now) (record { kind = to_answer; number = number; due = Some due }) ws) }
 {
     take_waiting(tx, Wait::ToAnswer.code() * END_OF_NUMBERS + number)?;
@@ -105,7 +105,7 @@ pub fn take_document<S: Alter>(tx: &mut Transaction<'_, S>, number: u64) -> Resu
     ensures same_reference { tx.new.conn.ghost_name ≡ tx.old.conn.ghost_name }
     ensures within { IsInside (state S.Store tx.old.conn.now) (state S.Store tx.new.conn.now) }
     ensures inside { HasCleanDisk (state S.Store tx.new.conn.now) → OnOk result (IsTrue (state S.Store tx.new.conn.now).in_transaction) }
-    ensures put { HasCleanDisk (state S.Store tx.new.conn.now) → OnOk result ((ws : List Waiting) → Holds (state S.Store tx.old.conn.now).now ws
+    ensures put { HasCleanDisk (state S.Store tx.new.conn.now) → OnOk result ((ws : List WaitingRow) → HoldsWaiting (state S.Store tx.old.conn.now).now ws
         → Changed (state S.Store tx.old.conn.now) (state S.Store tx.new.conn.now) store_schema waiting_tree (map waiting_row (without_document number ws))) }
 {
     let number = whole(number);

@@ -15,7 +15,7 @@ use Rattle.std.proofs.Math.Seq.{take-append_seam, drop-append_seam}
 use Rattle.as2_names.specs.Ascii.{slash, colon}
 use Rattle.as2_names.specs.Cuts.{Lacks, IsCutAt, cut_at}
 use Rattle.as2_names.proofs.Cuts.{cut_some, cut_found, lacks_first, lacks_tail, lacks_front}
-use Rattle.as2_text.specs.Addresses.{begins_with_zero, IsUrl, IsAuthority, HasPort, SaysTarget, address_in, are_host_and_port, authority_of, before_slash, from_slash, is_authority, is_host, is_http, is_port, is_target, is_target_byte, may_follow, target_in, target_of, url_of}
+use Rattle.as2_text.specs.Addresses.{begins_with_zero, IsUrl, IsAuthority, HasPort, SaysTarget, address_in, are_host_and_port, authority_of, before_slash, from_slash, is_authority, is_host, is_http, is_port, is_target, is_target_byte, may_follow, target_in, address_target, url_of}
 
 -- ---- the text before the first slash
 
@@ -186,7 +186,7 @@ url_again text url u =
     let back : drop 7 text ≡ authority_of url ++ u.behind = rw (whole, sym seven) (drop-append_seam u.scheme (authority_of url ++ u.behind)) in
     let http : is_http text ≡ true = rw front u.http in
     let short : nat_le (length text) 1024 ≡ true = grind (arith, nat_tests) in
-    rw (short, http) (rest_again (authority_of url) u.behind (target_of url) (drop 7 text) back u.authority u.target)
+    rw (short, http) (rest_again (authority_of url) u.behind (address_target url) (drop 7 text) back u.authority u.target)
 
 none_some : (url : List ℕ × List ℕ) → None ≡ Some url → ⊥
 none_some url e = absurd cc

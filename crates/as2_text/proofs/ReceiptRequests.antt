@@ -14,12 +14,12 @@ use Rattle.as2_text.specs.declared.receipt_ask.AskFault.TheVariants as fault
 use Rattle.as2_text.specs.declared.receipt_ask.How.{How}
 use Rattle.as2_text.specs.declared.receipt_ask.How.TheVariants as how
 use Rattle.as2_text.specs.declared.receipt_ask.ReceiptAsk.{ReceiptAsk}
-use Rattle.as2_text.specs.ReceiptRequests.{Fields, Request, IsGiven, SaysHow, AsksFor, Asks, asked, asked_by, asked_where, delivered, delivery_option, has_twice, is_twice, notification_options, notification_to, reading, request_of, shown, text_of, with_address}
+use Rattle.as2_text.specs.ReceiptRequests.{Fields, Request, IsGiven, SaysHow, AsksFor, Asks, asked, asked_by, asked_where, request_to, delivery_option, has_twice, is_given_twice, notification_options, notification_to, reading, request_of, shown, text_of, with_address}
 
 -- ---- the delivery option
 
-pub delivered_one : (told : Once) (text : Bor (List ℕ)) (vs : List (List ℕ)) (options : List ReceiptOption) → told ≡ once.One text → Tells told vs → with_address (url_of text.now) options ≡ delivered vs options
-delivered_one told text vs options e t = ap (λ (x : List (List ℕ)). delivered x options) (sym (subst (λ (o : Once). Tells o vs) e t))
+pub delivered_one : (told : Once) (text : Bor (List ℕ)) (vs : List (List ℕ)) (options : List ReceiptOption) → told ≡ once.One text → Tells told vs → with_address (url_of text.now) options ≡ request_to vs options
+delivered_one told text vs options e t = ap (λ (x : List (List ℕ)). request_to x options) (sym (subst (λ (o : Once). Tells o vs) e t))
 
 -- ---- a field that stands there
 
@@ -32,14 +32,14 @@ asked_told told vs head t (inr e) =
 -- ---- no field stands there twice
 
 record AreOnce (head : Fields) : Type 0 where
-  pub to : is_twice (notification_to head) ≡ false
-  pub options : is_twice (notification_options head) ≡ false
-  pub delivery : is_twice (delivery_option head) ≡ false
+  pub to : is_given_twice (notification_to head) ≡ false
+  pub options : is_given_twice (notification_options head) ≡ false
+  pub delivery : is_given_twice (delivery_option head) ≡ false
 
 are_once : (head : Fields) → has_twice head ≡ false → AreOnce head
 are_once head h =
-    let outer = or_parts (is_twice (notification_to head) || is_twice (notification_options head)) (is_twice (delivery_option head)) h in
-    let inner = or_parts (is_twice (notification_to head)) (is_twice (notification_options head)) outer.0 in
+    let outer = or_parts (is_given_twice (notification_to head) || is_given_twice (notification_options head)) (is_given_twice (delivery_option head)) h in
+    let inner = or_parts (is_given_twice (notification_to head)) (is_given_twice (notification_options head)) outer.0 in
     record { to = inner.0; options = inner.1; delivery = outer.1 }
 
 -- ---- what is read is asked
@@ -55,14 +55,14 @@ record Comes (vs : List (List ℕ)) (options : List ReceiptOption) (request : Re
   pub says : SaysHow vs delivery
   pub request_is : request ≡ asked_by delivery options
 
-delivered_found : (vs : List (List ℕ)) (options : List ReceiptOption) (request : Request) → is_twice vs ≡ false → delivered vs options ≡ Ok request → Comes vs options request
+delivered_found : (vs : List (List ℕ)) (options : List ReceiptOption) (request : Request) → is_given_twice vs ≡ false → request_to vs options ≡ Ok request → Comes vs options request
 delivered_found [] options request one e = record { delivery = how.Sync; says = inl (refl, refl); request_is = cc }
 delivered_found (text ∷ []) options request one e =
     let f = with_found text (url_of text) options request refl e in
     record { delivery = how.Async f.0; says = inr (text, f.0, refl, f.1, refl); request_is = f.2 }
 delivered_found (text ∷ second ∷ rest) options request one e = absurd cc
 
-given_found : (vs : List (List ℕ)) → is_twice vs ≡ false → IsGiven vs (text_of vs)
+given_found : (vs : List (List ℕ)) → is_given_twice vs ≡ false → IsGiven vs (text_of vs)
 given_found [] one = inl (refl, refl)
 given_found (text ∷ []) one = inr refl
 given_found (text ∷ second ∷ rest) one = absurd cc
@@ -79,7 +79,7 @@ asked_found : (head : Fields) (address : List ℕ) (request : Request) → notif
 asked_found head address request to e =
     let text : List ℕ = text_of (notification_options head) in
     let outer = unless (has_twice head) fault.Twice _ request e in
-    let inner = guarded (are_options text) fault.OptionsUnreadable (delivered (delivery_option head) (options_in text)) request outer.1 in
+    let inner = guarded (are_options text) fault.OptionsUnreadable (request_to (delivery_option head) (options_in text)) request outer.1 in
     let single = are_once head outer.0 in
     let comes = delivered_found (delivery_option head) (options_in text) request single.delivery inner.1 in
     record {
@@ -99,22 +99,22 @@ where_found head [] request to e = inl (to, cc)
 where_found head (address ∷ []) request to e = inr (asked_found head address request to e)
 where_found head (address ∷ second ∷ rest) request to e =
     let outer = unless (has_twice head) fault.Twice _ request e in
-    absurd (true≢false (ap is_twice (sym to) ∙ (are_once head outer.0).to))
+    absurd (true≢false (ap is_given_twice (sym to) ∙ (are_once head outer.0).to))
 
 pub asks_found : (head : Fields) (request : Request) → reading head ≡ Ok request → Asks head request
 asks_found head request e = where_found head (notification_to head) request refl e
 
 -- ---- what is asked is read
 
-given_again : (vs : List (List ℕ)) (text : List ℕ) → IsGiven vs text → (is_twice vs ≡ false) × (text_of vs ≡ text)
-given_again vs text (inl g) = (ap is_twice g.0, ap text_of g.0 ∙ sym g.1)
-given_again vs text (inr g) = (ap is_twice g, ap text_of g)
+given_again : (vs : List (List ℕ)) (text : List ℕ) → IsGiven vs text → (is_given_twice vs ≡ false) × (text_of vs ≡ text)
+given_again vs text (inl g) = (ap is_given_twice g.0, ap text_of g.0 ∙ sym g.1)
+given_again vs text (inr g) = (ap is_given_twice g, ap text_of g)
 
-delivered_again : (vs : List (List ℕ)) (delivery : How) (options : List ReceiptOption) → SaysHow vs delivery → (is_twice vs ≡ false) × (delivered vs options ≡ Ok (asked_by delivery options))
-delivered_again vs delivery options (inl s) = (ap is_twice s.0, ap (λ (x : List (List ℕ)). delivered x options) s.0 ∙ ap (λ (h : How). Ok (asked_by h options)) (sym s.1))
+delivered_again : (vs : List (List ℕ)) (delivery : How) (options : List ReceiptOption) → SaysHow vs delivery → (is_given_twice vs ≡ false) × (request_to vs options ≡ Ok (asked_by delivery options))
+delivered_again vs delivery options (inl s) = (ap is_given_twice s.0, ap (λ (x : List (List ℕ)). request_to x options) s.0 ∙ ap (λ (h : How). Ok (asked_by h options)) (sym s.1))
 delivered_again vs delivery options (inr s) = (
-  ap is_twice s.2,
-  ap (λ (x : List (List ℕ)). delivered x options) s.2
+  ap is_given_twice s.2,
+  ap (λ (x : List (List ℕ)). request_to x options) s.2
       ∙ ap (λ (r : Option (List ℕ × List ℕ)). with_address r options) (url_again s.0 s.1 s.3)
       ∙ ap (λ (h : How). Ok (asked_by h options)) (sym s.4),
 )
@@ -124,7 +124,7 @@ asked_again head request a =
     let given = given_again (notification_options head) a.options_text a.given in
     let comes = delivered_again (delivery_option head) a.delivery a.options a.how in
     let read = options_again a.options_text a.options a.says in
-    let single : has_twice head ≡ false = or_from (is_twice (notification_to head) || is_twice (notification_options head)) (is_twice (delivery_option head)) (or_from (is_twice (notification_to head)) (is_twice (notification_options head)) (ap is_twice a.asked) given.0) comes.0 in
+    let single : has_twice head ≡ false = or_from (is_given_twice (notification_to head) || is_given_twice (notification_options head)) (is_given_twice (delivery_option head)) (or_from (is_given_twice (notification_to head)) (is_given_twice (notification_options head)) (ap is_given_twice a.asked) given.0) comes.0 in
     let right : asked head ≡ Ok request = rw (single, given.1, read.readable, read.gives, comes.1) (ap (λ (r : Request). Ok r) (sym a.request_is)) in
     ap (λ (vs : List (List ℕ)). asked_where vs head) a.asked ∙ right
 

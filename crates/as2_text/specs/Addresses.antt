@@ -13,8 +13,8 @@ use Rattle.as2_names.specs.Numbers.{is_number}
 abbrev pub authority_of : List ℕ × List ℕ → List ℕ
 authority_of url = url.0
 
-abbrev pub target_of : List ℕ × List ℕ → List ℕ
-target_of url = url.1
+abbrev pub address_target : List ℕ × List ℕ → List ℕ
+address_target url = url.1
 
 -- 1 to 253 letters, digits, `-` and `.`
 abbrev pub is_host : List ℕ → Bool
@@ -59,7 +59,7 @@ pub record IsUrl (text : List ℕ) (url : List ℕ × List ℕ) : Type 0 where
   pub whole : text ≡ scheme ++ authority_of url ++ behind
   pub http : IsTrue (str_eq_ignore_ascii_case scheme (codes "http://"))
   pub authority : IsAuthority (authority_of url)
-  pub target : SaysTarget behind (target_of url)
+  pub target : SaysTarget behind (address_target url)
   pub short : length text ≤ 1024
 
 -- ---- the address that a text is, if it is one

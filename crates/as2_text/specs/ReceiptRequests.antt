@@ -75,14 +75,14 @@ Asks head request = ((notification_to head ≡ []) × (request ≡ nothing_asked
 -- ---- reading
 
 -- two or more
-abbrev pub is_twice : List (List ℕ) → Bool
-is_twice [] = false
-is_twice (first ∷ []) = false
-is_twice (first ∷ second ∷ rest) = true
+abbrev pub is_given_twice : List (List ℕ) → Bool
+is_given_twice [] = false
+is_given_twice (first ∷ []) = false
+is_given_twice (first ∷ second ∷ rest) = true
 
 -- a field stands there twice
 abbrev pub has_twice : Fields → Bool
-has_twice head = is_twice (notification_to head) || is_twice (notification_options head) || is_twice (delivery_option head)
+has_twice head = is_given_twice (notification_to head) || is_given_twice (notification_options head) || is_given_twice (delivery_option head)
 
 -- the first of the texts; nothing where there are none
 abbrev pub text_of : List (List ℕ) → List ℕ
@@ -95,15 +95,15 @@ with_address None options = Err fault.UrlUnreadable
 with_address (Some url) options = Ok (asked_by (how.Async url) options)
 
 -- the request of these options and these addresses
-abbrev pub delivered : List (List ℕ) → List ReceiptOption → Result Request AskFault
-delivered [] options = Ok (asked_by how.Sync options)
-delivered (text ∷ rest) options = with_address (url_of text) options
+abbrev pub request_to : List (List ℕ) → List ReceiptOption → Result Request AskFault
+request_to [] options = Ok (asked_by how.Sync options)
+request_to (text ∷ rest) options = with_address (url_of text) options
 
 -- the request of a head with one `Disposition-Notification-To`, or its first fault
 abbrev pub asked : Fields → Result Request AskFault
 asked head =
     if has_twice head then Err fault.Twice
-    else if are_options (text_of (notification_options head)) then delivered (delivery_option head) (options_in (text_of (notification_options head)))
+    else if are_options (text_of (notification_options head)) then request_to (delivery_option head) (options_in (text_of (notification_options head)))
     else Err fault.OptionsUnreadable
 
 abbrev pub asked_where : List (List ℕ) → Fields → Result Request AskFault

@@ -1,6 +1,6 @@
 ghost use Rattle.std.specs.Prelude.{◌≡◌, ℕ, List, Some, IfSome, IfNone, option_map};
 ghost use Rattle.std.specs.List.{list_all};
-ghost use Rattle.as2_text.specs.Addresses.{IsUrl, address_in, are_host_and_port, authority_of, before_slash, from_slash, is_authority, is_http, is_port, is_target_byte, is_target, may_follow, target_in, target_of, url_of};
+ghost use Rattle.as2_text.specs.Addresses.{IsUrl, address_in, are_host_and_port, authority_of, before_slash, from_slash, is_authority, is_http, is_port, is_target_byte, is_target, may_follow, target_in, address_target, url_of};
 
 use as2_names::{cut_at, decimal_value, is_domain};
 use std::marker::Model;
@@ -130,7 +130,7 @@ impl<'a> Url<'a> {
 
     /// The target: `/` where none is given (RFC 9112, section 3.2.1).
     pub fn target(&self) -> &'a [u8]
-        ensures { result.now ≡ target_of self.now }
+        ensures { result.now ≡ address_target self.now }
     {
         if self.behind.is_empty() {
             b"/"

@@ -1,7 +1,7 @@
 use Rattle.std.proofs.Common.{List, Option, sym, subst}
 use Rattle.clap.specs.Walk.{Row, Text, texts}
 use Rattle.clap.specs.Words.{subcommand_name_of}
-use Rattle.as2_desk.specs.CommandLine.{values}
+use Rattle.as2_desk.specs.CommandLine.{option_values}
 use Rattle.as2_desk.specs.Options.{Give}
 use Rattle.as2_desk.proofs.desk.options.Goals as goal
 
@@ -9,6 +9,6 @@ use Rattle.as2_desk.proofs.desk.options.Goals as goal
 pub returns-clause-none : goal.returns-clause-none
 returns-clause-none c = λ known path store task gives.
     let found = c.in_ok-found.ensures.found in
-    let named = subst (λ (o : Option Text). Give (values (texts c.args.words.now)) o c.args.clock path store task) (sym found.2) gives.given in
+    let named = subst (λ (o : Option Text). Give (option_values (texts c.args.words.now)) o c.args.clock path store task) (sym found.2) gives.given in
     c.in-Err.ensures.none path store task
     (subst (λ (v : List Row). Give v (subcommand_name_of c.in_ok-found.found) c.args.clock path store task) (sym found.1) named)

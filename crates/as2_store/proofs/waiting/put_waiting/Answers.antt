@@ -2,7 +2,7 @@ use Rattle.std.proofs.Common.{Ok, arith, ◌*◌, ◌+◌, ◌≤◌}
 use Rattle.sqlite.specs.Held.{state}
 use Rattle.sqlite.specs.State.{Executes}
 use Rattle.sql_tables.proofs.Inside.{made, stays}
-use Rattle.as2_rows.specs.Waiting.{Waiting, kind_code}
+use Rattle.as2_rows.specs.Waiting.{WaitingRow, kind_code}
 use Rattle.as2_store.proofs.Statements.{waiting_put_text}
 use Rattle.as2_store.proofs.MetaRow.{passed}
 use Rattle.as2_store.proofs.WaitingRows.{puts_waiting, waiting_params, bound_optional}
