@@ -55,6 +55,10 @@ document_posted names type head body =
     needs (ask_of head) BadAsk λ ask.
     IsDocument (posted names id type head body ask)
 
+-- a post whose names, version and content type are in order
+abbrev pub read_further : Text × Text → MediaType × Text → Head → Text → Reading
+read_further names type head body = if is_report type.0 then report_posted names type body else document_posted names type head body
+
 -- a post as it is read: the first line of the table of answers that fits
 unfoldable pub reading : Agreements → Head → Text → Reading
 reading A head body =
@@ -62,7 +66,7 @@ reading A head body =
     if not (version_fits head) then Refuses BadVersion
     else if not (is_organization A names.1 && is_some (partner_of A names.0)) then Refuses UnknownNames
     else needs (type_of head) BadType λ type.
-    if is_report type.0 then report_posted names type body else document_posted names type head body
+    read_further names type head body
 
 -- ---- repeats
 

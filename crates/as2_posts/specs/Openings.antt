@@ -1,8 +1,7 @@
 -- A post whose head is in order as far as its content type.
-use Rattle.std.specs.Prelude.{if◌then◌else◌}
 use Rattle.as2_exchange.specs.Agreement.{Text}
-use Rattle.as2_exchange.specs.Readings.{Head, MediaType, Receipt, is_report}
-use Rattle.as2_exchange.specs.Posts.{ReceivedReceipt, Reading, received_receipt, report_posted, document_posted}
+use Rattle.as2_exchange.specs.Readings.{Head, MediaType, Receipt}
+use Rattle.as2_exchange.specs.Posts.{ReceivedReceipt, Reading, received_receipt, report_posted, document_posted, read_further}
 use Rattle.as2_posts.specs.declared.opening.Opened.{Opened}
 
 -- the names that a post came under, and its content type
@@ -23,5 +22,5 @@ report_by opened body = report_posted (names_in opened) (opened_type opened) bod
 abbrev pub document_by : Opened → Head → Text → Reading
 document_by opened head body = document_posted (names_in opened) (opened_type opened) head body
 
-abbrev pub read_further : Opened → Head → Text → Reading
-read_further opened head body = if is_report opened.media then report_by opened body else document_by opened head body
+abbrev pub reading_by : Opened → Head → Text → Reading
+reading_by opened head body = read_further (names_in opened) (opened_type opened) head body

@@ -9,7 +9,7 @@ ghost use Rattle.as2_exchange.specs.Posts.{posted};
 ghost use Rattle.as2_posts.specs.Documents.{is_asked, read_as};
 ghost use Rattle.as2_posts.specs.Openings.{document_by, names_in, opened_type};
 
-use crate::encodings::is_encoded;
+use crate::encodings::encoding_refused;
 use crate::fields::id_in;
 use crate::opening::Opened;
 use as2_exchange::{Bytes, How, Line, Posted};
@@ -59,7 +59,7 @@ fn mic_for(outcome: Outcome, ask: &ReceiptAsk<'_>, content: &Pieces) -> Option<R
 }
 
 /// The document, with what is made of it.
-#[tactic(auto, unfolding(as2_exchange::specs::Readings::outcome_of, as2_exchange::specs::Readings::encoding_refused, as2_exchange::specs::Readings::how_of, as2_exchange::specs::Readings::mic_for))]
+#[tactic(auto, unfolding(as2_exchange::specs::Readings::outcome_of, as2_exchange::specs::Readings::how_of, as2_exchange::specs::Readings::mic_for))]
 fn posted(
     alloc: Global,
     opened: Opened<'_>,
@@ -71,7 +71,7 @@ fn posted(
     requires { is_asked head.now (request_of ask.now) }
     ensures { IfOk result (λ p. p ≡ posted (names_in opened.entry) id (opened_type opened.entry) head.now content (request_of ask.now)) }
 {
-    let outcome = outcome_of(opened.media.kind(), is_encoded(head), ask);
+    let outcome = outcome_of(opened.media.kind(), encoding_refused(head), ask);
     let how = how_of(alloc, head, ask)?;
     let mic = mic_for(outcome, ask, &content);
     Ok(Posted {
@@ -88,7 +88,7 @@ fn posted(
 
 /// Reads a post as a document: what is made of it, or the first line that refuses it, by its identifier or by how it
 /// asks for a receipt. The content isn't copied.
-#[tactic(auto, unfolding(as2_exchange::specs::Readings::id_of, as2_exchange::specs::Readings::ask_of))]
+#[tactic(auto, unfolding(as2_exchange::specs::Readings::ask_of))]
 pub fn document(
     alloc: Global,
     opened: Opened<'_>,

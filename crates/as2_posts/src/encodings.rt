@@ -1,9 +1,8 @@
 //! Encodings that leave a content as it is.
 ghost use Rattle.std.specs.Prelude.{◌≡◌, codes};
 ghost use Rattle.as2_names.specs.Heads.{values};
-ghost use Rattle.as2_exchange.specs.Readings.{are_refused, is_plain_coding};
+ghost use Rattle.as2_exchange.specs.Readings.{are_refused, encoding_refused, is_plain_coding};
 ghost use Rattle.as2_mdn.specs.ReportReading.{is_plain_encoding};
-ghost use Rattle.as2_posts.specs.Documents.{is_encoded};
 
 use as2_mdn::is_plain_encoding;
 use as2_text::{Head, Once};
@@ -31,8 +30,9 @@ fn coding_refused(head: &Head) -> bool
 }
 
 /// The content is encoded, which isn't undone here.
-pub(crate) fn is_encoded(head: &Head) -> bool
-    ensures { result ≡ is_encoded head.now }
+#[tactic(auto, unfolding(as2_exchange::specs::Readings::encoding_refused))]
+pub(crate) fn encoding_refused(head: &Head) -> bool
+    ensures { result ≡ encoding_refused head.now }
 {
     transfer_refused(head) || coding_refused(head)
 }

@@ -2,8 +2,7 @@
 ghost use Rattle.std.specs.Prelude.{◌≡◌, IfOk, codes, option_map};
 ghost use Rattle.std.specs.Str.{str_to_ascii_lowercase};
 ghost use Rattle.as2_names.specs.Heads.{values};
-ghost use Rattle.as2_exchange.specs.Readings.{are_known, is_version, name_in, only, type_in, typed};
-ghost use Rattle.as2_posts.specs.Documents.{identified};
+ghost use Rattle.as2_exchange.specs.Readings.{are_known, id_of, is_version, name_in, type_in, typed};
 
 use as2_text::{AsName, Head, IdFault, MediaType, Memory, MessageId, Once};
 use std::alloc::Global;
@@ -61,8 +60,9 @@ pub(crate) fn type_in(head: &Head) -> Option<(MediaType<'_>, &[u8])>
 }
 
 /// The identifier that the one `Message-ID` holds (RFC 4130, section 5.3.3).
+#[tactic(auto, unfolding(as2_exchange::specs::Readings::id_of))]
 pub(crate) fn id_in(alloc: Global, head: &Head) -> Result<Option<MessageId>, Memory>
-    ensures { IfOk result (λ id. id ≡ identified (only (values (codes "message-id") head.now))) }
+    ensures { IfOk result (λ id. id ≡ id_of head.now) }
 {
     match head.value(b"message-id") {
         Once::One(text) => match MessageId::parse(alloc, text) {

@@ -3,7 +3,7 @@ ghost use Rattle.std.specs.Prelude.{◌≡◌, IfOk, IfErr};
 ghost use Rattle.as2_exchange.specs.Agreement.{Text};
 ghost use Rattle.as2_exchange.specs.Posts.{Refuses, reading};
 ghost use Rattle.as2_exchange.specs.Readings.{is_report};
-ghost use Rattle.as2_posts.specs.Openings.{read_further};
+ghost use Rattle.as2_posts.specs.Openings.{reading_by};
 
 use crate::fields::{name_in, type_in, version_fits};
 use as2_agreement::Agreements;
@@ -39,7 +39,7 @@ impl Opened<'_> {
 pub fn open<'a>(agreements: &Agreements, head: &'a Head) -> Result<Opened<'a>, Line>
     ensures refused { IfErr result (λ line. (body : Text) → reading agreements.now head.now body ≡ Refuses line) }
     ensures opened { IfOk result (λ o. (body : Text)
-        → reading agreements.now head.now body ≡ read_further o head.now body) }
+        → reading agreements.now head.now body ≡ reading_by o head.now body) }
 {
     let Some(from) = name_in(head, b"as2-from") else {
         return Err(Line::BadNames);

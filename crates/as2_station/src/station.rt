@@ -3,7 +3,7 @@ ghost use Rattle.std.specs.Prelude.{◌≡◌, IfOk, OnErr};
 ghost use Rattle.sqlite.specs.Held.{state};
 ghost use Rattle.as2_exchange.specs.declared.event.Event.TheVariants.{Post};
 ghost use Rattle.as2_exchange.specs.declared.answer.Answer.TheVariants.{Http};
-ghost use Rattle.as2_posts.specs.Openings.{read_further};
+ghost use Rattle.as2_posts.specs.Openings.{reading_by};
 ghost use Rattle.as2_station.specs.Steps.{TakesEvent, TakesHead, TakesPost, always};
 ghost use Rattle.as2_station.specs.Traces.{Plays, Taken};
 
@@ -61,7 +61,7 @@ impl<S: Alter> Station<S> {
         body: Pieces,
         moment: Moment,
     ) -> Result<HttpAnswer, StoreFault>
-        ensures taken { TakesPost S.Store agreements.now moment (read_further opened.entry head.now body) always self.old self.new result }
+        ensures taken { TakesPost S.Store agreements.now moment (reading_by opened.entry head.now body) always self.old self.new result }
     {
         if opened.is_report() {
             return receive(&mut self.store, alloc, &opened, body, moment);
