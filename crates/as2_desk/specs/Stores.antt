@@ -6,11 +6,11 @@ use Rattle.sqlite.specs.State.{HasCleanDisk}
 use Rattle.sqlite_trees.specs.declared.store.Store.{Ghosts}
 use Rattle.as2_exchange.specs.State.{State, empty}
 use Rattle.as2_exchange.specs.declared.fault.StoreFault.{StoreFault}
-use Rattle.as2_exchange.specs.declared.fault.StoreFault.TheVariants.{Memory, Disk, Refused, NotAStore}
+use Rattle.as2_exchange.specs.declared.fault.StoreFault.TheVariants.{NotAStore}
 use Rattle.sqlite.specs.declared.error.Error.{Error}
 use Rattle.sqlite.specs.declared.error.Error.TheVariants.{SqliteFailure}
 use Rattle.sqlite.specs.declared.error.ErrorCode.TheVariants as code
-use Rattle.as2_store.specs.Stands.{Rests, IsBlank, may_come}
+use Rattle.as2_store.specs.Stands.{Rests, IsBlank, fault_by, may_come}
 use Rattle.as2_desk.specs.declared.stores.Opening.{Opening}
 use Rattle.as2_desk.specs.declared.stores.Opening.TheVariants.{Found, New}
 
@@ -52,15 +52,10 @@ module _ {S : Type 0} (g : Ghosts S) where
   Holds kept first (Ok store) = IfSome (stands_for kept first) (λ s. IsFaithful × Rests (state g store) s)
   Holds kept first (Err fault) = IfSome (stands_for kept first) (λ s. may_come fault ≡ true)
 
--- the fault that an error in opening is
+-- the fault that an error in opening is: a file that is no database is no store
 abbrev pub opening_fault : Error → StoreFault
 opening_fault (SqliteFailure code.NotADatabase) = NotAStore
-opening_fault (SqliteFailure code.OutOfMemory) = Memory
-opening_fault (SqliteFailure code.SystemIoFailure) = Disk
-opening_fault (SqliteFailure code.DatabaseCorrupt) = Disk
-opening_fault (SqliteFailure code.DiskFull) = Disk
-opening_fault (SqliteFailure code.Closed) = Disk
-opening_fault other = Refused
+opening_fault other = fault_by other
 
 -- what was opened
 abbrev pub connection_of : {S : Type 0} → Opening S → Held S

@@ -5,7 +5,7 @@ ghost use Rattle.as2_desk.specs.Stores.{Gives, Holds, Kept, connection_of, nothi
 
 use crate::first_number::FirstNumber;
 use as2_exchange::StoreFault;
-use as2_store::Store;
+use as2_store::{Store, fault_of};
 use sqlite::{Alter, Connection, Error, ErrorCode, MemStore};
 use std::alloc::Global;
 
@@ -33,20 +33,12 @@ pub trait OpenStores {
 }
 
 /// The fault that an error in opening a file is: a file that is no database is no store.
-pub fn opening_fault(error: &Error) -> StoreFault
-    ensures { result ≡ opening_fault error.now }
+pub fn opening_fault(error: Error) -> StoreFault
+    ensures { result ≡ opening_fault error }
 {
     match error {
-        Error::SqliteFailure(code) => match code {
-            ErrorCode::NotADatabase => StoreFault::NotAStore,
-            ErrorCode::OutOfMemory => StoreFault::Memory,
-            ErrorCode::SystemIoFailure
-            | ErrorCode::DatabaseCorrupt
-            | ErrorCode::DiskFull
-            | ErrorCode::Closed => StoreFault::Disk,
-            _ => StoreFault::Refused,
-        },
-        _ => StoreFault::Refused,
+        Error::SqliteFailure(ErrorCode::NotADatabase) => StoreFault::NotAStore,
+        error => fault_of(error),
     }
 }
 

@@ -31,10 +31,6 @@ cut_here byte text i lt same lacks = record {
 
 -- ---- a text is cut in one way
 
--- the parts of a text between those bytes
-abbrev parts : ℕ → List ℕ → List (List ℕ)
-parts byte text = slice_split (λ b. b == byte) text
-
 abbrev parts_behind : List (List ℕ) → List (List ℕ)
 parts_behind [] = []
 parts_behind (part ∷ rest) = rest

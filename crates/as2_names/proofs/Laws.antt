@@ -20,12 +20,3 @@ value_of-bracketed value =
     let closing : (get_or text (length text - 1) 0 == close_angle) ≡ true = eq-eqb _ _ last in
     let bracketed : is_bracketed text ≡ true = and_from _ _ (and_from (nat_le 2 (length text)) true two refl) closing in
     rw bracketed (take_at value (close_angle ∷ []) (length text - 1 - 1) (omega arith))
-
--- the values of a longer head are those of its parts, in order
-pub values-append : (name : List ℕ) (front back : List (List ℕ × List ℕ)) → values name (front ++ back) ≡ values name front ++ values name back
-values-append name [] back = refl
-values-append name (field ∷ front) back =
-    elim (cases_Bool (bytes_eq field.0 name)) [
-      | inl same ↦ rw (same, values-append name front back) refl
-      | inr other ↦ rw (other, values-append name front back) refl
-    ]

@@ -1,9 +1,10 @@
 -- What calls of the store make of the machine, one after the other.
 use Rattle.std.proofs.Common.{◌≡◌, ◌⊎◌, inl, inr, Option, Some, None, Result, Ok, Err, IfOk, IfErr, IsErr, IsErrAnd, IsTrue, true, refl, sym, subst, arith}
+use Rattle.std.proofs.lemmas.Result.{IfErr-weaker, IfOk-weaker}
 use Rattle.sqlite_trees.specs.Tree.{Trees}
 use Rattle.sqlite.specs.Effect.{Database}
 use Rattle.sqlite.specs.State.{State as Connected, HasCleanDisk, Survives}
-use Rattle.sqlite.proofs.StateLemmas.{survives_then}
+use Rattle.sqlite.proofs.StateLemmas.{survives_then, survives_weaker}
 use Rattle.as2_exchange.specs.Invariants.{IsCounter}
 use Rattle.as2_exchange.specs.State.{State}
 use Rattle.as2_exchange.specs.declared.answer.Answer.{Answer}
@@ -11,39 +12,14 @@ use Rattle.as2_exchange.specs.declared.fault.StoreFault.{StoreFault}
 use Rattle.as2_exchange.specs.declared.fault.StoreFault.TheVariants.{Full}
 use Rattle.as2_store.specs.Stands.{Rests, Stands, may_come}
 use Rattle.as2_store.specs.Calls.{Commits, Keeps, KeepsNext, Reads, Writes}
+use Rattle.as2_store.proofs.Querying.{survives_same}
 use Rattle.as2_station.specs.Steps.{Does, Machine, MayLeave}
-
-from_ok : {V E : Type 0} (r : Result V E) (P Q : V → Type 0) → IfOk r P → ((v : V) → P v → Q v) → IfOk r Q
-from_ok (Ok v) P Q h f = f v h
-from_ok (Err e) P Q h f = tt
-
-from_err : {V E : Type 0} (r : Result V E) (P Q : E → Type 0) → IfErr r P → ((e : E) → P e → Q e) → IfErr r Q
-from_err (Ok v) P Q h f = tt
-from_err (Err e) P Q h f = f e h
-
--- nothing was done
-nothing_done : (c : Connected) (P : Trees → Type 0) → Survives c c P
-nothing_done c P = record { clean = omega arith; shield = λ is. is; counts = omega arith; limit = refl; closes = λ clean is. inl is; crash = λ clean db may. inl may }
-
-weaker : (P Q : Trees → Type 0) (old new : Connected) → ((db : Trees) → P db → Q db) → Survives old new P → Survives old new Q
-weaker P Q old new leads it = record {
-  clean = it.clean;
-  shield = it.shield;
-  counts = it.counts;
-  limit = it.limit;
-  closes = it.closes;
-  crash = λ clean db may. elim (it.crash clean db may) [ inl was ↦ inl was | inr is ↦ inr (leads db is) ];
-}
 
 same_state : (db : Trees) (s : State) → KeepsNext db (Some s) → Keeps db s
 same_state db s it = subst (Keeps db) (let same : it.state ≡ s = (let i = it.is in cc) in same) it.keeps
 
 pub never_full : {X : Type 0} (f : StoreFault) → may_come f ≡ true → f ≡ Full → X
 never_full f may full = absurd (let no = subst (λ g. may_come g ≡ true) full may in cc)
-
-pub none_left : {X : Type 0} (o : Option X) → ((x : X) → o ≡ Some x → ⊥) → o ≡ None
-none_left None no_value = refl
-none_left (Some x) no_value = absurd (no_value x refl)
 
 module _ {A : Type 0} (machine : Machine) (given : State → Type 0) (asks : Type 0) (told : A → Answer) where
   -- an answer that nothing of the store is read or written for
@@ -54,7 +30,7 @@ module _ {A : Type 0} (machine : Machine) (given : State → Type 0) (asks : Typ
     answered = λ clean s rests known. record { next = s; step = is clean s rests known; rests = rests };
     failed = λ clean. tt;
     fault = tt;
-    crash = nothing_done c (MayLeave machine given c);
+    crash = survives_same c (MayLeave machine given c);
   }
 
   -- a fault before anything is read or written
@@ -65,7 +41,7 @@ module _ {A : Type 0} (machine : Machine) (given : State → Type 0) (asks : Typ
     answered = λ clean. tt;
     failed = λ clean s rests known. (rests, never_full f may);
     fault = inr may;
-    crash = nothing_done c (MayLeave machine given c);
+    crash = survives_same c (MayLeave machine given c);
   }
 
   -- the fault of a call, passed on
@@ -81,7 +57,7 @@ module _ {A : Type 0} (machine : Machine) (given : State → Type 0) (asks : Typ
     answered = λ clean. tt;
     failed = λ clean s rests known. (it.same clean s rests, never_full f may);
     fault = inr may;
-    crash = weaker (Commits Some old) (MayLeave machine given old) old new (λ db is. record { was_open = is.was_open; stands = λ s rests known. inl (same_state db s (is.stands s rests)) }) it.crash;
+    crash = survives_weaker old new (Commits Some old) (MayLeave machine given old) (λ clean db is. record { was_open = is.was_open; stands = λ s rests known. inl (same_state db s (is.stands s rests)) }) it.crash;
   }
 
   -- what follows a read
@@ -90,8 +66,8 @@ module _ {A : Type 0} (machine : Machine) (given : State → Type 0) (asks : Typ
   after_read fits given_then old mid new b r leads one two = record {
     clean = λ clean. one.clean (two.clean clean);
     is_open = two.is_open;
-    answered = λ clean. from_ok r _ _ (two.answered clean) (λ a left s rests known. left s (one.same (two.clean clean) s rests) (leads s known (one.answer (two.clean clean) s rests)));
-    failed = λ clean. from_err r _ _ (two.failed clean) (λ f left s rests known. left s (one.same (two.clean clean) s rests) (leads s known (one.answer (two.clean clean) s rests)));
+    answered = λ clean. IfOk-weaker r _ _ (λ a left s rests known. left s (one.same (two.clean clean) s rests) (leads s known (one.answer (two.clean clean) s rests))) (two.answered clean);
+    failed = λ clean. IfErr-weaker r _ _ (λ f left s rests known. left s (one.same (two.clean clean) s rests) (leads s known (one.answer (two.clean clean) s rests))) (two.failed clean);
     fault = two.fault;
     crash = survives_then old mid new (Commits Some old) (MayLeave machine given_then mid) (MayLeave machine given old)
         (λ _ db is. record { was_open = is.was_open; stands = λ s rests known. inl (same_state db s (is.stands s rests)) })
@@ -106,7 +82,7 @@ module _ {A : Type 0} (machine : Machine) (given : State → Type 0) (asks : Typ
   IsStep wrote answer = (s t : State) (d : Database) → Stands d s → given s → wrote s ≡ Some t → IsCounter t.next_in → machine s ≡ Some (answer, t)
 
   leaves : (wrote : State → Option State) (answer : Answer) (old new : Connected) → IsStep wrote answer → Survives old new (Commits wrote old) → Survives old new (MayLeave machine given old)
-  leaves wrote answer old new is = weaker (Commits wrote old) (MayLeave machine given old) old new (λ db may. record {
+  leaves wrote answer old new is = survives_weaker old new (Commits wrote old) (MayLeave machine given old) (λ clean db may. record {
     was_open = may.was_open;
     stands = λ s rests known.
         let to = may.stands s rests in

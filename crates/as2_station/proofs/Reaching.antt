@@ -2,7 +2,6 @@
 use Rattle.std.proofs.Common.{◌≡◌, ◌∙◌, ◌+◌, ◌≤◌, ◌==◌, ◌&&◌, List, nat_le, cond, arith, refl, ℕ, Some, None, IsTrue, true, false, ap, sym, subst}
 use Rattle.std.proofs.lemmas.Bool.Decides.{nat_tests}
 use Rattle.sqlite_trees.specs.Tree.{Trees}
-use Rattle.sqlite_schema.specs.declared.schema.Schema.{Schema}
 use Rattle.sqlite.specs.Effect.{Database}
 use Rattle.sqlite.specs.State.{State as Connected}
 use Rattle.as2_mdn.specs.declared.detail.Detail.{Detail}
@@ -24,10 +23,10 @@ use Rattle.as2_posts.specs.Answers.{is_requeued}
 use Rattle.as2_store.specs.Adding.{added, with_received}
 use Rattle.as2_store.specs.Stands.{Rests, Stands}
 use Rattle.as2_store.specs.Calls.{Keeps, Lasts}
+use Rattle.as2_store.proofs.Committing.{keeps_of}
 use Rattle.as2_store.specs.Requeuing.{requeued_in}
 use Rattle.as2_exchange.specs.Documents.{settled_as}
 use Rattle.as2_store.specs.Settling.{settled_in}
-use Rattle.as2_store.specs.Tables.{store_schema}
 use Rattle.as2_station.proofs.Numbers.{changes_alike, found_number, left_alone, sent_anew}
 
 settles_to : (s : State) (n : ℕ) (detail : Detail) (e : Evidence) (d : OutEntry) → is_by_receipt detail ≡ true → document s n ≡ Some d → is_settled d ≡ false → settled_in n detail e s ≡ Some (change_document s n (settled_as detail e))
@@ -64,11 +63,6 @@ stays A s db m p e stands found same left =
     rw same (ap (λ (x : State). Some (answer_to A e.number e.posted, x)) (left_alone s m e apart (found_number (λ (x : InEntry). x.number) _ s.inbox e apart found) left))
 
 -- whatever stops the machine, what the tables stand for over an open connection lasts
-keeps_of : (d : Database) (s : State) → Stands d s → Keeps d.trees s
-keeps_of d s stands =
-    let same : d ≡ record { schema = store_schema; trees = d.trees } = ap (λ (x : Schema). let e : Database = record { schema = x; trees = d.trees } in e) stands.schema in
-    subst (λ (e : Database). Stands e s) same stands
-
 pub lasting : (c : Connected) → ((db : Trees) → IsTrue c.is_open → c.may_leave db → db ≡ c.committed.trees) → IsTrue c.is_open → (s : State) → Rests c s → Lasts c s
 lasting c settled opened s r = record {
   each = λ db may. subst (λ (t : Trees). Keeps t s) (sym (settled db opened may ∙ ap (λ (d : Database). d.trees) (r.committed opened))) (keeps_of c.now s (r.stands opened));

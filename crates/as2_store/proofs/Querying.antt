@@ -126,7 +126,7 @@ read_told {B = B} {F = F} fits more old new a (Ok b) told Q P cases is then it =
 read_told fits more old new a (Err e) (Ok b) Q P cases is then it = absurd cases
 read_told fits more old new a (Err e) (Err f) Q P cases is then it = read_err fits more old new (Ok a) f it
 
-survives_same : (c : Connected) (P : Trees → Type 0) → Survives c c P
+pub survives_same : (c : Connected) (P : Trees → Type 0) → Survives c c P
 survives_same c P = record { clean = omega arith; shield = λ is. is; counts = omega arith; limit = refl; closes = λ clean is. inl is; crash = λ clean db may. inl may }
 
 -- nothing is read, over an open connection

@@ -13,6 +13,9 @@ use Rattle.as2_exchange.specs.State.{State, end_of_numbers}
 use Rattle.as2_exchange.specs.declared.inbox.InEntry.{InEntry}
 use Rattle.as2_exchange.specs.declared.outbox.OutEntry.{OutEntry}
 use Rattle.as2_exchange.specs.Invariants.{IsCounter, AreNumbers}
+use Rattle.sqlite.specs.declared.error.Error.{Error}
+use Rattle.sqlite.specs.declared.error.Error.TheVariants.{SqliteFailure}
+use Rattle.sqlite.specs.declared.error.ErrorCode.TheVariants as code
 use Rattle.as2_exchange.specs.declared.fault.StoreFault.{StoreFault}
 use Rattle.as2_exchange.specs.declared.fault.StoreFault.TheVariants.{Memory, Disk, Refused, Full, NotAStore, OtherVersion}
 use Rattle.as2_rows.specs.Rows.{whole, in_row, out_row, evidence_row, meta_row}
@@ -110,6 +113,15 @@ may_come Refused = true
 may_come Full = false
 may_come NotAStore = false
 may_come OtherVersion = false
+
+-- the fault that an error of SQLite is
+abbrev pub fault_by : Error → StoreFault
+fault_by (SqliteFailure code.OutOfMemory) = Memory
+fault_by (SqliteFailure code.SystemIoFailure) = Disk
+fault_by (SqliteFailure code.DatabaseCorrupt) = Disk
+fault_by (SqliteFailure code.DiskFull) = Disk
+fault_by (SqliteFailure code.Closed) = Disk
+fault_by other = Refused
 
 -- what kind and version say
 abbrev pub adoption_fault : List ℕ → ℕ → Option StoreFault

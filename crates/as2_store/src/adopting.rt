@@ -16,22 +16,16 @@ use sqlite::types::ValueRef;
 use sqlite::{Alter, Connection, Error, ErrorCode, Row};
 
 /// What a failure to read `meta` says of the tables.
-fn unread(error: &Error) -> StoreFault
-    ensures outside { IsOutside error.now → may_come result ≡ true }
+fn unread(error: Error) -> StoreFault
+    ensures outside { IsOutside error → may_come result ≡ true }
     ensures known { (may_come result ≡ true) ⊎ (result ≡ NotAStore) }
 {
-    match error {
-        Error::SqliteFailure(code) => match code {
-            ErrorCode::OutOfMemory => StoreFault::Memory,
-            ErrorCode::SystemIoFailure => StoreFault::Disk,
-            ErrorCode::DatabaseCorrupt => StoreFault::Disk,
-            ErrorCode::DiskFull => StoreFault::Disk,
-            ErrorCode::Closed => StoreFault::Disk,
-            ErrorCode::TooBig => StoreFault::Refused,
-            ErrorCode::OperationInterrupted => StoreFault::Refused,
-            _ => StoreFault::NotAStore,
-        },
-        _ => StoreFault::NotAStore,
+    if let Error::SqliteFailure(ErrorCode::TooBig | ErrorCode::OperationInterrupted) = &error {
+        return StoreFault::Refused;
+    }
+    match fault_of(error) {
+        StoreFault::Refused => StoreFault::NotAStore,
+        fault => fault,
     }
 }
 
@@ -69,7 +63,7 @@ pub fn check<S: Alter>(conn: &mut Connection<S>) -> Result<(), StoreFault>
         &[],
     ) {
         Ok(rows) => rows,
-        Err(error) => return Err(unread(&error)),
+        Err(error) => return Err(unread(error)),
     };
     if is_bare {
         return Err(StoreFault::NotAStore);

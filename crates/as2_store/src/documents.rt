@@ -18,21 +18,20 @@ use as2_rows::{EvidenceRow, OutRow, content_in};
 use sqlite::{Alter, Connection, Row};
 use std::alloc::Global;
 
-/// The content of a document.
-fn content_of<S: Alter>(
+/// The content of the document whose row it is.
+fn out_content<S: Alter>(
     conn: &mut Connection<S>,
     alloc: Global,
-    number: u64,
-    length: u64,
+    row: &OutRow,
 ) -> Result<Pieces, StoreFault>
     requires autocommit { conn.old.in_transaction ≡ false }
-    requires number { number < 2 ^ 63 }
+    requires number { row.now.number < 2 ^ 63 }
     ensures autocommit { conn.new.in_transaction ≡ false }
-    ensures content { Reads (λ s content. (p : Document → Bool) (d : Document) → find p s.outbox ≡ Some d → number ≡ d.number → content ≡ d.content) (state S.Store conn.old) (state S.Store conn.new) result }
+    ensures content { Reads (λ s content. (p : Document → Bool) (d : Document) → find p s.outbox ≡ Some d → row.now.number ≡ d.number → content ≡ d.content) (state S.Store conn.old) (state S.Store conn.new) result }
     ensures fault { IfErr result (λ f. may_come f ≡ true) }
 {
-    let rows = out_piece_rows(conn, number).map_err(fault_of)?;
-    content_in(alloc, &rows, number, length).map_err(unread_row)
+    let pieces = out_piece_rows(conn, row.number).map_err(fault_of)?;
+    content_in(alloc, &pieces, row.number, row.length).map_err(unread_row)
 }
 
 /// The receipt that settled a document, if one has.
@@ -74,7 +73,7 @@ pub fn shown_document<S: Alter>(
     if row.number >= END_OF_NUMBERS {
         return Err(StoreFault::Refused);
     }
-    let content = content_of(conn, alloc, row.number, row.length)?;
+    let content = out_content(conn, alloc, &row)?;
     let evidence = evidence_in(conn, alloc, row.number)?;
     Ok(Some(row.with_content(content, evidence)))
 }

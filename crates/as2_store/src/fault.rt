@@ -1,15 +1,16 @@
 //! What a failure of the database is to the station.
 
 ghost use Rattle.std.specs.Prelude.{◌≡◌, true};
-ghost use Rattle.as2_store.specs.Stands.{may_come};
+ghost use Rattle.as2_store.specs.Stands.{fault_by, may_come};
 
 use as2_exchange::StoreFault;
 use as2_rows::RowFault;
 use sqlite::{Error, ErrorCode};
 
-/// The fault that a failed statement is.
+/// The fault that an error of SQLite is.
 pub fn fault_of(error: Error) -> StoreFault
-    ensures { may_come result ≡ true }
+    ensures by { result ≡ fault_by error }
+    ensures may_come { may_come result ≡ true }
 {
     match error {
         Error::SqliteFailure(code) => match code {

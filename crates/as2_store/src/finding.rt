@@ -1,6 +1,6 @@
 //! Rows of the inbox as its entries.
 
-ghost use Rattle.std.specs.Prelude.{◌≡◌, Bool, true, false, List, Some, find, filter, map, IsTrue, IfOk, IfErr, OnOk};
+ghost use Rattle.std.specs.Prelude.{◌≡◌, ◌<◌, ◌^◌, Bool, true, false, List, Some, find, filter, map, IsTrue, IfOk, IfErr, OnOk};
 ghost use Rattle.sqlite.specs.Held.{state};
 ghost use Rattle.sqlite.specs.State.{HasCleanDisk};
 ghost use Rattle.as2_exchange.specs.State.{State};
@@ -18,23 +18,20 @@ use as2_rows::{InRow, content_in};
 use sqlite::{Alter, Connection, Row};
 use std::alloc::Global;
 
-/// The content of an entry of the inbox.
-fn content_of<S: Alter>(
+/// The content of the entry whose row it is.
+fn in_content<S: Alter>(
     conn: &mut Connection<S>,
     alloc: Global,
-    number: u64,
-    length: u64,
+    row: &InRow,
 ) -> Result<Pieces, StoreFault>
     requires autocommit { conn.old.in_transaction ≡ false }
+    requires number { row.now.number < 2 ^ 63 }
     ensures autocommit { conn.new.in_transaction ≡ false }
-    ensures content { Reads (λ s content. (p : Entry → Bool) (e : Entry) → find p s.inbox ≡ Some e → number ≡ e.number → content ≡ e.posted.content) (state S.Store conn.old) (state S.Store conn.new) result }
+    ensures content { Reads (λ s content. (p : Entry → Bool) (e : Entry) → find p s.inbox ≡ Some e → row.now.number ≡ e.number → content ≡ e.posted.content) (state S.Store conn.old) (state S.Store conn.new) result }
     ensures fault { IfErr result (λ f. may_come f ≡ true) }
 {
-    if number >= END_OF_NUMBERS {
-        return Err(StoreFault::Refused);
-    }
-    let rows = in_piece_rows(conn, number).map_err(fault_of)?;
-    content_in(alloc, &rows, number, length).map_err(unread_row)
+    let pieces = in_piece_rows(conn, row.number).map_err(fault_of)?;
+    content_in(alloc, &pieces, row.number, row.length).map_err(unread_row)
 }
 
 /// The entry that the first of the rows shows, with its content.
@@ -53,7 +50,10 @@ pub fn shown_entry<S: Alter>(
         return Ok(None);
     };
     let row = InRow::read(alloc, row).map_err(unread_row)?;
-    let content = content_of(conn, alloc, row.number, row.length)?;
+    if row.number >= END_OF_NUMBERS {
+        return Err(StoreFault::Refused);
+    }
+    let content = in_content(conn, alloc, &row)?;
     Ok(Some(row.with_content(content)))
 }
 

@@ -21,5 +21,6 @@ mod store;
 mod waiting;
 
 pub use counters::NextNumbers;
+pub use fault::fault_of;
 pub use laws::one_state_stands;
 pub use store::Store;

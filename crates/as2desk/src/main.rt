@@ -45,7 +45,7 @@ impl OpenStores for FileSystem<'_> {
         match Connection::open(self.rt, path) {
             Ok(conn) if is_there => Ok(Opening::Found(conn)),
             Ok(conn) => Ok(Opening::New(conn)),
-            Err(error) => Err(opening_fault(&error)),
+            Err(error) => Err(opening_fault(error)),
         }
     }
 }

@@ -7,7 +7,6 @@ pub mod Inside
 pub mod Creating
 pub mod Indexing
 pub mod Actions
-pub mod Counting
 pub mod Failing
 pub mod Deleting
 pub mod Asking

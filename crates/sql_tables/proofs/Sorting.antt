@@ -30,20 +30,6 @@ no_rows = record { numbered = []; rows_are = refl; rise = tt; columns = IsPermut
 pub unchanged : {rows new shown : List Row} → new ≡ rows → HasRows rows shown → HasRows new shown
 unchanged {shown = shown} same h = subst (λ l. HasRows l shown) (sym same) h
 
--- their order doesn't matter
-pub reordered : (rows shown other : List Row) → HasRows rows shown → IsPermutation shown other → HasRows rows other
-reordered rows shown other h same = record { numbered = h.numbered; rows_are = h.rows_are; rise = h.rise; columns = IsPermutation-trans _ shown other h.columns same }
-
--- the rows that pass a test of their columns
-pub passing : (p q : Row → Bool) → ((n : ℤ) (c : Row) → p (Int n ∷ c) ≡ q c) → (rows shown : List Row) → HasRows rows shown → HasRows (filter p rows) (filter q shown)
-passing p q same rows shown h = record {
-  numbered = filter (λ r. q r.1) h.numbered;
-  rows_are = ap (filter p) h.rows_are ∙ filter-map p numbered_row h.numbered
-      ∙ ap (map numbered_row) (filter_same (λ r. p (numbered_row r)) (λ r. q r.1) h.numbered (all_of (λ r. p (numbered_row r) ≡ q r.1) (λ r. same r.0 r.1) h.numbered));
-  rise = ascending-filter _ p rows h.rise;
-  columns = subst (λ l. IsPermutation l (filter q shown)) (filter-map q (λ r. r.1) h.numbered) (IsPermutation-filter q _ shown h.columns);
-}
-
 below : (m n : ℤ) → value_cmp (Int m) (Int n) ≡ Less → m <ℤ n
 below m n less = let it = sym (value_cmp-Int m n) ∙ less in grind (arith, ints, nat_tests)
 

@@ -99,4 +99,4 @@ returns-clause-given_back g c =
     (λ late. undone mid (state g.S.Store end) _ (shown_stays meta_read_text [] begun mid rows refl (shown (was late))) (c.in-Err-commit.ensures.err late)))
 
 pub returns-clause-reason : goal.returns-clause-reason
-returns-clause-reason g c clean = comes _ _ c.fault_of.ensures
+returns-clause-reason g c clean = comes _ _ c.fault_of.ensures.may_come

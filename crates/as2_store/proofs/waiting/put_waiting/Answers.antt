@@ -16,7 +16,7 @@ pub returns-clause-put : goal.returns-clause-put
 returns-clause-put g c clean has =
     let old = state g.S.Store c.args.tx.now.conn.now in
     let new = state g.S.Store c.execute.new.self.conn.now in
-    let w : Waiting = record { kind = kind_code c.args.wait; number = c.args.number; due = c.args.due } in
+    let w : WaitingRow = record { kind = kind_code c.args.wait; number = c.args.number; due = c.args.due } in
     let most : kind_code c.args.wait ≤ 4 = rw c.code-kind.ensures.code at c.code-kind.ensures.most in
     let ran = (made g.S.Store _ _ c.args.tx.now.conn.now c.execute.new.self.conn.now c.execute.result _ c.execute.ensures.ended (c.execute.ensures.runs clean) c.in_ok-execute.field-0 c.in_ok-execute.was).2 in
     let went : Executes waiting_put_text (waiting_params w) old new (Ok c.in_ok-execute.field-0) =
