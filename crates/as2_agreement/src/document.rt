@@ -18,24 +18,18 @@ use toml::Table;
 pub(crate) fn domain(document: &Table) -> Result<Domain, AgreementFault>
     ensures { result ≡ domain (table_view document.now) }
 {
-    match Domain::of(text_at(document, Key::Domain)?.as_bytes()) {
-        Some(domain) => Ok(domain),
-        None => Err(AgreementFault::WrongKind(Key::Domain)),
-    }
+    let text = text_at(document, Key::Domain)?;
+    Domain::of(text.as_bytes()).ok_or(AgreementFault::WrongKind(Key::Domain))
 }
 
 /// The address for receipts that come later, which may be absent.
 pub(crate) fn return_url(alloc: Global, document: &Table) -> Result<Option<UrlText>, AgreementFault>
     ensures { GivesOrMemory (λ u. u) result (return_url_in (value_at ReturnUrl (table_view document.now))) }
 {
-    match value_at(document, Key::ReturnUrl) {
-        None => Ok(None),
-        Some(value) => match value.as_str() {
-            None => Err(AgreementFault::WrongKind(Key::ReturnUrl)),
-            Some(text) => {
-                let text = address_in(Key::ReturnUrl, text)?;
-                Ok(Some(UrlText::keep(alloc, text)?))
-            }
-        },
-    }
+    let Some(value) = value_at(document, Key::ReturnUrl) else {
+        return Ok(None);
+    };
+    let fault = AgreementFault::WrongKind(Key::ReturnUrl);
+    let text = address_in(Key::ReturnUrl, value.as_str().ok_or(fault)?)?;
+    Ok(Some(UrlText::keep(alloc, text)?))
 }

@@ -46,15 +46,11 @@ pub(crate) fn name_at(
     ensures { result ≡ agreed_name (names organizations.now partners.now) (table_view entry.now) }
 {
     let text = text_at(entry, Key::Name)?;
-    match AsName::plain(text.as_bytes()) {
-        Err(_) => Err(AgreementFault::BadName),
-        Ok(name) => {
-            if is_taken(organizations, partners, &name) {
-                Err(AgreementFault::NameTwice)
-            } else {
-                Ok(name)
-            }
-        }
+    let name = AsName::plain(text.as_bytes()).map_err(|_| AgreementFault::BadName)?;
+    if is_taken(organizations, partners, &name) {
+        Err(AgreementFault::NameTwice)
+    } else {
+        Ok(name)
     }
 }
 
@@ -100,10 +96,7 @@ fn asked_named(word: &str) -> Option<Asked>
 pub(crate) fn receipt_at(entry: &Table) -> Result<Asked, AgreementFault>
     ensures { result ≡ agreed_receipt (table_view entry.now) }
 {
-    match asked_named(text_at(entry, Key::Receipt)?) {
-        Some(asked) => Ok(asked),
-        None => Err(AgreementFault::WrongKind(Key::Receipt)),
-    }
+    asked_named(text_at(entry, Key::Receipt)?).ok_or(AgreementFault::WrongKind(Key::Receipt))
 }
 
 fn digest_named(word: &str) -> Option<Alg>
@@ -120,10 +113,7 @@ fn digest_named(word: &str) -> Option<Alg>
 pub(crate) fn digest_at(entry: &Table) -> Result<Alg, AgreementFault>
     ensures { result ≡ agreed_digest (table_view entry.now) }
 {
-    match digest_named(text_at(entry, Key::Digest)?) {
-        Some(alg) => Ok(alg),
-        None => Err(AgreementFault::WrongKind(Key::Digest)),
-    }
+    digest_named(text_at(entry, Key::Digest)?).ok_or(AgreementFault::WrongKind(Key::Digest))
 }
 
 /// Whether the text is the media type of a document.

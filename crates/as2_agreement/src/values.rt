@@ -20,20 +20,15 @@ pub(crate) fn value_at<'a>(table: &'a Table, key: Key) -> Option<&'a Value>
 fn present(table: &Table, key: Key) -> Result<&Value, AgreementFault>
     ensures { IsSeenAs (λ v. view v.now) result (present key (value_at key (table_view table.now))) }
 {
-    match value_at(table, key) {
-        Some(value) => Ok(value),
-        None => Err(AgreementFault::Missing(key)),
-    }
+    value_at(table, key).ok_or(AgreementFault::Missing(key))
 }
 
 /// The text at a key.
 pub(crate) fn text_at(table: &Table, key: Key) -> Result<&str, AgreementFault>
     ensures { IsSeenAs (λ s. s.now) result (text key (table_view table.now)) }
 {
-    match present(table, key)?.as_str() {
-        Some(text) => Ok(text),
-        None => Err(AgreementFault::WrongKind(key)),
-    }
+    let value = present(table, key)?;
+    value.as_str().ok_or(AgreementFault::WrongKind(key))
 }
 
 /// The number, where it is from 1 to the most.
@@ -50,10 +45,9 @@ fn count_in(key: Key, most: u64, number: i64) -> Result<u64, AgreementFault>
 pub(crate) fn count_at(table: &Table, key: Key, most: u64) -> Result<u64, AgreementFault>
     ensures { result ≡ count key most (table_view table.now) }
 {
-    match present(table, key)?.as_integer() {
-        Some(number) => count_in(key, most, number),
-        None => Err(AgreementFault::WrongKind(key)),
-    }
+    let value = present(table, key)?;
+    let number = value.as_integer().ok_or(AgreementFault::WrongKind(key))?;
+    count_in(key, most, number)
 }
 
 /// The entries of an array, where there are not too many.
@@ -71,18 +65,14 @@ fn few(entries: &[Value], most: usize) -> Result<&[Value], AgreementFault>
 pub(crate) fn entries_at(table: &Table, key: Key, most: usize) -> Result<&[Value], AgreementFault>
     ensures { IsSeenAs (λ v. items_view v.now) result (entries key most (table_view table.now)) }
 {
-    match present(table, key)?.as_array() {
-        Some(entries) => few(entries, most),
-        None => Err(AgreementFault::WrongKind(key)),
-    }
+    let value = present(table, key)?;
+    let entries = value.as_array().ok_or(AgreementFault::WrongKind(key))?;
+    few(entries, most)
 }
 
 /// The table that an entry of the array at a key is.
 pub(crate) fn table_of(entry: &Value, key: Key) -> Result<&Table, AgreementFault>
     ensures { IsSeenAs (λ t. table_view t.now) result (of_kind key (as_table (view entry.now))) }
 {
-    match entry.as_table() {
-        Some(table) => Ok(table),
-        None => Err(AgreementFault::WrongKind(key)),
-    }
+    entry.as_table().ok_or(AgreementFault::WrongKind(key))
 }

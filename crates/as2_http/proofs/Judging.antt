@@ -34,16 +34,11 @@ pub few_fields : (buf : List ℕ) (head : RequestHead) (fields : Fields) → IsH
 few_fields buf head fields h =
     omega (arith, length-map head.fields name_and_value, appended_fits [] (map name_and_value head.fields) fields (omega arith) h.1)
 
-pub not_partial : (buf : List ℕ) (headers : List HeaderSpan) (r : Result (Status RequestSpans) Error) → FindsRequest buf 64 headers r → r ≡ Ok Partial
+pub not_complete : (buf : List ℕ) (headers : List HeaderSpan) (r : Result (Status RequestSpans) Error) → FindsRequest buf 64 headers r → ((s : RequestSpans) → r ≡ Ok (Complete s) → ⊥)
     → (head : RequestHead) (fields : Fields) → IsHead buf head fields → ⊥
-not_partial buf headers (Ok (Complete s)) f is head fields h = absurd cc
-not_partial buf headers (Ok Partial) f is head fields h = f head [] h.0 (few_fields buf head fields h)
-not_partial buf headers (Err e) f is head fields h = absurd cc
-
-pub not_invalid : (buf : List ℕ) (headers : List HeaderSpan) (r : Result (Status RequestSpans) Error) (e : Error) → FindsRequest buf 64 headers r → r ≡ Err e
-    → (head : RequestHead) (fields : Fields) → IsHead buf head fields → ⊥
-not_invalid buf headers (Ok s) e f is head fields h = absurd cc
-not_invalid buf headers (Err d) e f is head fields h = f head [] h.0 (few_fields buf head fields h)
+not_complete buf headers (Ok (Complete s)) f not head fields h = absurd (not s refl)
+not_complete buf headers (Ok Partial) f not head fields h = f head [] h.0 (few_fields buf head fields h)
+not_complete buf headers (Err e) f not head fields h = f head [] h.0 (few_fields buf head fields h)
 
 -- a head of another length
 pub not_shorter : (buf : List ℕ) (headers : List HeaderSpan) (r : Result (Status RequestSpans) Error) (s : RequestSpans) → FindsRequest buf 64 headers r → r ≡ Ok (Complete s) → (s.len ≡ length buf → ⊥)

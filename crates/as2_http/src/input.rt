@@ -72,14 +72,12 @@ impl Input {
             return Err(Stop::TooLong);
         }
         self.reads_left -= 1;
-        match reader.read(&mut self.buffer) {
-            Ok(0) => Err(Stop::Ended),
-            Ok(n) => match self.text.extend_from_slice(&self.buffer[..n]) {
-                Ok(()) => Ok(()),
-                Err(_) => Err(Stop::Memory),
-            },
-            Err(_) => Err(Stop::ReadFault),
+        let count = reader.read(&mut self.buffer).map_err(|_| Stop::ReadFault)?;
+        if count == 0 {
+            return Err(Stop::Ended);
         }
+        let read = &self.buffer[..count];
+        self.text.extend_from_slice(read).map_err(|_| Stop::Memory)
     }
 
     /// Reads until a head is there.
@@ -97,10 +95,7 @@ impl Input {
             if self.text.len() >= HEAD_LIMIT {
                 return Err(NoHead::TooLarge);
             }
-            match self.more(reader) {
-                Ok(()) => {}
-                Err(stop) => return Err(NoHead::Stopped(stop)),
-            }
+            self.more(reader).map_err(NoHead::Stopped)?;
         }
     }
 

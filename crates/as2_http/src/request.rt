@@ -102,10 +102,8 @@ pub fn judge(alloc: Global, text: &[u8]) -> Result<Judged, NotJudged>
     ensures none { result ≡ Err NotJudged.BadHead → (head : RequestHead) (fields : Fields) → ¬ (IsHead text.now head fields) }
 {
     let mut spans = [EMPTY_HEADER_SPAN; 64];
-    let head = match parse_request(text, &mut spans) {
-        Ok(Status::Complete(head)) => head,
-        Ok(Status::Partial) => return Err(NotJudged::BadHead),
-        Err(_) => return Err(NotJudged::BadHead),
+    let Ok(Status::Complete(head)) = parse_request(text, &mut spans) else {
+        return Err(NotJudged::BadHead);
     };
     if head.len != text.len() {
         return Err(NotJudged::BadHead);

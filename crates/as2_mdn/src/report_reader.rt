@@ -115,14 +115,12 @@ fn disposed<'a>(
     let Found::One(value) = disposition else {
         return Err(ReportFault::NoDisposition);
     };
-    match Disposition::parse(value) {
-        Ok(disposition) => Ok(Receipt {
-            original_id,
-            disposition,
-            mic,
-        }),
-        Err(_) => Err(ReportFault::BadDisposition),
-    }
+    let disposition = Disposition::parse(value).map_err(|_| ReportFault::BadDisposition)?;
+    Ok(Receipt {
+        original_id,
+        disposition,
+        mic,
+    })
 }
 
 /// The receipt that a notification's content tells.
@@ -161,13 +159,9 @@ fn read<'a>(media: &MediaType<'_>, body: &'a [u8]) -> Result<Receipt<'a>, Report
     if media.kind() != Kind::Report {
         return Err(ReportFault::NotReport);
     }
-    let Some(boundary) = media.boundary() else {
-        return Err(ReportFault::NotReport);
-    };
-    match two_parts(body, boundary) {
-        Ok((_, second)) => read_part(second),
-        Err(_) => Err(ReportFault::Parts),
-    }
+    let boundary = media.boundary().ok_or(ReportFault::NotReport)?;
+    let (_, second) = two_parts(body, boundary).map_err(|_| ReportFault::Parts)?;
+    read_part(second)
 }
 
 /// Reads the report that answers a document (RFC 6522, section 3; RFC 8098, section 3; RFC 4130, section 7.4). Its first

@@ -51,10 +51,7 @@ pub fn whole(value: ValueRef<'_>) -> Result<u64, RowFault>
     ensures read { IfOk result (λ n. owned value.entry ≡ whole n) }
     ensures taken { (n : ℕ) → owned value.entry ≡ whole n → result ≡ Ok n }
 {
-    match u64::try_from(integer(value)?) {
-        Ok(n) => Ok(n),
-        Err(_) => Err(RowFault::NotAnEntry),
-    }
+    u64::try_from(integer(value)?).map_err(|_| RowFault::NotAnEntry)
 }
 
 /// A count that may be absent.
@@ -102,10 +99,7 @@ pub fn name(value: ValueRef<'_>) -> Result<AsName, RowFault>
     ensures read { IfOk result (λ n. owned value.entry ≡ Blob n) }
     ensures taken { IfErr result (λ f. (n : List ℕ) → IsName n → owned value.entry ≡ Blob n → f ≡ fault.Memory) }
 {
-    match AsName::plain(blob(value)?) {
-        Ok(name) => Ok(name),
-        Err(_) => Err(RowFault::NotAnEntry),
-    }
+    AsName::plain(blob(value)?).map_err(|_| RowFault::NotAnEntry)
 }
 
 /// An identifier, as it was received.
@@ -117,10 +111,7 @@ fn identifier(alloc: Global, value: ValueRef<'_>) -> Result<MessageId, RowFault>
     if !is_identifier(text) {
         return Err(RowFault::NotAnEntry);
     }
-    match MessageId::parse(alloc, text) {
-        Ok(id) => Ok(id),
-        Err(_) => Err(RowFault::Memory),
-    }
+    MessageId::parse(alloc, text).map_err(|_| RowFault::Memory)
 }
 
 /// An identifier, as it was received, of the column of its value and its own.
@@ -144,10 +135,7 @@ pub fn moment(value: ValueRef<'_>) -> Result<Moment, RowFault>
     ensures read { IfOk result (λ m. owned value.entry ≡ whole m) }
     ensures taken { IfErr result (λ f. (m : ℕ) → m ≤ last_moment → owned value.entry ≡ whole m → f ≡ fault.Memory) }
 {
-    match Moment::new(whole(value)?) {
-        Some(moment) => Ok(moment),
-        None => Err(RowFault::NotAnEntry),
-    }
+    Moment::new(whole(value)?).ok_or(RowFault::NotAnEntry)
 }
 
 /// How a receipt was asked for, of its code and the address.

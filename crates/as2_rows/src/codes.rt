@@ -157,10 +157,7 @@ pub fn outcome_in(value: ValueRef<'_>) -> Result<Outcome, RowFault>
     ensures read { IfOk result (λ x. owned value.entry ≡ whole (outcome_code x)) }
     ensures taken { (x : OutcomeOf) → owned value.entry ≡ whole (outcome_code x) → result ≡ Ok x }
 {
-    match outcome_of_code(integer(value)?) {
-        Some(outcome) => Ok(outcome),
-        None => Err(RowFault::NotAnEntry),
-    }
+    outcome_of_code(integer(value)?).ok_or(RowFault::NotAnEntry)
 }
 
 /// How a receipt stands, of the value of its column.
@@ -168,10 +165,7 @@ pub fn mdn_in(value: ValueRef<'_>) -> Result<MdnState, RowFault>
     ensures read { IfOk result (λ x. owned value.entry ≡ whole (mdn_code x)) }
     ensures taken { (x : MdnStateOf) → owned value.entry ≡ whole (mdn_code x) → result ≡ Ok x }
 {
-    match mdn_of_code(integer(value)?) {
-        Some(mdn) => Ok(mdn),
-        None => Err(RowFault::NotAnEntry),
-    }
+    mdn_of_code(integer(value)?).ok_or(RowFault::NotAnEntry)
 }
 
 /// Whether a try is open, of the value of its column.
@@ -179,10 +173,7 @@ pub fn attempt_in(value: ValueRef<'_>) -> Result<Attempt, RowFault>
     ensures read { IfOk result (λ x. owned value.entry ≡ whole (attempt_code x)) }
     ensures taken { (x : AttemptOf) → owned value.entry ≡ whole (attempt_code x) → result ≡ Ok x }
 {
-    match attempt_of_code(integer(value)?) {
-        Some(attempt) => Ok(attempt),
-        None => Err(RowFault::NotAnEntry),
-    }
+    attempt_of_code(integer(value)?).ok_or(RowFault::NotAnEntry)
 }
 
 /// How a document that is sent stands, of the value of its column.
@@ -190,8 +181,5 @@ pub fn detail_in(value: ValueRef<'_>) -> Result<Detail, RowFault>
     ensures read { IfOk result (λ x. owned value.entry ≡ whole (detail_code x)) }
     ensures taken { (x : DetailOf) → owned value.entry ≡ whole (detail_code x) → result ≡ Ok x }
 {
-    match detail_of_code(integer(value)?) {
-        Some(detail) => Ok(detail),
-        None => Err(RowFault::NotAnEntry),
-    }
+    detail_of_code(integer(value)?).ok_or(RowFault::NotAnEntry)
 }
