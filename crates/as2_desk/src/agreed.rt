@@ -14,10 +14,7 @@ fn agreements_of(alloc: Global, bytes: &[u8]) -> Result<Agreements, Refusal>
     let Ok(text) = std::str::from_utf8(bytes) else {
         return Err(Refusal::Agreements(AgreementFault::NotToml));
     };
-    match Agreements::read(alloc, text) {
-        Ok(agreements) => Ok(agreements),
-        Err(fault) => Err(Refusal::Agreements(fault)),
-    }
+    Agreements::read(alloc, text).map_err(Refusal::Agreements)
 }
 
 /// The agreements of the file of that path.

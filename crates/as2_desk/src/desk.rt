@@ -7,7 +7,7 @@ ghost use Rattle.clap.specs.declared.error.kind.ErrorKind.TheVariants.{OutOfMemo
 ghost use Rattle.as2_desk.specs.CommandLine.{AsksForHelp, IsHelp, command_in, command_line, faults, option_values};
 ghost use Rattle.as2_desk.specs.Options.{Gives, GivesNone};
 ghost use Rattle.as2_desk.specs.Refusals.{end_line};
-ghost use Rattle.as2_desk.specs.Runs.{Counts, Ends, Fails, Posts, EndsRefused, Runs, Stopped};
+ghost use Rattle.as2_desk.specs.Runs.{Comes, Counts, Ends, Fails, Posts, EndsRefused, Runs, Stopped};
 ghost use Rattle.as2_desk.specs.Statuses.{done, failed, faulty, refused, exit_status};
 ghost use Rattle.as2_desk.specs.Stores.{Holds, Kept, kept_at, stands_for};
 ghost use Rattle.as2_desk.specs.declared.options.Task.{Task as TheTask};
@@ -71,7 +71,10 @@ pub fn run<F: ReadFiles, O: OpenStores, R: Read, W: Write, E: Write>(
         (Appends (E.contents errors.old) (E.contents errors.new)) result }
 {
     match options(alloc, words, clock) {
-        Ok(options) => carry_out(alloc, &options, files, stores, input, output, errors),
+        Ok(options) => {
+            let agreed = agreements_in(alloc, files, options.agreements);
+            carry_out(alloc, &options, agreed, stores, input, output, errors)
+        }
         Err(error) => tell(alloc, &error, output, errors),
     }
 }
@@ -117,24 +120,24 @@ fn explained(
     command.error(ErrorKind::ValueValidation, text.as_str())
 }
 
-/// Does what is asked for, over the agreements.
-fn carry_out<F: ReadFiles, O: OpenStores, R: Read, W: Write, E: Write>(
+/// Does what is asked for, where there are agreements to do it over.
+fn carry_out<O: OpenStores, R: Read, W: Write, E: Write>(
     alloc: Global,
     options: &Options<'_>,
-    files: &F,
+    agreed: Result<Agreements, Refusal>,
     stores: &O,
     input: &mut R,
     output: &mut W,
     errors: &mut E,
 ) -> Ran
     ensures status { (result.status ≡ done) ⊎ ((result.status ≡ refused) ⊎ (result.status ≡ failed)) }
-    ensures runs { Runs (F.content files.now options.now.agreements.now) (kept_at options.now.store.now (O.kept stores.now options.now.store.now)) options.now.task
+    ensures comes { Comes agreed (kept_at options.now.store.now (O.kept stores.now options.now.store.now)) options.now.task
         (R.remaining input.old) (R.remaining input.new) (input.new ≡ input.old) (output.new ≡ output.old)
         (Appends (W.contents output.old) (W.contents output.new)) (Appends (E.contents errors.old) (E.contents errors.new)) result }
     ensures store { result.status ≡ failed → Stopped (input.new ≡ input.old) (output.new ≡ output.old)
         (Appends (E.contents errors.old) (E.contents errors.new)) result }
 {
-    let agreements = match agreements_in(alloc, files, options.agreements) {
+    let agreements = match agreed {
         Ok(agreements) => agreements,
         Err(refusal) => return refuse(refusal, errors),
     };

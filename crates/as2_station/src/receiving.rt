@@ -74,27 +74,8 @@ fn settle_named<S: Alter>(
     Ok(taken())
 }
 
-/// Takes a receipt: the document that it is for is settled, if one is there.
-#[tactic(auto, unfolding(as2_exchange::specs::Documents::settle))]
-fn take_receipt<S: Alter>(
-    store: &mut Store<S>,
-    alloc: Global,
-    opened: &Opened<'_>,
-    receipt: &Receipt<'_>,
-    body: Pieces,
-    moment: Moment,
-) -> Result<HttpAnswer, StoreFault>
-    ensures taken { (A : Agreements) → TakesPost S.Store A moment (IsReceipt (receipt_by opened.now receipt.now body)) always store.old store.new result }
-{
-    let id_value = without_brackets(receipt.original_id);
-    match store.find_out_by_id(alloc, id_value)? {
-        Some(document) => settle_named(store, alloc, opened, receipt, body, moment, &document),
-        None => Ok(Line::NoSuchMessage.answer()),
-    }
-}
-
-/// Takes a posted report: a receipt, unless it can't be read.
-#[tactic(auto, unfolding(as2_exchange::specs::Readings::report_in))]
+/// Takes a posted report: a receipt, unless it can't be read. The document that it names is settled, if one is there.
+#[tactic(auto, unfolding(as2_exchange::specs::Documents::settle, as2_exchange::specs::Readings::report_in))]
 pub fn receive<S: Alter>(
     store: &mut Store<S>,
     alloc: Global,
@@ -105,8 +86,12 @@ pub fn receive<S: Alter>(
     ensures taken { (A : Agreements) → TakesPost S.Store A moment (report_by opened.now body) always store.old store.new result }
 {
     let report = body.joined()?;
-    match read_report(&opened.media, &report) {
-        Ok(receipt) => take_receipt(store, alloc, opened, &receipt, body, moment),
-        Err(_) => Ok(Line::UnreadableReceipt.answer()),
+    let Ok(receipt) = read_report(&opened.media, &report) else {
+        return Ok(Line::UnreadableReceipt.answer());
+    };
+    let id_value = without_brackets(receipt.original_id);
+    match store.find_out_by_id(alloc, id_value)? {
+        Some(document) => settle_named(store, alloc, opened, &receipt, body, moment, &document),
+        None => Ok(Line::NoSuchMessage.answer()),
     }
 }

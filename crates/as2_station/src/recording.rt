@@ -1,5 +1,5 @@
 //! Documents that are posted: each is recorded once.
-ghost use Rattle.std.specs.Prelude.{◌≡◌, Some, None, IsTrue};
+ghost use Rattle.std.specs.Prelude.{◌≡◌, Some, IsTrue};
 ghost use Rattle.sqlite.specs.Held.{state};
 ghost use Rattle.sqlite.specs.State.{HasCleanDisk};
 ghost use Rattle.as2_exchange.specs.State.{received_as};
@@ -39,25 +39,8 @@ fn record_again<S: Alter>(
     Ok(answer)
 }
 
-/// Takes a document whose key no entry has, under the next number.
-#[tactic(auto, unfolding(as2_exchange::specs::Recording::record_post))]
-fn record_first<S: Alter>(
-    store: &mut Store<S>,
-    alloc: Global,
-    agreements: &Agreements,
-    posted: Posted,
-    moment: Moment,
-) -> Result<HttpAnswer, StoreFault>
-    ensures taken { TakesPost S.Store agreements.now moment (IsDocument posted) (λ s. received_as s posted ≡ None) store.old store.new result }
-{
-    let number = store.next_numbers()?.receipt;
-    let answer = answer_to(alloc, agreements, number, &posted)?;
-    store.add_in(&first_entry(number, moment, posted))?;
-    Ok(answer)
-}
-
-/// Takes a document: it repeats one, clashes with one, or is new.
-#[tactic(auto, unfolding(as2_exchange::specs::Readings::value_of))]
+/// Takes a document: it repeats one, clashes with one, or is new and gets the next number.
+#[tactic(auto, unfolding(as2_exchange::specs::Recording::record_post, as2_exchange::specs::Readings::value_of))]
 pub fn record<S: Alter>(
     store: &mut Store<S>,
     alloc: Global,
@@ -67,8 +50,12 @@ pub fn record<S: Alter>(
 ) -> Result<HttpAnswer, StoreFault>
     ensures taken { TakesPost S.Store agreements.now moment (IsDocument posted) always store.old store.new result }
 {
-    match store.find_in(alloc, &posted.sender, &posted.receiver, posted.id.value())? {
-        Some(entry) => record_again(store, alloc, agreements, &entry, &posted, moment),
-        None => record_first(store, alloc, agreements, posted, moment),
+    let found = store.find_in(alloc, &posted.sender, &posted.receiver, posted.id.value())?;
+    if let Some(entry) = &found {
+        return record_again(store, alloc, agreements, entry, &posted, moment);
     }
+    let number = store.next_numbers()?.receipt;
+    let answer = answer_to(alloc, agreements, number, &posted)?;
+    store.add_in(&first_entry(number, moment, posted))?;
+    Ok(answer)
 }

@@ -3,8 +3,8 @@ mod Statements
 mod Texts
 mod ForeignKeys
 mod TransactionEnds
-mod Committing
-mod Querying
+pub mod Committing
+pub mod Querying
 mod HandedBack
 mod CreatedTables
 mod MetaRow

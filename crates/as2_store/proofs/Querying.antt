@@ -1,5 +1,6 @@
 -- A query in a transaction of its own.
 use Rattle.std.proofs.Common.{◌≡◌, ◌⊎◌, inl, ℕ, List, Some, Result, Ok, Err, IfOk, IfErr, OnOk, IsErr, IsErrAnd, IsTrue, MatchResult, true, refl, sym, subst, arith}
+use Rattle.std.proofs.lemmas.Result.{IfOk-weaker}
 use Rattle.sqlite_trees.specs.Tree.{Trees}
 use Rattle.sqlite.specs.Store.{Ghosts}
 use Rattle.sqlite.specs.Held.{Held, state}
@@ -70,26 +71,16 @@ as_read fits old new (Ok a) w answer = record {
 }
 as_read fits old new (Err e) w answer = record { clean = w.clean; was_open = w.was_open; is_open = w.is_open; answer = answer; same = w.failed; crash = w.crash }
 
-less_of : {A E : Type 0} (fits more : State → A → Type 0) (old : Connected) (r : Result A E) → ((s : State) (a : A) → Rests old s → more s a → fits s a) → IfOk r (λ a. (s : State) → Rests old s → more s a)
-    → IfOk r (λ a. (s : State) → Rests old s → fits s a)
-less_of fits more old (Ok a) less all = λ s rests. less s a rests (all s rests)
-less_of fits more old (Err e) less all = tt
-
 -- what fits less than was shown
 pub read_as : {A E : Type 0} (fits more : State → A → Type 0) (old new : Connected) (r : Result A E) → ((s : State) (a : A) → Rests old s → more s a → fits s a) → Reads more old new r → Reads fits old new r
 read_as fits more old new r less it = record {
   clean = it.clean;
   was_open = it.was_open;
   is_open = it.is_open;
-  answer = λ clean. less_of fits more old r less (it.answer clean);
+  answer = λ clean. IfOk-weaker r _ _ (λ a all s rests. less s a rests (all s rests)) (it.answer clean);
   same = it.same;
   crash = it.crash;
 }
-
--- a failure answers nothing
-pub if_failed : {A E : Type 0} (P : A → Type 0) (r : Result A E) → IsErr r → IfOk r P
-if_failed P (Ok a) err = absurd cc
-if_failed P (Err e) err = tt
 
 -- ---- reads one after the other
 

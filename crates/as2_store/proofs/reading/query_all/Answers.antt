@@ -1,11 +1,12 @@
 use Rattle.std.proofs.Common.{rules, true, ◌≡◌, refl, subst, arith, Ok, Some}
+use Rattle.std.proofs.lemmas.Result.{IfOk-from_err}
 use Rattle.sqlite.specs.Held.{state}
 use Rattle.sqlite.specs.Values.{bound}
 use Rattle.sqlite.specs.State.{HasCleanDisk, Shown}
 use Rattle.as2_store.specs.Calls.{Reads}
 use Rattle.as2_store.proofs.TransactionEnds.{undone}
 use Rattle.as2_store.proofs.Committing.{commits, gives_up, fails_to_commit}
-use Rattle.as2_store.proofs.Querying.{queried_inside, asked, answers, as_read, if_failed}
+use Rattle.as2_store.proofs.Querying.{queried_inside, asked, answers, as_read}
 use Rattle.sql_tables.proofs.Asking.{shown_stays}
 use Rattle.as2_store.proofs.reading.query_all.Goals as goal
 
@@ -21,7 +22,7 @@ returns-in_err-rows-clause-shown g c =
     let inside = queried_inside (λ rows. rows.items) sql params begun mid c.query_all.result refl (rw c.transaction-tx.ensures.begun at c.query_all.ensures.ok) (rw c.transaction-tx.ensures.begun at c.query_all.ensures.err) (rw c.transaction-tx.ensures.begun at c.query_all.ensures.survives) in
     subst (λ h. Reads (λ s rows. Shown sql params (state g.S.Store old) (state g.S.Store old) rows.items) (state g.S.Store old) (state g.S.Store h) c.from_residual.result) same
     (as_read _ (state g.S.Store old) (state g.S.Store end) c.from_residual.result (gives_up g.S.Store old mid end Some c.from_residual.result c.from_residual.ensures.0 inside c.drop-tx.ensures.survives c.drop-tx.ensures.undone)
-    (λ late. if_failed _ c.from_residual.result c.from_residual.ensures.0))
+    (λ late. IfOk-from_err c.from_residual.result _ c.from_residual.ensures.0))
 
 pub returns-in_err-commit-clause-shown : goal.returns-in_err-commit-clause-shown
 returns-in_err-commit-clause-shown g c =
@@ -41,7 +42,7 @@ returns-in_err-commit-clause-shown g c =
     (as_read _ (state g.S.Store old) (state g.S.Store end) c.from_residual-in_err-commit.result
     (fails_to_commit g.S.Store old mid end Some c.from_residual-in_err-commit.result c.from_residual-in_err-commit.ensures.0 inside c.commit.ensures.survives done
     (λ late. undone mid (state g.S.Store end) _ (shown_stays sql params begun mid rows refl (shown (was late))) (c.in_err-commit.ensures.err late)))
-    (λ late. if_failed _ c.from_residual-in_err-commit.result c.from_residual-in_err-commit.ensures.0))
+    (λ late. IfOk-from_err c.from_residual-in_err-commit.result _ c.from_residual-in_err-commit.ensures.0))
 
 pub returns-clause-shown : goal.returns-clause-shown
 returns-clause-shown g c =
