@@ -16,7 +16,7 @@ use Rattle.as2_exchange.specs.Step.{step}
 use Rattle.as2_exchange.specs.declared.answer.Answer.{Answer}
 use Rattle.as2_exchange.specs.declared.answer.HttpAnswer.{HttpAnswer}
 use Rattle.as2_exchange.specs.declared.answer.Answer.TheVariants.{Http}
-use Rattle.as2_desk.specs.FirstRequest.{Replies, Refusal, form_of, refusal_form}
+use Rattle.as2_desk.specs.FirstRequest.{Replies, RefusedRequest, form_of, refusal_form}
 use Rattle.as2_desk.specs.Laws.{OneReply, TellsFault}
 use Rattle.as2_desk.specs.Responses.{RespondsTo, Responds, Takes, Unsaid, answer_of, post_event}
 use Rattle.as2_desk.specs.declared.first_request.Served.TheVariants.{Closed, Truncated, BadFraming, ReadFault, WriteFault, Memory, TooLong}
@@ -74,7 +74,7 @@ replies_once agreements moment s t u input after later text same r q n k =
       gets.1,
     )
 
-refusals_once : (moment : ℕ) (input : List ℕ) (after later : Option (List ℕ)) (text same : List ℕ) → Refusal moment input after text → Refusal moment input later same → text ≡ same
+refusals_once : (moment : ℕ) (input : List ℕ) (after later : Option (List ℕ)) (text same : List ℕ) → RefusedRequest moment input after text → RefusedRequest moment input later same → text ≡ same
 refusals_once moment input after later text same r q =
     let one = refuses_in_one_way input r.refused q.refused r.refuses q.refuses in
     replies_in_one_way moment (refusal_form r.refused) (refusal (refusal_line r.refused.reason)) text same r.reply

@@ -5,7 +5,7 @@ use Rattle.as2_desk.specs.Runs.{Ends}
 use Rattle.as2_desk.specs.Statuses.{refused, exit_status}
 use Rattle.as2_desk.specs.declared.first_request.Served.{Served}
 use Rattle.as2_desk.specs.declared.first_request.Served.TheVariants.{Closed, Truncated, BadFraming, ReadFault, WriteFault, Memory, TooLong}
-use Rattle.as2_desk.specs.declared.refusal.Refusal.TheVariants.{Stream}
+use Rattle.as2_desk.specs.declared.refusal.CommandFault.TheVariants.{Stream}
 use Rattle.as2_desk.specs.declared.status.Ran.{Ran}
 
 -- an end that isn't in good order is told as a refusal

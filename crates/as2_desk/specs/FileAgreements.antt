@@ -4,12 +4,12 @@ use Rattle.as2_agreement.specs.Agreements.{AgreedValues}
 use Rattle.as2_agreement.specs.Reading.{reading}
 use Rattle.as2_agreement.specs.declared.fault.AgreementFault.TheVariants as fault
 use Rattle.as2_desk.specs.FileContents.{Content, untold, unreadable, file}
-use Rattle.as2_desk.specs.declared.refusal.Refusal.{Refusal}
-use Rattle.as2_desk.specs.declared.refusal.Refusal.TheVariants as refusal
+use Rattle.as2_desk.specs.declared.refusal.CommandFault.{CommandFault}
+use Rattle.as2_desk.specs.declared.refusal.CommandFault.TheVariants as refusal
 
 -- agreements, or the refusal that stands in their place
 abbrev pub Opened : Type 0
-Opened = Result AgreedValues Refusal
+Opened = Result AgreedValues CommandFault
 
 -- memory was wanting to read the agreements
 abbrev pub IsWant : Opened → Type 0

@@ -43,7 +43,7 @@ pub record Replies (agreements : AgreedValues) (moment : ℕ) (s : State) (Safe 
   pub reply : IsReply moment (form_of gets.request) (answer_of gets.response) text
 
 -- the input begins with no request, the text is the reply that says why, and no more was read than that took
-pub record Refusal (moment : ℕ) (input : List ℕ) (after : Option (List ℕ)) (text : List ℕ) : Type 0 where
+pub record RefusedRequest (moment : ℕ) (input : List ℕ) (after : Option (List ℕ)) (text : List ℕ) : Type 0 where
   pub refused : Refused
   pub refuses : IsRefused input refused
   pub reply : IsReply moment (refusal_form refused) (refusal (refusal_line refused.reason)) text
@@ -59,7 +59,7 @@ abbrev pub FirstRequest : AgreedValues → ℕ → State → (State → Type 0) 
 FirstRequest agreements moment s Safe t input after Closed text =
     Replies agreements moment s Safe t input after text ⊎ (IsOpen input × (unblank input ≡ []) × (text ≡ []) × (t ≡ s))
 FirstRequest agreements moment s Safe t input after Truncated text = IsOpen input × ¬ (unblank input ≡ []) × (text ≡ []) × (t ≡ s)
-FirstRequest agreements moment s Safe t input after BadFraming text = Refusal moment input after text × (t ≡ s)
+FirstRequest agreements moment s Safe t input after BadFraming text = RefusedRequest moment input after text × (t ≡ s)
 FirstRequest agreements moment s Safe t input after ReadFault text = (text ≡ []) × (t ≡ s)
 FirstRequest agreements moment s Safe t input after TooLong text = (text ≡ []) × (t ≡ s)
 FirstRequest agreements moment s Safe t input after Memory text = (text ≡ []) × Leaves agreements moment s Safe t input after

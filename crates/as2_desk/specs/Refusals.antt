@@ -8,8 +8,8 @@ use Rattle.as2_exchange.specs.declared.fault.StoreFault.TheVariants as store_fau
 use Rattle.as2_desk.specs.Statuses.{end_name, failed, refused}
 use Rattle.as2_desk.specs.declared.first_request.Served.{Served}
 use Rattle.as2_desk.specs.declared.first_request.Served.TheVariants as end
-use Rattle.as2_desk.specs.declared.refusal.Refusal.{Refusal}
-use Rattle.as2_desk.specs.declared.refusal.Refusal.TheVariants as refusal
+use Rattle.as2_desk.specs.declared.refusal.CommandFault.{CommandFault}
+use Rattle.as2_desk.specs.declared.refusal.CommandFault.TheVariants as refusal
 
 -- `refused: NAME`
 abbrev pub refused_line : List ℕ → List ℕ
@@ -36,7 +36,7 @@ abbrev pub store_line : StoreFault → List ℕ
 store_line fault = codes "store: " ++ (store_fault_name fault ++ codes "\n")
 
 -- the line of a refusal
-abbrev pub error_line : Refusal → List ℕ
+abbrev pub error_line : CommandFault → List ℕ
 error_line refusal.CannotRead = refused_line (codes "CannotRead")
 error_line refusal.CannotWrite = refused_line (codes "CannotWrite")
 error_line refusal.Memory = refused_line (codes "Memory")
@@ -45,7 +45,7 @@ error_line (refusal.Store fault) = store_line fault
 error_line (refusal.Stream ended) = refused_line (end_name ended)
 
 -- the exit status that goes with it
-abbrev pub refusal_status : Refusal → ℕ
+abbrev pub refusal_status : CommandFault → ℕ
 refusal_status (refusal.Store fault) = failed
 refusal_status other = refused
 

@@ -14,11 +14,11 @@ use Rattle.as2_desk.specs.Stores.{Kept, stands_for}
 use Rattle.as2_exchange.specs.State.{State}
 use Rattle.as2_exchange.specs.declared.fault.StoreFault.{StoreFault}
 use Rattle.as2_store.specs.Stands.{may_come}
-use Rattle.as2_desk.specs.declared.refusal.Refusal.{Refusal}
+use Rattle.as2_desk.specs.declared.refusal.CommandFault.{CommandFault}
 use Rattle.as2_desk.specs.declared.first_request.Served.{Served}
 use Rattle.as2_desk.specs.declared.options.Task.{Task}
 use Rattle.as2_desk.specs.declared.options.Task.TheVariants.{Check, Post}
-use Rattle.as2_desk.specs.declared.refusal.Refusal.TheVariants.{CannotWrite, Store}
+use Rattle.as2_desk.specs.declared.refusal.CommandFault.TheVariants.{CannotWrite, Store}
 use Rattle.as2_desk.specs.declared.status.Ran.{Ran}
 
 -- the exit status is that one, and the text is said on standard error, unless it couldn't be written there
@@ -27,7 +27,7 @@ pub record Ends (status : ℕ) (text : List ℕ) (Said : List ℕ → Type 0) (r
   pub said : ran.told ≡ true → Said text
 
 -- that is refused: status and line say so
-abbrev pub EndsRefused : Refusal → (List ℕ → Type 0) → Ran → Type 0
+abbrev pub EndsRefused : CommandFault → (List ℕ → Type 0) → Ran → Type 0
 EndsRefused refusal Said ran = Ends (refusal_status refusal) (error_line refusal) Said ran
 
 -- the members were counted on standard output, or that couldn't be written

@@ -12,7 +12,7 @@ ghost use Rattle.as2_desk.specs.Statuses.{done, failed, faulty, refused, exit_st
 ghost use Rattle.as2_desk.specs.Stores.{Holds, Kept, kept_at, stands_for};
 ghost use Rattle.as2_desk.specs.declared.options.Task.{Task as TheTask};
 ghost use Rattle.as2_exchange.specs.declared.fault.StoreFault.{StoreFault as TheFault};
-ghost use Rattle.as2_desk.specs.declared.refusal.Refusal.TheVariants.{Memory, Store as Failing};
+ghost use Rattle.as2_desk.specs.declared.refusal.CommandFault.TheVariants.{Memory, Store as Failing};
 
 use crate::agreed::agreements_in;
 use crate::check::write_counts;
@@ -20,7 +20,7 @@ use crate::command::command;
 use crate::files::ReadFiles;
 use crate::first_request::{Served, first_post};
 use crate::options::{OptionFault, Options, Posting, Task};
-use crate::refusal::{Refusal, is_said, status_of};
+use crate::refusal::{CommandFault, is_said, status_of};
 use crate::status::{DONE, FAULTY, Ran};
 use crate::stores::{OpenStores, records_in, records_in_memory};
 use as2_agreement::Agreements;
@@ -124,7 +124,7 @@ fn explained(
 fn carry_out<O: OpenStores, R: Read, W: Write, E: Write>(
     alloc: Global,
     options: &Options<'_>,
-    agreed: Result<Agreements, Refusal>,
+    agreed: Result<Agreements, CommandFault>,
     stores: &O,
     input: &mut R,
     output: &mut W,
@@ -161,7 +161,7 @@ fn check<W: Write, E: Write>(agreements: &Agreements, output: &mut W, errors: &m
         (Appends (E.contents errors.old) (E.contents errors.new)) result }
 {
     if write_counts(agreements, output).is_err() {
-        return refuse(Refusal::CannotWrite, errors);
+        return refuse(CommandFault::CannotWrite, errors);
     }
     Ran {
         status: DONE,
@@ -201,7 +201,7 @@ fn post<S: Alter + Drop, R: Read, W: Write, E: Write>(
             );
             tell_end(end, errors)
         }
-        Err(fault) => refuse(Refusal::Store(fault), errors),
+        Err(fault) => refuse(CommandFault::Store(fault), errors),
     }
 }
 
@@ -214,12 +214,12 @@ fn tell_end<E: Write>(end: Served, errors: &mut E) -> Ran
             status: DONE,
             told: true,
         },
-        _ => refuse(Refusal::Stream(end), errors),
+        _ => refuse(CommandFault::Stream(end), errors),
     }
 }
 
 /// Says that something was refused.
-fn refuse<E: Write>(refusal: Refusal, errors: &mut E) -> Ran
+fn refuse<E: Write>(refusal: CommandFault, errors: &mut E) -> Ran
     ensures told { EndsRefused refusal (Appends (E.contents errors.old) (E.contents errors.new)) result }
     ensures status { (result.status ≡ refused) ⊎ (result.status ≡ failed) }
     ensures store { result.status ≡ failed → (fault : TheFault) × (refusal ≡ Failing fault) }
@@ -241,10 +241,10 @@ fn tell<W: Write, E: Write>(alloc: Global, error: &Error, output: &mut W, errors
         ⊎ (kind_of error.now ≢ OutOfMemory) }
 {
     if error.kind() == ErrorKind::OutOfMemory {
-        return refuse(Refusal::Memory, errors);
+        return refuse(CommandFault::Memory, errors);
     }
     let Ok(text) = error.to_string(alloc) else {
-        return refuse(Refusal::Memory, errors);
+        return refuse(CommandFault::Memory, errors);
     };
     if error.use_stderr() {
         return Ran {
@@ -253,7 +253,7 @@ fn tell<W: Write, E: Write>(alloc: Global, error: &Error, output: &mut W, errors
         };
     }
     if output.write_all(text.as_bytes()).is_err() {
-        return refuse(Refusal::CannotWrite, errors);
+        return refuse(CommandFault::CannotWrite, errors);
     }
     Ran {
         status: DONE,

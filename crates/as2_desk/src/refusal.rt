@@ -12,7 +12,7 @@ use std::io::Write;
 
 /// Why what was asked for isn't done.
 #[derive(Clone, Copy, Debug, PartialEq, Eq)]
-pub(crate) enum Refusal {
+pub(crate) enum CommandFault {
     /// A file can't be read.
     CannotRead,
     /// Standard output can't be written.
@@ -28,11 +28,11 @@ pub(crate) enum Refusal {
 }
 
 /// The exit status that goes with a refusal.
-pub(crate) fn status_of(refusal: Refusal) -> u8
+pub(crate) fn status_of(refusal: CommandFault) -> u8
     ensures { result ≡ refusal_status refusal }
 {
     match refusal {
-        Refusal::Store(_) => FAILED,
+        CommandFault::Store(_) => FAILED,
         _ => REFUSED,
     }
 }
@@ -78,21 +78,21 @@ fn say_store<E: Write>(fault: StoreFault, errors: &mut E) -> io::Result<()>
 }
 
 /// Writes the line of a refusal.
-fn say<E: Write>(refusal: Refusal, errors: &mut E) -> io::Result<()>
+fn say<E: Write>(refusal: CommandFault, errors: &mut E) -> io::Result<()>
     ensures { OnOk result (Appends (E.contents errors.old) (E.contents errors.new) (error_line refusal)) }
 {
     match refusal {
-        Refusal::CannotRead => say_refused("CannotRead", errors),
-        Refusal::CannotWrite => say_refused("CannotWrite", errors),
-        Refusal::Memory => say_refused("Memory", errors),
-        Refusal::Agreements(fault) => say_agreements(fault, errors),
-        Refusal::Store(fault) => say_store(fault, errors),
-        Refusal::Stream(end) => say_refused(end_name(end), errors),
+        CommandFault::CannotRead => say_refused("CannotRead", errors),
+        CommandFault::CannotWrite => say_refused("CannotWrite", errors),
+        CommandFault::Memory => say_refused("Memory", errors),
+        CommandFault::Agreements(fault) => say_agreements(fault, errors),
+        CommandFault::Store(fault) => say_store(fault, errors),
+        CommandFault::Stream(end) => say_refused(end_name(end), errors),
     }
 }
 
 /// Says why something was refused, and whether that could be said: where not, there is nobody else to say it to.
-pub(crate) fn is_said<E: Write>(refusal: Refusal, errors: &mut E) -> bool
+pub(crate) fn is_said<E: Write>(refusal: CommandFault, errors: &mut E) -> bool
     ensures { result ≡ true → Appends (E.contents errors.old) (E.contents errors.new) (error_line refusal) }
 {
     say(refusal, errors).is_ok()

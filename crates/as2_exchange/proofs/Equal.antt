@@ -5,7 +5,7 @@ use Rattle.std.specs.Str.{bytes_eq}
 use Rattle.std.proofs.lemmas.Bool.{false≢true}
 use Rattle.std.proofs.lemmas.Slice.Eq.{bytes_eq-Decides}
 use Rattle.as2_exchange.specs.Agreement.{Text, Alg, Md5, Sha1}
-use Rattle.as2_exchange.specs.Readings.{How, NoReceipt, Sync, Async, Mic, Outcome, Processed, DecryptionFailed, DecompressionFailed, AuthenticationFailed, UnsupportedFormat, UnsupportedMicAlgorithms, value_of}
+use Rattle.as2_exchange.specs.Readings.{ReceiptDelivery, NoReceipt, Sync, Async, Mic, Outcome, Processed, DecryptionFailed, DecompressionFailed, AuthenticationFailed, UnsupportedFormat, UnsupportedMicAlgorithms, value_of}
 use Rattle.as2_exchange.specs.State.{Posted, same_key}
 use Rattle.as2_exchange.specs.Posts.{repeats, outcome_eq, how_eq, alg_eq, mic_eq}
 use Rattle.as2_exchange.proofs.Repeats.{repeats_itself}
@@ -55,7 +55,7 @@ outcome_is UnsupportedMicAlgorithms AuthenticationFailed h = absurd (false≢tru
 outcome_is UnsupportedMicAlgorithms UnsupportedFormat h = absurd (false≢true h)
 outcome_is UnsupportedMicAlgorithms UnsupportedMicAlgorithms h = refl
 
-how_is : (a b : How) → how_eq a b ≡ true → a ≡ b
+how_is : (a b : ReceiptDelivery) → how_eq a b ≡ true → a ≡ b
 how_is NoReceipt NoReceipt h = refl
 how_is NoReceipt Sync h = absurd (false≢true h)
 how_is NoReceipt (Async url) h = absurd (false≢true h)

@@ -13,7 +13,7 @@ use Rattle.as2_mic.specs.Mic.{mic, encoded}
 use Rattle.as2_mdn.specs.Receipts.{Mic as MicRead, Given}
 use Rattle.as2_exchange.specs.Agreement.{Text, Agreements, Partner, Asked, NoReceipt, Sync, Async, Sha1, Md5}
 use Rattle.as2_exchange.specs.Detail.{Processed}
-use Rattle.as2_exchange.specs.Readings.{Head, Receipt, How, Sync as SyncReceipt, Async as AsyncReceipt, Processed as WasProcessed, names_of, version_fits, type_of, is_report, report_in, verdict, id_of, ask_of, how_of, outcome_of, encoding_refused, mic_for}
+use Rattle.as2_exchange.specs.Readings.{Head, Receipt, ReceiptDelivery, Sync as SyncReceipt, Async as AsyncReceipt, Processed as WasProcessed, names_of, version_fits, type_of, is_report, report_in, verdict, id_of, ask_of, how_of, outcome_of, encoding_refused, mic_for}
 use Rattle.as2_exchange.specs.State.{Posted}
 use Rattle.as2_exchange.specs.Posts.{IsDocument, IsReceipt, ReceivedReceipt, reading}
 
@@ -165,7 +165,7 @@ post_head from id more =
     ∷ more
 
 -- what is made of one
-abbrev pub document_of : Text → Text → Text → How → Text → Posted
+abbrev pub document_of : Text → Text → Text → ReceiptDelivery → Text → Posted
 document_of from id content how text = record { sender = from; receiver = codes "Supplier"; id = id; content_type = codes "application/edi-x12"; content = content; outcome = WasProcessed; how = how; mic = Some (record { digest = Sha1; text = text }) }
 
 abbrev pub sha1_text : Text

@@ -10,7 +10,7 @@ use Rattle.std.proofs.lemmas.List.Elements.{filter_map-append}
 use Rattle.std.proofs.lemmas.List.Folds.{find-append}
 use Rattle.as2_exchange.specs.Agreement.{Text, Agreements, Partner, is_organization, partner_of}
 use Rattle.as2_exchange.specs.Detail.{Idle, Unasked, Sent}
-use Rattle.as2_exchange.specs.Readings.{Head, How, NoReceipt, Sync, Async, is_async, is_report, names_of, version_fits, type_of, id_of, ask_of, report_in}
+use Rattle.as2_exchange.specs.Readings.{Head, ReceiptDelivery, NoReceipt, Sync, Async, is_async, is_report, names_of, version_fits, type_of, id_of, ask_of, report_in}
 use Rattle.as2_exchange.specs.State.{Posted, InEntry, State, empty, lasting, same_key, document, received, received_as, change_received}
 use Rattle.as2_exchange.specs.Events.{Event, Post, Submit, Begin, Outcome, BeginMdn, OutcomeMdn, Tick, Answer, Refused, NoSuchNumber, TryAnswer, Line, BadNames, BadVersion, UnknownNames, BadType, UnreadableReceipt, BadId, BadAsk, Done}
 use Rattle.as2_exchange.specs.Posts.{Reading, Refuses, IsReceipt, IsDocument, needs, reading, repeats, ReceivedReceipt}
@@ -53,7 +53,7 @@ since-push p facts f = fold_last (queued_by p) None facts f
 
 -- ---- how a receipt stands
 
-abbrev StandsAs : How → Partner → List ReceiptFact → InEntry → Type 0
+abbrev StandsAs : ReceiptDelivery → Partner → List ReceiptFact → InEntry → Type 0
 StandsAs NoReceipt p facts e = (e.mdn ≡ Unasked) × (e.tries ≡ 0) × (e.attempt ≡ Idle) × (e.due ≡ None)
 StandsAs Sync p facts e = (e.mdn ≡ Sent) × (e.tries ≡ 0) × (e.attempt ≡ Idle) × (e.due ≡ None)
 StandsAs (Async url) p facts e = (since : Found ℕ Fact) × (since_queued p facts ≡ Some since) × Owed p since e
@@ -81,7 +81,7 @@ stands_still A n past x q e none h = stands_on A n past x q e e h (λ p facts ag
 unqueued : (m : ℕ) (e : InEntry) → is_async e.posted.how ≡ false → requeued_by_repeat m e ≡ e
 unqueued m e h = rw h refl
 
-reposted : (how : How) (p : Partner) (facts : List ReceiptFact) (m : ℕ) (e : InEntry) → e.posted.how ≡ how → StandsAs how p facts e → StandsAs how p (facts ++ APost m ∷ []) (requeued_by_repeat m e)
+reposted : (how : ReceiptDelivery) (p : Partner) (facts : List ReceiptFact) (m : ℕ) (e : InEntry) → e.posted.how ≡ how → StandsAs how p facts e → StandsAs how p (facts ++ APost m ∷ []) (requeued_by_repeat m e)
 reposted NoReceipt p facts m e is h = subst (StandsAs NoReceipt p (facts ++ APost m ∷ [])) (sym (unqueued m e (ap is_async is))) h
 reposted Sync p facts m e is h = subst (StandsAs Sync p (facts ++ APost m ∷ [])) (sym (unqueued m e (ap is_async is))) h
 reposted (Async url) p facts m e is h = (
@@ -103,7 +103,7 @@ since_begun p facts since m a is = by (is_job a)
     by true = since-push p facts (OfATry (ATry m)) ∙ ap (λ (o : Option (Found ℕ Fact)). queued_by p o (OfATry (ATry m))) is
     by false = is
 
-begun : (A : Agreements) (how : How) (p : Partner) (facts : List ReceiptFact) (m : ℕ) (e : InEntry) → AreAgreed A e.posted.receiver e.posted.sender p → StandsAs how p facts e → StandsAs how p (with_more facts (begin_fact m (mdn_begun A m e).0)) (mdn_begun A m e).1
+begun : (A : Agreements) (how : ReceiptDelivery) (p : Partner) (facts : List ReceiptFact) (m : ℕ) (e : InEntry) → AreAgreed A e.posted.receiver e.posted.sender p → StandsAs how p facts e → StandsAs how p (with_more facts (begin_fact m (mdn_begun A m e).0)) (mdn_begun A m e).1
 begun A NoReceipt p facts m e agreed h = subst (StandsAs NoReceipt p (with_more facts (begin_fact m (mdn_begun A m e).0))) (sym (never_begun A p m e agreed (ap is_pending h.0))) h
 begun A Sync p facts m e agreed h = subst (StandsAs Sync p (with_more facts (begin_fact m (mdn_begun A m e).0))) (sym (never_begun A p m e agreed (ap is_pending h.0))) h
 begun A (Async url) p facts m e agreed h = (
@@ -114,7 +114,7 @@ begun A (Async url) p facts m e agreed h = (
 
 -- ---- a try ends
 
-closed : (A : Agreements) (how : How) (p : Partner) (facts : List ReceiptFact) (got : TryAnswer) (m : ℕ) (e : InEntry) → AreAgreed A e.posted.receiver e.posted.sender p → StandsAs how p facts e → StandsAs how p (facts ++ OfATry (AnOutcome m got) ∷ []) (mdn_closed A got m e).1
+closed : (A : Agreements) (how : ReceiptDelivery) (p : Partner) (facts : List ReceiptFact) (got : TryAnswer) (m : ℕ) (e : InEntry) → AreAgreed A e.posted.receiver e.posted.sender p → StandsAs how p facts e → StandsAs how p (facts ++ OfATry (AnOutcome m got) ∷ []) (mdn_closed A got m e).1
 closed A NoReceipt p facts got m e agreed h = subst (StandsAs NoReceipt p (facts ++ OfATry (AnOutcome m got) ∷ [])) (sym (never_closed A p got m e agreed (ap is_pending h.0))) h
 closed A Sync p facts got m e agreed h = subst (StandsAs Sync p (facts ++ OfATry (AnOutcome m got) ∷ [])) (sym (never_closed A p got m e agreed (ap is_pending h.0))) h
 closed A (Async url) p facts got m e agreed h = (
@@ -348,7 +348,7 @@ post_repeats A x m q n p post j h = by (repeats p q) refl (sym (post n p) ∙ h)
     by false is g = absurd (cc)
 
 -- a receipt as it is first owed
-first_stands : (how : How) (p : Partner) (facts : List ReceiptFact) (n m : ℕ) (q : Posted) → q.how ≡ how → since_queued p facts ≡ Some (place [] m) → StandsAs how p facts (first_entry n m q)
+first_stands : (how : ReceiptDelivery) (p : Partner) (facts : List ReceiptFact) (n m : ℕ) (q : Posted) → q.how ≡ how → since_queued p facts ≡ Some (place [] m) → StandsAs how p facts (first_entry n m q)
 first_stands NoReceipt p facts n m q is since = (rw is refl, refl, refl, rw is refl)
 first_stands Sync p facts n m q is since = (rw is refl, refl, refl, rw is refl)
 first_stands (Async url) p facts n m q is since = (place [] m, since, queued_owed p m (first_entry n m q) (rw is refl) refl refl (rw is refl))
@@ -502,7 +502,7 @@ run_receipts A past old ((e, Failed fault) ∷ rest) new keeps run = run_receipt
 
 -- ---- the law
 
-stands_told : (how : How) (p : Partner) (facts : List ReceiptFact) (e : InEntry) → StandsAs how p facts e → history_by_how how p (since_queued p facts) ≡ Some (receipt_told e)
+stands_told : (how : ReceiptDelivery) (p : Partner) (facts : List ReceiptFact) (e : InEntry) → StandsAs how p facts e → history_by_how how p (since_queued p facts) ≡ Some (receipt_told e)
 stands_told NoReceipt p facts e h = λ i. Some (record { mdn = sym h.0 i; tries = sym h.1 i; attempt = sym h.2 i; due = sym h.3 i })
 stands_told Sync p facts e h = λ i. Some (record { mdn = sym h.0 i; tries = sym h.1 i; attempt = sym h.2 i; due = sym h.3 i })
 stands_told (Async url) p facts e h = ap (option_map (sent_later p)) h.1 ∙ (λ i. Some (record { mdn = sym h.2.state i; tries = sym h.2.count i; attempt = sym h.2.try i; due = sym h.2.wait i }))

@@ -5,7 +5,7 @@ use Rattle.as2_names.specs.Blanks.{without_blanks}
 use Rattle.as2_names.specs.Identifiers.{value_of as bare}
 use Rattle.as2_media.specs.Values.{between_quotes}
 use Rattle.as2_exchange.specs.Agreement.{Text, Alg, Sha1, Md5}
-use Rattle.as2_exchange.specs.Readings.{Head, How, NoReceipt, Sync, Outcome, Processed, DecryptionFailed, DecompressionFailed, AuthenticationFailed, UnsupportedFormat, UnsupportedMicAlgorithms, names_of, version_fits, type_of, is_report, report_in, id_of, value_of, ask_of, how_of, outcome_of, encoding_refused, mic_for}
+use Rattle.as2_exchange.specs.Readings.{Head, ReceiptDelivery, NoReceipt, Sync, Outcome, Processed, DecryptionFailed, DecompressionFailed, AuthenticationFailed, UnsupportedFormat, UnsupportedMicAlgorithms, names_of, version_fits, type_of, is_report, report_in, id_of, value_of, ask_of, how_of, outcome_of, encoding_refused, mic_for}
 use Rattle.as2_exchange.specs.State.{empty}
 use Rattle.as2_exchange.specs.Events.{Post, Nothing, Words, Line, BadNames, BadVersion, UnknownNames, BadType, UnreadableReceipt, BadId, BadAsk, IdUsedBefore, NotProcessed}
 use Rattle.as2_exchange.specs.Lines.{http, status_of}
@@ -80,7 +80,7 @@ abbrev short_head : Head
 short_head = (codes "as2-from", codes "Buyer") ∷ (codes "as2-to", codes "Supplier") ∷ (codes "message-id", m1) ∷ []
 
 -- what a post is read as: its sender, content type, outcome, and how a receipt is asked for
-abbrev seen_as : Reading → Option (Text × Text × Outcome × How)
+abbrev seen_as : Reading → Option (Text × Text × Outcome × ReceiptDelivery)
 seen_as (IsDocument p) = Some (p.sender, p.content_type, p.outcome, p.how)
 seen_as other = None
 

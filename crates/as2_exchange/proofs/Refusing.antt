@@ -6,7 +6,7 @@ use Rattle.std.specs.List.{AllByRecursion, IsDistinct, find}
 use Rattle.std.proofs.lemmas.Bool.{false≢true}
 use Rattle.std.proofs.lemmas.Option.{same_Some}
 use Rattle.as2_exchange.specs.Agreement.{Text, Agreements, Partner, Asked, NoReceipt, Sync, Async, is_organization, partner_of}
-use Rattle.as2_exchange.specs.Readings.{How, NoReceipt as NoneAsked, Sync as SyncReceipt, Async as AsyncReceipt, Outcome as WhatBecame, is_processed, named_by}
+use Rattle.as2_exchange.specs.Readings.{ReceiptDelivery, NoReceipt as NoneAsked, Sync as SyncReceipt, Async as AsyncReceipt, Outcome as WhatBecame, is_processed, named_by}
 use Rattle.as2_exchange.specs.State.{Posted, InEntry, OutEntry, State, end_of_numbers, document, document_named, received, received_as, change_document, change_received, is_begun, is_settled}
 use Rattle.as2_exchange.specs.Events.{Event, Post, Submit, Begin, Outcome, BeginMdn, OutcomeMdn, Tick, Answer, Refused, Submitted, UnknownOrganization, UnknownPartner, TooLarge, TryAnswer, Nothing, Words, NotProcessed, IdUsedBefore, NoSuchMessage}
 use Rattle.as2_exchange.specs.Posts.{ReceivedReceipt, Reading, Refuses, IsReceipt, IsDocument, reading, repeats}
@@ -148,7 +148,7 @@ with_line : (b : Bool) (became : WhatBecame) → is_refusal (if b then http 200 
 with_line true became = refl
 with_line false became = refl
 
-answered_by : (A : Agreements) (n : ℕ) (p : Posted) (how : How) → p.how ≡ how → is_refusal (answer_to A n p) ≡ false
+answered_by : (A : Agreements) (n : ℕ) (p : Posted) (how : ReceiptDelivery) → p.how ≡ how → is_refusal (answer_to A n p) ≡ false
 unfolding answer_to
 answered_by A n p SyncReceipt is = rw is refl
 answered_by A n p (AsyncReceipt url) is = rw is refl

@@ -6,7 +6,7 @@ use Rattle.as2_names.specs.Identifiers.{value_of as bare}
 use Rattle.as2_media.specs.Values.{between_quotes}
 use Rattle.as2_exchange.specs.Agreement.{Text, Agreements}
 use Rattle.as2_exchange.specs.Detail.{Detail, New, Sending, Awaiting, Retry, Processed, NoReceiptAsked, TriesUsed, Overdue, Attempt, Idle, Running, Last, Used, MdnState, Unasked, Pending, Sent}
-use Rattle.as2_exchange.specs.Readings.{How, NoReceipt, Sync, Async, document_job, receipt_job as receipt_sent, names_of, type_of, report_in, named_by, value_of}
+use Rattle.as2_exchange.specs.Readings.{ReceiptDelivery, NoReceipt, Sync, Async, document_job, receipt_job as receipt_sent, names_of, type_of, report_in, named_by, value_of}
 use Rattle.as2_exchange.specs.State.{State, InEntry, OutEntry, Evidence, empty}
 use Rattle.as2_exchange.specs.Events.{Begin, Outcome, Answer, NoAnswer, Reply, Job, Settled, Delivered, TryFailed, AlreadySettled, Submitted, Ticked, Refused, UnknownOrganization, UnknownPartner, NoSuchNumber, NotDue, AllSettled, NoOpenTry, TriesUsedUp}
 use Rattle.as2_exchange.specs.Documents.{begun, closed, submit, tick}
@@ -162,10 +162,10 @@ both_expire = (refl, refl)
 -- ---- receipts that we send
 
 -- the entry of a post from Depot
-abbrev entry_asked : How → MdnState → ℕ → Attempt → Option ℕ → InEntry
+abbrev entry_asked : ReceiptDelivery → MdnState → ℕ → Attempt → Option ℕ → InEntry
 entry_asked how mdn tries attempt due = record { number = 1; posted = document_of (codes "Depot") m1 abc how sha1_text; moment = 1000; mdn = mdn; tries = tries; attempt = attempt; due = due }
 
-abbrev later : How
+abbrev later : ReceiptDelivery
 later = Async return_address
 
 -- what a post that is new is kept as

@@ -2,7 +2,7 @@
 use Rattle.std.specs.Prelude.{ℕ, Bool, true, false, ◌&&◌, not, Option, Some, None, is_some, if◌then◌else◌}
 use Rattle.std.specs.Str.{bytes_eq}
 use Rattle.as2_exchange.specs.Agreement.{Text, Alg, Md5, Sha1, Agreements, is_organization, partner_of}
-use Rattle.as2_exchange.specs.Readings.{Head, MediaType, Receipt, ReceiptAsk, How, NoReceipt, Sync, Async, Outcome as WhatBecame, Processed, DecryptionFailed, DecompressionFailed, AuthenticationFailed, UnsupportedFormat, UnsupportedMicAlgorithms, Mic, names_of, version_fits, type_of, is_report, report_in, id_of, ask_of, how_of, outcome_of, mic_for}
+use Rattle.as2_exchange.specs.Readings.{Head, MediaType, Receipt, ReceiptAsk, ReceiptDelivery, NoReceipt, Sync, Async, Outcome as WhatBecame, Processed, DecryptionFailed, DecompressionFailed, AuthenticationFailed, UnsupportedFormat, UnsupportedMicAlgorithms, Mic, names_of, version_fits, type_of, is_report, report_in, id_of, ask_of, how_of, outcome_of, mic_for}
 use Rattle.as2_exchange.specs.State.{Posted}
 use Rattle.as2_exchange.specs.Events.{Line, BadNames, BadVersion, UnknownNames, BadType, UnreadableReceipt, BadId, BadAsk}
 
@@ -81,7 +81,7 @@ outcome_eq UnsupportedMicAlgorithms UnsupportedMicAlgorithms = true
 outcome_eq a b = false
 
 -- both ask for a receipt in the same way, and later to the same address as spelled
-abbrev pub how_eq : How → How → Bool
+abbrev pub how_eq : ReceiptDelivery → ReceiptDelivery → Bool
 how_eq NoReceipt NoReceipt = true
 how_eq Sync Sync = true
 how_eq (Async url) (Async other) = bytes_eq url other

@@ -3,7 +3,7 @@ use Rattle.std.specs.Prelude.{ℕ, ◌+◌, Bool, true, false, ◌&&◌, ◌||�
 use Rattle.std.specs.List.{list_any, filter_map}
 use Rattle.as2_exchange.specs.Agreement.{Agreements, Partner, partner_of}
 use Rattle.as2_exchange.specs.Detail.{Attempt, Idle, Running, Last, Used, MdnState, Unasked, Pending, Sent}
-use Rattle.as2_exchange.specs.Readings.{How, NoReceipt, Sync, Async}
+use Rattle.as2_exchange.specs.Readings.{ReceiptDelivery, NoReceipt, Sync, Async}
 use Rattle.as2_exchange.specs.State.{Posted, InEntry}
 use Rattle.as2_exchange.specs.Events.{Event, Post, BeginMdn, OutcomeMdn, Answer, Done}
 use Rattle.as2_exchange.specs.Posts.{Reading, IsDocument, reading, repeats}
@@ -105,7 +105,7 @@ sent_later p since =
     }
 
 -- by how it was asked for: not at all, in the answer to the post, or later
-abbrev pub history_by_how : How → Partner → Option (Found ℕ Fact) → Option ReceiptHistory
+abbrev pub history_by_how : ReceiptDelivery → Partner → Option (Found ℕ Fact) → Option ReceiptHistory
 history_by_how NoReceipt p since = Some (at_rest Unasked)
 history_by_how Sync p since = Some (at_rest Sent)
 history_by_how (Async url) p since = option_map (sent_later p) since

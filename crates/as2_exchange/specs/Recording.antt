@@ -2,7 +2,7 @@
 use Rattle.std.specs.Prelude.{ℕ, ◌+◌, Bool, true, false, ◌&&◌, [], ◌∷◌, ◌++◌, Option, Some, None, nat_le, if◌then◌else◌}
 use Rattle.as2_exchange.specs.Agreement.{Agreements}
 use Rattle.as2_exchange.specs.Detail.{Attempt, Idle, Last, Used, MdnState, Unasked, Pending, Sent}
-use Rattle.as2_exchange.specs.Readings.{How, NoReceipt, Sync, Async, ReportOut, is_processed, is_async, report_text}
+use Rattle.as2_exchange.specs.Readings.{ReceiptDelivery, NoReceipt, Sync, Async, ReportOut, is_processed, is_async, report_text}
 use Rattle.as2_exchange.specs.State.{Posted, InEntry, State, end_of_numbers, received_as, change_received}
 use Rattle.as2_exchange.specs.Events.{IdUsedBefore, NotProcessed, Nothing, Report, Answer, Http}
 use Rattle.as2_exchange.specs.Lines.{http, refusal}
@@ -16,7 +16,7 @@ report A n p = record { number = n; domain = A.domain; from = p.receiver; to = p
 unfoldable pub answer_to : Agreements → ℕ → Posted → Answer
 answer_to A n p = by p.how
   where
-    by : How → Answer
+    by : ReceiptDelivery → Answer
     by Sync = http 200 (Report (report A n p) (report_text (report A n p)))
     by (Async url) = http 202 Nothing
     by NoReceipt = if is_processed p.outcome then http 200 Nothing else Http (refusal (NotProcessed p.outcome))
@@ -40,7 +40,7 @@ requeued_by_repeat m e = if is_async e.posted.how && is_done_with e.mdn e.attemp
 abbrev pub first_entry : ℕ → ℕ → Posted → InEntry
 first_entry n m p = record { number = n; posted = p; moment = m; mdn = mdn_of p.how; tries = 0; attempt = Idle; due = if is_async p.how then Some m else None }
   where
-    mdn_of : How → MdnState
+    mdn_of : ReceiptDelivery → MdnState
     mdn_of NoReceipt = Unasked
     mdn_of Sync = Sent
     mdn_of (Async url) = Pending

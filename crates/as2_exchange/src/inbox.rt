@@ -6,7 +6,7 @@ use as2_text::{AsName, MessageId, Moment};
 
 /// How a receipt is asked for in a post (RFC 4130, section 7.3).
 #[derive(Drop)]
-pub enum How {
+pub enum ReceiptDelivery {
     /// It isn't.
     NoReceipt,
     /// In the answer to the post.
@@ -42,7 +42,7 @@ pub struct Posted {
     /// What became of it.
     pub outcome: Outcome,
     /// How a receipt was asked for.
-    pub how: How,
+    pub how: ReceiptDelivery,
     /// The digest and the MIC of a processed document; None for any other.
     pub mic: Option<ReportMic>,
 }

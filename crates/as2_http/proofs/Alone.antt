@@ -10,7 +10,7 @@ use Rattle.as2_http.specs.Requests.{Fields, IsHead, Frames, too_long, no_head, f
 use Rattle.as2_http.specs.Laws.{BeginsWithOne, RefusesInOneWay, NeverRefusesRequests, NeverOpensRequests, NeverOpensRefused}
 use Rattle.as2_http.specs.declared.framing.Method.{Method}
 use Rattle.as2_http.specs.declared.framing.Target.{Target}
-use Rattle.as2_http.specs.declared.framing.Refusal.{Refusal}
+use Rattle.as2_http.specs.declared.framing.RequestFault.{RequestFault}
 use Rattle.as2_http.specs.declared.framing.Refused.{Refused}
 use Rattle.as2_http.specs.declared.arrival.Request.{Request}
 
@@ -34,7 +34,7 @@ one_head bytes h k fields others x y =
     (same, cc e)
 
 -- one head stands at the front, and says one thing of the body
-one_frame : (text : List ℕ) (h k : RequestHead) (fields others : Fields) (x y : List ℕ) (m n : Result ℕ Refusal)
+one_frame : (text : List ℕ) (h k : RequestHead) (fields others : Fields) (x y : List ℕ) (m n : Result ℕ RequestFault)
     → Frames text h fields x m → Frames text k others y n → (h ≡ k) × (fields ≡ others) × (x ≡ y) × (m ≡ n)
 one_frame text h k fields others x y m n f g =
     let t = one_head_text text f.bytes g.bytes x y f.found g.found in
@@ -50,7 +50,7 @@ same_request : (r q : Request) → r.method ≡ q.method → r.target ≡ q.targ
 same_request r q method target fields body last =
     let e : request r.method r.target r.fields r.body r.last ≡ request q.method q.target q.fields q.body q.last = cc in e
 
-abbrev refused_as : Refusal → Bool → Refused
+abbrev refused_as : RequestFault → Bool → Refused
 refused_as reason to_head = record { reason = reason; to_head = to_head }
 
 same_refused : (a b : Refused) → a.reason ≡ b.reason → a.to_head ≡ b.to_head → a ≡ b
@@ -71,7 +71,7 @@ begins_with_one text r q rest other b c =
 
 -- bytes that are no head are the bytes of no frame
 no_frame : (text bytes after : List ℕ) → HasHeadText text bytes after → ((head : RequestHead) (fields : Fields) → ¬ (IsHead bytes head fields))
-    → (h : RequestHead) (fields : Fields) (x : List ℕ) (m : Result ℕ Refusal) → Frames text h fields x m → ⊥
+    → (h : RequestHead) (fields : Fields) (x : List ℕ) (m : Result ℕ RequestFault) → Frames text h fields x m → ⊥
 no_frame text bytes after found never h fields x m f =
     let t = one_head_text text f.bytes bytes x after f.found found in
     never h fields (subst (λ (b : List ℕ). IsHead b h fields) t.0 f.reads)

@@ -8,12 +8,12 @@ use Rattle.as2_http.specs.Requests.{Fields, Frames, Begins, IsRefused, too_long,
 use Rattle.as2_http.specs.Reading.{Judges}
 use Rattle.as2_http.specs.declared.arrival.Request.{Request}
 use Rattle.as2_http.specs.declared.framing.Method.{Method}
-use Rattle.as2_http.specs.declared.framing.Refusal.{Refusal}
+use Rattle.as2_http.specs.declared.framing.RequestFault.{RequestFault}
 use Rattle.as2_http.specs.declared.framing.Refused.{Refused}
 use Rattle.as2_http.specs.declared.request.Judged.{Judged}
 use Rattle.as2_http.proofs.Heads.{head_append, length-slice}
 
-pub frames_append : (text more : List ℕ) (head : RequestHead) (fields : Fields) (after : List ℕ) (framed : Result ℕ Refusal)
+pub frames_append : (text more : List ℕ) (head : RequestHead) (fields : Fields) (after : List ℕ) (framed : Result ℕ RequestFault)
     → Frames text head fields after framed → Frames (text ++ more) head fields (after ++ more) framed
 frames_append text more head fields after framed f = record {
   bytes = f.bytes;
@@ -58,7 +58,7 @@ pub judged_begins : (text more : List ℕ) (start end n : ℕ) (j : Judged) → 
 judged_begins text more start end n j p q e enough r method target fields body last =
     let size : length r.body ≡ n = ap length body ∙ length-slice (text ++ more) end n enough in
     let f : Frames (text ++ more) q.head j.fields (drop end text ++ more) (Ok n) =
-    subst (λ (l : Result ℕ Refusal). Frames (text ++ more) q.head j.fields (drop end text ++ more) l) e
+    subst (λ (l : Result ℕ RequestFault). Frames (text ++ more) q.head j.fields (drop end text ++ more) l) e
     (frames_append text more q.head j.fields (drop end text) j.length (judged_frames text start end j p q)) in
     record {
       head = q.head;
@@ -76,6 +76,6 @@ judged_open text more start end n j p q e short =
     let size : length (drop end text ++ more) + end ≡ length (text ++ more) =
     omega (arith, length-append (drop end text) more, length-append text more, length-drop end text, p.within) in
     in_body q.head j.fields (drop end text ++ more) n
-    (subst (λ (l : Result ℕ Refusal). Frames (text ++ more) q.head j.fields (drop end text ++ more) l) e
+    (subst (λ (l : Result ℕ RequestFault). Frames (text ++ more) q.head j.fields (drop end text ++ more) l) e
     (frames_append text more q.head j.fields (drop end text) j.length (judged_frames text start end j p q)))
     (omega (arith, size, short))

@@ -10,8 +10,8 @@ use Rattle.as2_exchange.specs.declared.answer.HttpBody.{HttpBody}
 use Rattle.as2_exchange.specs.declared.answer.HttpBody.TheVariants.{Nothing, Words, Report}
 use Rattle.as2_exchange.specs.declared.answer.Line.{Line}
 use Rattle.as2_exchange.specs.declared.answer.Line.TheVariants.{BadRequestHead, UnsupportedCoding, BadContentLength, BodyTooLarge, LengthRequired}
-use Rattle.as2_http.specs.declared.framing.Refusal.{Refusal}
-use Rattle.as2_http.specs.declared.framing.Refusal.TheVariants.{BadHead, TransferCoding, BadLength, TooLarge, NoLength}
+use Rattle.as2_http.specs.declared.framing.RequestFault.{RequestFault}
+use Rattle.as2_http.specs.declared.framing.RequestFault.TheVariants.{BadHead, TransferCoding, BadLength, TooLarge, NoLength}
 use Rattle.as2_http.specs.declared.reply.Form.{Form}
 
 -- the text is the date of that moment, in seconds since 1970 (RFC 9110, section 5.6.7)
@@ -62,7 +62,7 @@ abbrev pub IsReply : ℕ → Form → HttpAnswer → List ℕ → Type 0
 IsReply moment form answer text = (date : List ℕ) × IsDateOf moment date × (text ≡ reply date form answer)
 
 -- the line that says why no request begins there
-abbrev pub refusal_line : Refusal → Line
+abbrev pub refusal_line : RequestFault → Line
 refusal_line BadHead = BadRequestHead
 refusal_line TransferCoding = UnsupportedCoding
 refusal_line BadLength = BadContentLength

@@ -9,8 +9,8 @@ use Rattle.as2_names.specs.Options.{lists}
 pub use Rattle.as2_text.specs.ReceiptRequests.{Fields}
 use Rattle.as2_http.specs.HeadText.{HasHeadText, HasNoHeadText, head_limit}
 use Rattle.as2_http.specs.Framing.{content_length}
-use Rattle.as2_http.specs.declared.framing.Refusal.{Refusal}
-use Rattle.as2_http.specs.declared.framing.Refusal.TheVariants.{BadHead, TransferCoding, BadLength, NoLength}
+use Rattle.as2_http.specs.declared.framing.RequestFault.{RequestFault}
+use Rattle.as2_http.specs.declared.framing.RequestFault.TheVariants.{BadHead, TransferCoding, BadLength, NoLength}
 use Rattle.as2_http.specs.declared.framing.Method.{Method}
 use Rattle.as2_http.specs.declared.framing.Method.TheVariants as method
 use Rattle.as2_http.specs.declared.framing.Target.{Target}
@@ -45,7 +45,7 @@ target_of bytes = if bytes_eq bytes (codes "/as2") then target.Station else targ
 -- ---- the body
 
 -- the number of bytes of body, by the method and the values of Transfer-Encoding and of Content-Length (RFC 9112, section 6.3)
-abbrev pub length_by : Method → List (List ℕ) → List (List ℕ) → Result ℕ Refusal
+abbrev pub length_by : Method → List (List ℕ) → List (List ℕ) → Result ℕ RequestFault
 length_by m (coding ∷ codings) lengths = Err TransferCoding
 length_by method.Post [] [] = Err NoLength
 length_by method.Head [] [] = Ok 0
@@ -54,7 +54,7 @@ length_by m [] (value ∷ []) = content_length value
 length_by m [] (value ∷ other ∷ others) = Err BadLength
 
 -- how many bytes of body follow a head
-abbrev pub body_length : Method → Fields → Result ℕ Refusal
+abbrev pub body_length : Method → Fields → Result ℕ RequestFault
 body_length m fields = length_by m (values (codes "transfer-encoding") fields) (values (codes "content-length") fields)
 
 -- no further request is read behind this one: version 1.0, or a Connection field says `close` (RFC 9112, section 9.6)
@@ -64,7 +64,7 @@ is_last_request minor fields = minor == 0 || list_any (lists (codes "close")) (v
 -- ---- requests
 
 -- a whole head stands at the front of the text, and then what follows; the head says that of its body
-pub record Frames (text : List ℕ) (head : RequestHead) (fields : Fields) (after : List ℕ) (framing : Result ℕ Refusal) : Type 0 where
+pub record Frames (text : List ℕ) (head : RequestHead) (fields : Fields) (after : List ℕ) (framing : Result ℕ RequestFault) : Type 0 where
   pub bytes : List ℕ
   pub found : HasHeadText text bytes after
   pub reads : IsHead bytes head fields

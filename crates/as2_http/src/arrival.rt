@@ -3,7 +3,7 @@ ghost use Rattle.std.specs.Prelude.{◌≡◌, ◌≢◌, List, ℕ, Some, IsTru
 ghost use Rattle.as2_http.specs.Arrivals.{Arrives, LeavesUnread, is_decided};
 ghost use Rattle.as2_http.specs.Requests.{IsOpen, is_head};
 
-use crate::framing::{Method, Refusal, Refused, Target};
+use crate::framing::{Method, Refused, RequestFault, Target};
 use crate::head_text::blank_length;
 use crate::input::{Input, NoHead, Stop};
 use crate::request::{NotJudged, judge};
@@ -47,7 +47,7 @@ pub enum Arrival {
 }
 
 const BAD_HEAD: Arrival = Arrival::Refused(Refused {
-    reason: Refusal::BadHead,
+    reason: RequestFault::BadHead,
     to_head: false,
 });
 
@@ -67,7 +67,7 @@ fn stopped(stop: Stop, text: &[u8]) -> Arrival
 }
 
 /// A refused head, by the reason and its method.
-fn refused(reason: Refusal, method: Method) -> Arrival
+fn refused(reason: RequestFault, method: Method) -> Arrival
     ensures { result ≡ Arrival.Refused (record { reason = reason; to_head = is_head method }) }
 {
     Arrival::Refused(Refused {

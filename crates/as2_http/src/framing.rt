@@ -39,7 +39,7 @@ pub enum Target {
 
 /// Why no request can be read.
 #[derive(Clone, Copy, Debug, PartialEq, Eq)]
-pub enum Refusal {
+pub enum RequestFault {
     /// The bytes are no head of a request, or it is too long.
     BadHead,
     /// The body has a transfer coding.
@@ -56,21 +56,21 @@ pub enum Refusal {
 #[derive(Clone, Copy, Debug, PartialEq, Eq)]
 pub struct Refused {
     /// Why it is refused.
-    pub reason: Refusal,
+    pub reason: RequestFault,
     /// The head was read, and its method is HEAD, whose reply has no body.
     pub to_head: bool,
 }
 
 /// The number of bytes that one `Content-Length` says.
-pub fn content_length(value: &[u8]) -> Result<usize, Refusal>
+pub fn content_length(value: &[u8]) -> Result<usize, RequestFault>
     ensures exact { result ≡ content_length value.now }
     ensures bound { IfOk result (λ length. length ≤ 1048576) }
 {
     if !is_number(value) {
-        return Err(Refusal::BadLength);
+        return Err(RequestFault::BadLength);
     }
     match decimal_value(value) {
         Some(length) if length <= BODY_LIMIT as u64 => Ok(length as usize),
-        _ => Err(Refusal::TooLarge),
+        _ => Err(RequestFault::TooLarge),
     }
 }

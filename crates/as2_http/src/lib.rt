@@ -10,7 +10,7 @@ mod reply;
 mod request;
 
 pub use arrival::{Arrival, Request, read_first};
-pub use framing::{Method, Refusal, Refused, Target};
+pub use framing::{Method, Refused, RequestFault, Target};
 pub use laws::{one_arrival, one_refusal, one_reply_text, one_request};
 pub use reply::{Form, refusal, write_reply};
 

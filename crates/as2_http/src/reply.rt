@@ -3,7 +3,7 @@ ghost use Rattle.std.specs.Prelude.{◌≡◌, ◌++◌, List, ℕ, [], if◌the
 ghost use Rattle.as2_exchange.specs.Lines.{refusal};
 ghost use Rattle.as2_http.specs.Replies.{IsDateOf, IsReply, content, content_fields, line_fields, phrase, refusal_line, reply, reply_start, status_line};
 
-use crate::framing::Refusal;
+use crate::framing::RequestFault;
 use as2_exchange::{HttpAnswer, HttpBody, Line};
 use as2_mdn::{add_line, write_head_fields};
 use as2_text::{Memory, Moment};
@@ -135,15 +135,15 @@ pub fn write_reply(
 }
 
 /// The answer to bytes that no request begins with.
-pub fn refusal(reason: Refusal) -> HttpAnswer
+pub fn refusal(reason: RequestFault) -> HttpAnswer
     ensures { result ≡ refusal (refusal_line reason) }
 {
     let line = match reason {
-        Refusal::BadHead => Line::BadRequestHead,
-        Refusal::TransferCoding => Line::UnsupportedCoding,
-        Refusal::BadLength => Line::BadContentLength,
-        Refusal::TooLarge => Line::BodyTooLarge,
-        Refusal::NoLength => Line::LengthRequired,
+        RequestFault::BadHead => Line::BadRequestHead,
+        RequestFault::TransferCoding => Line::UnsupportedCoding,
+        RequestFault::BadLength => Line::BadContentLength,
+        RequestFault::TooLarge => Line::BodyTooLarge,
+        RequestFault::NoLength => Line::LengthRequired,
     };
     line.answer()
 }

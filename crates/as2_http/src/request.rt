@@ -6,7 +6,7 @@ ghost use Rattle.httparse.specs.Spans.{IsHeaderWithin, header_bytes};
 ghost use Rattle.as2_http.specs.Requests.{Fields, IsHead, appended, method_of, target_of, body_length, is_last_request};
 ghost use Rattle.as2_http.specs.Reading.{Judges};
 
-use crate::framing::{BODY_LIMIT, Method, Refusal, Target, content_length};
+use crate::framing::{BODY_LIMIT, Method, RequestFault, Target, content_length};
 use as2_text::{Head, HeadFault, Once};
 use httparse::Status;
 use httparse::spans::{EMPTY_HEADER_SPAN, HeaderSpan, parse_request};
@@ -22,7 +22,7 @@ pub struct Judged {
     /// The fields of the head.
     pub fields: Head,
     /// How many bytes of body follow, or why none can be read.
-    pub length: Result<usize, Refusal>,
+    pub length: Result<usize, RequestFault>,
     /// No further request is read behind this one.
     pub last: bool,
 }
@@ -57,18 +57,18 @@ fn target_of(bytes: &[u8]) -> Target
 }
 
 /// How many bytes of body follow a head.
-fn body_length(method: Method, fields: &Head) -> Result<usize, Refusal>
+fn body_length(method: Method, fields: &Head) -> Result<usize, RequestFault>
     ensures exact { result ≡ body_length method fields.now }
     ensures bound { IfOk result (λ length. length ≤ 1048576) }
 {
     if fields.value(b"transfer-encoding") != Once::Absent {
-        return Err(Refusal::TransferCoding);
+        return Err(RequestFault::TransferCoding);
     }
     match fields.value(b"content-length") {
-        Once::Absent if method == Method::Post => Err(Refusal::NoLength),
+        Once::Absent if method == Method::Post => Err(RequestFault::NoLength),
         Once::Absent => Ok(0),
         Once::One(value) => content_length(value),
-        Once::Twice => Err(Refusal::BadLength),
+        Once::Twice => Err(RequestFault::BadLength),
     }
 }
 

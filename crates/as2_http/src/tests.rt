@@ -5,7 +5,7 @@ mod readers;
 mod refusals;
 mod replies;
 
-use crate::{Arrival, Method, Refusal, Refused, Target, read_first};
+use crate::{Arrival, Method, Refused, RequestFault, Target, read_first};
 use std::alloc::{AllocError, Global};
 use std::io::Read;
 
@@ -49,7 +49,7 @@ const POSTED: Seen = Seen::Request {
 };
 
 const BAD_HEAD: Seen = Seen::Refused(Refused {
-    reason: Refusal::BadHead,
+    reason: RequestFault::BadHead,
     to_head: false,
 });
 

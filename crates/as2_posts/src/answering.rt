@@ -6,7 +6,7 @@ ghost use Rattle.as2_exchange.specs.Recording.{answer_to, report};
 ghost use Rattle.as2_posts.specs.Answers.{receipt_answer, untold};
 
 use as2_agreement::Agreements;
-use as2_exchange::{Bytes, How, HttpAnswer, HttpBody, Line, Posted};
+use as2_exchange::{Bytes, HttpAnswer, HttpBody, Line, Posted, ReceiptDelivery};
 use as2_mdn::{Outcome, ReportOut, write_report};
 use as2_text::Memory;
 use std::alloc::{AllocError, Global};
@@ -69,8 +69,8 @@ pub fn answer_to(
     ensures { IfOk result (λ a. Http a ≡ answer_to agreements.now number posted.now) }
 {
     match posted.how {
-        How::NoReceipt => Ok(untold(posted.outcome)),
-        How::Sync => carrying(alloc, report(agreements, number, posted)?),
-        How::Async(_) => Ok(nothing(202)),
+        ReceiptDelivery::NoReceipt => Ok(untold(posted.outcome)),
+        ReceiptDelivery::Sync => carrying(alloc, report(agreements, number, posted)?),
+        ReceiptDelivery::Async(_) => Ok(nothing(202)),
     }
 }

@@ -12,10 +12,10 @@ ghost use Rattle.as2_posts.specs.Openings.{document_by, names_in, opened_type};
 use crate::encodings::encoding_refused;
 use crate::fields::id_in;
 use crate::opening::Opened;
-use as2_exchange::{Bytes, How, Line, Posted};
+use as2_exchange::{Bytes, Line, Posted, ReceiptDelivery};
 use as2_mdn::{Outcome, ReportMic, outcome_of};
 use as2_mic::{Alg, Pieces, mic_of_pieces};
-use as2_text::{Head, How as Asked, Memory, MessageId, Once, ReceiptAsk};
+use as2_text::{Head, How, Memory, MessageId, Once, ReceiptAsk};
 use std::alloc::Global;
 
 /// The text of the address that the receipt is to be sent to.
@@ -29,14 +29,14 @@ fn delivery_address(head: &Head) -> &[u8]
 }
 
 /// How a receipt is asked for, its address as spelled.
-fn how_of(alloc: Global, head: &Head, ask: &ReceiptAsk<'_>) -> Result<How, Memory>
+fn how_of(alloc: Global, head: &Head, ask: &ReceiptAsk<'_>) -> Result<ReceiptDelivery, Memory>
     requires { is_asked head.now (request_of ask.now) }
     ensures { IfOk result (λ how. how ≡ asked_how ask.now.how (text_of (delivery_option head.now))) }
 {
     match ask.how {
-        Asked::NoReceipt => Ok(How::NoReceipt),
-        Asked::Sync => Ok(How::Sync),
-        Asked::Async(_) => Ok(How::Async(Bytes::keep(alloc, delivery_address(head))?)),
+        How::NoReceipt => Ok(ReceiptDelivery::NoReceipt),
+        How::Sync => Ok(ReceiptDelivery::Sync),
+        How::Async(_) => Ok(ReceiptDelivery::Async(Bytes::keep(alloc, delivery_address(head))?)),
     }
 }
 

@@ -3,7 +3,7 @@ ghost use Rattle.std.specs.Prelude.{◌≡◌};
 ghost use Rattle.as2_exchange.specs.Recording.{first_entry};
 ghost use Rattle.as2_posts.specs.Answers.{is_requeued};
 
-use as2_exchange::{Attempt, How, InEntry, MdnState, Posted};
+use as2_exchange::{Attempt, InEntry, MdnState, Posted, ReceiptDelivery};
 use as2_text::Moment;
 
 /// The entry of a document that is posted for the first time.
@@ -11,9 +11,9 @@ pub fn first_entry(number: u64, moment: Moment, posted: Posted) -> InEntry
     ensures { result ≡ first_entry number moment posted }
 {
     let (mdn, due) = match posted.how {
-        How::NoReceipt => (MdnState::Unasked, None),
-        How::Sync => (MdnState::Sent, None),
-        How::Async(_) => (MdnState::Pending, Some(moment.seconds())),
+        ReceiptDelivery::NoReceipt => (MdnState::Unasked, None),
+        ReceiptDelivery::Sync => (MdnState::Sent, None),
+        ReceiptDelivery::Async(_) => (MdnState::Pending, Some(moment.seconds())),
     };
     InEntry {
         number,
@@ -31,6 +31,6 @@ pub fn first_entry(number: u64, moment: Moment, posted: Posted) -> InEntry
 pub fn is_requeued(entry: &InEntry) -> bool
     ensures { result ≡ is_requeued entry.now }
 {
-    matches!(entry.posted.how, How::Async(_))
+    matches!(entry.posted.how, ReceiptDelivery::Async(_))
         && (entry.mdn == MdnState::Sent || matches!(entry.attempt, Attempt::Last | Attempt::Used))
 }

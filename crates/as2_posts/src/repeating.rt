@@ -2,15 +2,17 @@
 ghost use Rattle.std.specs.Prelude.{◌≡◌};
 ghost use Rattle.as2_exchange.specs.Posts.{how_eq, mic_eq, repeats};
 
-use as2_exchange::{How, Posted};
+use as2_exchange::{Posted, ReceiptDelivery};
 use as2_mdn::ReportMic;
 
-fn how_eq(one: &How, other: &How) -> bool
+fn how_eq(one: &ReceiptDelivery, other: &ReceiptDelivery) -> bool
     ensures { result ≡ how_eq one.now other.now }
 {
     match (one, other) {
-        (How::NoReceipt, How::NoReceipt) | (How::Sync, How::Sync) => true,
-        (How::Async(one), How::Async(other)) => one.as_slice() == other.as_slice(),
+        (ReceiptDelivery::NoReceipt, ReceiptDelivery::NoReceipt)
+        | (ReceiptDelivery::Sync, ReceiptDelivery::Sync) => true,
+        (ReceiptDelivery::Async(one), ReceiptDelivery::Async(other)) => one.as_slice()
+            == other.as_slice(),
         _ => false,
     }
 }

@@ -1,5 +1,5 @@
 use super::*;
-use as2_exchange::{Attempt, How, InEntry, Line, MdnState, Posted};
+use as2_exchange::{Attempt, InEntry, Line, MdnState, Posted, ReceiptDelivery};
 use as2_mdn::Outcome;
 use as2_mic::Pieces;
 use as2_text::{AsName, Head, MediaType, Moment};
@@ -67,7 +67,9 @@ fn usual(alloc: Global) -> Option<Posted> {
 }
 
 fn is_usual(rt: &impl Abort, posted: &Posted) {
-    assert!(rt; posted.outcome == Outcome::Processed && matches!(posted.how, How::Sync));
+    assert!(rt;
+        posted.outcome == Outcome::Processed && matches!(posted.how, ReceiptDelivery::Sync)
+    );
     let texts = [
         posted.sender.bytes(),
         posted.receiver.bytes(),
@@ -101,7 +103,7 @@ fn a_document_is_read(rt: HostRuntime) {
 
 fn is_sent_to(posted: &Posted, address: &[u8]) -> bool {
     match &posted.how {
-        How::Async(url) => url.as_slice() == address,
+        ReceiptDelivery::Async(url) => url.as_slice() == address,
         _ => false,
     }
 }

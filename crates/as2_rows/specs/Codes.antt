@@ -4,8 +4,8 @@ use Rattle.as2_mdn.specs.declared.outcome.Outcome.{Outcome}
 use Rattle.as2_mdn.specs.declared.outcome.Outcome.TheVariants as outcome
 use Rattle.as2_mdn.specs.declared.detail.Detail.{Detail}
 use Rattle.as2_mdn.specs.declared.detail.Detail.TheVariants as detail
-use Rattle.as2_exchange.specs.declared.inbox.How.{How}
-use Rattle.as2_exchange.specs.declared.inbox.How.TheVariants as how
+use Rattle.as2_exchange.specs.declared.inbox.ReceiptDelivery.{ReceiptDelivery}
+use Rattle.as2_exchange.specs.declared.inbox.ReceiptDelivery.TheVariants as how
 use Rattle.as2_exchange.specs.declared.inbox.MdnState.{MdnState}
 use Rattle.as2_exchange.specs.declared.inbox.MdnState.TheVariants as mdn
 use Rattle.as2_exchange.specs.declared.attempt.Attempt.{Attempt}
@@ -21,7 +21,7 @@ outcome_code outcome.UnsupportedMicAlgorithms = 5
 outcome_code outcome.Processed = 6
 
 -- how a receipt was asked for
-abbrev pub how_code : How → ℕ
+abbrev pub how_code : ReceiptDelivery → ℕ
 how_code how.NoReceipt = 1
 how_code how.Sync = 2
 how_code (how.Async url) = 3

@@ -7,8 +7,8 @@ use Rattle.sqlite_value.specs.Order.{Row}
 use Rattle.as2_names.specs.Identifiers.{value_of}
 use Rattle.as2_mic.specs.Algs.{alg_name}
 use Rattle.as2_mdn.specs.declared.report.ReportMic.{ReportMic}
-use Rattle.as2_exchange.specs.declared.inbox.How.{How}
-use Rattle.as2_exchange.specs.declared.inbox.How.TheVariants.{NoReceipt, Sync, Async}
+use Rattle.as2_exchange.specs.declared.inbox.ReceiptDelivery.{ReceiptDelivery}
+use Rattle.as2_exchange.specs.declared.inbox.ReceiptDelivery.TheVariants.{NoReceipt, Sync, Async}
 use Rattle.as2_exchange.specs.declared.inbox.InEntry.{InEntry}
 use Rattle.as2_exchange.specs.declared.outbox.OutEntry.{OutEntry}
 use Rattle.as2_exchange.specs.declared.outbox.Evidence.{Evidence}
@@ -29,7 +29,7 @@ whole_or_null None = Null
 whole_or_null (Some n) = whole n
 
 -- the address that a receipt is sent to
-abbrev pub url_value : How → Value
+abbrev pub url_value : ReceiptDelivery → Value
 url_value NoReceipt = Null
 url_value Sync = Null
 url_value (Async url) = Blob url

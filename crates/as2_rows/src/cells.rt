@@ -11,13 +11,13 @@ ghost use Rattle.as2_mic.specs.Algs.{alg_name};
 ghost use Rattle.as2_mic.specs.Mic.{IsMicText};
 ghost use Rattle.as2_mic.specs.declared.alg.Alg.{Alg as Digest};
 ghost use Rattle.as2_mdn.specs.declared.report.ReportMic.{ReportMic as Mic};
-ghost use Rattle.as2_exchange.specs.declared.inbox.How.{How as HowOf};
+ghost use Rattle.as2_exchange.specs.declared.inbox.ReceiptDelivery.{ReceiptDelivery as HowOf};
 ghost use Rattle.as2_rows.specs.Codes.{how_code};
 ghost use Rattle.as2_rows.specs.Rows.{whole, whole_or_null, url_value, digest_value, mic_value};
 ghost use Rattle.as2_rows.specs.declared.fault.RowFault.TheVariants as fault;
 
 use crate::RowFault;
-use as2_exchange::{Bytes, How};
+use as2_exchange::{Bytes, ReceiptDelivery};
 use as2_mdn::ReportMic;
 use as2_mic::{Alg, MicText, Pieces};
 use as2_text::{AsName, IdFault, MessageId, Moment, is_identifier, without_brackets};
@@ -139,16 +139,20 @@ pub fn moment(value: ValueRef<'_>) -> Result<Moment, RowFault>
 }
 
 /// How a receipt was asked for, of its code and the address.
-pub fn how(alloc: Global, code: ValueRef<'_>, url: ValueRef<'_>) -> Result<How, RowFault>
+pub fn how(
+    alloc: Global,
+    code: ValueRef<'_>,
+    url: ValueRef<'_>,
+) -> Result<ReceiptDelivery, RowFault>
     ensures code { IfOk result (λ h. owned code.entry ≡ whole (how_code h)) }
     ensures url { IfOk result (λ h. owned url.entry ≡ url_value h) }
     ensures read { IfOk result (λ h. (g : HowOf) → owned code.entry ≡ whole (how_code g) → owned url.entry ≡ url_value g → h ≡ g) }
     ensures taken { IfErr result (λ f. (g : HowOf) → owned code.entry ≡ whole (how_code g) → owned url.entry ≡ url_value g → f ≡ fault.Memory) }
 {
     match (integer(code)?, url) {
-        (1, ValueRef::Null) => Ok(How::NoReceipt),
-        (2, ValueRef::Null) => Ok(How::Sync),
-        (3, url) => Ok(How::Async(text(alloc, url)?)),
+        (1, ValueRef::Null) => Ok(ReceiptDelivery::NoReceipt),
+        (2, ValueRef::Null) => Ok(ReceiptDelivery::Sync),
+        (3, url) => Ok(ReceiptDelivery::Async(text(alloc, url)?)),
         _ => Err(RowFault::NotAnEntry),
     }
 }

@@ -11,18 +11,18 @@ ghost use Rattle.as2_rows.specs.Rows.{whole};
 
 use crate::RowFault;
 use crate::cells::integer;
-use as2_exchange::{Attempt, How, MdnState};
+use as2_exchange::{Attempt, MdnState, ReceiptDelivery};
 use as2_mdn::{Detail, Outcome};
 use sqlite::types::ValueRef;
 
 /// The code of how a receipt was asked for: 1 to 3.
-pub fn how_code(how: &How) -> i64
+pub fn how_code(how: &ReceiptDelivery) -> i64
     ensures { result ≡ pos (how_code how.now) }
 {
     match how {
-        How::NoReceipt => 1,
-        How::Sync => 2,
-        How::Async(_) => 3,
+        ReceiptDelivery::NoReceipt => 1,
+        ReceiptDelivery::Sync => 2,
+        ReceiptDelivery::Async(_) => 3,
     }
 }
 

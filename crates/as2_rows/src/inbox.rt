@@ -8,7 +8,7 @@ ghost use Rattle.as2_rows.specs.declared.fault.RowFault.TheVariants as fault;
 use crate::RowFault;
 use crate::cells::{column, how, identifier_of, mic, moment, name, text, whole, whole_or_null};
 use crate::codes::{attempt_in, mdn_in, outcome_in};
-use as2_exchange::{Attempt, Bytes, How, InEntry, MdnState, Posted};
+use as2_exchange::{Attempt, Bytes, InEntry, MdnState, Posted, ReceiptDelivery};
 use as2_mdn::{Outcome, ReportMic};
 use as2_mic::Pieces;
 use as2_text::{AsName, MessageId, Moment};
@@ -38,7 +38,7 @@ pub struct InRow {
     /// What became of it.
     pub outcome: Outcome,
     /// How a receipt was asked for.
-    pub how: How,
+    pub how: ReceiptDelivery,
     /// The digest and the MIC of a processed document.
     pub mic: Option<ReportMic>,
     /// How its receipt stands.

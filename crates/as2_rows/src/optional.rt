@@ -5,16 +5,16 @@ ghost use Rattle.sqlite_value.specs.declared.value.Value.TheVariants.{Text, Blob
 ghost use Rattle.sqlite.specs.Values.{or_null};
 ghost use Rattle.as2_rows.specs.Rows.{url_value, digest_value, mic_value};
 
-use as2_exchange::How;
+use as2_exchange::ReceiptDelivery;
 use as2_mdn::ReportMic;
 
 /// The address that a receipt is sent to, as it was spelled; None where it isn't sent by a request.
-pub fn url_of(how: &How) -> Option<&[u8]>
+pub fn url_of(how: &ReceiptDelivery) -> Option<&[u8]>
     ensures { or_null (λ url. Blob url.now) result ≡ url_value how.now }
 {
     match how {
-        How::NoReceipt | How::Sync => None,
-        How::Async(url) => Some(url.as_slice()),
+        ReceiptDelivery::NoReceipt | ReceiptDelivery::Sync => None,
+        ReceiptDelivery::Async(url) => Some(url.as_slice()),
     }
 }
 

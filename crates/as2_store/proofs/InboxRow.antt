@@ -9,8 +9,8 @@ use Rattle.sql_tables.specs.Changes.{Changed}
 use Rattle.sql_tables.proofs.Writes.{cast_int, cast_null, IsOneRow, inserts_given}
 use Rattle.as2_mdn.specs.declared.report.ReportMic.{ReportMic}
 use Rattle.as2_exchange.specs.declared.inbox.InEntry.{InEntry}
-use Rattle.as2_exchange.specs.declared.inbox.How.{How}
-use Rattle.as2_exchange.specs.declared.inbox.How.TheVariants.{NoReceipt, Sync, Async}
+use Rattle.as2_exchange.specs.declared.inbox.ReceiptDelivery.{ReceiptDelivery}
+use Rattle.as2_exchange.specs.declared.inbox.ReceiptDelivery.TheVariants.{NoReceipt, Sync, Async}
 use Rattle.as2_mdn.specs.declared.outcome.Outcome.{Outcome}
 use Rattle.as2_mdn.specs.declared.outcome.Outcome.TheVariants.{DecryptionFailed, DecompressionFailed, AuthenticationFailed, UnsupportedFormat, UnsupportedMicAlgorithms, Processed}
 use Rattle.as2_exchange.specs.declared.inbox.MdnState.{MdnState}
@@ -25,7 +25,7 @@ use Rattle.as2_store.proofs.Statements.{in_put_text}
 use Rattle.as2_store.proofs.WaitingRows.{cast_optional}
 use Rattle.as2_store.proofs.Texts.{in_put_terms, in_put_is, in_put_plain}
 
-pub cast_url : (how : How) → cast Blob (url_value how) ≡ url_value how
+pub cast_url : (how : ReceiptDelivery) → cast Blob (url_value how) ≡ url_value how
 cast_url NoReceipt = refl
 cast_url Sync = refl
 cast_url (Async url) = refl
@@ -40,7 +40,7 @@ cast_mic (Some mic) = refl
 
 -- ---- as it is bound
 
-pub bound_url : (how : How) → bound_value (url_value how) ≡ url_value how
+pub bound_url : (how : ReceiptDelivery) → bound_value (url_value how) ≡ url_value how
 bound_url NoReceipt = refl
 bound_url Sync = refl
 bound_url (Async url) = refl
@@ -65,10 +65,10 @@ passed_outcome o = passed (outcome_code o) (small o)
     small UnsupportedMicAlgorithms = omega arith
     small Processed = omega arith
 
-pub passed_how : (how : How) → to_z w64 (of_z w64 (pos (how_code how))) ≡ pos (how_code how)
+pub passed_how : (how : ReceiptDelivery) → to_z w64 (of_z w64 (pos (how_code how))) ≡ pos (how_code how)
 passed_how how = passed (how_code how) (small how)
   where
-    small : (how : How) → how_code how < 2 ^ 63
+    small : (how : ReceiptDelivery) → how_code how < 2 ^ 63
     small NoReceipt = omega arith
     small Sync = omega arith
     small (Async url) = omega arith

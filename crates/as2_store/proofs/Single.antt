@@ -25,8 +25,8 @@ use Rattle.as2_mdn.specs.declared.detail.Detail.TheVariants as detail
 use Rattle.as2_exchange.specs.State.{State}
 use Rattle.as2_exchange.specs.declared.attempt.Attempt.{Attempt}
 use Rattle.as2_exchange.specs.declared.attempt.Attempt.TheVariants as attempt
-use Rattle.as2_exchange.specs.declared.inbox.How.{How}
-use Rattle.as2_exchange.specs.declared.inbox.How.TheVariants.{NoReceipt, Sync, Async}
+use Rattle.as2_exchange.specs.declared.inbox.ReceiptDelivery.{ReceiptDelivery}
+use Rattle.as2_exchange.specs.declared.inbox.ReceiptDelivery.TheVariants.{NoReceipt, Sync, Async}
 use Rattle.as2_exchange.specs.declared.inbox.MdnState.{MdnState}
 use Rattle.as2_exchange.specs.declared.inbox.MdnState.TheVariants as mdn
 use Rattle.as2_exchange.specs.declared.inbox.InEntry.{InEntry}
@@ -125,16 +125,16 @@ detail_in = by_code detail_code details detail.New back
     back detail.Overdue = refl
 
 -- how a receipt was asked for, by its code and its address
-abbrev how_at : ℕ → Value → How
+abbrev how_at : ℕ → Value → ReceiptDelivery
 how_at code (Blob url) = Async url
 how_at code Null = get_or (Sync ∷ NoReceipt ∷ []) code Sync
 how_at code (Int n) = Sync
 how_at code _ = Sync
 
-how_in : (a b : How) → whole (how_code a) ≡ whole (how_code b) → url_value a ≡ url_value b → a ≡ b
+how_in : (a b : ReceiptDelivery) → whole (how_code a) ≡ whole (how_code b) → url_value a ≡ url_value b → a ≡ b
 how_in a b codes_same same = sym (back a) ∙ ap₂ how_at (whole_in (how_code a) (how_code b) codes_same) same ∙ back b
   where
-    back : (x : How) → how_at (how_code x) (url_value x) ≡ x
+    back : (x : ReceiptDelivery) → how_at (how_code x) (url_value x) ≡ x
     back NoReceipt = refl
     back Sync = refl
     back (Async url) = refl

@@ -45,7 +45,7 @@ impl Read for Drops {
 }
 
 const NO_LENGTH: Seen = Seen::Refused(Refused {
-    reason: Refusal::NoLength,
+    reason: RequestFault::NoLength,
     to_head: false,
 });
 

@@ -1,7 +1,7 @@
 use super::*;
 
 struct Case {
-    reason: Refusal,
+    reason: RequestFault,
     to_head: bool,
     texts: &'static [&'static str],
 }
@@ -9,7 +9,7 @@ struct Case {
 static CASES: [Case; 8] = [
     // No head of a request, whatever its method.
     Case {
-        reason: Refusal::BadHead,
+        reason: RequestFault::BadHead,
         to_head: false,
         texts: &[
             "POST /as2 HTTP/1.1\r\nContent Length: 3\r\n\r\nabc",
@@ -26,7 +26,7 @@ static CASES: [Case; 8] = [
     },
     // A transfer coding, whatever else is said of the body.
     Case {
-        reason: Refusal::TransferCoding,
+        reason: RequestFault::TransferCoding,
         to_head: false,
         texts: &[
             "POST /as2 HTTP/1.1\r\nTransfer-Encoding: chunked\r\n\r\n",
@@ -36,13 +36,13 @@ static CASES: [Case; 8] = [
         ],
     },
     Case {
-        reason: Refusal::TransferCoding,
+        reason: RequestFault::TransferCoding,
         to_head: true,
         texts: &["HEAD /as2 HTTP/1.1\r\nTransfer-Encoding: chunked\r\n\r\n"],
     },
     // A length that is none.
     Case {
-        reason: Refusal::BadLength,
+        reason: RequestFault::BadLength,
         to_head: false,
         texts: &[
             "POST /as2 HTTP/1.1\r\nContent-Length: 3\r\nContent-Length: 3\r\n\r\nabc",
@@ -57,13 +57,13 @@ static CASES: [Case; 8] = [
         ],
     },
     Case {
-        reason: Refusal::BadLength,
+        reason: RequestFault::BadLength,
         to_head: true,
         texts: &["HEAD /as2 HTTP/1.1\r\nContent-Length: x\r\n\r\n"],
     },
     // A body over the limit.
     Case {
-        reason: Refusal::TooLarge,
+        reason: RequestFault::TooLarge,
         to_head: false,
         texts: &[
             "POST /as2 HTTP/1.1\r\nContent-Length: 1048577\r\n\r\nabc",
@@ -72,13 +72,13 @@ static CASES: [Case; 8] = [
         ],
     },
     Case {
-        reason: Refusal::TooLarge,
+        reason: RequestFault::TooLarge,
         to_head: true,
         texts: &["HEAD /as2 HTTP/1.1\r\nContent-Length: 1048577\r\n\r\n"],
     },
     // A POST that says no length.
     Case {
-        reason: Refusal::NoLength,
+        reason: RequestFault::NoLength,
         to_head: false,
         texts: &[
             "POST /as2 HTTP/1.1\r\n\r\nabc",

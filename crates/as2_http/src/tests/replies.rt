@@ -1,4 +1,4 @@
-use crate::{Form, Refusal, refusal, write_reply};
+use crate::{Form, RequestFault, refusal, write_reply};
 use as2_exchange::{Bytes, HttpAnswer, HttpBody, Line};
 use as2_mdn::{Outcome, ReportOut, write_report};
 use as2_text::{AsName, Domain, MessageId, Moment};
@@ -29,7 +29,7 @@ const CLOSING_TO_HEAD: Form = Form {
 enum Said {
     Nothing(u16),
     Line(Line),
-    Refusal(Refusal),
+    RequestFault(RequestFault),
 }
 
 fn answer(said: Said) -> HttpAnswer {
@@ -39,7 +39,7 @@ fn answer(said: Said) -> HttpAnswer {
             body: HttpBody::Nothing,
         },
         Said::Line(line) => line.answer(),
-        Said::Refusal(reason) => refusal(reason),
+        Said::RequestFault(reason) => refusal(reason),
     }
 }
 
@@ -89,7 +89,7 @@ Content-Length: 0\r\n\r\n",
     ),
     (
         CLOSING_TO_HEAD,
-        Said::Refusal(Refusal::BadLength),
+        Said::RequestFault(RequestFault::BadLength),
         "HTTP/1.1 400 Bad Request\r\nDate: Thu, 01 Jan 1970 00:16:40 GMT\r\nConnection: close\r\n\
 Content-Type: text/plain\r\nContent-Length: 19\r\n\r\n",
     ),
@@ -110,7 +110,7 @@ static PARTS: [(u64, Form, Said, &str, &str, &str); 17] = [
     (
         1000,
         CLOSING,
-        Said::Refusal(Refusal::BadHead),
+        Said::RequestFault(RequestFault::BadHead),
         "HTTP/1.1 400 Bad Request\r\n",
         CLOSES,
         "17\r\n\r\nbad request head\n",
@@ -118,7 +118,7 @@ static PARTS: [(u64, Form, Said, &str, &str, &str); 17] = [
     (
         1000,
         CLOSING,
-        Said::Refusal(Refusal::TransferCoding),
+        Said::RequestFault(RequestFault::TransferCoding),
         "HTTP/1.1 501 Not Implemented\r\n",
         CLOSES,
         "30\r\n\r\ntransfer coding not supported\n",
@@ -126,7 +126,7 @@ static PARTS: [(u64, Form, Said, &str, &str, &str); 17] = [
     (
         1000,
         CLOSING,
-        Said::Refusal(Refusal::BadLength),
+        Said::RequestFault(RequestFault::BadLength),
         "HTTP/1.1 400 Bad Request\r\n",
         CLOSES,
         "19\r\n\r\nbad Content-Length\n",
@@ -134,7 +134,7 @@ static PARTS: [(u64, Form, Said, &str, &str, &str); 17] = [
     (
         1000,
         CLOSING,
-        Said::Refusal(Refusal::TooLarge),
+        Said::RequestFault(RequestFault::TooLarge),
         "HTTP/1.1 413 Payload Too Large\r\n",
         CLOSES,
         "15\r\n\r\nbody too large\n",
@@ -142,7 +142,7 @@ static PARTS: [(u64, Form, Said, &str, &str, &str); 17] = [
     (
         1000,
         CLOSING,
-        Said::Refusal(Refusal::NoLength),
+        Said::RequestFault(RequestFault::NoLength),
         "HTTP/1.1 411 Length Required\r\n",
         CLOSES,
         "16\r\n\r\nlength required\n",

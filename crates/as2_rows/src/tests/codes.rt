@@ -1,5 +1,5 @@
 use crate::*;
-use as2_exchange::{Attempt, Bytes, How, MdnState};
+use as2_exchange::{Attempt, Bytes, MdnState, ReceiptDelivery};
 use std::test::Fail;
 
 // The columns whose values are codes.
@@ -130,12 +130,12 @@ static ADDRESSES: [&[u8]; 2] = [b"http://h/", b"http://h/r"];
 
 #[test]
 fn ways_of_asking_have_their_codes_and_addresses(rt: HostRuntime) -> Result<(), Fail> {
-    assert!(rt; how_code(&How::NoReceipt) == 1);
-    assert!(rt; url_of(&How::NoReceipt).is_none());
-    assert!(rt; how_code(&How::Sync) == 2);
-    assert!(rt; url_of(&How::Sync).is_none());
+    assert!(rt; how_code(&ReceiptDelivery::NoReceipt) == 1);
+    assert!(rt; url_of(&ReceiptDelivery::NoReceipt).is_none());
+    assert!(rt; how_code(&ReceiptDelivery::Sync) == 2);
+    assert!(rt; url_of(&ReceiptDelivery::Sync).is_none());
     for address in &ADDRESSES {
-        let later = How::Async(Bytes::keep(rt.alloc(), address)?);
+        let later = ReceiptDelivery::Async(Bytes::keep(rt.alloc(), address)?);
         assert!(rt; how_code(&later) == 3 && url_of(&later) == Some(*address));
     }
     Ok(())

@@ -3,7 +3,7 @@ use Rattle.as2_http.specs.Inputs.{IsHeadless}
 use Rattle.as2_http.specs.Requests.{too_long, no_head, framing, bad_head, is_head, Frames}
 use Rattle.as2_http.specs.Arrivals.{Arrives}
 use Rattle.as2_http.specs.declared.arrival.Arrival.{Arrival}
-use Rattle.as2_http.specs.declared.framing.Refusal.{Refusal}
+use Rattle.as2_http.specs.declared.framing.RequestFault.{RequestFault}
 use Rattle.as2_http.specs.declared.framing.Refused.{Refused}
 use Rattle.as2_http.specs.declared.input.NoHead.{NoHead}
 use Rattle.as2_http.specs.declared.request.NotJudged.{NotJudged}
@@ -60,7 +60,7 @@ returns-in-Err-clause-arrives g c = λ input known.
     (refuses_input input t (g.R.Read.remaining c.to_head.new.reader) r
     (came IsHeadless c.in-Ok.input.text.items t (g.R.Read.remaining c.args.reader.now) (g.R.Read.remaining c.to_head.new.reader) c.in-Ok.ensures c.in-Ok-to_head.ensures.reads input known)
     (framing q.head c.in-Ok-judge.judged.fields (drop p.end t)
-    (subst (λ (l : Result ℕ Refusal). Frames t q.head c.in-Ok-judge.judged.fields (drop p.end t) l) c.in-Err.is
+    (subst (λ (l : Result ℕ RequestFault). Frames t q.head c.in-Ok-judge.judged.fields (drop p.end t) l) c.in-Err.is
     (judged_frames t p.start p.end c.in-Ok-judge.judged c.in-Ok-to_head.ensures.found q))
     (ap is_head q.method)))
 
