@@ -34,7 +34,7 @@ impl Response {
     {
         match self {
             Response::Answered(answer) => answer,
-            Response::Failed(fault) => fault_line(fault).answer(),
+            Response::Failed(fault) => store_fault_line(fault).answer(),
             Response::OnlyPost => Line::OnlyPost.answer(),
             Response::NoPath => Line::NoSuchPath.answer(),
         }
@@ -42,7 +42,7 @@ impl Response {
 }
 
 /// The line that tells a fault of the store.
-fn fault_line(fault: StoreFault) -> Line
+fn store_fault_line(fault: StoreFault) -> Line
     ensures { result ≡ store_fault_line fault }
 {
     match fault {
