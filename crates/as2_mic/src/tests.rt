@@ -157,7 +157,7 @@ fn any_pieces(rt: HostRuntime) {
         Ok(content) => {
             assert!(rt; has_mics(&content));
             for size in &SIZES {
-                assert!(rt; has_mics_in_turn(&content, *size), "{size}");
+                assert!(rt; has_mics_in_turn(&content, *size));
             }
         }
         Err(_) => assert!(rt; false),
@@ -383,7 +383,7 @@ fn is_cut(
 fn contents_in_pieces(rt: HostRuntime) {
     for cut in &CUTS {
         for step in &STEPS {
-            assert!(rt; is_cut(rt.alloc(), *step, cut), "{step}");
+            assert!(rt; is_cut(rt.alloc(), *step, cut));
         }
     }
 }

@@ -147,10 +147,7 @@ fn outcome(alloc: Global, fields: &[(&str, &str)], content_type: &str) -> Option
 #[test]
 fn outcomes_are_those_of_the_table(rt: HostRuntime) {
     for (fields, content_type, want) in &OUTCOMES {
-        assert!(rt;
-            outcome(rt.alloc(), fields, content_type) == Some(*want),
-            "{content_type}"
-        );
+        assert!(rt; outcome(rt.alloc(), fields, content_type) == Some(*want));
     }
 }
 

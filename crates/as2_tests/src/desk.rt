@@ -223,7 +223,7 @@ fn compare(
 ) -> Result<(), AllocError> {
     compare_errors(rt, alloc, case, outcome)?;
     let output = case.output.made(alloc)?;
-    assert!(rt; outcome.output.as_slice() == output.as_bytes(), "{output}");
+    assert!(rt; outcome.output.as_slice() == output.as_bytes());
     assert!(rt; outcome.ran.status == case.status);
     assert!(rt; outcome.left.0 >= case.left.0 && outcome.left.1 >= case.left.1);
     Ok(())
@@ -236,7 +236,7 @@ fn compare_errors(
     outcome: &Outcome,
 ) -> Result<(), AllocError> {
     let errors = joined(alloc, case.errors)?;
-    assert!(rt; outcome.errors.as_slice() == errors.as_bytes(), "{errors}");
+    assert!(rt; outcome.errors.as_slice() == errors.as_bytes());
     assert!(rt; outcome.ran.told == case.is_told);
     Ok(())
 }

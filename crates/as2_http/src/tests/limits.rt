@@ -21,10 +21,7 @@ static COUNTS: [(usize, Seen); 3] = [(0, GOT), (64, GOT), (65, BAD_HEAD)];
 #[test]
 fn at_most_64_fields(rt: HostRuntime) {
     for (count, want) in &COUNTS {
-        assert!(rt;
-            first_in(rt.alloc(), with_fields(rt.alloc(), *count)) == *want,
-            "{count}"
-        );
+        assert!(rt; first_in(rt.alloc(), with_fields(rt.alloc(), *count)) == *want);
     }
 }
 
@@ -88,6 +85,6 @@ static SIZES: [(&str, usize, u8, &str, Seen); 10] = [
 fn sizes_of_heads_and_bodies(rt: HostRuntime) {
     for (start, size, byte, end, want) in &SIZES {
         let text = filled(rt.alloc(), start.as_bytes(), *size, *byte, end.as_bytes());
-        assert!(rt; first_in(rt.alloc(), text) == *want, "{start} {size}");
+        assert!(rt; first_in(rt.alloc(), text) == *want);
     }
 }

@@ -81,7 +81,7 @@ static CASES: [(&str, usize, Seen, usize); 4] = [
 fn byte_by_byte(rt: HostRuntime) {
     for (text, more, want, reads) in &CASES {
         let (seen, count) = in_drops(rt.alloc(), text, *more, usize::MAX);
-        assert!(rt; seen == *want && count == *reads, "{text}");
+        assert!(rt; seen == *want && count == *reads);
     }
     assert!(rt; in_drops(rt.alloc(), "\r\n\n", 0, usize::MAX).0 == Seen::Closed);
     assert!(rt; in_drops(rt.alloc(), "POST", 0, usize::MAX).0 == Seen::Truncated);
@@ -90,10 +90,7 @@ fn byte_by_byte(rt: HostRuntime) {
 #[test]
 fn failing_at_each_read(rt: HostRuntime) {
     for sound in 0..POST.len() {
-        assert!(rt;
-            in_drops(rt.alloc(), POST, 0, sound).0 == Seen::ReadFault,
-            "{sound}"
-        );
+        assert!(rt; in_drops(rt.alloc(), POST, 0, sound).0 == Seen::ReadFault);
     }
     assert!(rt; in_drops(rt.alloc(), POST, 0, POST.len()).0 == POSTED);
 }

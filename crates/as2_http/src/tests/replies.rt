@@ -98,7 +98,7 @@ Content-Type: text/plain\r\nContent-Length: 19\r\n\r\n",
 #[test]
 fn replies(rt: HostRuntime) {
     for (form, said, text) in &REPLIES {
-        assert!(rt; is_reply(rt.alloc(), *form, &answer(*said), text), "{text}");
+        assert!(rt; is_reply(rt.alloc(), *form, &answer(*said), text));
     }
 }
 
@@ -252,7 +252,7 @@ fn has(text: &[u8], start: &str, part: &str, end: &str) -> bool {
 fn parts_of_replies(rt: HostRuntime) {
     for (seconds, form, said, start, part, end) in &PARTS {
         match reply(rt.alloc(), *seconds, *form, &answer(*said)) {
-            Some(text) => assert!(rt; has(&text, start, part, end), "{start} {part}"),
+            Some(text) => assert!(rt; has(&text, start, part, end)),
             None => assert!(rt; false),
         }
     }

@@ -215,7 +215,7 @@ fn names(original_id: &[u8], id_value: &str) -> Option<bool> {
 #[test]
 fn identifiers(rt: HostRuntime) {
     for (original_id, id_value, want) in &NAMED {
-        assert!(rt; names(original_id, id_value) == Some(*want), "{id_value}");
+        assert!(rt; names(original_id, id_value) == Some(*want));
     }
 }
 
@@ -239,9 +239,6 @@ static DETAILS: [(Detail, &str, State); 14] = [
 #[test]
 fn details(rt: HostRuntime) {
     for (detail, name, state) in &DETAILS {
-        assert!(rt;
-            (detail.name(), detail.state()) == (*name, *state),
-            "{name}"
-        );
+        assert!(rt; (detail.name(), detail.state()) == (*name, *state));
     }
 }

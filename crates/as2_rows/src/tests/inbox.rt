@@ -170,10 +170,7 @@ fn what_is_null_is_absent(rt: HostRuntime) {
 #[test]
 fn a_row_that_is_none_of_an_entry_is_refused(rt: HostRuntime) {
     for (column, value) in &REFUSED {
-        assert!(rt;
-            fault_with(rt.alloc(), *column, *value) == Some(RowFault::NotAnEntry),
-            "column {column}"
-        );
+        assert!(rt; fault_with(rt.alloc(), *column, *value) == Some(RowFault::NotAnEntry));
     }
     let columns_lack = read(rt.alloc(), &PROCESSED[..16]).err();
     assert!(rt; columns_lack == Some(RowFault::NotAnEntry));

@@ -117,10 +117,7 @@ fn a_row_is_read_as_its_document(rt: HostRuntime) {
 #[test]
 fn a_row_that_is_none_of_a_document_is_refused(rt: HostRuntime) {
     for (column, value) in &REFUSED {
-        assert!(rt;
-            fault_with(rt.alloc(), *column, *value) == Some(RowFault::NotAnEntry),
-            "column {column}"
-        );
+        assert!(rt; fault_with(rt.alloc(), *column, *value) == Some(RowFault::NotAnEntry));
     }
 }
 

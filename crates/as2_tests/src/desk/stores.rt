@@ -116,7 +116,7 @@ fn the_last_number_is_given_once(rt: HostRuntime) -> Result<(), Fail> {
     for &(post, wanted) in LAST {
         let reply = reply(rt.alloc(), &agreements, &mut station, &post)?;
         let wanted = wanted.made(rt.alloc())?;
-        assert!(rt; reply.as_slice() == wanted.as_bytes(), "{wanted}");
+        assert!(rt; reply.as_slice() == wanted.as_bytes());
     }
     Ok(())
 }

@@ -23,7 +23,7 @@ returns-in-Ok-clause-runs g c = λ path store task gives.
     (c.carry_out.new.input ≡ c.args.input.now) (c.carry_out.new.output ≡ c.args.output.now)
     (Appends (g.W.Write.contents c.args.output.now) (g.W.Write.contents c.carry_out.new.output))
     (Appends (g.E.Write.contents c.args.errors.now) (g.E.Write.contents c.carry_out.new.errors)) c.carry_out.result)
-    c.in-Ok.ensures.given gives (record { opened = c.agreements_in.result; opens = c.agreements_in.ensures; comes = c.carry_out.ensures.comes }))
+    c.in-Ok.ensures.given gives (record { opened = c.agreements_in-agreed.result; opens = c.agreements_in-agreed.ensures; comes = c.carry_out.ensures.comes }))
 
 -- here memory was wanting, since the words ask for something
 pub returns-in-Err-clause-given : goal.returns-in-Err-clause-given
