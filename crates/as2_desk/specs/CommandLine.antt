@@ -1,6 +1,7 @@
 -- The command line of the program, in the terms of the parser of words.
-use Rattle.std.specs.Prelude.{◌≡◌, ◌⊎◌, ℕ, List, [], ◌∷◌, Option, Some, option_map, true, codes}
+use Rattle.std.specs.Prelude.{◌≡◌, ◌⊎◌, ◌-◌, ℕ, List, [], ◌∷◌, Option, Some, option_map, true, codes}
 use Rattle.as2_names.specs.Moments.{last_moment}
+use Rattle.as2_exchange.specs.State.{end_of_numbers}
 use Rattle.clap.specs.Words.{App, Row, Rule, Text, fault_of, matches_of, new_app, new_rule, subcommand_of, with_rule, with_subcommand}
 use Rattle.clap.specs.Simple.{new_shape, on_top}
 use Rattle.clap.specs.Kinds.{IsAmong, Kinds}
@@ -22,7 +23,7 @@ number name low high = record (option name) { parser = Some (Unsigned low high) 
 
 -- the first number of a store that is made, 1 where it isn't given
 abbrev pub first : Rule
-first = record (number (codes "first") 1 999999999999) { defaults = codes "1" ∷ [] }
+first = record (number (codes "first") 1 (end_of_numbers - 1)) { defaults = codes "1" ∷ [] }
 
 -- a moment
 abbrev pub moment : Rule

@@ -6,6 +6,7 @@ ghost use Rattle.clap.specs.declared.builder.command.Command.TheViews.{out-Comma
 ghost use Rattle.as2_desk.specs.CommandLine.{command_line, first, moment, required_option, option, program};
 
 use as2_exchange::END_OF_NUMBERS;
+use as2_text::LAST_MOMENT;
 use clap::{Arg, Command, value_parser};
 use std::alloc::{AllocError, Global};
 
@@ -125,7 +126,7 @@ fn moment<'a>(alloc: Global) -> Arg<'a>
 {
     let help = "Moment of 'post', in seconds since 1970: 0 to 253402300799 [default: the clock]";
     option(alloc, MOMENT, "SECONDS", help).value_parser(value_parser!(u64).range(
-        0..=253_402_300_799,
+        0..=LAST_MOMENT as i64,
     ))
 }
 

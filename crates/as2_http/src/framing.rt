@@ -1,7 +1,7 @@
 //! What the fields of a head say of the bytes behind it (RFC 9112, sections 6 and 9.6).
 ghost use Rattle.std.specs.Prelude.{◌≡◌, ◌≤◌, IfOk};
 ghost use Rattle.as2_http.specs.Requests.{is_head};
-ghost use Rattle.as2_http.specs.Framing.{content_length};
+ghost use Rattle.as2_http.specs.Framing.{body_limit, content_length};
 
 use as2_text::{decimal_value, is_number};
 
@@ -64,7 +64,7 @@ pub struct Refused {
 /// The number of bytes that one `Content-Length` says.
 pub fn content_length(value: &[u8]) -> Result<usize, RequestFault>
     ensures exact { result ≡ content_length value.now }
-    ensures bound { IfOk result (λ length. length ≤ 1048576) }
+    ensures bound { IfOk result (λ length. length ≤ body_limit) }
 {
     if !is_number(value) {
         return Err(RequestFault::BadLength);

@@ -1,6 +1,6 @@
 //! The bytes that were read of a stream so far.
 ghost use Rattle.std.specs.Prelude.{◌≡◌, ◌<◌, ◌≤◌, ◌+◌, ◌++◌, List, ℕ, [], length, vec_len, IsOk, IfOk, OnOk, IfErr};
-ghost use Rattle.as2_http.specs.Inputs.{GrowsBy, EndsAt, ReadsWhile, IsHeadless, IsShort};
+ghost use Rattle.as2_http.specs.Inputs.{GrowsBy, EndsAt, ReadsWhile, IsHeadless, IsShort, read_limit};
 ghost use Rattle.as2_http.specs.Stops.{UnlessFault, UnlessNoHeadFault};
 ghost use Rattle.std.specs.Io.KnownBytes.{IsAtEnd};
 ghost use Rattle.as2_http.specs.HeadText.{HeadLies, HasNoHeadText, head_limit};
@@ -44,7 +44,7 @@ pub struct Input {
     pub text: Vec<u8>,
     buffer: Vec<u8>,
     reads_left: u32,
-    ghost room: { vec_len buffer ≡ 65536 },
+    ghost room: { vec_len buffer ≡ read_limit },
 }
 
 impl Input {

@@ -1,9 +1,9 @@
 //! The request that a text begins with.
-ghost use Rattle.std.specs.Prelude.{◌≡◌, List, ℕ, length, map, All, IfOk, Some, None, Ok, Err, []};
-ghost use Rattle.std.specs.Prelude.{◌≤◌};
+ghost use Rattle.std.specs.Prelude.{◌≡◌, ◌≤◌, List, ℕ, length, map, All, IfOk, Some, None, Ok, Err, []};
 ghost use Rattle.httparse.specs.Grammar.{RequestHead};
 ghost use Rattle.httparse.specs.Spans.{IsHeaderWithin, header_bytes};
 ghost use Rattle.as2_http.specs.Requests.{Fields, IsHead, appended, method_of, target_of, body_length, is_last_request};
+ghost use Rattle.as2_http.specs.Framing.{body_limit};
 ghost use Rattle.as2_http.specs.Reading.{Judges};
 
 use crate::framing::{BODY_LIMIT, Method, RequestFault, Target, content_length};
@@ -59,7 +59,7 @@ fn target_of(bytes: &[u8]) -> Target
 /// How many bytes of body follow a head.
 fn body_length(method: Method, fields: &Head) -> Result<usize, RequestFault>
     ensures exact { result ≡ body_length method fields.now }
-    ensures bound { IfOk result (λ length. length ≤ 1048576) }
+    ensures bound { IfOk result (λ length. length ≤ body_limit) }
 {
     if fields.value(b"transfer-encoding") != Once::Absent {
         return Err(RequestFault::TransferCoding);

@@ -21,7 +21,7 @@ pub use domain::{Domain, is_domain};
 pub use head::{Head, HeadFault, Once};
 pub use identifier::{IdFault, MessageId, is_identifier, without_brackets};
 pub use memory::Memory;
-pub use moment::Moment;
+pub use moment::{LAST_MOMENT, Moment};
 pub use name::{AsName, NameFault};
 pub use number::{decimal_value, is_number};
 pub use options::lists;

@@ -3,8 +3,8 @@ ghost use Rattle.as2_names.specs.Moments.{last_moment, moment_of};
 
 use std::marker::Model;
 
-/// The last second of the year 9999, which is the last that a date of HTTP can name (RFC 9110, section 5.6.7).
-const LAST: u64 = 253402300799;
+/// The last second of the year 9999, in seconds since 1970: the last that a date of HTTP can name (RFC 9110, section 5.6.7).
+pub const LAST_MOMENT: u64 = 253_402_300_799;
 
 /// A moment: a count of seconds since the start of 1970 (UTC), up to the end of the year 9999.
 #[derive(Clone, Copy, Debug, PartialEq, Eq, PartialOrd, Ord)]
@@ -23,11 +23,11 @@ impl Model for Moment {
 }
 
 impl Moment {
-    /// The moment so many seconds after the start of 1970; None past 253402300799.
+    /// The moment so many seconds after the start of 1970; None past `LAST_MOMENT`.
     pub fn new(seconds: u64) -> Option<Moment>
         ensures { result ≡ moment_of seconds }
     {
-        if seconds <= LAST {
+        if seconds <= LAST_MOMENT {
             Some(Moment { seconds })
         } else {
             None

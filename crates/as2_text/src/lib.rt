@@ -8,8 +8,8 @@ mod url;
 
 pub use as2_media::{Kind, MediaType, TypeFault};
 pub use as2_names::{
-    AsName, Domain, Head, HeadFault, IdFault, Memory, MessageId, Moment, NameFault, Once,
-    all_printable, cut_at, decimal_value, is_blank, is_identifier, is_number, lists,
+    AsName, Domain, Head, HeadFault, IdFault, LAST_MOMENT, Memory, MessageId, Moment, NameFault,
+    Once, all_printable, cut_at, decimal_value, is_blank, is_identifier, is_number, lists,
     without_blanks, without_blanks_and_line_ends, without_brackets,
 };
 pub use as2_parts::{Field, Fields, Part, PartFault, Twice, find_once, part_in, two_parts};
