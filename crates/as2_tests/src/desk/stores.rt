@@ -23,7 +23,7 @@ const IN_FILE: Case = Case {
     ..PLAIN
 };
 
-const CASES: &[Case] = &[
+static CASES: &[Case] = &[
     // A database without tables is no store.
     Case {
         stores: Stores::Bare,
@@ -94,7 +94,7 @@ fn reply(
 }
 
 // Posts to a station that has one number left, and the replies.
-const LAST: &[(Text, Text)] = &[
+static LAST: &[(Text, Text)] = &[
     (POST, LAST_RECEIPT),
     (
         Text {
