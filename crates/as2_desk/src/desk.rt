@@ -11,7 +11,7 @@ ghost use Rattle.as2_desk.specs.Runs.{Comes, Counts, Ends, Fails, Posts, EndsRef
 ghost use Rattle.as2_desk.specs.Statuses.{done, failed, faulty, refused, exit_status};
 ghost use Rattle.as2_desk.specs.Stores.{Holds, Kept, kept_at, stands_for};
 ghost use Rattle.as2_desk.specs.declared.options.Task.{Task as TheTask};
-ghost use Rattle.as2_exchange.specs.declared.fault.StoreFault.{StoreFault as TheFault};
+ghost use Rattle.as2_desk.specs.declared.stores.OpenFault.{OpenFault as TheFault};
 ghost use Rattle.as2_desk.specs.declared.refusal.CommandFault.TheVariants.{Memory, Store as Failing};
 
 use crate::agreed::agreements_in;
@@ -22,9 +22,8 @@ use crate::first_request::{Served, first_post};
 use crate::options::{OptionFault, Options, Posting, Task};
 use crate::refusal::{CommandFault, is_said, refusal_status};
 use crate::status::{DONE, FAULTY, Ran};
-use crate::stores::{OpenStores, records_in, records_in_memory};
+use crate::stores::{OpenFault, OpenStores, records_in, records_in_memory};
 use as2_agreement::Agreements;
-use as2_exchange::StoreFault;
 use as2_station::Station;
 use as2_store::Store;
 use clap::error::ErrorKind;
@@ -145,11 +144,15 @@ fn carry_out<O: OpenStores, R: Read, W: Write, E: Write>(
         Task::Check => check(&agreements, output, errors),
         Task::Post(posting) if options.store == ":memory:" => {
             let records = records_in_memory(alloc, posting.first);
-            post(alloc, &agreements, posting, records, input, output, errors)
+            post(alloc, &agreements, posting, records, input, output, errors).0
         }
         Task::Post(posting) => {
             let records = records_in(alloc, stores, options.store, posting.first);
-            post(alloc, &agreements, posting, records, input, output, errors)
+            let (ran, store) = post(alloc, &agreements, posting, records, input, output, errors);
+            if let Some(store) = store {
+                stores.close_store(store.into_connection(), options.store);
+            }
+            ran
         }
     }
 }
@@ -169,24 +172,24 @@ fn check<W: Write, E: Write>(agreements: &Agreements, output: &mut W, errors: &m
     }
 }
 
-/// Answers the first post of the input, where there are records to answer it from.
+/// Answers the first post of the input, where there are records to answer it from, and gives them back.
 fn post<S: Alter + Drop, R: Read, W: Write, E: Write>(
     alloc: Global,
     agreements: &Agreements,
     posting: Posting,
-    records: Result<Store<S>, StoreFault>,
+    records: Result<Store<S>, OpenFault>,
     input: &mut R,
     output: &mut W,
     errors: &mut E,
-) -> Ran
-    ensures status { (result.status ≡ done) ⊎ ((result.status ≡ refused) ⊎ (result.status ≡ failed)) }
+) -> (Ran, Option<Store<S>>)
+    ensures status { (result.0.status ≡ done) ⊎ ((result.0.status ≡ refused) ⊎ (result.0.status ≡ failed)) }
     ensures posts { (kept : Kept) → Holds S.Store kept posting.first records
         → ((input.new ≡ input.old) × (output.new ≡ output.old)
-        × Fails kept posting.first (Appends (E.contents errors.old) (E.contents errors.new)) result)
+        × Fails kept (Appends (E.contents errors.old) (E.contents errors.new)) result.0)
         ⊎ Posts agreements.now posting.moment (stands_for kept posting.first) (R.remaining input.old) (R.remaining input.new)
-        (Appends (W.contents output.old) (W.contents output.new)) (Appends (E.contents errors.old) (E.contents errors.new)) result }
-    ensures store { result.status ≡ failed → Stopped (input.new ≡ input.old) (output.new ≡ output.old)
-        (Appends (E.contents errors.old) (E.contents errors.new)) result }
+        (Appends (W.contents output.old) (W.contents output.new)) (Appends (E.contents errors.old) (E.contents errors.new)) result.0 }
+    ensures store { result.0.status ≡ failed → Stopped (input.new ≡ input.old) (output.new ≡ output.old)
+        (Appends (E.contents errors.old) (E.contents errors.new)) result.0 }
 {
     match records {
         Ok(store) => {
@@ -199,9 +202,9 @@ fn post<S: Alter + Drop, R: Read, W: Write, E: Write>(
                 input,
                 output,
             );
-            tell_end(end, errors)
+            (tell_end(end, errors), Some(station.into_store()))
         }
-        Err(fault) => refuse(CommandFault::Store(fault), errors),
+        Err(fault) => (refuse(CommandFault::Store(fault), errors), None),
     }
 }
 

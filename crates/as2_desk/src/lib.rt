@@ -22,4 +22,4 @@ pub use files::{FileFault, ReadFiles};
 pub use first_request::{Served, first_post};
 pub use laws::one_reply;
 pub use status::Ran;
-pub use stores::{OpenStores, Opening, opening_fault};
+pub use stores::{OpenFault, OpenStores, Seen, opening_fault};

@@ -4,7 +4,7 @@ ghost use Rattle.std.specs.Str.{bytes_eq};
 ghost use Rattle.as2_desk.specs.FileContents.{file, unreadable};
 ghost use Rattle.as2_desk.specs.Stores.{untold};
 
-use as2_desk::{FileFault, OpenStores, Opening, ReadFiles, StoreFault};
+use as2_desk::{FileFault, OpenFault, OpenStores, ReadFiles, Seen, StoreFault};
 use sqlite::{Connection, MemStore};
 use std::alloc::Global;
 use std::io::{Error, ErrorKind, Read, Result as IoResult, Write};
@@ -44,15 +44,38 @@ impl OpenStores for Stores {
 
     ghost kept = { λ _ _. untold };
 
-    fn open_store(&self, alloc: Global, _path: &str) -> Result<Opening<MemStore>, StoreFault> {
+    fn look(&self, _path: &str) -> Result<Seen, OpenFault> {
         match self {
-            Stores::Broken => Err(StoreFault::Disk),
-            Stores::Bare => match Connection::open_in_memory(alloc) {
-                Ok(conn) => Ok(Opening::Found(conn)),
-                Err(_) => Err(StoreFault::Memory),
-            },
+            Stores::Broken => Err(OpenFault::Store(StoreFault::Disk)),
+            Stores::Bare => Ok(Seen::Database),
         }
     }
+
+    fn open_store(&self, alloc: Global, _path: &str) -> Result<Connection<MemStore>, OpenFault> {
+        match Connection::open_in_memory(alloc) {
+            Ok(conn) => Ok(conn),
+            Err(_) => Err(OpenFault::Store(StoreFault::Memory)),
+        }
+    }
+
+    fn begin_store(
+        &self,
+        _alloc: Global,
+        _path: &str,
+    ) -> Result<Option<Connection<MemStore>>, OpenFault> {
+        Ok(None)
+    }
+
+    fn finish_store(
+        &self,
+        _alloc: Global,
+        made: Connection<MemStore>,
+        _path: &str,
+    ) -> Result<Connection<MemStore>, OpenFault> {
+        Ok(made)
+    }
+
+    fn close_store(&self, _store: Connection<MemStore>, _path: &str) {}
 }
 
 /// A stream in parts: no read gives bytes of two of them. Where it is broken every read fails.

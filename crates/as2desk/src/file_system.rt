@@ -1,0 +1,164 @@
+//! The file system: files are read up to a limit, stores are looked at before they are opened, made under another name and
+//! then given their own, and closed into their one file.
+ghost use Rattle.as2_desk.specs.FileContents.{untold};
+ghost use Rattle.as2_desk.specs.Stores.{untold as not_told};
+
+use as2_desk::{FileFault, OpenFault, OpenStores, ReadFiles, Seen, StoreFault, opening_fault};
+use sqlite::{Connection, File, FileStore, Files, Options, Unknown};
+use sqlite_disk::Disk;
+use sqlite_std_file::OpenError;
+use std::alloc::{AllocError, Global};
+use std::hash::{BuildHasher, RandomState};
+use std::io::{ErrorKind, Read};
+use std::{fs, io};
+
+/// What a database begins with (SQLite's file format, section 1.3).
+const MARK: [u8; 16] = *b"SQLite format 3\0";
+
+/// The most bytes that a file of agreements may have.
+const AGREEMENTS_LIMIT: usize = 16_777_216;
+
+const REFUSED: OpenFault = OpenFault::Store(StoreFault::Refused);
+
+const MEMORY: OpenFault = OpenFault::Store(StoreFault::Memory);
+
+const DISK: OpenFault = OpenFault::Store(StoreFault::Disk);
+
+/// The file system.
+#[derive(Clone, Copy)]
+pub struct FileSystem<'a> {
+    pub rt: &'a HostRuntime,
+}
+
+/// What a failed call of the file system is to a store.
+fn fault_of(error: io::Error) -> OpenFault {
+    match error.kind() {
+        ErrorKind::OutOfMemory => MEMORY,
+        _ => REFUSED,
+    }
+}
+
+/// The path with that behind it. One that begins with `file:` is a path too.
+fn named(alloc: Global, path: &str, behind: &str) -> Result<String, AllocError> {
+    let mut name = String::new(alloc);
+    if path.starts_with("file:") {
+        name.push_str("./")?;
+    }
+    name.push_str(path)?;
+    name.push_str(behind)?;
+    Ok(name)
+}
+
+impl FileSystem<'_> {
+    fn name(&self, path: &str, behind: &str) -> Result<String, OpenFault> {
+        named(self.rt.alloc(), path, behind).map_err(|_| MEMORY)
+    }
+
+    /// Takes a file away; what isn't there needs no taking away.
+    fn remove(&self, name: &str) {
+        let _ = fs::remove_file(self.rt, name);
+    }
+
+    fn open_named(&self, name: &str) -> Result<Connection<FileStore<File>>, OpenFault> {
+        Connection::open_with_sums(self.rt, name).map_err(opening_fault)
+    }
+
+    /// The files of that name, which no other process has.
+    fn locked(&self, name: &str) -> Result<Files<File>, OpenFault> {
+        match sqlite_std_file::open(self.rt, name, Unknown) {
+            Ok(files) => Ok(files),
+            Err(OpenError::Busy) => Err(OpenFault::Held),
+            Err(OpenError::OutOfMemory) => Err(MEMORY),
+            Err(_) => Err(REFUSED),
+        }
+    }
+}
+
+impl ReadFiles for FileSystem<'_> {
+    ghost content = { λ _ _. untold };
+
+    fn read_file(&self, alloc: Global, path: &str) -> Result<Vec<u8>, FileFault> {
+        let Ok(file) = fs::File::open(self.rt, path) else {
+            return Err(FileFault::CannotRead);
+        };
+        let mut bytes = Vec::new(alloc);
+        match file.take(AGREEMENTS_LIMIT as u64 + 1).read_to_end(&mut bytes) {
+            Ok(n) if n <= AGREEMENTS_LIMIT => Ok(bytes),
+            Err(error) if error.kind() == ErrorKind::OutOfMemory => Err(FileFault::Memory),
+            _ => Err(FileFault::CannotRead),
+        }
+    }
+}
+
+impl OpenStores for FileSystem<'_> {
+    type Kind = FileStore<File>;
+
+    ghost kept = { λ _ _. not_told };
+
+    fn look(&self, path: &str) -> Result<Seen, OpenFault> {
+        let mut file = match fs::File::open(self.rt, path) {
+            Ok(file) => file,
+            Err(error) if error.kind() == ErrorKind::NotFound => return Ok(Seen::Nothing),
+            Err(error) => return Err(fault_of(error)),
+        };
+        let mut front = [0u8; 16];
+        match file.read_exact(&mut front) {
+            Ok(()) if front == MARK => Ok(Seen::Database),
+            Ok(()) => Ok(Seen::Other),
+            Err(error) if error.kind() == ErrorKind::UnexpectedEof => Ok(Seen::Other),
+            Err(error) => Err(fault_of(error)),
+        }
+    }
+
+    fn open_store(&self, _alloc: Global, path: &str) -> Result<Connection<FileStore<File>>, OpenFault> {
+        self.open_named(&self.name(path, "")?)
+    }
+
+    fn begin_store(
+        &self,
+        alloc: Global,
+        path: &str,
+    ) -> Result<Option<Connection<FileStore<File>>>, OpenFault> {
+        let draft = self.name(path, ".new")?;
+        let mut files = self.locked(&draft)?;
+        if fs::exists(self.rt, path).map_err(fault_of)? {
+            self.remove(&draft);
+            self.remove(&self.name(path, ".new-wal")?);
+            return Ok(None);
+        }
+        files.log.set_len(0).map_err(|_| DISK)?;
+        files.db.set_len(0).map_err(|_| DISK)?;
+        let seed = RandomState::new(self.rt).map_err(fault_of)?.hash_one(&0u8);
+        match Connection::open_files_with(alloc, files, Options::new(seed), true) {
+            Ok(conn) => Ok(Some(conn)),
+            Err((error, _)) => Err(opening_fault(error)),
+        }
+    }
+
+    fn finish_store(
+        &self,
+        _alloc: Global,
+        made: Connection<FileStore<File>>,
+        path: &str,
+    ) -> Result<Connection<FileStore<File>>, OpenFault> {
+        let name = self.name(path, "")?;
+        let files = match made.close_files() {
+            Ok(files) => files,
+            Err((error, _)) => return Err(opening_fault(error)),
+        };
+        fs::rename(self.rt, &self.name(path, ".new")?, &name).map_err(fault_of)?;
+        self.remove(&self.name(path, ".new-wal")?);
+        drop(files);
+        self.open_named(&name)
+    }
+
+    fn close_store(&self, store: Connection<FileStore<File>>, path: &str) {
+        let Ok(log) = self.name(path, "-wal") else {
+            return;
+        };
+        if let Ok(files) = store.close_files() {
+            self.remove(&log);
+            drop(files);
+        }
+    }
+}
