@@ -1,0 +1,93 @@
+-- What the opening of a store comes to, for each thing that may be kept under its path.
+use Rattle.std.proofs.Common.{◌≡◌, ◌⊎◌, ℕ, true, inl, inr, refl, sym, Option, Some, None, Result, Ok, Err}
+use Rattle.sqlite.specs.Held.{Held, state}
+use Rattle.sqlite_trees.specs.declared.store.Store.{Ghosts}
+use Rattle.as2_exchange.specs.State.{State, empty}
+use Rattle.as2_exchange.specs.declared.fault.StoreFault.TheVariants.{NotAStore}
+use Rattle.as2_store.specs.Stands.{Rests, IsBlank, may_come}
+use Rattle.as2_desk.specs.declared.stores.OpenFault.{OpenFault}
+use Rattle.as2_desk.specs.declared.stores.OpenFault.TheVariants as open_fault
+use Rattle.as2_desk.specs.declared.stores.Seen.TheVariants as saw
+use Rattle.as2_desk.specs.Stores.{Holds, IsBegun, IsFaithful, IsFaultOf, IsFinished, IsOpened, Kept, MayBeMade, MayBeOpened, Sees, StandsOpen, fault_in, foreign, nothing, records, untold}
+
+-- a fault that may come of any call
+pub any_fault : (kept : Kept) (f : OpenFault) → may_come (fault_in f) ≡ true → IsFaultOf kept f
+any_fault untold f may = tt
+any_fault nothing f may = may
+any_fault foreign f may = inr may
+any_fault (records s) f may = may
+
+-- ---- what was seen
+
+pub not_seen : (kept : Kept) (f : OpenFault) → Sees kept (Err f) → IsFaultOf kept f
+not_seen untold f sees = tt
+not_seen nothing f sees = sees
+not_seen foreign f sees = inr sees
+not_seen (records s) f sees = sees
+
+pub seen_nothing : (kept : Kept) → Sees kept (Ok saw.Nothing) → MayBeMade kept
+seen_nothing untold sees = tt
+seen_nothing nothing sees = tt
+seen_nothing foreign sees = absurd cc
+seen_nothing (records s) sees = absurd cc
+
+pub seen_database : (kept : Kept) → Sees kept (Ok saw.Database) → MayBeOpened kept
+seen_database untold sees = tt
+seen_database nothing sees = absurd cc
+seen_database foreign sees = absurd cc
+seen_database (records s) sees = tt
+
+pub seen_other : (kept : Kept) → Sees kept (Ok saw.Other) → IsFaultOf kept (open_fault.Store NotAStore)
+seen_other untold sees = tt
+seen_other nothing sees = absurd cc
+seen_other foreign sees = inl refl
+seen_other (records s) sees = absurd cc
+
+module _ {S : Type 0} (g : Ghosts S) where
+  -- ---- a store that is there
+
+  pub not_opened : (kept : Kept) (f : OpenFault) → MayBeOpened kept → IsOpened g kept (Err f) → IsFaultOf kept f
+  not_opened untold f may opened = tt
+  not_opened nothing f may opened = absurd may
+  not_opened foreign f may opened = absurd may
+  not_opened (records s) f may opened = opened
+
+  pub opened_holds : (kept : Kept) (first : ℕ) (c : Held S) (r : Result (Held S) OpenFault) → MayBeOpened kept → IsOpened g kept (Ok c)
+      → ((s : State) → IsFaithful g → Rests (state g c) s → StandsOpen g s r) → Holds g kept first r
+  opened_holds untold first c (Ok store) may opened stands = tt
+  opened_holds untold first c (Err f) may opened stands = tt
+  opened_holds nothing first c r may opened stands = absurd may
+  opened_holds foreign first c r may opened stands = absurd may
+  opened_holds (records s) first c (Ok store) may opened stands = stands s opened.0 opened.1
+  opened_holds (records s) first c (Err f) may opened stands = stands s opened.0 opened.1
+
+  -- ---- a store that is made
+
+  pub not_begun : (kept : Kept) (f : OpenFault) → MayBeMade kept → IsBegun g kept (Err f) → IsFaultOf kept f
+  not_begun untold f may begun = tt
+  not_begun nothing f may begun = begun
+  not_begun foreign f may begun = absurd may
+  not_begun (records s) f may begun = absurd may
+
+  pub not_made : (kept : Kept) (c : Held S) (f : OpenFault) → MayBeMade kept → IsBegun g kept (Ok (Some c))
+      → (IsFaithful g → IsBlank (state g c) → may_come (fault_in f) ≡ true) → IsFaultOf kept f
+  not_made untold c f may begun made = tt
+  not_made nothing c f may begun made = made begun.0 begun.1
+  not_made foreign c f may begun made = absurd may
+  not_made (records s) c f may begun made = absurd may
+
+  pub not_finished : (kept : Kept) (c : Held S) (f : OpenFault) → MayBeMade kept → IsFinished g kept c (Err f) → IsFaultOf kept f
+  not_finished untold c f may finished = tt
+  not_finished nothing c f may finished = finished
+  not_finished foreign c f may finished = absurd may
+  not_finished (records s) c f may finished = absurd may
+
+  pub finished_holds : (kept : Kept) (first : ℕ) (c made last : Held S) (r : Result (Held S) OpenFault) → MayBeMade kept → IsBegun g kept (Ok (Some c))
+      → (IsFaithful g → IsBlank (state g c) → Rests (state g made) (empty first)) → IsFinished g kept made (Ok last)
+      → ((s : State) → IsFaithful g → Rests (state g last) s → StandsOpen g s r) → Holds g kept first r
+  finished_holds untold first c made last (Ok store) may begun rests finished stands = tt
+  finished_holds untold first c made last (Err f) may begun rests finished stands = tt
+  finished_holds nothing first c made last (Ok store) may begun rests finished stands = stands (empty first) begun.0 (finished (empty first) (rests begun.0 begun.1))
+  finished_holds nothing first c made last (Err f) may begun rests finished stands = stands (empty first) begun.0 (finished (empty first) (rests begun.0 begun.1))
+  finished_holds foreign first c made last r may begun rests finished stands = absurd may
+  finished_holds (records s) first c made last r may begun rests finished stands = absurd may
