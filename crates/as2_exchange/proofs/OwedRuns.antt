@@ -14,7 +14,7 @@ use Rattle.as2_exchange.specs.Readings.{Head, ReceiptDelivery, NoReceipt, Sync, 
 use Rattle.as2_exchange.specs.State.{Posted, InEntry, State, empty, lasting, same_key, document, received, received_as, change_received}
 use Rattle.as2_exchange.specs.Events.{Event, Post, Submit, Begin, Outcome, BeginMdn, OutcomeMdn, Tick, Answer, Refused, NoSuchNumber, TryAnswer, Line, BadNames, BadVersion, UnknownNames, BadType, UnreadableReceipt, BadId, BadAsk, Done}
 use Rattle.as2_exchange.specs.Posts.{Reading, Refuses, IsReceipt, IsDocument, needs, reading, repeats, ReceivedReceipt}
-use Rattle.as2_exchange.specs.Documents.{try_begun as begun_document, try_closed as closed_document}
+use Rattle.as2_exchange.specs.Documents.{begun as begun_document, closed as closed_document}
 use Rattle.as2_exchange.specs.OwedReceipts.{is_pending, mdn_begun, mdn_closed}
 use Rattle.as2_exchange.specs.Recording.{record_post, requeued_by_repeat, first_entry}
 use Rattle.as2_exchange.specs.Step.{post, step, acted_in}
