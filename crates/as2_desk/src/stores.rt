@@ -54,7 +54,10 @@ fn records_of<S: Alter + Drop>(
         Opening::Found(conn) => Store::adopt(conn),
         Opening::New(conn) => Store::create(conn, first.get()),
     };
-    made.map_err(|(_, fault)| fault)
+    match made {
+        Ok(store) => Ok(store),
+        Err((_, fault)) => Err(fault),
+    }
 }
 
 /// The records of the store of that path; those of a new one begin with `first`.
