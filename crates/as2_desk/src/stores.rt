@@ -91,7 +91,10 @@ fn adopted<S: Alter + Drop>(conn: Connection<S>) -> Result<Store<S>, OpenFault>
     requires autocommit { conn.in_transaction ≡ false }
     ensures { (s : State) → IsFaithful S.Store → Rests (state S.Store conn) s → StandsOpen S.Store s result }
 {
-    Store::adopt(conn).map_err(|(_, fault)| OpenFault::Store(fault))
+    match Store::adopt(conn) {
+        Ok(store) => Ok(store),
+        Err((_, fault)) => Err(OpenFault::Store(fault)),
+    }
 }
 
 /// New records, which begin with `first`, where the connection has no tables.
@@ -99,7 +102,10 @@ fn created<S: Alter + Drop>(conn: Connection<S>, first: FirstNumber) -> Result<S
     requires autocommit { conn.in_transaction ≡ false }
     ensures { IsFaithful S.Store → IsBlank (state S.Store conn) → StandsOpen S.Store (empty first) result }
 {
-    Store::create(conn, first.get()).map_err(|(_, fault)| OpenFault::Store(fault))
+    match Store::create(conn, first.get()) {
+        Ok(store) => Ok(store),
+        Err((_, fault)) => Err(OpenFault::Store(fault)),
+    }
 }
 
 /// The records of the store of that path, which is made where nothing stands there, and then begin with `first`; None where
