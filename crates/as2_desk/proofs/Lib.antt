@@ -1,4 +1,5 @@
 mod Given
+mod Opening
 mod StreamEnds
 mod Numbers
 mod Ranges

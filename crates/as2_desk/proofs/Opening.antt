@@ -1,5 +1,5 @@
 -- What the opening of a store comes to, for each thing that may be kept under its path.
-use Rattle.std.proofs.Common.{◌≡◌, ◌⊎◌, ℕ, true, inl, inr, refl, sym, Option, Some, None, Result, Ok, Err}
+use Rattle.std.proofs.Common.{◌≡◌, ℕ, true, inl, inr, refl, Some, Result, Ok, Err, IfOk, IfErr}
 use Rattle.sqlite.specs.Held.{Held, state}
 use Rattle.sqlite_trees.specs.declared.store.Store.{Ghosts}
 use Rattle.as2_exchange.specs.State.{State, empty}
@@ -91,3 +91,7 @@ module _ {S : Type 0} (g : Ghosts S) where
   finished_holds nothing first c made last (Err f) may begun rests finished stands = stands (empty first) begun.0 (finished (empty first) (rests begun.0 begun.1))
   finished_holds foreign first c made last r may begun rests finished stands = absurd may
   finished_holds (records s) first c made last r may begun rests finished stands = absurd may
+
+  pub found_holds : (kept : Kept) (first : ℕ) (r : Result (Held S) OpenFault) → IfOk r (λ store. (first : ℕ) → MayBeOpened kept × Holds g kept first (Ok store)) → IfErr r (IsFaultOf kept) → Holds g kept first r
+  found_holds kept first (Ok store) found fault = (found first).1
+  found_holds kept first (Err f) found fault = fault
