@@ -57,6 +57,21 @@ class Desk:
         return os.path.join(self.folder, name)
 
 
+def texts(desk, store):
+    """The bytes of the files whose names begin so."""
+    found = {}
+    for name in os.listdir(desk.folder):
+        if name.startswith(store):
+            with open(desk.path(name), "rb") as file:
+                found[name] = file.read()
+    return found
+
+
+def difference(before, after):
+    """How many bytes of one differ from the other's, or stand in one alone."""
+    return sum(a != b for a, b in zip(before, after)) + abs(len(before) - len(after))
+
+
 class Count:
     """What was counted, and whether it is as wanted."""
 
@@ -66,7 +81,7 @@ class Count:
     def line(self, what, counts, wanted):
         good = wanted(counts)
         self.wrong = self.wrong or not good
-        print(f"{'ok   ' if good else 'WRONG'} {what}: {', '.join(f'{n} {name}' for name, n in counts.items())}", flush=True)
+        print(f"{'ok   ' if good else 'WRONG'} {what}: {', '.join(f'{n} {name}' for name, n in sorted(counts.items()))}", flush=True)
 
 
 def killed(run, most):
@@ -132,23 +147,27 @@ def foreign_files(desk, count):
 
 
 def other_database(desk, count):
-    """A database of another program."""
-    base = sqlite3.connect(desk.path("other.db"))
-    base.execute("CREATE TABLE note (id INTEGER PRIMARY KEY, title TEXT)")
-    base.execute("INSERT INTO note VALUES (1, 'a')")
-    base.commit()
-    base.close()
-    with open(desk.path("other.db"), "rb") as file:
-        before = file.read()
-    status, _, said = desk.post("other.db", 1)
-    with open(desk.path("other.db"), "rb") as file:
-        after = file.read()
-    beside = {n: os.path.getsize(desk.path(n)) for n in os.listdir(desk.folder) if n.startswith("other.db") and n != "other.db"}
-    changed = sum(a != b for a, b in zip(before, after)) + abs(len(before) - len(after))
-    print(f"      another program's database: status {status}, {said.strip()!r}, beside it {beside}")
-    count.line("bytes of another program's database", {"changed": changed, "beside it": sum(beside.values())},
-               lambda c: status == 3 and c["changed"] == 0 and c["beside it"] == 0)
-    desk.clear("other.db")
+    """Databases of another program: one without a log stays as it is; what is written where there is one is told."""
+    for name, mode, has_log in [("a journal", "DELETE", False), ("a log that was taken away", "WAL", False), ("a log", "WAL", True)]:
+        base = sqlite3.connect(desk.path("base.db"))
+        base.execute(f"PRAGMA journal_mode = {mode}")
+        base.execute("CREATE TABLE note (id INTEGER PRIMARY KEY, title TEXT)")
+        base.execute("INSERT INTO note VALUES (1, 'a')")
+        base.commit()
+        if not has_log:
+            base.close()
+        for ending in ("", "-wal") if has_log else ("",):
+            shutil.copy(desk.path("base.db" + ending), desk.path("other.db" + ending))
+        base.close()
+        before = texts(desk, "other.db")
+        status, _, said = desk.post("other.db", 1)
+        after = texts(desk, "other.db")
+        changed = {n: difference(before.get(n, b""), after.get(n, b"")) for n in before.keys() | after.keys()}
+        rows = sqlite3.connect(desk.path("other.db")).execute("SELECT * FROM note").fetchall()
+        count.line(f"another program's database with {name}: status {status}, {said.strip()}, bytes changed", changed,
+                   lambda c: status == 3 and rows == [(1, "a")] and (has_log or not any(c.values())))
+        desk.clear("other.db")
+        desk.clear("base.db")
 
 
 def clean_end(desk, count):

@@ -1,5 +1,5 @@
 -- What the opening of a store comes to, for each thing that may be kept under its path.
-use Rattle.std.proofs.Common.{◌≡◌, ℕ, true, inl, inr, refl, Some, Result, Ok, Err, IfOk, IfErr}
+use Rattle.std.proofs.Common.{◌≡◌, ℕ, true, inl, inr, refl, sym, subst, Some, Result, Ok, Err, IfOk, IfErr, IsErr, IsErrAnd}
 use Rattle.sqlite.specs.Held.{Held, state}
 use Rattle.sqlite_trees.specs.declared.store.Store.{Ghosts}
 use Rattle.as2_exchange.specs.State.{State, empty}
@@ -16,6 +16,11 @@ any_fault untold f may = tt
 any_fault nothing f may = may
 any_fault foreign f may = inr may
 any_fault (records s) f may = may
+
+-- the fault of a call, passed on
+pub passed_on : {A : Type 0} (P : OpenFault → Type 0) (r : Result A OpenFault) (f : OpenFault) → IsErr r → IsErrAnd r (λ e. e ≡ f) → P f → IfErr r P
+passed_on P (Ok a) f fails is it = tt
+passed_on P (Err e) f fails is it = subst P (sym is) it
 
 -- ---- what was seen
 

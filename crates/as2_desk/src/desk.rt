@@ -149,11 +149,16 @@ fn carry_out<O: OpenStores, R: Read, W: Write, E: Write>(
         Task::Post(posting) => {
             let records = records_in(alloc, stores, options.store, posting.first);
             let (ran, store) = post(alloc, &agreements, posting, records, input, output, errors);
-            if let Some(store) = store {
-                stores.close_store(store.into_connection(), options.store);
-            }
+            close(stores, store, options.store);
             ran
         }
+    }
+}
+
+/// Closes the store of that path, where one is open.
+fn close<O: OpenStores>(stores: &O, store: Option<Store<O::Kind>>, path: &str) {
+    if let Some(store) = store {
+        stores.close_store(store.into_connection(), path);
     }
 }
 

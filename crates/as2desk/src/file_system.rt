@@ -13,7 +13,17 @@ use std::io::{ErrorKind, Read};
 use std::{fs, io};
 
 /// What a database begins with (SQLite's file format, section 1.3).
-const MARK: [u8; 16] = *b"SQLite format 3\0";
+const MARK: &[u8] = b"SQLite format 3\0";
+
+/// The most bytes that are read of a file that may be a store: a first page of the length that stores have.
+const PAGE: usize = 4096;
+
+/// Where a first page has its kind, and the kind of one that lists all tables by itself (the same, section 1.6).
+const KIND_AT: usize = 100;
+const LEAF: u8 = 13;
+
+/// How a store's first page lists its first table.
+const META: &[u8] = b"CREATE TABLE meta";
 
 /// The most bytes that a file of agreements may have.
 const AGREEMENTS_LIMIT: usize = 16_777_216;
@@ -49,9 +59,24 @@ fn named(alloc: Global, path: &str, behind: &str) -> Result<String, AllocError> 
     Ok(name)
 }
 
+/// Whether a database without a log, whose first page that is, is another program's: the page lists all tables, and none is a
+/// store's first.
+fn lists_no_meta(page: &[u8]) -> bool {
+    page.get(KIND_AT) == Some(&LEAF) && !page.windows(META.len()).any(|text| text == META)
+}
+
 impl FileSystem<'_> {
     fn name(&self, path: &str, behind: &str) -> Result<String, OpenFault> {
         named(self.rt.alloc(), path, behind).map_err(|_| MEMORY)
+    }
+
+    /// Whether something stands at that name, be it a link to nothing.
+    fn is_there(&self, name: &str) -> Result<bool, OpenFault> {
+        match fs::symlink_metadata(self.rt, name) {
+            Ok(_) => Ok(true),
+            Err(error) if error.kind() == ErrorKind::NotFound => Ok(false),
+            Err(error) => Err(fault_of(error)),
+        }
     }
 
     /// Takes a file away; what isn't there needs no taking away.
@@ -96,18 +121,20 @@ impl OpenStores for FileSystem<'_> {
     ghost kept = { λ _ _. not_told };
 
     fn look(&self, path: &str) -> Result<Seen, OpenFault> {
-        let mut file = match fs::File::open(self.rt, path) {
+        let file = match fs::File::open(self.rt, path) {
             Ok(file) => file,
             Err(error) if error.kind() == ErrorKind::NotFound => return Ok(Seen::Nothing),
             Err(error) => return Err(fault_of(error)),
         };
-        let mut front = [0u8; 16];
-        match file.read_exact(&mut front) {
-            Ok(()) if front == MARK => Ok(Seen::Database),
-            Ok(()) => Ok(Seen::Other),
-            Err(error) if error.kind() == ErrorKind::UnexpectedEof => Ok(Seen::Other),
-            Err(error) => Err(fault_of(error)),
+        let mut front = Vec::new(self.rt.alloc());
+        file.take(PAGE as u64).read_to_end(&mut front).map_err(fault_of)?;
+        if !front.starts_with(MARK) {
+            return Ok(Seen::Other);
         }
+        if lists_no_meta(&front) && !self.is_there(&self.name(path, "-wal")?)? {
+            return Ok(Seen::Other);
+        }
+        Ok(Seen::Database)
     }
 
     fn open_store(&self, _alloc: Global, path: &str) -> Result<Connection<FileStore<File>>, OpenFault> {
@@ -121,9 +148,9 @@ impl OpenStores for FileSystem<'_> {
     ) -> Result<Option<Connection<FileStore<File>>>, OpenFault> {
         let draft = self.name(path, ".new")?;
         let mut files = self.locked(&draft)?;
-        if fs::exists(self.rt, path).map_err(fault_of)? {
-            self.remove(&draft);
+        if self.is_there(path)? {
             self.remove(&self.name(path, ".new-wal")?);
+            self.remove(&draft);
             return Ok(None);
         }
         files.log.set_len(0).map_err(|_| DISK)?;
@@ -146,8 +173,8 @@ impl OpenStores for FileSystem<'_> {
             Ok(files) => files,
             Err((error, _)) => return Err(opening_fault(error)),
         };
-        fs::rename(self.rt, &self.name(path, ".new")?, &name).map_err(fault_of)?;
         self.remove(&self.name(path, ".new-wal")?);
+        fs::rename(self.rt, &self.name(path, ".new")?, &name).map_err(fault_of)?;
         drop(files);
         self.open_named(&name)
     }
