@@ -67,6 +67,7 @@ pub trait OpenStores {
         made: Connection<Self::Kind>,
         path: &str,
     ) -> Result<Connection<Self::Kind>, OpenFault>
+        requires autocommit { made.in_transaction ≡ false }
         requires free { MayBeMade (kept self.now path.now) }
         ensures autocommit { IfOk result (λ c. c.in_transaction ≡ false) }
         ensures finished { IsFinished Self.Kind.Store (kept self.now path.now) made result };

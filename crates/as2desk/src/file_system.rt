@@ -1,7 +1,9 @@
 //! The file system: files are read up to a limit, stores are looked at before they are opened, made under another name and
 //! then given their own, and closed into their one file.
+ghost use Rattle.std.specs.Prelude.{◌≡◌, IfOk, false};
+ghost use Rattle.sqlite.specs.Files.{over_files};
 ghost use Rattle.as2_desk.specs.FileContents.{untold};
-ghost use Rattle.as2_desk.specs.Stores.{untold as not_told};
+ghost use Rattle.as2_desk.specs.Stores.{IsFinished, MayBeMade, untold as not_told};
 
 use as2_desk::{FileFault, OpenFault, OpenStores, ReadFiles, Seen, StoreFault, opening_fault};
 use sqlite::{Connection, File, FileStore, Files, Options, Unknown};
@@ -167,7 +169,12 @@ impl OpenStores for FileSystem<'_> {
         _alloc: Global,
         made: Connection<FileStore<File>>,
         path: &str,
-    ) -> Result<Connection<FileStore<File>>, OpenFault> {
+    ) -> Result<Connection<FileStore<File>>, OpenFault>
+        requires autocommit { made.in_transaction ≡ false }
+        requires free { MayBeMade not_told }
+        ensures autocommit { IfOk result (λ c. c.in_transaction ≡ false) }
+        ensures finished { IsFinished over_files not_told made result }
+    {
         let name = self.name(path, "")?;
         let files = match made.close_files() {
             Ok(files) => files,

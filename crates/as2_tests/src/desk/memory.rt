@@ -1,8 +1,9 @@
 //! A file, stores and streams in memory, which may be broken.
-ghost use Rattle.std.specs.Prelude.{if◌then◌else◌};
+ghost use Rattle.std.specs.Prelude.{◌≡◌, IfOk, false, if◌then◌else◌};
 ghost use Rattle.std.specs.Str.{bytes_eq};
 ghost use Rattle.as2_desk.specs.FileContents.{file, unreadable};
-ghost use Rattle.as2_desk.specs.Stores.{untold};
+ghost use Rattle.sqlite.specs.Steps.{over_memory};
+ghost use Rattle.as2_desk.specs.Stores.{IsFinished, MayBeMade, untold};
 
 use as2_desk::{FileFault, OpenFault, OpenStores, ReadFiles, Seen, StoreFault};
 use sqlite::{Connection, MemStore};
@@ -30,13 +31,30 @@ impl ReadFiles for OneFile<'_> {
     }
 }
 
-/// What is opened under each path.
+/// What stands under each path.
 #[derive(Clone, Copy)]
 pub(super) enum Stores {
-    /// Nothing: the disk has a fault.
+    /// Nobody can say: the disk has a fault.
     Broken,
+    /// A database that another process has.
+    Held,
+    /// A file that is no database.
+    Other,
     /// A database without tables.
     Bare,
+    /// Nothing.
+    Nothing,
+    /// Nothing, until a store is to be made.
+    Taken,
+}
+
+fn in_memory(alloc: Global) -> Result<Connection<MemStore>, OpenFault>
+    ensures { IfOk result (λ c. c.in_transaction ≡ false) }
+{
+    match Connection::open_in_memory(alloc) {
+        Ok(conn) => Ok(conn),
+        Err(_) => Err(OpenFault::Store(StoreFault::Memory)),
+    }
 }
 
 impl OpenStores for Stores {
@@ -47,23 +65,28 @@ impl OpenStores for Stores {
     fn look(&self, _path: &str) -> Result<Seen, OpenFault> {
         match self {
             Stores::Broken => Err(OpenFault::Store(StoreFault::Disk)),
-            Stores::Bare => Ok(Seen::Database),
+            Stores::Held | Stores::Bare => Ok(Seen::Database),
+            Stores::Other => Ok(Seen::Other),
+            Stores::Nothing | Stores::Taken => Ok(Seen::Nothing),
         }
     }
 
     fn open_store(&self, alloc: Global, _path: &str) -> Result<Connection<MemStore>, OpenFault> {
-        match Connection::open_in_memory(alloc) {
-            Ok(conn) => Ok(conn),
-            Err(_) => Err(OpenFault::Store(StoreFault::Memory)),
+        match self {
+            Stores::Held => Err(OpenFault::Held),
+            _ => in_memory(alloc),
         }
     }
 
     fn begin_store(
         &self,
-        _alloc: Global,
+        alloc: Global,
         _path: &str,
     ) -> Result<Option<Connection<MemStore>>, OpenFault> {
-        Ok(None)
+        match self {
+            Stores::Taken => Ok(None),
+            _ => Ok(Some(in_memory(alloc)?)),
+        }
     }
 
     fn finish_store(
@@ -71,7 +94,12 @@ impl OpenStores for Stores {
         _alloc: Global,
         made: Connection<MemStore>,
         _path: &str,
-    ) -> Result<Connection<MemStore>, OpenFault> {
+    ) -> Result<Connection<MemStore>, OpenFault>
+        requires autocommit { made.in_transaction ≡ false }
+        requires free { MayBeMade untold }
+        ensures autocommit { IfOk result (λ c. c.in_transaction ≡ false) }
+        ensures finished { IsFinished over_memory untold made result }
+    {
         Ok(made)
     }
 
