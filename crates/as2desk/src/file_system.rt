@@ -81,6 +81,12 @@ impl FileSystem<'_> {
         }
     }
 
+    /// The name of the log of the store that stands under that path: it lies beside the file, where a link leads.
+    fn log_of(&self, path: &str) -> Result<String, OpenFault> {
+        let real = fs::canonicalize(self.rt, &self.name(path, "")?).map_err(fault_of)?;
+        self.name(real.as_str(), "-wal")
+    }
+
     /// Takes a file away; what isn't there needs no taking away.
     fn remove(&self, name: &str) {
         let _ = fs::remove_file(self.rt, name);
@@ -123,7 +129,7 @@ impl OpenStores for FileSystem<'_> {
     ghost kept = { λ _ _. not_told };
 
     fn look(&self, path: &str) -> Result<Seen, OpenFault> {
-        let file = match fs::File::open(self.rt, path) {
+        let file = match fs::File::open(self.rt, &self.name(path, "")?) {
             Ok(file) => file,
             Err(error) if error.kind() == ErrorKind::NotFound => return Ok(Seen::Nothing),
             Err(error) => return Err(fault_of(error)),
@@ -133,7 +139,7 @@ impl OpenStores for FileSystem<'_> {
         if !front.starts_with(MARK) {
             return Ok(Seen::Other);
         }
-        if lists_no_meta(&front) && !self.is_there(&self.name(path, "-wal")?)? {
+        if lists_no_meta(&front) && !self.is_there(&self.log_of(path)?)? {
             return Ok(Seen::Other);
         }
         Ok(Seen::Database)
@@ -150,7 +156,8 @@ impl OpenStores for FileSystem<'_> {
     ) -> Result<Option<Connection<FileStore<File>>>, OpenFault> {
         let draft = self.name(path, ".new")?;
         let mut files = self.locked(&draft)?;
-        if self.is_there(path)? {
+        let name = self.name(path, "")?;
+        if self.is_there(&name)? {
             self.remove(&self.name(path, ".new-wal")?);
             self.remove(&draft);
             return Ok(None);
@@ -187,7 +194,7 @@ impl OpenStores for FileSystem<'_> {
     }
 
     fn close_store(&self, store: Connection<FileStore<File>>, path: &str) {
-        let Ok(log) = self.name(path, "-wal") else {
+        let Ok(log) = self.log_of(path) else {
             return;
         };
         if let Ok(files) = store.close_files() {
