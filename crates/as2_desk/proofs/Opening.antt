@@ -4,11 +4,11 @@ use Rattle.sqlite.specs.Held.{Held, state}
 use Rattle.sqlite_trees.specs.declared.store.Store.{Ghosts}
 use Rattle.as2_exchange.specs.State.{State, empty}
 use Rattle.as2_exchange.specs.declared.fault.StoreFault.TheVariants.{NotAStore}
-use Rattle.as2_store.specs.Stands.{Rests, IsBlank, may_come}
+use Rattle.as2_store.specs.Stands.{Rests, may_come}
 use Rattle.as2_desk.specs.declared.stores.OpenFault.{OpenFault}
 use Rattle.as2_desk.specs.declared.stores.OpenFault.TheVariants as open_fault
 use Rattle.as2_desk.specs.declared.stores.Seen.TheVariants as saw
-use Rattle.as2_desk.specs.Stores.{Holds, IsBegun, IsFaithful, IsFaultOf, IsFinished, IsOpened, Kept, MayBeMade, MayBeOpened, Sees, StandsOpen, fault_in, foreign, nothing, records, untold}
+use Rattle.as2_desk.specs.Stores.{Holds, IsFaithful, IsFaultOf, IsMade, IsOpened, Kept, MayBeMade, MayBeOpened, Sees, StandsOpen, fault_in, foreign, nothing, records, untold}
 
 -- a fault that may come of any call
 pub any_fault : (kept : Kept) (f : OpenFault) → may_come (fault_in f) ≡ true → IsFaultOf kept f
@@ -68,34 +68,20 @@ module _ {S : Type 0} (g : Ghosts S) where
 
   -- ---- a store that is made
 
-  pub not_begun : (kept : Kept) (f : OpenFault) → MayBeMade kept → IsBegun g kept (Err f) → IsFaultOf kept f
-  not_begun untold f may begun = tt
-  not_begun nothing f may begun = begun
-  not_begun foreign f may begun = absurd may
-  not_begun (records s) f may begun = absurd may
+  pub not_made : (kept : Kept) (first : ℕ) (f : OpenFault) → MayBeMade kept → IsMade g kept first (Err f) → IsFaultOf kept f
+  not_made untold first f may made = tt
+  not_made nothing first f may made = made
+  not_made foreign first f may made = absurd may
+  not_made (records s) first f may made = absurd may
 
-  pub not_made : (kept : Kept) (c : Held S) (f : OpenFault) → MayBeMade kept → IsBegun g kept (Ok (Some c))
-      → (IsFaithful g → IsBlank (state g c) → may_come (fault_in f) ≡ true) → IsFaultOf kept f
-  not_made untold c f may begun made = tt
-  not_made nothing c f may begun made = made begun.0 begun.1
-  not_made foreign c f may begun made = absurd may
-  not_made (records s) c f may begun made = absurd may
-
-  pub not_finished : (kept : Kept) (c : Held S) (f : OpenFault) → MayBeMade kept → IsFinished g kept c (Err f) → IsFaultOf kept f
-  not_finished untold c f may finished = tt
-  not_finished nothing c f may finished = finished
-  not_finished foreign c f may finished = absurd may
-  not_finished (records s) c f may finished = absurd may
-
-  pub finished_holds : (kept : Kept) (first : ℕ) (c made last : Held S) (r : Result (Held S) OpenFault) → MayBeMade kept → IsBegun g kept (Ok (Some c))
-      → (IsFaithful g → IsBlank (state g c) → Rests (state g made) (empty first)) → IsFinished g kept made (Ok last)
-      → ((s : State) → IsFaithful g → Rests (state g last) s → StandsOpen g s r) → Holds g kept first r
-  finished_holds untold first c made last (Ok store) may begun rests finished stands = tt
-  finished_holds untold first c made last (Err f) may begun rests finished stands = tt
-  finished_holds nothing first c made last (Ok store) may begun rests finished stands = stands (empty first) begun.0 (finished (empty first) (rests begun.0 begun.1))
-  finished_holds nothing first c made last (Err f) may begun rests finished stands = stands (empty first) begun.0 (finished (empty first) (rests begun.0 begun.1))
-  finished_holds foreign first c made last r may begun rests finished stands = absurd may
-  finished_holds (records s) first c made last r may begun rests finished stands = absurd may
+  pub made_holds : (kept : Kept) (first : ℕ) (c : Held S) (r : Result (Held S) OpenFault) → MayBeMade kept → IsMade g kept first (Ok (Some c))
+      → ((s : State) → IsFaithful g → Rests (state g c) s → StandsOpen g s r) → Holds g kept first r
+  made_holds untold first c (Ok store) may made stands = tt
+  made_holds untold first c (Err f) may made stands = tt
+  made_holds nothing first c (Ok store) may made stands = stands (empty first) made.0 made.1
+  made_holds nothing first c (Err f) may made stands = stands (empty first) made.0 made.1
+  made_holds foreign first c r may made stands = absurd may
+  made_holds (records s) first c r may made stands = absurd may
 
   pub found_holds : (kept : Kept) (first : ℕ) (r : Result (Held S) OpenFault) → IfOk r (λ store. (first : ℕ) → MayBeOpened kept × Holds g kept first (Ok store)) → IfErr r (IsFaultOf kept) → Holds g kept first r
   found_holds kept first (Ok store) found fault = (found first).1

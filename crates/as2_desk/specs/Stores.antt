@@ -79,18 +79,12 @@ module _ {S : Type 0} (g : Ghosts S) where
   IsOpened (records s) (Err fault) = may_come (fault_in fault) ≡ true
   IsOpened kept result = ⊤
 
-  -- a database without tables was made
-  abbrev pub IsBegun : Kept → Result (Option (Held S)) OpenFault → Type 0
-  IsBegun nothing (Ok (Some c)) = IsFaithful × IsBlank (state g c)
-  IsBegun nothing (Ok None) = ⊥
-  IsBegun nothing (Err fault) = may_come (fault_in fault) ≡ true
-  IsBegun kept result = ⊤
-
-  -- what was made stands under its path, and is open again
-  abbrev pub IsFinished : Kept → Held S → Result (Held S) OpenFault → Type 0
-  IsFinished nothing made (Ok c) = (s : State) → Rests (state g made) s → Rests (state g c) s
-  IsFinished nothing made (Err fault) = may_come (fault_in fault) ≡ true
-  IsFinished kept made result = ⊤
+  -- a store was made, without entries and with this first number
+  abbrev pub IsMade : Kept → ℕ → Result (Option (Held S)) OpenFault → Type 0
+  IsMade nothing first (Ok (Some c)) = IsFaithful × Rests (state g c) (empty first)
+  IsMade nothing first (Ok None) = ⊥
+  IsMade nothing first (Err fault) = may_come (fault_in fault) ≡ true
+  IsMade kept first result = ⊤
 
   -- the tables stand for that state, or a fault came that may come of any call
   abbrev pub StandsOpen : State → Result (Held S) OpenFault → Type 0

@@ -28,53 +28,53 @@ use as2_station::Station;
 use as2_store::Store;
 use clap::error::ErrorKind;
 use clap::{ArgMatches, Command, Error};
-use sqlite::Alter;
+use sqlite::{Alter, Connection};
 use std::alloc::{AllocError, Global};
 use std::io::{Read, Write};
 
 /// Runs the command line `words`, which begin with the program's name. `clock` is the moment where the options give
 /// none, in seconds since 1970, if it can be told. The agreements are read from `files`; a store is opened from `stores`,
 /// or in memory where its path is `:memory:`. What the command has to say goes to `output`; why something was refused or
-/// is faulty, to `errors`.
-pub fn run<F: ReadFiles, O: OpenStores, R: Read, W: Write, E: Write>(
+/// is faulty, to `errors`. A store that was opened is handed back with its path, for the caller to close.
+pub fn run<'a, F: ReadFiles, O: OpenStores, R: Read, W: Write, E: Write>(
     alloc: Global,
-    words: &[&str],
+    words: &'a [&'a str],
     clock: Option<u64>,
     files: &F,
     stores: &O,
     input: &mut R,
     output: &mut W,
     errors: &mut E,
-) -> Ran
-    ensures status { (result.status ≡ done) ⊎ ((result.status ≡ refused) ⊎ ((result.status ≡ faulty) ⊎ (result.status ≡ failed))) }
+) -> (Ran, Option<(&'a str, Connection<O::Kind>)>)
+    ensures status { (result.0.status ≡ done) ⊎ ((result.0.status ≡ refused) ⊎ ((result.0.status ≡ faulty) ⊎ (result.0.status ≡ failed))) }
     // Words that ask for something are no faulty command line.
-    ensures given { (path store : List ℕ) (task : TheTask) → Gives (texts words.entry.now) clock path store task → result.status ≢ faulty }
+    ensures given { (path store : List ℕ) (task : TheTask) → Gives (texts words.entry.now) clock path store task → result.0.status ≢ faulty }
     // It is done over the agreements and the store that they name, or the refusal is told that stands in their place; where
     // memory for the words was wanting nothing is read or written.
     ensures runs { (path store : List ℕ) (task : TheTask)
         → Gives (texts words.entry.now) clock path store task
         → Runs (F.content files.now path) (kept_at store (O.kept stores.now store)) task
         (R.remaining input.old) (R.remaining input.new) (input.new ≡ input.old) (output.new ≡ output.old)
-        (Appends (W.contents output.old) (W.contents output.new)) (Appends (E.contents errors.old) (E.contents errors.new)) result
+        (Appends (W.contents output.old) (W.contents output.new)) (Appends (E.contents errors.old) (E.contents errors.new)) result.0
         ⊎ ((input.new ≡ input.old) × (output.new ≡ output.old)
-        × EndsRefused Memory (Appends (E.contents errors.old) (E.contents errors.new)) result) }
+        × EndsRefused Memory (Appends (E.contents errors.old) (E.contents errors.new)) result.0) }
     // Words that ask for nothing run nothing.
     ensures unread { GivesNone (texts words.entry.now) clock → input.new ≡ input.old }
     // They are faulty, unless they ask for the help or the version; memory may be wanting to say so.
     ensures none { GivesNone (texts words.entry.now) clock → ¬ AsksForHelp (texts words.entry.now)
-        → ((result.status ≡ faulty) ⊎ (result.status ≡ refused)) × (output.new ≡ output.old) }
+        → ((result.0.status ≡ faulty) ⊎ (result.0.status ≡ refused)) × (output.new ≡ output.old) }
     // A faulty command line reads and writes nothing.
-    ensures untouched { result.status ≡ faulty → (input.new ≡ input.old) × (output.new ≡ output.old) }
+    ensures untouched { result.0.status ≡ faulty → (input.new ≡ input.old) × (output.new ≡ output.old) }
     // Neither does a store with a fault, and that is told.
-    ensures store { result.status ≡ failed → Stopped (input.new ≡ input.old) (output.new ≡ output.old)
-        (Appends (E.contents errors.old) (E.contents errors.new)) result }
+    ensures store { result.0.status ≡ failed → Stopped (input.new ≡ input.old) (output.new ≡ output.old)
+        (Appends (E.contents errors.old) (E.contents errors.new)) result.0 }
 {
     match options(alloc, words, clock) {
         Ok(options) => {
             let agreed = agreements_in(alloc, files, options.agreements);
             carry_out(alloc, &options, agreed, stores, input, output, errors)
         }
-        Err(error) => tell(alloc, &error, output, errors),
+        Err(error) => (tell(alloc, &error, output, errors), None),
     }
 }
 
@@ -120,45 +120,46 @@ fn explained(
 }
 
 /// Does what is asked for, where there are agreements to do it over.
-fn carry_out<O: OpenStores, R: Read, W: Write, E: Write>(
+fn carry_out<'a, O: OpenStores, R: Read, W: Write, E: Write>(
     alloc: Global,
-    options: &Options<'_>,
+    options: &Options<'a>,
     agreed: Result<Agreements, CommandFault>,
     stores: &O,
     input: &mut R,
     output: &mut W,
     errors: &mut E,
-) -> Ran
-    ensures status { (result.status ≡ done) ⊎ ((result.status ≡ refused) ⊎ (result.status ≡ failed)) }
+) -> (Ran, Option<(&'a str, Connection<O::Kind>)>)
+    ensures status { (result.0.status ≡ done) ⊎ ((result.0.status ≡ refused) ⊎ (result.0.status ≡ failed)) }
     ensures comes { Comes agreed (kept_at options.now.store.now (O.kept stores.now options.now.store.now)) options.now.task
         (R.remaining input.old) (R.remaining input.new) (input.new ≡ input.old) (output.new ≡ output.old)
-        (Appends (W.contents output.old) (W.contents output.new)) (Appends (E.contents errors.old) (E.contents errors.new)) result }
-    ensures store { result.status ≡ failed → Stopped (input.new ≡ input.old) (output.new ≡ output.old)
-        (Appends (E.contents errors.old) (E.contents errors.new)) result }
+        (Appends (W.contents output.old) (W.contents output.new)) (Appends (E.contents errors.old) (E.contents errors.new)) result.0 }
+    ensures store { result.0.status ≡ failed → Stopped (input.new ≡ input.old) (output.new ≡ output.old)
+        (Appends (E.contents errors.old) (E.contents errors.new)) result.0 }
 {
     let agreements = match agreed {
         Ok(agreements) => agreements,
-        Err(refusal) => return refuse(refusal, errors),
+        Err(refusal) => return (refuse(refusal, errors), None),
     };
     match options.task {
-        Task::Check => check(&agreements, output, errors),
+        Task::Check => (check(&agreements, output, errors), None),
         Task::Post(posting) if options.store == ":memory:" => {
             let records = records_in_memory(alloc, posting.first);
-            post(alloc, &agreements, posting, records, input, output, errors).0
+            let (ran, _) = post(alloc, &agreements, posting, records, input, output, errors);
+            (ran, None)
         }
         Task::Post(posting) => {
             let records = records_in(alloc, stores, options.store, posting.first);
             let (ran, store) = post(alloc, &agreements, posting, records, input, output, errors);
-            close(stores, store, options.store);
-            ran
+            (ran, under(options.store, store))
         }
     }
 }
 
-/// Closes the store of that path, where one is open.
-fn close<O: OpenStores>(stores: &O, store: Option<Store<O::Kind>>, path: &str) {
-    if let Some(store) = store {
-        stores.close_store(store.into_connection(), path);
+/// The connection of a store, with the path under which it stands.
+fn under<S: Alter>(path: &str, store: Option<Store<S>>) -> Option<(&str, Connection<S>)> {
+    match store {
+        Some(store) => Some((path, store.into_connection())),
+        None => None,
     }
 }
 

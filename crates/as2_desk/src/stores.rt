@@ -4,7 +4,7 @@ ghost use Rattle.sqlite.specs.Held.{state};
 ghost use Rattle.sqlite.specs.Steps.{over_memory};
 ghost use Rattle.as2_exchange.specs.State.{State, empty};
 ghost use Rattle.as2_store.specs.Stands.{IsBlank, Rests};
-ghost use Rattle.as2_desk.specs.Stores.{IsBegun, IsFinished, Holds, IsFaithful, IsFaultOf, Kept, MayBeMade, MayBeOpened, IsOpened, Sees, StandsOpen, nothing, opening_fault};
+ghost use Rattle.as2_desk.specs.Stores.{Holds, IsFaithful, IsFaultOf, IsMade, IsOpened, Kept, MayBeMade, MayBeOpened, Sees, StandsOpen, nothing, opening_fault};
 
 use crate::first_number::FirstNumber;
 use as2_exchange::StoreFault;
@@ -50,30 +50,17 @@ pub trait OpenStores {
         ensures autocommit { IfOk result (λ c. c.in_transaction ≡ false) }
         ensures opened { IsOpened Self.Kind.Store (kept self.now path.now) result };
 
-    /// Makes an empty database under another name beside that path; None where something stands under the path by now.
-    fn begin_store(
+    /// Makes a store whose first numbers are `first`, whole, and opens it under that path; None where something stands there by
+    /// now.
+    fn make_store(
         &self,
         alloc: Global,
         path: &str,
+        first: FirstNumber,
     ) -> Result<Option<Connection<Self::Kind>>, OpenFault>
         requires free { MayBeMade (kept self.now path.now) }
         ensures autocommit { IfOk result (λ o. IfSome o (λ c. c.in_transaction ≡ false)) }
-        ensures begun { IsBegun Self.Kind.Store (kept self.now path.now) result };
-
-    /// Gives what was begun so its path, whole, and opens it there.
-    fn finish_store(
-        &self,
-        alloc: Global,
-        made: Connection<Self::Kind>,
-        path: &str,
-    ) -> Result<Connection<Self::Kind>, OpenFault>
-        requires autocommit { made.in_transaction ≡ false }
-        requires free { MayBeMade (kept self.now path.now) }
-        ensures autocommit { IfOk result (λ c. c.in_transaction ≡ false) }
-        ensures finished { IsFinished Self.Kind.Store (kept self.now path.now) made result };
-
-    /// Closes the store of that path, so that its one file is the record. Where that fails, all stands as it stood.
-    fn close_store(&self, store: Connection<Self::Kind>, path: &str);
+        ensures made { IsMade Self.Kind.Store (kept self.now path.now) first result };
 }
 
 /// The fault that an error in opening a file is: a file that is no database is no store.
@@ -109,23 +96,16 @@ fn created<S: Alter + Drop>(conn: Connection<S>, first: FirstNumber) -> Result<S
     }
 }
 
-/// The records of the store of that path, which is made where nothing stands there, and then begin with `first`; None where
-/// something stands there by now.
-fn records_made<O: OpenStores>(
-    alloc: Global,
-    stores: &O,
-    path: &str,
+/// Makes the tables of a store that begins with `first` on a connection without tables; for what makes stores.
+pub fn make_tables<S: Alter + Drop>(
+    conn: Connection<S>,
     first: FirstNumber,
-) -> Result<Option<Store<O::Kind>>, OpenFault>
-    requires free { MayBeMade (O.kept stores.now path.now) }
-    ensures made { IfOk result (λ made. IfSome made (λ store. Holds O.Kind.Store (O.kept stores.now path.now) first (Ok store))) }
-    ensures fault { IfErr result (IsFaultOf (O.kept stores.now path.now)) }
+) -> Result<Connection<S>, OpenFault>
+    requires autocommit { conn.in_transaction ≡ false }
+    ensures autocommit { IfOk result (λ c. c.in_transaction ≡ false) }
+    ensures made { IsFaithful S.Store → IsBlank (state S.Store conn) → StandsOpen S.Store (empty first) result }
 {
-    let Some(conn) = stores.begin_store(alloc, path)? else {
-        return Ok(None);
-    };
-    let made = created(conn, first)?.into_connection();
-    Ok(Some(adopted(stores.finish_store(alloc, made, path)?)?))
+    Ok(created(conn, first)?.into_connection())
 }
 
 /// The records of the store that stands under that path.
@@ -153,10 +133,10 @@ pub(crate) fn records_in<O: OpenStores>(
 ) -> Result<Store<O::Kind>, OpenFault>
     ensures { Holds O.Kind.Store (O.kept stores.now path.now) first result }
 {
-    if stores.look(path)? == Seen::Nothing
-        && let Some(store) = records_made(alloc, stores, path, first)?
+    if let Seen::Nothing = stores.look(path)?
+        && let Some(conn) = stores.make_store(alloc, path, first)?
     {
-        return Ok(store);
+        return adopted(conn);
     }
     records_found(alloc, stores, path)
 }

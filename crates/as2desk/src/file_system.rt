@@ -1,12 +1,14 @@
 //! The file system: files are read up to a limit, stores are looked at before they are opened, made under another name and
 //! then given their own, and closed into their one file.
 ghost use Rattle.std.specs.Prelude.{◌≡◌, IfOk, false};
-ghost use Rattle.sqlite.specs.Files.{over_files};
 ghost use Rattle.as2_desk.specs.FileContents.{untold};
-ghost use Rattle.as2_desk.specs.Stores.{IsFinished, MayBeMade, untold as not_told};
+ghost use Rattle.as2_desk.specs.Stores.{untold as not_told};
 
-use as2_desk::{FileFault, OpenFault, OpenStores, ReadFiles, Seen, StoreFault, opening_fault};
-use sqlite::{Connection, File, FileStore, Files, Options, Unknown};
+use as2_desk::{
+    FileFault, FirstNumber, OpenFault, OpenStores, ReadFiles, Seen, StoreFault, make_tables,
+    opening_fault,
+};
+use sqlite::{Connection, File, FileStore, Options, Unknown};
 use sqlite_disk::Disk;
 use sqlite_std_file::OpenError;
 use std::alloc::{AllocError, Global};
@@ -46,6 +48,15 @@ pub struct FileSystem<'a> {
 fn fault_of(error: io::Error) -> OpenFault {
     match error.kind() {
         ErrorKind::OutOfMemory => MEMORY,
+        _ => REFUSED,
+    }
+}
+
+/// Why files can't be had.
+fn unlocked(error: OpenError) -> OpenFault {
+    match error {
+        OpenError::Busy => OpenFault::Held,
+        OpenError::OutOfMemory => MEMORY,
         _ => REFUSED,
     }
 }
@@ -92,17 +103,24 @@ impl FileSystem<'_> {
         let _ = fs::remove_file(self.rt, name);
     }
 
-    fn open_named(&self, name: &str) -> Result<Connection<FileStore<File>>, OpenFault> {
-        Connection::open_with_sums(self.rt, name).map_err(opening_fault)
+    /// Closes a store into the file of that path, and takes its log away while the file is locked. Where that fails all stands
+    /// as it stood, in the log.
+    pub fn close(&self, path: &str, store: Connection<FileStore<File>>) {
+        let Ok(log) = self.log_of(path) else {
+            return;
+        };
+        if let Ok(files) = store.close_files() {
+            self.remove(&log);
+            drop(files);
+        }
     }
 
-    /// The files of that name, which no other process has.
-    fn locked(&self, name: &str) -> Result<Files<File>, OpenFault> {
-        match sqlite_std_file::open(self.rt, name, Unknown) {
-            Ok(files) => Ok(files),
-            Err(OpenError::Busy) => Err(OpenFault::Held),
-            Err(OpenError::OutOfMemory) => Err(MEMORY),
-            Err(_) => Err(REFUSED),
+    fn open_named(&self, name: &str) -> Result<Connection<FileStore<File>>, OpenFault>
+        ensures autocommit { IfOk result (λ c. c.in_transaction ≡ false) }
+    {
+        match Connection::open_with_sums(self.rt, name) {
+            Ok(conn) => Ok(conn),
+            Err(error) => Err(opening_fault(error)),
         }
     }
 }
@@ -149,57 +167,38 @@ impl OpenStores for FileSystem<'_> {
         self.open_named(&self.name(path, "")?)
     }
 
-    fn begin_store(
+    fn make_store(
         &self,
         alloc: Global,
         path: &str,
+        first: FirstNumber,
     ) -> Result<Option<Connection<FileStore<File>>>, OpenFault> {
-        let draft = self.name(path, ".new")?;
-        let mut files = self.locked(&draft)?;
         let name = self.name(path, "")?;
+        let draft = self.name(path, ".new")?;
+        let draft_log = self.name(path, ".new-wal")?;
+        let mut files = match sqlite_std_file::open(self.rt, &draft, Unknown) {
+            Ok(files) => files,
+            Err(error) => return Err(unlocked(error)),
+        };
         if self.is_there(&name)? {
-            self.remove(&self.name(path, ".new-wal")?);
+            self.remove(&draft_log);
             self.remove(&draft);
             return Ok(None);
         }
         files.log.set_len(0).map_err(|_| DISK)?;
         files.db.set_len(0).map_err(|_| DISK)?;
         let seed = RandomState::new(self.rt).map_err(fault_of)?.hash_one(&0u8);
-        match Connection::open_files_with(alloc, files, Options::new(seed), true) {
-            Ok(conn) => Ok(Some(conn)),
-            Err((error, _)) => Err(opening_fault(error)),
-        }
-    }
-
-    fn finish_store(
-        &self,
-        _alloc: Global,
-        made: Connection<FileStore<File>>,
-        path: &str,
-    ) -> Result<Connection<FileStore<File>>, OpenFault>
-        requires autocommit { made.in_transaction ≡ false }
-        requires free { MayBeMade not_told }
-        ensures autocommit { IfOk result (λ c. c.in_transaction ≡ false) }
-        ensures finished { IsFinished over_files not_told made result }
-    {
-        let name = self.name(path, "")?;
+        let made = match Connection::open_files_with(alloc, files, Options::new(seed), true) {
+            Ok(conn) => make_tables(conn, first)?,
+            Err((error, _)) => return Err(opening_fault(error)),
+        };
         let files = match made.close_files() {
             Ok(files) => files,
             Err((error, _)) => return Err(opening_fault(error)),
         };
-        self.remove(&self.name(path, ".new-wal")?);
-        fs::rename(self.rt, &self.name(path, ".new")?, &name).map_err(fault_of)?;
+        self.remove(&draft_log);
+        fs::rename(self.rt, &draft, &name).map_err(fault_of)?;
         drop(files);
-        self.open_named(&name)
-    }
-
-    fn close_store(&self, store: Connection<FileStore<File>>, path: &str) {
-        let Ok(log) = self.log_of(path) else {
-            return;
-        };
-        if let Ok(files) = store.close_files() {
-            self.remove(&log);
-            drop(files);
-        }
+        Ok(Some(self.open_named(&name)?))
     }
 }

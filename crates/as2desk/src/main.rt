@@ -29,7 +29,7 @@ fn main(rt: HostRuntime) -> io::Result<ExitCode> {
         texts.push(word.as_str())?;
     }
     let files = FileSystem { rt: &rt };
-    let ran = as2_desk::run(
+    let (ran, left) = as2_desk::run(
         rt.alloc(),
         texts.as_slice(),
         clock(&rt),
@@ -39,5 +39,8 @@ fn main(rt: HostRuntime) -> io::Result<ExitCode> {
         &mut rt.stdout(),
         &mut rt.stderr(),
     );
+    if let Some((path, store)) = left {
+        files.close(path, store);
+    }
     Ok(ExitCode::from(ran.status))
 }

@@ -2,10 +2,11 @@
 ghost use Rattle.std.specs.Prelude.{◌≡◌, IfOk, false, if◌then◌else◌};
 ghost use Rattle.std.specs.Str.{bytes_eq};
 ghost use Rattle.as2_desk.specs.FileContents.{file, unreadable};
-ghost use Rattle.sqlite.specs.Steps.{over_memory};
-ghost use Rattle.as2_desk.specs.Stores.{IsFinished, MayBeMade, untold};
+ghost use Rattle.as2_desk.specs.Stores.{untold};
 
-use as2_desk::{FileFault, OpenFault, OpenStores, ReadFiles, Seen, StoreFault};
+use as2_desk::{
+    FileFault, FirstNumber, OpenFault, OpenStores, ReadFiles, Seen, StoreFault, make_tables,
+};
 use sqlite::{Connection, MemStore};
 use std::alloc::Global;
 use std::io::{Error, ErrorKind, Read, Result as IoResult, Write};
@@ -78,32 +79,17 @@ impl OpenStores for Stores {
         }
     }
 
-    fn begin_store(
+    fn make_store(
         &self,
         alloc: Global,
         _path: &str,
+        first: FirstNumber,
     ) -> Result<Option<Connection<MemStore>>, OpenFault> {
         match self {
             Stores::Taken => Ok(None),
-            _ => Ok(Some(in_memory(alloc)?)),
+            _ => Ok(Some(make_tables(in_memory(alloc)?, first)?)),
         }
     }
-
-    fn finish_store(
-        &self,
-        _alloc: Global,
-        made: Connection<MemStore>,
-        _path: &str,
-    ) -> Result<Connection<MemStore>, OpenFault>
-        requires autocommit { made.in_transaction ≡ false }
-        requires free { MayBeMade untold }
-        ensures autocommit { IfOk result (λ c. c.in_transaction ≡ false) }
-        ensures finished { IsFinished over_memory untold made result }
-    {
-        Ok(made)
-    }
-
-    fn close_store(&self, _store: Connection<MemStore>, _path: &str) {}
 }
 
 /// A stream in parts: no read gives bytes of two of them. Where it is broken every read fails.
