@@ -8,7 +8,7 @@ use as2_desk::{
     FileFault, FirstNumber, OpenFault, OpenStores, ReadFiles, Seen, StoreFault, make_tables,
     opening_fault,
 };
-use sqlite::{Connection, File, FileStore, Options, Unknown};
+use sqlite::{Connection, File, FileStore, Files, Options, Unknown};
 use sqlite_disk::Disk;
 use sqlite_std_file::OpenError;
 use std::alloc::{AllocError, Global};
@@ -49,6 +49,23 @@ fn fault_of(error: io::Error) -> OpenFault {
     match error.kind() {
         ErrorKind::OutOfMemory => MEMORY,
         _ => REFUSED,
+    }
+}
+
+/// Makes the tables of a store that begins with `first`, and closes it into its files.
+fn with_tables(
+    conn: Connection<FileStore<File>>,
+    first: FirstNumber,
+) -> Result<Files<File>, OpenFault>
+    requires autocommit { conn.in_transaction ≡ false }
+{
+    let made = make_tables(conn, first)?;
+    match made.close_files() {
+        Ok(files) => Ok(files),
+        Err((error, store)) => {
+            drop(store);
+            Err(opening_fault(error))
+        }
     }
 }
 
@@ -188,12 +205,8 @@ impl OpenStores for FileSystem<'_> {
         files.log.set_len(0).map_err(|_| DISK)?;
         files.db.set_len(0).map_err(|_| DISK)?;
         let seed = RandomState::new(self.rt).map_err(fault_of)?.hash_one(&0u8);
-        let made = match Connection::open_files_with(alloc, files, Options::new(seed), true) {
-            Ok(conn) => make_tables(conn, first)?,
-            Err((error, _)) => return Err(opening_fault(error)),
-        };
-        let files = match made.close_files() {
-            Ok(files) => files,
+        let files = match Connection::open_files_with(alloc, files, Options::new(seed), true) {
+            Ok(conn) => with_tables(conn, first)?,
             Err((error, _)) => return Err(opening_fault(error)),
         };
         self.remove(&draft_log);
