@@ -1,5 +1,4 @@
 mod Given
-mod Opening
 mod StreamEnds
 mod Numbers
 mod Ranges

@@ -11,7 +11,7 @@ ghost use Rattle.as2_desk.specs.Runs.{Comes, Counts, Ends, Fails, Posts, EndsRef
 ghost use Rattle.as2_desk.specs.Statuses.{done, failed, faulty, refused, exit_status};
 ghost use Rattle.as2_desk.specs.Stores.{Holds, Kept, kept_at, stands_for};
 ghost use Rattle.as2_desk.specs.declared.options.Task.{Task as TheTask};
-ghost use Rattle.as2_desk.specs.declared.stores.OpenFault.{OpenFault as TheFault};
+ghost use Rattle.as2_exchange.specs.declared.fault.StoreFault.{StoreFault as TheFault};
 ghost use Rattle.as2_desk.specs.declared.refusal.CommandFault.TheVariants.{Memory, Store as Failing};
 
 use crate::agreed::agreements_in;
@@ -22,59 +22,60 @@ use crate::first_request::{Served, first_post};
 use crate::options::{OptionFault, Options, Posting, Task};
 use crate::refusal::{CommandFault, is_said, refusal_status};
 use crate::status::{DONE, FAULTY, Ran};
-use crate::stores::{OpenFault, OpenStores, records_in, records_in_memory};
+use crate::stores::{OpenStores, records_in, records_in_memory};
 use as2_agreement::Agreements;
+use as2_exchange::StoreFault;
 use as2_station::Station;
 use as2_store::Store;
 use clap::error::ErrorKind;
 use clap::{ArgMatches, Command, Error};
-use sqlite::{Alter, Connection};
+use sqlite::Alter;
 use std::alloc::{AllocError, Global};
 use std::io::{Read, Write};
 
 /// Runs the command line `words`, which begin with the program's name. `clock` is the moment where the options give
 /// none, in seconds since 1970, if it can be told. The agreements are read from `files`; a store is opened from `stores`,
 /// or in memory where its path is `:memory:`. What the command has to say goes to `output`; why something was refused or
-/// is faulty, to `errors`. A store that was opened is handed back with its path, for the caller to close.
-pub fn run<'a, F: ReadFiles, O: OpenStores, R: Read, W: Write, E: Write>(
+/// is faulty, to `errors`.
+pub fn run<F: ReadFiles, O: OpenStores, R: Read, W: Write, E: Write>(
     alloc: Global,
-    words: &'a [&'a str],
+    words: &[&str],
     clock: Option<u64>,
     files: &F,
     stores: &O,
     input: &mut R,
     output: &mut W,
     errors: &mut E,
-) -> (Ran, Option<(&'a str, Connection<O::Kind>)>)
-    ensures status { (result.0.status ≡ done) ⊎ ((result.0.status ≡ refused) ⊎ ((result.0.status ≡ faulty) ⊎ (result.0.status ≡ failed))) }
+) -> Ran
+    ensures status { (result.status ≡ done) ⊎ ((result.status ≡ refused) ⊎ ((result.status ≡ faulty) ⊎ (result.status ≡ failed))) }
     // Words that ask for something are no faulty command line.
-    ensures given { (path store : List ℕ) (task : TheTask) → Gives (texts words.entry.now) clock path store task → result.0.status ≢ faulty }
+    ensures given { (path store : List ℕ) (task : TheTask) → Gives (texts words.entry.now) clock path store task → result.status ≢ faulty }
     // It is done over the agreements and the store that they name, or the refusal is told that stands in their place; where
     // memory for the words was wanting nothing is read or written.
     ensures runs { (path store : List ℕ) (task : TheTask)
         → Gives (texts words.entry.now) clock path store task
         → Runs (F.content files.now path) (kept_at store (O.kept stores.now store)) task
         (R.remaining input.old) (R.remaining input.new) (input.new ≡ input.old) (output.new ≡ output.old)
-        (Appends (W.contents output.old) (W.contents output.new)) (Appends (E.contents errors.old) (E.contents errors.new)) result.0
+        (Appends (W.contents output.old) (W.contents output.new)) (Appends (E.contents errors.old) (E.contents errors.new)) result
         ⊎ ((input.new ≡ input.old) × (output.new ≡ output.old)
-        × EndsRefused Memory (Appends (E.contents errors.old) (E.contents errors.new)) result.0) }
+        × EndsRefused Memory (Appends (E.contents errors.old) (E.contents errors.new)) result) }
     // Words that ask for nothing run nothing.
     ensures unread { GivesNone (texts words.entry.now) clock → input.new ≡ input.old }
     // They are faulty, unless they ask for the help or the version; memory may be wanting to say so.
     ensures none { GivesNone (texts words.entry.now) clock → ¬ AsksForHelp (texts words.entry.now)
-        → ((result.0.status ≡ faulty) ⊎ (result.0.status ≡ refused)) × (output.new ≡ output.old) }
+        → ((result.status ≡ faulty) ⊎ (result.status ≡ refused)) × (output.new ≡ output.old) }
     // A faulty command line reads and writes nothing.
-    ensures untouched { result.0.status ≡ faulty → (input.new ≡ input.old) × (output.new ≡ output.old) }
+    ensures untouched { result.status ≡ faulty → (input.new ≡ input.old) × (output.new ≡ output.old) }
     // Neither does a store with a fault, and that is told.
-    ensures store { result.0.status ≡ failed → Stopped (input.new ≡ input.old) (output.new ≡ output.old)
-        (Appends (E.contents errors.old) (E.contents errors.new)) result.0 }
+    ensures store { result.status ≡ failed → Stopped (input.new ≡ input.old) (output.new ≡ output.old)
+        (Appends (E.contents errors.old) (E.contents errors.new)) result }
 {
     match options(alloc, words, clock) {
         Ok(options) => {
             let agreed = agreements_in(alloc, files, options.agreements);
             carry_out(alloc, &options, agreed, stores, input, output, errors)
         }
-        Err(error) => (tell(alloc, &error, output, errors), None),
+        Err(error) => tell(alloc, &error, output, errors),
     }
 }
 
@@ -120,46 +121,36 @@ fn explained(
 }
 
 /// Does what is asked for, where there are agreements to do it over.
-fn carry_out<'a, O: OpenStores, R: Read, W: Write, E: Write>(
+fn carry_out<O: OpenStores, R: Read, W: Write, E: Write>(
     alloc: Global,
-    options: &Options<'a>,
+    options: &Options<'_>,
     agreed: Result<Agreements, CommandFault>,
     stores: &O,
     input: &mut R,
     output: &mut W,
     errors: &mut E,
-) -> (Ran, Option<(&'a str, Connection<O::Kind>)>)
-    ensures status { (result.0.status ≡ done) ⊎ ((result.0.status ≡ refused) ⊎ (result.0.status ≡ failed)) }
+) -> Ran
+    ensures status { (result.status ≡ done) ⊎ ((result.status ≡ refused) ⊎ (result.status ≡ failed)) }
     ensures comes { Comes agreed (kept_at options.now.store.now (O.kept stores.now options.now.store.now)) options.now.task
         (R.remaining input.old) (R.remaining input.new) (input.new ≡ input.old) (output.new ≡ output.old)
-        (Appends (W.contents output.old) (W.contents output.new)) (Appends (E.contents errors.old) (E.contents errors.new)) result.0 }
-    ensures store { result.0.status ≡ failed → Stopped (input.new ≡ input.old) (output.new ≡ output.old)
-        (Appends (E.contents errors.old) (E.contents errors.new)) result.0 }
+        (Appends (W.contents output.old) (W.contents output.new)) (Appends (E.contents errors.old) (E.contents errors.new)) result }
+    ensures store { result.status ≡ failed → Stopped (input.new ≡ input.old) (output.new ≡ output.old)
+        (Appends (E.contents errors.old) (E.contents errors.new)) result }
 {
     let agreements = match agreed {
         Ok(agreements) => agreements,
-        Err(refusal) => return (refuse(refusal, errors), None),
+        Err(refusal) => return refuse(refusal, errors),
     };
     match options.task {
-        Task::Check => (check(&agreements, output, errors), None),
+        Task::Check => check(&agreements, output, errors),
         Task::Post(posting) if options.store == ":memory:" => {
             let records = records_in_memory(alloc, posting.first);
-            let (ran, _) = post(alloc, &agreements, posting, records, input, output, errors);
-            (ran, None)
+            post(alloc, &agreements, posting, records, input, output, errors)
         }
         Task::Post(posting) => {
             let records = records_in(alloc, stores, options.store, posting.first);
-            let (ran, store) = post(alloc, &agreements, posting, records, input, output, errors);
-            (ran, under(options.store, store))
+            post(alloc, &agreements, posting, records, input, output, errors)
         }
-    }
-}
-
-/// The connection of a store, with the path under which it stands.
-fn under<S: Alter>(path: &str, store: Option<Store<S>>) -> Option<(&str, Connection<S>)> {
-    match store {
-        Some(store) => Some((path, store.into_connection())),
-        None => None,
     }
 }
 
@@ -178,24 +169,24 @@ fn check<W: Write, E: Write>(agreements: &Agreements, output: &mut W, errors: &m
     }
 }
 
-/// Answers the first post of the input, where there are records to answer it from, and gives them back.
+/// Answers the first post of the input, where there are records to answer it from.
 fn post<S: Alter + Drop, R: Read, W: Write, E: Write>(
     alloc: Global,
     agreements: &Agreements,
     posting: Posting,
-    records: Result<Store<S>, OpenFault>,
+    records: Result<Store<S>, StoreFault>,
     input: &mut R,
     output: &mut W,
     errors: &mut E,
-) -> (Ran, Option<Store<S>>)
-    ensures status { (result.0.status ≡ done) ⊎ ((result.0.status ≡ refused) ⊎ (result.0.status ≡ failed)) }
+) -> Ran
+    ensures status { (result.status ≡ done) ⊎ ((result.status ≡ refused) ⊎ (result.status ≡ failed)) }
     ensures posts { (kept : Kept) → Holds S.Store kept posting.first records
         → ((input.new ≡ input.old) × (output.new ≡ output.old)
-        × Fails kept (Appends (E.contents errors.old) (E.contents errors.new)) result.0)
+        × Fails kept posting.first (Appends (E.contents errors.old) (E.contents errors.new)) result)
         ⊎ Posts agreements.now posting.moment (stands_for kept posting.first) (R.remaining input.old) (R.remaining input.new)
-        (Appends (W.contents output.old) (W.contents output.new)) (Appends (E.contents errors.old) (E.contents errors.new)) result.0 }
-    ensures store { result.0.status ≡ failed → Stopped (input.new ≡ input.old) (output.new ≡ output.old)
-        (Appends (E.contents errors.old) (E.contents errors.new)) result.0 }
+        (Appends (W.contents output.old) (W.contents output.new)) (Appends (E.contents errors.old) (E.contents errors.new)) result }
+    ensures store { result.status ≡ failed → Stopped (input.new ≡ input.old) (output.new ≡ output.old)
+        (Appends (E.contents errors.old) (E.contents errors.new)) result }
 {
     match records {
         Ok(store) => {
@@ -208,9 +199,9 @@ fn post<S: Alter + Drop, R: Read, W: Write, E: Write>(
                 input,
                 output,
             );
-            (tell_end(end, errors), Some(station.into_store()))
+            tell_end(end, errors)
         }
-        Err(fault) => (refuse(CommandFault::Store(fault), errors), None),
+        Err(fault) => refuse(CommandFault::Store(fault), errors),
     }
 }
 

@@ -1,12 +1,11 @@
 //! Why something was refused, in one line on standard error.
 ghost use Rattle.std.specs.Prelude.{◌≡◌, OnOk, true};
 ghost use Rattle.std.specs.Io.KnownBytes.{Appends};
-ghost use Rattle.as2_desk.specs.Refusals.{agreements_line, error_line, refusal_status, refused_line, store_fault_name, store_lines};
+ghost use Rattle.as2_desk.specs.Refusals.{agreements_line, error_line, refusal_status, refused_line, store_fault_name, store_line};
 
 use crate::first_request::Served;
 use crate::status::{FAILED, REFUSED, end_name};
 use as2_agreement::AgreementFault;
-use crate::stores::OpenFault;
 use as2_exchange::StoreFault;
 use std::io;
 use std::io::Write;
@@ -22,8 +21,8 @@ pub(crate) enum CommandFault {
     Memory,
     /// The agreements have a fault.
     Agreements(AgreementFault),
-    /// No store is open.
-    Store(OpenFault),
+    /// The store has a fault.
+    Store(StoreFault),
     /// A stream came to another end than `Closed`.
     Stream(Served),
 }
@@ -70,17 +69,12 @@ fn say_agreements<E: Write>(fault: AgreementFault, errors: &mut E) -> io::Result
     }
 }
 
-/// Writes `store: NAME`, and behind it what may help.
-fn say_store<E: Write>(fault: OpenFault, errors: &mut E) -> io::Result<()>
-    ensures { OnOk result (Appends (E.contents errors.old) (E.contents errors.new) (store_lines fault)) }
+/// Writes `store: NAME`.
+fn say_store<E: Write>(fault: StoreFault, errors: &mut E) -> io::Result<()>
+    ensures { OnOk result (Appends (E.contents errors.old) (E.contents errors.new) (store_line fault)) }
 {
-    match fault {
-        OpenFault::Held => write!(errors, "store: Refused\nhint: another process has the file open\n"),
-        OpenFault::Store(fault) => {
-            let name = store_fault_name(fault);
-            write!(errors, "store: {name}\n")
-        }
-    }
+    let name = store_fault_name(fault);
+    write!(errors, "store: {name}\n")
 }
 
 /// Writes the line of a refusal.

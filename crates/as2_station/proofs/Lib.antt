@@ -1,4 +1,3 @@
-mod Clashing
 mod Doing
 mod Numbers
 mod Playing

@@ -1,12 +1,54 @@
 //! The program `as2desk`: an AS2 station at the command line.
 #![tactic(auto)]
 
-mod file_system;
+ghost use Rattle.as2_desk.specs.FileContents.{untold};
+ghost use Rattle.as2_desk.specs.Stores.{untold as not_told};
 
-use crate::file_system::FileSystem;
+use as2_desk::{FileFault, OpenStores, Opening, ReadFiles, StoreFault, opening_fault};
+use sqlite::{Connection, File, FileStore};
+use std::alloc::Global;
 use std::process::ExitCode;
 use std::time::SystemTime;
-use std::{env, io};
+use std::{env, fs, io};
+
+/// The file system.
+#[derive(Clone, Copy)]
+struct FileSystem<'a> {
+    rt: &'a HostRuntime,
+}
+
+impl ReadFiles for FileSystem<'_> {
+    ghost content = { λ _ _. untold };
+
+    fn read_file(&self, _alloc: Global, path: &str) -> Result<Vec<u8>, FileFault> {
+        match fs::read(self.rt, path) {
+            Ok(bytes) => Ok(bytes),
+            Err(error) if error.kind() == io::ErrorKind::OutOfMemory => Err(FileFault::Memory),
+            Err(_) => Err(FileFault::CannotRead),
+        }
+    }
+}
+
+impl OpenStores for FileSystem<'_> {
+    type Kind = FileStore<File>;
+
+    ghost kept = { λ _ _. not_told };
+
+    fn open_store(
+        &self,
+        _alloc: Global,
+        path: &str,
+    ) -> Result<Opening<FileStore<File>>, StoreFault> {
+        let Ok(is_there) = fs::exists(self.rt, path) else {
+            return Err(StoreFault::Refused);
+        };
+        match Connection::open(self.rt, path) {
+            Ok(conn) if is_there => Ok(Opening::Found(conn)),
+            Ok(conn) => Ok(Opening::New(conn)),
+            Err(error) => Err(opening_fault(error)),
+        }
+    }
+}
 
 /// The seconds since 1970, where the clock can be read and does not stand before.
 fn clock(rt: &HostRuntime) -> Option<u64> {
@@ -29,7 +71,7 @@ fn main(rt: HostRuntime) -> io::Result<ExitCode> {
         texts.push(word.as_str())?;
     }
     let files = FileSystem { rt: &rt };
-    let (ran, left) = as2_desk::run(
+    let ran = as2_desk::run(
         rt.alloc(),
         texts.as_slice(),
         clock(&rt),
@@ -39,8 +81,5 @@ fn main(rt: HostRuntime) -> io::Result<ExitCode> {
         &mut rt.stdout(),
         &mut rt.stderr(),
     );
-    if let Some((path, store)) = left {
-        files.close(path, store);
-    }
     Ok(ExitCode::from(ran.status))
 }

@@ -22,7 +22,7 @@ returns-in-Ok-clause-runs g c = λ path store task gives.
     (g.R.Read.remaining c.args.input.now) (g.R.Read.remaining c.carry_out.new.input)
     (c.carry_out.new.input ≡ c.args.input.now) (c.carry_out.new.output ≡ c.args.output.now)
     (Appends (g.W.Write.contents c.args.output.now) (g.W.Write.contents c.carry_out.new.output))
-    (Appends (g.E.Write.contents c.args.errors.now) (g.E.Write.contents c.carry_out.new.errors)) c.carry_out.result.0)
+    (Appends (g.E.Write.contents c.args.errors.now) (g.E.Write.contents c.carry_out.new.errors)) c.carry_out.result)
     c.in-Ok.ensures.given gives (record { opened = c.agreements_in-agreed.result; opens = c.agreements_in-agreed.ensures; comes = c.carry_out.ensures.comes }))
 
 -- here memory was wanting, since the words ask for something
@@ -42,4 +42,4 @@ returns-in-Err-clause-runs g c = λ path store task gives. elim c.tell.ensures.m
 pub returns-in-Ok-clause-none : goal.returns-in-Ok-clause-none
 returns-in-Ok-clause-none g c = λ none _.
     let read = c.in-Ok.options in
-    absurd {A = ((c.carry_out.result.0.status ≡ faulty) ⊎ (c.carry_out.result.0.status ≡ refused)) × (c.carry_out.new.output ≡ c.args.output.now)} (none read.agreements.now read.store.now read.task c.in-Ok.ensures.given)
+    absurd {A = ((c.carry_out.result.status ≡ faulty) ⊎ (c.carry_out.result.status ≡ refused)) × (c.carry_out.new.output ≡ c.args.output.now)} (none read.agreements.now read.store.now read.task c.in-Ok.ensures.given)
