@@ -39,13 +39,13 @@ module _ {S : Type 0} (g : Ghosts S) where
   IsFaithful = (c : Held S) → HasCleanDisk (state g c)
 
   -- what is kept was opened: a store that was found, or a new one without tables
-  abbrev pub IsOpening : Kept → Result (Opening S) StoreFault → Type 0
-  IsOpening untold result = ⊤
-  IsOpening kept (Err fault) = may_come fault ≡ true
-  IsOpening nothing (Ok (Found c)) = ⊥
-  IsOpening nothing (Ok (New c)) = IsFaithful × IsBlank (state g c)
-  IsOpening (records s) (Ok (Found c)) = IsFaithful × Rests (state g c) s
-  IsOpening (records s) (Ok (New c)) = ⊥
+  abbrev pub Gives : Kept → Result (Opening S) StoreFault → Type 0
+  Gives untold result = ⊤
+  Gives kept (Err fault) = may_come fault ≡ true
+  Gives nothing (Ok (Found c)) = ⊥
+  Gives nothing (Ok (New c)) = IsFaithful × IsBlank (state g c)
+  Gives (records s) (Ok (Found c)) = IsFaithful × Rests (state g c) s
+  Gives (records s) (Ok (New c)) = ⊥
 
   -- the store is open, and its tables stand for that state; or it isn't, for a fault that may come of any call
   abbrev pub Holds : Kept → ℕ → Result (Held S) StoreFault → Type 0

@@ -20,7 +20,7 @@ use crate::command::command;
 use crate::files::ReadFiles;
 use crate::first_request::{Served, first_post};
 use crate::options::{OptionFault, Options, Posting, Task};
-use crate::refusal::{CommandFault, is_said, refusal_status};
+use crate::refusal::{CommandFault, is_said, status_of};
 use crate::status::{DONE, FAULTY, Ran};
 use crate::stores::{OpenStores, records_in, records_in_memory};
 use as2_agreement::Agreements;
@@ -225,7 +225,7 @@ fn refuse<E: Write>(refusal: CommandFault, errors: &mut E) -> Ran
     ensures store { result.status ≡ failed → (fault : TheFault) × (refusal ≡ Failing fault) }
 {
     Ran {
-        status: refusal_status(refusal),
+        status: status_of(refusal),
         told: is_said(refusal, errors),
     }
 }

@@ -28,7 +28,7 @@ pub(crate) enum CommandFault {
 }
 
 /// The exit status that goes with a refusal.
-pub(crate) fn refusal_status(refusal: CommandFault) -> u8
+pub(crate) fn status_of(refusal: CommandFault) -> u8
     ensures { result ≡ refusal_status refusal }
 {
     match refusal {

@@ -1,7 +1,7 @@
 //! The stores of records, as far as the program opens them.
 ghost use Rattle.std.specs.Prelude.{◌≡◌, ℕ, List, false, Ok, IfOk};
 ghost use Rattle.sqlite.specs.Steps.{over_memory};
-ghost use Rattle.as2_desk.specs.Stores.{IsOpening, Holds, Kept, connection_of, nothing, opening_fault};
+ghost use Rattle.as2_desk.specs.Stores.{Gives, Holds, Kept, connection_of, nothing, opening_fault};
 
 use crate::first_number::FirstNumber;
 use as2_exchange::StoreFault;
@@ -29,7 +29,7 @@ pub trait OpenStores {
     /// Opens what is kept under that path, or makes it. Answers NotAStore for what is no database, Memory, Disk or Refused.
     fn open_store(&self, alloc: Global, path: &str) -> Result<Opening<Self::Kind>, StoreFault>
         ensures autocommit { IfOk result (λ o. (connection_of o).in_transaction ≡ false) }
-        ensures opened { IsOpening Self.Kind.Store (kept self.now path.now) result };
+        ensures opened { Gives Self.Kind.Store (kept self.now path.now) result };
 }
 
 /// The fault that an error in opening a file is: a file that is no database is no store.
@@ -48,7 +48,7 @@ fn records_of<S: Alter + Drop>(
     first: FirstNumber,
 ) -> Result<Store<S>, StoreFault>
     requires autocommit { (connection_of opening).in_transaction ≡ false }
-    ensures { (kept : Kept) → IsOpening S.Store kept (Ok opening) → Holds S.Store kept first result }
+    ensures { (kept : Kept) → Gives S.Store kept (Ok opening) → Holds S.Store kept first result }
 {
     let made = match opening {
         Opening::Found(conn) => Store::adopt(conn),

@@ -163,7 +163,7 @@ fn the_plain_report_is_spelled_so(rt: HostRuntime) -> Result<(), Fail> {
 
 #[test]
 fn refused_heads(rt: HostRuntime) -> Result<(), Fail> {
-    static REFUSALS: [(Change, u16, &str); 7] = [
+    const REFUSALS: [(Change, u16, &str); 7] = [
         (("as2-to", "Supplier"), 400, "bad AS2 names"),
         (("AS2-From", ""), 400, "bad AS2 names"),
         (("AS2-Version", "2.0"), 400, "bad AS2-Version"),
@@ -403,7 +403,7 @@ fn last_number(rt: HostRuntime) -> Result<(), Fail> {
 
 #[test]
 fn contents_of_every_size_are_kept(rt: HostRuntime) -> Result<(), Fail> {
-    static SIZES: [(usize, &str); 4] = [
+    const SIZES: [(usize, &str); 4] = [
         (
             0,
             "Received-content-MIC: 2jmj7l5rSw0yVb/vlWAYkK/YBwk=, sha1\r\n",

@@ -23,7 +23,7 @@ const IN_FILE: Case = Case {
     ..PLAIN
 };
 
-static CASES: &[Case] = &[
+const CASES: &[Case] = &[
     // A database without tables is no store.
     Case {
         stores: Stores::Bare,
@@ -94,7 +94,7 @@ fn reply(
 }
 
 // Posts to a station that has one number left, and the replies.
-static LAST: &[(Text, Text)] = &[
+const LAST: &[(Text, Text)] = &[
     (POST, LAST_RECEIPT),
     (
         Text {
