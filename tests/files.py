@@ -39,8 +39,11 @@ class Desk:
         """A post that goes on while we do something else."""
         run = subprocess.Popen(self.words(store), cwd=self.folder, stdin=subprocess.PIPE, stdout=subprocess.PIPE,
                                stderr=subprocess.PIPE)
-        run.stdin.write(self.text(number))
-        run.stdin.close()
+        try:
+            run.stdin.write(self.text(number))
+            run.stdin.close()
+        except BrokenPipeError:  # it has ended without reading
+            pass
         return run
 
     def post(self, store, number):
