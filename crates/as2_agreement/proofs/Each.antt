@@ -33,8 +33,8 @@ module _ {X : Type 0} (one : List X → Data → Read X) (Says : Members → X �
       ap (λ (l : List (List ℕ)). base ++ l) (map-append name before (x ∷ others)) ∙ sym (append_assoc base (map name before) (name x ∷ map name others))
 
   -- what a reading of one entry gives
-  abbrev pub Reads : Type 0
-  Reads = (before : List X) (d : Data) (x : X) → one before d ≡ Ok x
+  abbrev pub EachRead : Type 0
+  EachRead = (before : List X) (d : Data) (x : X) → one before d ≡ Ok x
       → ((entry : Members) × (d ≡ table entry) × Says entry x) × Good x × (list_any (bytes_eq (name x)) (taken before) ≡ false)
 
   -- what gives a reading of one entry
@@ -50,7 +50,7 @@ module _ {X : Type 0} (one : List X → Data → Read X) (Says : Members → X �
     pub distinct : IsDistinct bytes_eq (taken xs)
     pub len : length new ≡ items_len entries
 
-  pub each_read : Reads → (before : List X) (entries : Items) (xs : List X) → each one before entries ≡ Ok xs → IsDistinct bytes_eq (taken before) → AreRead before entries xs
+  pub each_read : EachRead → (before : List X) (entries : Items) (xs : List X) → each one before entries ≡ Ok xs → IsDistinct bytes_eq (taken before) → AreRead before entries xs
   each_read reads before no_items xs e d =
       let same : before ≡ xs = cc in
       record { new = []; whole = sym same ∙ sym (append-nil before); says = tt; good = tt; distinct = rw (← same) d; len = refl }

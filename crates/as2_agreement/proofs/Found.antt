@@ -20,7 +20,7 @@ use Rattle.as2_agreement.specs.Partners.{SaysOrganization, SaysPartner, IsPartne
 use Rattle.as2_agreement.specs.Values.{value_at, HasText, IsAddress}
 use Rattle.as2_agreement.specs.Reading.{Read, ◌>>=◌, present, of_kind, text, agreed_address, items_len, few, entries, each, domain, return_url_in, organization, organizations, partner, partners, agreements, document_in, reading, OrMemory, GivesOrMemory}
 use Rattle.as2_agreement.proofs.Each.{each_read, each_again}
-use Rattle.as2_agreement.proofs.Keyed.{bound, guarded, refused, present_ok, of_kind_ok, as_array_ok, str_ok, text_ok, domain_of_ok, domain_of_again, address_ok, address_in_again}
+use Rattle.as2_agreement.proofs.Keyed.{bound, guarded, not_faulty, present_ok, of_kind_ok, as_array_ok, str_ok, text_ok, domain_of_ok, domain_of_again, address_ok, address_in_again}
 use Rattle.as2_agreement.proofs.Members.{organization_name, partner_name, IsOrganization, organization_reads, organization_again, partner_reads, partner_again}
 
 -- ---- arrays
@@ -190,7 +190,7 @@ agreements_made document a e =
     let (r, return_url_read, e2) = bound (return_url_in (value_at key.ReturnUrl document)) _ a e1 in
     let (os, organizations_read, e3) = bound (organizations document) _ a e2 in
     let (ps, partners_read, e4) = bound (partners os document) _ a e3 in
-    let g = refused (wants_return ps && is_none r) _ (record { domain = d; return_url = r; organizations = os; partners = ps }) a e4 in
+    let g = not_faulty (wants_return ps && is_none r) _ (record { domain = d; return_url = r; organizations = os; partners = ps }) a e4 in
     subst (AreMade document) g.1 (record { domain_read = domain_read; return_url_read = return_url_read; organizations_read = organizations_read; partners_read = partners_read; returns = g.0 })
 
 -- a fault of the partners is the one of the document

@@ -40,9 +40,9 @@ pub guarded : {A : Type 0} (t : Bool) (f : AgreementFault) (x y : A) → cond {A
 guarded true f x y e = (refl, cc)
 guarded false f x y e = absurd cc
 
-pub refused : {A : Type 0} (t : Bool) (f : AgreementFault) (x y : A) → cond {A = Read A} t (Err f) (Ok x) ≡ Ok y → (t ≡ false) × (x ≡ y)
-refused true f x y e = absurd cc
-refused false f x y e = (refl, cc)
+pub not_faulty : {A : Type 0} (t : Bool) (f : AgreementFault) (x y : A) → cond {A = Read A} t (Err f) (Ok x) ≡ Ok y → (t ≡ false) × (x ≡ y)
+not_faulty true f x y e = absurd cc
+not_faulty false f x y e = (refl, cc)
 
 pub present_ok : (k : Key) (v : Option Data) (d : Data) → present k v ≡ Ok d → v ≡ Some d
 present_ok k None d e = absurd cc
@@ -260,7 +260,7 @@ name_ok taken entry n e =
     let (m, read, is_free) = bound (text key.Name entry >>= (λ t. readable_name (plain t))) (free taken) n e in
     let (t, here, named_) = bound (text key.Name entry) (λ t. readable_name (plain t)) m read in
     let p = plain_ok t m (name_in_ok (plain t) m named_) in
-    let f = refused (list_any (bytes_eq m) taken) _ m n is_free in
+    let f = not_faulty (list_any (bytes_eq m) taken) _ m n is_free in
     rw (← f.1) (text_ok key.Name entry t here ∙ ap (λ (x : List ℕ). Some (string x)) p.0, p.1, f.0)
 
 pub name_again : (taken : List (List ℕ)) (entry : Members) (n : List ℕ) → HasText entry key.Name n → IsName n → list_any (bytes_eq n) taken ≡ false

@@ -11,7 +11,7 @@ use Rattle.as2_agreement.specs.declared.partner.Partner.{Partner}
 use Rattle.as2_agreement.specs.Agreements.{names}
 use Rattle.as2_agreement.specs.Partners.{SaysOrganization, SaysPartner, IsPartner, tries_limit, seconds_limit}
 use Rattle.as2_agreement.specs.Reading.{of_kind, agreed_name, url, agreed_receipt, agreed_digest, content_type, count, organization, partner}
-use Rattle.as2_agreement.proofs.Each.{Reads, Again}
+use Rattle.as2_agreement.proofs.Each.{EachRead, Again}
 use Rattle.as2_agreement.proofs.Keyed.{same_ok, bound, of_kind_ok, as_table_ok, name_ok, name_again, url_ok, url_again, receipt_ok, receipt_again, digest_ok, digest_again, content_type_ok, content_type_in_again, count_ok, count_again}
 
 abbrev pub organization_name : Organization → List ℕ
@@ -27,7 +27,7 @@ IsOrganization o = IsName o.name
 pub names_alone : (os : List Organization) → names os [] ≡ [] ++ map organization_name os
 names_alone os = append-nil (map organization_name os)
 
-pub organization_reads : Reads organization SaysOrganization IsOrganization organization_name []
+pub organization_reads : EachRead organization SaysOrganization IsOrganization organization_name []
 organization_reads before d o e =
     let (entry, kind, read) = bound (of_kind key.Organization (as_table d)) _ o e in
     let (n, named, made) = bound (agreed_name (names before []) entry) _ o read in
@@ -42,7 +42,7 @@ organization_again before entry o says good absent =
     rw named refl
 
 module _ (os : List Organization) where
-  pub partner_reads : Reads (partner os) SaysPartner IsPartner partner_name (map organization_name os)
+  pub partner_reads : EachRead (partner os) SaysPartner IsPartner partner_name (map organization_name os)
   partner_reads before d p e =
       let (entry, kind, r0) = bound (of_kind key.Partner (as_table d)) _ p e in
       let (n, named, r1) = bound (agreed_name (names os before) entry) _ p r0 in

@@ -1,4 +1,6 @@
 mod Given
+mod Opening
+mod HandedBack
 mod StreamEnds
 mod Numbers
 mod Ranges

@@ -1,8 +1,8 @@
 -- What is said of the end of a stream.
-use Rattle.std.proofs.Common.{◌≡◌, ℕ, List, refl}
+use Rattle.std.proofs.Common.{◌≡◌, ℕ, List, refl, arith}
 use Rattle.as2_desk.specs.Refusals.{end_line, error_line}
 use Rattle.as2_desk.specs.Runs.{Ends}
-use Rattle.as2_desk.specs.Statuses.{refused, exit_status}
+use Rattle.as2_desk.specs.Statuses.{done, failed, refused, exit_status}
 use Rattle.as2_desk.specs.declared.first_request.Served.{Served}
 use Rattle.as2_desk.specs.declared.first_request.Served.TheVariants.{Closed, Truncated, BadFraming, ReadFault, WriteFault, Memory, TooLong}
 use Rattle.as2_desk.specs.declared.refusal.CommandFault.TheVariants.{Stream}
@@ -18,3 +18,19 @@ told_end ReadFault Said ran other e = e
 told_end WriteFault Said ran other e = e
 told_end Memory Said ran other e = e
 told_end TooLong Said ran other e = e
+
+done_is_not_failed : done ≡ failed → ⊥
+done_is_not_failed is = omega arith
+
+refused_is_not_failed : refused ≡ failed → ⊥
+refused_is_not_failed is = omega arith
+
+-- no end of a stream is a fault of the store
+pub no_end_failed : (end : Served) → exit_status end ≡ failed → ⊥
+no_end_failed Closed is = done_is_not_failed is
+no_end_failed Truncated is = refused_is_not_failed is
+no_end_failed BadFraming is = refused_is_not_failed is
+no_end_failed ReadFault is = refused_is_not_failed is
+no_end_failed WriteFault is = refused_is_not_failed is
+no_end_failed Memory is = refused_is_not_failed is
+no_end_failed TooLong is = refused_is_not_failed is

@@ -28,10 +28,10 @@ answered A moment r old new a taken clean s rests =
     )
 
 -- the store failed, and its head didn't decide
-pub failed : {H : Type 0} (A : AgreedValues) (moment : ℕ) (r : Request) (old new : Connected) (before after : H) (f : StoreFault)
+pub store_failed : {H : Type 0} (A : AgreedValues) (moment : ℕ) (r : Request) (old new : Connected) (before after : H) (f : StoreFault)
     → TakesEvent A (post_event r moment) Http old new (Err f) → TakesHead A (post_event r moment) (λ (a : HttpAnswer). a) before after (Err f)
     → HasCleanDisk new → (s : State) → Rests old s → (t : State) × Rests new t × Takes A moment s r (Failed f) (IsSafe new) t
-failed A moment r old new before after f taken head clean s rests =
+store_failed A moment r old new before after f taken head clean s rests =
     let fault = taken.does.failed clean s rests tt in (
       s,
       fault.0,

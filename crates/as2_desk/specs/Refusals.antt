@@ -9,6 +9,8 @@ use Rattle.as2_desk.specs.Statuses.{end_name, failed, refused}
 use Rattle.as2_desk.specs.declared.first_request.Served.{Served}
 use Rattle.as2_desk.specs.declared.first_request.Served.TheVariants as end
 use Rattle.as2_desk.specs.declared.refusal.CommandFault.{CommandFault}
+use Rattle.as2_desk.specs.declared.stores.OpenFault.{OpenFault}
+use Rattle.as2_desk.specs.declared.stores.OpenFault.TheVariants.{Held, Store}
 use Rattle.as2_desk.specs.declared.refusal.CommandFault.TheVariants as refusal
 
 -- `refused: NAME`
@@ -31,9 +33,10 @@ store_fault_name store_fault.Full = codes "Full"
 store_fault_name store_fault.NotAStore = codes "NotAStore"
 store_fault_name store_fault.OtherVersion = codes "OtherVersion"
 
--- `store: NAME`
-abbrev pub store_line : StoreFault → List ℕ
-store_line fault = codes "store: " ++ (store_fault_name fault ++ codes "\n")
+-- `store: NAME`, and behind it what may help
+abbrev pub store_lines : OpenFault → List ℕ
+store_lines Held = codes "store: Refused\nhint: another process has the file open\n"
+store_lines (Store fault) = codes "store: " ++ (store_fault_name fault ++ codes "\n")
 
 -- the line of a refusal
 abbrev pub error_line : CommandFault → List ℕ
@@ -41,7 +44,7 @@ error_line refusal.CannotRead = refused_line (codes "CannotRead")
 error_line refusal.CannotWrite = refused_line (codes "CannotWrite")
 error_line refusal.Memory = refused_line (codes "Memory")
 error_line (refusal.Agreements fault) = agreements_line fault
-error_line (refusal.Store fault) = store_line fault
+error_line (refusal.Store fault) = store_lines fault
 error_line (refusal.Stream ended) = refused_line (end_name ended)
 
 -- the exit status that goes with it

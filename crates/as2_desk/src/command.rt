@@ -57,13 +57,13 @@ Example:
 pub(crate) fn command<'a>(alloc: Global) -> Result<Command<'a>, AllocError>
     ensures { IfOk result (λ c. app_of c ≡ command_line) }
 {
-    let agreements = needed(
+    let agreements = required_option(
         alloc,
         AGREEMENTS,
         "FILE",
         "Agreements, a TOML file: the station's names, its partners and their terms",
     );
-    let store = needed(
+    let store = required_option(
         alloc,
         STORE,
         "FILE",
@@ -103,7 +103,7 @@ fn option<'a>(alloc: Global, name: &'a str, value: &'a str, help: &'a str) -> Ar
 }
 
 /// An option that must be there.
-fn needed<'a>(alloc: Global, name: &'a str, value: &'a str, help: &'a str) -> Arg<'a>
+fn required_option<'a>(alloc: Global, name: &'a str, value: &'a str, help: &'a str) -> Arg<'a>
     ensures rule { rule_of result ≡ required_option name.entry.now }
     ensures local { result.global ≡ false }
 {

@@ -1,17 +1,19 @@
 //! A command line, run.
-ghost use Rattle.std.specs.Prelude.{◌≡◌, ◌≢◌, ◌⊎◌, ℕ, List, [], true, IfErr, IfOk};
+ghost use Rattle.std.specs.Prelude.{◌≡◌, ◌≢◌, ◌⊎◌, ℕ, List, [], None, option_map, true, IfErr, IfOk, IfSome, IsSome};
 ghost use Rattle.std.specs.Io.KnownBytes.{Appends};
 ghost use Rattle.clap.specs.Walk.{texts};
 ghost use Rattle.clap.specs.Words.{HasKind, app_of, found_of, kind_of, rows_of, subcommand_name_of};
 ghost use Rattle.clap.specs.declared.error.kind.ErrorKind.TheVariants.{OutOfMemory, ValueValidation};
+ghost use Rattle.sqlite.specs.Held.{state};
+ghost use Rattle.as2_store.specs.Stands.{Rests};
 ghost use Rattle.as2_desk.specs.CommandLine.{AsksForHelp, IsHelp, command_in, command_line, faults, option_values};
 ghost use Rattle.as2_desk.specs.Options.{Gives, GivesNone};
 ghost use Rattle.as2_desk.specs.Refusals.{end_line};
-ghost use Rattle.as2_desk.specs.Runs.{Comes, Counts, Ends, Fails, Posts, EndsRefused, Runs, Stopped};
+ghost use Rattle.as2_desk.specs.Runs.{Comes, Counts, Ends, Fails, HandsBack, Posts, EndsRefused, Runs, Stopped};
 ghost use Rattle.as2_desk.specs.Statuses.{done, failed, faulty, refused, exit_status};
 ghost use Rattle.as2_desk.specs.Stores.{Holds, Kept, kept_at, stands_for};
 ghost use Rattle.as2_desk.specs.declared.options.Task.{Task as TheTask};
-ghost use Rattle.as2_exchange.specs.declared.fault.StoreFault.{StoreFault as TheFault};
+ghost use Rattle.as2_desk.specs.declared.stores.OpenFault.{OpenFault as TheFault};
 ghost use Rattle.as2_desk.specs.declared.refusal.CommandFault.TheVariants.{Memory, Store as Failing};
 
 use crate::agreed::agreements_in;
@@ -20,62 +22,65 @@ use crate::command::command;
 use crate::files::ReadFiles;
 use crate::first_request::{Served, first_post};
 use crate::options::{OptionFault, Options, Posting, Task};
-use crate::refusal::{CommandFault, is_said, status_of};
+use crate::refusal::{CommandFault, is_said, refusal_status};
 use crate::status::{DONE, FAULTY, Ran};
-use crate::stores::{OpenStores, records_in, records_in_memory};
+use crate::stores::{OpenFault, OpenStores, records_in, records_in_memory};
 use as2_agreement::Agreements;
-use as2_exchange::StoreFault;
 use as2_station::Station;
 use as2_store::Store;
 use clap::error::ErrorKind;
 use clap::{ArgMatches, Command, Error};
-use sqlite::Alter;
+use sqlite::{Alter, Connection};
 use std::alloc::{AllocError, Global};
 use std::io::{Read, Write};
 
 /// Runs the command line `words`, which begin with the program's name. `clock` is the moment where the options give
 /// none, in seconds since 1970, if it can be told. The agreements are read from `files`; a store is opened from `stores`,
 /// or in memory where its path is `:memory:`. What the command has to say goes to `output`; why something was refused or
-/// is faulty, to `errors`.
-pub fn run<F: ReadFiles, O: OpenStores, R: Read, W: Write, E: Write>(
+/// is faulty, to `errors`. A store that was opened from `stores` is handed back with its path, for the caller to close.
+pub fn run<'a, F: ReadFiles, O: OpenStores, R: Read, W: Write, E: Write>(
     alloc: Global,
-    words: &[&str],
+    words: &'a [&'a str],
     clock: Option<u64>,
     files: &F,
     stores: &O,
     input: &mut R,
     output: &mut W,
     errors: &mut E,
-) -> Ran
-    ensures status { (result.status ≡ done) ⊎ ((result.status ≡ refused) ⊎ ((result.status ≡ faulty) ⊎ (result.status ≡ failed))) }
+) -> (Ran, Option<(&'a str, Connection<O::Kind>)>)
+    ensures status { (result.0.status ≡ done) ⊎ ((result.0.status ≡ refused) ⊎ ((result.0.status ≡ faulty) ⊎ (result.0.status ≡ failed))) }
     // Words that ask for something are no faulty command line.
-    ensures given { (path store : List ℕ) (task : TheTask) → Gives (texts words.entry.now) clock path store task → result.status ≢ faulty }
+    ensures given { (path store : List ℕ) (task : TheTask) → Gives (texts words.entry.now) clock path store task → result.0.status ≢ faulty }
     // It is done over the agreements and the store that they name, or the refusal is told that stands in their place; where
     // memory for the words was wanting nothing is read or written.
     ensures runs { (path store : List ℕ) (task : TheTask)
         → Gives (texts words.entry.now) clock path store task
         → Runs (F.content files.now path) (kept_at store (O.kept stores.now store)) task
         (R.remaining input.old) (R.remaining input.new) (input.new ≡ input.old) (output.new ≡ output.old)
-        (Appends (W.contents output.old) (W.contents output.new)) (Appends (E.contents errors.old) (E.contents errors.new)) result
+        (λ t. IfSome result.1 (λ l. Rests (state O.Kind.Store l.1) t))
+        (Appends (W.contents output.old) (W.contents output.new)) (Appends (E.contents errors.old) (E.contents errors.new)) result.0
         ⊎ ((input.new ≡ input.old) × (output.new ≡ output.old)
-        × EndsRefused Memory (Appends (E.contents errors.old) (E.contents errors.new)) result) }
-    // Words that ask for nothing run nothing.
-    ensures unread { GivesNone (texts words.entry.now) clock → input.new ≡ input.old }
+        × EndsRefused Memory (Appends (E.contents errors.old) (E.contents errors.new)) result.0) }
+    // A store that was opened for the post is handed back, with its path.
+    ensures handed { (path store : List ℕ) (task : TheTask) → Gives (texts words.entry.now) clock path store task
+        → HandsBack store (input.new ≡ input.old) (option_map (λ l. l.0.now) result.1) }
+    // Words that ask for nothing run nothing, and open nothing.
+    ensures unread { GivesNone (texts words.entry.now) clock → (input.new ≡ input.old) × (result.1 ≡ None) }
     // They are faulty, unless they ask for the help or the version; memory may be wanting to say so.
     ensures none { GivesNone (texts words.entry.now) clock → ¬ AsksForHelp (texts words.entry.now)
-        → ((result.status ≡ faulty) ⊎ (result.status ≡ refused)) × (output.new ≡ output.old) }
+        → ((result.0.status ≡ faulty) ⊎ (result.0.status ≡ refused)) × (output.new ≡ output.old) }
     // A faulty command line reads and writes nothing.
-    ensures untouched { result.status ≡ faulty → (input.new ≡ input.old) × (output.new ≡ output.old) }
+    ensures untouched { result.0.status ≡ faulty → (input.new ≡ input.old) × (output.new ≡ output.old) }
     // Neither does a store with a fault, and that is told.
-    ensures store { result.status ≡ failed → Stopped (input.new ≡ input.old) (output.new ≡ output.old)
-        (Appends (E.contents errors.old) (E.contents errors.new)) result }
+    ensures store { result.0.status ≡ failed → Stopped (input.new ≡ input.old) (output.new ≡ output.old)
+        (Appends (E.contents errors.old) (E.contents errors.new)) result.0 }
 {
     match options(alloc, words, clock) {
         Ok(options) => {
             let agreed = agreements_in(alloc, files, options.agreements);
             carry_out(alloc, &options, agreed, stores, input, output, errors)
         }
-        Err(error) => tell(alloc, &error, output, errors),
+        Err(error) => (tell(alloc, &error, output, errors), None),
     }
 }
 
@@ -121,36 +126,88 @@ fn explained(
 }
 
 /// Does what is asked for, where there are agreements to do it over.
-fn carry_out<O: OpenStores, R: Read, W: Write, E: Write>(
+fn carry_out<'a, O: OpenStores, R: Read, W: Write, E: Write>(
     alloc: Global,
-    options: &Options<'_>,
+    options: &Options<'a>,
     agreed: Result<Agreements, CommandFault>,
     stores: &O,
     input: &mut R,
     output: &mut W,
     errors: &mut E,
-) -> Ran
-    ensures status { (result.status ≡ done) ⊎ ((result.status ≡ refused) ⊎ (result.status ≡ failed)) }
+) -> (Ran, Option<(&'a str, Connection<O::Kind>)>)
+    ensures status { (result.0.status ≡ done) ⊎ ((result.0.status ≡ refused) ⊎ (result.0.status ≡ failed)) }
     ensures comes { Comes agreed (kept_at options.now.store.now (O.kept stores.now options.now.store.now)) options.now.task
         (R.remaining input.old) (R.remaining input.new) (input.new ≡ input.old) (output.new ≡ output.old)
-        (Appends (W.contents output.old) (W.contents output.new)) (Appends (E.contents errors.old) (E.contents errors.new)) result }
-    ensures store { result.status ≡ failed → Stopped (input.new ≡ input.old) (output.new ≡ output.old)
-        (Appends (E.contents errors.old) (E.contents errors.new)) result }
+        (λ t. IfSome result.1 (λ l. Rests (state O.Kind.Store l.1) t))
+        (Appends (W.contents output.old) (W.contents output.new)) (Appends (E.contents errors.old) (E.contents errors.new)) result.0 }
+    ensures store { result.0.status ≡ failed → Stopped (input.new ≡ input.old) (output.new ≡ output.old)
+        (Appends (E.contents errors.old) (E.contents errors.new)) result.0 }
+    ensures handed { HandsBack options.now.store.now (input.new ≡ input.old) (option_map (λ l. l.0.now) result.1) }
 {
     let agreements = match agreed {
         Ok(agreements) => agreements,
-        Err(refusal) => return refuse(refusal, errors),
+        Err(refusal) => return (refuse(refusal, errors), None),
     };
     match options.task {
-        Task::Check => check(&agreements, output, errors),
-        Task::Post(posting) if options.store == ":memory:" => {
-            let records = records_in_memory(alloc, posting.first);
-            post(alloc, &agreements, posting, records, input, output, errors)
-        }
+        Task::Check => (check(&agreements, output, errors), None),
         Task::Post(posting) => {
-            let records = records_in(alloc, stores, options.store, posting.first);
-            post(alloc, &agreements, posting, records, input, output, errors)
+            let path = options.store;
+            post_over(
+                alloc,
+                &agreements,
+                posting,
+                path,
+                stores,
+                input,
+                output,
+                errors,
+            )
         }
+    }
+}
+
+/// Answers the first post of the input over the store of that path, and hands the store back.
+fn post_over<'a, O: OpenStores, R: Read, W: Write, E: Write>(
+    alloc: Global,
+    agreements: &Agreements,
+    posting: Posting,
+    path: &'a str,
+    stores: &O,
+    input: &mut R,
+    output: &mut W,
+    errors: &mut E,
+) -> (Ran, Option<(&'a str, Connection<O::Kind>)>)
+    ensures status { (result.0.status ≡ done) ⊎ ((result.0.status ≡ refused) ⊎ (result.0.status ≡ failed)) }
+    ensures posts { ((input.new ≡ input.old) × (output.new ≡ output.old)
+        × Fails (kept_at path.now (O.kept stores.now path.now)) (Appends (E.contents errors.old) (E.contents errors.new)) result.0)
+        ⊎ Posts agreements.now posting.moment (stands_for (kept_at path.now (O.kept stores.now path.now)) posting.first)
+        (R.remaining input.old) (R.remaining input.new) (λ t. IfSome result.1 (λ l. Rests (state O.Kind.Store l.1) t))
+        (Appends (W.contents output.old) (W.contents output.new)) (Appends (E.contents errors.old) (E.contents errors.new)) result.0 }
+    ensures store { result.0.status ≡ failed → Stopped (input.new ≡ input.old) (output.new ≡ output.old)
+        (Appends (E.contents errors.old) (E.contents errors.new)) result.0 }
+    ensures handed { HandsBack path.now (input.new ≡ input.old) (option_map (λ l. l.0.now) result.1) }
+{
+    if path == ":memory:" {
+        let records = records_in_memory(alloc, posting.first);
+        let (ran, _) = post(alloc, agreements, posting, records, input, output, errors);
+        return (ran, None);
+    }
+    let records = records_in(alloc, stores, path, posting.first);
+    let (ran, conn) = post(alloc, agreements, posting, records, input, output, errors);
+    (ran, under(path, conn))
+}
+
+/// The connection with the path of its store.
+fn under<'a, S: Alter + Drop>(
+    path: &'a str,
+    conn: Option<Connection<S>>,
+) -> Option<(&'a str, Connection<S>)>
+    ensures path { option_map (λ l. l.0.now) result ≡ option_map (λ _. path.now) conn }
+    ensures conn { option_map (λ l. l.1) result ≡ conn }
+{
+    match conn {
+        Some(conn) => Some((path, conn)),
+        None => None,
     }
 }
 
@@ -169,24 +226,26 @@ fn check<W: Write, E: Write>(agreements: &Agreements, output: &mut W, errors: &m
     }
 }
 
-/// Answers the first post of the input, where there are records to answer it from.
+/// Answers the first post of the input, where there are records to answer it from, and gives their connection back.
 fn post<S: Alter + Drop, R: Read, W: Write, E: Write>(
     alloc: Global,
     agreements: &Agreements,
     posting: Posting,
-    records: Result<Store<S>, StoreFault>,
+    records: Result<Store<S>, OpenFault>,
     input: &mut R,
     output: &mut W,
     errors: &mut E,
-) -> Ran
-    ensures status { (result.status ≡ done) ⊎ ((result.status ≡ refused) ⊎ (result.status ≡ failed)) }
+) -> (Ran, Option<Connection<S>>)
+    ensures status { (result.0.status ≡ done) ⊎ ((result.0.status ≡ refused) ⊎ (result.0.status ≡ failed)) }
     ensures posts { (kept : Kept) → Holds S.Store kept posting.first records
         → ((input.new ≡ input.old) × (output.new ≡ output.old)
-        × Fails kept posting.first (Appends (E.contents errors.old) (E.contents errors.new)) result)
+        × Fails kept (Appends (E.contents errors.old) (E.contents errors.new)) result.0)
         ⊎ Posts agreements.now posting.moment (stands_for kept posting.first) (R.remaining input.old) (R.remaining input.new)
-        (Appends (W.contents output.old) (W.contents output.new)) (Appends (E.contents errors.old) (E.contents errors.new)) result }
-    ensures store { result.status ≡ failed → Stopped (input.new ≡ input.old) (output.new ≡ output.old)
-        (Appends (E.contents errors.old) (E.contents errors.new)) result }
+        (λ t. IfSome result.1 (λ conn. Rests (state S.Store conn) t))
+        (Appends (W.contents output.old) (W.contents output.new)) (Appends (E.contents errors.old) (E.contents errors.new)) result.0 }
+    ensures store { result.0.status ≡ failed → Stopped (input.new ≡ input.old) (output.new ≡ output.old)
+        (Appends (E.contents errors.old) (E.contents errors.new)) result.0 }
+    ensures handed { (input.new ≡ input.old) ⊎ IsSome result.1 }
 {
     match records {
         Ok(store) => {
@@ -199,9 +258,10 @@ fn post<S: Alter + Drop, R: Read, W: Write, E: Write>(
                 input,
                 output,
             );
-            tell_end(end, errors)
+            let conn = station.into_store().into_connection();
+            (tell_end(end, errors), Some(conn))
         }
-        Err(fault) => refuse(CommandFault::Store(fault), errors),
+        Err(fault) => (refuse(CommandFault::Store(fault), errors), None),
     }
 }
 
@@ -225,7 +285,7 @@ fn refuse<E: Write>(refusal: CommandFault, errors: &mut E) -> Ran
     ensures store { result.status ≡ failed → (fault : TheFault) × (refusal ≡ Failing fault) }
 {
     Ran {
-        status: status_of(refusal),
+        status: refusal_status(refusal),
         told: is_said(refusal, errors),
     }
 }

@@ -8,7 +8,7 @@ use std::marker::Model;
 
 /// The first number of a store that is made: 1 to 999,999,999,999.
 #[derive(Clone, Copy)]
-pub(crate) struct FirstNumber {
+pub struct FirstNumber {
     number: u64,
 }
 
@@ -27,7 +27,7 @@ impl Model for FirstNumber {
 
 impl FirstNumber {
     /// None for a number that no entry has.
-    pub(crate) fn new(number: u64) -> Option<FirstNumber>
+    pub fn new(number: u64) -> Option<FirstNumber>
         ensures { result ≡ first_number number }
     {
         if 1 <= number && number < END_OF_NUMBERS {
@@ -38,7 +38,7 @@ impl FirstNumber {
     }
 
     /// The number.
-    pub(crate) fn get(self) -> u64
+    pub fn get(self) -> u64
         ensures value { result ≡ self }
         ensures least { 1 ≤ result }
         ensures most { result < end_of_numbers }

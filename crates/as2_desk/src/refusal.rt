@@ -1,10 +1,11 @@
 //! Why something was refused, in one line on standard error.
 ghost use Rattle.std.specs.Prelude.{◌≡◌, OnOk, true};
 ghost use Rattle.std.specs.Io.KnownBytes.{Appends};
-ghost use Rattle.as2_desk.specs.Refusals.{agreements_line, error_line, refusal_status, refused_line, store_fault_name, store_line};
+ghost use Rattle.as2_desk.specs.Refusals.{agreements_line, error_line, refusal_status, refused_line, store_fault_name, store_lines};
 
 use crate::first_request::Served;
 use crate::status::{FAILED, REFUSED, end_name};
+use crate::stores::OpenFault;
 use as2_agreement::AgreementFault;
 use as2_exchange::StoreFault;
 use std::io;
@@ -21,14 +22,14 @@ pub(crate) enum CommandFault {
     Memory,
     /// The agreements have a fault.
     Agreements(AgreementFault),
-    /// The store has a fault.
-    Store(StoreFault),
+    /// No store is open.
+    Store(OpenFault),
     /// A stream came to another end than `Closed`.
     Stream(Served),
 }
 
 /// The exit status that goes with a refusal.
-pub(crate) fn status_of(refusal: CommandFault) -> u8
+pub(crate) fn refusal_status(refusal: CommandFault) -> u8
     ensures { result ≡ refusal_status refusal }
 {
     match refusal {
@@ -69,12 +70,20 @@ fn say_agreements<E: Write>(fault: AgreementFault, errors: &mut E) -> io::Result
     }
 }
 
-/// Writes `store: NAME`.
-fn say_store<E: Write>(fault: StoreFault, errors: &mut E) -> io::Result<()>
-    ensures { OnOk result (Appends (E.contents errors.old) (E.contents errors.new) (store_line fault)) }
+/// Writes `store: NAME`, and behind it what may help.
+fn say_store<E: Write>(fault: OpenFault, errors: &mut E) -> io::Result<()>
+    ensures { OnOk result (Appends (E.contents errors.old) (E.contents errors.new) (store_lines fault)) }
 {
-    let name = store_fault_name(fault);
-    write!(errors, "store: {name}\n")
+    match fault {
+        OpenFault::Held => write!(
+            errors,
+            "store: Refused\nhint: another process has the file open\n"
+        ),
+        OpenFault::Store(fault) => {
+            let name = store_fault_name(fault);
+            write!(errors, "store: {name}\n")
+        }
+    }
 }
 
 /// Writes the line of a refusal.

@@ -19,17 +19,17 @@ use Rattle.as2_exchange.specs.Posts.{IsDocument, IsReceipt, ReceivedReceipt, rea
 
 -- ---- the agreements
 
-abbrev pub partner : Text → Text → Asked → Partner
-partner name url asked = record { name = name; url = url; receipt = asked; digest = Sha1; content_type = codes "application/edi-x12"; max_tries = 2; retry_seconds = 30; overdue_seconds = 60 }
+abbrev pub partner_at : Text → Text → Asked → Partner
+partner_at name url asked = record { name = name; url = url; receipt = asked; digest = Sha1; content_type = codes "application/edi-x12"; max_tries = 2; retry_seconds = 30; overdue_seconds = 60 }
 
 abbrev pub buyer : Partner
-buyer = partner (codes "Buyer") (codes "http://127.0.0.1:8081/as2") Sync
+buyer = partner_at (codes "Buyer") (codes "http://127.0.0.1:8081/as2") Sync
 
 abbrev pub depot : Partner
-depot = partner (codes "Depot") (codes "http://127.0.0.1:8082/as2") Async
+depot = partner_at (codes "Depot") (codes "http://127.0.0.1:8082/as2") Async
 
 abbrev pub quiet : Partner
-quiet = partner (codes "A \"B\" \\ C") (codes "http://127.0.0.1:8083/as2") NoReceipt
+quiet = partner_at (codes "A \"B\" \\ C") (codes "http://127.0.0.1:8083/as2") NoReceipt
 
 abbrev pub fixture : Agreements
 fixture = record {
@@ -189,10 +189,10 @@ unfolding post_head reading names_of version_fits type_of is_report id_of ask_of
 p2_posted = ap (λ (text : Text). IsDocument (document_of (codes "Buyer") (codes "<m2@x>") abc SyncReceipt text)) sha1_mic
 
 -- the receipt is to come later, to an address
-abbrev pub return_field : Head
-return_field = (codes "receipt-delivery-option", codes "http://127.0.0.1:8082/mdn") ∷ []
+abbrev pub return_head : Head
+return_head = (codes "receipt-delivery-option", codes "http://127.0.0.1:8082/mdn") ∷ []
 
-pub p1_from_depot : reading fixture (post_head (codes "Depot") m1 return_field) abc ≡ IsDocument (document_of (codes "Depot") m1 abc (AsyncReceipt (codes "http://127.0.0.1:8082/mdn")) sha1_text)
+pub p1_from_depot : reading fixture (post_head (codes "Depot") m1 return_head) abc ≡ IsDocument (document_of (codes "Depot") m1 abc (AsyncReceipt (codes "http://127.0.0.1:8082/mdn")) sha1_text)
 unfolding post_head reading names_of version_fits type_of is_report id_of ask_of how_of outcome_of encoding_refused mic_for without_blanks between_quotes bare
 p1_from_depot = ap (λ (text : Text). IsDocument (document_of (codes "Depot") m1 abc (AsyncReceipt (codes "http://127.0.0.1:8082/mdn")) text)) sha1_mic
 

@@ -17,7 +17,7 @@ use Rattle.as2_exchange.specs.Tries.{is_early, is_last}
 use Rattle.as2_exchange.specs.History.{Found, Fact, ATry, AnOutcome, is_job, try_in, tries, with_past, first_of, last_of}
 use Rattle.as2_exchange.specs.ReceiptHistory.{delivers, is_delivered, are_used, mdn_after, mdn_attempt, mdn_due}
 use Rattle.as2_exchange.proofs.Decisions.{or_false}
-use Rattle.as2_exchange.proofs.Places.{place, with_past-push, count_by-push}
+use Rattle.as2_exchange.proofs.Places.{found_place, with_past-push, count_by-push}
 use Rattle.as2_exchange.proofs.Entry.{Tried, last_tried, later}
 use Rattle.as2_exchange.proofs.Pushes.{with_fact, has_open, last_tried-push, is_some-last_tried, is_open-last_tried}
 use Rattle.as2_exchange.proofs.Acts.{AreAgreed, agreed_is}
@@ -49,12 +49,12 @@ done_with false true (Some (t, Some o)) = refl
 done_with false false (Some (t, Some o)) = refl
 
 -- as it is queued
-pub queued_owed : (p : Partner) (m : ℕ) (e : InEntry) → e.mdn ≡ Pending → e.tries ≡ 0 → e.attempt ≡ Idle → e.due ≡ Some m → Owed p (place [] m) e
+pub queued_owed : (p : Partner) (m : ℕ) (e : InEntry) → e.mdn ≡ Pending → e.tries ≡ 0 → e.attempt ≡ Idle → e.due ≡ Some m → Owed p (found_place [] m) e
 unfolding with_past last_of first_of
 queued_owed p m e h g f k = record { state = h; count = g; try = f; wait = k }
 
-pub reposted_owed : (p : Partner) (since : Found ℕ Fact) (m : ℕ) (e : InEntry) → is_async e.posted.how ≡ true → Owed p since e → Owed p (if is_delivered since.after || are_used p since.after then place [] m else since) (requeued_by_repeat m e)
-reposted_owed p since m e async h = subst (λ (b : Bool). Owed p (if is_delivered since.after || are_used p since.after then place [] m else since) (if b then queued else e)) (sym same) (by (is_delivered since.after || are_used p since.after))
+pub reposted_owed : (p : Partner) (since : Found ℕ Fact) (m : ℕ) (e : InEntry) → is_async e.posted.how ≡ true → Owed p since e → Owed p (if is_delivered since.after || are_used p since.after then found_place [] m else since) (requeued_by_repeat m e)
+reposted_owed p since m e async h = subst (λ (b : Bool). Owed p (if is_delivered since.after || are_used p since.after then found_place [] m else since) (if b then queued else e)) (sym same) (by (is_delivered since.after || are_used p since.after))
   where
     queued : InEntry
     queued = record e { mdn = Pending; tries = 0; attempt = Idle; due = Some m }
@@ -67,7 +67,7 @@ reposted_owed p since m e async h = subst (λ (b : Bool). Owed p (if is_delivere
         ∙ done_with (is_delivered since.after) (nat_le p.max_tries (tries since.after)) (last_tried since.after)
         ∙ ap (λ (b : Bool). is_delivered since.after || (b && nat_le p.max_tries (tries since.after))) (sym (is_some-last_tried since.after))
 
-    by : (b : Bool) → Owed p (if b then place [] m else since) (if b then queued else e)
+    by : (b : Bool) → Owed p (if b then found_place [] m else since) (if b then queued else e)
     by true = queued_owed p m queued refl refl refl refl
     by false = h
 
@@ -89,7 +89,7 @@ pending_not false x is h = refl
 
 -- one more fact since it was queued
 abbrev pub more : Found ℕ Fact → Fact → Found ℕ Fact
-more since x = place (since.after ++ x ∷ []) since.it
+more since x = found_place (since.after ++ x ∷ []) since.it
 
 tried_owed : (p : Partner) (since : Found ℕ Fact) (m : ℕ) (e : InEntry) → Owed p since e → is_pending e.mdn ≡ true → Owed p (more since (ATry m)) (tried p m e (nat_le p.max_tries (e.tries + 1)))
 tried_owed p since m e h pending =
@@ -112,7 +112,7 @@ begun_if p m e job pending used early =
 
 -- the facts of a receipt's tries, after a BeginMdn that was answered so
 abbrev pub with_try : Found ℕ Fact → ℕ → Answer → Found ℕ Fact
-with_try since m a = place (with_fact since.after (if is_job a then Some (ATry m) else None)) since.it
+with_try since m a = found_place (with_fact since.after (if is_job a then Some (ATry m) else None)) since.it
 
 begun_by : (p : Partner) (since : Found ℕ Fact) (m : ℕ) (e : InEntry) (job : TheJob) (pending used early : Bool) → is_pending e.mdn ≡ pending → Owed p since e → Owed p (with_try since m (begun_if p m e job pending used early).0) (begun_if p m e job pending used early).1
 begun_by p since m e job false used early is h = h

@@ -25,10 +25,10 @@ use Rattle.as2_exchange.specs.ReceiptHistory.{ReceiptFact, APost, OfATry, receip
 use Rattle.as2_exchange.proofs.Decisions.{same_number, number_is, is_some_value, apart_turned}
 use Rattle.as2_exchange.proofs.Finds.{find-map, find_passes, find_none, one_found}
 use Rattle.as2_exchange.proofs.Lists.{fold_last}
-use Rattle.as2_exchange.proofs.Places.{place}
-use Rattle.as2_exchange.proofs.Pushes.{done, with_fact}
+use Rattle.as2_exchange.proofs.Places.{found_place}
+use Rattle.as2_exchange.proofs.Pushes.{answered_event, with_fact}
 use Rattle.as2_exchange.proofs.Acts.{AreAgreed}
-use Rattle.as2_exchange.proofs.Repeats.{Left, fresh, repeated, clash, left_is, entries, Grows, step_grows, find-lasting, key_same, repeats_itself, acted_inbox, settle_inbox, submit_inbox, tick_inbox, queued_lasting, mdn_begun_lasting, mdn_closed_lasting}
+use Rattle.as2_exchange.proofs.Repeats.{RecordedOrSame, fresh, repeated, clash, left_is, recorded_posts, Grows, step_grows, find-lasting, key_same, repeats_itself, acted_inbox, settle_inbox, submit_inbox, tick_inbox, queued_lasting, mdn_begun_lasting, mdn_closed_lasting}
 use Rattle.as2_exchange.proofs.Equal.{repeat_is, key_turned}
 use Rattle.as2_exchange.proofs.States.{step_formed, empty_formed}
 use Rattle.as2_exchange.proofs.Owed.{Owed, more, queued_owed, reposted_owed, with_try, begun_owed, closed_owed, never_begun, never_closed}
@@ -59,13 +59,13 @@ StandsAs Sync p facts e = (e.mdn ≡ Sent) × (e.tries ≡ 0) × (e.attempt ≡ 
 StandsAs (Async url) p facts e = (since : Found ℕ Fact) × (since_queued p facts ≡ Some since) × Owed p since e
 
 -- the entry of this number and document stands as the events tell
-record Stands (A : Agreements) (n : ℕ) (past : List Done) (q : Posted) (e : InEntry) : Type 0 where
+record EntryStands (A : Agreements) (n : ℕ) (past : List Done) (q : Posted) (e : InEntry) : Type 0 where
   partner : Partner
   agreed : AreAgreed A q.receiver q.sender partner
   stands : StandsAs q.how partner (filter_map (receipt_fact A n q) past) e
 
 -- one more event, that leaves the entry so
-stands_on : (A : Agreements) (n : ℕ) (past : List Done) (x : Done) (q : Posted) (e later : InEntry) → Stands A n past q e → ((p : Partner) (facts : List ReceiptFact) → AreAgreed A q.receiver q.sender p → StandsAs q.how p facts e → StandsAs q.how p (with_more facts (receipt_fact A n q x)) later) → Stands A n (past ++ x ∷ []) q later
+stands_on : (A : Agreements) (n : ℕ) (past : List Done) (x : Done) (q : Posted) (e later : InEntry) → EntryStands A n past q e → ((p : Partner) (facts : List ReceiptFact) → AreAgreed A q.receiver q.sender p → StandsAs q.how p facts e → StandsAs q.how p (with_more facts (receipt_fact A n q x)) later) → EntryStands A n (past ++ x ∷ []) q later
 stands_on A n past x q e later h moves = record {
   partner = h.partner;
   agreed = h.agreed;
@@ -73,7 +73,7 @@ stands_on A n past x q e later h moves = record {
 }
 
 -- one more event that is no fact of it
-stands_still : (A : Agreements) (n : ℕ) (past : List Done) (x : Done) (q : Posted) (e : InEntry) → receipt_fact A n q x ≡ None → Stands A n past q e → Stands A n (past ++ x ∷ []) q e
+stands_still : (A : Agreements) (n : ℕ) (past : List Done) (x : Done) (q : Posted) (e : InEntry) → receipt_fact A n q x ≡ None → EntryStands A n past q e → EntryStands A n (past ++ x ∷ []) q e
 stands_still A n past x q e none h = stands_on A n past x q e e h (λ p facts agreed stands. subst (λ (o : Option ReceiptFact). StandsAs q.how p (with_more facts o) e) (sym none) stands)
 
 -- ---- a repeat
@@ -85,7 +85,7 @@ reposted : (how : ReceiptDelivery) (p : Partner) (facts : List ReceiptFact) (m :
 reposted NoReceipt p facts m e is h = subst (StandsAs NoReceipt p (facts ++ APost m ∷ [])) (sym (unqueued m e (ap is_async is))) h
 reposted Sync p facts m e is h = subst (StandsAs Sync p (facts ++ APost m ∷ [])) (sym (unqueued m e (ap is_async is))) h
 reposted (Async url) p facts m e is h = (
-  if is_delivered h.0.after || are_used p h.0.after then place [] m else h.0,
+  if is_delivered h.0.after || are_used p h.0.after then found_place [] m else h.0,
   since-push p facts (APost m) ∙ ap (λ (o : Option (Found ℕ Fact)). queued_by p o (APost m)) h.1,
   reposted_owed p h.0 m e (ap is_async is) h.2,
 )
@@ -99,14 +99,14 @@ begin_fact m a = if is_job a then Some (OfATry (ATry m)) else None
 since_begun : (p : Partner) (facts : List ReceiptFact) (since : Found ℕ Fact) (m : ℕ) (a : Answer) → since_queued p facts ≡ Some since → since_queued p (with_more facts (begin_fact m a)) ≡ Some (with_try since m a)
 since_begun p facts since m a is = by (is_job a)
   where
-    by : (b : Bool) → since_queued p (with_more facts (if b then Some (OfATry (ATry m)) else None)) ≡ Some (place (with_fact since.after (if b then Some (ATry m) else None)) since.it)
+    by : (b : Bool) → since_queued p (with_more facts (if b then Some (OfATry (ATry m)) else None)) ≡ Some (found_place (with_fact since.after (if b then Some (ATry m) else None)) since.it)
     by true = since-push p facts (OfATry (ATry m)) ∙ ap (λ (o : Option (Found ℕ Fact)). queued_by p o (OfATry (ATry m))) is
     by false = is
 
-begun : (A : Agreements) (how : ReceiptDelivery) (p : Partner) (facts : List ReceiptFact) (m : ℕ) (e : InEntry) → AreAgreed A e.posted.receiver e.posted.sender p → StandsAs how p facts e → StandsAs how p (with_more facts (begin_fact m (mdn_begun A m e).0)) (mdn_begun A m e).1
-begun A NoReceipt p facts m e agreed h = subst (StandsAs NoReceipt p (with_more facts (begin_fact m (mdn_begun A m e).0))) (sym (never_begun A p m e agreed (ap is_pending h.0))) h
-begun A Sync p facts m e agreed h = subst (StandsAs Sync p (with_more facts (begin_fact m (mdn_begun A m e).0))) (sym (never_begun A p m e agreed (ap is_pending h.0))) h
-begun A (Async url) p facts m e agreed h = (
+try_begun : (A : Agreements) (how : ReceiptDelivery) (p : Partner) (facts : List ReceiptFact) (m : ℕ) (e : InEntry) → AreAgreed A e.posted.receiver e.posted.sender p → StandsAs how p facts e → StandsAs how p (with_more facts (begin_fact m (mdn_begun A m e).0)) (mdn_begun A m e).1
+try_begun A NoReceipt p facts m e agreed h = subst (StandsAs NoReceipt p (with_more facts (begin_fact m (mdn_begun A m e).0))) (sym (never_begun A p m e agreed (ap is_pending h.0))) h
+try_begun A Sync p facts m e agreed h = subst (StandsAs Sync p (with_more facts (begin_fact m (mdn_begun A m e).0))) (sym (never_begun A p m e agreed (ap is_pending h.0))) h
+try_begun A (Async url) p facts m e agreed h = (
   with_try h.0 m (mdn_begun A m e).0,
   since_begun p facts h.0 m (mdn_begun A m e).0 h.1,
   begun_owed A p h.0 m e agreed h.2,
@@ -114,10 +114,10 @@ begun A (Async url) p facts m e agreed h = (
 
 -- ---- a try ends
 
-closed : (A : Agreements) (how : ReceiptDelivery) (p : Partner) (facts : List ReceiptFact) (got : TryAnswer) (m : ℕ) (e : InEntry) → AreAgreed A e.posted.receiver e.posted.sender p → StandsAs how p facts e → StandsAs how p (facts ++ OfATry (AnOutcome m got) ∷ []) (mdn_closed A got m e).1
-closed A NoReceipt p facts got m e agreed h = subst (StandsAs NoReceipt p (facts ++ OfATry (AnOutcome m got) ∷ [])) (sym (never_closed A p got m e agreed (ap is_pending h.0))) h
-closed A Sync p facts got m e agreed h = subst (StandsAs Sync p (facts ++ OfATry (AnOutcome m got) ∷ [])) (sym (never_closed A p got m e agreed (ap is_pending h.0))) h
-closed A (Async url) p facts got m e agreed h = (
+try_closed : (A : Agreements) (how : ReceiptDelivery) (p : Partner) (facts : List ReceiptFact) (got : TryAnswer) (m : ℕ) (e : InEntry) → AreAgreed A e.posted.receiver e.posted.sender p → StandsAs how p facts e → StandsAs how p (facts ++ OfATry (AnOutcome m got) ∷ []) (mdn_closed A got m e).1
+try_closed A NoReceipt p facts got m e agreed h = subst (StandsAs NoReceipt p (facts ++ OfATry (AnOutcome m got) ∷ [])) (sym (never_closed A p got m e agreed (ap is_pending h.0))) h
+try_closed A Sync p facts got m e agreed h = subst (StandsAs Sync p (facts ++ OfATry (AnOutcome m got) ∷ [])) (sym (never_closed A p got m e agreed (ap is_pending h.0))) h
+try_closed A (Async url) p facts got m e agreed h = (
   more h.0 (AnOutcome m got),
   since-push p facts (OfATry (AnOutcome m got)) ∙ ap (λ (o : Option (Found ℕ Fact)). queued_by p o (OfATry (AnOutcome m got))) h.1,
   closed_owed A p h.0 got m e agreed h.2,
@@ -211,7 +211,7 @@ repeated_is A s q d e n formed found is same =
 
 record KeepsReceipts (A : Agreements) (past : List Done) (s : State) : Type 0 where
   formed : IsWellFormed A s
-  each : (n : ℕ) (e : InEntry) → received s n ≡ Some e → Stands A n past e.posted e
+  each : (n : ℕ) (e : InEntry) → received s n ≡ Some e → EntryStands A n past e.posted e
   unposted : (q : Posted) → received_as s q ≡ None → (n : ℕ) (p : Partner) → since_queued p (filter_map (receipt_fact A n q) past) ≡ None
 
 -- what isn't there wasn't there
@@ -223,7 +223,7 @@ gone_before s s' q grows none = by (received_as s q) refl
 
     here : option_map lasting (received_as s' q) ≡ option_or (option_map lasting (received_as s q)) (find key grows.0)
     here =
-        sym (find-lasting q s'.inbox) ∙ ap (find key) grows.1 ∙ find-append key (entries s) grows.0
+        sym (find-lasting q s'.inbox) ∙ ap (find key) grows.1 ∙ find-append key (recorded_posts s) grows.0
         ∙ ap (λ (o : Option (ℕ × Posted)). option_or o (find key grows.0)) (find-lasting q s.inbox)
 
     by : (o : Option InEntry) → received_as s q ≡ o → o ≡ None
@@ -255,24 +255,24 @@ quiet A past s s' x keeps formed grows same none = record {
 -- ---- a try of one receipt begins or ends
 
 -- the entry that the event acts on, or another one
-acted_entry : (A : Agreements) (past : List Done) (s : State) (k : ℕ) (act : InEntry → Answer × InEntry) (e : Event) (d : InEntry) → KeepsReceipts A past s → ((z : InEntry) → lasting (act z).1 ≡ lasting z) → ((n : ℕ) (q : Posted) (a : Answer) → (k == n) ≡ false → receipt_fact A n q (done e a) ≡ None) → ((z : InEntry) (p : Partner) (facts : List ReceiptFact) → AreAgreed A z.posted.receiver z.posted.sender p → StandsAs z.posted.how p facts z → StandsAs z.posted.how p (with_more facts (receipt_fact A k z.posted (done e (act z).0))) (act z).1) → received s k ≡ Some d → (n : ℕ) (x : InEntry) → received (change_received s k (λ z. (act z).1)) n ≡ Some x → (b : Bool) → (k == n) ≡ b → Stands A n (past ++ done e (act d).0 ∷ []) x.posted x
+acted_entry : (A : Agreements) (past : List Done) (s : State) (k : ℕ) (act : InEntry → Answer × InEntry) (e : Event) (d : InEntry) → KeepsReceipts A past s → ((z : InEntry) → lasting (act z).1 ≡ lasting z) → ((n : ℕ) (q : Posted) (a : Answer) → (k == n) ≡ false → receipt_fact A n q (answered_event e a) ≡ None) → ((z : InEntry) (p : Partner) (facts : List ReceiptFact) → AreAgreed A z.posted.receiver z.posted.sender p → StandsAs z.posted.how p facts z → StandsAs z.posted.how p (with_more facts (receipt_fact A k z.posted (answered_event e (act z).0))) (act z).1) → received s k ≡ Some d → (n : ℕ) (x : InEntry) → received (change_received s k (λ z. (act z).1)) n ≡ Some x → (b : Bool) → (k == n) ≡ b → EntryStands A n (past ++ answered_event e (act d).0 ∷ []) x.posted x
 acted_entry A past s k act e d keeps kept silent moves found n x is false h =
-    stands_still A n past (done e (act d).0) x.posted x (silent n x.posted (act d).0 h)
+    stands_still A n past (answered_event e (act d).0) x.posted x (silent n x.posted (act d).0 h)
     (keeps.each n x (sym (received-changed_other s k (λ z. (act z).1) n kept (apart_turned k n k refl h)) ∙ is))
 acted_entry A past s k act e d keeps kept silent moves found n x is true h =
     let same : k ≡ n = number_is k n h in
     let it : (act d).1 ≡ x = same_Some _ _ (sym (received-changed_same s k (λ z. (act z).1) d kept found) ∙ ap (received (change_received s k (λ z. (act z).1))) same ∙ is) in
     let posted : (act d).1.posted ≡ d.posted = ap (λ (z : ℕ × Posted). z.1) (kept d) in
-    let stood = stands_on A k past (done e (act d).0) d.posted d (act d).1 (keeps.each k d found) (moves d) in
-    let of_it = subst (λ (q : Posted). Stands A k (past ++ done e (act d).0 ∷ []) q (act d).1) (sym posted) stood in
-    let of_x = subst (λ (z : InEntry). Stands A k (past ++ done e (act d).0 ∷ []) z.posted z) it of_it in
-    subst (λ (j : ℕ). Stands A j (past ++ done e (act d).0 ∷ []) x.posted x) same of_x
+    let stood = stands_on A k past (answered_event e (act d).0) d.posted d (act d).1 (keeps.each k d found) (moves d) in
+    let of_it = subst (λ (q : Posted). EntryStands A k (past ++ answered_event e (act d).0 ∷ []) q (act d).1) (sym posted) stood in
+    let of_x = subst (λ (z : InEntry). EntryStands A k (past ++ answered_event e (act d).0 ∷ []) z.posted z) it of_it in
+    subst (λ (j : ℕ). EntryStands A j (past ++ answered_event e (act d).0 ∷ []) x.posted x) same of_x
 
-acted_receipts : (A : Agreements) (past : List Done) (s : State) (k : ℕ) (act : InEntry → Answer × InEntry) (e : Event) → KeepsReceipts A past s → ((z : InEntry) → lasting (act z).1 ≡ lasting z) → ((n : ℕ) (q : Posted) (a : Answer) → (k == n) ≡ false → receipt_fact A n q (done e a) ≡ None) → ((n : ℕ) (q : Posted) (a : Answer) (j : ℕ) → receipt_fact A n q (done e a) ≡ Some (APost j) → ⊥) → ((z : InEntry) (p : Partner) (facts : List ReceiptFact) → AreAgreed A z.posted.receiver z.posted.sender p → StandsAs z.posted.how p facts z → StandsAs z.posted.how p (with_more facts (receipt_fact A k z.posted (done e (act z).0))) (act z).1) → (o : Option InEntry) → received s k ≡ o → IsWellFormed A (acted_in s k act o).1 → Grows s (acted_in s k act o).1 → KeepsReceipts A (past ++ done e (acted_in s k act o).0 ∷ []) (acted_in s k act o).1
+acted_receipts : (A : Agreements) (past : List Done) (s : State) (k : ℕ) (act : InEntry → Answer × InEntry) (e : Event) → KeepsReceipts A past s → ((z : InEntry) → lasting (act z).1 ≡ lasting z) → ((n : ℕ) (q : Posted) (a : Answer) → (k == n) ≡ false → receipt_fact A n q (answered_event e a) ≡ None) → ((n : ℕ) (q : Posted) (a : Answer) (j : ℕ) → receipt_fact A n q (answered_event e a) ≡ Some (APost j) → ⊥) → ((z : InEntry) (p : Partner) (facts : List ReceiptFact) → AreAgreed A z.posted.receiver z.posted.sender p → StandsAs z.posted.how p facts z → StandsAs z.posted.how p (with_more facts (receipt_fact A k z.posted (answered_event e (act z).0))) (act z).1) → (o : Option InEntry) → received s k ≡ o → IsWellFormed A (acted_in s k act o).1 → Grows s (acted_in s k act o).1 → KeepsReceipts A (past ++ answered_event e (acted_in s k act o).0 ∷ []) (acted_in s k act o).1
 acted_receipts A past s k act e keeps kept silent never moves None none formed grows = record {
   formed = formed;
-  each = λ n d is. stands_still A n past (done e (Refused NoSuchNumber)) d.posted d (silent n d.posted (Refused NoSuchNumber) (absent n d is (k == n) refl)) (keeps.each n d is);
-  unposted = unposted_on A past s s (done e (Refused NoSuchNumber)) keeps grows (λ q n gone. never n q (Refused NoSuchNumber));
+  each = λ n d is. stands_still A n past (answered_event e (Refused NoSuchNumber)) d.posted d (silent n d.posted (Refused NoSuchNumber) (absent n d is (k == n) refl)) (keeps.each n d is);
+  unposted = unposted_on A past s s (answered_event e (Refused NoSuchNumber)) keeps grows (λ q n gone. never n q (Refused NoSuchNumber));
 }
   where
     absent : (n : ℕ) (d : InEntry) → received s n ≡ Some d → (b : Bool) → (k == n) ≡ b → (k == n) ≡ false
@@ -281,47 +281,47 @@ acted_receipts A past s k act e keeps kept silent never moves None none formed g
 acted_receipts A past s k act e keeps kept silent never moves (Some d) found formed grows = record {
   formed = formed;
   each = λ n x is. acted_entry A past s k act e d keeps kept silent moves found n x is (k == n) refl;
-  unposted = unposted_on A past s (change_received s k (λ z. (act z).1)) (done e (act d).0) keeps grows (λ q n gone. never n q (act d).0);
+  unposted = unposted_on A past s (change_received s k (λ z. (act z).1)) (answered_event e (act d).0) keeps grows (λ q n gone. never n q (act d).0);
 }
 
 no_post : (b : Bool) (f : Fact) (j : ℕ) → (if b then Some (OfATry f) else None) ≡ Some (APost j) → ⊥
 no_post true f j h = absurd (cc)
 no_post false f j h = absurd (cc)
 
-begin_silent : (A : Agreements) (k m n : ℕ) (q : Posted) (a : Answer) → (k == n) ≡ false → receipt_fact A n q (done (BeginMdn k m) a) ≡ None
+begin_silent : (A : Agreements) (k m n : ℕ) (q : Posted) (a : Answer) → (k == n) ≡ false → receipt_fact A n q (answered_event (BeginMdn k m) a) ≡ None
 unfolding receipt_fact
 begin_silent A k m n q a apart = rw apart refl
 
-begin_never : (A : Agreements) (k m n : ℕ) (q : Posted) (a : Answer) (j : ℕ) → receipt_fact A n q (done (BeginMdn k m) a) ≡ Some (APost j) → ⊥
+begin_never : (A : Agreements) (k m n : ℕ) (q : Posted) (a : Answer) (j : ℕ) → receipt_fact A n q (answered_event (BeginMdn k m) a) ≡ Some (APost j) → ⊥
 unfolding receipt_fact
 begin_never A k m n q a j h = no_post ((k == n) && is_job a) (ATry m) j h
 
-begin_fact_is : (A : Agreements) (k m : ℕ) (q : Posted) (a : Answer) → receipt_fact A k q (done (BeginMdn k m) a) ≡ begin_fact m a
+begin_fact_is : (A : Agreements) (k m : ℕ) (q : Posted) (a : Answer) → receipt_fact A k q (answered_event (BeginMdn k m) a) ≡ begin_fact m a
 unfolding receipt_fact
 begin_fact_is A k m q a = ap (λ (b : Bool). if b && is_job a then Some (OfATry (ATry m)) else None) (same_number k)
 
-outcome_silent : (A : Agreements) (k : ℕ) (got : TryAnswer) (m n : ℕ) (q : Posted) (a : Answer) → (k == n) ≡ false → receipt_fact A n q (done (OutcomeMdn k got m) a) ≡ None
+outcome_silent : (A : Agreements) (k : ℕ) (got : TryAnswer) (m n : ℕ) (q : Posted) (a : Answer) → (k == n) ≡ false → receipt_fact A n q (answered_event (OutcomeMdn k got m) a) ≡ None
 unfolding receipt_fact
 outcome_silent A k got m n q a apart = rw apart refl
 
-outcome_never : (A : Agreements) (k : ℕ) (got : TryAnswer) (m n : ℕ) (q : Posted) (a : Answer) (j : ℕ) → receipt_fact A n q (done (OutcomeMdn k got m) a) ≡ Some (APost j) → ⊥
+outcome_never : (A : Agreements) (k : ℕ) (got : TryAnswer) (m n : ℕ) (q : Posted) (a : Answer) (j : ℕ) → receipt_fact A n q (answered_event (OutcomeMdn k got m) a) ≡ Some (APost j) → ⊥
 unfolding receipt_fact
 outcome_never A k got m n q a j h = no_post (k == n) (AnOutcome m got) j h
 
-outcome_fact_is : (A : Agreements) (k : ℕ) (got : TryAnswer) (m : ℕ) (q : Posted) (a : Answer) → receipt_fact A k q (done (OutcomeMdn k got m) a) ≡ Some (OfATry (AnOutcome m got))
+outcome_fact_is : (A : Agreements) (k : ℕ) (got : TryAnswer) (m : ℕ) (q : Posted) (a : Answer) → receipt_fact A k q (answered_event (OutcomeMdn k got m) a) ≡ Some (OfATry (AnOutcome m got))
 unfolding receipt_fact
 outcome_fact_is A k got m q a = ap (λ (b : Bool). if b then Some (OfATry (AnOutcome m got)) else None) (same_number k)
 
-begin_receipts : (A : Agreements) (past : List Done) (s : State) (k m : ℕ) → KeepsReceipts A past s → let y = acted_in s k (mdn_begun A m) (received s k) in IsWellFormed A y.1 → Grows s y.1 → KeepsReceipts A (past ++ done (BeginMdn k m) y.0 ∷ []) y.1
+begin_receipts : (A : Agreements) (past : List Done) (s : State) (k m : ℕ) → KeepsReceipts A past s → let y = acted_in s k (mdn_begun A m) (received s k) in IsWellFormed A y.1 → Grows s y.1 → KeepsReceipts A (past ++ answered_event (BeginMdn k m) y.0 ∷ []) y.1
 begin_receipts A past s k m keeps formed grows =
     acted_receipts A past s k (mdn_begun A m) (BeginMdn k m) keeps (mdn_begun_lasting A m) (begin_silent A k m) (begin_never A k m)
-    (λ z p facts agreed h. subst (λ (o : Option ReceiptFact). StandsAs z.posted.how p (with_more facts o) (mdn_begun A m z).1) (sym (begin_fact_is A k m z.posted (mdn_begun A m z).0)) (begun A z.posted.how p facts m z agreed h))
+    (λ z p facts agreed h. subst (λ (o : Option ReceiptFact). StandsAs z.posted.how p (with_more facts o) (mdn_begun A m z).1) (sym (begin_fact_is A k m z.posted (mdn_begun A m z).0)) (try_begun A z.posted.how p facts m z agreed h))
     (received s k) refl formed grows
 
-outcome_receipts : (A : Agreements) (past : List Done) (s : State) (k : ℕ) (got : TryAnswer) (m : ℕ) → KeepsReceipts A past s → let y = acted_in s k (mdn_closed A got m) (received s k) in IsWellFormed A y.1 → Grows s y.1 → KeepsReceipts A (past ++ done (OutcomeMdn k got m) y.0 ∷ []) y.1
+outcome_receipts : (A : Agreements) (past : List Done) (s : State) (k : ℕ) (got : TryAnswer) (m : ℕ) → KeepsReceipts A past s → let y = acted_in s k (mdn_closed A got m) (received s k) in IsWellFormed A y.1 → Grows s y.1 → KeepsReceipts A (past ++ answered_event (OutcomeMdn k got m) y.0 ∷ []) y.1
 outcome_receipts A past s k got m keeps formed grows =
     acted_receipts A past s k (mdn_closed A got m) (OutcomeMdn k got m) keeps (mdn_closed_lasting A got m) (outcome_silent A k got m) (outcome_never A k got m)
-    (λ z p facts agreed h. subst (λ (o : Option ReceiptFact). StandsAs z.posted.how p (with_more facts o) (mdn_closed A got m z).1) (sym (outcome_fact_is A k got m z.posted (mdn_closed A got m z).0)) (closed A z.posted.how p facts got m z agreed h))
+    (λ z p facts agreed h. subst (λ (o : Option ReceiptFact). StandsAs z.posted.how p (with_more facts o) (mdn_closed A got m z).1) (sym (outcome_fact_is A k got m z.posted (mdn_closed A got m z).0)) (try_closed A z.posted.how p facts got m z agreed h))
     (received s k) refl formed grows
 
 -- ---- a document is posted
@@ -330,7 +330,7 @@ outcome_receipts A past s k got m keeps formed grows =
 abbrev PostsFor : Agreements → Done → ℕ → Posted → Type 0
 PostsFor A x m q = (n : ℕ) (p : Posted) → receipt_fact A n p x ≡ (if repeats p q then Some (APost m) else None)
 
-posts_for : (A : Agreements) (head : Head) (body : Text) (m : ℕ) (a : Answer) (q : Posted) → reading A head body ≡ IsDocument q → PostsFor A (done (Post head body m) a) m q
+posts_for : (A : Agreements) (head : Head) (body : Text) (m : ℕ) (a : Answer) (q : Posted) → reading A head body ≡ IsDocument q → PostsFor A (answered_event (Post head body m) a) m q
 unfolding receipt_fact
 posts_for A head body m a q is n p = rw is refl
 
@@ -348,10 +348,10 @@ post_repeats A x m q n p post j h = by (repeats p q) refl (sym (post n p) ∙ h)
     by false is g = absurd (cc)
 
 -- a receipt as it is first owed
-first_stands : (how : ReceiptDelivery) (p : Partner) (facts : List ReceiptFact) (n m : ℕ) (q : Posted) → q.how ≡ how → since_queued p facts ≡ Some (place [] m) → StandsAs how p facts (first_entry n m q)
+first_stands : (how : ReceiptDelivery) (p : Partner) (facts : List ReceiptFact) (n m : ℕ) (q : Posted) → q.how ≡ how → since_queued p facts ≡ Some (found_place [] m) → StandsAs how p facts (first_entry n m q)
 first_stands NoReceipt p facts n m q is since = (rw is refl, refl, refl, rw is refl)
 first_stands Sync p facts n m q is since = (rw is refl, refl, refl, rw is refl)
-first_stands (Async url) p facts n m q is since = (place [] m, since, queued_owed p m (first_entry n m q) (rw is refl) refl refl (rw is refl))
+first_stands (Async url) p facts n m q is since = (found_place [] m, since, queued_owed p m (first_entry n m q) (rw is refl) refl refl (rw is refl))
 
 abbrev with_first : State → ℕ → Posted → State
 with_first s m q = record s { inbox = s.inbox ++ first_entry s.next_in m q ∷ []; next_in = s.next_in + 1 }
@@ -369,7 +369,7 @@ fresh_receipts A past s m q x keeps post known none formed grows = record {
         let key : same_key d.posted q ≡ false = find_none (λ (e : InEntry). same_key e.posted q) (λ (e : InEntry). e.number == n) s.inbox d none is in
         absurd (false≢true (sym key ∙ ap (λ (p : Posted). same_key p q) (repeat_is d.posted q h) ∙ key_same q))
 
-    its_first : (n : ℕ) → Stands A n (past ++ x ∷ []) q (first_entry s.next_in m q)
+    its_first : (n : ℕ) → EntryStands A n (past ++ x ∷ []) q (first_entry s.next_in m q)
     its_first n = record {
       partner = known.0;
       agreed = known.1;
@@ -380,13 +380,13 @@ fresh_receipts A past s m q x keeps post known none formed grows = record {
           ∙ ap (λ (o : Option (Found ℕ Fact)). queued_by known.0 o (APost m)) (keeps.unposted q none n known.0));
     }
 
-    new : (n : ℕ) (e : InEntry) (b : Bool) → (if b then Some (first_entry s.next_in m q) else None) ≡ Some e → Stands A n (past ++ x ∷ []) e.posted e
-    new n e true h = subst (λ (z : InEntry). Stands A n (past ++ x ∷ []) z.posted z) (same_Some _ _ h) (its_first n)
+    new : (n : ℕ) (e : InEntry) (b : Bool) → (if b then Some (first_entry s.next_in m q) else None) ≡ Some e → EntryStands A n (past ++ x ∷ []) e.posted e
+    new n e true h = subst (λ (z : InEntry). EntryStands A n (past ++ x ∷ []) z.posted z) (same_Some _ _ h) (its_first n)
     new n e false h = absurd (cc)
 
-    by : (n : ℕ) (e : InEntry) (o : Option InEntry) → received s n ≡ o → option_or o (find (λ (d : InEntry). d.number == n) (first_entry s.next_in m q ∷ [])) ≡ Some e → Stands A n (past ++ x ∷ []) e.posted e
+    by : (n : ℕ) (e : InEntry) (o : Option InEntry) → received s n ≡ o → option_or o (find (λ (d : InEntry). d.number == n) (first_entry s.next_in m q ∷ [])) ≡ Some e → EntryStands A n (past ++ x ∷ []) e.posted e
     by n e (Some d) at h =
-        subst (λ (z : InEntry). Stands A n (past ++ x ∷ []) z.posted z) (same_Some _ _ h)
+        subst (λ (z : InEntry). EntryStands A n (past ++ x ∷ []) z.posted z) (same_Some _ _ h)
         (stands_still A n past x d.posted d (not_posted A x m q n d.posted post (other n d at (repeats d.posted q) refl)) (keeps.each n d at))
     by n e None at h = new n e (s.next_in == n) h
 
@@ -409,7 +409,7 @@ others_not : (A : Agreements) (s : State) (q : Posted) (d e : InEntry) (n : ℕ)
 others_not A s q d e n formed found is other false h = h
 others_not A s q d e n formed found is other true h = absurd (other (repeated_is A s q d e n formed found is h))
 
-repeated_entry : (A : Agreements) (past : List Done) (s : State) (m : ℕ) (q : Posted) (x : Done) (d : InEntry) → KeepsReceipts A past s → PostsFor A x m q → received_as s q ≡ Some d → repeats d.posted q ≡ true → (n : ℕ) (e : InEntry) → received (change_received s d.number (requeued_by_repeat m)) n ≡ Some e → (b : Bool) → (d.number == n) ≡ b → Stands A n (past ++ x ∷ []) e.posted e
+repeated_entry : (A : Agreements) (past : List Done) (s : State) (m : ℕ) (q : Posted) (x : Done) (d : InEntry) → KeepsReceipts A past s → PostsFor A x m q → received_as s q ≡ Some d → repeats d.posted q ≡ true → (n : ℕ) (e : InEntry) → received (change_received s d.number (requeued_by_repeat m)) n ≡ Some e → (b : Bool) → (d.number == n) ≡ b → EntryStands A n (past ++ x ∷ []) e.posted e
 repeated_entry A past s m q x d keeps post found same n e is false h =
     let at : received s n ≡ Some e = sym (received-changed_other s d.number (requeued_by_repeat m) n (queued_lasting m) (apart_turned d.number n d.number refl h)) ∙ is in
     let num : e.number ≡ n = received_number s n e at in
@@ -422,9 +422,9 @@ repeated_entry A past s m q x d keeps post found same n e is true h =
     let it : requeued_by_repeat m d ≡ e = same_Some _ _ (sym (received-changed_same s d.number (requeued_by_repeat m) d (queued_lasting m) at) ∙ ap (received (change_received s d.number (requeued_by_repeat m))) num ∙ is) in
     let posted : (requeued_by_repeat m d).posted ≡ d.posted = ap (λ (z : ℕ × Posted). z.1) (queued_lasting m d) in
     let stood = stands_on A d.number past x d.posted d (requeued_by_repeat m d) (keeps.each d.number d at) (λ p facts agreed stands. subst (λ (o : Option ReceiptFact). StandsAs d.posted.how p (with_more facts o) (requeued_by_repeat m d)) (sym (is_posted A x m q d.number d.posted post same)) (reposted d.posted.how p facts m d refl stands)) in
-    let of_it = subst (λ (p : Posted). Stands A d.number (past ++ x ∷ []) p (requeued_by_repeat m d)) (sym posted) stood in
-    let of_e = subst (λ (z : InEntry). Stands A d.number (past ++ x ∷ []) z.posted z) it of_it in
-    subst (λ (j : ℕ). Stands A j (past ++ x ∷ []) e.posted e) num of_e
+    let of_it = subst (λ (p : Posted). EntryStands A d.number (past ++ x ∷ []) p (requeued_by_repeat m d)) (sym posted) stood in
+    let of_e = subst (λ (z : InEntry). EntryStands A d.number (past ++ x ∷ []) z.posted z) it of_it in
+    subst (λ (j : ℕ). EntryStands A j (past ++ x ∷ []) e.posted e) num of_e
 
 repeated_receipts : (A : Agreements) (past : List Done) (s : State) (m : ℕ) (q : Posted) (x : Done) (d : InEntry) → KeepsReceipts A past s → PostsFor A x m q → received_as s q ≡ Some d → repeats d.posted q ≡ true → IsWellFormed A (change_received s d.number (requeued_by_repeat m)) → Grows s (change_received s d.number (requeued_by_repeat m)) → KeepsReceipts A (past ++ x ∷ []) (change_received s d.number (requeued_by_repeat m))
 repeated_receipts A past s m q x d keeps post found same formed grows = record {
@@ -444,7 +444,7 @@ clash_receipts A past s m q x d keeps post found other grows = record {
   unposted = unposted_on A past s s x keeps grows (never_new A s s x m q d post grows found);
 }
 
-left_receipts : (A : Agreements) (past : List Done) (s : State) (m : ℕ) (q : Posted) (x : Done) (y : Answer × State) → KeepsReceipts A past s → PostsFor A x m q → ((p : Partner) × AreAgreed A q.receiver q.sender p) → Left A s m q (received_as s q) y → IsWellFormed A y.1 → Grows s y.1 → KeepsReceipts A (past ++ x ∷ []) y.1
+left_receipts : (A : Agreements) (past : List Done) (s : State) (m : ℕ) (q : Posted) (x : Done) (y : Answer × State) → KeepsReceipts A past s → PostsFor A x m q → ((p : Partner) × AreAgreed A q.receiver q.sender p) → RecordedOrSame A s m q (received_as s q) y → IsWellFormed A y.1 → Grows s y.1 → KeepsReceipts A (past ++ x ∷ []) y.1
 left_receipts A past s m q x y keeps post known (fresh none small is) formed grows =
     let at : y.1 ≡ with_first s m q = ap (λ (z : Answer × State). z.1) is in
     subst (KeepsReceipts A (past ++ x ∷ [])) (sym at) (fresh_receipts A past s m q x keeps post known none (subst (IsWellFormed A) at formed) (subst (Grows s) at grows))
@@ -456,25 +456,25 @@ left_receipts A past s m q x y keeps post known (clash d there other is) formed 
 
 -- ---- a step and a run
 
-refused_quiet : (A : Agreements) (head : Head) (body : Text) (m : ℕ) (a : Answer) (line : Line) → reading A head body ≡ Refuses line → (n : ℕ) (q : Posted) → receipt_fact A n q (done (Post head body m) a) ≡ None
+refused_quiet : (A : Agreements) (head : Head) (body : Text) (m : ℕ) (a : Answer) (line : Line) → reading A head body ≡ Refuses line → (n : ℕ) (q : Posted) → receipt_fact A n q (answered_event (Post head body m) a) ≡ None
 unfolding receipt_fact
 refused_quiet A head body m a line is n q = rw is refl
 
-receipt_quiet : (A : Agreements) (head : Head) (body : Text) (m : ℕ) (a : Answer) (r : ReceivedReceipt) → reading A head body ≡ IsReceipt r → (n : ℕ) (q : Posted) → receipt_fact A n q (done (Post head body m) a) ≡ None
+receipt_quiet : (A : Agreements) (head : Head) (body : Text) (m : ℕ) (a : Answer) (r : ReceivedReceipt) → reading A head body ≡ IsReceipt r → (n : ℕ) (q : Posted) → receipt_fact A n q (answered_event (Post head body m) a) ≡ None
 unfolding receipt_fact
 receipt_quiet A head body m a r is n q = rw is refl
 
-other_quiet : (A : Agreements) (e : Event) (a : Answer) (n : ℕ) (q : Posted) → receipt_fact_of A n q a e ≡ None → receipt_fact A n q (done e a) ≡ None
+other_quiet : (A : Agreements) (e : Event) (a : Answer) (n : ℕ) (q : Posted) → receipt_fact_of A n q a e ≡ None → receipt_fact A n q (answered_event e a) ≡ None
 unfolding receipt_fact
 other_quiet A e a n q h = h
 
-post_receipts : (A : Agreements) (past : List Done) (s : State) (head : Head) (body : Text) (m : ℕ) (r : Reading) (y : Answer × State) → reading A head body ≡ r → KeepsReceipts A past s → post A s m r ≡ Some y → IsWellFormed A y.1 → Grows s y.1 → KeepsReceipts A (past ++ done (Post head body m) y.0 ∷ []) y.1
+post_receipts : (A : Agreements) (past : List Done) (s : State) (head : Head) (body : Text) (m : ℕ) (r : Reading) (y : Answer × State) → reading A head body ≡ r → KeepsReceipts A past s → post A s m r ≡ Some y → IsWellFormed A y.1 → Grows s y.1 → KeepsReceipts A (past ++ answered_event (Post head body m) y.0 ∷ []) y.1
 unfolding record_post
-post_receipts A past s head body m (Refuses line) y is keeps h formed grows = quiet A past s y.1 (done (Post head body m) y.0) keeps formed grows (ap (λ (z : Answer × State). z.1.inbox) (sym (same_Some _ y h))) (refused_quiet A head body m y.0 line is)
-post_receipts A past s head body m (IsReceipt r) y is keeps h formed grows = quiet A past s y.1 (done (Post head body m) y.0) keeps formed grows (ap (λ (z : Answer × State). z.1.inbox) (sym (same_Some _ y h)) ∙ (settle_inbox s m r).0) (receipt_quiet A head body m y.0 r is)
-post_receipts A past s head body m (IsDocument q) y is keeps h formed grows = left_receipts A past s m q (done (Post head body m) y.0) y keeps (posts_for A head body m y.0 q is) (document_known A (reading A head body) q (reading_known A head body) is) (left_is A s m q (received_as s q) y h) formed grows
+post_receipts A past s head body m (Refuses line) y is keeps h formed grows = quiet A past s y.1 (answered_event (Post head body m) y.0) keeps formed grows (ap (λ (z : Answer × State). z.1.inbox) (sym (same_Some _ y h))) (refused_quiet A head body m y.0 line is)
+post_receipts A past s head body m (IsReceipt r) y is keeps h formed grows = quiet A past s y.1 (answered_event (Post head body m) y.0) keeps formed grows (ap (λ (z : Answer × State). z.1.inbox) (sym (same_Some _ y h)) ∙ (settle_inbox s m r).0) (receipt_quiet A head body m y.0 r is)
+post_receipts A past s head body m (IsDocument q) y is keeps h formed grows = left_receipts A past s m q (answered_event (Post head body m) y.0) y keeps (posts_for A head body m y.0 q is) (document_known A (reading A head body) q (reading_known A head body) is) (left_is A s m q (received_as s q) y h) formed grows
 
-step_receipts : (A : Agreements) (past : List Done) (s : State) (e : Event) (y : Answer × State) → KeepsReceipts A past s → step A s e ≡ Some y → IsWellFormed A y.1 → Grows s y.1 → KeepsReceipts A (past ++ done e y.0 ∷ []) y.1
+step_receipts : (A : Agreements) (past : List Done) (s : State) (e : Event) (y : Answer × State) → KeepsReceipts A past s → step A s e ≡ Some y → IsWellFormed A y.1 → Grows s y.1 → KeepsReceipts A (past ++ answered_event e y.0 ∷ []) y.1
 step_receipts A past s (Post head body m) y keeps h formed grows = post_receipts A past s head body m (reading A head body) y refl keeps h formed grows
 step_receipts A past s (Submit organization partner content m) y keeps h formed grows = quiet A past s y.1 _ keeps formed grows (submit_inbox A s organization partner content m y h) (λ n q. other_quiet A (Submit organization partner content m) y.0 n q refl)
 step_receipts A past s (Begin k m) y keeps h formed grows = quiet A past s y.1 _ keeps formed grows (ap (λ (z : Answer × State). z.1.inbox) (sym (same_Some _ y h)) ∙ acted_inbox s k (begun_document A m) (document s k)) (λ n q. other_quiet A (Begin k m) y.0 n q refl)
@@ -482,11 +482,11 @@ step_receipts A past s (Outcome k got m) y keeps h formed grows = quiet A past s
 step_receipts A past s (Tick m) y keeps h formed grows = quiet A past s y.1 _ keeps formed grows (ap (λ (z : Answer × State). z.1.inbox) (sym (same_Some _ y h)) ∙ tick_inbox m s) (λ n q. other_quiet A (Tick m) y.0 n q refl)
 step_receipts A past s (BeginMdn k m) y keeps h formed grows =
     let at = same_Some _ y h in
-    subst (λ (z : Answer × State). KeepsReceipts A (past ++ done (BeginMdn k m) z.0 ∷ []) z.1) at
+    subst (λ (z : Answer × State). KeepsReceipts A (past ++ answered_event (BeginMdn k m) z.0 ∷ []) z.1) at
     (begin_receipts A past s k m keeps (subst (λ (z : Answer × State). IsWellFormed A z.1) (sym at) formed) (subst (λ (z : Answer × State). Grows s z.1) (sym at) grows))
 step_receipts A past s (OutcomeMdn k got m) y keeps h formed grows =
     let at = same_Some _ y h in
-    subst (λ (z : Answer × State). KeepsReceipts A (past ++ done (OutcomeMdn k got m) z.0 ∷ []) z.1) at
+    subst (λ (z : Answer × State). KeepsReceipts A (past ++ answered_event (OutcomeMdn k got m) z.0 ∷ []) z.1) at
     (outcome_receipts A past s k got m keeps (subst (λ (z : Answer × State). IsWellFormed A z.1) (sym at) formed) (subst (λ (z : Answer × State). Grows s z.1) (sym at) grows))
 
 nothing_received : (A : Agreements) (first : ℕ) → IsCounter first → KeepsReceipts A [] (empty first)
@@ -496,8 +496,8 @@ nothing_received A first h = record { formed = empty_formed A first h; each = λ
 run_receipts : (A : Agreements) (past : List Done) (old : State) (trace : Trace) (new : State) → KeepsReceipts A past old → Run A old trace new → KeepsReceipts A (past ++ accepted trace) new
 run_receipts A past old [] new keeps run = rw (run, append-nil past) keeps
 run_receipts A past old ((e, Answered a) ∷ rest) new keeps run =
-    subst (λ (d : List Done). KeepsReceipts A d new) (append_assoc past (done e a ∷ []) (accepted rest))
-    (run_receipts A (past ++ done e a ∷ []) run.0 rest new (step_receipts A past old e (a, run.0) keeps run.1 (step_formed A old e (a, run.0) keeps.formed run.1) (step_grows A old e (a, run.0) run.1)) run.2)
+    subst (λ (d : List Done). KeepsReceipts A d new) (append_assoc past (answered_event e a ∷ []) (accepted rest))
+    (run_receipts A (past ++ answered_event e a ∷ []) run.0 rest new (step_receipts A past old e (a, run.0) keeps run.1 (step_formed A old e (a, run.0) keeps.formed run.1) (step_grows A old e (a, run.0) run.1)) run.2)
 run_receipts A past old ((e, Failed fault) ∷ rest) new keeps run = run_receipts A past old rest new keeps run.1
 
 -- ---- the law

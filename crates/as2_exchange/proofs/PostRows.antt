@@ -38,40 +38,40 @@ abbrev read : Head → Reading
 read head = reading fixture head abc
 
 -- the line that refuses a post, with its status
-abbrev refused : Reading → Option (ℕ × Line)
-refused (Refuses line) = Some (status_of line, line)
-refused other = None
+abbrev refusal_told : Reading → Option (ℕ × Line)
+refusal_told (Refuses line) = Some (status_of line, line)
+refusal_told other = None
 
 -- the lines that refuse a post
-refused_posts : (refused (read []) ≡ Some (400, BadNames))
-    × (refused (read (message (codes "1.0") (replicate 129 120) m1 edi usual)) ≡ Some (400, BadNames))
-    × (refused (read (message (codes "1.0") (codes "Buyer") m1 edi ((codes "as2-from", codes "Buyer") ∷ usual))) ≡ Some (400, BadNames))
-    × (refused (read (message (codes "2.0") (codes "Buyer") m1 edi usual)) ≡ Some (400, BadVersion))
-    × (refused (read (message (codes "1.10") (codes "Buyer") m1 edi usual)) ≡ Some (400, BadVersion))
-    × (refused (read (message (codes "1.0") (codes "Nobody") m1 edi usual)) ≡ Some (403, UnknownNames))
-    × (refused (read (message (codes "1.0") (codes "buyer") m1 edi usual)) ≡ Some (403, UnknownNames))
-    × (refused (read (message (codes "1.0") (codes "Buyer") m1 (codes "edi") usual)) ≡ Some (400, BadType))
-    × (refused (read (message (codes "1.0") (codes "Buyer") m1 q_type_text usual)) ≡ Some (400, UnreadableReceipt))
-    × (refused (read (message (codes "1.0") (codes "Buyer") (codes "<>") edi usual)) ≡ Some (400, BadId))
-    × (refused (read (message (codes "1.0") (codes "Buyer") m1 edi ((codes "message-id", m1) ∷ usual))) ≡ Some (400, BadId))
-    × (refused (read (message (codes "1.0") (codes "Buyer") m1 edi (asks (codes "x")))) ≡ Some (400, BadAsk))
+refused_posts : (refusal_told (read []) ≡ Some (400, BadNames))
+    × (refusal_told (read (message (codes "1.0") (replicate 129 120) m1 edi usual)) ≡ Some (400, BadNames))
+    × (refusal_told (read (message (codes "1.0") (codes "Buyer") m1 edi ((codes "as2-from", codes "Buyer") ∷ usual))) ≡ Some (400, BadNames))
+    × (refusal_told (read (message (codes "2.0") (codes "Buyer") m1 edi usual)) ≡ Some (400, BadVersion))
+    × (refusal_told (read (message (codes "1.10") (codes "Buyer") m1 edi usual)) ≡ Some (400, BadVersion))
+    × (refusal_told (read (message (codes "1.0") (codes "Nobody") m1 edi usual)) ≡ Some (403, UnknownNames))
+    × (refusal_told (read (message (codes "1.0") (codes "buyer") m1 edi usual)) ≡ Some (403, UnknownNames))
+    × (refusal_told (read (message (codes "1.0") (codes "Buyer") m1 (codes "edi") usual)) ≡ Some (400, BadType))
+    × (refusal_told (read (message (codes "1.0") (codes "Buyer") m1 q_type_text usual)) ≡ Some (400, UnreadableReceipt))
+    × (refusal_told (read (message (codes "1.0") (codes "Buyer") (codes "<>") edi usual)) ≡ Some (400, BadId))
+    × (refusal_told (read (message (codes "1.0") (codes "Buyer") m1 edi ((codes "message-id", m1) ∷ usual))) ≡ Some (400, BadId))
+    × (refusal_told (read (message (codes "1.0") (codes "Buyer") m1 edi (asks (codes "x")))) ≡ Some (400, BadAsk))
 unfolding reading names_of version_fits type_of is_report report_in id_of ask_of without_blanks between_quotes bare
 refused_posts = (refl, refl, refl, refl, refl, refl, refl, refl, refl, refl, refl, refl)
 
 -- where several lines fit, it is the first
-first_line_that_fits : (refused (read (message (codes "2.0") [] (codes "<>") (codes "edi") (asks (codes "x")))) ≡ Some (400, BadNames))
-    × (refused (read (message (codes "2.0") (codes "Nobody") (codes "<>") (codes "edi") (asks (codes "x")))) ≡ Some (400, BadVersion))
-    × (refused (read (message (codes "1.0") (codes "Nobody") (codes "<>") (codes "edi") (asks (codes "x")))) ≡ Some (403, UnknownNames))
-    × (refused (read (message (codes "1.9") (codes "Buyer") (codes "<>") (codes "edi") (asks (codes "x")))) ≡ Some (400, BadType))
-    × (refused (read (message (codes "1.0") (codes "Buyer") (codes "<>") edi (asks (codes "x")))) ≡ Some (400, BadId))
+first_line_that_fits : (refusal_told (read (message (codes "2.0") [] (codes "<>") (codes "edi") (asks (codes "x")))) ≡ Some (400, BadNames))
+    × (refusal_told (read (message (codes "2.0") (codes "Nobody") (codes "<>") (codes "edi") (asks (codes "x")))) ≡ Some (400, BadVersion))
+    × (refusal_told (read (message (codes "1.0") (codes "Nobody") (codes "<>") (codes "edi") (asks (codes "x")))) ≡ Some (403, UnknownNames))
+    × (refusal_told (read (message (codes "1.9") (codes "Buyer") (codes "<>") (codes "edi") (asks (codes "x")))) ≡ Some (400, BadType))
+    × (refusal_told (read (message (codes "1.0") (codes "Buyer") (codes "<>") edi (asks (codes "x")))) ≡ Some (400, BadId))
 unfolding reading names_of version_fits type_of is_report id_of ask_of without_blanks between_quotes bare
 first_line_that_fits = (refl, refl, refl, refl, refl)
 
 -- a field that is given twice; a receiver that is no organization
-given_twice : (refused (read (message (codes "1.0") (codes "Buyer") m1 edi ((codes "as2-version", codes "1.0") ∷ usual))) ≡ Some (400, BadVersion))
-    × (refused (read (message (codes "1.0") (codes "Buyer") m1 edi ((codes "content-type", edi) ∷ usual))) ≡ Some (400, BadType))
-    × (refused (read (message (codes "1.0") (codes "Buyer") m1 edi ((codes "disposition-notification-to", codes "a@x") ∷ usual))) ≡ Some (400, BadAsk))
-    × (refused (read ((codes "as2-from", codes "Buyer") ∷ (codes "as2-to", codes "Buyer") ∷ [])) ≡ Some (403, UnknownNames))
+given_twice : (refusal_told (read (message (codes "1.0") (codes "Buyer") m1 edi ((codes "as2-version", codes "1.0") ∷ usual))) ≡ Some (400, BadVersion))
+    × (refusal_told (read (message (codes "1.0") (codes "Buyer") m1 edi ((codes "content-type", edi) ∷ usual))) ≡ Some (400, BadType))
+    × (refusal_told (read (message (codes "1.0") (codes "Buyer") m1 edi ((codes "disposition-notification-to", codes "a@x") ∷ usual))) ≡ Some (400, BadAsk))
+    × (refusal_told (read ((codes "as2-from", codes "Buyer") ∷ (codes "as2-to", codes "Buyer") ∷ [])) ≡ Some (403, UnknownNames))
 unfolding reading names_of version_fits type_of is_report id_of ask_of without_blanks between_quotes bare
 given_twice = (refl, refl, refl, refl)
 

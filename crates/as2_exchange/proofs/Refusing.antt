@@ -49,11 +49,11 @@ left_as_is number f n d (x ∷ xs) apart found same = left_step number f n d x x
 
 -- ---- acts
 
-Leaves : {E : Type 0} → E → Answer × E → Type 0
-Leaves e y = is_refusal y.0 ≡ true → y.1 ≡ e
+AnswersOnly : {E : Type 0} → E → Answer × E → Type 0
+AnswersOnly e y = is_refusal y.0 ≡ true → y.1 ≡ e
 
-agreed_leaves : {E : Type 0} (A : Agreements) (organization partner : Text) (e : E) (act : Partner → Answer × E) → ((p : Partner) → Leaves e (act p)) → Leaves e (agreed A organization partner e act)
-unfolding Leaves
+agreed_leaves : {E : Type 0} (A : Agreements) (organization partner : Text) (e : E) (act : Partner → Answer × E) → ((p : Partner) → AnswersOnly e (act p)) → AnswersOnly e (agreed A organization partner e act)
+unfolding AnswersOnly
 agreed_leaves {E} A organization partner e act rest = by (is_organization A organization) (partner_of A partner)
   where
     given : Bool → Option Partner → Answer × E
@@ -65,53 +65,53 @@ agreed_leaves {E} A organization partner e act rest = by (is_organization A orga
     by true (Some p) h = rest p h
 
 -- a test, and then the rest
-test_leaves : {E : Type 0} (e : E) (b : Bool) (a : Answer) (y : Answer × E) → Leaves e y → Leaves e (if b then (a, e) else y)
-unfolding Leaves
+test_leaves : {E : Type 0} (e : E) (b : Bool) (a : Answer) (y : Answer × E) → AnswersOnly e y → AnswersOnly e (if b then (a, e) else y)
+unfolding AnswersOnly
 test_leaves e true a y rest h = refl
 test_leaves e false a y rest h = rest h
 
 -- what is no refusal leaves what it likes
-acts : {E : Type 0} (e : E) (y : Answer × E) → is_refusal y.0 ≡ false → Leaves e y
-unfolding Leaves
+acts : {E : Type 0} (e : E) (y : Answer × E) → is_refusal y.0 ≡ false → AnswersOnly e y
+unfolding AnswersOnly
 acts e y not_refused h = absurd (false≢true (sym not_refused ∙ h))
 
-either_acts : {E : Type 0} (e : E) (b : Bool) (x y : Answer × E) → Leaves e x → Leaves e y → Leaves e (if b then x else y)
+either_acts : {E : Type 0} (e : E) (b : Bool) (x y : Answer × E) → AnswersOnly e x → AnswersOnly e y → AnswersOnly e (if b then x else y)
 either_acts e true x y h g = h
 either_acts e false x y h g = g
 
-begun_leaves : (A : Agreements) (m : ℕ) (d : OutEntry) → Leaves d (begun A m d)
+begun_leaves : (A : Agreements) (m : ℕ) (d : OutEntry) → AnswersOnly d (begun A m d)
 unfolding begun
 begun_leaves A m d = agreed_leaves A d.organization d.partner d _
     (λ p. test_leaves d (is_settled d) _ _
     (test_leaves d (nat_le p.max_tries d.tries) _ _
     (test_leaves d (waits d.detail || is_early m d.due) _ _ (acts d _ refl))))
 
-failed_leaves : (p : Partner) (m : ℕ) (d : OutEntry) → Leaves d (failed_try p m d)
+failed_leaves : (p : Partner) (m : ℕ) (d : OutEntry) → AnswersOnly d (failed_try p m d)
 failed_leaves p m d = either_acts d (is_last d.attempt) _ _ (acts d _ refl) (acts d _ refl)
 
-delivered_leaves : (a : Asked) (p : Partner) (m : ℕ) (d : OutEntry) → Leaves d (delivered a p m d)
+delivered_leaves : (a : Asked) (p : Partner) (m : ℕ) (d : OutEntry) → AnswersOnly d (delivered a p m d)
 delivered_leaves Async p m d = acts d _ refl
 delivered_leaves NoReceipt p m d = acts d _ refl
 delivered_leaves Sync p m d = failed_leaves p m d
 
-closed_by_leaves : (p : Partner) (got : TryAnswer) (m : ℕ) (d : OutEntry) (o : Option ReceivedReceipt) → Leaves d (closed_by p got m d o)
+closed_by_leaves : (p : Partner) (got : TryAnswer) (m : ℕ) (d : OutEntry) (o : Option ReceivedReceipt) → AnswersOnly d (closed_by p got m d o)
 closed_by_leaves p got m d (Some r) = acts d _ refl
 closed_by_leaves p got m d None = either_acts d (is_delivery got) _ _ (delivered_leaves p.receipt p m d) (failed_leaves p m d)
 
-closed_leaves : (A : Agreements) (got : TryAnswer) (m : ℕ) (d : OutEntry) → Leaves d (closed A got m d)
+closed_leaves : (A : Agreements) (got : TryAnswer) (m : ℕ) (d : OutEntry) → AnswersOnly d (closed A got m d)
 unfolding closed
 closed_leaves A got m d = agreed_leaves A d.organization d.partner d _
     (λ p. test_leaves d (is_settled d) _ _
     (test_leaves d (is_idle d.attempt) _ _ (closed_by_leaves p got m d (option_and_then (if_for d) (receipt_in_answer got)))))
 
-mdn_begun_leaves : (A : Agreements) (m : ℕ) (e : InEntry) → Leaves e (mdn_begun A m e)
+mdn_begun_leaves : (A : Agreements) (m : ℕ) (e : InEntry) → AnswersOnly e (mdn_begun A m e)
 unfolding mdn_begun
 mdn_begun_leaves A m e = agreed_leaves A e.posted.receiver e.posted.sender e _
     (λ p. test_leaves e (not (is_pending e.mdn)) _ _
     (test_leaves e (nat_le p.max_tries e.tries) _ _
     (test_leaves e (is_early m e.due) _ _ (acts e _ refl))))
 
-mdn_closed_leaves : (A : Agreements) (got : TryAnswer) (m : ℕ) (e : InEntry) → Leaves e (mdn_closed A got m e)
+mdn_closed_leaves : (A : Agreements) (got : TryAnswer) (m : ℕ) (e : InEntry) → AnswersOnly e (mdn_closed A got m e)
 unfolding mdn_closed
 mdn_closed_leaves A got m e = agreed_leaves A e.posted.receiver e.posted.sender e _
     (λ p. test_leaves e (not (is_pending e.mdn)) _ _
@@ -121,18 +121,18 @@ mdn_closed_leaves A got m e = agreed_leaves A e.posted.receiver e.posted.sender 
 
 -- ---- a step
 
-acted_leaves : (A : Agreements) (s : State) (n : ℕ) (act : OutEntry → Answer × OutEntry) (o : Option OutEntry) → document s n ≡ o → ((d : OutEntry) → Leaves d (act d)) → HasDistinctNumbers s → Leaves s (acted s n act o)
-unfolding Leaves
+acted_leaves : (A : Agreements) (s : State) (n : ℕ) (act : OutEntry → Answer × OutEntry) (o : Option OutEntry) → document s n ≡ o → ((d : OutEntry) → AnswersOnly d (act d)) → HasDistinctNumbers s → AnswersOnly s (acted s n act o)
+unfolding AnswersOnly
 acted_leaves A s n act None found leaves apart h = refl
 acted_leaves A s n act (Some d) found leaves apart h = ap (λ (ds : List OutEntry). record s { outbox = ds }) (left_as_is (λ (x : OutEntry). x.number) (λ (x : OutEntry). (act x).1) n d s.outbox apart.sent found (leaves d h))
 
-acted_in_leaves : (A : Agreements) (s : State) (n : ℕ) (act : InEntry → Answer × InEntry) (o : Option InEntry) → received s n ≡ o → ((e : InEntry) → Leaves e (act e)) → HasDistinctNumbers s → Leaves s (acted_in s n act o)
-unfolding Leaves
+acted_in_leaves : (A : Agreements) (s : State) (n : ℕ) (act : InEntry → Answer × InEntry) (o : Option InEntry) → received s n ≡ o → ((e : InEntry) → AnswersOnly e (act e)) → HasDistinctNumbers s → AnswersOnly s (acted_in s n act o)
+unfolding AnswersOnly
 acted_in_leaves A s n act None found leaves apart h = refl
 acted_in_leaves A s n act (Some e) found leaves apart h = ap (λ (es : List InEntry). record s { inbox = es }) (left_as_is (λ (x : InEntry). x.number) (λ (x : InEntry). (act x).1) n e s.inbox apart.received found (leaves e h))
 
-submit_leaves : (A : Agreements) (s : State) (organization partner content : Text) (m : ℕ) (y : Answer × State) → submit A s organization partner content m ≡ Some y → Leaves s y
-unfolding submit Leaves
+submit_leaves : (A : Agreements) (s : State) (organization partner content : Text) (m : ℕ) (y : Answer × State) → submit A s organization partner content m ≡ Some y → AnswersOnly s y
+unfolding submit AnswersOnly
 submit_leaves A s organization partner content m y h =
     by (not (is_organization A organization)) (not (is_some (partner_of A partner))) (nat_lt 1048576 (length content)) (nat_le end_of_numbers s.next_out) h
   where
@@ -187,15 +187,15 @@ tick_acts : (m : ℕ) (s : State) → is_refusal (tick m s).0 ≡ false
 unfolding tick
 tick_acts m s = refl
 
-step_leaves : (A : Agreements) (s : State) (e : Event) (y : Answer × State) → HasDistinctNumbers s → step A s e ≡ Some y → Leaves s y
+step_leaves : (A : Agreements) (s : State) (e : Event) (y : Answer × State) → HasDistinctNumbers s → step A s e ≡ Some y → AnswersOnly s y
 step_leaves A s (Post head body m) y apart h = acts s y (post_acts A s m (reading A head body) y h)
 step_leaves A s (Submit organization partner content m) y apart h = submit_leaves A s organization partner content m y h
-step_leaves A s (Begin n m) y apart h = subst (Leaves s) (same_Some _ y h) (acted_leaves A s n (begun A m) (document s n) refl (begun_leaves A m) apart)
-step_leaves A s (Outcome n got m) y apart h = subst (Leaves s) (same_Some _ y h) (acted_leaves A s n (closed A got m) (document s n) refl (closed_leaves A got m) apart)
-step_leaves A s (BeginMdn n m) y apart h = subst (Leaves s) (same_Some _ y h) (acted_in_leaves A s n (mdn_begun A m) (received s n) refl (mdn_begun_leaves A m) apart)
-step_leaves A s (OutcomeMdn n got m) y apart h = subst (Leaves s) (same_Some _ y h) (acted_in_leaves A s n (mdn_closed A got m) (received s n) refl (mdn_closed_leaves A got m) apart)
+step_leaves A s (Begin n m) y apart h = subst (AnswersOnly s) (same_Some _ y h) (acted_leaves A s n (begun A m) (document s n) refl (begun_leaves A m) apart)
+step_leaves A s (Outcome n got m) y apart h = subst (AnswersOnly s) (same_Some _ y h) (acted_leaves A s n (closed A got m) (document s n) refl (closed_leaves A got m) apart)
+step_leaves A s (BeginMdn n m) y apart h = subst (AnswersOnly s) (same_Some _ y h) (acted_in_leaves A s n (mdn_begun A m) (received s n) refl (mdn_begun_leaves A m) apart)
+step_leaves A s (OutcomeMdn n got m) y apart h = subst (AnswersOnly s) (same_Some _ y h) (acted_in_leaves A s n (mdn_closed A got m) (received s n) refl (mdn_closed_leaves A got m) apart)
 step_leaves A s (Tick m) y apart h = acts s y (ap (λ (z : Answer × State). is_refusal z.0) (sym (same_Some _ y h)) ∙ tick_acts m s)
 
 pub refused_leaves : (A : Agreements) (s t : State) (e : Event) (a : Answer) → HasDistinctNumbers s → step A s e ≡ Some (a, t) → is_refusal a ≡ true → t ≡ s
-unfolding Leaves
+unfolding AnswersOnly
 refused_leaves A s t e a apart h refused = step_leaves A s e (a, t) apart h refused

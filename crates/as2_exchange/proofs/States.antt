@@ -16,7 +16,7 @@ use Rattle.as2_exchange.specs.Run.{Trace, Run, Answered, Failed}
 use Rattle.as2_exchange.specs.Invariants.{IsCounter, IsRecorded, IsWellFormed}
 use Rattle.as2_exchange.proofs.Documents.{if_either}
 use Rattle.as2_exchange.proofs.Keeping.{is_left}
-use Rattle.as2_exchange.proofs.Repeats.{Left, fresh, repeated, clash, left_is, queued_lasting, mdn_begun_lasting, mdn_closed_lasting}
+use Rattle.as2_exchange.proofs.Repeats.{RecordedOrSame, fresh, repeated, clash, left_is, queued_lasting, mdn_begun_lasting, mdn_closed_lasting}
 use Rattle.as2_exchange.proofs.WellFormed.{inbox_push, inbox_map, KeepsLasting, outbox_push, outbox_map, KeepsEntries, unsettled_entry}
 use Rattle.as2_exchange.proofs.Standing.{settled_keeps, changed_keeps, passed_keeps, begun_keeps, closed_keeps}
 
@@ -133,7 +133,7 @@ submit_formed A s organization partner content m y h e =
 first_formed : (A : Agreements) (s : State) (m : ℕ) (p : Posted) → s.next_in < end_of_numbers → IsRecorded p → received_as s p ≡ None → IsWellFormed A s → IsWellFormed A (record s { inbox = s.inbox ++ first_entry s.next_in m p ∷ []; next_in = s.next_in + 1 })
 first_formed A s m p small good new h = record { received = inbox_push s.next_in s.inbox (first_entry s.next_in m p) small refl good new h.received; sent = h.sent }
 
-left_formed : (A : Agreements) (s : State) (m : ℕ) (p : Posted) (o : Option InEntry) (y : Answer × State) → received_as s p ≡ o → IsRecorded p → IsWellFormed A s → Left A s m p o y → IsWellFormed A y.1
+left_formed : (A : Agreements) (s : State) (m : ℕ) (p : Posted) (o : Option InEntry) (y : Answer × State) → received_as s p ≡ o → IsRecorded p → IsWellFormed A s → RecordedOrSame A s m p o y → IsWellFormed A y.1
 left_formed A s m p o y at good h (fresh none small is) = subst (λ (z : Answer × State). IsWellFormed A z.1) (sym is) (first_formed A s m p small good (at ∙ none) h)
 left_formed A s m p o y at good h (repeated e there same is) = subst (λ (z : Answer × State). IsWellFormed A z.1) (sym is) (received_formed A s e.number (requeued_by_repeat m) (queued_lasting m) h)
 left_formed A s m p o y at good h (clash e there other is) = subst (IsWellFormed A) (sym is) h

@@ -126,8 +126,8 @@ deliveries = (refl, refl, refl, refl)
 -- ---- a Tick
 
 -- one document that awaits its receipt, one whose last try is open, and those that no Tick moves
-abbrev waiting : State
-waiting = record {
+abbrev waiting_state : State
+waiting_state = record {
   inbox = [];
   outbox =
       standing 1 Idle (Some 1060) Awaiting None
@@ -142,10 +142,10 @@ waiting = record {
 }
 
 -- both kinds expire at the moment at which they are due, and not a second before
-both_expire : (tick 1059 waiting ≡ (Ticked 0, waiting))
-    × (tick 1060 waiting ≡ (
+both_expire : (tick 1059 waiting_state ≡ (Ticked 0, waiting_state))
+    × (tick 1060 waiting_state ≡ (
       Ticked 2,
-      record waiting {
+      record waiting_state {
         outbox =
             standing 1 Idle None Overdue None
             ∷ standing 2 Last None TriesUsed None

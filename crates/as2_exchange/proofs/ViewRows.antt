@@ -16,7 +16,7 @@ use Rattle.as2_exchange.specs.Recording.{record_post, answer_to}
 use Rattle.as2_exchange.specs.Views.{next, list_out, list_in, outstanding, show, fetch}
 use Rattle.as2_exchange.specs.declared.next.Next.{Next}
 use Rattle.as2_exchange.specs.declared.next.Next.TheVariants.{Receipt, Document}
-use Rattle.as2_exchange.proofs.Fixture.{buyer, abc, receipt_body, q, post_head, m1, return_field, p1_from_depot}
+use Rattle.as2_exchange.proofs.Fixture.{buyer, abc, receipt_body, q, post_head, m1, return_head, p1_from_depot}
 use Rattle.as2_exchange.proofs.Rows.{play, submit_to}
 
 -- what is next at two moments
@@ -102,17 +102,17 @@ unfolding seen play submit
 least_is_next = refl
 
 -- a receipt goes before a document
-receipt_is_next : seen (next_at 1000 1000) (empty 1) (submit_to buyer ∷ Post (post_head (codes "Depot") m1 return_field) abc 1000 ∷ []) ≡ Some (Some (Receipt 1), Some (Receipt 1))
+receipt_is_next : seen (next_at 1000 1000) (empty 1) (submit_to buyer ∷ Post (post_head (codes "Depot") m1 return_head) abc 1000 ∷ []) ≡ Some (Some (Receipt 1), Some (Receipt 1))
 unfolding seen play submit record_post answer_to value_of bare
 receipt_is_next = rw p1_from_depot refl
 
 -- a receipt that failed is due again after thirty seconds; sent, it is queued again by a repeat
-receipt_is_due_again : (seen (next_at 1029 1030) (empty 1) (Post (post_head (codes "Depot") m1 return_field) abc 1000 ∷ BeginMdn 1 1000 ∷ OutcomeMdn 1 NoAnswer 1000 ∷ []) ≡ Some (None, Some (Receipt 1)))
+receipt_is_due_again : (seen (next_at 1029 1030) (empty 1) (Post (post_head (codes "Depot") m1 return_head) abc 1000 ∷ BeginMdn 1 1000 ∷ OutcomeMdn 1 NoAnswer 1000 ∷ []) ≡ Some (None, Some (Receipt 1)))
 unfolding seen play record_post answer_to mdn_begun mdn_closed value_of bare
 receipt_is_due_again = rw p1_from_depot refl
 
 -- the inbox, and the content of its entry
-received_is_listed : seen inbox_text (empty 1) (Post (post_head (codes "Depot") m1 return_field) abc 1000 ∷ []) ≡ Some (codes "           1 S P Depot -> Supplier <m1@x>\n", Some abc)
+received_is_listed : seen inbox_text (empty 1) (Post (post_head (codes "Depot") m1 return_head) abc 1000 ∷ []) ≡ Some (codes "           1 S P Depot -> Supplier <m1@x>\n", Some abc)
 unfolding seen play record_post answer_to value_of bare digits
 received_is_listed = rw p1_from_depot refl
 

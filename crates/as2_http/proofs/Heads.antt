@@ -174,16 +174,16 @@ lies text head n d le h fits =
     }
 
 -- the part of the front behind its CR and LF
-pub behind : (text front : List ℕ) (head : ℕ) → front ≡ take 16384 text → drop head front ≡ unblank front → take (length front - head) (drop head front) ≡ window text
-behind text front head f d =
+pub head_front : (text front : List ℕ) (head : ℕ) → front ≡ take 16384 text → drop head front ≡ unblank front → take (length front - head) (drop head front) ≡ window text
+head_front text front head f d =
     take_all (length front - head) (drop head front) (omega (arith, length-drop head front)) ∙ d ∙ ap unblank f
 
 pub lies_in : (text front : List ℕ) (head n : ℕ) (r : Option ℕ) → front ≡ take 16384 text → drop head front ≡ unblank front → head ≤ length front
     → r ≡ up_to_empty_line (take (length front - head) (drop head front)) → r ≡ Some n → n ≤ length (take (length front - head) (drop head front)) → HeadLies text head (head + n)
 lies_in text front head n r f d le u s fits =
-    let b = behind text front head f d in
+    let b = head_front text front head f d in
     lies text head n (ap (drop head) (sym f) ∙ d ∙ ap unblank f) (omega (arith, ap length f, le)) (sym (ap up_to_empty_line b) ∙ sym u ∙ s) (omega (arith, fits, ap length b))
 
 pub lies_nowhere : (text front : List ℕ) (head : ℕ) (r : Option ℕ) → front ≡ take 16384 text → drop head front ≡ unblank front
     → r ≡ up_to_empty_line (take (length front - head) (drop head front)) → r ≡ None → HasNoHeadText text
-lies_nowhere text front head r f d u s = sym (ap up_to_empty_line (behind text front head f d)) ∙ sym u ∙ s
+lies_nowhere text front head r f d u s = sym (ap up_to_empty_line (head_front text front head f d)) ∙ sym u ∙ s

@@ -6,7 +6,7 @@ use Rattle.as2_names.specs.Ascii.{comma}
 use Rattle.as2_names.specs.Names.{spelling}
 use Rattle.as2_names.specs.Identifiers.{IsIdentifier}
 use Rattle.as2_names.specs.Trim.{trimmed}
-use Rattle.as2_media.proofs.Padding.{Ends, IsSolid, one_ends, front_ends, padded_trimmed}
+use Rattle.as2_media.proofs.Padding.{IsUnpadded, IsSolid, one_ends, front_ends, padded_trimmed}
 use Rattle.as2_media.proofs.Spellings as media_found
 use Rattle.as2_media.specs.MediaTypes.{IsMediaType}
 use Rattle.as2_mic.specs.declared.alg.Alg.{Alg}
@@ -34,8 +34,8 @@ use Rattle.as2_mdn.proofs.WrittenBytes.{identifier_solid, value_trimmed, lacks_o
 
 -- ---- the head of the second part
 
-head_fields : fields (crlf type_line) ≡ (codes "Content-Type", codes "message/disposition-notification") ∷ []
-head_fields = field_line (codes "Content-Type") (codes " message/disposition-notification") [] (record { some = λ e. absurd cc; named = refl; whole = refl }) refl
+type_fields : fields (crlf type_line) ≡ (codes "Content-Type", codes "message/disposition-notification") ∷ []
+type_fields = field_line (codes "Content-Type") (codes " message/disposition-notification") [] (record { some = λ e. absurd cc; named = refl; whole = refl }) refl
 
 notification_type : IsMediaType (codes "message/disposition-notification") (record { type_name = codes "message"; subtype = codes "disposition-notification"; parameters = [] })
 notification_type = media_found.found_by (codes "message/disposition-notification") (Ok (record { type_name = codes "message"; subtype = codes "disposition-notification"; parameters = [] })) refl
@@ -47,37 +47,37 @@ notification_head = record {
   typed = record {
     text = codes "message/disposition-notification";
     media = record { type_name = codes "message"; subtype = codes "disposition-notification"; parameters = [] };
-    one = ap (field_values (codes "content-type")) head_fields;
+    one = ap (field_values (codes "content-type")) type_fields;
     is = notification_type;
     notification = refl;
   };
-  unencoded = inl (ap (field_values (codes "content-transfer-encoding")) head_fields);
+  unencoded = inl (ap (field_values (codes "content-transfer-encoding")) type_fields);
 }
 
 -- ---- the fields of the content
 
 -- the value of a field of which that text stands behind the colon
-abbrev value_of : List ℕ → List ℕ
-value_of raw = trimmed (raw ++ 13 ∷ 10 ∷ [])
+abbrev raw_value : List ℕ → List ℕ
+raw_value raw = trimmed (raw ++ 13 ∷ 10 ∷ [])
 
 abbrev mic_fields : Option ReportMic → List FieldText
 mic_fields None = []
-mic_fields (Some mic) = (codes "Received-content-MIC", value_of (32 ∷ mic_with_digest mic)) ∷ []
+mic_fields (Some mic) = (codes "Received-content-MIC", raw_value (32 ∷ mic_with_digest mic)) ∷ []
 
 abbrev fields_with : ReportOut → List FieldText → List FieldText
 fields_with out more =
-    (codes "Reporting-UA", value_of (codes " as2-station"))
-    ∷ (codes "Final-Recipient", value_of (codes " rfc822; " ++ spelling out.from))
-    ∷ (codes "Original-Message-ID", value_of (32 ∷ out.original_id))
-    ∷ (codes "Disposition", value_of (codes " automatic-action/MDN-sent-automatically; " ++ outcome_text out.outcome))
+    (codes "Reporting-UA", raw_value (codes " as2-station"))
+    ∷ (codes "Final-Recipient", raw_value (codes " rfc822; " ++ spelling out.from))
+    ∷ (codes "Original-Message-ID", raw_value (32 ∷ out.original_id))
+    ∷ (codes "Disposition", raw_value (codes " automatic-action/MDN-sent-automatically; " ++ outcome_text out.outcome))
     ∷ more
 
-named : (name raw : List ℕ) → (name ≡ [] → ⊥) → list_all is_field_name_byte name ≡ true → HasNoFeed (name ++ 58 ∷ raw) → Names name raw
-named name raw some bytes whole = record { some = some; named = bytes; whole = whole }
+names_field : (name raw : List ℕ) → (name ≡ [] → ⊥) → list_all is_field_name_byte name ≡ true → HasNoFeed (name ++ 58 ∷ raw) → Names name raw
+names_field name raw some bytes whole = record { some = some; named = bytes; whole = whole }
 
 mic_fields_are : (mic : Option ReportMic) → HaveNoFeed (mic_texts mic) → fields (joined (mic_texts mic)) ≡ mic_fields mic
 mic_fields_are None f = refl
-mic_fields_are (Some mic) f = field_line (codes "Received-content-MIC") (32 ∷ mic_with_digest mic) [] (named (codes "Received-content-MIC") (32 ∷ mic_with_digest mic) (λ e. absurd cc) refl f.0) refl
+mic_fields_are (Some mic) f = field_line (codes "Received-content-MIC") (32 ∷ mic_with_digest mic) [] (names_field (codes "Received-content-MIC") (32 ∷ mic_with_digest mic) (λ e. absurd cc) refl f.0) refl
 
 mic_free : (mic : Option ReportMic) → begins_with_blank (joined (mic_texts mic)) ≡ false
 mic_free None = refl
@@ -98,18 +98,18 @@ fields_are out mic f =
     let disposition = codes "Disposition" ++ 58 ∷ d in
     let id = codes "Original-Message-ID" ++ 58 ∷ 32 ∷ out.original_id in
     let recipient = codes "Final-Recipient" ++ 58 ∷ r in
-    field_line (codes "Reporting-UA") (codes " as2-station") (recipient ∷ id ∷ disposition ∷ m) (named _ _ (λ e. absurd cc) refl refl) refl
-    ∙ ap (λ (fs : List FieldText). (codes "Reporting-UA", value_of (codes " as2-station")) ∷ fs) (
-    field_line (codes "Final-Recipient") r (id ∷ disposition ∷ m) (named _ _ (λ e. absurd cc) refl f.from) refl
-    ∙ ap (λ (fs : List FieldText). (codes "Final-Recipient", value_of r) ∷ fs) (
-    field_line (codes "Original-Message-ID") (32 ∷ out.original_id) (disposition ∷ m) (named _ _ (λ e. absurd cc) refl f.id) refl
-    ∙ ap (λ (fs : List FieldText). (codes "Original-Message-ID", value_of (32 ∷ out.original_id)) ∷ fs) (
-    field_line (codes "Disposition") d m (named _ _ (λ e. absurd cc) refl f.outcome) (mic_free mic)
-    ∙ ap (λ (fs : List FieldText). (codes "Disposition", value_of d) ∷ fs) (mic_fields_are mic f.mic_lines))))
+    field_line (codes "Reporting-UA") (codes " as2-station") (recipient ∷ id ∷ disposition ∷ m) (names_field _ _ (λ e. absurd cc) refl refl) refl
+    ∙ ap (λ (fs : List FieldText). (codes "Reporting-UA", raw_value (codes " as2-station")) ∷ fs) (
+    field_line (codes "Final-Recipient") r (id ∷ disposition ∷ m) (names_field _ _ (λ e. absurd cc) refl f.from) refl
+    ∙ ap (λ (fs : List FieldText). (codes "Final-Recipient", raw_value r) ∷ fs) (
+    field_line (codes "Original-Message-ID") (32 ∷ out.original_id) (disposition ∷ m) (names_field _ _ (λ e. absurd cc) refl f.id) refl
+    ∙ ap (λ (fs : List FieldText). (codes "Original-Message-ID", raw_value (32 ∷ out.original_id)) ∷ fs) (
+    field_line (codes "Disposition") d m (names_field _ _ (λ e. absurd cc) refl f.outcome) (mic_free mic)
+    ∙ ap (λ (fs : List FieldText). (codes "Disposition", raw_value d) ∷ fs) (mic_fields_are mic f.mic_lines))))
 
 -- ---- the disposition
 
-disposition_is : (outcome : Outcome) → IsDisposition (value_of (codes " automatic-action/MDN-sent-automatically; " ++ outcome_text outcome)) (disposition_of outcome)
+disposition_is : (outcome : Outcome) → IsDisposition (raw_value (codes " automatic-action/MDN-sent-automatically; " ++ outcome_text outcome)) (disposition_of outcome)
 disposition_is DecryptionFailed = disposition_laws.found_by _ (Ok (disposition_of DecryptionFailed)) refl
 disposition_is DecompressionFailed = disposition_laws.found_by _ (Ok (disposition_of DecompressionFailed)) refl
 disposition_is AuthenticationFailed = disposition_laws.found_by _ (Ok (disposition_of AuthenticationFailed)) refl
@@ -119,7 +119,7 @@ disposition_is Processed = disposition_laws.found_by _ (Ok (disposition_of Proce
 
 -- ---- the MIC
 
-name_ends : (digest : Alg) → Ends (codes ", " ++ alg_name digest)
+name_ends : (digest : Alg) → IsUnpadded (codes ", " ++ alg_name digest)
 name_ends Md5 = front_ends (codes ", md") (codes "5") (one_ends 53 refl)
 name_ends Sha1 = front_ends (codes ", sha") (codes "1") (one_ends 49 refl)
 
@@ -138,10 +138,10 @@ text_some (b ∷ rest) some e = absurd cc
 solid_trimmed : (text : List ℕ) → IsSolid text → text ≡ trimmed text
 solid_trimmed text s = sym (padded_trimmed text text (record { front = []; back = []; whole = sym (append-nil text); blank_front = refl; blank_back = refl }) s)
 
-mic_value : (mic : ReportMic) → IsMicText mic.text → IsOfMicBytes mic.text → value_of (32 ∷ mic_with_digest mic) ≡ mic.text ++ (codes ", " ++ alg_name mic.digest)
-mic_value mic t b =
+mic_read_back : (mic : ReportMic) → IsMicText mic.text → IsOfMicBytes mic.text → raw_value (32 ∷ mic_with_digest mic) ≡ mic.text ++ (codes ", " ++ alg_name mic.digest)
+mic_read_back mic t b =
     let text = mic.text ++ (codes ", " ++ alg_name mic.digest) in
-    ap (λ (x : List ℕ). value_of (32 ∷ x)) (append_assoc mic.text (codes ", ") (alg_name mic.digest))
+    ap (λ (x : List ℕ). raw_value (32 ∷ x)) (append_assoc mic.text (codes ", ") (alg_name mic.digest))
     ∙ value_trimmed text (mic_solid_front mic.text (codes ", " ++ alg_name mic.digest) b t.some (name_ends mic.digest))
 
 mic_is : (mic : ReportMic) → IsMicText mic.text → IsOfMicBytes mic.text → IsMicField (mic.text ++ (codes ", " ++ alg_name mic.digest)) (mic.text, alg_name mic.digest)
@@ -158,15 +158,15 @@ mic_is mic t b = record {
 mic_given : (out : ReportOut) (mic : Option ReportMic) → HasMicText mic → HasMicBytes mic → IsMic (field_values (codes "received-content-mic") (fields_with out (mic_fields mic))) (mic_in_report mic)
 mic_given out None h b = refl
 mic_given out (Some mic) h b =
-    inl ((mic.text, alg_name mic.digest), subst (λ (x : List ℕ). IsMicField x (mic.text, alg_name mic.digest)) (sym (mic_value mic h b)) (mic_is mic h b), refl)
+    inl ((mic.text, alg_name mic.digest), subst (λ (x : List ℕ). IsMicField x (mic.text, alg_name mic.digest)) (sym (mic_read_back mic h b)) (mic_is mic h b), refl)
 
 -- ---- the content
 
-one_id : (out : ReportOut) (mic : Option ReportMic) → field_values (codes "original-message-id") (fields_with out (mic_fields mic)) ≡ value_of (32 ∷ out.original_id) ∷ []
+one_id : (out : ReportOut) (mic : Option ReportMic) → field_values (codes "original-message-id") (fields_with out (mic_fields mic)) ≡ raw_value (32 ∷ out.original_id) ∷ []
 one_id out None = refl
 one_id out (Some mic) = refl
 
-one_disposition : (out : ReportOut) (mic : Option ReportMic) → field_values (codes "disposition") (fields_with out (mic_fields mic)) ≡ value_of (codes " automatic-action/MDN-sent-automatically; " ++ outcome_text out.outcome) ∷ []
+one_disposition : (out : ReportOut) (mic : Option ReportMic) → field_values (codes "disposition") (fields_with out (mic_fields mic)) ≡ raw_value (codes " automatic-action/MDN-sent-automatically; " ++ outcome_text out.outcome) ∷ []
 one_disposition out None = refl
 one_disposition out (Some mic) = refl
 
@@ -180,7 +180,7 @@ notification_content out mic x h b f =
       whole = fields_found content;
       one_id = ap (field_values (codes "original-message-id")) are ∙ one_id out mic ∙ ap (λ (id : List ℕ). id ∷ []) (value_trimmed out.original_id (identifier_solid out.original_id x));
       is_id = x;
-      disposition_text = value_of (codes " automatic-action/MDN-sent-automatically; " ++ outcome_text out.outcome);
+      disposition_text = raw_value (codes " automatic-action/MDN-sent-automatically; " ++ outcome_text out.outcome);
       one_disposition = ap (field_values (codes "disposition")) are ∙ one_disposition out mic;
       is_disposition = disposition_is out.outcome;
       is_mic = subst (λ (fs : List FieldText). IsMic (field_values (codes "received-content-mic") fs) (mic_in_report mic)) (sym are) (mic_given out mic h b);

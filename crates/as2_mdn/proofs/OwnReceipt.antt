@@ -17,13 +17,13 @@ use Rattle.as2_mdn.specs.declared.report.ReportMic.{ReportMic}
 use Rattle.as2_mdn.specs.declared.report.ReportOut.{ReportOut}
 use Rattle.as2_mdn.proofs.OwnFields.{notification_content, notification_head}
 use Rattle.as2_mdn.proofs.OwnParts.{Feedless, two_parts, notification_part, mic_texts}
-use Rattle.as2_mdn.proofs.OwnType.{media_of, typed_as, boundary_is, kind_is}
+use Rattle.as2_mdn.proofs.OwnType.{spelled_media, typed_as, boundary_is, kind_is}
 use Rattle.as2_mdn.proofs.ReportReading.{again}
 use Rattle.as2_mdn.proofs.Written.{HaveNoFeed, no_feed_append}
 use Rattle.as2_mdn.proofs.WrittenBytes.{decimal_no_feed, identifier_no_feed, no_feed_of, spelling_no_feed}
 
-pub typed : ReportsHaveTypes
-typed out x = (media_of out.number, typed_as out.number x.number)
+pub reports_typed : ReportsHaveTypes
+reports_typed out x = (spelled_media out.number, typed_as out.number x.number)
 
 -- ---- no value has an LF
 
@@ -55,7 +55,7 @@ feedless out x b = record {
 
 -- ---- the report
 
-own : (out : ReportOut) → IsOut out → HasMicBytes out.mic → IsReport (media_of out.number) (report_text out) (receipt_of out)
+own : (out : ReportOut) → IsOut out → HasMicBytes out.mic → IsReport (spelled_media out.number) (report_text out) (receipt_of out)
 own out x b =
     let f = feedless out x b in
     record {
@@ -70,9 +70,9 @@ own out x b =
     }
 
 -- the media type that is spelled is that one
-media_is : (out : ReportOut) (media : Media) → IsOut out → IsMediaType (content_type_text out.number) media → media_of out.number ≡ media
+media_is : (out : ReportOut) (media : Media) → IsOut out → IsMediaType (content_type_text out.number) media → spelled_media out.number ≡ media
 media_is out media x m =
-    let same : Ok (media_of out.number) ≡ Ok media = sym (media_types.again (content_type_text out.number) (media_of out.number) (typed_as out.number x.number)) ∙ media_types.again (content_type_text out.number) media m in
+    let same : Ok (spelled_media out.number) ≡ Ok media = sym (media_types.again (content_type_text out.number) (spelled_media out.number) (typed_as out.number x.number)) ∙ media_types.again (content_type_text out.number) media m in
     cc same
 
 pub read : ReportsAreRead

@@ -14,8 +14,8 @@ use Rattle.as2_mdn.specs.Reports.{boundary_text, content_type_text}
 use Rattle.as2_mdn.proofs.WrittenBytes.{is_plain, decimal_plain}
 
 -- the media type that is spelled
-abbrev pub media_of : ℕ → Media
-media_of n = record {
+abbrev pub spelled_media : ℕ → Media
+spelled_media n = record {
   type_name = codes "multipart";
   subtype = codes "report";
   parameters = (codes "report-type", codes "disposition-notification") ∷ (codes "boundary", boundary_text n) ∷ [];
@@ -63,10 +63,10 @@ plain_boundary text h some short =
 boundary_short : (n : ℕ) → n < 2 ^ 64 → length (boundary_text n) ≤ 70
 boundary_short n small = omega (arith, length-decimal-le 20 n (omega arith) (omega (arith, small)) small)
 
-pub boundary_is : (n : ℕ) → n < 2 ^ 64 → boundary_of (media_of n) ≡ Some (boundary_text n)
+pub boundary_is : (n : ℕ) → n < 2 ^ 64 → boundary_of (spelled_media n) ≡ Some (boundary_text n)
 boundary_is n small = rw (plain_boundary (boundary_text n) (decimal_plain n small) (omega arith) (boundary_short n small)) refl
 
-pub kind_is : (n : ℕ) → kind_of (media_of n) ≡ kind.Report
+pub kind_is : (n : ℕ) → kind_of (spelled_media n) ≡ kind.Report
 kind_is n = refl
 
 -- ---- its spelling
@@ -101,7 +101,7 @@ boundary_given n small = record {
   given = unpadded (codes "\"" ++ boundary_text n ++ codes "\"");
 }
 
-pub typed_as : (n : ℕ) → n < 2 ^ 64 → IsMediaType (content_type_text n) (media_of n)
+pub typed_as : (n : ℕ) → n < 2 ^ 64 → IsMediaType (content_type_text n) (spelled_media n)
 typed_as n small = record {
   essence = codes "multipart/report";
   texts = codes " report-type=disposition-notification" ∷ (codes " boundary=\"" ++ boundary_text n ++ codes "\"") ∷ [];

@@ -211,7 +211,7 @@ one_value (first ∷ []) text h = let same : first ≡ text = cc in ap (λ (x : 
 one_value (first ∷ second ∷ others) text h = absurd cc
 
 -- what a content says that tells a receipt
-record Says (id disposition : Once) (mic : Mic) (receipt : ReceiptRead) : Type 0 where
+record ReceiptSaid (id disposition : Once) (mic : Mic) (receipt : ReceiptRead) : Type 0 where
   pub one_id : id ≡ One receipt.original_id
   pub is_id : is_identifier receipt.original_id ≡ true
   pub text : List ℕ
@@ -219,31 +219,31 @@ record Says (id disposition : Once) (mic : Mic) (receipt : ReceiptRead) : Type 0
   pub read : dispositions.reading text ≡ Ok receipt.disposition
   pub mic_is : receipt.mic ≡ mic
 
-says_read : (id text : List ℕ) (mic : Mic) (receipt : ReceiptRead) (r : Result (List ℕ × List ℕ) DispositionFault) → is_identifier id ≡ true → dispositions.reading text ≡ r → with_disposition id mic r ≡ Ok receipt → Says (One id) (One text) mic receipt
+says_read : (id text : List ℕ) (mic : Mic) (receipt : ReceiptRead) (r : Result (List ℕ × List ℕ) DispositionFault) → is_identifier id ≡ true → dispositions.reading text ≡ r → with_disposition id mic r ≡ Ok receipt → ReceiptSaid (One id) (One text) mic receipt
 says_read id text mic receipt (Ok d) good e h =
     let same : record { original_id = id; disposition = d; mic = mic } ≡ receipt = cc in
-    subst (Says (One id) (One text) mic) same (record { one_id = refl; is_id = good; text = text; one_disposition = refl; read = e; mic_is = refl })
+    subst (ReceiptSaid (One id) (One text) mic) same (record { one_id = refl; is_id = good; text = text; one_disposition = refl; read = e; mic_is = refl })
 says_read id text mic receipt (Err f) good e h = absurd cc
 
-says_disposed : (id : List ℕ) (disposition : Once) (mic : Mic) (receipt : ReceiptRead) → is_identifier id ≡ true → disposed id mic disposition ≡ Ok receipt → Says (One id) disposition mic receipt
+says_disposed : (id : List ℕ) (disposition : Once) (mic : Mic) (receipt : ReceiptRead) → is_identifier id ≡ true → disposed id mic disposition ≡ Ok receipt → ReceiptSaid (One id) disposition mic receipt
 says_disposed id Absent mic receipt good h = absurd cc
 says_disposed id (One text) mic receipt good h = says_read id text mic receipt (dispositions.reading text) good refl h
 says_disposed id Twice mic receipt good h = absurd cc
 
-says_identified : (id disposition : Once) (mic : Mic) (receipt : ReceiptRead) → identified_receipt mic id disposition ≡ Ok receipt → Says id disposition mic receipt
+says_identified : (id disposition : Once) (mic : Mic) (receipt : ReceiptRead) → identified_receipt mic id disposition ≡ Ok receipt → ReceiptSaid id disposition mic receipt
 says_identified Absent disposition mic receipt h = absurd cc
 says_identified (One id) disposition mic receipt h =
     let w = when (is_identifier id) fault.NoId (disposed id mic disposition) receipt h in
     says_disposed id disposition mic receipt w.0 w.1
 says_identified Twice disposition mic receipt h = absurd cc
 
-says : (id disposition : Once) (mic : Mic) (receipt : ReceiptRead) → told_receipt id disposition mic ≡ Ok receipt → Says id disposition mic receipt
-says id disposition mic receipt h =
+receipt_said : (id disposition : Once) (mic : Mic) (receipt : ReceiptRead) → told_receipt id disposition mic ≡ Ok receipt → ReceiptSaid id disposition mic receipt
+receipt_said id disposition mic receipt h =
     says_identified id disposition mic receipt (unless (is_twice id || is_twice disposition) fault.Twice (identified_receipt mic id disposition) receipt h).1
 
 content_found : (content : List ℕ) (receipt : ReceiptRead) → content_reading content ≡ Ok receipt → IsNotification content receipt
 content_found content receipt h =
-    let s = says (once_in content (codes "original-message-id")) (once_in content (codes "disposition")) (mic_once (once_in content (codes "received-content-mic"))) receipt h in
+    let s = receipt_said (once_in content (codes "original-message-id")) (once_in content (codes "disposition")) (mic_once (once_in content (codes "received-content-mic"))) receipt h in
     record {
       content_fields = fields content;
       whole = fields_found content;
@@ -275,12 +275,12 @@ part_found part receipt h =
       content = content_found part.1 receipt b.1;
     }
 
-report_by : (k : Kind) → is_kind_report k ≡ true → k ≡ kind.Report
-report_by kind.Document h = absurd cc
-report_by kind.Enveloped h = absurd cc
-report_by kind.Compressed h = absurd cc
-report_by kind.Signed h = absurd cc
-report_by kind.Report h = refl
+kind_is_report : (k : Kind) → is_kind_report k ≡ true → k ≡ kind.Report
+kind_is_report kind.Document h = absurd cc
+kind_is_report kind.Enveloped h = absurd cc
+kind_is_report kind.Compressed h = absurd cc
+kind_is_report kind.Signed h = absurd cc
+kind_is_report kind.Report h = refl
 
 two_found : (media : Media) (body : List ℕ) (receipt : ReceiptRead) (boundary : List ℕ) (r : Result (PartText × PartText) PartFault) → kind_of media ≡ kind.Report → boundary_of media ≡ Some boundary → parts.reading boundary body ≡ r → second_reading r ≡ Ok receipt → IsReport media body receipt
 two_found media body receipt boundary (Err f) k b e h = absurd cc
@@ -304,7 +304,7 @@ body_found media body receipt (Some boundary) k e h = two_found media body recei
 pub found : (media : Media) (body : List ℕ) (receipt : ReceiptRead) → reading media body ≡ Ok receipt → IsReport media body receipt
 found media body receipt h =
     let w = when (is_kind_report (kind_of media)) fault.NotReport (body_reading (boundary_of media) body) receipt h in
-    body_found media body receipt (boundary_of media) (report_by (kind_of media) w.0) refl w.1
+    body_found media body receipt (boundary_of media) (kind_is_report (kind_of media) w.0) refl w.1
 
 pub found_by : (media : Media) (body : List ℕ) (r : Result ReceiptRead ReportFault) → r ≡ reading media body → IfOk r (IsReport media body)
 found_by media body (Ok receipt) e = found media body receipt (sym e)

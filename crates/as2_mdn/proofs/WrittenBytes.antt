@@ -15,7 +15,7 @@ use Rattle.as2_names.specs.Identifiers.{IsIdentifier, value_of}
 use Rattle.as2_names.specs.Names.{IsName, is_escaped_mark, is_text_byte, escaped, spelling}
 use Rattle.as2_names.proofs.Cuts.{lacks_front}
 use Rattle.as2_names.specs.Trim.{trimmed}
-use Rattle.as2_media.proofs.Padding.{is_margin, IsSolid, Ends, one_ends, more_ends, front_ends, solid, padded_trimmed}
+use Rattle.as2_media.proofs.Padding.{is_margin, IsSolid, IsUnpadded, one_ends, more_ends, front_ends, solid, padded_trimmed}
 use Rattle.as2_parts.proofs.Laws.{HasNoFeed}
 use Rattle.as2_mdn.specs.MicBytes.{is_mic_byte}
 use Rattle.as2_mdn.proofs.Written.{no_feed_append}
@@ -122,12 +122,12 @@ printable_append [] b h = (and_parts (is_printable b) true h).0
 printable_append (x ∷ front) b h = printable_append front b (and_parts (is_printable x) (list_all is_printable (front ++ b ∷ [])) h).1
 
 -- a text whose last byte is no blank, read from behind
-ends_back : (text turned : List ℕ) → reverse text ≡ turned → list_all is_printable text ≡ true → (text ≡ [] → ⊥) → length turned ≤ length (skip_blanks turned) → Ends text
+ends_back : (text turned : List ℕ) → reverse text ≡ turned → list_all is_printable text ≡ true → (text ≡ [] → ⊥) → length turned ≤ length (skip_blanks turned) → IsUnpadded text
 ends_back text [] e printable some le = absurd (some (sym (reverse-reverse text) ∙ ap reverse e))
 ends_back text (x ∷ turned) e printable some le =
     let whole : text ≡ reverse turned ++ x ∷ [] = sym (reverse-reverse text) ∙ ap reverse e ∙ reverse-append (x ∷ []) turned in
     let last : is_printable x ≡ true = printable_append (reverse turned) x (rw (← whole) printable) in
-    subst Ends (sym whole) (front_ends (reverse turned) (x ∷ []) (one_ends x (is_margin_of x last (first_seen x turned le))))
+    subst IsUnpadded (sym whole) (front_ends (reverse turned) (x ∷ []) (one_ends x (is_margin_of x last (first_seen x turned le))))
 
 bare_solid : (text : List ℕ) → without_blanks text ≡ text → list_all is_printable text ≡ true → (text ≡ [] → ⊥) → IsSolid text
 bare_solid [] bare printable some = absurd (some refl)
@@ -157,7 +157,7 @@ mic_inside : (b : ℕ) → is_mic_byte b ≡ true → is_margin b ≡ false
 mic_inside b h =
     rw (other is_mic_byte b 32 refl h, other is_mic_byte b 9 refl h, other is_mic_byte b 10 refl h, other is_mic_byte b 13 refl h) refl
 
-mic_ends : (b : ℕ) (rest : List ℕ) → list_all is_mic_byte (b ∷ rest) ≡ true → Ends (b ∷ rest)
+mic_ends : (b : ℕ) (rest : List ℕ) → list_all is_mic_byte (b ∷ rest) ≡ true → IsUnpadded (b ∷ rest)
 mic_ends b [] h = one_ends b (mic_inside b (and_parts (is_mic_byte b) true h).0)
 mic_ends b (c ∷ rest) h = more_ends b (c ∷ rest) (mic_ends c rest (and_parts (is_mic_byte b) (list_all is_mic_byte (c ∷ rest)) h).1)
 
@@ -166,6 +166,6 @@ mic_solid [] h some = absurd (omega (arith, some))
 mic_solid (b ∷ rest) h some = solid b rest (mic_inside b (and_parts (is_mic_byte b) (list_all is_mic_byte rest) h).0) (mic_ends b rest h)
 
 -- and what stands behind it
-pub mic_solid_front : (text back : List ℕ) → list_all is_mic_byte text ≡ true → 0 < length text → Ends back → IsSolid (text ++ back)
+pub mic_solid_front : (text back : List ℕ) → list_all is_mic_byte text ≡ true → 0 < length text → IsUnpadded back → IsSolid (text ++ back)
 mic_solid_front [] back h some e = absurd (omega (arith, some))
 mic_solid_front (b ∷ rest) back h some e = solid b (rest ++ back) (mic_inside b (and_parts (is_mic_byte b) (list_all is_mic_byte rest) h).0) (front_ends (b ∷ rest) back e)

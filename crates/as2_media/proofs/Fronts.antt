@@ -128,13 +128,13 @@ back_again (b ∷ rest) =
     ]
 
 -- a text is empty, or begins with a byte that stays
-record Begins (text : List ℕ) : Type 0 where
+record HasNoFront (text : List ℕ) : Type 0 where
   pub first : ℕ
   pub rest : List ℕ
   pub is : text ≡ first ∷ rest
   pub on : falls_off first rest ≡ false
 
-fronted : (text : List ℕ) → (without_front text ≡ []) ⊎ Begins (without_front text)
+fronted : (text : List ℕ) → (without_front text ≡ []) ⊎ HasNoFront (without_front text)
 fronted [] = inl refl
 fronted (b ∷ rest) =
     elim (cases_Bool (falls_off b rest)) [

@@ -55,13 +55,13 @@ abbrev pub is_margin : ℕ → Bool
 is_margin b = is_blank b || (b == line_feed || b == carriage_return)
 
 -- the text is not empty, and blanks behind it alone come off
-pub record Ends (text : List ℕ) : Type 0 where
+pub record IsUnpadded (text : List ℕ) : Type 0 where
   pub some : text ≡ [] → ⊥
   pub back : (blanks : List ℕ) → all_fall_off blanks ≡ true → without_back (text ++ blanks) ≡ text
 
 -- and nothing comes off in front of it
 pub record IsSolid (text : List ℕ) : Type 0 where
-  pub ends : Ends text
+  pub ends : IsUnpadded text
   pub front : (behind : List ℕ) → without_front (text ++ behind) ≡ text ++ behind
 
 no_margin : (p q r x : Bool) → (p || (q || r)) ≡ false → (p || (q || (r && x))) ≡ false
@@ -73,30 +73,30 @@ no_margin false false false x h = refl
 pub stays : (b : ℕ) (rest : List ℕ) → is_margin b ≡ false → falls_off b rest ≡ false
 stays b rest h = no_margin (is_blank b) (b == line_feed) (b == carriage_return) (begins_with_lf rest) h
 
-pub one_ends : (b : ℕ) → is_margin b ≡ false → Ends (b ∷ [])
+pub one_ends : (b : ℕ) → is_margin b ≡ false → IsUnpadded (b ∷ [])
 one_ends b h = record {
   some = λ e. absurd cc;
   back = λ blanks off. rw (stays b blanks h, none_stays blanks off) refl;
 }
 
-some_stays : (text blanks : List ℕ) → Ends text → all_fall_off blanks ≡ true → all_fall_off (text ++ blanks) ≡ false
+some_stays : (text blanks : List ℕ) → IsUnpadded text → all_fall_off blanks ≡ true → all_fall_off (text ++ blanks) ≡ false
 some_stays text blanks e off =
     elim (cases_Bool (all_fall_off (text ++ blanks))) [
       | inl all ↦ absurd (e.some (sym (e.back blanks off) ∙ none_stays (text ++ blanks) all))
       | inr some ↦ some
     ]
 
-pub more_ends : (b : ℕ) (text : List ℕ) → Ends text → Ends (b ∷ text)
+pub more_ends : (b : ℕ) (text : List ℕ) → IsUnpadded text → IsUnpadded (b ∷ text)
 more_ends b text e = record {
   some = λ n. absurd cc;
   back = λ blanks off. rw (some_stays text blanks e off, and-false (falls_off b (text ++ blanks)), e.back blanks off) refl;
 }
 
-pub front_ends : (front text : List ℕ) → Ends text → Ends (front ++ text)
+pub front_ends : (front text : List ℕ) → IsUnpadded text → IsUnpadded (front ++ text)
 front_ends [] text e = e
 front_ends (b ∷ rest) text e = more_ends b (rest ++ text) (front_ends rest text e)
 
-pub solid : (b : ℕ) (rest : List ℕ) → is_margin b ≡ false → Ends (b ∷ rest) → IsSolid (b ∷ rest)
+pub solid : (b : ℕ) (rest : List ℕ) → is_margin b ≡ false → IsUnpadded (b ∷ rest) → IsSolid (b ∷ rest)
 solid b rest h e = record { ends = e; front = λ behind. rw (stays b (rest ++ behind) h) refl }
 
 -- blanks around a solid text come off

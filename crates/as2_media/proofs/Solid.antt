@@ -9,7 +9,7 @@ use Rattle.as2_names.specs.Blanks.{is_blank}
 use Rattle.as2_names.specs.Trim.{falls_off, all_fall_off, without_front, without_back, trimmed}
 use Rattle.as2_media.specs.Bytes.{is_token_byte, is_token, is_special, is_bare_byte}
 use Rattle.as2_media.specs.Values.{IsBare, SpellsValue, quoted}
-use Rattle.as2_media.proofs.Padding.{is_margin, IsSolid, Ends, one_ends, more_ends, front_ends, solid}
+use Rattle.as2_media.proofs.Padding.{is_margin, IsSolid, IsUnpadded, one_ends, more_ends, front_ends, solid}
 
 token_byte_inside : (b : ℕ) → is_token_byte b ≡ true → is_margin b ≡ false
 token_byte_inside b h =
@@ -17,7 +17,7 @@ token_byte_inside b h =
     let visible = p.0 in
     grind (arith, nat_tests, visible)
 
-tokens_end : (b : ℕ) (rest : List ℕ) → list_all is_token_byte (b ∷ rest) ≡ true → Ends (b ∷ rest)
+tokens_end : (b : ℕ) (rest : List ℕ) → list_all is_token_byte (b ∷ rest) ≡ true → IsUnpadded (b ∷ rest)
 tokens_end b [] h = one_ends b (token_byte_inside b (and_parts (is_token_byte b) true h).0)
 tokens_end b (c ∷ rest) h = more_ends b (c ∷ rest) (tokens_end c rest (and_parts (is_token_byte b) (list_all is_token_byte (c ∷ rest)) h).1)
 
@@ -88,7 +88,7 @@ bare_inside : (b : ℕ) (rest : List ℕ) → is_bare_byte b ≡ true → falls_
 bare_inside b rest h on =
     no_line (is_blank b) (b == carriage_return) (b == line_feed) (b == semicolon) (b == quote) h (blank_of (is_blank b) _ on)
 
-bare_end : (b : ℕ) (rest : List ℕ) → list_all is_bare_byte (b ∷ rest) ≡ true → without_back (b ∷ rest) ≡ b ∷ rest → Ends (b ∷ rest)
+bare_end : (b : ℕ) (rest : List ℕ) → list_all is_bare_byte (b ∷ rest) ≡ true → without_back (b ∷ rest) ≡ b ∷ rest → IsUnpadded (b ∷ rest)
 bare_end b [] h e =
     elim (cases_Bool (falls_off b [])) [
       | inl off ↦ absurd (let n : [] ≡ b ∷ [] = rw off at e in cc)

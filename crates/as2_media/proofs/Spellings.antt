@@ -66,7 +66,7 @@ parameter_found : (text : List ℕ) (p : List ℕ × List ℕ) → parameter tex
 parameter_found text p h = parameter_of_found text (cut_at equals_sign text) p refl h
 
 -- the parameters that are read, of which there are no more than there is room for
-record Reads (room : ℕ) (texts : List (List ℕ)) (ps : List (List ℕ × List ℕ)) : Type 0 where
+record ParametersRead (room : ℕ) (texts : List (List ℕ)) (ps : List (List ℕ × List ℕ)) : Type 0 where
   pub spell : Spell texts ps
   pub few : length ps ≤ room
 
@@ -87,7 +87,7 @@ and_then_found (suc room) text (Some p) (Err f) ps e h = absurd cc
 and_then_found (suc room) text (Some p) (Ok others) ps e h =
     record { first = p; others = others; is = sym (let same : p ∷ others ≡ ps = cc in same); read = e; behind = refl; some = omega arith }
 
-parameters_found : (room : ℕ) (texts : List (List ℕ)) (ps : List (List ℕ × List ℕ)) → parameters room texts ≡ Ok ps → Reads room texts ps
+parameters_found : (room : ℕ) (texts : List (List ℕ)) (ps : List (List ℕ × List ℕ)) → parameters room texts ≡ Ok ps → ParametersRead room texts ps
 parameters_found room [] ps h =
     let none : [] ≡ ps = cc in
     record { spell = sym none; few = rw (← none) (omega arith) }

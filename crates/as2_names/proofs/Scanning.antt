@@ -45,8 +45,8 @@ step_printable escaping b rest e no_quote no_slash p =
 pub met_all : (text items : List ℕ) (count : ℕ) (s : Scans text items count false (quote ∷ [])) → count ≤ 128 → items ≡ s.met
 met_all text items count s le = s.first ∙ take_all 128 s.met (omega (arith, s.all))
 
-pub is_name : (text items : List ℕ) (count : ℕ) → Scans text items count false (quote ∷ []) → 0 < count → count ≤ 128 → IsName items
-is_name text items count s lt le = rw (met_all text items count s le) (record { some = omega (arith, s.all); short = omega (arith, s.all); printable = s.printable })
+pub scanned_name : (text items : List ℕ) (count : ℕ) → Scans text items count false (quote ∷ []) → 0 < count → count ≤ 128 → IsName items
+scanned_name text items count s lt le = rw (met_all text items count s le) (record { some = omega (arith, s.all); short = omega (arith, s.all); printable = s.printable })
 
 pub finished : (text items : List ℕ) (count : ℕ) (s : Scans text items count false (quote ∷ [])) → fitted (units false text) ≡ fitting s.met
 finished text items count s = ap fitted (sym s.whole) ∙ ap fitting (append-nil s.met)

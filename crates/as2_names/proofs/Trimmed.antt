@@ -6,13 +6,13 @@ use Rattle.std.proofs.lemmas.List.{reverse-append, reverse-reverse}
 use Rattle.as2_names.specs.Blanks.{is_blank, skip_blanks, without_blanks}
 
 -- nothing is left, or it begins with a byte that is no blank
-record Begins (text : List ℕ) : Type 0 where
+record HasNoFront (text : List ℕ) : Type 0 where
   pub first : ℕ
   pub rest : List ℕ
   pub is : text ≡ first ∷ rest
   pub seen : is_blank first ≡ false
 
-skipped : (text : List ℕ) → (skip_blanks text ≡ []) ⊎ Begins (skip_blanks text)
+skipped : (text : List ℕ) → (skip_blanks text ≡ []) ⊎ HasNoFront (skip_blanks text)
 skipped [] = inl refl
 skipped (b ∷ rest) =
     elim (cases_Bool (is_blank b)) [
@@ -29,7 +29,7 @@ skip_keeps_last (a ∷ rest) b seen =
       | inr other ↦ (a ∷ rest, rw other refl)
     ]
 
-skip_again : (text : List ℕ) → Begins text → skip_blanks text ≡ text
+skip_again : (text : List ℕ) → HasNoFront text → skip_blanks text ≡ text
 skip_again text b = rw (b.is, b.seen) refl
 
 skip_skip : (text : List ℕ) → skip_blanks (skip_blanks text) ≡ skip_blanks text
@@ -40,7 +40,7 @@ skip_skip text =
     ]
 
 -- after the blanks at the end are taken off, the front is as it was
-front_stays : (text : List ℕ) → Begins text → skip_blanks (reverse (skip_blanks (reverse text))) ≡ reverse (skip_blanks (reverse text))
+front_stays : (text : List ℕ) → HasNoFront text → skip_blanks (reverse (skip_blanks (reverse text))) ≡ reverse (skip_blanks (reverse text))
 front_stays text b =
     let turned : reverse text ≡ reverse b.rest ++ b.first ∷ [] = ap reverse b.is ∙ reverse-append (b.first ∷ []) b.rest in
     let k = skip_keeps_last (reverse b.rest) b.first b.seen in

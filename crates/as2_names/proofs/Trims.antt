@@ -2,6 +2,7 @@
 use Rattle.std.proofs.Common.{◌≡◌, ℕ, ◌+◌, ◌-◌, ◌<◌, true, false, cond, List, [], ◌∷◌, ◌++◌, length, take, drop, get_or, refl, sym, subst, ◌∙◌, append_assoc, arith, inl, inr}
 use Rattle.std.proofs.lemmas.Bool.{cases_Bool}
 use Rattle.std.proofs.lemmas.List.{drop_more, take_more, take_all, length-drop}
+use Rattle.as2_names.proofs.Cuts.{behind_at}
 use Rattle.as2_names.specs.Trim.{falls_off, all_fall_off, without_back}
 
 -- what stays of a text of which `seen` were seen and `rest` were not: all that stays ends at `kept`, or in the rest
@@ -32,10 +33,6 @@ stays_on text kept seen b rest on s =
       | inl all ↦ rw all (s ∙ rw (on, none_stays rest all) refl)
       | inr some ↦ rw some (s ∙ rw on (sym (append_assoc seen (b ∷ []) (without_back rest))))
     ]
-
--- the bytes behind place i, as a slice up to the end gives them
-abbrev pub behind_at : List ℕ → ℕ → List ℕ
-behind_at text i = take (length text - (i + 1)) (drop (i + 1) text)
 
 behind_all : (text : List ℕ) (i : ℕ) → i < length text → behind_at text i ≡ drop (i + 1) text
 behind_all text i lt = take_all (length text - (i + 1)) (drop (i + 1) text) (omega (arith, length-drop (i + 1) text))

@@ -3,6 +3,7 @@ use Rattle.std.proofs.Common.{◌≡◌, ◌==◌, ℕ, ◌+◌, ◌-◌, ◌<�
 use Rattle.std.proofs.lemmas.Bool.{cases_Bool, ne_eqb, eq-eqb}
 use Rattle.std.proofs.lemmas.List.{drop_more, take_more, take_rest}
 use Rattle.std.specs.List.{onto_first, concat}
+use Rattle.as2_names.proofs.Cuts.{behind_at}
 use Rattle.as2_names.proofs.CutLists.{Cuts, cuts_on, cuts_here}
 use Rattle.as2_parts.specs.Lines.{lines}
 use Rattle.as2_parts.specs.Fields.{folded_lines, begins_with_blank}
@@ -20,10 +21,6 @@ lines_cut text i lt feed seen = rw (take_more text i 0 lt) (cuts_here (lines tex
 -- the text is cut behind that place
 abbrev pub is_cut_at : List ℕ → ℕ → Bool
 is_cut_at text i = get_or text i 0 == 10 && not (begins_with_blank (drop (i + 1) text))
-
--- what stands behind that place, as a slice up to the end gives it
-abbrev pub behind_at : List ℕ → ℕ → List ℕ
-behind_at text i = take (length text - (i + 1)) (drop (i + 1) text)
 
 pub cut_here : (text : List ℕ) (i : ℕ) → get_or text i 0 ≡ 10 → begins_with_blank (behind_at text i) ≡ false → is_cut_at text i ≡ true
 cut_here text i feed free =

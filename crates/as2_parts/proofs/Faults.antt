@@ -7,8 +7,8 @@ use Rattle.as2_parts.specs.declared.parts.Part.{Part}
 use Rattle.as2_parts.specs.declared.parts.PartFault.{PartFault}
 use Rattle.as2_parts.specs.Lines.{lines, is_delimiter, is_closing, is_mark}
 use Rattle.as2_parts.specs.Parts.{PartText, part_of, before_mark, from_mark, behind_first, behind_preamble, reading, delimiters, fault_of, part_fault, shown}
-use Rattle.as2_parts.proofs.Reading.{closed_by}
-use Rattle.as2_parts.proofs.TwoParts.{cut_at}
+use Rattle.as2_parts.proofs.Reading.{closing_after}
+use Rattle.as2_parts.proofs.TwoParts.{cut_from}
 
 -- the delimiters stand from the first mark on
 delimiters_from : (boundary : List ℕ) (ls : List (List ℕ)) → delimiters boundary (from_mark boundary ls) ≡ delimiters boundary ls
@@ -27,7 +27,7 @@ count_by boundary ls tail found = sym (delimiters_from boundary ls) ∙ ap (deli
 -- a mark that closes nothing counts
 counts : (boundary : List ℕ) (ls : List (List ℕ)) (mark : List ℕ) (after : List (List ℕ)) → from_mark boundary ls ≡ mark ∷ after → is_closing boundary mark ≡ false → delimiters boundary ls ≡ 1 + delimiters boundary after
 counts boundary ls mark after found plain =
-    elim (or_cases (is_delimiter boundary mark) (is_closing boundary mark) (cut_at boundary ls mark after found).marks) [
+    elim (or_cases (is_delimiter boundary mark) (is_closing boundary mark) (cut_from boundary ls mark after found).marks) [
       | inl d ↦ count_by boundary ls (mark ∷ after) found ∙ rw (plain, d) refl
       | inr c ↦ absurd (cc (sym plain ∙ c))
     ]
@@ -55,7 +55,7 @@ first_fault boundary ls (mark ∷ rest) found =
     elim (cases_Bool (is_closing boundary mark)) [
       | inl closes ↦ rw (counts_none boundary ls mark rest found closes, closes) refl
       | inr plain ↦
-          let any : list_any (is_closing boundary) ls ≡ list_any (is_closing boundary) rest = closed_by boundary ls mark rest found ∙ rw plain refl in
+          let any : list_any (is_closing boundary) ls ≡ list_any (is_closing boundary) rest = closing_after boundary ls mark rest found ∙ rw plain refl in
           elim (cases_Bool (list_any (is_closing boundary) rest)) [
             | inl closed ↦ rw (counts boundary ls mark rest found plain, any, plain, closed) (second_fault boundary (part_of (before_mark boundary rest)) rest (from_mark boundary rest) refl)
             | inr none ↦ rw (counts boundary ls mark rest found plain, any, plain, none, not_zero (delimiters boundary rest)) refl

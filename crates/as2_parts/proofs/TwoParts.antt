@@ -11,7 +11,7 @@ use Rattle.as2_parts.specs.declared.parts.PartFault.TheVariants.{NoDelimiter, On
 use Rattle.as2_parts.specs.Lines.{lines, is_delimiter, is_closing, is_mark, IsDelimiter, IsClosing}
 use Rattle.as2_parts.specs.Parts.{PartText, part_of, before_mark, from_mark, behind_first, behind_preamble, reading, IsMark, HasNoMark, IsTwoParts, part_text, shown}
 use Rattle.as2_parts.proofs.Deciding.{delimiter_is, is_delimiter_of, closing_is, is_closing_of, mark_is, is_mark_of, plain_of, plain_is, delimiter_opens}
-use Rattle.as2_parts.proofs.Reading.{Opens, closing_from, closed_by, reads_two}
+use Rattle.as2_parts.proofs.Reading.{HasDelimiter, closing_from, closing_after, reads_two}
 
 abbrev Plain : List ℕ → List (List ℕ) → Type 0
 Plain boundary ls = All (λ line. is_mark boundary line ≡ false) ls
@@ -34,9 +34,9 @@ pub record Cut (boundary : List ℕ) (ls : List (List ℕ)) (mark : List ℕ) (a
   pub whole : ls ≡ before_mark boundary ls ++ mark ∷ after
   pub marks : is_mark boundary mark ≡ true
 
-pub cut_at : (boundary : List ℕ) (ls : List (List ℕ)) (mark : List ℕ) (after : List (List ℕ)) → from_mark boundary ls ≡ mark ∷ after → Cut boundary ls mark after
-cut_at boundary [] mark after e = absurd cc
-cut_at boundary (line ∷ rest) mark after e =
+pub cut_from : (boundary : List ℕ) (ls : List (List ℕ)) (mark : List ℕ) (after : List (List ℕ)) → from_mark boundary ls ≡ mark ∷ after → Cut boundary ls mark after
+cut_from boundary [] mark after e = absurd cc
+cut_from boundary (line ∷ rest) mark after e =
     elim (cases_Bool (is_mark boundary line)) [
       | inl here ↦
           let same : line ∷ rest ≡ mark ∷ after = rw here at e in
@@ -44,7 +44,7 @@ cut_at boundary (line ∷ rest) mark after e =
           record { whole = rw here same; marks = rw (← first) here }
       | inr plain ↦
           let later : from_mark boundary rest ≡ mark ∷ after = rw plain at e in
-          let more = cut_at boundary rest mark after later in
+          let more = cut_from boundary rest mark after later in
           record { whole = rw plain (ap (λ (ls : List (List ℕ)). line ∷ ls) more.whole); marks = more.marks }
     ]
 
@@ -63,7 +63,7 @@ before_mark_at boundary (line ∷ front) mark after plain marks =
 -- ---- what is read
 
 -- the answer has a first delimiter, a second one and a closing line behind it
-record Reads (boundary : List ℕ) (ls : List (List ℕ)) (first second : PartText) : Type 0 where
+record TwoPartsRead (boundary : List ℕ) (ls : List (List ℕ)) (first second : PartText) : Type 0 where
   pub opening : List ℕ
   pub after : List (List ℕ)
   pub between : List ℕ
@@ -76,18 +76,18 @@ record Reads (boundary : List ℕ) (ls : List (List ℕ)) (first second : PartTe
   pub first_part : first ≡ part_of (before_mark boundary after)
   pub second_part : second ≡ part_of (before_mark boundary rest)
 
-chosen : (t : Bool) (fault : PartFault) (r : Result (PartText × PartText) PartFault) (p : PartText × PartText) → cond t (Err fault) r ≡ Ok p → (t ≡ false) × (r ≡ Ok p)
-chosen true fault r p e = absurd cc
-chosen false fault r p e = (refl, e)
+without_fault : (t : Bool) (fault : PartFault) (r : Result (PartText × PartText) PartFault) (p : PartText × PartText) → cond t (Err fault) r ≡ Ok p → (t ≡ false) × (r ≡ Ok p)
+without_fault true fault r p e = absurd cc
+without_fault false fault r p e = (refl, e)
 
 guarded : (t : Bool) (fault : PartFault) (r : Result (PartText × PartText) PartFault) (p : PartText × PartText) → cond t r (Err fault) ≡ Ok p → (t ≡ true) × (r ≡ Ok p)
 guarded true fault r p e = (refl, e)
 guarded false fault r p e = absurd cc
 
-reads_second : (boundary : List ℕ) (ls : List (List ℕ)) (opening : List ℕ) (after : List (List ℕ)) (tail : List (List ℕ)) (first second : PartText) → from_mark boundary ls ≡ opening ∷ after → is_closing boundary opening ≡ false → list_any (is_closing boundary) after ≡ true → from_mark boundary after ≡ tail → behind_first boundary (part_of (before_mark boundary after)) tail ≡ Ok (first, second) → Reads boundary ls first second
+reads_second : (boundary : List ℕ) (ls : List (List ℕ)) (opening : List ℕ) (after : List (List ℕ)) (tail : List (List ℕ)) (first second : PartText) → from_mark boundary ls ≡ opening ∷ after → is_closing boundary opening ≡ false → list_any (is_closing boundary) after ≡ true → from_mark boundary after ≡ tail → behind_first boundary (part_of (before_mark boundary after)) tail ≡ Ok (first, second) → TwoPartsRead boundary ls first second
 reads_second boundary ls opening after [] first second starts opens closed found e = absurd cc
 reads_second boundary ls opening after (mark ∷ rest) first second starts opens closed found e =
-    let c = chosen (is_closing boundary mark) OnePart (Ok (part_of (before_mark boundary after), part_of (before_mark boundary rest))) (first, second) e in
+    let c = without_fault (is_closing boundary mark) OnePart (Ok (part_of (before_mark boundary after), part_of (before_mark boundary rest))) (first, second) e in
     let same : (part_of (before_mark boundary after), part_of (before_mark boundary rest)) ≡ (first, second) = cc c.1 in
     record {
       opening = opening;
@@ -103,10 +103,10 @@ reads_second boundary ls opening after (mark ∷ rest) first second starts opens
       second_part = sym (ap (λ (p : PartText × PartText). p.1) same);
     }
 
-reads_first : (boundary : List ℕ) (ls tail : List (List ℕ)) (first second : PartText) → from_mark boundary ls ≡ tail → behind_preamble boundary tail ≡ Ok (first, second) → Reads boundary ls first second
+reads_first : (boundary : List ℕ) (ls tail : List (List ℕ)) (first second : PartText) → from_mark boundary ls ≡ tail → behind_preamble boundary tail ≡ Ok (first, second) → TwoPartsRead boundary ls first second
 reads_first boundary ls [] first second found e = absurd cc
 reads_first boundary ls (mark ∷ rest) first second found e =
-    let c = chosen (is_closing boundary mark) NoDelimiter _ (first, second) e in
+    let c = without_fault (is_closing boundary mark) NoDelimiter _ (first, second) e in
     let g = guarded (list_any (is_closing boundary) rest) NotClosed _ (first, second) c.1 in
     reads_second boundary ls mark rest (from_mark boundary rest) first second found c.0 g.0 refl g.1
 
@@ -128,18 +128,18 @@ has_closing boundary ls e = let a = Any-from_list_any (is_closing boundary) ls e
 -- a closing line stands behind the second delimiter
 closed_behind : (boundary : List ℕ) (after : List (List ℕ)) (between : List ℕ) (rest : List (List ℕ)) → from_mark boundary after ≡ between ∷ rest → is_closing boundary between ≡ false → list_any (is_closing boundary) after ≡ true → list_any (is_closing boundary) (from_mark boundary rest) ≡ true
 closed_behind boundary after between rest found parts closed =
-    let both : (is_closing boundary between || list_any (is_closing boundary) rest) ≡ true = sym (closed_by boundary after between rest found) ∙ closed in
+    let both : (is_closing boundary between || list_any (is_closing boundary) rest) ≡ true = sym (closing_after boundary after between rest found) ∙ closed in
     let later : list_any (is_closing boundary) rest ≡ true = rw parts at both in
     closing_from boundary rest ∙ later
 
 pub found : (boundary body : List ℕ) (first second : PartText) → reading boundary body ≡ Ok (first, second) → IsTwoParts boundary body first second
 found boundary body first second e =
     let r = reads_first boundary (lines body) (from_mark boundary (lines body)) first second refl e in
-    let a = cut_at boundary (lines body) r.opening r.after r.starts in
-    let b = cut_at boundary r.after r.between r.rest r.goes_on in
+    let a = cut_from boundary (lines body) r.opening r.after r.starts in
+    let b = cut_from boundary r.after r.between r.rest r.goes_on in
     let closed = closed_behind boundary r.after r.between r.rest r.goes_on r.parts r.closed in
     let k = ends_by boundary (from_mark boundary r.rest) closed in
-    let c = cut_at boundary r.rest k.0 k.1 k.2 in
+    let c = cut_from boundary r.rest k.0 k.1 k.2 in
     let behind : r.after ≡ before_mark boundary r.after ++ r.between ∷ (before_mark boundary r.rest ++ k.0 ∷ k.1) = b.whole ∙ ap (λ (ls : List (List ℕ)). before_mark boundary r.after ++ r.between ∷ ls) c.whole in
     record {
       preamble = before_mark boundary (lines body);
@@ -179,12 +179,12 @@ again boundary body first second t =
     let plain_second = plain_lines boundary t.second_lines t.in_second in
     let between_marks = delimiter_marks boundary t.between t.parts in
     let next_marks = is_mark_of boundary t.next t.ends in
-    let opens : Opens boundary body t.opening after = record {
+    let opens : HasDelimiter boundary body t.opening after = record {
       found = ap (from_mark boundary) t.whole ∙ from_mark_at boundary t.preamble t.opening after plain (delimiter_marks boundary t.opening t.opens);
       opens = delimiter_opens boundary t.opening (is_delimiter_of boundary t.opening t.opens);
     } in
     let goes = from_mark_at boundary t.first_lines t.between rest plain_first between_marks in
-    let closed = closed_by boundary rest t.next t.rest (from_mark_at boundary t.second_lines t.next t.rest plain_second next_marks) ∙ closes boundary (t.next ∷ t.rest) t.closed in
+    let closed = closing_after boundary rest t.next t.rest (from_mark_at boundary t.second_lines t.next t.rest plain_second next_marks) ∙ closes boundary (t.next ∷ t.rest) t.closed in
     let one : part_of (before_mark boundary after) ≡ first = ap part_of (before_mark_at boundary t.first_lines t.between rest plain_first between_marks) ∙ sym t.first_part in
     let two : part_of (before_mark boundary rest) ≡ second = ap part_of (before_mark_at boundary t.second_lines t.next t.rest plain_second next_marks) ∙ sym t.second_part in
     sym (reads_two boundary body t.opening after t.between rest opens goes (delimiter_opens boundary t.between (is_delimiter_of boundary t.between t.parts)) closed) ∙ (λ i. Ok (one i, two i))

@@ -14,7 +14,7 @@ pub use answering::answer_to;
 pub use documents::document;
 pub use entry::{first_entry, is_requeued};
 pub use opening::{Opened, open};
-pub use repeating::repeats;
+pub use repeating::{has_kept_mic, repeats};
 
 #[cfg(test)]
 mod tests;

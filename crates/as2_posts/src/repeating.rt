@@ -1,9 +1,11 @@
-//! Whether a post repeats an earlier one.
+//! Whether a post repeats an earlier one, and whether that is still the one that came.
 ghost use Rattle.std.specs.Prelude.{◌≡◌};
 ghost use Rattle.as2_exchange.specs.Posts.{how_eq, mic_eq, repeats};
+ghost use Rattle.as2_posts.specs.Answers.{has_kept_mic};
 
 use as2_exchange::{Posted, ReceiptDelivery};
 use as2_mdn::ReportMic;
+use as2_mic::mic_of_pieces;
 
 fn how_eq(one: &ReceiptDelivery, other: &ReceiptDelivery) -> bool
     ensures { result ≡ how_eq one.now other.now }
@@ -41,4 +43,14 @@ pub fn repeats(one: &Posted, other: &Posted) -> bool
         && one.outcome == other.outcome
         && how_eq(&one.how, &other.how)
         && mic_eq(&one.mic, &other.mic)
+}
+
+/// Whether the content that is kept still has the MIC that is kept with it; true where none is (RFC 4130, section 7.3.1).
+pub fn has_kept_mic(posted: &Posted) -> bool
+    ensures { result ≡ has_kept_mic posted.now }
+{
+    match &posted.mic {
+        None => true,
+        Some(kept) => mic_of_pieces(kept.digest, &posted.content).bytes() == kept.text.bytes(),
+    }
 }

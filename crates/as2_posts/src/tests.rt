@@ -193,6 +193,25 @@ fn a_repeat_is_the_same_in_all(rt: HostRuntime) {
     }
 }
 
+#[test]
+fn a_damaged_content_has_another_mic(rt: HostRuntime) {
+    let Some(posted) = usual(rt.alloc()) else {
+        assert!(rt; false);
+        return;
+    };
+    assert!(rt; has_kept_mic(&posted));
+    let damaged = Posted {
+        content: Pieces::new(rt.alloc()),
+        ..posted
+    };
+    assert!(rt; !has_kept_mic(&damaged));
+    let refused = Posted {
+        mic: None,
+        ..damaged
+    };
+    assert!(rt; has_kept_mic(&refused));
+}
+
 fn entry(posted: Option<Result<Posted, Line>>) -> Option<InEntry> {
     let moment = Moment::new(1000)?;
     Some(first_entry(7, moment, posted?.ok()?))

@@ -124,8 +124,8 @@ pub joined_all : (rows : List Row) (n size : ℕ) (content : List ℕ) (i : ℕ)
 joined_all rows n size content i h past = sym (take_all i rows past) ∙ h.shown
 
 -- the lesser of two, as code finds it
-pub least : (m n : ℕ) → ord_min nat_cmp m n ≡ min m n
-least m n = grind (arith, nat_tests)
+pub min_lesser : (m n : ℕ) → ord_min nat_cmp m n ≡ min m n
+min_lesser m n = grind (arith, nat_tests)
 
 -- the piece at place i of a content of that size is as long as the test wants it
 pub as_long : (rows : List Row) (n size : ℕ) (c content : List ℕ) (i : ℕ) → rows ≡ map piece_shown (pieces n c) → length c ≡ size → Joined rows n size content i → i < length rows

@@ -15,8 +15,8 @@ use Rattle.as2_store.specs.Calls.{Commits, Keeps, KeepsNext, Reads, Writes}
 use Rattle.as2_store.proofs.Querying.{survives_same}
 use Rattle.as2_station.specs.Steps.{Does, Machine, MayLeave}
 
-same_state : (db : Trees) (s : State) → KeepsNext db (Some s) → Keeps db s
-same_state db s it = subst (Keeps db) (let same : it.state ≡ s = (let i = it.is in cc) in same) it.keeps
+next_kept : (db : Trees) (s : State) → KeepsNext db (Some s) → Keeps db s
+next_kept db s it = subst (Keeps db) (let same : it.state ≡ s = (let i = it.is in cc) in same) it.keeps
 
 pub never_full : {X : Type 0} (f : StoreFault) → may_come f ≡ true → f ≡ Full → X
 never_full f may full = absurd (let no = subst (λ g. may_come g ≡ true) full may in cc)
@@ -57,7 +57,7 @@ module _ {A : Type 0} (machine : Machine) (given : State → Type 0) (asks : Typ
     answered = λ clean. tt;
     failed = λ clean s rests known. (it.same clean s rests, never_full f may);
     fault = inr may;
-    crash = survives_weaker old new (Commits Some old) (MayLeave machine given old) (λ clean db is. record { was_open = is.was_open; stands = λ s rests known. inl (same_state db s (is.stands s rests)) }) it.crash;
+    crash = survives_weaker old new (Commits Some old) (MayLeave machine given old) (λ clean db is. record { was_open = is.was_open; stands = λ s rests known. inl (next_kept db s (is.stands s rests)) }) it.crash;
   }
 
   -- what follows a read
@@ -70,7 +70,7 @@ module _ {A : Type 0} (machine : Machine) (given : State → Type 0) (asks : Typ
     failed = λ clean. IfErr-weaker r _ _ (λ f left s rests known. left s (one.same (two.clean clean) s rests) (leads s known (one.answer (two.clean clean) s rests))) (two.failed clean);
     fault = two.fault;
     crash = survives_then old mid new (Commits Some old) (MayLeave machine given_then mid) (MayLeave machine given old)
-        (λ _ db is. record { was_open = is.was_open; stands = λ s rests known. inl (same_state db s (is.stands s rests)) })
+        (λ _ db is. record { was_open = is.was_open; stands = λ s rests known. inl (next_kept db s (is.stands s rests)) })
         (λ clean db is.
         let was : HasCleanDisk mid = two.clean clean in
         record { was_open = one.was_open was; stands = λ s rests known. is.stands s (one.same was s rests) (leads s known (one.answer was s rests)) })

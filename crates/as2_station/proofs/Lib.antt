@@ -1,3 +1,4 @@
+mod Clashing
 mod Doing
 mod Numbers
 mod Playing

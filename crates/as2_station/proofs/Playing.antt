@@ -2,11 +2,12 @@
 use Rattle.std.proofs.Common.{◌≡◌, List, [], ◌∷◌, ◌++◌, length, Result, Ok, Err, refl, sym, subst, arith}
 use Rattle.sqlite.specs.Store.{Ghosts}
 use Rattle.sqlite.specs.Held.{Held, state}
-use Rattle.sqlite.specs.State.{HasCleanDisk}
+use Rattle.sqlite.specs.State.{State as Connected, HasCleanDisk}
 use Rattle.as2_exchange.specs.Agreement.{Agreements}
 use Rattle.as2_exchange.specs.declared.event.Event.{Event}
 use Rattle.as2_exchange.specs.declared.answer.Answer.{Answer}
 use Rattle.as2_exchange.specs.declared.answer.Answer.TheVariants.{Http}
+use Rattle.as2_exchange.specs.declared.answer.HttpAnswer.{HttpAnswer}
 use Rattle.as2_exchange.specs.declared.fault.StoreFault.{StoreFault}
 use Rattle.as2_store.specs.Stands.{Rests}
 use Rattle.as2_station.specs.Steps.{TakesEvent, TakesHead}
@@ -38,6 +39,14 @@ module _ {S : Type 0} (g : Ghosts S) (A : Agreements) where
       let now = it.1.does.failed (taken_clean es rs it.0 new it.3 clean) s rests tt in
       let later = taken_plays es rs it.0 new it.3 clean s now.0 in
       record { end = later.end; run = (now.1, later.run); rests = later.rests }
+
+-- what takes a post takes the event
+pub as_event : (A : Agreements) (e : Event) (old new : Connected) (a : HttpAnswer) → TakesEvent A e Http old new (Ok a) → TakesEvent A e (λ a. a) old new (Ok (Http a))
+as_event A e old new a it = record {
+  does = record { clean = it.does.clean; is_open = it.does.is_open; answered = it.does.answered; failed = it.does.failed; fault = it.does.fault; crash = it.does.crash };
+  lasts = it.lasts;
+  whole = it.whole;
+}
 
 pub nothing_left : {X : Type 0} (xs : List X) → length xs ≡ 0 → xs ≡ []
 nothing_left [] none = refl

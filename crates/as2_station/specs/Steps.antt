@@ -6,14 +6,18 @@ use Rattle.sqlite.specs.State.{State as Connected, HasCleanDisk, Survives}
 use Rattle.sqlite_trees.specs.Tree.{Trees}
 use Rattle.as2_exchange.specs.Agreement.{Agreements}
 use Rattle.as2_exchange.specs.Readings.{Head}
-use Rattle.as2_exchange.specs.Posts.{Reading, Refuses, reading}
+use Rattle.as2_exchange.specs.Posts.{Reading, Refuses, IsDocument, reading}
 use Rattle.as2_exchange.specs.Step.{post, step}
 use Rattle.as2_exchange.specs.declared.event.Event.{Event}
 use Rattle.as2_exchange.specs.declared.event.Event.TheVariants.{Post}
 use Rattle.as2_exchange.specs.declared.answer.HttpAnswer.{HttpAnswer}
 use Rattle.as2_exchange.specs.declared.answer.Line.{Line}
+use Rattle.as2_exchange.specs.declared.answer.Line.TheVariants.{IdUsedBefore}
+use Rattle.as2_exchange.specs.declared.inbox.InEntry.{InEntry}
+use Rattle.as2_exchange.specs.declared.inbox.Posted.{Posted}
 use Rattle.as2_exchange.specs.Lines.{refusal}
-use Rattle.as2_exchange.specs.State.{State}
+use Rattle.as2_exchange.specs.State.{State, received_as}
+use Rattle.as2_posts.specs.Answers.{has_kept_mic}
 use Rattle.as2_exchange.specs.declared.answer.Answer.{Answer}
 use Rattle.as2_exchange.specs.declared.answer.Answer.TheVariants.{Http}
 use Rattle.as2_exchange.specs.declared.fault.StoreFault.{StoreFault}
@@ -56,10 +60,21 @@ pub record Does {A : Type 0} (machine : Machine) (given : State → Type 0) (ask
 abbrev pub always : State → Type 0
 always s = ⊤
 
--- a call that takes an event; and what the tables stand for then lasts, whatever stops the machine
+-- the document that is kept under this one's key, if there is one, has its kept MIC
+abbrev pub IsKeptWhole : Posted → State → Type 0
+IsKeptWhole p s = (e : InEntry) → received_as s p ≡ Some e → has_kept_mic e.posted ≡ true
+
+-- an identifier is told to be another document's only where that one is kept whole
+abbrev pub ClashesWhole : {A : Type 0} → (A → Answer) → Reading → Connected → Connected → Result A StoreFault → Type 0
+ClashesWhole told reads old new r = HasCleanDisk new
+    → IfOk r (λ a. told a ≡ Http (refusal IdUsedBefore) → (p : Posted) → reads ≡ IsDocument p → (s : State) → Rests old s → IsKeptWhole p s)
+
+-- a call that takes an event; what the tables stand for then lasts, whatever stops the machine; and what is damaged is not
+-- taken for another document
 pub record TakesEvent {A : Type 0} (agreed : Agreements) (event : Event) (told : A → Answer) (old new : Connected) (r : Result A StoreFault) : Type 0 where
   pub does : Does (λ s. step agreed s event) always (asks_store agreed event ≡ true) told old new r
   pub lasts : IsTrue new.is_open → (s : State) → Rests new s → Lasts new s
+  pub whole : (head : Head) (body : List ℕ) (moment : ℕ) → event ≡ Post head body moment → ClashesWhole told (reading agreed head body) old new r
 
 -- a call that takes a post that is read so, in each state of which this is given
 abbrev pub TakesPost : {S : Type 0} → Ghosts S → Agreements → ℕ → Reading → (State → Type 0) → Held S → Held S → Result HttpAnswer StoreFault → Type 0

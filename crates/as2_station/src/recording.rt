@@ -1,21 +1,25 @@
 //! Documents that are posted: each is recorded once.
-ghost use Rattle.std.specs.Prelude.{◌≡◌, Some, IsTrue};
+ghost use Rattle.std.specs.Prelude.{◌≡◌, Ok, Some, IsTrue, true};
 ghost use Rattle.sqlite.specs.Held.{state};
 ghost use Rattle.sqlite.specs.State.{HasCleanDisk};
 ghost use Rattle.as2_exchange.specs.State.{received_as};
+ghost use Rattle.as2_exchange.specs.Lines.{refusal};
 ghost use Rattle.as2_exchange.specs.Posts.{IsDocument};
-ghost use Rattle.as2_station.specs.Steps.{TakesPost, always};
+ghost use Rattle.as2_exchange.specs.declared.answer.Answer.TheVariants.{Http};
+ghost use Rattle.as2_exchange.specs.declared.answer.Line.TheVariants.{IdUsedBefore};
+ghost use Rattle.as2_posts.specs.Answers.{has_kept_mic};
+ghost use Rattle.as2_station.specs.Steps.{ClashesWhole, TakesPost, always};
 
 use as2_agreement::Agreements;
 use as2_exchange::{HttpAnswer, InEntry, Line, Posted, StoreFault};
-use as2_posts::{answer_to, first_entry, is_requeued, repeats};
+use as2_posts::{answer_to, first_entry, has_kept_mic, is_requeued, repeats};
 use as2_store::Store;
 use as2_text::Moment;
 use sqlite::Alter;
 use std::alloc::Global;
 
 /// Takes a document whose key an entry has: a repeat of the entry's document is answered as that was, and its receipt is
-/// queued again where a repeat does so; any other is refused.
+/// queued again where a repeat does so. Any other is refused, unless the entry's own document is damaged: that is Disk.
 #[tactic(auto, unfolding(as2_exchange::specs::Recording::record_post))]
 fn record_again<S: Alter>(
     store: &mut Store<S>,
@@ -27,8 +31,12 @@ fn record_again<S: Alter>(
 ) -> Result<HttpAnswer, StoreFault>
     requires open { HasCleanDisk (state S.Store store.old) → IsTrue (state S.Store store.old).is_open }
     ensures taken { TakesPost S.Store agreements.now moment (IsDocument posted.now) (λ s. received_as s posted.now ≡ Some entry.now) store.old store.new result }
+    ensures whole { result ≡ Ok (refusal IdUsedBefore) → has_kept_mic entry.now.posted ≡ true }
 {
     if !repeats(&entry.posted, posted) {
+        if !has_kept_mic(&entry.posted) {
+            return Err(StoreFault::Disk);
+        }
         return Ok(Line::IdUsedBefore.answer());
     }
     let answer = answer_to(alloc, agreements, entry.number, &entry.posted)?;
@@ -49,6 +57,7 @@ pub fn record<S: Alter>(
     moment: Moment,
 ) -> Result<HttpAnswer, StoreFault>
     ensures taken { TakesPost S.Store agreements.now moment (IsDocument posted) always store.old store.new result }
+    ensures whole { ClashesWhole Http (IsDocument posted) (state S.Store store.old) (state S.Store store.new) result }
 {
     let found = store.find_in(alloc, &posted.sender, &posted.receiver, posted.id.value())?;
     if let Some(entry) = &found {

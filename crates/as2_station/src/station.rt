@@ -4,7 +4,7 @@ ghost use Rattle.sqlite.specs.Held.{state};
 ghost use Rattle.as2_exchange.specs.declared.event.Event.TheVariants.{Post};
 ghost use Rattle.as2_exchange.specs.declared.answer.Answer.TheVariants.{Http};
 ghost use Rattle.as2_posts.specs.Openings.{reading_by};
-ghost use Rattle.as2_station.specs.Steps.{TakesEvent, TakesHead, TakesPost, always};
+ghost use Rattle.as2_station.specs.Steps.{ClashesWhole, TakesEvent, TakesHead, TakesPost, always};
 ghost use Rattle.as2_station.specs.Traces.{Plays, Taken};
 
 use crate::receiving::receive;
@@ -62,6 +62,7 @@ impl<S: Alter> Station<S> {
         moment: Moment,
     ) -> Result<HttpAnswer, StoreFault>
         ensures taken { TakesPost S.Store agreements.now moment (reading_by opened.entry head.now body) always self.old self.new result }
+        ensures whole { ClashesWhole Http (reading_by opened.entry head.now body) (state S.Store self.old) (state S.Store self.new) result }
     {
         if opened.is_report() {
             return receive(&mut self.store, alloc, &opened, body, moment);
@@ -73,7 +74,8 @@ impl<S: Alter> Station<S> {
     }
 
     /// Takes a post. One that its names, version or content type refuse takes neither memory nor the store. A fault of the
-    /// store may come in place of any other answer, and nothing is changed then; Full where no number is left.
+    /// store may come in place of any other answer, and nothing is changed then; Full where no number is left. A kept document
+    /// that no longer has its kept MIC is Disk, where the identifier would else be told to be another document's.
     pub fn post(
         &mut self,
         alloc: Global,

@@ -22,7 +22,7 @@ use Rattle.as2_rows.specs.Waiting.{WaitingRow, in_waiting}
 use Rattle.as2_store.specs.Tables.{store_schema, meta_tree, inbox_tree, inbox_piece_tree, waiting_tree}
 use Rattle.as2_store.specs.Stands.{IsWhole, Stands, HasCounters, inbox_pieces}
 use Rattle.as2_store.specs.Adding.{Appended, Noted, IsEntered, with_received, added}
-use Rattle.as2_store.proofs.Committing.{Done}
+use Rattle.as2_store.proofs.Committing.{FollowsEach}
 use Rattle.as2_store.proofs.NumberedRows.{puts_between}
 use Rattle.as2_store.proofs.WaitingRows.{noted_rows, noted}
 
@@ -97,7 +97,7 @@ stands_received a d e s x it is small mid four = record {
 -- an entry is added under the next number, and under no other
 pub adds : {S : Type 0} (g : Ghosts S) (old : Held S) (mid last : Connected) (x : InEntry) → x.number < end_of_numbers → (HasCleanDisk last → HasCleanDisk mid)
     → (HasCleanDisk mid → IsTrue (state g old).is_open) → (HasCleanDisk mid → (s : State) → Stands (state g old).now s → IsEntered mid.now s x)
-    → (HasCleanDisk last → (n m : ℕ) → HasCounters mid.now n m → (x.number ≡ n) × Changed mid last store_schema meta_tree (meta_row (x.number + 1) m ∷ [])) → HasCleanDisk last → Done g old last (added x)
+    → (HasCleanDisk last → (n m : ℕ) → HasCounters mid.now n m → (x.number ≡ n) × Changed mid last store_schema meta_tree (meta_row (x.number + 1) m ∷ [])) → HasCleanDisk last → FollowsEach g old last (added x)
 adds g old mid last x small was opened put raised clean = record {
   was_open = opened (was clean);
   reaches = λ s r.

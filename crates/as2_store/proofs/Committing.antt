@@ -34,7 +34,7 @@ keeps_of d s stands =
     subst (λ (e : Database). Stands e s) same stands
 
 -- the statements of a transaction took each state that the tables stood for to the next one
-pub record Done {S : Type 0} (g : Ghosts S) (old : Held S) (last : Connected) (next : State → Option State) : Type 0 where
+pub record FollowsEach {S : Type 0} (g : Ghosts S) (old : Held S) (last : Connected) (next : State → Option State) : Type 0 where
   pub was_open : IsTrue (state g old).is_open
   pub reaches : (s : State) → Rests (state g old) s → (t : State) × (next s ≡ Some t) × Stands last.now t
 
@@ -48,10 +48,10 @@ ran_inside g sql params old new r stop ended runs survives = record {
 }
 
 module _ {S : Type 0} (g : Ghosts S) (old : Held S) (last : Connected) (end : Held S) (next : State → Option State) where
-  abbrev pub begun : Connected
-  begun = state g (record old { in_transaction = true })
+  abbrev pub at_begin : Connected
+  at_begin = state g (record old { in_transaction = true })
 
-  pub gives_up : {A E : Type 0} (r : Result A E) → IsErr r → IsInside begun last → Survives last (state g end) (λ _. ⊥) → (HasCleanDisk (state g end) → IsRolledBack last (state g end)) → Writes {A = A} {E = E} next (state g old) (state g end) r
+  pub gives_up : {A E : Type 0} (r : Result A E) → IsErr r → IsInside at_begin last → Survives last (state g end) (λ _. ⊥) → (HasCleanDisk (state g end) → IsRolledBack last (state g end)) → Writes {A = A} {E = E} next (state g old) (state g end) r
   gives_up (Ok a) err inside late back = absurd cc
   gives_up (Err e) err inside late back =
       let was : HasCleanDisk (state g end) → HasCleanDisk last = λ clean. omega (arith, late.clean, clean) in
@@ -65,7 +65,7 @@ module _ {S : Type 0} (g : Ghosts S) (old : Held S) (last : Connected) (end : He
             (survives_begin g old last (λ _. ⊥) inside.survives) late;
       }
 
-  committed_crash : IsInside begun last → Survives last (state g end) (λ db. db ≡ last.now.trees) → (HasCleanDisk last → Done g old last next) → Survives (state g old) (state g end) (Commits next (state g old))
+  committed_crash : IsInside at_begin last → Survives last (state g end) (λ db. db ≡ last.now.trees) → (HasCleanDisk last → FollowsEach g old last next) → Survives (state g old) (state g end) (Commits next (state g old))
   committed_crash inside late done =
       survives_then (state g old) last (state g end) (λ _. ⊥) (λ db. db ≡ last.now.trees) (Commits next (state g old)) (λ _ db none. absurd none)
       (λ clean db is.
@@ -76,7 +76,7 @@ module _ {S : Type 0} (g : Ghosts S) (old : Held S) (last : Connected) (end : He
       })
       (survives_begin g old last (λ _. ⊥) inside.survives) late
 
-  pub fails_to_commit : {A E : Type 0} (r : Result A E) → IsErr r → IsInside begun last → Survives last (state g end) (λ db. db ≡ last.now.trees) → (HasCleanDisk last → Done g old last next) → (HasCleanDisk (state g end) → IsRolledBack last (state g end))
+  pub fails_to_commit : {A E : Type 0} (r : Result A E) → IsErr r → IsInside at_begin last → Survives last (state g end) (λ db. db ≡ last.now.trees) → (HasCleanDisk last → FollowsEach g old last next) → (HasCleanDisk (state g end) → IsRolledBack last (state g end))
       → Writes {A = A} {E = E} next (state g old) (state g end) r
   fails_to_commit (Ok a) err inside late done back = absurd cc
   fails_to_commit (Err e) err inside late done back =
@@ -90,7 +90,7 @@ module _ {S : Type 0} (g : Ghosts S) (old : Held S) (last : Connected) (end : He
         crash = committed_crash inside late done;
       }
 
-  pub commits : {A E : Type 0} (a : A) → IsInside begun last → Survives last (state g end) (λ db. db ≡ last.now.trees) → (HasCleanDisk last → Done g old last next)
+  pub commits : {A E : Type 0} (a : A) → IsInside at_begin last → Survives last (state g end) (λ db. db ≡ last.now.trees) → (HasCleanDisk last → FollowsEach g old last next)
       → (HasCleanDisk (state g end) → Shows last (state g end) last.now last.now false) → (settled : (db : Trees) → IsTrue (state g end).is_open → (state g end).may_leave db → db ≡ (state g end).committed.trees)
       → Writes {A = A} {E = E} next (state g old) (state g end) (Ok a)
   commits a inside late done shows settled =
@@ -127,7 +127,7 @@ pub write_of : {A E : Type 0} (next : State → Option State) (inside outside ne
 write_of next inside outside new r same it = subst (λ c. Writes next c new r) same it
 
 -- a commit of what was done commits the next state
-pub committed_next : {S : Type 0} (g : Ghosts S) (old : Held S) (last : Connected) (next : State → Option State) → Done g old last next → (db : Trees) → db ≡ last.now.trees → Commits next (state g old) db
+pub committed_next : {S : Type 0} (g : Ghosts S) (old : Held S) (last : Connected) (next : State → Option State) → FollowsEach g old last next → (db : Trees) → db ≡ last.now.trees → Commits next (state g old) db
 committed_next g old last next it db is = record {
   was_open = it.was_open;
   stands = λ s r. let to = it.reaches s r in record { state = to.0; is = to.1; keeps = subst (λ (t : Trees). Keeps t to.0) (sym is) (keeps_of last.now to.0 to.2) };

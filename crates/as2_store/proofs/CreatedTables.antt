@@ -23,7 +23,7 @@ use Rattle.sql_tables.proofs.Indexing.{makes_index}
 use Rattle.as2_exchange.specs.State.{empty, end_of_numbers}
 use Rattle.as2_rows.specs.Rows.{meta_row}
 use Rattle.as2_store.specs.Tables.{meta_made, inbox_made, inbox_piece_made, outbox_made, outbox_piece_made, evidence_made, waiting_made, waiting_table, waiting_due_made, no_schema, inbox_schema, outbox_schema, store_schema, meta_table, meta_tree}
-use Rattle.as2_store.proofs.Statements.{meta_text, inbox_text, inbox_piece_text, outbox_text, outbox_piece_text, evidence_text, waiting_text, waiting_due_text, meta_put_text}
+use Rattle.as2_store.proofs.Statements.{meta_text, inbox_statement, inbox_piece_text, outbox_text, outbox_piece_text, evidence_statement, waiting_text, waiting_due_text, meta_put_text}
 use Rattle.as2_store.specs.Stands.{IsWhole, Stands, HasNoRow, IsBlank}
 use Rattle.as2_store.specs.Calls.{IsInside, Keeps, CommitsFirst, Creates}
 use Rattle.as2_store.proofs.TransactionEnds.{rests_committed}
@@ -42,19 +42,19 @@ one_more old new schema made bare it = record {
   empty = all-append (λ t. new.now.trees t.tree ≡ []) schema.tables (record made { tree = next_tree schema } ∷ []) (still_empty old.now.trees new.now.trees schema.tables bare.empty it.others) (it.empty, tt);
 }
 
-pub makes_inbox : (a b c d : Connected) (i j k : ℕ) → Executes meta_text [] a b (Ok i) → Executes inbox_text [] b c (Ok j) → Executes inbox_piece_text [] c d (Ok k)
+pub makes_inbox : (a b c d : Connected) (i j k : ℕ) → Executes meta_text [] a b (Ok i) → Executes inbox_statement [] b c (Ok j) → Executes inbox_piece_text [] c d (Ok k)
     → HasNoRow a.now no_schema → HasNoRow d.now inbox_schema
 makes_inbox a b c d i j k one two three bare =
     let first = one_more a b no_schema meta_made bare (makes_table meta_text a b no_schema bare.schema_is meta_made meta_is meta_plain refl meta_create.0 meta_create.1 i one) in
-    let second = one_more b c with_meta inbox_made first (makes_table inbox_text b c with_meta first.schema_is inbox_made inbox_is inbox_plain refl inbox_create.0 inbox_create.1 j two) in
+    let second = one_more b c with_meta inbox_made first (makes_table inbox_statement b c with_meta first.schema_is inbox_made inbox_is inbox_plain refl inbox_create.0 inbox_create.1 j two) in
     one_more c d with_inbox inbox_piece_made second (makes_table inbox_piece_text c d with_inbox second.schema_is inbox_piece_made inbox_piece_is inbox_piece_plain refl inbox_piece_create.0 inbox_piece_create.1 k three)
 
-pub makes_outbox : (a b c d : Connected) (i j k : ℕ) → Executes outbox_text [] a b (Ok i) → Executes outbox_piece_text [] b c (Ok j) → Executes evidence_text [] c d (Ok k)
+pub makes_outbox : (a b c d : Connected) (i j k : ℕ) → Executes outbox_text [] a b (Ok i) → Executes outbox_piece_text [] b c (Ok j) → Executes evidence_statement [] c d (Ok k)
     → HasNoRow a.now inbox_schema → HasNoRow d.now outbox_schema
 makes_outbox a b c d i j k one two three bare =
     let first = one_more a b inbox_schema outbox_made bare (makes_table outbox_text a b inbox_schema bare.schema_is outbox_made outbox_is outbox_plain refl outbox_create.0 outbox_create.1 i one) in
     let second = one_more b c with_outbox outbox_piece_made first (makes_table outbox_piece_text b c with_outbox first.schema_is outbox_piece_made outbox_piece_is outbox_piece_plain refl outbox_piece_create.0 outbox_piece_create.1 j two) in
-    one_more c d with_outbox_piece evidence_made second (makes_table evidence_text c d with_outbox_piece second.schema_is evidence_made evidence_is evidence_plain refl evidence_create.0 evidence_create.1 k three)
+    one_more c d with_outbox_piece evidence_made second (makes_table evidence_statement c d with_outbox_piece second.schema_is evidence_made evidence_is evidence_plain refl evidence_create.0 evidence_create.1 k three)
 
 pub makes_waiting : (a b c : Connected) (i j : ℕ) → Executes waiting_text [] a b (Ok i) → Executes waiting_due_text [] b c (Ok j) → HasNoRow a.now outbox_schema → HasNoRow c.now store_schema
 makes_waiting a b c i j one two bare =

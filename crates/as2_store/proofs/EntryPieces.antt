@@ -27,7 +27,7 @@ use Rattle.as2_store.specs.Tables.{store_schema, inbox_piece_tree, outbox_piece_
 use Rattle.as2_store.proofs.Statements.{in_pieces_text, out_pieces_text}
 use Rattle.as2_store.specs.Stands.{Rests}
 use Rattle.as2_store.proofs.QueriedRows.{and_true, found_all}
-use Rattle.as2_store.proofs.Texts.{piece_terms, piece_columns, in_pieces_is, in_pieces_plain, in_pieces_unlisted, out_pieces_is, out_pieces_plain, out_pieces_unlisted}
+use Rattle.as2_store.proofs.Texts.{piece_terms, piece_column_terms, in_pieces_is, in_pieces_plain, in_pieces_unlisted, out_pieces_is, out_pieces_plain, out_pieces_unlisted}
 
 abbrev pub number_params : ℕ → Row
 number_params n = Int (pos n) ∷ []
@@ -84,7 +84,7 @@ module _ {X : Type 0} (number : X → ℕ) (content : X → List ℕ) where
       filter-append (λ q. q.number == number e) (pieces (number x) (content x)) (all_pieces xs) ∙ gathered x e p xs (p x) distinct.0 found (gathers p xs e distinct.1)
 
 abbrev pieces_command : ℕ → Command
-pieces_command tree = Select (record { lets = []; body = over_table tree piece_terms piece_columns (by_column 2) (lit (Int (negsuc 0))) }) (codes "number" ∷ codes "position" ∷ codes "bytes" ∷ [])
+pieces_command tree = Select (record { lets = []; body = over_table tree piece_terms piece_column_terms (by_column 2) (lit (Int (negsuc 0))) }) (codes "number" ∷ codes "position" ∷ codes "bytes" ∷ [])
 
 -- a query of the pieces of the entry of a number
 module _ (sql : List ℕ) (tree : ℕ) (is : command_of (understood store_schema sql) ≡ pieces_command tree) (plain : IsPlain (understood store_schema sql)) (unlisted : reads_listing store_schema sql ≡ false)
@@ -96,7 +96,7 @@ module _ (sql : List ℕ) (tree : ℕ) (is : command_of (understood store_schema
       let ps = all_pieces number content xs in
       let read = reads_as sql (number_params n) old new store_schema has (pieces_command tree) is plain unlisted rows h in
       let own : filter (λ q. q.number == n) ps ≡ pieces (number e) (content e) = ap (λ k. filter (λ (q : Piece). q.number == k) ps) same ∙ gathers number content p xs e distinct found in
-      shows_sorted_entries tree piece_terms piece_columns 1 old.now.trees (number_params n) rows piece_shown (λ q. q.number == n) piece_shown
+      shows_sorted_entries tree piece_terms piece_column_terms 1 old.now.trees (number_params n) rows piece_shown (λ q. q.number == n) piece_shown
       (λ _ q. ap (λ b. b && true) (numbers_equal q.number n) ∙ and_true _) (λ _ q. refl) ps are
       (subst (IsAscending (λ (a b : Piece). value_cmp (whole a.position) (whole b.position) ≡ Less)) (sym own) (pieces_rise (number e) (content e))) read.answer
       ∙ ap (map piece_shown) own

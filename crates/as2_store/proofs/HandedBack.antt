@@ -17,7 +17,7 @@ use Rattle.sqlite.specs.Schema.{Schema}
 use Rattle.as2_store.proofs.Statements.{meta_read_text}
 use Rattle.as2_store.specs.Stands.{Stands, MetaSays, adoption_fault, may_come}
 use Rattle.as2_store.specs.Calls.{IsInside, IsGivenBack, IsReason, Writes, Adopts}
-use Rattle.as2_store.proofs.MetaRow.{said_fails, reads_said, says_of, told}
+use Rattle.as2_store.proofs.MetaRow.{said_fails, reads_said, says_of, meta_cells}
 
 -- ---- a transaction that is given up
 
@@ -55,7 +55,7 @@ row_fails g old mid e (inl failed) kind version it = said_fails (state g (record
 row_fails g old mid e (inr late) kind version it = absurd (let outside = late.3 in cc)
 
 pub row_shown : {S : Type 0} (g : Ghosts S) (old : Held S) (mid : Connected) (rows : List Row) → Shown meta_read_text [] (state g (record old { in_transaction = true })) mid rows → (kind : List ℕ) (version : ℕ) → (it : MetaSays (state g old) kind version)
-    → rows ≡ told kind version it.next_receipt it.next_document ∷ []
+    → rows ≡ meta_cells kind version it.next_receipt it.next_document ∷ []
 unfolding says_inside
 row_shown g old mid rows shown kind version it = reads_said (state g (record old { in_transaction = true })) mid rows shown kind version (says_inside g old kind version it)
 
@@ -88,7 +88,7 @@ bare_by old opened none = record {
 
 -- what the row says, where there are tables
 pub said_by : {S : Type 0} (g : Ghosts S) (old : Held S) (mid : Connected) (rows : List Row) (f : StoreFault) → Shown meta_read_text [] (state g (record old { in_transaction = true })) mid rows
-    → ((kind : List ℕ) (version n m : ℕ) → rows ≡ told kind version n m ∷ [] → Some f ≡ adoption_fault kind version) → ((state g old).now.schema.tables ≡ [] → ⊥) → IsReason (state g old) f
+    → ((kind : List ℕ) (version n m : ℕ) → rows ≡ meta_cells kind version n m ∷ [] → Some f ≡ adoption_fault kind version) → ((state g old).now.schema.tables ≡ [] → ⊥) → IsReason (state g old) f
 said_by g old mid rows f shown says tables =
     let opened = shown_open meta_read_text [] (state g (record old { in_transaction = true })) mid rows shown in
     record {
@@ -103,7 +103,7 @@ said_by g old mid rows f shown says tables =
 -- ---- what is adopted
 
 pub adopts : {S : Type 0} (g : Ghosts S) (old : Held S) (mid : Connected) (end : Held S) (rows : List Row) {A E : Type 0} (a : A) → Writes {A = A} {E = E} Some (state g old) (state g end) (Ok a) → (HasCleanDisk (state g end) → HasCleanDisk mid)
-    → (HasCleanDisk mid → Shown meta_read_text [] (state g (record old { in_transaction = true })) mid rows) → ((kind : List ℕ) (version n m : ℕ) → rows ≡ told kind version n m ∷ [] → None ≡ adoption_fault kind version) → ((state g old).now.schema.tables ≡ [] → ⊥)
+    → (HasCleanDisk mid → Shown meta_read_text [] (state g (record old { in_transaction = true })) mid rows) → ((kind : List ℕ) (version n m : ℕ) → rows ≡ meta_cells kind version n m ∷ [] → None ≡ adoption_fault kind version) → ((state g old).now.schema.tables ≡ [] → ⊥)
     → Adopts (state g old) (state g end)
 adopts g old mid end rows a it was shown says tables = record {
   clean = it.clean;

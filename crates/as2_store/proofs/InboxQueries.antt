@@ -29,16 +29,16 @@ use Rattle.as2_store.specs.Stands.{Rests}
 use Rattle.as2_exchange.specs.State.{has_key}
 use Rattle.as2_store.proofs.NumberedRows.{entries_rise}
 use Rattle.as2_store.proofs.QueriedRows.{reads_rows, and_true}
-use Rattle.as2_store.proofs.Texts.{in_columns, in_names, key_terms, number_terms, in_by_number_is, in_by_number_plain, in_by_number_unlisted, in_by_key_is, in_by_key_plain, in_by_key_unlisted, in_all_is, in_all_plain, in_all_unlisted}
+use Rattle.as2_store.proofs.Texts.{in_column_terms, in_names, key_terms, number_terms, in_by_number_is, in_by_number_plain, in_by_number_unlisted, in_by_key_is, in_by_key_plain, in_by_key_unlisted, in_all_is, in_all_plain, in_all_unlisted}
 
 -- a query over the inbox, in the order of the numbers
 module _ (sql : List ℕ) (plain : IsPlain (understood store_schema sql)) (unlisted : reads_listing store_schema sql ≡ false) (terms : List Term)
-    (is : command_of (understood store_schema sql) ≡ Select (record { lets = []; body = over_table inbox_tree terms in_columns by_number (lit (Int (negsuc 0))) }) in_names) (params : Row)
+    (is : command_of (understood store_schema sql) ≡ Select (record { lets = []; body = over_table inbox_tree terms in_column_terms by_number (lit (Int (negsuc 0))) }) in_names) (params : Row)
     (p : InEntry → Bool) (same : (e : InEntry) → passes terms params (in_row e) ≡ p e) where
   reads_entries : (old new : Connected) (rows : List Row) → Shown sql params old new rows → (s : State) → Rests old s → rows ≡ map in_shown (filter p s.inbox)
   reads_entries old new rows h s r =
       let it = r.stands (shown_open sql params old new rows h) in
-      reads_rows sql plain unlisted inbox_tree terms in_columns in_names is params in_row in_shown (λ _. refl) p same old new rows h it.schema s.inbox it.entries.inbox
+      reads_rows sql plain unlisted inbox_tree terms in_column_terms in_names is params in_row in_shown (λ _. refl) p same old new rows h it.schema s.inbox it.entries.inbox
       (entries_rise in_row (λ (e : InEntry). e.number) (λ _. refl) s.next_in s.inbox it.receipts.1)
 
 abbrev pub key_params : List ℕ → List ℕ → List ℕ → Row

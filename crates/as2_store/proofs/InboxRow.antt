@@ -18,7 +18,7 @@ use Rattle.as2_exchange.specs.declared.inbox.MdnState.TheVariants.{Unasked, Pend
 use Rattle.as2_exchange.specs.declared.attempt.Attempt.{Attempt}
 use Rattle.as2_exchange.specs.declared.attempt.Attempt.TheVariants.{Idle, Running, Last, Used}
 use Rattle.as2_rows.specs.Codes.{outcome_code, how_code, mdn_code, attempt_code}
-use Rattle.as2_store.proofs.MetaRow.{passed}
+use Rattle.as2_store.proofs.MetaRow.{fits_i64}
 use Rattle.as2_rows.specs.Rows.{in_row, in_shown, url_value, digest_value, mic_value}
 use Rattle.as2_store.specs.Tables.{store_schema, inbox_table, inbox_tree}
 use Rattle.as2_store.proofs.Statements.{in_put_text}
@@ -55,7 +55,7 @@ bound_mic (Some mic) = refl
 
 -- a code passes as i64
 pub passed_outcome : (o : Outcome) → to_z w64 (of_z w64 (pos (outcome_code o))) ≡ pos (outcome_code o)
-passed_outcome o = passed (outcome_code o) (small o)
+passed_outcome o = fits_i64 (outcome_code o) (small o)
   where
     small : (o : Outcome) → outcome_code o < 2 ^ 63
     small DecryptionFailed = omega arith
@@ -66,7 +66,7 @@ passed_outcome o = passed (outcome_code o) (small o)
     small Processed = omega arith
 
 pub passed_how : (how : ReceiptDelivery) → to_z w64 (of_z w64 (pos (how_code how))) ≡ pos (how_code how)
-passed_how how = passed (how_code how) (small how)
+passed_how how = fits_i64 (how_code how) (small how)
   where
     small : (how : ReceiptDelivery) → how_code how < 2 ^ 63
     small NoReceipt = omega arith
@@ -74,7 +74,7 @@ passed_how how = passed (how_code how) (small how)
     small (Async url) = omega arith
 
 pub passed_mdn : (mdn : MdnState) → to_z w64 (of_z w64 (pos (mdn_code mdn))) ≡ pos (mdn_code mdn)
-passed_mdn mdn = passed (mdn_code mdn) (small mdn)
+passed_mdn mdn = fits_i64 (mdn_code mdn) (small mdn)
   where
     small : (mdn : MdnState) → mdn_code mdn < 2 ^ 63
     small Unasked = omega arith
@@ -82,7 +82,7 @@ passed_mdn mdn = passed (mdn_code mdn) (small mdn)
     small Sent = omega arith
 
 pub passed_attempt : (attempt : Attempt) → to_z w64 (of_z w64 (pos (attempt_code attempt))) ≡ pos (attempt_code attempt)
-passed_attempt attempt = passed (attempt_code attempt) (small attempt)
+passed_attempt attempt = fits_i64 (attempt_code attempt) (small attempt)
   where
     small : (attempt : Attempt) → attempt_code attempt < 2 ^ 63
     small Idle = omega arith

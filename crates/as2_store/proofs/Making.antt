@@ -7,7 +7,7 @@ use Rattle.sqlite.specs.Change.{created}
 use Rattle.sqlite.specs.Listing.{understood}
 use Rattle.sqlite.proofs.Callers.{IsPlain, command_of, statement_of}
 use Rattle.sqlite_tied.specs.Compute.{everything}
-use Rattle.as2_store.proofs.Statements.{meta_text, inbox_text, inbox_piece_text, outbox_text, outbox_piece_text, evidence_text, waiting_text, waiting_due_text}
+use Rattle.as2_store.proofs.Statements.{meta_text, inbox_statement, inbox_piece_text, outbox_text, outbox_piece_text, evidence_statement, waiting_text, waiting_due_text}
 use Rattle.as2_store.specs.Tables.{meta_made, inbox_made, inbox_piece_made, outbox_made, outbox_piece_made, evidence_made, waiting_made, waiting_table, waiting_due_made, no_schema, inbox_schema, outbox_schema}
 
 -- ---- the schemas between
@@ -41,15 +41,15 @@ pub meta_plain : IsPlain (understood no_schema meta_text)
 unfolding understood everything
 meta_plain = (refl, refl)
 
-pub inbox_is : table_defined_by inbox_text ≡ Ok inbox_made
+pub inbox_is : table_defined_by inbox_statement ≡ Ok inbox_made
 unfolding everything
 inbox_is = refl
 
-pub inbox_create : (command_of (understood with_meta inbox_text) ≡ CreateTable) × (statement_of inbox_text (understood with_meta inbox_text) ≡ inbox_text)
+pub inbox_create : (command_of (understood with_meta inbox_statement) ≡ CreateTable) × (statement_of inbox_statement (understood with_meta inbox_statement) ≡ inbox_statement)
 unfolding understood everything
 inbox_create = (refl, refl)
 
-pub inbox_plain : IsPlain (understood with_meta inbox_text)
+pub inbox_plain : IsPlain (understood with_meta inbox_statement)
 unfolding understood everything
 inbox_plain = (refl, refl)
 
@@ -89,15 +89,15 @@ pub outbox_piece_plain : IsPlain (understood with_outbox outbox_piece_text)
 unfolding understood everything
 outbox_piece_plain = (refl, refl)
 
-pub evidence_is : table_defined_by evidence_text ≡ Ok evidence_made
+pub evidence_is : table_defined_by evidence_statement ≡ Ok evidence_made
 unfolding everything
 evidence_is = refl
 
-pub evidence_create : (command_of (understood with_outbox_piece evidence_text) ≡ CreateTable) × (statement_of evidence_text (understood with_outbox_piece evidence_text) ≡ evidence_text)
+pub evidence_create : (command_of (understood with_outbox_piece evidence_statement) ≡ CreateTable) × (statement_of evidence_statement (understood with_outbox_piece evidence_statement) ≡ evidence_statement)
 unfolding understood everything
 evidence_create = (refl, refl)
 
-pub evidence_plain : IsPlain (understood with_outbox_piece evidence_text)
+pub evidence_plain : IsPlain (understood with_outbox_piece evidence_statement)
 unfolding understood everything
 evidence_plain = (refl, refl)
 

@@ -25,7 +25,7 @@ use Rattle.sql_tables.proofs.Writes.{cast_int}
 use Rattle.sql_tables.proofs.Changing.{updates}
 use Rattle.sql_tables.proofs.Inside.{shown_open}
 use Rattle.sql_tables.proofs.Queries.{in_any_order, numbers_equal}
-use Rattle.sql_tables.proofs.Failing.{Takes, fails_outside}
+use Rattle.sql_tables.proofs.Failing.{HasParameters, fails_outside}
 use Rattle.as2_exchange.specs.State.{State}
 use Rattle.as2_rows.specs.Rows.{whole, meta_row, meta_shown}
 use Rattle.as2_store.specs.Tables.{store_schema, meta_tree, meta_table, inbox_table, inbox_piece_table, outbox_table, outbox_piece_table, evidence_table, waiting_table}
@@ -35,12 +35,12 @@ use Rattle.as2_store.proofs.ForeignKeys.{quiet}
 use Rattle.as2_store.proofs.Texts.{meta_command, meta_columns, with_meta_first, meta_read_is, meta_read_plain, meta_read_unlisted, receipt_terms, receipt_project, receipt_is, receipt_plain}
 
 -- a number that is passed as i64
-pub passed : (n : ℕ) → n < 2 ^ 63 → to_z w64 (of_z w64 (pos n)) ≡ pos n
-passed n h = to_z-of_z w64 (pos n) (search rules)
+pub fits_i64 : (n : ℕ) → n < 2 ^ 63 → to_z w64 (of_z w64 (pos n)) ≡ pos n
+fits_i64 n h = to_z-of_z w64 (pos n) (search rules)
 
 -- ---- reading it
 
-takes : (tables : List Table) (indexes : List Index) → Takes meta_read_text 0 (understood (with_meta_first tables indexes) meta_read_text)
+takes : (tables : List Table) (indexes : List Index) → HasParameters meta_read_text 0 (understood (with_meta_first tables indexes) meta_read_text)
 unfolding understood everything
 takes tables indexes = (omega arith, refl)
 
@@ -57,22 +57,22 @@ pub said_fails : (old new : Connected) (e : Error) (kind : List ℕ) (version : 
 said_fails old new e kind version it h =
     let has = it.schema in
     fails_outside meta_read_text [] old new e (subst (λ s. IsPlain (understood s meta_read_text)) (sym has) (meta_read_plain it.tables it.indexes))
-    (subst (λ s. Takes meta_read_text 0 (understood s meta_read_text)) (sym has) (takes it.tables it.indexes))
+    (subst (λ s. HasParameters meta_read_text 0 (understood s meta_read_text)) (sym has) (takes it.tables it.indexes))
     (λ c db is source refused.
     let command : c.command ≡ meta_command = ap command_of (sym is ∙ ap (λ s. understood s meta_read_text) has) ∙ meta_read_is it.tables it.indexes in
     let same : db ≡ old.now = subst (λ b. IsSourceOf b old.now db) (ap (λ s. reads_listing s meta_read_text) has ∙ meta_read_unlisted it.tables it.indexes) source in
     stops it.tables it.indexes old.step_limit db e (ap (λ (d : Database). d.schema) same ∙ has) (subst (λ k. RefusesToRead old.step_limit k db [] e) command refused))
     h
 
-abbrev pub told : List ℕ → ℕ → ℕ → ℕ → Row
-told kind version n m = Text kind ∷ whole version ∷ whole n ∷ whole m ∷ []
+abbrev pub meta_cells : List ℕ → ℕ → ℕ → ℕ → Row
+meta_cells kind version n m = Text kind ∷ whole version ∷ whole n ∷ whole m ∷ []
 
 -- the row is shown as it is
-pub reads_said : (old new : Connected) (rows : List Row) → Shown meta_read_text [] old new rows → (kind : List ℕ) (version : ℕ) → (it : MetaSays old kind version) → rows ≡ told kind version it.next_receipt it.next_document ∷ []
+pub reads_said : (old new : Connected) (rows : List Row) → Shown meta_read_text [] old new rows → (kind : List ℕ) (version : ℕ) → (it : MetaSays old kind version) → rows ≡ meta_cells kind version it.next_receipt it.next_document ∷ []
 reads_said old new rows h kind version it =
     let read = reads_as meta_read_text [] old new (with_meta_first it.tables it.indexes) it.schema meta_command (meta_read_is it.tables it.indexes) (meta_read_plain it.tables it.indexes) (meta_read_unlisted it.tables it.indexes) rows h in
     let all = in_any_order meta_tree [] meta_columns old.now.trees [] rows read.answer in
-    one_permutation (told kind version it.next_receipt it.next_document) rows (subst (λ l. IsPermutation (map (shown_of meta_columns []) (chosen [] [] l)) rows) it.meta all)
+    one_permutation (meta_cells kind version it.next_receipt it.next_document) rows (subst (λ l. IsPermutation (map (shown_of meta_columns []) (chosen [] [] l)) rows) it.meta all)
 
 -- the tables of a store say its kind and its version
 pub says_of : (c : Connected) (s : State) → Stands c.now s → MetaSays c (codes "as2-station") 1

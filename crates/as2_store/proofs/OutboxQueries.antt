@@ -23,7 +23,7 @@ use Rattle.as2_store.proofs.NumberedRows.{numbers_rise, given_rise, ordered_rise
 use Rattle.as2_store.proofs.QueriedRows.{reads_rows, and_true, found_all}
 use Rattle.as2_store.proofs.InboxQueries.{by_number_params}
 use Rattle.as2_store.proofs.EntryPieces.{turned}
-use Rattle.as2_store.proofs.Texts.{out_columns, out_names, id_terms, number_terms, out_by_id_is, out_by_id_plain, out_by_id_unlisted, evidence_columns, evidence_names, evidence_by_number_is, evidence_by_number_plain, evidence_by_number_unlisted}
+use Rattle.as2_store.proofs.Texts.{out_column_terms, out_names, id_terms, number_terms, out_by_id_is, out_by_id_plain, out_by_id_unlisted, evidence_column_terms, evidence_names, evidence_by_number_is, evidence_by_number_plain, evidence_by_number_unlisted}
 
 abbrev pub id_params : List ℕ → Row
 id_params value = Blob value ∷ []
@@ -31,17 +31,17 @@ id_params value = Blob value ∷ []
 pub finds_id : (value : List ℕ) (old new : Connected) (rows : List Row) → Shown out_by_id_text (id_params value) old new rows → (s : State) → Rests old s → rows ≡ map out_shown (filter (has_id value) s.outbox)
 finds_id value old new rows h s r =
     let it = r.stands (shown_open out_by_id_text (id_params value) old new rows h) in
-    reads_rows out_by_id_text out_by_id_plain out_by_id_unlisted outbox_tree id_terms out_columns out_names out_by_id_is (id_params value) out_row out_shown (λ _. refl) (has_id value)
+    reads_rows out_by_id_text out_by_id_plain out_by_id_unlisted outbox_tree id_terms out_column_terms out_names out_by_id_is (id_params value) out_row out_shown (λ _. refl) (has_id value)
     (λ d. ap (λ b. b && true) (blobs_equal (value_of d.id) value) ∙ and_true _) old new rows h it.schema s.outbox it.entries.outbox
     (entries_rise out_row (λ (d : OutEntry). d.number) (λ _. refl) s.next_out s.outbox it.documents.1)
 
 -- ---- the evidence
 
-abbrev pub receipt_in : OutEntry → Option EvidenceRow
-receipt_in d = option_map (evidence_in d.number) d.evidence
+abbrev pub receipt_row : OutEntry → Option EvidenceRow
+receipt_row d = option_map (evidence_in d.number) d.evidence
 
 abbrev pub receipts : List OutEntry → List EvidenceRow
-receipts ds = filter_map receipt_in ds
+receipts ds = filter_map receipt_row ds
 
 abbrev pub row_of : EvidenceRow → Row
 row_of r = evidence_row r.number r.evidence
@@ -57,7 +57,7 @@ rows_of (d ∷ ds) = go d.evidence (rows_of ds)
     go None rest = rest
     go (Some e) rest = ap (λ l. evidence_row d.number e ∷ l) rest
 
-kept : (d : OutEntry) → IfSome (receipt_in d) (λ r. r.number ≡ d.number)
+kept : (d : OutEntry) → IfSome (receipt_row d) (λ r. r.number ≡ d.number)
 kept d = go d.evidence
   where
     go : (o : Option Evidence) → IfSome (option_map (evidence_in d.number) o) (λ r. r.number ≡ d.number)
@@ -82,15 +82,15 @@ of_others : (n : ℕ) (ds : List OutEntry) → AllByRecursion (λ m. (n == m) �
 of_others n [] other = refl
 of_others n (d ∷ ds) other = other_first d.number n d.evidence (receipts ds) (turned d.number n other.0) ∙ of_others n ds other.1
 
-pub own_receipt : (p : OutEntry → Bool) (ds : List OutEntry) (d : OutEntry) → IsDistinct (λ a b. a == b) (map (λ (x : OutEntry). x.number) ds) → find p ds ≡ Some d → of_number d.number (receipts ds) ≡ cons_option (receipt_in d) []
+pub own_receipt : (p : OutEntry → Bool) (ds : List OutEntry) (d : OutEntry) → IsDistinct (λ a b. a == b) (map (λ (x : OutEntry). x.number) ds) → find p ds ≡ Some d → of_number d.number (receipts ds) ≡ cons_option (receipt_row d) []
 unfolding IsDistinct
 own_receipt p [] d distinct found = absurd cc
 own_receipt p (x ∷ ds) d distinct found = go (p x) found (own_receipt p ds d distinct.1)
   where
-    go : (t : Bool) → cond t (Some x) (find p ds) ≡ Some d → (find p ds ≡ Some d → of_number d.number (receipts ds) ≡ cons_option (receipt_in d) []) → of_number d.number (cons_option (receipt_in x) (receipts ds)) ≡ cons_option (receipt_in d) []
+    go : (t : Bool) → cond t (Some x) (find p ds) ≡ Some d → (find p ds ≡ Some d → of_number d.number (receipts ds) ≡ cons_option (receipt_row d) []) → of_number d.number (cons_option (receipt_row x) (receipts ds)) ≡ cons_option (receipt_row d) []
     go true is later =
         let same : x ≡ d = cc in
-        subst (λ (y : OutEntry). of_number y.number (cons_option (receipt_in x) (receipts ds)) ≡ cons_option (receipt_in y) []) same (own_first x.number x.evidence (receipts ds) (of_others x.number ds distinct.0))
+        subst (λ (y : OutEntry). of_number y.number (cons_option (receipt_row x) (receipts ds)) ≡ cons_option (receipt_row y) []) same (own_first x.number x.evidence (receipts ds) (of_others x.number ds distinct.0))
     go false is later =
         other_first x.number d.number x.evidence (receipts ds) (found_all (λ (y : OutEntry). y.number) (λ m. (x.number == m) ≡ false) p ds d distinct.0 is) ∙ later is
 
@@ -102,9 +102,9 @@ pub finds_evidence : (old new : Connected) (n : ℕ) (rows : List Row) → Shown
     → rows ≡ shown_evidence d.number d.evidence
 finds_evidence old new n rows h s r p d found is =
     let it = r.stands (shown_open evidence_by_number_text (by_number_params n) old new rows h) in
-    reads_rows evidence_by_number_text evidence_by_number_plain evidence_by_number_unlisted evidence_tree number_terms evidence_columns evidence_names evidence_by_number_is (by_number_params n) row_of shown_of_row (λ _. refl)
+    reads_rows evidence_by_number_text evidence_by_number_plain evidence_by_number_unlisted evidence_tree number_terms evidence_column_terms evidence_names evidence_by_number_is (by_number_params n) row_of shown_of_row (λ _. refl)
     (λ r. r.number == n) (λ r. ap (λ b. b && true) (numbers_equal r.number n) ∙ and_true _) old new rows h it.schema (receipts s.outbox) (it.entries.evidence ∙ rows_of s.outbox)
-    (ordered_rise row_of (λ r. r.number) (λ _. refl) (receipts s.outbox) (given_rise receipt_in (λ (d : OutEntry). d.number) (λ r. r.number) kept s.outbox (numbers_rise (λ (d : OutEntry). d.number) s.next_out s.outbox it.documents.1)))
+    (ordered_rise row_of (λ r. r.number) (λ _. refl) (receipts s.outbox) (given_rise receipt_row (λ (d : OutEntry). d.number) (λ r. r.number) kept s.outbox (numbers_rise (λ (d : OutEntry). d.number) s.next_out s.outbox it.documents.1)))
     ∙ ap (λ k. map shown_of_row (of_number k (receipts s.outbox))) is
     ∙ ap (map shown_of_row) (own_receipt p s.outbox d it.documents.1.distinct found)
     ∙ as_shown d.number d.evidence

@@ -16,7 +16,7 @@ use Rattle.as2_exchange.specs.State.{State}
 use Rattle.as2_store.specs.Tables.{store_schema}
 use Rattle.as2_store.specs.Stands.{Stands, Rests}
 use Rattle.as2_store.specs.Calls.{IsInside, Reads, Writes, Commits}
-use Rattle.as2_store.proofs.Committing.{Done}
+use Rattle.as2_store.proofs.Committing.{FollowsEach}
 use Rattle.sqlite.proofs.StateLemmas.{survives_then}
 
 -- ---- the query inside
@@ -36,9 +36,9 @@ queried_inside items sql params old new r inside ok err survives = record {
 -- ---- a query of the store's tables
 
 -- a query of the store's tables leaves each state that they stood for
-pub asked : {S : Type 0} (g : Ghosts S) (old : Held S) (mid : Connected) (sql : List ℕ) (params : Row) (rows : List Row) → IsPlain (understood store_schema sql) → (HasCleanDisk mid → Shown sql params (state g (record old { in_transaction = true })) mid rows)
-    → HasCleanDisk mid → Done g old mid Some
-asked g old mid sql params rows plain shown clean =
+pub query_keeps : {S : Type 0} (g : Ghosts S) (old : Held S) (mid : Connected) (sql : List ℕ) (params : Row) (rows : List Row) → IsPlain (understood store_schema sql) → (HasCleanDisk mid → Shown sql params (state g (record old { in_transaction = true })) mid rows)
+    → HasCleanDisk mid → FollowsEach g old mid Some
+query_keeps g old mid sql params rows plain shown clean =
     let begun = state g (record old { in_transaction = true }) in
     let opened = shown_open sql params begun mid rows (shown clean) in
     record {
@@ -72,8 +72,8 @@ as_read fits old new (Ok a) w answer = record {
 as_read fits old new (Err e) w answer = record { clean = w.clean; was_open = w.was_open; is_open = w.is_open; answer = answer; same = w.failed; crash = w.crash }
 
 -- what fits less than was shown
-pub read_as : {A E : Type 0} (fits more : State → A → Type 0) (old new : Connected) (r : Result A E) → ((s : State) (a : A) → Rests old s → more s a → fits s a) → Reads more old new r → Reads fits old new r
-read_as fits more old new r less it = record {
+pub reads_less : {A E : Type 0} (fits more : State → A → Type 0) (old new : Connected) (r : Result A E) → ((s : State) (a : A) → Rests old s → more s a → fits s a) → Reads more old new r → Reads fits old new r
+reads_less fits more old new r less it = record {
   clean = it.clean;
   was_open = it.was_open;
   is_open = it.is_open;
@@ -139,9 +139,9 @@ two_reads old mid new opened same one two =
     record { was_open = opened was; stands = λ s r. is.stands s (same was s r) })
     one two
 
-always : {A E P : Type 0} (r : Result A E) → P → OnOk r P
-always (Ok a) is = is
-always (Err e) is = tt
+any_ok : {A E P : Type 0} (r : Result A E) → P → OnOk r P
+any_ok (Ok a) is = is
+any_ok (Err e) is = tt
 
 later : {A B F : Type 0} (fits : State → A → Type 0) (more : State → B → Type 0) (both : State → B → Type 0) (old mid : Connected) {a : A} (r : Result B F) → ((s : State) (b : B) → Rests old s → fits s a → more s b → both s b)
     → ((s : State) → Rests old s → fits s a) → ((s : State) → Rests old s → Rests mid s) → IfOk r (λ b. (s : State) → Rests mid s → more s b) → IfOk r (λ b. (s : State) → Rests old s → both s b)
@@ -153,7 +153,7 @@ pub read_then : {A B E F : Type 0} (fits : State → A → Type 0) (more : State
     → ((s : State) (b : B) → Rests old s → fits s a → more s b → both s b) → Reads {A = A} {E = E} fits old mid (Ok a) → Reads more mid new r → Reads both old new r
 read_then fits more both old mid new a r then one two = record {
   clean = λ clean. one.clean (two.clean clean);
-  was_open = λ clean. always r (one.was_open (two.clean clean));
+  was_open = λ clean. any_ok r (one.was_open (two.clean clean));
   is_open = two.is_open;
   answer = λ clean. later fits more both old mid r then (one.answer (two.clean clean)) (one.same (two.clean clean)) (two.answer clean);
   same = λ clean s r. two.same clean s (one.same (two.clean clean) s r);

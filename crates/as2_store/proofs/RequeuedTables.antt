@@ -29,14 +29,14 @@ use Rattle.as2_store.specs.Stands.{IsWhole, Stands, place, waiting_row, document
 use Rattle.as2_exchange.specs.Recording.{requeued}
 use Rattle.as2_store.specs.Requeuing.{requeued_in, not_at, HoldsWaiting, Renewed}
 use Rattle.as2_store.proofs.NumberedRows.{numbers_rise, entries_rise}
-use Rattle.as2_store.proofs.WaitingRows.{IsLast, documents_of, ins_small, last_of}
+use Rattle.as2_store.proofs.WaitingRows.{IsLast, documents_of, ins_small, kind_is_last}
 use Rattle.as2_store.proofs.InboxRow.{cast_url, cast_digest, cast_mic}
 use Rattle.as2_store.proofs.QueriedRows.{and_true}
 use Rattle.as2_store.proofs.InboxQueries.{same_tests}
 use Rattle.as2_store.proofs.ForeignKeys.{quiet}
 use Rattle.as2_store.proofs.Texts.{number_terms, requeue_project, in_requeue_is, in_requeue_plain}
 use Rattle.as2_store.proofs.NumberedEntries.{Split, split, at_one, changed, changed_none, changed_split, none_numbered}
-use Rattle.as2_store.proofs.Committing.{Done}
+use Rattle.as2_store.proofs.Committing.{FollowsEach}
 use Rattle.as2_store.proofs.WaitingPlaces.{documents_rise, receipts_rise, places_rise, renewed}
 
 -- ---- the statement
@@ -91,9 +91,9 @@ holds a b s it rows one = record {
   in_order = places_in_order a.now s it;
 }
 
-behind : (n : ℕ) (es : List InEntry) → AllByRecursion (λ (e : InEntry). n < e.number) es → AllByRecursion (λ v. (v.kind ≡ to_answer) × (n < v.number)) (waiting_in es)
-behind n [] all = tt
-behind n (e ∷ es) all = go (in_waiting e) (last_of e.mdn e.attempt e.number e.due) (behind n es all.1)
+waiting_above : (n : ℕ) (es : List InEntry) → AllByRecursion (λ (e : InEntry). n < e.number) es → AllByRecursion (λ v. (v.kind ≡ to_answer) × (n < v.number)) (waiting_in es)
+waiting_above n [] all = tt
+waiting_above n (e ∷ es) all = go (in_waiting e) (kind_is_last e.mdn e.attempt e.number e.due) (waiting_above n es all.1)
   where
     go : (o : Option WaitingRow) → IfSome o (IsLast e.number) → AllByRecursion (λ v. (v.kind ≡ to_answer) × (n < v.number)) (waiting_in es) → AllByRecursion (λ v. (v.kind ≡ to_answer) × (n < v.number)) (cons_option o (waiting_in es))
     go None is rest = rest
@@ -112,9 +112,9 @@ waits_anew s n m small outs it =
     let now : waiting_in (changed n (requeued m) s.inbox) ≡ waiting_in it.front ++ w ∷ waiting_in it.back =
     ap waiting_in (changed_split n (requeued m) s.inbox it) ∙ filter_map-append in_waiting it.front (requeued m it.one ∷ it.back) ∙ ap (λ k. waiting_in it.front ++ to_send_from k m ∷ waiting_in it.back) it.here in
     ap (λ l. put_row (waiting_row w) (map waiting_row (not_at (place w) (send ++ (l ++ late))))) was
-    ∙ renewed n w (refl, refl) small (in_waiting it.one) (subst (λ k. IfSome (in_waiting it.one) (IsLast k)) it.here (last_of it.one.mdn it.one.attempt it.one.number it.one.due))
+    ∙ renewed n w (refl, refl) small (in_waiting it.one) (subst (λ k. IfSome (in_waiting it.one) (IsLast k)) it.here (kind_is_last it.one.mdn it.one.attempt it.one.number it.one.due))
     send (waiting_in it.front) (waiting_in it.back) (documents_waiting to_hear s.outbox) (documents_waiting to_end s.outbox)
-    (documents_of to_send end_of_numbers s.outbox outs) (ins_small n it.front (all-map (λ k. k < n) (λ (e : InEntry). e.number) it.front it.low)) (behind n it.back it.high)
+    (documents_of to_send end_of_numbers s.outbox outs) (ins_small n it.front (all-map (λ k. k < n) (λ (e : InEntry). e.number) it.front it.low)) (waiting_above n it.back it.high)
     (documents_of to_hear end_of_numbers s.outbox outs) (documents_of to_end end_of_numbers s.outbox outs)
     ∙ ap (λ l. map waiting_row (send ++ (l ++ late))) (sym now)
 
@@ -195,7 +195,7 @@ module _ {S : Type 0} (g : Ghosts S) (old : Held S) (mid : Connected) (n : ℕ) 
   abbrev Set : ℕ → ℕ → Type 0
   Set m count = (s : State) → Stands (state g old).now s → Changed (state g (record old { in_transaction = true })) mid store_schema inbox_tree (map in_row (change_received s n (requeued m)).inbox) × (count ≡ length (filter (λ (e : InEntry). e.number == n) s.inbox))
 
-  pub requeues_none : (m count : ℕ) → count ≡ 0 → (HasCleanDisk mid → IsTrue (state g old).is_open) → (HasCleanDisk mid → Set m count) → HasCleanDisk mid → Done g old mid (requeued_in n m)
+  pub requeues_none : (m count : ℕ) → count ≡ 0 → (HasCleanDisk mid → IsTrue (state g old).is_open) → (HasCleanDisk mid → Set m count) → HasCleanDisk mid → FollowsEach g old mid (requeued_in n m)
   requeues_none m count none opened put clean = record {
     was_open = opened clean;
     reaches = λ s r.
@@ -205,7 +205,7 @@ module _ {S : Type 0} (g : Ghosts S) (old : Held S) (mid : Connected) (n : ℕ) 
   }
 
   pub requeues_some : (last : Connected) (w m : ℕ) → (n < end_of_numbers → w ≡ n) → (count : ℕ) → count ≢ 0 → (HasCleanDisk last → HasCleanDisk mid) → (HasCleanDisk mid → IsTrue (state g old).is_open) → (HasCleanDisk mid → Set m count)
-      → (HasCleanDisk last → (ws : List WaitingRow) → HoldsWaiting mid.now ws → Renewed mid last (to_send_from w m) ws) → HasCleanDisk last → Done g old last (requeued_in n m)
+      → (HasCleanDisk last → (ws : List WaitingRow) → HoldsWaiting mid.now ws → Renewed mid last (to_send_from w m) ws) → HasCleanDisk last → FollowsEach g old last (requeued_in n m)
   requeues_some last w m within count some was opened put renewed clean = record {
     was_open = opened (was clean);
     reaches = λ s r.

@@ -46,9 +46,9 @@ use Rattle.as2_store.specs.Stands.{IsWhole, Stands, place, waiting_row, document
 use Rattle.as2_store.specs.Requeuing.{HoldsWaiting}
 use Rattle.as2_exchange.specs.Documents.{settled_as}
 use Rattle.as2_store.specs.Settling.{settled_in, of_document, without_document}
-use Rattle.as2_store.proofs.Committing.{Done}
-use Rattle.as2_store.proofs.Unsettled.{some_found, unsettled}
-use Rattle.as2_store.proofs.MetaRow.{one_param, passed}
+use Rattle.as2_store.proofs.Committing.{FollowsEach}
+use Rattle.as2_store.proofs.Unsettled.{some_found, fresh_unsettled}
+use Rattle.as2_store.proofs.MetaRow.{one_param, fits_i64}
 use Rattle.as2_store.proofs.NumberedRows.{numbers_rise, entries_rise, rises, falls}
 use Rattle.as2_store.proofs.WaitingRows.{IsOf, ins_small}
 use Rattle.as2_store.proofs.RequeuedTables.{places_in_order}
@@ -65,7 +65,7 @@ abbrev pub settle_params : ℕ → Detail → Row
 settle_params n detail = Int (pos n) ∷ Int (pos (detail_code detail)) ∷ []
 
 pub passed_detail : (detail : Detail) → to_z w64 (of_z w64 (pos (detail_code detail))) ≡ pos (detail_code detail)
-passed_detail detail = passed (detail_code detail) (small detail)
+passed_detail detail = fits_i64 (detail_code detail) (small detail)
   where
     small : (detail : Detail) → detail_code detail < 2 ^ 63
     small New = omega arith
@@ -210,21 +210,21 @@ takes_document n count old new ws it h =
     (filter_agree (λ (w : WaitingRow). not (passes document_terms (one_param n) (waiting_row w))) (λ (w : WaitingRow). not (of_document n w))
     (λ w. ap not (ap₂ ◌&&◌ (numbers_equal w.number n) (ap (λ b. b && true) (numbers_differ w.kind 2) ∙ and_true _))) ws) done.0
 
-at_rest : (detail : Detail) → is_by_receipt detail ≡ true → out_kind detail Idle ≡ None
-at_rest New is = absurd cc
-at_rest Sending is = absurd cc
-at_rest Awaiting is = absurd cc
-at_rest Retry is = absurd cc
-at_rest Processed is = refl
-at_rest NoReceiptAsked is = absurd cc
-at_rest Warning is = refl
-at_rest NoMic is = refl
-at_rest UnknownMic is = refl
-at_rest NotProcessed is = refl
-at_rest ErrorModifier is = refl
-at_rest MicDiffers is = refl
-at_rest TriesUsed is = absurd cc
-at_rest Overdue is = absurd cc
+rests_idle : (detail : Detail) → is_by_receipt detail ≡ true → out_kind detail Idle ≡ None
+rests_idle New is = absurd cc
+rests_idle Sending is = absurd cc
+rests_idle Awaiting is = absurd cc
+rests_idle Retry is = absurd cc
+rests_idle Processed is = refl
+rests_idle NoReceiptAsked is = absurd cc
+rests_idle Warning is = refl
+rests_idle NoMic is = refl
+rests_idle UnknownMic is = refl
+rests_idle NotProcessed is = refl
+rests_idle ErrorModifier is = refl
+rests_idle MicDiffers is = refl
+rests_idle TriesUsed is = absurd cc
+rests_idle Overdue is = absurd cc
 
 -- a document waits for no receipt to be sent
 no_answer : (detail : Detail) (a : Attempt) → IfSome (out_kind detail a) (λ kind. (kind == to_answer) ≡ false)
@@ -256,7 +256,7 @@ documents_left n detail e by (d ∷ ds) =
     ∙ ap (λ o. cons_option o (waiting_out (ended n detail e ds))) (sym (one (d.number == n)))
   where
     one : (t : Bool) → out_waiting (cond t (settled_as detail e d) d) ≡ cond t None (out_waiting d)
-    one true = ap (λ o. option_map (λ kind. record { kind = kind; number = d.number; due = None }) o) (at_rest detail by)
+    one true = ap (λ o. option_map (λ kind. record { kind = kind; number = d.number; due = None }) o) (rests_idle detail by)
     one false = refl
 
     go : (t : Bool) → (d.number == n) ≡ t → (o : Option ℕ) → IfSome o (λ kind. (kind == to_answer) ≡ false) → without_document n (waiting_out ds) ≡ waiting_out (ended n detail e ds)
@@ -330,7 +330,7 @@ pub stands_settled : (a b c d : Connected) (s : State) (n : ℕ) (detail : Detai
     → Changed a b store_schema outbox_tree (map out_row (change_document s n (settled_as detail e)).outbox) → Changed b c store_schema evidence_tree (put_row (evidence_row n e) (b.now.trees evidence_tree))
     → Changed c d store_schema waiting_tree (map waiting_row (without_document n (all_waiting s))) → Stands d.now (change_document s n (settled_as detail e))
 unfolding IsWhole
-stands_settled a b c d s n detail e x by it found unsettled one two three =
+stands_settled a b c d s n detail e x by it found fresh_unsettled one two three =
     let has = it.entries in
     let rising = numbers_rise (λ (y : OutEntry). y.number) s.next_out s.outbox it.documents.1 in
     record {
@@ -344,7 +344,7 @@ stands_settled a b c d s n detail e x by it found unsettled one two three =
         outbox_contents = subst (λ ps. HasRows (d.now.trees outbox_piece_tree) (map piece_shown ps)) (sym (same_pieces n detail e s.outbox))
             (unchanged (three.others.1.1.1.1.0 (λ e. omega arith) ∙ two.others.1.1.1.1.0 (λ e. omega arith) ∙ one.others.1.1.1.1.0 (λ e. omega arith)) has.outbox_contents);
         evidence = three.others.1.1.1.1.1.0 (λ e. omega arith) ∙ two.rows_are ∙ ap (put_row (evidence_row n e)) (one.others.1.1.1.1.1.0 (λ e. omega arith) ∙ has.evidence)
-            ∙ put_among n detail e s.outbox rising x found (no_evidence_yet x.evidence unsettled);
+            ∙ put_among n detail e s.outbox rising x found (no_evidence_yet x.evidence fresh_unsettled);
         waits = three.rows_are ∙ ap (map waiting_row) (waits_left s n detail e by it.receipts.1.below);
       };
       receipts = it.receipts;
@@ -363,7 +363,7 @@ pub ends : {S : Type 0} (g : Ghosts S) (old : Held S) (one two last : Connected)
     → Changed (state g (record old { in_transaction = true })) one store_schema outbox_tree (map out_row (change_document s w (settled_as detail e)).outbox) × (count ≡ length (filter (λ (d : OutEntry). d.number == w) s.outbox)))
     → (HasCleanDisk two → one.now.schema ≡ store_schema → Changed one two store_schema evidence_tree (put_row (evidence_row w e) (one.now.trees evidence_tree)) × (are_fresh (one.now.trees evidence_tree) (evidence_row w e ∷ []) ≡ true))
     → (HasCleanDisk last → (ws : List WaitingRow) → HoldsWaiting two.now ws → Changed two last store_schema waiting_tree (map waiting_row (without_document w ws)))
-    → HasCleanDisk last → Done g old last (settled_in n detail e)
+    → HasCleanDisk last → FollowsEach g old last (settled_in n detail e)
 ends g old one two last n w detail e by beyond within count some was_one was_two opened set put taken clean =
     let begun = state g (record old { in_transaction = true }) in
     let late = was_one (was_two clean) in
@@ -378,7 +378,7 @@ ends g old one two last n w detail e by beyond within count some was_one was_two
           let next = put (was_two clean) first.0.schema_is in
           let third = taken clean (all_waiting s) (still_holds begun one two s stood _ _ first.0 next.0) in
           let rows : one.now.trees evidence_tree ≡ evidence_rows s.outbox = first.0.others.1.1.1.1.1.0 (λ e. omega arith) ∙ stood.entries.evidence in
-          let not_yet = unsettled w e s.outbox found.0 found.1 (ap (λ l. are_fresh l (evidence_row w e ∷ [])) (sym rows) ∙ next.1) in
+          let not_yet = fresh_unsettled w e s.outbox found.0 found.1 (ap (λ l. are_fresh l (evidence_row w e ∷ [])) (sym rows) ∙ next.1) in
           let stands = stands_settled begun one two last s w detail e found.0 by stood found.1 not_yet first.0 next.0 third in
           subst (λ k. (t : State) × (settled_in k detail e s ≡ Some t) × Stands last.now t) it (change_document s w (settled_as detail e), settled_next s w detail e found.0 found.1 not_yet by, stands);
     }

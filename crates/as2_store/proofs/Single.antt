@@ -66,8 +66,8 @@ abbrev outcomes : List Outcome
 outcomes =
     outcome.Processed ∷ outcome.DecryptionFailed ∷ outcome.DecompressionFailed ∷ outcome.AuthenticationFailed ∷ outcome.UnsupportedFormat ∷ outcome.UnsupportedMicAlgorithms ∷ outcome.Processed ∷ []
 
-outcome_in : (a b : Outcome) → whole (outcome_code a) ≡ whole (outcome_code b) → a ≡ b
-outcome_in = by_code outcome_code outcomes outcome.Processed back
+outcome_injective : (a b : Outcome) → whole (outcome_code a) ≡ whole (outcome_code b) → a ≡ b
+outcome_injective = by_code outcome_code outcomes outcome.Processed back
   where
     back : (x : Outcome) → get_or outcomes (outcome_code x) outcome.Processed ≡ x
     back outcome.DecryptionFailed = refl
@@ -166,7 +166,7 @@ in_same a b same =
     let content_type = bytes_in a.content_type b.content_type (at 6) in
     let long = whole_in a.length b.length (at 7) in
     let moment = whole_in a.moment b.moment (at 8) in
-    let became = outcome_in a.outcome b.outcome (at 9) in
+    let became = outcome_injective a.outcome b.outcome (at 9) in
     let how = how_in a.how b.how (at 10) (at 11) in
     let mic = mic_in a.mic b.mic (at 12) (at 13) in
     let receipt = mdn_in a.mdn b.mdn (at 14) in
@@ -292,11 +292,11 @@ module _ {X : Type 0} (number : X → ℕ) (content : X → List ℕ) where
 
 -- ---- evidence
 
-abbrev first_of : List EvidenceRow → Option Evidence
-first_of [] = None
-first_of (r ∷ rs) = Some r.evidence
+abbrev first_evidence : List EvidenceRow → Option Evidence
+first_evidence [] = None
+first_evidence (r ∷ rs) = Some r.evidence
 
-of_first : (n : ℕ) (o : Option Evidence) → first_of (cons_option (option_map (evidence_in n) o) []) ≡ o
+of_first : (n : ℕ) (o : Option Evidence) → first_evidence (cons_option (option_map (evidence_in n) o) []) ≡ o
 of_first n None = refl
 of_first n (Some e) = refl
 
@@ -305,7 +305,7 @@ same_evidence : (ds es : List OutEntry) → evidence_rows ds ≡ evidence_rows e
 same_evidence ds es rows first second d e here there same =
     let all : receipts ds ≡ receipts es = same_entries row_of (λ _. ⊤) (λ _. ⊤) (λ a b _ _ rows. receipt_same a b rows) (receipts ds) (receipts es) (sym (rows_of ds) ∙ rows ∙ rows_of es) (all_of (λ _. ⊤) (λ _. tt) _) (all_of (λ _. ⊤) (λ _. tt) _) in
     sym (of_first d.number d.evidence)
-    ∙ ap first_of (sym (own_receipt _ ds d first here) ∙ ap₂ of_number same all ∙ own_receipt _ es e second there)
+    ∙ ap first_evidence (sym (own_receipt _ ds d first here) ∙ ap₂ of_number same all ∙ own_receipt _ es e second there)
     ∙ of_first e.number e.evidence
 
 -- ---- the state

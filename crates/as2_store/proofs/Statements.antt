@@ -6,8 +6,8 @@ use Rattle.std.specs.Prelude.{codes, List, ℕ}
 abbrev pub meta_text : List ℕ
 meta_text = codes "CREATE TABLE meta (kind TEXT NOT NULL, version INTEGER NOT NULL, next_receipt INTEGER NOT NULL, next_document INTEGER NOT NULL) STRICT"
 
-abbrev pub inbox_text : List ℕ
-inbox_text = codes "CREATE TABLE inbox (number INTEGER PRIMARY KEY, sender BLOB NOT NULL, receiver BLOB NOT NULL, identifier_value BLOB NOT NULL, identifier BLOB NOT NULL, content_type BLOB NOT NULL, length INTEGER NOT NULL, moment INTEGER NOT NULL, outcome INTEGER NOT NULL CHECK (outcome >= 1 AND outcome <= 6), how INTEGER NOT NULL, url BLOB, digest TEXT CHECK (digest = 'sha1' OR digest = 'md5'), mic BLOB, mdn INTEGER NOT NULL, tries INTEGER NOT NULL, attempt INTEGER NOT NULL, due INTEGER, UNIQUE (sender, receiver, identifier_value)) STRICT"
+abbrev pub inbox_statement : List ℕ
+inbox_statement = codes "CREATE TABLE inbox (number INTEGER PRIMARY KEY, sender BLOB NOT NULL, receiver BLOB NOT NULL, identifier_value BLOB NOT NULL, identifier BLOB NOT NULL, content_type BLOB NOT NULL, length INTEGER NOT NULL, moment INTEGER NOT NULL, outcome INTEGER NOT NULL CHECK (outcome >= 1 AND outcome <= 6), how INTEGER NOT NULL, url BLOB, digest TEXT CHECK (digest = 'sha1' OR digest = 'md5'), mic BLOB, mdn INTEGER NOT NULL, tries INTEGER NOT NULL, attempt INTEGER NOT NULL, due INTEGER, UNIQUE (sender, receiver, identifier_value)) STRICT"
 
 abbrev pub inbox_piece_text : List ℕ
 inbox_piece_text = codes "CREATE TABLE inbox_piece (number INTEGER NOT NULL REFERENCES inbox (number), position INTEGER NOT NULL, bytes BLOB NOT NULL, PRIMARY KEY (number, position)) STRICT"
@@ -18,8 +18,8 @@ outbox_text = codes "CREATE TABLE outbox (number INTEGER PRIMARY KEY, organizati
 abbrev pub outbox_piece_text : List ℕ
 outbox_piece_text = codes "CREATE TABLE outbox_piece (number INTEGER NOT NULL REFERENCES outbox (number), position INTEGER NOT NULL, bytes BLOB NOT NULL, PRIMARY KEY (number, position)) STRICT"
 
-abbrev pub evidence_text : List ℕ
-evidence_text = codes "CREATE TABLE evidence (number INTEGER PRIMARY KEY REFERENCES outbox (number), moment INTEGER NOT NULL, content_type BLOB NOT NULL, body BLOB NOT NULL) STRICT"
+abbrev pub evidence_statement : List ℕ
+evidence_statement = codes "CREATE TABLE evidence (number INTEGER PRIMARY KEY REFERENCES outbox (number), moment INTEGER NOT NULL, content_type BLOB NOT NULL, body BLOB NOT NULL) STRICT"
 
 abbrev pub waiting_text : List ℕ
 waiting_text = codes "CREATE TABLE waiting (place INTEGER PRIMARY KEY, kind INTEGER NOT NULL, number INTEGER NOT NULL, due INTEGER, UNIQUE (kind, number)) STRICT"

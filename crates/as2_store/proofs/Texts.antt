@@ -95,8 +95,8 @@ pub in_piece_put_plain : IsPlain (understood store_schema in_piece_put_text)
 unfolding understood everything
 in_piece_put_plain = (refl, refl)
 
-abbrev pub in_columns : List Term
-in_columns =
+abbrev pub in_column_terms : List Term
+in_column_terms =
     col 1 0 ∷ col 1 2 ∷ col 1 3 ∷ col 1 4 ∷ col 1 5 ∷ col 1 6 ∷ col 1 7 ∷ col 1 8 ∷ col 1 9 ∷ col 1 10 ∷ col 1 11 ∷ col 1 12 ∷ col 1 13 ∷ col 1 14 ∷ col 1 15 ∷ col 1 16 ∷ col 1 17 ∷ []
 
 abbrev pub in_names : List (List ℕ)
@@ -107,7 +107,7 @@ in_names =
 abbrev pub key_terms : List Term
 key_terms = op2 (Compare Eq Binary) (col 1 2) (col 0 0) ∷ op2 (Compare Eq Binary) (col 1 3) (col 0 1) ∷ op2 (Compare Eq Binary) (col 1 4) (col 0 2) ∷ []
 
-pub in_by_key_is : command_of (understood store_schema in_by_key_text) ≡ Select (record { lets = []; body = over_table inbox_tree key_terms in_columns by_number (lit (Int (negsuc 0))) }) in_names
+pub in_by_key_is : command_of (understood store_schema in_by_key_text) ≡ Select (record { lets = []; body = over_table inbox_tree key_terms in_column_terms by_number (lit (Int (negsuc 0))) }) in_names
 unfolding understood everything
 in_by_key_is = refl
 
@@ -122,7 +122,7 @@ in_by_key_unlisted = refl
 abbrev pub number_terms : List Term
 number_terms = op2 (Compare Eq Binary) (col 1 0) (col 0 0) ∷ []
 
-pub in_by_number_is : command_of (understood store_schema in_by_number_text) ≡ Select (record { lets = []; body = over_table inbox_tree number_terms in_columns by_number (lit (Int (negsuc 0))) }) in_names
+pub in_by_number_is : command_of (understood store_schema in_by_number_text) ≡ Select (record { lets = []; body = over_table inbox_tree number_terms in_column_terms by_number (lit (Int (negsuc 0))) }) in_names
 unfolding understood everything
 in_by_number_is = refl
 
@@ -134,7 +134,7 @@ pub in_by_number_unlisted : reads_listing store_schema in_by_number_text ≡ fal
 unfolding understood everything
 in_by_number_unlisted = refl
 
-pub in_all_is : command_of (understood store_schema in_all_text) ≡ Select (record { lets = []; body = over_table inbox_tree [] in_columns by_number (lit (Int (negsuc 0))) }) in_names
+pub in_all_is : command_of (understood store_schema in_all_text) ≡ Select (record { lets = []; body = over_table inbox_tree [] in_column_terms by_number (lit (Int (negsuc 0))) }) in_names
 unfolding understood everything
 in_all_is = refl
 
@@ -149,11 +149,11 @@ in_all_unlisted = refl
 abbrev pub piece_terms : List Term
 piece_terms = op2 (Compare Eq Binary) (col 1 1) (col 0 0) ∷ []
 
-abbrev pub piece_columns : List Term
-piece_columns = col 1 1 ∷ col 1 2 ∷ col 1 3 ∷ []
+abbrev pub piece_column_terms : List Term
+piece_column_terms = col 1 1 ∷ col 1 2 ∷ col 1 3 ∷ []
 
 pub in_pieces_is : command_of (understood store_schema in_pieces_text)
-    ≡ Select (record { lets = []; body = over_table inbox_piece_tree piece_terms piece_columns (by_column 2) (lit (Int (negsuc 0))) }) (codes "number" ∷ codes "position" ∷ codes "bytes" ∷ [])
+    ≡ Select (record { lets = []; body = over_table inbox_piece_tree piece_terms piece_column_terms (by_column 2) (lit (Int (negsuc 0))) }) (codes "number" ∷ codes "position" ∷ codes "bytes" ∷ [])
 unfolding understood everything
 in_pieces_is = refl
 
@@ -180,8 +180,8 @@ in_requeue_plain = (refl, refl)
 
 -- ---- the outbox
 
-abbrev pub out_columns : List Term
-out_columns = col 1 0 ∷ col 1 2 ∷ col 1 3 ∷ col 1 4 ∷ col 1 5 ∷ col 1 6 ∷ col 1 7 ∷ col 1 8 ∷ col 1 9 ∷ col 1 10 ∷ col 1 11 ∷ []
+abbrev pub out_column_terms : List Term
+out_column_terms = col 1 0 ∷ col 1 2 ∷ col 1 3 ∷ col 1 4 ∷ col 1 5 ∷ col 1 6 ∷ col 1 7 ∷ col 1 8 ∷ col 1 9 ∷ col 1 10 ∷ col 1 11 ∷ []
 
 abbrev pub out_names : List (List ℕ)
 out_names =
@@ -190,7 +190,7 @@ out_names =
 abbrev pub id_terms : List Term
 id_terms = op2 (Compare Eq Binary) (col 1 4) (col 0 0) ∷ []
 
-pub out_by_id_is : command_of (understood store_schema out_by_id_text) ≡ Select (record { lets = []; body = over_table outbox_tree id_terms out_columns by_number (lit (Int (negsuc 0))) }) out_names
+pub out_by_id_is : command_of (understood store_schema out_by_id_text) ≡ Select (record { lets = []; body = over_table outbox_tree id_terms out_column_terms by_number (lit (Int (negsuc 0))) }) out_names
 unfolding understood everything
 out_by_id_is = refl
 
@@ -203,7 +203,7 @@ unfolding understood everything
 out_by_id_unlisted = refl
 
 pub out_pieces_is : command_of (understood store_schema out_pieces_text)
-    ≡ Select (record { lets = []; body = over_table outbox_piece_tree piece_terms piece_columns (by_column 2) (lit (Int (negsuc 0))) }) (codes "number" ∷ codes "position" ∷ codes "bytes" ∷ [])
+    ≡ Select (record { lets = []; body = over_table outbox_piece_tree piece_terms piece_column_terms (by_column 2) (lit (Int (negsuc 0))) }) (codes "number" ∷ codes "position" ∷ codes "bytes" ∷ [])
 unfolding understood everything
 out_pieces_is = refl
 
@@ -215,14 +215,14 @@ pub out_pieces_unlisted : reads_listing store_schema out_pieces_text ≡ false
 unfolding understood everything
 out_pieces_unlisted = refl
 
-abbrev pub evidence_columns : List Term
-evidence_columns = col 1 0 ∷ col 1 2 ∷ col 1 3 ∷ col 1 4 ∷ []
+abbrev pub evidence_column_terms : List Term
+evidence_column_terms = col 1 0 ∷ col 1 2 ∷ col 1 3 ∷ col 1 4 ∷ []
 
 abbrev pub evidence_names : List (List ℕ)
 evidence_names = codes "number" ∷ codes "moment" ∷ codes "content_type" ∷ codes "body" ∷ []
 
 pub evidence_by_number_is : command_of (understood store_schema evidence_by_number_text)
-    ≡ Select (record { lets = []; body = over_table evidence_tree number_terms evidence_columns by_number (lit (Int (negsuc 0))) }) evidence_names
+    ≡ Select (record { lets = []; body = over_table evidence_tree number_terms evidence_column_terms by_number (lit (Int (negsuc 0))) }) evidence_names
 unfolding understood everything
 evidence_by_number_is = refl
 

@@ -46,8 +46,8 @@ taken n e (x ∷ ds) d found has = go (x.number == n) refl found (λ later. take
     go true is here later = let same : x ≡ d = cc in let number : x.number ≡ n = grind (arith, nat_tests) in own x.evidence (ap is_settled same ∙ has) number
     go false is here later = behind x.evidence (later here)
 
-pub unsettled : (n : ℕ) (e : Evidence) (ds : List OutEntry) (d : OutEntry) → find (λ (x : OutEntry). x.number == n) ds ≡ Some d → are_fresh (evidence_rows ds) (evidence_row n e ∷ []) ≡ true → is_settled d ≡ false
-unsettled n e ds d found fresh = go (is_settled d) (taken n e ds d found) fresh
+pub fresh_unsettled : (n : ℕ) (e : Evidence) (ds : List OutEntry) (d : OutEntry) → find (λ (x : OutEntry). x.number == n) ds ≡ Some d → are_fresh (evidence_rows ds) (evidence_row n e ∷ []) ≡ true → is_settled d ≡ false
+fresh_unsettled n e ds d found fresh = go (is_settled d) (taken n e ds d found) fresh
   where
     go : (t : Bool) → (t ≡ true → is_taken (evidence_rows ds) (evidence_row n e) ≡ true) → (not (is_taken (evidence_rows ds) (evidence_row n e)) && true) ≡ true → t ≡ false
     go true is fresh = absurd (let same = ap (λ b. not b && true) (is refl) in cc)

@@ -40,9 +40,9 @@ IsUnder v w = v.number < w.number
 abbrev IsBefore : WaitingRow → WaitingRow → Type 0
 IsBefore v w = place v < place w
 
-named : (n : ℕ) (due : Option ℕ) (o : Option ℕ) → IfSome (option_map (λ kind. record { kind = kind; number = n; due = due }) o) (λ (w : WaitingRow). w.number ≡ n)
-named n due None = tt
-named n due (Some kind) = refl
+number_kept : (n : ℕ) (due : Option ℕ) (o : Option ℕ) → IfSome (option_map (λ kind. record { kind = kind; number = n; due = due }) o) (λ (w : WaitingRow). w.number ≡ n)
+number_kept n due None = tt
+number_kept n due (Some kind) = refl
 
 by_place : (kind next : ℕ) (ws : List WaitingRow) → AllByRecursion (IsOf kind next) ws → IsAscending IsUnder ws → IsAscending IsBefore ws
 by_place kind next [] of up = tt
@@ -62,10 +62,10 @@ then kind xs ys of up behind later =
     (all_weaker (IsOf kind end_of_numbers) (λ x. AllByRecursion (IsBefore x) ys) (λ x is. all_weaker (IsPast kind) (IsBefore x) (λ y far. omega (arith, is.0, is.1, far)) ys behind) xs of)
 
 pub documents_rise : (kind : ℕ) (ds : List OutEntry) → IsAscending (λ (x y : OutEntry). x.number < y.number) ds → IsAscending IsUnder (documents_waiting kind ds)
-documents_rise kind ds up = ascending-filter IsUnder (λ w. w.kind == kind) (filter_map out_waiting ds) (given_rise out_waiting (λ (d : OutEntry). d.number) (λ (w : WaitingRow). w.number) (λ d. named d.number d.due (out_kind d.detail d.attempt)) ds up)
+documents_rise kind ds up = ascending-filter IsUnder (λ w. w.kind == kind) (filter_map out_waiting ds) (given_rise out_waiting (λ (d : OutEntry). d.number) (λ (w : WaitingRow). w.number) (λ d. number_kept d.number d.due (out_kind d.detail d.attempt)) ds up)
 
 pub receipts_rise : (es : List InEntry) → IsAscending (λ (x y : InEntry). x.number < y.number) es → IsAscending IsUnder (waiting_in es)
-receipts_rise es up = given_rise in_waiting (λ (e : InEntry). e.number) (λ (w : WaitingRow). w.number) (λ e. named e.number e.due (in_kind e.mdn e.attempt)) es up
+receipts_rise es up = given_rise in_waiting (λ (e : InEntry). e.number) (λ (w : WaitingRow). w.number) (λ e. number_kept e.number e.due (in_kind e.mdn e.attempt)) es up
 
 pub places_rise : (send answer hear end : List WaitingRow) → AllByRecursion (IsOf to_send end_of_numbers) send → AllByRecursion (IsOf to_answer end_of_numbers) answer → AllByRecursion (IsOf to_hear end_of_numbers) hear
     → AllByRecursion (IsOf to_end end_of_numbers) end → IsAscending IsUnder send → IsAscending IsUnder answer → IsAscending IsUnder hear → IsAscending IsUnder end → IsTable (map waiting_row (send ++ (answer ++ (hear ++ end))))

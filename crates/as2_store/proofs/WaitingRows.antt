@@ -75,16 +75,16 @@ pub ins_small : (next : ℕ) (es : List InEntry) → AllByRecursion (λ n. n < n
 ins_small next [] all = tt
 ins_small next (e ∷ es) all = small_in next e.number e.due e.mdn e.attempt (waiting_in es) all.0 (ins_small next es all.1)
 
-of_kind : (kind next : ℕ) (ws : List WaitingRow) → AllByRecursion (λ w. w.number < next) ws → AllByRecursion (IsOf kind next) (filter (λ w. w.kind == kind) ws)
-of_kind kind next [] all = tt
-of_kind kind next (w ∷ ws) all = go (w.kind == kind) refl (of_kind kind next ws all.1)
+kind_below : (kind next : ℕ) (ws : List WaitingRow) → AllByRecursion (λ w. w.number < next) ws → AllByRecursion (IsOf kind next) (filter (λ w. w.kind == kind) ws)
+kind_below kind next [] all = tt
+kind_below kind next (w ∷ ws) all = go (w.kind == kind) refl (kind_below kind next ws all.1)
   where
     go : (t : Bool) → (w.kind == kind) ≡ t → AllByRecursion (IsOf kind next) (filter (λ w. w.kind == kind) ws) → AllByRecursion (IsOf kind next) (cond t (w ∷ filter (λ w. w.kind == kind) ws) (filter (λ w. w.kind == kind) ws))
     go true is rest = ((grind (arith, nat_tests), all.0), rest)
     go false is rest = rest
 
 pub documents_of : (kind next : ℕ) (ds : List OutEntry) → AllByRecursion (λ n. n < next) (map (λ (d : OutEntry). d.number) ds) → AllByRecursion (IsOf kind next) (documents_waiting kind ds)
-documents_of kind next ds all = of_kind kind next (waiting_out ds) (outs_small next ds all)
+documents_of kind next ds all = kind_below kind next (waiting_out ds) (outs_small next ds all)
 
 -- ---- the rows with one more
 
@@ -95,13 +95,13 @@ noted_rows (Some w) rows = put_row (waiting_row w) rows
 abbrev pub IsLast : ℕ → WaitingRow → Type 0
 IsLast n w = (w.kind ≡ to_answer) × (w.number ≡ n)
 
-pub last_of : (m : MdnState) (a : Attempt) (n : ℕ) (due : Option ℕ) → IfSome (option_map (λ kind. record { kind = kind; number = n; due = due }) (in_kind m a)) (IsLast n)
-last_of Pending Idle n due = (refl, refl)
-last_of Pending Running n due = (refl, refl)
-last_of Pending Last n due = tt
-last_of Pending Used n due = tt
-last_of Unasked a n due = tt
-last_of Sent a n due = tt
+pub kind_is_last : (m : MdnState) (a : Attempt) (n : ℕ) (due : Option ℕ) → IfSome (option_map (λ kind. record { kind = kind; number = n; due = due }) (in_kind m a)) (IsLast n)
+kind_is_last Pending Idle n due = (refl, refl)
+kind_is_last Pending Running n due = (refl, refl)
+kind_is_last Pending Last n due = tt
+kind_is_last Pending Used n due = tt
+kind_is_last Unasked a n due = tt
+kind_is_last Sent a n due = tt
 
 noted_in : (n : ℕ) (o : Option WaitingRow) → IfSome o (IsLast n) → n < end_of_numbers → (send answer hear end : List WaitingRow) → AllByRecursion (IsOf to_send end_of_numbers) send → AllByRecursion (IsOf to_answer n) answer
     → AllByRecursion (IsOf to_hear end_of_numbers) hear → AllByRecursion (IsOf to_end end_of_numbers) end
@@ -119,7 +119,7 @@ noted_in n (Some w) last small send answer hear end s a h e =
 pub noted : (s : State) (e : InEntry) → AllByRecursion (λ n. n < s.next_in) (map (λ (x : InEntry). x.number) s.inbox) → AllByRecursion (λ n. n < end_of_numbers) (map (λ (x : OutEntry). x.number) s.outbox)
     → e.number ≡ s.next_in → e.number < end_of_numbers → noted_rows (in_waiting e) (map waiting_row (all_waiting s)) ≡ map waiting_row (all_waiting (with_received s e))
 noted s e ins outs is small =
-    noted_in e.number (in_waiting e) (last_of e.mdn e.attempt e.number e.due) small (documents_waiting to_send s.outbox) (waiting_in s.inbox) (documents_waiting to_hear s.outbox) (documents_waiting to_end s.outbox)
+    noted_in e.number (in_waiting e) (kind_is_last e.mdn e.attempt e.number e.due) small (documents_waiting to_send s.outbox) (waiting_in s.inbox) (documents_waiting to_hear s.outbox) (documents_waiting to_end s.outbox)
     (documents_of to_send end_of_numbers s.outbox outs) (subst (λ n. AllByRecursion (IsOf to_answer n) (waiting_in s.inbox)) (sym is) (ins_small s.next_in s.inbox ins))
     (documents_of to_hear end_of_numbers s.outbox outs) (documents_of to_end end_of_numbers s.outbox outs)
     ∙ ap (λ l. map waiting_row (documents_waiting to_send s.outbox ++ (l ++ (documents_waiting to_hear s.outbox ++ documents_waiting to_end s.outbox)))) (sym (filter_map-append in_waiting s.inbox (e ∷ [])))

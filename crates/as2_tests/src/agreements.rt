@@ -67,7 +67,7 @@ fn counts(alloc: Global, text: &str) -> Result<(u64, u64), AgreementFault> {
 }
 
 // A text and its fault.
-const TEXTS: &[(&str, AgreementFault)] = &[
+static TEXTS: &[(&str, AgreementFault)] = &[
     ("", Missing(Key::Domain)),
     ("# nothing\n", Missing(Key::Domain)),
     ("=", NotToml),
@@ -140,7 +140,7 @@ fn each_text_has_its_fault(rt: HostRuntime) {
 }
 
 // What stands in the agreements, what is put in its place, and the fault, if there is one.
-const CHANGES: &[(&str, &str, Option<AgreementFault>)] = &[
+static CHANGES: &[(&str, &str, Option<AgreementFault>)] = &[
     ("Supplier", "Supplier", None),
     // names
     ("Supplier", "", Some(BadName)),
@@ -341,10 +341,11 @@ const CHANGES: &[(&str, &str, Option<AgreementFault>)] = &[
 fn check_changes(
     rt: &impl Abort,
     alloc: Global,
+    plain: &str,
     changes: &[(&str, &str, Option<AgreementFault>)],
 ) -> Result<(), AllocError> {
     for &(old, new, fault) in changes {
-        let text = AGREEMENTS.replacen(alloc, old, new, 1)?;
+        let text = plain.replacen(alloc, old, new, 1)?;
         assert!(rt; counts(alloc, text.as_str()).err() == fault);
     }
     Ok(())
@@ -352,7 +353,7 @@ fn check_changes(
 
 #[test]
 fn each_change_has_its_fault(rt: HostRuntime) -> Result<(), Fail> {
-    Ok(check_changes(&rt, rt.alloc(), CHANGES)?)
+    Ok(check_changes(&rt, rt.alloc(), AGREEMENTS, CHANGES)?)
 }
 
 /// An address, of which 25 bytes stand already.
@@ -391,7 +392,7 @@ const PARTNER: &str =
     "[[partner]]\nname = \"p#\"\nurl = \"http://h\"\nreceipt = \"sync\"\ndigest = \"md5\"\ncontent_type = \"a/b\"\nmax_tries = 1\nretry_seconds = 1\noverdue_seconds = 1\n";
 
 // A text, its entries, and the members or the fault.
-const LIMITS: &[(Text, (&str, u64), Result<(u64, u64), AgreementFault>)] = &[
+static LIMITS: &[(Text, (&str, u64), Result<(u64, u64), AgreementFault>)] = &[
     (LONG_NAME, ("x", 128), Ok((1, 3))),
     (LONG_NAME, ("x", 129), Err(BadName)),
     (LONG_URL, ("x", 999), Ok((1, 3))),
@@ -431,7 +432,7 @@ fn each_limit_is_kept(rt: HostRuntime) -> Result<(), Fail> {
 }
 
 // A text, its domain and its address for receipts.
-const VALUES: &[(&str, &[u8], Option<&str>)] = &[
+static VALUES: &[(&str, &[u8], Option<&str>)] = &[
     (
         AGREEMENTS,
         b"station.example",
@@ -478,7 +479,7 @@ const STRANGER: Member = Member {
     partner: None,
 };
 
-const MEMBERS: &[Member] = &[
+static MEMBERS: &[Member] = &[
     Member {
         name: b"Buyer",
         partner: Some(("http://127.0.0.1:8081/as2", Asked::Sync)),
@@ -561,7 +562,7 @@ fn members_are_found_by_their_names(rt: HostRuntime) -> Result<(), Fail> {
 }
 
 // A fault, its word and its key's spelling.
-const FAULTS: &[(AgreementFault, &str, Option<&str>)] = &[
+static FAULTS: &[(AgreementFault, &str, Option<&str>)] = &[
     (NotToml, "NotToml", None),
     (Missing(Key::Domain), "Missing", Some("domain")),
     (WrongKind(Key::Receipt), "WrongKind", Some("receipt")),
@@ -586,7 +587,7 @@ fn faults_have_words(rt: HostRuntime) {
     }
 }
 
-const KEYS: &[(Key, &str)] = &[
+static KEYS: &[(Key, &str)] = &[
     (Key::Domain, "domain"),
     (Key::ReturnUrl, "return_url"),
     (Key::Organization, "organization"),

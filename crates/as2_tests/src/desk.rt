@@ -191,7 +191,7 @@ fn outcome_over(
     let mut input = Input::new(parts, case.broken == Broken::Input);
     let mut output = Paper::new(alloc, case.broken == Broken::Output);
     let mut errors = Paper::new(alloc, case.broken == Broken::Errors);
-    let ran = run(
+    let (ran, _) = run(
         alloc,
         words,
         case.clock,

@@ -134,7 +134,7 @@ fn are_found(
 
 #[test]
 fn documents_are_found_by_their_identifiers(rt: HostRuntime) -> Result<(), Fail> {
-    const DOCUMENTS: &[(&str, Stand)] = &[
+    static DOCUMENTS: &[(&str, Stand)] = &[
         ("out-1@station.example", Stand::Sending),
         ("out-2@station.example", Stand::New),
         ("out-3@station.example", Stand::Absent),
@@ -147,7 +147,7 @@ fn documents_are_found_by_their_identifiers(rt: HostRuntime) -> Result<(), Fail>
 }
 
 /// Posts of receipts: for no document of those names, for the first, again, and one that is unreadable.
-const RECEIPTS: &[Row<'static>] = &[
+static RECEIPTS: &[Row<'static>] = &[
     Row {
         changes: &[("Content-Type", RECEIPT_TYPE), ("AS2-From", "Depot")],
         body: RECEIPT,
@@ -188,7 +188,7 @@ fn store_of_receipts(alloc: Global) -> Result<Store<MemStore>, Fail> {
 
 #[test]
 fn a_posted_receipt_settles_its_document_once(rt: HostRuntime) -> Result<(), Fail> {
-    const DOCUMENTS: &[(&str, Stand)] = &[
+    static DOCUMENTS: &[(&str, Stand)] = &[
         ("out-1@station.example", Stand::Processed),
         ("out-2@station.example", Stand::New),
     ];

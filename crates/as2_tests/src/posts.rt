@@ -24,7 +24,7 @@ Received-content-MIC: qZk+NkcGgWq6PiVxeFDCbJzQ2J0=, sha1\r\n\
 --as2-mdn-1--\r\n";
 
 /// The fields of the plain post.
-const FIELDS: [(&str, &str); 7] = [
+static FIELDS: [(&str, &str); 7] = [
     ("AS2-Version", "1.0"),
     ("AS2-From", "Buyer"),
     ("AS2-To", "Supplier"),

@@ -133,7 +133,7 @@ fn a_full_store_adds_nothing(rt: HostRuntime) -> Result<(), Fail> {
 
 #[test]
 fn other_databases_are_no_store(rt: HostRuntime) -> Result<(), Fail> {
-    const BASES: [(&str, StoreFault); 4] = [
+    static BASES: [(&str, StoreFault); 4] = [
         ("", StoreFault::NotAStore),
         ("CREATE TABLE note (title TEXT)", StoreFault::NotAStore),
         ("CREATE TABLE meta (kind TEXT)", StoreFault::NotAStore),

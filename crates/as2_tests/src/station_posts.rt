@@ -8,6 +8,7 @@ use crate::stores::new_store;
 use as2_agreement::Agreements;
 use as2_exchange::{Answer, Event, HttpAnswer, HttpBody, MdnState, StoreFault};
 use as2_station::Station;
+use as2_store::Store;
 use as2_text::Moment;
 use sqlite::MemStore;
 use std::alloc::Global;
@@ -163,7 +164,7 @@ fn the_plain_report_is_spelled_so(rt: HostRuntime) -> Result<(), Fail> {
 
 #[test]
 fn refused_heads(rt: HostRuntime) -> Result<(), Fail> {
-    const REFUSALS: [(Change, u16, &str); 7] = [
+    static REFUSALS: [(Change, u16, &str); 7] = [
         (("as2-to", "Supplier"), 400, "bad AS2 names"),
         (("AS2-From", ""), 400, "bad AS2 names"),
         (("AS2-Version", "2.0"), 400, "bad AS2-Version"),
@@ -403,7 +404,7 @@ fn last_number(rt: HostRuntime) -> Result<(), Fail> {
 
 #[test]
 fn contents_of_every_size_are_kept(rt: HostRuntime) -> Result<(), Fail> {
-    const SIZES: [(usize, &str); 4] = [
+    static SIZES: [(usize, &str); 4] = [
         (
             0,
             "Received-content-MIC: 2jmj7l5rSw0yVb/vlWAYkK/YBwk=, sha1\r\n",
@@ -485,5 +486,62 @@ fn posts_are_played_in_turn(rt: HostRuntime) -> Result<(), Fail> {
     let again = station.step(rt.alloc(), &agreements, post(rt.alloc(), b"abc")?);
     assert!(rt; has_status(&again, 200));
     assert!(rt; has_entries(rt.alloc(), station, &[(1, MdnState::Sent)])?);
+    Ok(())
+}
+
+// What is done to a kept document, the content that comes under its identifier, and the answer.
+static DAMAGED: [(&str, &str, Result<u16, StoreFault>); 3] = [
+    ("UPDATE inbox_piece SET number = 1", "abd", Ok(409)),
+    (
+        "UPDATE inbox_piece SET bytes = x'616264'",
+        "abc",
+        Err(StoreFault::Disk),
+    ),
+    (
+        "UPDATE inbox_piece SET bytes = x'616264'",
+        "abd",
+        Err(StoreFault::Disk),
+    ),
+];
+
+/// The station over the same records, after these statements.
+fn changed(station: Station<MemStore>, statements: &str) -> Result<Station<MemStore>, Fail> {
+    let mut conn = station.into_store().into_connection();
+    conn.execute_batch(statements)?;
+    if !conn.is_autocommit() {
+        return Err(Fail::new("a transaction"));
+    }
+    match Store::adopt(conn) {
+        Ok(store) => Ok(Station::new(store)),
+        Err(_) => Err(Fail::new("no store")),
+    }
+}
+
+/// What is answered to these bytes under the identifier of a document to which that was done.
+fn answer_over(
+    alloc: Global,
+    agreements: &Agreements,
+    statements: &str,
+    bytes: &str,
+) -> Result<Result<u16, StoreFault>, Fail> {
+    let mut station = new_station(alloc)?;
+    let first = station.step(alloc, agreements, post(alloc, b"abc")?);
+    if !has_status(&first, 200) {
+        return Err(Fail::new("not recorded"));
+    }
+    let mut station = changed(station, statements)?;
+    match station.step(alloc, agreements, post(alloc, bytes.as_bytes())?) {
+        Ok(Answer::Http(answer)) => Ok(Ok(answer.status)),
+        Ok(_) => Err(Fail::new("another answer")),
+        Err(fault) => Ok(Err(fault)),
+    }
+}
+
+#[test]
+fn a_damaged_document_is_not_another(rt: HostRuntime) -> Result<(), Fail> {
+    let agreements = Agreements::read(rt.alloc(), AGREEMENTS)?;
+    for &(statements, bytes, wanted) in &DAMAGED {
+        assert!(rt; answer_over(rt.alloc(), &agreements, statements, bytes)? == wanted);
+    }
     Ok(())
 }

@@ -32,11 +32,11 @@ options_whole text lacks = ap (filter_map option_of) (slice_split_none is_semico
 
 -- ---- the first option of a name
 
-abbrev or_else : Option ReceiptOption → Option ReceiptOption → Option ReceiptOption
-or_else None other = other
-or_else (Some option) other = Some option
+abbrev first_option : Option ReceiptOption → Option ReceiptOption → Option ReceiptOption
+first_option None other = other
+first_option (Some option) other = Some option
 
-first_more : (name : List ℕ) (first : Option ReceiptOption) (rest : List ReceiptOption) → first_named name (more first rest) ≡ or_else (where_named name first) (first_named name rest)
+first_more : (name : List ℕ) (first : Option ReceiptOption) (rest : List ReceiptOption) → first_named name (more first rest) ≡ first_option (where_named name first) (first_named name rest)
 first_more name None rest = refl
 first_more name (Some option) rest =
     elim (cases_Bool (has_name name option)) [
@@ -44,16 +44,16 @@ first_more name (Some option) rest =
       | inr f ↦ rw f refl
     ]
 
-first_cut : (name text before behind : List ℕ) → IsCutAt semicolon text before behind → first_named name (options_in text) ≡ or_else (where_named name (option_of before)) (first_named name (options_in behind))
+first_cut : (name text before behind : List ℕ) → IsCutAt semicolon text before behind → first_named name (options_in text) ≡ first_option (where_named name (option_of before)) (first_named name (options_in behind))
 first_cut name text before behind c = ap (first_named name) (options_cut text before behind c) ∙ first_more name (option_of before) (options_in behind)
 
 pub first_found : (name text before behind : List ℕ) (option : ReceiptOption) → IsCutAt semicolon text before behind → where_named name (option_of before) ≡ Some option → first_named name (options_in text) ≡ Some option
-first_found name text before behind option c e = first_cut name text before behind c ∙ ap (λ (r : Option ReceiptOption). or_else r (first_named name (options_in behind))) e
+first_found name text before behind option c e = first_cut name text before behind c ∙ ap (λ (r : Option ReceiptOption). first_option r (first_named name (options_in behind))) e
 
 pub first_on : (name text before behind : List ℕ) → IsCutAt semicolon text before behind → where_named name (option_of before) ≡ None → first_named name (options_in behind) ≡ first_named name (options_in text)
-first_on name text before behind c e = sym (first_cut name text before behind c ∙ ap (λ (r : Option ReceiptOption). or_else r (first_named name (options_in behind))) e)
+first_on name text before behind c e = sym (first_cut name text before behind c ∙ ap (λ (r : Option ReceiptOption). first_option r (first_named name (options_in behind))) e)
 
-or_none : (first : Option ReceiptOption) → or_else first None ≡ first
+or_none : (first : Option ReceiptOption) → first_option first None ≡ first
 or_none None = refl
 or_none (Some option) = refl
 

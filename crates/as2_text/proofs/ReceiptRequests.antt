@@ -50,12 +50,12 @@ with_found text None options request u e = absurd cc
 with_found text (Some url) options request u e = (url, url_found text url u, cc)
 
 -- how, and that the request is that
-record Comes (vs : List (List ℕ)) (options : List ReceiptOption) (request : Request) : Type 0 where
+record IsRequestOf (vs : List (List ℕ)) (options : List ReceiptOption) (request : Request) : Type 0 where
   pub delivery : How
   pub says : SaysHow vs delivery
   pub request_is : request ≡ asked_by delivery options
 
-delivered_found : (vs : List (List ℕ)) (options : List ReceiptOption) (request : Request) → is_given_twice vs ≡ false → request_to vs options ≡ Ok request → Comes vs options request
+delivered_found : (vs : List (List ℕ)) (options : List ReceiptOption) (request : Request) → is_given_twice vs ≡ false → request_to vs options ≡ Ok request → IsRequestOf vs options request
 delivered_found [] options request one e = record { delivery = how.Sync; says = inl (refl, refl); request_is = cc }
 delivered_found (text ∷ []) options request one e =
     let f = with_found text (url_of text) options request refl e in

@@ -66,13 +66,13 @@ one_more_row rows shown c h =
     }
 
 -- the rows behind their numbers
-behind : {rows shown : List Row} (h : HasRows rows shown) → map (λ (r : ℤ × Row). r.1) h.numbered ≡ map (drop 1) rows
-behind h = sym (ap (map (drop 1)) h.rows_are ∙ map-map (drop 1) numbered_row h.numbered)
+unnumbered : {rows shown : List Row} (h : HasRows rows shown) → map (λ (r : ℤ × Row). r.1) h.numbered ≡ map (drop 1) rows
+unnumbered h = sym (ap (map (drop 1)) h.rows_are ∙ map-map (drop 1) numbered_row h.numbered)
 
 -- a table has the same rows, in some order, whoever says what it has
 pub same_rows : (rows one other : List Row) → HasRows rows one → HasRows rows other → IsPermutation one other
 same_rows rows one other h k =
-    IsPermutation-trans one _ other (IsPermutation-sym _ one h.columns) (subst (λ l. IsPermutation l other) (behind k ∙ sym (behind h)) k.columns)
+    IsPermutation-trans one _ other (IsPermutation-sym _ one h.columns) (subst (λ l. IsPermutation l other) (unnumbered k ∙ sym (unnumbered h)) k.columns)
 
 -- ---- one order
 

@@ -8,7 +8,7 @@ use std::process::Abort;
 use std::test::Fail;
 
 // What is changed in the agreements, each at the first place, and what is then said of them.
-const FAULTS: &[(&[Change], &[&str])] = &[
+static FAULTS: &[(&[Change], &[&str])] = &[
     (
         &[("receipt = \"sync\"", "receipt = \"later\"")],
         &["agreements: WrongKind receipt\n"],
@@ -127,7 +127,7 @@ const OTHER_TERMS: Text = Text {
     ..AGREED
 };
 
-const CASES: &[Case] = &[
+static CASES: &[Case] = &[
     // Whole texts.
     Case {
         agreements: NOTHING,

@@ -109,7 +109,7 @@ fn check_lines(rt: &impl Abort, alloc: Global, lines: &[Line]) -> Result<(), All
 }
 
 // What is done: streams without a post, help and the version.
-const DONE: &[Line] = &[
+static DONE: &[Line] = &[
     Line {
         options: FIXTURE,
         rest: &["post"],
@@ -173,7 +173,7 @@ fn help_is_told(rt: HostRuntime) -> Result<(), Fail> {
 }
 
 // Options at fault.
-const OPTIONS: &[Line] = &[
+static OPTIONS: &[Line] = &[
     Line {
         options: FIXTURE,
         rest: &["--colour", "post"],
@@ -274,7 +274,7 @@ fn options_at_fault_are_told(rt: HostRuntime) -> Result<(), Fail> {
 }
 
 // Commands at fault, and options that are wanting.
-const COMMANDS: &[Line] = &[
+static COMMANDS: &[Line] = &[
     Line {
         options: FIXTURE,
         rest: &[],
@@ -408,7 +408,7 @@ const CHECK: Case = Case {
     ..PLAIN
 };
 
-const CLOCKS: &[Case] = &[
+static CLOCKS: &[Case] = &[
     WITHOUT_MOMENT,
     Case {
         clock: Some(253_402_300_800),
@@ -435,7 +435,7 @@ const UNWRITTEN: Case = Case {
     ..PLAIN
 };
 
-const BROKEN: &[Case] = &[
+static BROKEN: &[Case] = &[
     Case {
         rest: &["--help"],
         errors: &["refused: CannotWrite\n"],

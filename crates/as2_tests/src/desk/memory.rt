@@ -1,10 +1,12 @@
 //! A file, stores and streams in memory, which may be broken.
-ghost use Rattle.std.specs.Prelude.{if◌then◌else◌};
+ghost use Rattle.std.specs.Prelude.{◌≡◌, IfOk, false, if◌then◌else◌};
 ghost use Rattle.std.specs.Str.{bytes_eq};
 ghost use Rattle.as2_desk.specs.FileContents.{file, unreadable};
 ghost use Rattle.as2_desk.specs.Stores.{untold};
 
-use as2_desk::{FileFault, OpenStores, Opening, ReadFiles, StoreFault};
+use as2_desk::{
+    FileFault, FirstNumber, OpenFault, OpenStores, ReadFiles, Seen, StoreFault, make_tables,
+};
 use sqlite::{Connection, MemStore};
 use std::alloc::Global;
 use std::io::{Error, ErrorKind, Read, Result as IoResult, Write};
@@ -30,13 +32,30 @@ impl ReadFiles for OneFile<'_> {
     }
 }
 
-/// What is opened under each path.
+/// What stands under each path.
 #[derive(Clone, Copy)]
 pub(super) enum Stores {
-    /// Nothing: the disk has a fault.
+    /// Nobody can say: the disk has a fault.
     Broken,
+    /// A database that another process has.
+    Held,
+    /// A file that is no database.
+    Other,
     /// A database without tables.
     Bare,
+    /// Nothing.
+    Nothing,
+    /// Nothing, until a store is to be made.
+    Taken,
+}
+
+fn in_memory(alloc: Global) -> Result<Connection<MemStore>, OpenFault>
+    ensures { IfOk result (λ c. c.in_transaction ≡ false) }
+{
+    match Connection::open_in_memory(alloc) {
+        Ok(conn) => Ok(conn),
+        Err(_) => Err(OpenFault::Store(StoreFault::Memory)),
+    }
 }
 
 impl OpenStores for Stores {
@@ -44,13 +63,31 @@ impl OpenStores for Stores {
 
     ghost kept = { λ _ _. untold };
 
-    fn open_store(&self, alloc: Global, _path: &str) -> Result<Opening<MemStore>, StoreFault> {
+    fn look(&self, _path: &str) -> Result<Seen, OpenFault> {
         match self {
-            Stores::Broken => Err(StoreFault::Disk),
-            Stores::Bare => match Connection::open_in_memory(alloc) {
-                Ok(conn) => Ok(Opening::Found(conn)),
-                Err(_) => Err(StoreFault::Memory),
-            },
+            Stores::Broken => Err(OpenFault::Store(StoreFault::Disk)),
+            Stores::Held | Stores::Bare => Ok(Seen::Database),
+            Stores::Other => Ok(Seen::Other),
+            Stores::Nothing | Stores::Taken => Ok(Seen::Nothing),
+        }
+    }
+
+    fn open_store(&self, alloc: Global, _path: &str) -> Result<Connection<MemStore>, OpenFault> {
+        match self {
+            Stores::Held => Err(OpenFault::Held),
+            _ => in_memory(alloc),
+        }
+    }
+
+    fn make_store(
+        &self,
+        alloc: Global,
+        _path: &str,
+        first: FirstNumber,
+    ) -> Result<Option<Connection<MemStore>>, OpenFault> {
+        match self {
+            Stores::Taken => Ok(None),
+            _ => Ok(Some(make_tables(in_memory(alloc)?, first)?)),
         }
     }
 }

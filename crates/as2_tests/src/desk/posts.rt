@@ -87,7 +87,7 @@ Content-Length: 0\r
 ";
 
 // In each table: what is changed in the plain post, and the reply. The names.
-const NAMES: &[(&[Change], &str)] = &[
+static NAMES: &[(&[Change], &str)] = &[
     (&[(FROM, "")], BAD_NAMES),
     (
         &[(FROM, "AS2-From: Buyer\r\nAS2-From: Buyer\r\n")],
@@ -113,7 +113,7 @@ fn names_are_looked_up(rt: HostRuntime) -> Result<(), Fail> {
 }
 
 // The version.
-const VERSIONS: &[(&[Change], &str)] = &[
+static VERSIONS: &[(&[Change], &str)] = &[
     (&[(VERSION, "AS2-Version: 2.0\r\n")], BAD_VERSION),
     (&[(VERSION, "AS2-Version: 1.10\r\n")], BAD_VERSION),
     (&[(VERSION, "AS2-Version: 1.\r\n")], BAD_VERSION),
@@ -132,7 +132,7 @@ fn versions_are_looked_at(rt: HostRuntime) -> Result<(), Fail> {
 }
 
 // The media type and the encodings.
-const TYPES: &[(&[Change], &str)] = &[
+static TYPES: &[(&[Change], &str)] = &[
     (&[(TYPE, "")], RECEIPT_TEXT),
     (
         &[(
@@ -188,7 +188,7 @@ fn media_types_and_encodings_are_read(rt: HostRuntime) -> Result<(), Fail> {
 }
 
 // The request for a receipt.
-const REQUESTS: &[(&[Change], &str)] = &[
+static REQUESTS: &[(&[Change], &str)] = &[
     (&[(ASKS, "")], TAKEN),
     (&[(ASKS, ""), (OPTIONS, "")], TAKEN),
     (
@@ -256,7 +256,7 @@ fn requests_for_a_receipt_are_read(rt: HostRuntime) -> Result<(), Fail> {
 }
 
 // The identifier, and the order of faults.
-const ORDER: &[(&[Change], &str)] = &[
+static ORDER: &[(&[Change], &str)] = &[
     (&[(ID, "")], BAD_ID),
     (
         &[(ID, "Message-ID: <m1@x>\r\nMessage-ID: <m2@x>\r\n")],
@@ -305,7 +305,7 @@ const LONG_NAME: Text = Text {
     ..POST
 };
 
-const CASES: &[Case] = &[
+static CASES: &[Case] = &[
     // The spellings of the partners' names.
     Case {
         input: Text {

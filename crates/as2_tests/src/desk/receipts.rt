@@ -15,7 +15,7 @@ const SIGNED: &str =
     "Content-Type: multipart/signed; protocol=\"application/pkcs7-signature\"; micalg=sha1; boundary=\"b\"\r\n";
 
 // What is changed in the plain post, and what then in its reply.
-const OUTCOMES: &[(&[Change], &[Change])] = &[
+static OUTCOMES: &[(&[Change], &[Change])] = &[
     // A content of no byte under MD5.
     (
         &[
@@ -277,7 +277,7 @@ unreadable receipt
 ";
 
 // What is changed in the plain post, and the reply without a receipt.
-const UNTOLD: &[(&[Change], &str)] = &[
+static UNTOLD: &[(&[Change], &str)] = &[
     (
         &[
             (ASKS, ""),
@@ -304,7 +304,7 @@ fn an_outcome_is_told_without_a_receipt(rt: HostRuntime) -> Result<(), Fail> {
 }
 
 // What is changed in the receipt, and the reply.
-const REPORTS: &[(&[Change], &str)] = &[
+static REPORTS: &[(&[Change], &str)] = &[
     (&[], NO_SUCH_MESSAGE),
     (
         &[("Reporting-UA: as2-station", "Disposition: x\r\nX: 8901234")],

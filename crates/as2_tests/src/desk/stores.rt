@@ -23,7 +23,7 @@ const IN_FILE: Case = Case {
     ..PLAIN
 };
 
-const CASES: &[Case] = &[
+static CASES: &[Case] = &[
     // A database without tables is no store.
     Case {
         stores: Stores::Bare,
@@ -31,11 +31,38 @@ const CASES: &[Case] = &[
         errors: &["store: NotAStore\n"],
         ..IN_FILE
     },
-    // A store that cannot be opened.
+    // A store that cannot be looked at.
     Case {
         status: 3,
         errors: &["store: Disk\n"],
         ..IN_FILE
+    },
+    // A file that is no database is not opened.
+    Case {
+        stores: Stores::Other,
+        status: 3,
+        errors: &["store: NotAStore\n"],
+        ..IN_FILE
+    },
+    // Another process has the file.
+    Case {
+        stores: Stores::Held,
+        status: 3,
+        errors: &["store: Refused\nhint: another process has the file open\n"],
+        ..IN_FILE
+    },
+    // Something came to stand there, and is away again.
+    Case {
+        stores: Stores::Taken,
+        status: 3,
+        errors: &["store: Refused\n"],
+        ..IN_FILE
+    },
+    // A store is made where nothing stands.
+    Case {
+        stores: Stores::Nothing,
+        options: &["--agreements", "agreements.toml", "--store", "station.db"],
+        ..PLAIN
     },
     // Bad agreements come before the store.
     Case {
@@ -94,7 +121,7 @@ fn reply(
 }
 
 // Posts to a station that has one number left, and the replies.
-const LAST: &[(Text, Text)] = &[
+static LAST: &[(Text, Text)] = &[
     (POST, LAST_RECEIPT),
     (
         Text {

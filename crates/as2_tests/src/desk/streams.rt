@@ -92,7 +92,7 @@ transfer coding not supported
 ";
 
 // An input, and what it comes to: the status, the reply, and what is said of it.
-const STREAMS: &[(&str, u8, &str, &[&str])] = &[
+static STREAMS: &[(&str, u8, &str, &[&str])] = &[
     ("GET /as2 HTTP/1.1\r\nHost: h\r\n\r\n", 0, ONLY_POST, &[]),
     ("GET /x HTTP/1.1\r\nHost: h\r\n\r\n", 0, ONLY_POST, &[]),
     (
@@ -200,7 +200,7 @@ const LONG_POST: Text = Text {
     ..POST
 };
 
-const CASES: &[Case] = &[
+static CASES: &[Case] = &[
     // A document that ends too early.
     Case {
         input: Text {

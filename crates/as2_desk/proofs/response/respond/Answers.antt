@@ -4,7 +4,7 @@ use Rattle.as2_http.specs.declared.framing.Method.TheVariants.{Post}
 use Rattle.as2_http.specs.declared.framing.Target.TheVariants.{Station}
 use Rattle.as2_desk.specs.Responses.{IsSafe}
 use Rattle.as2_desk.specs.declared.response.Response.TheVariants.{Answered, Failed}
-use Rattle.as2_desk.proofs.TakenPosts.{answered, failed, posts}
+use Rattle.as2_desk.proofs.TakenPosts.{answered, store_failed, posts}
 use Rattle.as2_desk.proofs.response.respond.Goals as goal
 
 pub returns-in-Ok-clause-responds : goal.returns-in-Ok-clause-responds
@@ -18,5 +18,5 @@ pub returns-clause-responds : goal.returns-clause-responds
 returns-clause-responds g c clean s rests =
     let is_post : c.args.request.method ≡ Post = search rules in
     let is_station : c.args.request.target ≡ Station = search rules in
-    let got = failed c.args.agreements.now c.args.moment c.args.request (state g.S.Store c.args.station.now) (state g.S.Store c.post.new.self) c.args.station.now c.post.new.self c.in-Err.fault c.in-Err.ensures.taken c.in-Err.ensures.of_head clean s rests in
+    let got = store_failed c.args.agreements.now c.args.moment c.args.request (state g.S.Store c.args.station.now) (state g.S.Store c.post.new.self) c.args.station.now c.post.new.self c.in-Err.fault c.in-Err.ensures.taken c.in-Err.ensures.of_head clean s rests in
     (got.0, got.1, posts c.args.agreements.now c.args.moment s c.args.request (Failed c.in-Err.fault) (IsSafe (state g.S.Store c.post.new.self)) got.0 is_post is_station got.2)

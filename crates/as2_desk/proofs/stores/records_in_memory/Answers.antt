@@ -1,10 +1,9 @@
 use Rattle.std.proofs.Common.{sym}
 use Rattle.sqlite.proofs.Callers.{memory_is_clean}
-use Rattle.as2_desk.specs.Stores.{nothing}
 use Rattle.as2_desk.proofs.stores.records_in_memory.Goals as goal
 
 -- what was opened has no tables
 pub returns-in-Ok : goal.returns-in-Ok
 returns-in-Ok c =
     let is = c.in-Ok.ensures.empty in
-    c.records_of.ensures nothing (memory_is_clean, record { autocommit = is.0.autocommit; no_table = λ _. is.2; committed = λ _. sym is.0.clean })
+    c.created.ensures memory_is_clean (record { autocommit = is.0.autocommit; no_table = λ _. is.2; committed = λ _. sym is.0.clean })

@@ -1,8 +1,8 @@
-use Rattle.as2_mdn.proofs.OwnReceipt.{typed, read, of_one}
+use Rattle.as2_mdn.proofs.OwnReceipt.{reports_typed, read, of_one}
 use Rattle.as2_mdn.proofs.laws.own_receipt.Goals as goal
 
 pub returns-clause-typed : goal.returns-clause-typed
-returns-clause-typed c = typed
+returns-clause-typed c = reports_typed
 
 pub returns-clause-read : goal.returns-clause-read
 returns-clause-read c = read

@@ -4,7 +4,7 @@ use Rattle.sqlite.specs.State.{Executes}
 use Rattle.sql_tables.proofs.Inside.{made}
 use Rattle.as2_rows.specs.Rows.{in_shown}
 use Rattle.as2_store.proofs.Statements.{in_put_text}
-use Rattle.as2_store.proofs.MetaRow.{passed}
+use Rattle.as2_store.proofs.MetaRow.{fits_i64}
 use Rattle.as2_store.proofs.WaitingRows.{bound_optional}
 use Rattle.as2_store.proofs.InboxRow.{puts_in, passed_outcome, passed_how, passed_mdn, passed_attempt, bound_url, bound_digest, bound_mic}
 use Rattle.as2_store.proofs.Committing.{ran_inside}
@@ -59,10 +59,10 @@ returns-clause-put g c clean has =
       c.mic_of.ensures,
       c.mdn_code.ensures,
       c.attempt_code.ensures,
-      passed e.number c.requires.number,
-      passed (length e.posted.content) c.requires.fits.content,
-      passed e.moment (omega (arith, c.seconds.ensures.bound, c.seconds.ensures.seconds)),
-      passed e.tries c.requires.fits.tries,
+      fits_i64 e.number c.requires.number,
+      fits_i64 (length e.posted.content) c.requires.fits.content,
+      fits_i64 e.moment (omega (arith, c.seconds.ensures.bound, c.seconds.ensures.seconds)),
+      fits_i64 e.tries c.requires.fits.tries,
       passed_outcome e.posted.outcome,
       passed_how e.posted.how,
       passed_mdn e.mdn,

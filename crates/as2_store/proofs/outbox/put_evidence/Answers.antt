@@ -3,7 +3,7 @@ use Rattle.sqlite.specs.Held.{state}
 use Rattle.sqlite.specs.State.{Executes}
 use Rattle.sql_tables.proofs.Inside.{made}
 use Rattle.as2_store.proofs.Statements.{evidence_put_text}
-use Rattle.as2_store.proofs.MetaRow.{passed}
+use Rattle.as2_store.proofs.MetaRow.{fits_i64}
 use Rattle.as2_store.proofs.SettledTables.{puts_evidence, fresh_evidence, receipt_params}
 use Rattle.as2_store.proofs.Committing.{ran_inside}
 use Rattle.as2_store.proofs.outbox.put_evidence.Goals as goal
@@ -29,7 +29,7 @@ returns-clause-put g c clean has =
       c.whole-moment.ensures,
       c.seconds.ensures.seconds,
       c.requires.body,
-      passed n c.requires.number,
-      passed e.moment (omega (arith, c.seconds.ensures.bound, c.seconds.ensures.seconds)),
+      fits_i64 n c.requires.number,
+      fits_i64 e.moment (omega (arith, c.seconds.ensures.bound, c.seconds.ensures.seconds)),
     ) at ran in
     (puts_evidence old new n e c.in_ok-execute.field-0 has went, fresh_evidence old new n e c.in_ok-execute.field-0 has went)

@@ -6,7 +6,7 @@ use Rattle.sqlite.specs.State.{HasCleanDisk, Shown}
 use Rattle.as2_store.specs.Calls.{Reads}
 use Rattle.as2_store.proofs.TransactionEnds.{undone}
 use Rattle.as2_store.proofs.Committing.{commits, gives_up, fails_to_commit}
-use Rattle.as2_store.proofs.Querying.{queried_inside, asked, answers, as_read}
+use Rattle.as2_store.proofs.Querying.{queried_inside, query_keeps, answers, as_read}
 use Rattle.sql_tables.proofs.Asking.{shown_stays}
 use Rattle.as2_store.proofs.reading.query_all.Goals as goal
 
@@ -36,7 +36,7 @@ returns-in_err-commit-clause-shown g c =
     let inside = queried_inside (λ rows. rows.items) sql params begun mid c.query_all.result refl (rw c.transaction-tx.ensures.begun at c.query_all.ensures.ok) (rw c.transaction-tx.ensures.begun at c.query_all.ensures.err) (rw c.transaction-tx.ensures.begun at c.query_all.ensures.survives) in
     let rows = c.in_ok-rows.rows.items in
     let shown : HasCleanDisk mid → Shown sql params begun mid rows = rw c.transaction-tx.ensures.begun at c.in_ok-rows.ensures.ok in
-    let done = asked g.S.Store old mid sql params rows c.requires.plain shown in
+    let done = query_keeps g.S.Store old mid sql params rows c.requires.plain shown in
     let was : HasCleanDisk (state g.S.Store end) → HasCleanDisk mid = λ late. omega (arith, c.commit.ensures.survives.clean, late) in
     subst (λ h. Reads (λ s rows. Shown sql params (state g.S.Store old) (state g.S.Store old) rows.items) (state g.S.Store old) (state g.S.Store h) c.from_residual-in_err-commit.result) same
     (as_read _ (state g.S.Store old) (state g.S.Store end) c.from_residual-in_err-commit.result
@@ -56,7 +56,7 @@ returns-clause-shown g c =
     let inside = queried_inside (λ rows. rows.items) sql params begun mid c.query_all.result refl (rw c.transaction-tx.ensures.begun at c.query_all.ensures.ok) (rw c.transaction-tx.ensures.begun at c.query_all.ensures.err) (rw c.transaction-tx.ensures.begun at c.query_all.ensures.survives) in
     let rows = c.in_ok-rows.rows.items in
     let shown : HasCleanDisk mid → Shown sql params begun mid rows = rw c.transaction-tx.ensures.begun at c.in_ok-rows.ensures.ok in
-    let done = asked g.S.Store old mid sql params rows c.requires.plain shown in
+    let done = query_keeps g.S.Store old mid sql params rows c.requires.plain shown in
     let was : HasCleanDisk (state g.S.Store end) → HasCleanDisk mid = λ late. omega (arith, c.commit.ensures.survives.clean, late) in
     subst (λ h. Reads (λ s rows. Shown sql params (state g.S.Store old) (state g.S.Store old) rows.items) (state g.S.Store old) (state g.S.Store h) (Ok c.in_ok-rows.rows)) same
     (as_read _ (state g.S.Store old) (state g.S.Store end) (Ok c.in_ok-rows.rows)

@@ -3,7 +3,7 @@ use Rattle.sqlite.specs.Held.{state}
 use Rattle.sqlite.specs.State.{Executes}
 use Rattle.sql_tables.proofs.Inside.{made, if_made}
 use Rattle.as2_store.proofs.Statements.{in_requeue_text}
-use Rattle.as2_store.proofs.MetaRow.{passed}
+use Rattle.as2_store.proofs.MetaRow.{fits_i64}
 use Rattle.as2_store.proofs.InboxQueries.{asked_small}
 use Rattle.as2_store.proofs.RequeuedTables.{requeues, requeue_params}
 use Rattle.as2_store.proofs.requeuing.set_requeued.Goals as goal
@@ -23,7 +23,7 @@ returns-clause-put g c clean = if_made c.execute.result _ (λ count is s it.
       c.whole-param.ensures,
       c.whole-due.ensures,
       c.seconds.ensures.seconds,
-      passed w small,
-      passed m (omega (arith, c.seconds.ensures.bound, c.seconds.ensures.seconds)),
+      fits_i64 w small,
+      fits_i64 m (omega (arith, c.seconds.ensures.bound, c.seconds.ensures.seconds)),
     ) at ran in
     requeues c.args.number w m count c.asked-wanted.ensures.beyond c.asked-wanted.ensures.within old new s it went)

@@ -3,7 +3,7 @@ use Rattle.sqlite.specs.Held.{state}
 use Rattle.sqlite.specs.State.{Executes}
 use Rattle.sql_tables.proofs.Inside.{if_made, made}
 use Rattle.as2_store.proofs.Statements.{out_settle_text}
-use Rattle.as2_store.proofs.MetaRow.{passed}
+use Rattle.as2_store.proofs.MetaRow.{fits_i64}
 use Rattle.as2_store.proofs.SettledTables.{settles, settle_params, passed_detail}
 use Rattle.as2_store.proofs.Committing.{ran_inside}
 use Rattle.as2_store.proofs.settling.set_settled.Goals as goal
@@ -19,5 +19,5 @@ returns-clause-put g c clean = if_made c.execute.result _ (λ count is s it e.
     let detail = c.args.detail in
     let ran = (made g.S.Store _ _ c.args.tx.now.conn.now c.execute.new.self.conn.now c.execute.result _ c.execute.ensures.ended (c.execute.ensures.runs clean) count is).2 in
     let went : Executes out_settle_text (settle_params n detail) old new (Ok count) =
-    rw (c.params-to_sql.ensures, c.params-to_sql-2.ensures, c.whole-number.ensures, c.detail_code-detail.ensures, passed n c.requires, passed_detail detail) at ran in
+    rw (c.params-to_sql.ensures, c.params-to_sql-2.ensures, c.whole-number.ensures, c.detail_code-detail.ensures, fits_i64 n c.requires, passed_detail detail) at ran in
     settles n count detail e old new s it went)

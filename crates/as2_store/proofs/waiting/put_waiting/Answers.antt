@@ -4,7 +4,7 @@ use Rattle.sqlite.specs.State.{Executes}
 use Rattle.sql_tables.proofs.Inside.{made, stays}
 use Rattle.as2_rows.specs.Waiting.{WaitingRow, kind_code}
 use Rattle.as2_store.proofs.Statements.{waiting_put_text}
-use Rattle.as2_store.proofs.MetaRow.{passed}
+use Rattle.as2_store.proofs.MetaRow.{fits_i64}
 use Rattle.as2_store.proofs.WaitingRows.{puts_waiting, waiting_params, bound_optional}
 use Rattle.as2_store.proofs.Committing.{ran_inside}
 use Rattle.as2_store.proofs.waiting.put_waiting.Goals as goal
@@ -30,9 +30,9 @@ returns-clause-put g c clean has =
       c.code-kind.ensures.code,
       c.whole-number.ensures,
       c.whole_or_none-due.ensures,
-      passed (kind_code c.args.wait * 1000000000000 + c.args.number) (omega (arith, most, c.requires.number)),
-      passed (kind_code c.args.wait) (omega (arith, most)),
-      passed c.args.number (omega (arith, c.requires.number)),
+      fits_i64 (kind_code c.args.wait * 1000000000000 + c.args.number) (omega (arith, most, c.requires.number)),
+      fits_i64 (kind_code c.args.wait) (omega (arith, most)),
+      fits_i64 c.args.number (omega (arith, c.requires.number)),
       bound_optional,
     ) at ran in
     puts_waiting old new w c.in_ok-execute.field-0 has went

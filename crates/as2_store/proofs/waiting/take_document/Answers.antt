@@ -3,7 +3,7 @@ use Rattle.sqlite.specs.Held.{state}
 use Rattle.sqlite.specs.State.{Executes}
 use Rattle.sql_tables.proofs.Inside.{made}
 use Rattle.as2_store.proofs.Statements.{document_take_text}
-use Rattle.as2_store.proofs.MetaRow.{one_param, passed}
+use Rattle.as2_store.proofs.MetaRow.{one_param, fits_i64}
 use Rattle.as2_store.proofs.SettledTables.{takes_document}
 use Rattle.as2_store.proofs.waiting.take_document.Goals as goal
 
@@ -12,5 +12,5 @@ returns-clause-put g c clean ws it =
     let old = state g.S.Store c.args.tx.now.conn.now in
     let new = state g.S.Store c.execute.new.self.conn.now in
     let ran = (made g.S.Store _ _ c.args.tx.now.conn.now c.execute.new.self.conn.now c.execute.result _ c.execute.ensures.ended (c.execute.ensures.runs clean) c.in_ok-execute.field-0 c.in_ok-execute.was).2 in
-    let went : Executes document_take_text (one_param c.args.number) old new (Ok c.in_ok-execute.field-0) = rw (c.params-to_sql.ensures, c.whole-number.ensures, passed c.args.number c.requires) at ran in
+    let went : Executes document_take_text (one_param c.args.number) old new (Ok c.in_ok-execute.field-0) = rw (c.params-to_sql.ensures, c.whole-number.ensures, fits_i64 c.args.number c.requires) at ran in
     takes_document c.args.number c.in_ok-execute.field-0 old new ws it went

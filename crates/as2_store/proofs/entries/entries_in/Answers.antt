@@ -1,7 +1,7 @@
 use Rattle.std.proofs.Common.{rules, ◌≡◌, ◌∙◌, ◌++◌, [], ◌∷◌, Ok}
 use Rattle.as2_store.proofs.InboxQueries.{more_read}
 use Rattle.as2_store.proofs.Querying.{told_ok}
-use Rattle.as2_store.proofs.finding.entries_in.Goals as goal
+use Rattle.as2_store.proofs.entries.entries_in.Goals as goal
 
 pub rows-preserved : goal.rows-preserved
 rows-preserved c es all =

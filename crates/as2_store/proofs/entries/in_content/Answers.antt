@@ -1,6 +1,6 @@
 use Rattle.std.proofs.Common.{◌∙◌}
 use Rattle.as2_store.proofs.Querying.{mapped, read_told}
-use Rattle.as2_store.proofs.finding.in_content.Goals as goal
+use Rattle.as2_store.proofs.entries.in_content.Goals as goal
 
 pub returns-clause-content : goal.returns-clause-content
 returns-clause-content g c =

@@ -3,7 +3,7 @@ use Rattle.as2_rows.specs.Rows.{in_shown}
 use Rattle.as2_rows.specs.Summaries.{in_summary, in_entry}
 use Rattle.as2_store.proofs.QueriedRows.{none_first, some_first}
 use Rattle.as2_store.proofs.Querying.{read_ok, told_ok, unread}
-use Rattle.as2_store.proofs.finding.shown_entry.Goals as goal
+use Rattle.as2_store.proofs.entries.shown_entry.Goals as goal
 
 pub returns-in_default-clause-found : goal.returns-in_default-clause-found
 returns-in_default-clause-found g c = unread _ _ _ c.requires.open (λ s p all.
