@@ -140,18 +140,9 @@ impl FileSystem<'_> {
         }
     }
 
-    /// Makes a store that begins with `first` in empty files.
-    fn fill(
-        &self,
-        alloc: Global,
-        files: Files<File>,
-        first: FirstNumber,
-    ) -> Result<Files<File>, OpenFault> {
-        let seed = RandomState::new(self.rt).map_err(fault_of)?.hash_one(&0u8);
-        match Connection::open_files_with(alloc, files, Options::new(seed), true) {
-            Ok(conn) => with_tables(conn, first),
-            Err((error, _)) => Err(opening_fault(error)),
-        }
+    /// A random number, for the salts of a log.
+    fn seed(&self) -> Result<u64, OpenFault> {
+        Ok(RandomState::new(self.rt).map_err(fault_of)?.hash_one(&0u8))
     }
 
     fn open_named(&self, name: &str) -> Result<Connection<FileStore<File>>, OpenFault>
@@ -235,7 +226,11 @@ impl OpenStores for FileSystem<'_> {
         }
         files.log.set_len(0).map_err(|_| DISK)?;
         files.db.set_len(0).map_err(|_| DISK)?;
-        let files = self.fill(alloc, files, first)?;
+        let options = Options::new(self.seed()?);
+        let files = match Connection::open_files_with(alloc, files, options, true) {
+            Ok(conn) => with_tables(conn, first)?,
+            Err((error, _)) => return Err(opening_fault(error)),
+        };
         self.remove(&draft_log);
         fs::rename(self.rt, &draft, &name).map_err(fault_of)?;
         drop(files);
