@@ -13,6 +13,7 @@ mod AddedPieces
 mod WaitingRows
 mod InboxRow
 mod AddedTables
+mod AddedDocument
 mod QueriedRows
 mod InboxQueries
 mod EntryPieces

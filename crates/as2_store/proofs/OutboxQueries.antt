@@ -1,5 +1,5 @@
 -- What the queries of the outbox and of the evidence answer.
-use Rattle.std.proofs.Common.{◌≡◌, ℕ, ◌==◌, List, [], ◌∷◌, map, slice_get, Option, option_map, Some, None, IfSome, Bool, true, false, ◌&&◌, cond, refl, ap, ap₂, subst, ◌∙◌, arith}
+use Rattle.std.proofs.Common.{◌≡◌, ℕ, ◌==◌, ◌<◌, ◌≤◌, List, [], ◌∷◌, map, slice_get, Option, option_map, Some, None, IfSome, Bool, true, false, ◌&&◌, cond, refl, ap, ap₂, subst, ◌∙◌, arith}
 use Rattle.std.specs.List.{AllByRecursion, IsDistinct, filter, filter_map, find, cons_option}
 use Rattle.std.proofs.lemmas.Bool.Decides.{nat_tests}
 use Rattle.sqlite.specs.declared.types.Value.TheVariants.{Blob}
@@ -8,7 +8,9 @@ use Rattle.sqlite.specs.State.{State as Connected, Shown}
 use Rattle.sql_tables.proofs.Inside.{shown_open}
 use Rattle.sql_tables.proofs.Queries.{blobs_equal, numbers_equal}
 use Rattle.as2_names.specs.Identifiers.{value_of}
-use Rattle.as2_exchange.specs.State.{State}
+use Rattle.as2_exchange.specs.State.{State, end_of_numbers}
+use Rattle.as2_exchange.proofs.Lists.{all_weaken}
+use Rattle.sqlite_trees.proofs.ListLemmas.{filter_same}
 use Rattle.as2_exchange.specs.declared.outbox.Evidence.{Evidence}
 use Rattle.as2_exchange.specs.declared.outbox.OutEntry.{OutEntry}
 use Rattle.as2_rows.specs.Rows.{out_row, out_shown, evidence_row, evidence_shown}
@@ -16,14 +18,14 @@ use Rattle.as2_rows.specs.Summaries.{evidence_in, out_entry, out_summary}
 use Rattle.as2_rows.specs.declared.evidence.EvidenceRow.{EvidenceRow}
 use Rattle.as2_rows.specs.declared.outbox.OutRow.{OutRow}
 use Rattle.as2_store.specs.Tables.{outbox_tree, evidence_tree}
-use Rattle.as2_store.proofs.Statements.{out_by_id_text, evidence_by_number_text}
+use Rattle.as2_store.proofs.Statements.{out_by_id_text, out_by_number_text, evidence_by_number_text}
 use Rattle.as2_store.specs.Stands.{Rests, evidence_rows}
 use Rattle.as2_store.specs.Finding.{has_id, shown_evidence}
 use Rattle.as2_store.proofs.NumberedRows.{numbers_rise, given_rise, ordered_rise, entries_rise}
 use Rattle.as2_store.proofs.QueriedRows.{reads_rows, and_true, found_all}
-use Rattle.as2_store.proofs.InboxQueries.{by_number_params}
+use Rattle.as2_store.proofs.InboxQueries.{by_number_params, same_tests}
 use Rattle.as2_store.proofs.EntryPieces.{turned}
-use Rattle.as2_store.proofs.Texts.{out_column_terms, out_names, id_terms, number_terms, out_by_id_is, out_by_id_plain, out_by_id_unlisted, evidence_column_terms, evidence_names, evidence_by_number_is, evidence_by_number_plain, evidence_by_number_unlisted}
+use Rattle.as2_store.proofs.Texts.{out_column_terms, out_names, id_terms, number_terms, out_by_id_is, out_by_id_plain, out_by_id_unlisted, out_by_number_is, out_by_number_plain, out_by_number_unlisted, evidence_column_terms, evidence_names, evidence_by_number_is, evidence_by_number_plain, evidence_by_number_unlisted}
 
 abbrev pub id_params : List ℕ → Row
 id_params value = Blob value ∷ []
@@ -34,6 +36,16 @@ finds_id value old new rows h s r =
     reads_rows out_by_id_text out_by_id_plain out_by_id_unlisted outbox_tree id_terms out_column_terms out_names out_by_id_is (id_params value) out_row out_shown (λ _. refl) (has_id value)
     (λ d. ap (λ b. b && true) (blobs_equal (value_of d.id) value) ∙ and_true _) old new rows h it.schema s.outbox it.entries.outbox
     (entries_rise out_row (λ (d : OutEntry). d.number) (λ _. refl) s.next_out s.outbox it.documents.1)
+
+pub finds_document : (n w : ℕ) → (end_of_numbers ≤ n → w ≡ end_of_numbers) → (n < end_of_numbers → w ≡ n) → (old new : Connected) (rows : List Row) → Shown out_by_number_text (by_number_params w) old new rows → (s : State) → Rests old s
+    → rows ≡ map out_shown (filter (λ (d : OutEntry). d.number == n) s.outbox)
+finds_document n w beyond within old new rows h s r =
+    let it = r.stands (shown_open out_by_number_text (by_number_params w) old new rows h) in
+    let low = all_weaken (λ m. m < s.next_out) (λ m. m < end_of_numbers) (λ m less. omega (arith, less, it.documents.0.most)) (map (λ (d : OutEntry). d.number) s.outbox) it.documents.1.below in
+    reads_rows out_by_number_text out_by_number_plain out_by_number_unlisted outbox_tree number_terms out_column_terms out_names out_by_number_is (by_number_params w) out_row out_shown (λ _. refl) (λ d. d.number == w)
+    (λ d. ap (λ b. b && true) (numbers_equal d.number w) ∙ and_true _) old new rows h it.schema s.outbox it.entries.outbox
+    (entries_rise out_row (λ (d : OutEntry). d.number) (λ _. refl) s.next_out s.outbox it.documents.1)
+    ∙ ap (map out_shown) (filter_same (λ (d : OutEntry). d.number == w) (λ (d : OutEntry). d.number == n) s.outbox (same_tests (λ (d : OutEntry). d.number) n w beyond within s.outbox low))
 
 -- ---- the evidence
 

@@ -58,7 +58,7 @@ pub requeues : (n w m count : ℕ) → (end_of_numbers ≤ n → w ≡ end_of_nu
     → Changed old new store_schema inbox_tree (map in_row (change_received s n (requeued m)).inbox) × (count ≡ length (filter (λ (e : InEntry). e.number == n) s.inbox))
 requeues n w m count beyond within old new s it h =
     let low = all_weaken (λ k. k < s.next_in) (λ k. k < end_of_numbers) (λ k less. omega (arith, less, it.receipts.0.most)) (map (λ (e : InEntry). e.number) s.inbox) it.receipts.1.below in
-    let same = same_tests n w beyond within s.inbox low in
+    let same = same_tests (λ (e : InEntry). e.number) n w beyond within s.inbox low in
     let done = updates in_requeue_text (requeue_params w m) old new store_schema it.schema 1 inbox_table refl number_terms requeue_project (λ (e : InEntry). pos e.number) in_row (λ _. refl) (λ (e : InEntry). in_row (requeued m e)) (λ _. refl)
     (λ e. simp (cast_int, cast_null, cast_url, cast_digest, cast_mic)) s.inbox it.entries.inbox (entries_rise in_row (λ (e : InEntry). e.number) (λ _. refl) s.next_in s.inbox it.receipts.1) (quiet inbox_tree) in_requeue_is in_requeue_plain count h in (
       subst (Changed old new store_schema inbox_tree) (as_rows n w m s.inbox same) done.0,

@@ -1,31 +1,32 @@
-//! An entry is added in one transaction.
+//! An entry of the inbox, or a document of the outbox, is added in one transaction.
 
-ghost use Rattle.std.specs.Prelude.{◌≡◌, ◌<◌, false, IsTrue, OnOk};
+ghost use Rattle.std.specs.Prelude.{◌≡◌, ◌<◌, None, false, IsTrue, OnOk};
 ghost use Rattle.sqlite.specs.Held.{state};
 ghost use Rattle.sqlite.specs.State.{HasCleanDisk};
 ghost use Rattle.as2_store.specs.Calls.{IsInside, Writes};
 ghost use Rattle.as2_exchange.specs.State.{State, end_of_numbers};
 ghost use Rattle.as2_store.specs.Stands.{Stands};
-ghost use Rattle.as2_store.specs.Adding.{Fits, IsEntered, added};
+ghost use Rattle.as2_store.specs.Adding.{Fits, IsEntered, added, added_document, with_document, with_received};
 
-use crate::contents::put_in_pieces;
-use crate::counters::raise_next_receipt;
+use crate::contents::{Mailbox, put_pieces};
+use crate::counters::{raise_next_document, raise_next_receipt};
 use crate::inbox::put_in;
-use crate::waiting::put_in_waiting;
-use as2_exchange::InEntry;
+use crate::outbox::put_out;
+use crate::waiting::{put_in_waiting, put_out_waiting};
+use as2_exchange::{InEntry, OutEntry};
 use sqlite::{Alter, Connection, Error, Transaction};
 
 /// Puts in the row, the content and the wait of an entry of the inbox.
 fn put_received<S: Alter>(tx: &mut Transaction<'_, S>, entry: &InEntry) -> Result<(), Error>
     requires number { entry.now.number < end_of_numbers }
-    requires fits { Fits entry.now }
+    requires fits { Fits entry.now.posted.content entry.now.tries entry.now.due }
     ensures same_reference { tx.new.conn.ghost_name ≡ tx.old.conn.ghost_name }
     ensures within { IsInside (state S.Store tx.old.conn.now) (state S.Store tx.new.conn.now) }
     ensures open { HasCleanDisk (state S.Store tx.new.conn.now) → OnOk result (IsTrue (state S.Store tx.old.conn.now).is_open) }
-    ensures put { HasCleanDisk (state S.Store tx.new.conn.now) → OnOk result ((s : State) → Stands (state S.Store tx.old.conn.now).now s → IsEntered (state S.Store tx.new.conn.now).now s entry.now) }
+    ensures put { HasCleanDisk (state S.Store tx.new.conn.now) → OnOk result ((s : State) → Stands (state S.Store tx.old.conn.now).now s → IsEntered (state S.Store tx.new.conn.now).now s entry.now.number s.next_in (with_received s entry.now)) }
 {
     put_in(tx, entry)?;
-    put_in_pieces(tx, entry.number, &entry.posted.content)?;
+    put_pieces(tx, Mailbox::Inbox, entry.number, &entry.posted.content)?;
     put_in_waiting(tx, entry)?;
     Ok(())
 }
@@ -34,13 +35,47 @@ fn put_received<S: Alter>(tx: &mut Transaction<'_, S>, entry: &InEntry) -> Resul
 pub fn add<S: Alter>(conn: &mut Connection<S>, entry: &InEntry) -> Result<(), Error>
     requires autocommit { conn.old.in_transaction ≡ false }
     requires number { entry.now.number < end_of_numbers }
-    requires fits { Fits entry.now }
+    requires fits { Fits entry.now.posted.content entry.now.tries entry.now.due }
     ensures autocommit { conn.new.in_transaction ≡ false }
     ensures added { Writes (added entry.now) (state S.Store conn.old) (state S.Store conn.new) result }
 {
     let mut tx = conn.transaction();
     put_received(&mut tx, entry)?;
     if raise_next_receipt(&mut tx, entry.number)? == 0 {
+        return Err(Error::QueryReturnedNoRows);
+    }
+    tx.commit()?;
+    Ok(())
+}
+
+/// Puts in the row, the content and the wait of a document.
+fn put_submitted<S: Alter>(tx: &mut Transaction<'_, S>, entry: &OutEntry) -> Result<(), Error>
+    requires number { entry.now.number < end_of_numbers }
+    requires fits { Fits entry.now.content entry.now.tries entry.now.due }
+    requires unsettled { entry.now.evidence ≡ None }
+    ensures same_reference { tx.new.conn.ghost_name ≡ tx.old.conn.ghost_name }
+    ensures within { IsInside (state S.Store tx.old.conn.now) (state S.Store tx.new.conn.now) }
+    ensures open { HasCleanDisk (state S.Store tx.new.conn.now) → OnOk result (IsTrue (state S.Store tx.old.conn.now).is_open) }
+    ensures put { HasCleanDisk (state S.Store tx.new.conn.now) → OnOk result ((s : State) → Stands (state S.Store tx.old.conn.now).now s → IsEntered (state S.Store tx.new.conn.now).now s entry.now.number s.next_out (with_document s entry.now)) }
+{
+    put_out(tx, entry)?;
+    put_pieces(tx, Mailbox::Outbox, entry.number, &entry.content)?;
+    put_out_waiting(tx, entry)?;
+    Ok(())
+}
+
+/// Adds a document that no receipt has settled to the outbox. No row is said to have its number where that isn't the next one.
+pub fn add_document<S: Alter>(conn: &mut Connection<S>, entry: &OutEntry) -> Result<(), Error>
+    requires autocommit { conn.old.in_transaction ≡ false }
+    requires number { entry.now.number < end_of_numbers }
+    requires fits { Fits entry.now.content entry.now.tries entry.now.due }
+    requires unsettled { entry.now.evidence ≡ None }
+    ensures autocommit { conn.new.in_transaction ≡ false }
+    ensures added { Writes (added_document entry.now) (state S.Store conn.old) (state S.Store conn.new) result }
+{
+    let mut tx = conn.transaction();
+    put_submitted(&mut tx, entry)?;
+    if raise_next_document(&mut tx, entry.number)? == 0 {
         return Err(Error::QueryReturnedNoRows);
     }
     tx.commit()?;

@@ -22,7 +22,7 @@ use sqlite::{Alter, Connection, Error, Row, Transaction, params};
 /// Puts in the row of an entry.
 pub fn put_in<S: Alter>(tx: &mut Transaction<'_, S>, entry: &InEntry) -> Result<(), Error>
     requires number { entry.now.number < 2 ^ 63 }
-    requires fits { Fits entry.now }
+    requires fits { Fits entry.now.posted.content entry.now.tries entry.now.due }
     ensures same_reference { tx.new.conn.ghost_name ≡ tx.old.conn.ghost_name }
     ensures within { IsInside (state S.Store tx.old.conn.now) (state S.Store tx.new.conn.now) }
     ensures open { HasCleanDisk (state S.Store tx.new.conn.now) → OnOk result (IsTrue (state S.Store tx.old.conn.now).is_open) }

@@ -3,28 +3,29 @@
 ghost use Rattle.std.specs.Prelude.{◌≡◌, ◌⊎◌, ◌<◌, ◌≤◌, ℕ, List, map, find, None, Some, true, false, Err, IsTrue, IfOk, IfErr, OnOk, OnErr};
 ghost use Rattle.sqlite.specs.Held.{state};
 ghost use Rattle.sqlite.specs.State.{HasCleanDisk};
-ghost use Rattle.as2_exchange.specs.State.{State, empty, end_of_numbers, document_named, received};
+ghost use Rattle.as2_exchange.specs.State.{State, empty, end_of_numbers, document, document_named, received};
 ghost use Rattle.as2_exchange.specs.declared.fault.StoreFault.TheVariants.{Full};
 ghost use Rattle.as2_rows.specs.Summaries.{in_summary};
-ghost use Rattle.as2_store.specs.Adding.{added};
+ghost use Rattle.as2_store.specs.Adding.{added, added_document};
 ghost use Rattle.as2_store.specs.Calls.{Adopts, Commits, CommitsFirst, Creates, IsGivenBack, IsReason, Reads, Writes};
 ghost use Rattle.as2_store.specs.Finding.{AreNext, IsPostedAs};
 ghost use Rattle.as2_store.specs.Requeuing.{requeued_in};
 ghost use Rattle.as2_store.specs.Settling.{settled_in};
 ghost use Rattle.as2_store.specs.Stands.{may_come};
 
-use crate::adding::add;
+use crate::adding::{add, add_document};
 use crate::adopting::check;
 use crate::counters::{NextNumbers, meta_rows, next_of};
 use crate::creating::make;
 use crate::documents::shown_document;
 use crate::entries::{entries_in, shown_entry};
 use crate::fault::fault_of;
-use crate::inbox::{all_rows, rows_by_key, rows_by_number};
+use crate::inbox::{all_rows, rows_by_key};
 use crate::numbers::fits;
 use crate::outbox::rows_by_id;
 use crate::requeuing::requeue;
 use crate::settling::{is_by_receipt, settle};
+use crate::{inbox, outbox};
 use as2_exchange::{END_OF_NUMBERS, Evidence, InEntry, OutEntry, StoreFault};
 use as2_mdn::Detail;
 use as2_rows::InRow;
@@ -114,10 +115,29 @@ impl<S: Alter> Store<S> {
         if entry.number >= END_OF_NUMBERS {
             return Err(StoreFault::Full);
         }
-        if !fits(entry) {
+        if !fits(&entry.posted.content, entry.tries, entry.due) {
             return Err(StoreFault::Refused);
         }
         add(&mut self.conn, entry).map_err(fault_of)
+    }
+
+    /// Adds a document that no receipt has settled to the outbox under the next number of a document, as `next_numbers` gives it.
+    /// Answers Full exactly where the number is past 999,999,999,999; Refused where it isn't the next, or another document has
+    /// an identifier of its value; Memory, Disk or Refused. A fault leaves the state.
+    pub fn add_out(&mut self, entry: &OutEntry) -> Result<(), StoreFault>
+        requires unsettled { entry.now.evidence ≡ None }
+        ensures added { Writes (added_document entry.now) (state S.Store self.old) (state S.Store self.new) result }
+        ensures full { IfErr result (λ f. f ≡ Full → end_of_numbers ≤ entry.now.number) }
+        ensures full_alone { end_of_numbers ≤ entry.now.number → result ≡ Err Full }
+        ensures fault { IfErr result (λ f. (f ≡ Full) ⊎ (may_come f ≡ true)) }
+    {
+        if entry.number >= END_OF_NUMBERS {
+            return Err(StoreFault::Full);
+        }
+        if !fits(&entry.content, entry.tries, entry.due) {
+            return Err(StoreFault::Refused);
+        }
+        add_document(&mut self.conn, entry).map_err(fault_of)
     }
 
     /// Sets the receipt of the entry of the inbox of this number, if there is one, to be sent from this moment on, with all
@@ -180,8 +200,17 @@ impl<S: Alter> Store<S> {
         ensures found { Reads (λ s found. found ≡ received s number) (state S.Store self.old) (state S.Store self.new) result }
         ensures fault { IfErr result (λ f. may_come f ≡ true) }
     {
-        let rows = rows_by_number(&mut self.conn, number).map_err(fault_of)?;
+        let rows = inbox::rows_by_number(&mut self.conn, number).map_err(fault_of)?;
         shown_entry(&mut self.conn, alloc, &rows)
+    }
+
+    /// The document of this number, if there is one, with its content and its evidence. Answers Memory, Disk or Refused.
+    pub fn find_out(&mut self, alloc: Global, number: u64) -> Result<Option<OutEntry>, StoreFault>
+        ensures found { Reads (λ s found. found ≡ document s number) (state S.Store self.old) (state S.Store self.new) result }
+        ensures fault { IfErr result (λ f. may_come f ≡ true) }
+    {
+        let rows = outbox::rows_by_number(&mut self.conn, number).map_err(fault_of)?;
+        shown_document(&mut self.conn, alloc, &rows)
     }
 
     /// The document of the outbox with an identifier of this value, if there is one, with its content and its evidence.

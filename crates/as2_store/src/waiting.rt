@@ -1,12 +1,12 @@
 //! The rows of what waits.
 
-ghost use Rattle.std.specs.Prelude.{◌≡◌, ◌≤◌, ◌<◌, ◌^◌, Some, None, false, List, map, IsTrue, IfSome, OnOk};
+ghost use Rattle.std.specs.Prelude.{◌≡◌, ◌≤◌, ◌<◌, ◌^◌, Some, None, option_map, false, List, map, IsTrue, IfSome, OnOk};
 ghost use Rattle.sqlite.specs.Held.{state};
 ghost use Rattle.sqlite.specs.State.{HasCleanDisk};
 ghost use Rattle.as2_store.specs.Calls.{IsInside};
 ghost use Rattle.sql_tables.specs.Changes.{Changed};
 ghost use Rattle.as2_exchange.specs.State.{end_of_numbers};
-ghost use Rattle.as2_rows.specs.Waiting.{WaitingRow, in_waiting, kind_code, to_answer};
+ghost use Rattle.as2_rows.specs.Waiting.{WaitingRow, in_waiting, kind_code, out_kind, out_waiting, to_answer};
 ghost use Rattle.as2_store.specs.Tables.{store_schema, waiting_tree};
 ghost use Rattle.as2_store.specs.Stands.{waiting_row};
 ghost use Rattle.as2_store.specs.Adding.{Noted};
@@ -14,7 +14,8 @@ ghost use Rattle.as2_store.specs.Requeuing.{HoldsWaiting, Renewed, not_at};
 ghost use Rattle.as2_store.specs.Settling.{without_document};
 
 use crate::numbers::{whole, whole_or_none};
-use as2_exchange::{Attempt, END_OF_NUMBERS, InEntry, MdnState};
+use as2_exchange::{Attempt, END_OF_NUMBERS, InEntry, MdnState, OutEntry};
+use as2_mdn::Detail;
 use as2_rows::Wait;
 use sqlite::{Alter, Error, Transaction, params};
 
@@ -80,6 +81,37 @@ pub fn put_in_waiting<S: Alter>(tx: &mut Transaction<'_, S>, entry: &InEntry) ->
 {
     if is_waiting(entry) {
         put_waiting(tx, Wait::ToAnswer, entry.number, entry.due)?;
+    }
+    Ok(())
+}
+
+/// What a document waits for.
+fn wait_of(detail: Detail, attempt: Attempt) -> Option<Wait>
+    ensures { option_map kind_code result ≡ out_kind detail attempt }
+{
+    match detail {
+        Detail::New | Detail::Retry => Some(Wait::ToSend),
+        Detail::Awaiting => Some(Wait::ToHear),
+        Detail::Sending => match attempt {
+            Attempt::Running => Some(Wait::ToSend),
+            Attempt::Last => Some(Wait::ToEnd),
+            _ => None,
+        },
+        _ => None,
+    }
+}
+
+/// Puts in the row of a document that waits for something.
+pub fn put_out_waiting<S: Alter>(tx: &mut Transaction<'_, S>, entry: &OutEntry) -> Result<(), Error>
+    requires number { entry.now.number < end_of_numbers }
+    requires due { IfSome entry.now.due (λ due. due < 2 ^ 63) }
+    ensures same_reference { tx.new.conn.ghost_name ≡ tx.old.conn.ghost_name }
+    ensures within { IsInside (state S.Store tx.old.conn.now) (state S.Store tx.new.conn.now) }
+    ensures put { HasCleanDisk (state S.Store tx.new.conn.now) → OnOk result ((state S.Store tx.old.conn.now).now.schema ≡ store_schema
+        → Noted (state S.Store tx.old.conn.now) (state S.Store tx.new.conn.now) (out_waiting entry.now)) }
+{
+    if let Some(wait) = wait_of(entry.detail, entry.attempt) {
+        put_waiting(tx, wait, entry.number, entry.due)?;
     }
     Ok(())
 }
