@@ -27,12 +27,13 @@ use Rattle.as2_rows.specs.Contents.{pieces, piece_shown}
 use Rattle.as2_rows.specs.Waiting.{WaitingRow, out_kind, out_waiting, waiting_in, waiting_out, to_send, to_answer, to_hear, to_end}
 use Rattle.as2_store.specs.Tables.{store_schema, meta_tree, outbox_table, outbox_tree, outbox_piece_tree, waiting_tree}
 use Rattle.as2_store.specs.Stands.{IsWhole, Stands, HasCounters, place, waiting_row, documents_waiting, all_waiting, evidence_rows, outbox_pieces}
-use Rattle.as2_store.specs.Adding.{Appended, Noted, IsEntered, with_document, added_document}
+use Rattle.as2_store.specs.Adding.{Appended, Noted, noted_rows, IsEntered, with_document, added_document}
 use Rattle.as2_store.proofs.Statements.{out_put_text}
 use Rattle.as2_store.proofs.Texts.{out_put_terms, out_put_is, out_put_plain}
 use Rattle.as2_store.proofs.Committing.{FollowsEach}
 use Rattle.as2_store.proofs.NumberedRows.{puts_between}
-use Rattle.as2_store.proofs.WaitingRows.{IsOf, cast_optional, documents_of, ins_small, noted_rows}
+use Rattle.as2_store.proofs.WaitingRows.{cast_optional}
+use Rattle.as2_store.proofs.WaitingAmong.{put_among}
 use Rattle.as2_store.proofs.AddedTables.{below_all, wrote}
 
 -- ---- the statement
@@ -47,98 +48,11 @@ puts_out old new d count has h =
 
 -- ---- what waits
 
--- what a document waits for, of this kind
-abbrev own : ℕ → Option WaitingRow → List WaitingRow
-own kind o = filter (λ w. w.kind == kind) (cons_option o [])
-
-more_of : (kind : ℕ) (ds : List OutEntry) (x : OutEntry) → documents_waiting kind (ds ++ x ∷ []) ≡ documents_waiting kind ds ++ own kind (out_waiting x)
-more_of kind ds x = ap (filter (λ w. w.kind == kind)) (filter_map-append out_waiting ds (x ∷ [])) ∙ filter-append (λ w. w.kind == kind) (waiting_out ds) (cons_option (out_waiting x) [])
-
-abbrev IsDocuments : ℕ → Type 0
-IsDocuments kind = (kind ≡ to_send) ⊎ ((kind ≡ to_hear) ⊎ (kind ≡ to_end))
-
-kinds : (detail : Detail) (attempt : Attempt) → IfSome (out_kind detail attempt) IsDocuments
-kinds New a = inl refl
-kinds Retry a = inl refl
-kinds Sending Idle = tt
-kinds Sending Running = inl refl
-kinds Sending Last = inr (inr refl)
-kinds Sending Used = tt
-kinds Awaiting a = inr (inl refl)
-kinds Processed a = tt
-kinds NoReceiptAsked a = tt
-kinds Warning a = tt
-kinds NoMic a = tt
-kinds UnknownMic a = tt
-kinds NotProcessed a = tt
-kinds ErrorModifier a = tt
-kinds MicDiffers a = tt
-kinds TriesUsed a = tt
-kinds Overdue a = tt
-
--- what waits, with the new document's wait behind those of its kind
-module _ (n : ℕ) (small : n < end_of_numbers) (send answer hear end : List WaitingRow) (s : AllByRecursion (IsOf to_send n) send) (a : AllByRecursion (IsOf to_answer end_of_numbers) answer)
-    (h : AllByRecursion (IsOf to_hear n) hear) (e : AllByRecursion (IsOf to_end n) end) where
-  abbrev joined : Option WaitingRow → List WaitingRow
-  joined o = (send ++ own to_send o) ++ (answer ++ ((hear ++ own to_hear o) ++ (end ++ own to_end o)))
-
-  abbrev Notes : Option WaitingRow → Type 0
-  Notes o = noted_rows o (map waiting_row (send ++ (answer ++ (hear ++ end)))) ≡ map waiting_row (joined o)
-
-  trimmed : hear ++ end ≡ (hear ++ []) ++ (end ++ [])
-  trimmed = ap₂ ◌++◌ (sym (append-nil hear)) (sym (append-nil end))
-
-  none_noted : Notes None
-  none_noted = ap (map waiting_row) (ap₂ ◌++◌ (sym (append-nil send)) (ap (λ l. answer ++ l) trimmed))
-
-  send_noted : (w : WaitingRow) → w.kind ≡ to_send → w.number ≡ n → put_row (waiting_row w) (map waiting_row (send ++ (answer ++ (hear ++ end)))) ≡ map waiting_row ((send ++ w ∷ []) ++ (answer ++ ((hear ++ []) ++ (end ++ []))))
-  send_noted w kind number =
-      let low = all_weaker (IsOf to_send n) (λ q. place q < place w) (λ q is. omega (arith, is.0, is.1, kind, number)) send s in
-      let high = all-append (λ q. place w < place q) answer (hear ++ end) (all_weaker (IsOf to_answer end_of_numbers) (λ q. place w < place q) (λ q is. omega (arith, is.0, is.1, kind, number, small)) answer a)
-      (all-append (λ q. place w < place q) hear end (all_weaker (IsOf to_hear n) (λ q. place w < place q) (λ q is. omega (arith, is.0, is.1, kind, number, small)) hear h)
-      (all_weaker (IsOf to_end n) (λ q. place w < place q) (λ q is. omega (arith, is.0, is.1, kind, number, small)) end e)) in
-      puts_between waiting_row place (λ _. refl) w send (answer ++ (hear ++ end)) low high
-      ∙ ap (map waiting_row) (ap (λ l. send ++ w ∷ (answer ++ l)) trimmed ∙ sym (append_assoc send (w ∷ []) (answer ++ ((hear ++ []) ++ (end ++ [])))))
-
-  hear_noted : (w : WaitingRow) → w.kind ≡ to_hear → w.number ≡ n → put_row (waiting_row w) (map waiting_row (send ++ (answer ++ (hear ++ end)))) ≡ map waiting_row ((send ++ []) ++ (answer ++ ((hear ++ w ∷ []) ++ (end ++ []))))
-  hear_noted w kind number =
-      let low = all-append (λ q. place q < place w) send (answer ++ hear) (all_weaker (IsOf to_send n) (λ q. place q < place w) (λ q is. omega (arith, is.0, is.1, kind, number, small)) send s)
-      (all-append (λ q. place q < place w) answer hear (all_weaker (IsOf to_answer end_of_numbers) (λ q. place q < place w) (λ q is. omega (arith, is.0, is.1, kind, number)) answer a)
-      (all_weaker (IsOf to_hear n) (λ q. place q < place w) (λ q is. omega (arith, is.0, is.1, kind, number)) hear h)) in
-      let high = all_weaker (IsOf to_end n) (λ q. place w < place q) (λ q is. omega (arith, is.0, is.1, kind, number, small)) end e in
-      ap (λ l. put_row (waiting_row w) (map waiting_row l)) (behind send answer hear end)
-      ∙ puts_between waiting_row place (λ _. refl) w (send ++ (answer ++ hear)) end low high
-      ∙ ap (map waiting_row) (sym (behind send answer hear (w ∷ end)) ∙ ap₂ ◌++◌ (sym (append-nil send)) (ap (λ l. answer ++ l) (sym (append_assoc hear (w ∷ []) end) ∙ ap (λ l. (hear ++ w ∷ []) ++ l) (sym (append-nil end)))))
-    where
-      behind : (p q r t : List WaitingRow) → p ++ (q ++ (r ++ t)) ≡ (p ++ (q ++ r)) ++ t
-      behind p q r t = ap (λ l. p ++ l) (sym (append_assoc q r t)) ∙ sym (append_assoc p (q ++ r) t)
-
-  end_noted : (w : WaitingRow) → w.kind ≡ to_end → w.number ≡ n → put_row (waiting_row w) (map waiting_row (send ++ (answer ++ (hear ++ end)))) ≡ map waiting_row ((send ++ []) ++ (answer ++ ((hear ++ []) ++ (end ++ w ∷ []))))
-  end_noted w kind number =
-      let low = all-append (λ q. place q < place w) send (answer ++ (hear ++ end)) (all_weaker (IsOf to_send n) (λ q. place q < place w) (λ q is. omega (arith, is.0, is.1, kind, number, small)) send s)
-      (all-append (λ q. place q < place w) answer (hear ++ end) (all_weaker (IsOf to_answer end_of_numbers) (λ q. place q < place w) (λ q is. omega (arith, is.0, is.1, kind, number)) answer a)
-      (all-append (λ q. place q < place w) hear end (all_weaker (IsOf to_hear n) (λ q. place q < place w) (λ q is. omega (arith, is.0, is.1, kind, number, small)) hear h)
-      (all_weaker (IsOf to_end n) (λ q. place q < place w) (λ q is. omega (arith, is.0, is.1, kind, number)) end e))) in
-      ap (λ l. put_row (waiting_row w) (map waiting_row l)) (sym (append-nil (send ++ (answer ++ (hear ++ end)))))
-      ∙ puts_between waiting_row place (λ _. refl) w (send ++ (answer ++ (hear ++ end))) [] low tt
-      ∙ ap (map waiting_row) (append_assoc send (answer ++ (hear ++ end)) (w ∷ []) ∙ ap₂ ◌++◌ (sym (append-nil send)) (append_assoc answer (hear ++ end) (w ∷ []) ∙ ap (λ l. answer ++ l) (append_assoc hear end (w ∷ []) ∙ ap (λ l. l ++ (end ++ w ∷ [])) (sym (append-nil hear)))))
-
-  some_noted : (kind : ℕ) (due : Option ℕ) → IsDocuments kind → Notes (Some (record { kind = kind; number = n; due = due }))
-  some_noted kind due (inl is) = subst (λ k. Notes (Some (record { kind = k; number = n; due = due }))) (sym is) (send_noted (record { kind = to_send; number = n; due = due }) refl refl)
-  some_noted kind due (inr (inl is)) = subst (λ k. Notes (Some (record { kind = k; number = n; due = due }))) (sym is) (hear_noted (record { kind = to_hear; number = n; due = due }) refl refl)
-  some_noted kind due (inr (inr is)) = subst (λ k. Notes (Some (record { kind = k; number = n; due = due }))) (sym is) (end_noted (record { kind = to_end; number = n; due = due }) refl refl)
-
-  noted_by : (o : Option ℕ) (due : Option ℕ) → IfSome o IsDocuments → Notes (option_map (λ kind. record { kind = kind; number = n; due = due }) o)
-  noted_by None due is = none_noted
-  noted_by (Some kind) due is = some_noted kind due is
-
-noted_document : (s : State) (x : OutEntry) → AllByRecursion (λ n. n < s.next_out) (map (λ (d : OutEntry). d.number) s.outbox) → AllByRecursion (λ n. n < end_of_numbers) (map (λ (e : InEntry). e.number) s.inbox)
+noted_document : (s : State) (x : OutEntry) → AreNumbers s.next_out (map (λ (d : OutEntry). d.number) s.outbox) → AllByRecursion (λ n. n < end_of_numbers) (map (λ (e : InEntry). e.number) s.inbox)
     → x.number ≡ s.next_out → x.number < end_of_numbers → noted_rows (out_waiting x) (map waiting_row (all_waiting s)) ≡ map waiting_row (all_waiting (with_document s x))
 noted_document s x outs ins is small =
-    let low = λ (kind : ℕ). subst (λ n. AllByRecursion (IsOf kind n) (documents_waiting kind s.outbox)) (sym is) (documents_of kind s.next_out s.outbox outs) in
-    noted_by x.number small (documents_waiting to_send s.outbox) (waiting_in s.inbox) (documents_waiting to_hear s.outbox) (documents_waiting to_end s.outbox) (low to_send) (ins_small end_of_numbers s.inbox ins) (low to_hear) (low to_end)
-    (out_kind x.detail x.attempt) x.due (kinds x.detail x.attempt)
-    ∙ ap (map waiting_row) (ap₂ ◌++◌ (sym (more_of to_send s.outbox x)) (ap (λ l. waiting_in s.inbox ++ l) (ap₂ ◌++◌ (sym (more_of to_hear s.outbox x)) (sym (more_of to_end s.outbox x)))))
+    ap (λ ds. noted_rows (out_waiting x) (map waiting_row (all_waiting (record s { outbox = ds })))) (sym (append-nil s.outbox))
+    ∙ put_among x.number small s.outbox [] s.inbox (below_all (λ (d : OutEntry). d.number) s.next_out x.number s.outbox outs is) tt tt ins x refl
 
 -- ---- the state
 
@@ -169,7 +83,7 @@ entered_document a b c d s x it small unsettled one two three =
             (unchanged (note.others.1.1.1.1.0 (λ e. omega arith)) (two.pieces_are (outbox_pieces s.outbox) (unchanged (one.others.1.1.1.1.0 (λ e. omega arith)) has.outbox_contents)));
         evidence = note.others.1.1.1.1.1.0 (λ e. omega arith) ∙ two.others.1.1.1.1.1.0 (λ e. omega arith) ∙ one.others.1.1.1.1.1.0 (λ e. omega arith) ∙ has.evidence ∙ no_more_evidence s.outbox x unsettled;
         waits = note.rows_are ∙ ap (noted_rows (out_waiting x)) (two.others.1.1.1.1.1.1.0 (λ e. omega arith) ∙ one.others.1.1.1.1.1.1.0 (λ e. omega arith) ∙ has.waits)
-            ∙ noted_document s x it.documents.1.below low is small;
+            ∙ noted_document s x it.documents.1 low is small;
       };
     }
 

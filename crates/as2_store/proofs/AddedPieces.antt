@@ -28,7 +28,7 @@ puts_piece p before rows has = subst (HasRows (put_row (Int (next_rowid rows) �
 
 -- ---- one after another
 
-others_then : (a b c : Trees) (tree : ℕ) (tables : List Table) → AllByRecursion (λ t. t.tree ≢ tree → b t.tree ≡ a t.tree) tables → AllByRecursion (λ t. t.tree ≢ tree → c t.tree ≡ b t.tree) tables
+pub others_then : (a b c : Trees) (tree : ℕ) (tables : List Table) → AllByRecursion (λ t. t.tree ≢ tree → b t.tree ≡ a t.tree) tables → AllByRecursion (λ t. t.tree ≢ tree → c t.tree ≡ b t.tree) tables
     → AllByRecursion (λ t. t.tree ≢ tree → c t.tree ≡ a t.tree) tables
 others_then a b c tree [] one two = tt
 others_then a b c tree (t ∷ tables) one two = (λ other. two.0 other ∙ one.0 other, others_then a b c tree tables one.1 two.1)

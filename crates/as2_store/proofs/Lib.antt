@@ -13,12 +13,14 @@ mod AddedPieces
 mod WaitingRows
 mod InboxRow
 mod AddedTables
-mod AddedDocument
 mod QueriedRows
 mod InboxQueries
 mod EntryPieces
 mod NumberedEntries
 mod WaitingPlaces
+mod WaitingAmong
+mod ChangedDocuments
+mod AddedDocument
 mod RequeuedTables
 mod OutboxQueries
 mod SettledTables

@@ -98,6 +98,3 @@ waiting_put_text = codes "INSERT INTO waiting (place, kind, number, due) VALUES 
 
 abbrev pub waiting_take_text : List ℕ
 waiting_take_text = codes "DELETE FROM waiting WHERE place = ?1"
-
-abbrev pub document_take_text : List ℕ
-document_take_text = codes "DELETE FROM waiting WHERE number = ?1 AND kind <> 2"

@@ -12,7 +12,7 @@ use Rattle.sqlite_schema.specs.declared.schema.Index.{Index}
 use Rattle.sqlite.specs.Listing.{understood, reads_listing}
 use Rattle.sqlite.proofs.Callers.{IsPlain, command_of}
 use Rattle.sqlite_sql.specs.declared.ops.BinaryOp.TheVariants.{Compare}
-use Rattle.sqlite_sql.specs.declared.ops.CompareOp.TheVariants.{Eq, Ne}
+use Rattle.sqlite_sql.specs.declared.ops.CompareOp.TheVariants.{Eq}
 use Rattle.sqlite_tied.specs.Compute.{everything}
 use Rattle.sql_tables.specs.Changes.{over_table}
 use Rattle.sql_tables.proofs.Queries.{by_number, by_column}
@@ -20,7 +20,7 @@ use Rattle.sql_tables.proofs.Changing.{update_program}
 use Rattle.sql_tables.proofs.Deleting.{delete_program}
 use Rattle.as2_store.specs.declared.contents.Mailbox.TheVariants.{Inbox, Outbox}
 use Rattle.as2_store.specs.Tables.{store_schema, meta_table, meta_tree, inbox_tree, inbox_piece_tree, outbox_tree, outbox_piece_tree, evidence_tree, waiting_tree}
-use Rattle.as2_store.proofs.Statements.{meta_put_text, meta_read_text, receipt_text, document_text, in_put_text, piece_put_text, in_by_key_text, in_by_number_text, in_all_text, in_pieces_text, in_requeue_text, out_put_text, out_by_id_text, out_by_number_text, out_pieces_text, evidence_by_number_text, evidence_put_text, out_settle_text, waiting_put_text, waiting_take_text, document_take_text}
+use Rattle.as2_store.proofs.Statements.{meta_put_text, meta_read_text, receipt_text, document_text, in_put_text, piece_put_text, in_by_key_text, in_by_number_text, in_all_text, in_pieces_text, in_requeue_text, out_put_text, out_by_id_text, out_by_number_text, out_pieces_text, evidence_by_number_text, evidence_put_text, out_settle_text, waiting_put_text, waiting_take_text}
 
 -- ---- the counters
 
@@ -71,13 +71,13 @@ pub receipt_plain : IsPlain (understood store_schema receipt_text)
 unfolding understood everything
 receipt_plain = (refl, refl)
 
-abbrev pub next_document_project : List Term
-next_document_project = col 1 0 ∷ col 1 1 ∷ col 1 2 ∷ col 1 3 ∷ col 0 1 ∷ []
+abbrev pub document_project : List Term
+document_project = col 1 0 ∷ col 1 1 ∷ col 1 2 ∷ col 1 3 ∷ col 0 1 ∷ []
 
-abbrev pub next_document_terms : List Term
-next_document_terms = op2 (Compare Eq Binary) (col 1 4) (col 0 0) ∷ []
+abbrev pub document_terms : List Term
+document_terms = op2 (Compare Eq Binary) (col 1 4) (col 0 0) ∷ []
 
-pub document_is : command_of (understood store_schema document_text) ≡ Update 0 (update_program meta_tree next_document_terms next_document_project)
+pub document_is : command_of (understood store_schema document_text) ≡ Update 0 (update_program meta_tree document_terms document_project)
 unfolding understood everything
 document_is = refl
 
@@ -323,14 +323,3 @@ waiting_take_is = refl
 pub waiting_take_plain : IsPlain (understood store_schema waiting_take_text)
 unfolding understood everything
 waiting_take_plain = (refl, refl)
-
-abbrev pub document_terms : List Term
-document_terms = op2 (Compare Eq Binary) (col 1 3) (col 0 0) ∷ op2 (Compare Ne Binary) (col 1 2) (lit (Int (pos 2))) ∷ []
-
-pub document_take_is : command_of (understood store_schema document_take_text) ≡ Delete 6 (delete_program waiting_tree document_terms)
-unfolding understood everything
-document_take_is = refl
-
-pub document_take_plain : IsPlain (understood store_schema document_take_text)
-unfolding understood everything
-document_take_plain = (refl, refl)

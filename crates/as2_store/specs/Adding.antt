@@ -1,6 +1,7 @@
 -- An entry more, and what the statements that add it leave.
 use Rattle.std.specs.Prelude.{if◌then◌else◌, ◌==◌, ◌≡◌, ◌≢◌, ℕ, ◌+◌, ◌<◌, ◌^◌, List, [], ◌∷◌, ◌++◌, length, map, Option, Some, None, IfSome}
 use Rattle.std.specs.List.{AllByRecursion}
+use Rattle.sqlite.specs.Order.{Row}
 use Rattle.sqlite.specs.Tree.{put_row}
 use Rattle.sqlite.specs.State.{State as Connected}
 use Rattle.sql_tables.specs.Changes.{Changed, HasRows}
@@ -52,6 +53,11 @@ pub record Appended (old new : Connected) (tree : ℕ) (ps : List Piece) : Type 
 abbrev pub Noted : Connected → Connected → Option WaitingRow → Type 0
 Noted old new None = new.now ≡ old.now
 Noted old new (Some w) = Changed old new store_schema waiting_tree (put_row (waiting_row w) (old.now.trees waiting_tree))
+
+-- the rows with one more for what waits, if something does
+abbrev pub noted_rows : Option WaitingRow → List Row → List Row
+noted_rows None rows = rows
+noted_rows (Some w) rows = put_row (waiting_row w) rows
 
 -- an entry of this number is in the tables, where that is the next one, as in the later state; the counter isn't raised yet
 pub record IsEntered (d : Database) (s : State) (number next : ℕ) (later : State) : Type 0 where

@@ -10,8 +10,8 @@ ghost use Rattle.as2_rows.specs.Waiting.{WaitingRow, in_waiting, kind_code, out_
 ghost use Rattle.as2_store.specs.Tables.{store_schema, waiting_tree};
 ghost use Rattle.as2_store.specs.Stands.{waiting_row};
 ghost use Rattle.as2_store.specs.Adding.{Noted};
-ghost use Rattle.as2_store.specs.Requeuing.{HoldsWaiting, Renewed, not_at};
-ghost use Rattle.as2_store.specs.Settling.{without_document};
+ghost use Rattle.as2_store.specs.Requeuing.{HoldsWaiting, Renewed, anew, not_at};
+ghost use Rattle.as2_store.specs.Settling.{place_of, without_document};
 
 use crate::numbers::{whole, whole_or_none};
 use as2_exchange::{Attempt, END_OF_NUMBERS, InEntry, MdnState, OutEntry};
@@ -46,11 +46,21 @@ fn put_waiting<S: Alter>(
     Ok(())
 }
 
+/// The place of the row of what an entry waits for.
+fn place_of(wait: Wait, number: u64) -> u64
+    requires { number ≤ end_of_numbers }
+    ensures place { result ≡ place_of (kind_code wait) number }
+    ensures fits { result < 2 ^ 63 }
+{
+    wait.code() * END_OF_NUMBERS + number
+}
+
 /// Takes out the row of what waits at this place.
 fn take_waiting<S: Alter>(tx: &mut Transaction<'_, S>, place: u64) -> Result<(), Error>
     requires { place < 2 ^ 63 }
     ensures same_reference { tx.new.conn.ghost_name ≡ tx.old.conn.ghost_name }
     ensures within { IsInside (state S.Store tx.old.conn.now) (state S.Store tx.new.conn.now) }
+    ensures inside { HasCleanDisk (state S.Store tx.new.conn.now) → OnOk result (IsTrue (state S.Store tx.new.conn.now).in_transaction) }
     ensures put { HasCleanDisk (state S.Store tx.new.conn.now) → OnOk result ((ws : List WaitingRow) → HoldsWaiting (state S.Store tx.old.conn.now).now ws
         → Changed (state S.Store tx.old.conn.now) (state S.Store tx.new.conn.now) store_schema waiting_tree (map waiting_row (not_at place ws))) }
 {
@@ -124,26 +134,24 @@ pub fn wait_anew<S: Alter>(tx: &mut Transaction<'_, S>, number: u64, due: u64) -
     ensures within { IsInside (state S.Store tx.old.conn.now) (state S.Store tx.new.conn.now) }
     ensures inside { HasCleanDisk (state S.Store tx.new.conn.now) → OnOk result (IsTrue (state S.Store tx.new.conn.now).in_transaction) }
     ensures put { HasCleanDisk (state S.Store tx.new.conn.now) → OnOk result ((ws : List WaitingRow) → HoldsWaiting (state S.Store tx.old.conn.now).now ws
-        → Renewed (state S.Store tx.old.conn.now) (state S.Store tx.new.conn.now) (record { kind = to_answer; number = number; due = Some due }) ws) }
+        → Renewed (state S.Store tx.old.conn.now) (state S.Store tx.new.conn.now) (anew (record { kind = to_answer; number = number; due = Some due }) ws)) }
 {
-    take_waiting(tx, Wait::ToAnswer.code() * END_OF_NUMBERS + number)?;
+    take_waiting(tx, place_of(Wait::ToAnswer, number))?;
     put_waiting(tx, Wait::ToAnswer, number, Some(due))?;
     Ok(())
 }
 
 /// Takes out what the document of this number waits for. A receipt of the same number stays.
 pub fn take_document<S: Alter>(tx: &mut Transaction<'_, S>, number: u64) -> Result<(), Error>
-    requires { number < 2 ^ 63 }
+    requires { number ≤ end_of_numbers }
     ensures same_reference { tx.new.conn.ghost_name ≡ tx.old.conn.ghost_name }
     ensures within { IsInside (state S.Store tx.old.conn.now) (state S.Store tx.new.conn.now) }
     ensures inside { HasCleanDisk (state S.Store tx.new.conn.now) → OnOk result (IsTrue (state S.Store tx.new.conn.now).in_transaction) }
     ensures put { HasCleanDisk (state S.Store tx.new.conn.now) → OnOk result ((ws : List WaitingRow) → HoldsWaiting (state S.Store tx.old.conn.now).now ws
-        → Changed (state S.Store tx.old.conn.now) (state S.Store tx.new.conn.now) store_schema waiting_tree (map waiting_row (without_document number ws))) }
+        → Renewed (state S.Store tx.old.conn.now) (state S.Store tx.new.conn.now) (map waiting_row (without_document number ws))) }
 {
-    let number = whole(number);
-    tx.execute(
-        "DELETE FROM waiting WHERE number = ?1 AND kind <> 2",
-        params![number],
-    )?;
+    take_waiting(tx, place_of(Wait::ToSend, number))?;
+    take_waiting(tx, place_of(Wait::ToHear, number))?;
+    take_waiting(tx, place_of(Wait::ToEnd, number))?;
     Ok(())
 }
