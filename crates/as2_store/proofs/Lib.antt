@@ -25,4 +25,5 @@ mod RequeuedTables
 mod OutboxQueries
 mod SettledTables
 mod Unsettled
+mod SetTables
 mod Single

@@ -88,6 +88,9 @@ evidence_by_number_text = codes "SELECT number, moment, content_type, body FROM 
 abbrev pub evidence_put_text : List ℕ
 evidence_put_text = codes "INSERT INTO evidence (number, moment, content_type, body) VALUES (?1, ?2, ?3, ?4)"
 
+abbrev pub out_set_text : List ℕ
+out_set_text = codes "UPDATE outbox SET tries = ?2, attempt = ?3, due = ?4, detail = ?5 WHERE number = ?1"
+
 abbrev pub out_settle_text : List ℕ
 out_settle_text = codes "UPDATE outbox SET attempt = 1, due = NULL, detail = ?2 WHERE number = ?1"
 

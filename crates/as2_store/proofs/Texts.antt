@@ -20,7 +20,7 @@ use Rattle.sql_tables.proofs.Changing.{update_program}
 use Rattle.sql_tables.proofs.Deleting.{delete_program}
 use Rattle.as2_store.specs.declared.contents.Mailbox.TheVariants.{Inbox, Outbox}
 use Rattle.as2_store.specs.Tables.{store_schema, meta_table, meta_tree, inbox_tree, inbox_piece_tree, outbox_tree, outbox_piece_tree, evidence_tree, waiting_tree}
-use Rattle.as2_store.proofs.Statements.{meta_put_text, meta_read_text, receipt_text, document_text, in_put_text, piece_put_text, in_by_key_text, in_by_number_text, in_all_text, in_pieces_text, in_requeue_text, out_put_text, out_by_id_text, out_by_number_text, out_pieces_text, evidence_by_number_text, evidence_put_text, out_settle_text, waiting_put_text, waiting_take_text}
+use Rattle.as2_store.proofs.Statements.{meta_put_text, meta_read_text, receipt_text, document_text, in_put_text, piece_put_text, in_by_key_text, in_by_number_text, in_all_text, in_pieces_text, in_requeue_text, out_put_text, out_by_id_text, out_by_number_text, out_pieces_text, evidence_by_number_text, evidence_put_text, out_set_text, out_settle_text, waiting_put_text, waiting_take_text}
 
 -- ---- the counters
 
@@ -294,6 +294,18 @@ evidence_put_plain = (refl, refl)
 abbrev pub settle_project : List Term
 settle_project =
     col 1 0 ∷ lit Null ∷ col 1 2 ∷ col 1 3 ∷ col 1 4 ∷ col 1 5 ∷ col 1 6 ∷ col 1 7 ∷ col 1 8 ∷ lit (Int (pos 1)) ∷ lit Null ∷ col 0 1 ∷ []
+
+abbrev pub set_project : List Term
+set_project =
+    col 1 0 ∷ lit Null ∷ col 1 2 ∷ col 1 3 ∷ col 1 4 ∷ col 1 5 ∷ col 1 6 ∷ col 1 7 ∷ col 0 1 ∷ col 0 2 ∷ col 0 3 ∷ col 0 4 ∷ []
+
+pub out_set_is : command_of (understood store_schema out_set_text) ≡ Update 3 (update_program outbox_tree number_terms set_project)
+unfolding understood everything
+out_set_is = refl
+
+pub out_set_plain : IsPlain (understood store_schema out_set_text)
+unfolding understood everything
+out_set_plain = (refl, refl)
 
 pub out_settle_is : command_of (understood store_schema out_settle_text) ≡ Update 3 (update_program outbox_tree number_terms settle_project)
 unfolding understood everything

@@ -5,3 +5,4 @@ pub mod Adding
 pub mod Finding
 pub mod Requeuing
 pub mod Settling
+pub mod Progressing

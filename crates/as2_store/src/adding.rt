@@ -12,6 +12,7 @@ use crate::contents::{Mailbox, put_pieces};
 use crate::counters::{raise_next_document, raise_next_receipt};
 use crate::inbox::put_in;
 use crate::outbox::put_out;
+use crate::progress::Progress;
 use crate::waiting::{put_in_waiting, put_out_waiting};
 use as2_exchange::{InEntry, OutEntry};
 use sqlite::{Alter, Connection, Error, Transaction};
@@ -48,6 +49,18 @@ pub fn add<S: Alter>(conn: &mut Connection<S>, entry: &InEntry) -> Result<(), Er
     Ok(())
 }
 
+/// How far a document has come.
+fn progress_of(entry: &OutEntry) -> Progress
+    ensures { result ≡ record { tries = entry.now.tries; attempt = entry.now.attempt; due = entry.now.due; detail = entry.now.detail } }
+{
+    Progress {
+        tries: entry.tries,
+        attempt: entry.attempt,
+        due: entry.due,
+        detail: entry.detail,
+    }
+}
+
 /// Puts in the row, the content and the wait of a document.
 fn put_submitted<S: Alter>(tx: &mut Transaction<'_, S>, entry: &OutEntry) -> Result<(), Error>
     requires number { entry.now.number < end_of_numbers }
@@ -60,7 +73,7 @@ fn put_submitted<S: Alter>(tx: &mut Transaction<'_, S>, entry: &OutEntry) -> Res
 {
     put_out(tx, entry)?;
     put_pieces(tx, Mailbox::Outbox, entry.number, &entry.content)?;
-    put_out_waiting(tx, entry)?;
+    put_out_waiting(tx, entry.number, progress_of(entry))?;
     Ok(())
 }
 

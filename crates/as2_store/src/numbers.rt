@@ -3,7 +3,9 @@
 ghost use Rattle.std.specs.Prelude.{◌≡◌, ◌<◌, ◌≤◌, ◌^◌, pos, IfSome, IsTrue, option_map};
 ghost use Rattle.as2_exchange.specs.State.{end_of_numbers};
 ghost use Rattle.as2_store.specs.Adding.{Fits};
+ghost use Rattle.as2_store.specs.Progressing.{FitsProgress};
 
+use crate::progress::Progress;
 use as2_exchange::END_OF_NUMBERS;
 use as2_mic::Pieces;
 use std::cmp::min;
@@ -45,6 +47,13 @@ pub fn fits(content: &Pieces, tries: u64, due: Option<u64>) -> bool
     ensures { IsTrue result → Fits content.now tries due }
 {
     content.len() as u64 <= MOST && tries <= MOST && may_stand(due)
+}
+
+/// Whether the numbers of a document that has come so far fit into its columns.
+pub fn fits_progress(progress: Progress) -> bool
+    ensures { IsTrue result → FitsProgress progress }
+{
+    progress.tries <= MOST && may_stand(progress.due)
 }
 
 /// The number, or else one that is never given in place of any other that is never given.

@@ -9,6 +9,7 @@ ghost use Rattle.as2_rows.specs.Summaries.{in_summary};
 ghost use Rattle.as2_store.specs.Adding.{added, added_document};
 ghost use Rattle.as2_store.specs.Calls.{Adopts, Commits, CommitsFirst, Creates, IsGivenBack, IsReason, Reads, Writes};
 ghost use Rattle.as2_store.specs.Finding.{AreNext, IsPostedAs};
+ghost use Rattle.as2_store.specs.Progressing.{set_in};
 ghost use Rattle.as2_store.specs.Requeuing.{requeued_in};
 ghost use Rattle.as2_store.specs.Settling.{settled_in};
 ghost use Rattle.as2_store.specs.Stands.{may_come};
@@ -21,8 +22,9 @@ use crate::documents::shown_document;
 use crate::entries::{entries_in, shown_entry};
 use crate::fault::fault_of;
 use crate::inbox::{all_rows, rows_by_key};
-use crate::numbers::fits;
+use crate::numbers::{fits, fits_progress};
 use crate::outbox::rows_by_id;
+use crate::progress::{Progress, set};
 use crate::requeuing::requeue;
 use crate::settling::{is_by_receipt, settle};
 use crate::{inbox, outbox};
@@ -147,6 +149,18 @@ impl<S: Alter> Store<S> {
         ensures fault { IfErr result (λ f. may_come f ≡ true) }
     {
         requeue(&mut self.conn, number, moment).map_err(fault_of)
+    }
+
+    /// Sets how far the document of this number has come. Answers Refused where no document has the number; Memory, Disk or
+    /// Refused; and then the state stays.
+    pub fn set_out(&mut self, number: u64, progress: Progress) -> Result<(), StoreFault>
+        ensures set { Writes (set_in number progress) (state S.Store self.old) (state S.Store self.new) result }
+        ensures fault { IfErr result (λ f. may_come f ≡ true) }
+    {
+        if !fits_progress(progress) {
+            return Err(StoreFault::Refused);
+        }
+        set(&mut self.conn, number, progress).map_err(fault_of)
     }
 
     /// Settles the document of this number by a receipt: it gets this detail and this evidence, no try of it is open, and

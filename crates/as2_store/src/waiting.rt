@@ -6,15 +6,17 @@ ghost use Rattle.sqlite.specs.State.{HasCleanDisk};
 ghost use Rattle.as2_store.specs.Calls.{IsInside};
 ghost use Rattle.sql_tables.specs.Changes.{Changed};
 ghost use Rattle.as2_exchange.specs.State.{end_of_numbers};
-ghost use Rattle.as2_rows.specs.Waiting.{WaitingRow, in_waiting, kind_code, out_kind, out_waiting, to_answer};
+ghost use Rattle.as2_rows.specs.Waiting.{WaitingRow, in_waiting, kind_code, out_kind, to_answer};
 ghost use Rattle.as2_store.specs.Tables.{store_schema, waiting_tree};
 ghost use Rattle.as2_store.specs.Stands.{waiting_row};
-ghost use Rattle.as2_store.specs.Adding.{Noted};
+ghost use Rattle.as2_store.specs.Adding.{Noted, noted_rows};
 ghost use Rattle.as2_store.specs.Requeuing.{HoldsWaiting, Renewed, anew, not_at};
+ghost use Rattle.as2_store.specs.Progressing.{waits_at};
 ghost use Rattle.as2_store.specs.Settling.{place_of, without_document};
 
 use crate::numbers::{whole, whole_or_none};
-use as2_exchange::{Attempt, END_OF_NUMBERS, InEntry, MdnState, OutEntry};
+use crate::progress::Progress;
+use as2_exchange::{Attempt, END_OF_NUMBERS, InEntry, MdnState};
 use as2_mdn::Detail;
 use as2_rows::Wait;
 use sqlite::{Alter, Error, Transaction, params};
@@ -111,19 +113,42 @@ fn wait_of(detail: Detail, attempt: Attempt) -> Option<Wait>
     }
 }
 
-/// Puts in the row of a document that waits for something.
-pub fn put_out_waiting<S: Alter>(tx: &mut Transaction<'_, S>, entry: &OutEntry) -> Result<(), Error>
-    requires number { entry.now.number < end_of_numbers }
-    requires due { IfSome entry.now.due (λ due. due < 2 ^ 63) }
+/// Puts in the row of what the document of this number waits for, if it waits for something.
+pub fn put_out_waiting<S: Alter>(
+    tx: &mut Transaction<'_, S>,
+    number: u64,
+    progress: Progress,
+) -> Result<(), Error>
+    requires number { number ≤ end_of_numbers }
+    requires due { IfSome progress.due (λ due. due < 2 ^ 63) }
     ensures same_reference { tx.new.conn.ghost_name ≡ tx.old.conn.ghost_name }
     ensures within { IsInside (state S.Store tx.old.conn.now) (state S.Store tx.new.conn.now) }
+    ensures inside { HasCleanDisk (state S.Store tx.new.conn.now) → IsTrue (state S.Store tx.old.conn.now).in_transaction → OnOk result (IsTrue (state S.Store tx.new.conn.now).in_transaction) }
     ensures put { HasCleanDisk (state S.Store tx.new.conn.now) → OnOk result ((state S.Store tx.old.conn.now).now.schema ≡ store_schema
-        → Noted (state S.Store tx.old.conn.now) (state S.Store tx.new.conn.now) (out_waiting entry.now)) }
+        → Noted (state S.Store tx.old.conn.now) (state S.Store tx.new.conn.now) (waits_at number progress)) }
 {
-    if let Some(wait) = wait_of(entry.detail, entry.attempt) {
-        put_waiting(tx, wait, entry.number, entry.due)?;
+    if let Some(wait) = wait_of(progress.detail, progress.attempt) {
+        put_waiting(tx, wait, number, progress.due)?;
     }
     Ok(())
+}
+
+/// Puts in the row of what the document of this number waits for now, in place of what it waited for.
+pub fn wait_for<S: Alter>(
+    tx: &mut Transaction<'_, S>,
+    number: u64,
+    progress: Progress,
+) -> Result<(), Error>
+    requires number { number ≤ end_of_numbers }
+    requires due { IfSome progress.due (λ due. due < 2 ^ 63) }
+    ensures same_reference { tx.new.conn.ghost_name ≡ tx.old.conn.ghost_name }
+    ensures within { IsInside (state S.Store tx.old.conn.now) (state S.Store tx.new.conn.now) }
+    ensures inside { HasCleanDisk (state S.Store tx.new.conn.now) → OnOk result (IsTrue (state S.Store tx.new.conn.now).in_transaction) }
+    ensures put { HasCleanDisk (state S.Store tx.new.conn.now) → OnOk result ((ws : List WaitingRow) → HoldsWaiting (state S.Store tx.old.conn.now).now ws
+        → Renewed (state S.Store tx.old.conn.now) (state S.Store tx.new.conn.now) (noted_rows (waits_at number progress) (map waiting_row (without_document number ws)))) }
+{
+    take_document(tx, number)?;
+    put_out_waiting(tx, number, progress)
 }
 
 /// Puts in the row of a receipt that is to be sent from this moment on, in place of the one that it has, if it has one.
