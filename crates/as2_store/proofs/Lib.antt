@@ -24,6 +24,7 @@ mod AddedDocument
 mod RequeuedTables
 mod OutboxQueries
 mod SettledTables
+mod DueRows
 mod Unsettled
 mod SetTables
 mod Single

@@ -99,5 +99,11 @@ out_settle_text = codes "UPDATE outbox SET attempt = 1, due = NULL, detail = ?2 
 abbrev pub waiting_put_text : List ℕ
 waiting_put_text = codes "INSERT INTO waiting (place, kind, number, due) VALUES (?1, ?2, ?3, ?4)"
 
+abbrev pub any_due_text : List ℕ
+any_due_text = codes "SELECT number FROM waiting WHERE kind = ?1 AND due <= ?2 LIMIT 1"
+
+abbrev pub least_due_text : List ℕ
+least_due_text = codes "SELECT number FROM waiting WHERE place >= ?1 AND place < ?2 AND due <= ?3 ORDER BY place LIMIT 1"
+
 abbrev pub waiting_take_text : List ℕ
 waiting_take_text = codes "DELETE FROM waiting WHERE place = ?1"

@@ -12,7 +12,7 @@ use Rattle.sqlite_schema.specs.declared.schema.Index.{Index}
 use Rattle.sqlite.specs.Listing.{understood, reads_listing}
 use Rattle.sqlite.proofs.Callers.{IsPlain, command_of}
 use Rattle.sqlite_sql.specs.declared.ops.BinaryOp.TheVariants.{Compare}
-use Rattle.sqlite_sql.specs.declared.ops.CompareOp.TheVariants.{Eq}
+use Rattle.sqlite_sql.specs.declared.ops.CompareOp.TheVariants.{Eq, Ge, Le, Lt}
 use Rattle.sqlite_tied.specs.Compute.{everything}
 use Rattle.sql_tables.specs.Changes.{over_table}
 use Rattle.sql_tables.proofs.Queries.{by_number, by_column}
@@ -20,7 +20,7 @@ use Rattle.sql_tables.proofs.Changing.{update_program}
 use Rattle.sql_tables.proofs.Deleting.{delete_program}
 use Rattle.as2_store.specs.declared.contents.Mailbox.TheVariants.{Inbox, Outbox}
 use Rattle.as2_store.specs.Tables.{store_schema, meta_table, meta_tree, inbox_tree, inbox_piece_tree, outbox_tree, outbox_piece_tree, evidence_tree, waiting_tree}
-use Rattle.as2_store.proofs.Statements.{meta_put_text, meta_read_text, receipt_text, document_text, in_put_text, piece_put_text, in_by_key_text, in_by_number_text, in_all_text, in_pieces_text, in_requeue_text, out_put_text, out_by_id_text, out_by_number_text, out_pieces_text, evidence_by_number_text, evidence_put_text, out_set_text, out_settle_text, waiting_put_text, waiting_take_text}
+use Rattle.as2_store.proofs.Statements.{meta_put_text, meta_read_text, receipt_text, document_text, in_put_text, piece_put_text, in_by_key_text, in_by_number_text, in_all_text, in_pieces_text, in_requeue_text, out_put_text, out_by_id_text, out_by_number_text, out_pieces_text, evidence_by_number_text, evidence_put_text, out_set_text, out_settle_text, waiting_put_text, waiting_take_text, any_due_text, least_due_text}
 
 -- ---- the counters
 
@@ -327,6 +327,39 @@ waiting_put_is = refl
 pub waiting_put_plain : IsPlain (understood store_schema waiting_put_text)
 unfolding understood everything
 waiting_put_plain = (refl, refl)
+
+abbrev pub due_columns : List Term
+due_columns = col 1 3 ∷ []
+
+abbrev pub any_due_terms : List Term
+any_due_terms = op2 (Compare Eq Binary) (col 1 2) (col 0 0) ∷ op2 (Compare Le Binary) (col 1 4) (col 0 1) ∷ []
+
+pub any_due_is : command_of (understood store_schema any_due_text) ≡ Select (record { lets = []; body = over_table waiting_tree any_due_terms due_columns [] (lit (Int (pos 1))) }) (codes "number" ∷ [])
+unfolding understood everything
+any_due_is = refl
+
+pub any_due_plain : IsPlain (understood store_schema any_due_text)
+unfolding understood everything
+any_due_plain = (refl, refl)
+
+pub any_due_unlisted : reads_listing store_schema any_due_text ≡ false
+unfolding understood everything
+any_due_unlisted = refl
+
+abbrev pub least_due_terms : List Term
+least_due_terms = op2 (Compare Ge Binary) (col 1 0) (col 0 0) ∷ op2 (Compare Lt Binary) (col 1 0) (col 0 1) ∷ op2 (Compare Le Binary) (col 1 4) (col 0 2) ∷ []
+
+pub least_due_is : command_of (understood store_schema least_due_text) ≡ Select (record { lets = []; body = over_table waiting_tree least_due_terms due_columns by_number (lit (Int (pos 1))) }) (codes "number" ∷ [])
+unfolding understood everything
+least_due_is = refl
+
+pub least_due_plain : IsPlain (understood store_schema least_due_text)
+unfolding understood everything
+least_due_plain = (refl, refl)
+
+pub least_due_unlisted : reads_listing store_schema least_due_text ≡ false
+unfolding understood everything
+least_due_unlisted = refl
 
 pub waiting_take_is : command_of (understood store_schema waiting_take_text) ≡ Delete 6 (delete_program waiting_tree number_terms)
 unfolding understood everything

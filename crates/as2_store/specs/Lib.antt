@@ -4,5 +4,6 @@ pub mod Calls
 pub mod Adding
 pub mod Finding
 pub mod Requeuing
+pub mod Due
 pub mod Settling
 pub mod Progressing

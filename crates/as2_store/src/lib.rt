@@ -8,6 +8,7 @@ mod contents;
 mod counters;
 mod creating;
 mod documents;
+mod due;
 mod entries;
 mod fault;
 mod inbox;

@@ -4,6 +4,7 @@ ghost use Rattle.std.specs.Prelude.{◌≡◌, ◌⊎◌, ◌<◌, ◌≤◌, �
 ghost use Rattle.sqlite.specs.Held.{state};
 ghost use Rattle.sqlite.specs.State.{HasCleanDisk};
 ghost use Rattle.as2_exchange.specs.State.{State, empty, end_of_numbers, document, document_named, received};
+ghost use Rattle.as2_exchange.specs.Views.{due_documents, least};
 ghost use Rattle.as2_exchange.specs.declared.fault.StoreFault.TheVariants.{Full};
 ghost use Rattle.as2_rows.specs.Summaries.{in_summary};
 ghost use Rattle.as2_store.specs.Adding.{added, added_document};
@@ -19,6 +20,7 @@ use crate::adopting::check;
 use crate::counters::{NextNumbers, meta_rows, next_of};
 use crate::creating::make;
 use crate::documents::shown_document;
+use crate::due::least_due;
 use crate::entries::{entries_in, shown_entry};
 use crate::fault::fault_of;
 use crate::inbox::{all_rows, rows_by_key};
@@ -30,7 +32,7 @@ use crate::settling::{is_by_receipt, settle};
 use crate::{inbox, outbox};
 use as2_exchange::{END_OF_NUMBERS, Evidence, InEntry, OutEntry, StoreFault};
 use as2_mdn::Detail;
-use as2_rows::InRow;
+use as2_rows::{InRow, Wait};
 use as2_text::{AsName, Moment};
 use sqlite::{Alter, Connection};
 use std::alloc::Global;
@@ -239,6 +241,15 @@ impl<S: Alter> Store<S> {
     {
         let rows = rows_by_id(&mut self.conn, id_value).map_err(fault_of)?;
         shown_document(&mut self.conn, alloc, &rows)
+    }
+
+    /// The least number of the documents of which a try may begin at this moment, if there is one. Answers Memory, Disk or
+    /// Refused.
+    pub fn due_out(&mut self, moment: Moment) -> Result<Option<u64>, StoreFault>
+        ensures due { Reads (λ s number. number ≡ least (due_documents s moment)) (state S.Store self.old) (state S.Store self.new) result }
+        ensures fault { IfErr result (λ f. may_come f ≡ true) }
+    {
+        least_due(&mut self.conn, Wait::ToSend, moment).map_err(fault_of)
     }
 
     /// The entries of the inbox in order of number, each with the length of its content in place of the content.
