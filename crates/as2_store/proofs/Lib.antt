@@ -25,6 +25,7 @@ mod RequeuedTables
 mod OutboxQueries
 mod SettledTables
 mod DueRows
+mod DueDocuments
 mod Unsettled
 mod SetTables
 mod Single
