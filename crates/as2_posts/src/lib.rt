@@ -9,12 +9,14 @@ mod entry;
 mod fields;
 mod opening;
 mod repeating;
+mod sending;
 
 pub use answering::answer_to;
 pub use documents::document;
 pub use entry::{first_entry, is_requeued};
 pub use opening::{Opened, open};
 pub use repeating::{has_kept_mic, repeats};
+pub use sending::{document_job, out_id};
 
 #[cfg(test)]
 mod tests;
