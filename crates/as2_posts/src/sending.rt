@@ -1,7 +1,8 @@
 //! Documents that are sent: the identifier that one gets, and the request that carries it to its partner (RFC 4130, sections
 //! 5.3 and 6; RFC 9112, section 3).
-ghost use Rattle.std.specs.Prelude.{◌≡◌, ◌++◌, List, ℕ, codes, option_map, IfOk, OnOk};
+ghost use Rattle.std.specs.Prelude.{◌≡◌, ◌⊎◌, ◌++◌, List, ℕ, codes, option_map, IfOk, IfErr, OnOk};
 ghost use Rattle.as2_exchange.specs.Jobs.{asking_fields, bracketed, document_request, identifier_value, opening, request_fields, return_field};
+ghost use Rattle.as2_exchange.specs.declared.fault.StoreFault.TheVariants as fault;
 ghost use Rattle.as2_posts.specs.Sending.{content_fields, name_fields, request_to};
 
 use as2_agreement::{Agreements, Asked, Partner, UrlText};
@@ -30,6 +31,7 @@ fn identifier_text(alloc: Global, agreements: &Agreements, number: u64) -> Resul
 /// The identifier of the document of this number: `<out-N@domain>`.
 pub fn out_id(alloc: Global, agreements: &Agreements, number: u64) -> Result<MessageId, StoreFault>
     ensures id { IfOk result (λ id. id ≡ bracketed (identifier_value agreements.now number)) }
+    ensures fault { IfErr result (λ f. (f ≡ fault.Memory) ⊎ (f ≡ fault.Refused)) }
 {
     let text = identifier_text(alloc, agreements, number)?;
     match MessageId::parse(alloc, &text) {
@@ -188,6 +190,7 @@ pub fn document_job(
     content: &Pieces,
 ) -> Result<Job, StoreFault>
     ensures job { IfOk result (λ job. job ≡ document_request agreements.now partner.now organization.now id.now content.now) }
+    ensures fault { IfErr result (λ f. (f ≡ fault.Memory) ⊎ (f ≡ fault.Refused)) }
 {
     let Some(url) = Url::parse(partner.url.as_str().as_bytes()) else {
         return Err(StoreFault::Refused);

@@ -79,14 +79,14 @@ module _ {A : Type 0} (machine : Machine) (given : State → Type 0) (asks : Typ
 
   -- what a write commits is what the machine leaves with this answer
   abbrev pub IsStep : (State → Option State) → Answer → Type 0
-  IsStep wrote answer = (s t : State) (d : Database) → Stands d s → given s → wrote s ≡ Some t → IsCounter t.next_in → machine s ≡ Some (answer, t)
+  IsStep wrote answer = (s t : State) (d : Database) → Stands d s → given s → wrote s ≡ Some t → IsCounter t.next_in × IsCounter t.next_out → machine s ≡ Some (answer, t)
 
   leaves : (wrote : State → Option State) (answer : Answer) (old new : Connected) → IsStep wrote answer → Survives old new (Commits wrote old) → Survives old new (MayLeave machine given old)
   leaves wrote answer old new is = survives_weaker old new (Commits wrote old) (MayLeave machine given old) (λ clean db may. record {
     was_open = may.was_open;
     stands = λ s rests known.
         let to = may.stands s rests in
-        inr (record { state = to.state; is = rw (is s to.state old.now (rests.stands may.was_open) known to.is to.keeps.receipts.0) refl; keeps = to.keeps });
+        inr (record { state = to.state; is = rw (is s to.state old.now (rests.stands may.was_open) known to.is (to.keeps.receipts.0, to.keeps.documents.0)) refl; keeps = to.keeps });
   })
 
   -- a write
@@ -96,7 +96,7 @@ module _ {A : Type 0} (machine : Machine) (given : State → Type 0) (asks : Typ
     is_open = λ clean _. it.is_open clean;
     answered = λ clean s rests known.
         let to = it.done clean s rests in
-        record { next = to.state; step = is s to.state old.now (rests.stands (it.was_open clean)) known to.is (to.rests.stands (it.is_open clean)).receipts.0; rests = to.rests };
+        record { next = to.state; step = is s to.state old.now (rests.stands (it.was_open clean)) known to.is (let stood = to.rests.stands (it.is_open clean) in (stood.receipts.0, stood.documents.0)); rests = to.rests };
     failed = λ clean. tt;
     fault = tt;
     crash = leaves wrote (told a) old new is it.crash;

@@ -3,3 +3,4 @@ mod Doing
 mod Numbers
 mod Playing
 mod Reaching
+mod HandedIn

@@ -5,5 +5,6 @@
 mod receiving;
 mod recording;
 mod station;
+mod submitting;
 
 pub use station::Station;
