@@ -4,11 +4,12 @@ ghost use Rattle.sqlite.specs.Held.{state};
 ghost use Rattle.as2_exchange.specs.declared.event.Event.TheVariants.{Post};
 ghost use Rattle.as2_exchange.specs.declared.answer.Answer.TheVariants.{Http};
 ghost use Rattle.as2_posts.specs.Openings.{reading_by};
-ghost use Rattle.as2_station.specs.Steps.{ClashesWhole, TakesEvent, TakesHead, TakesPost, always};
+ghost use Rattle.as2_station.specs.Steps.{ClashesWhole, RefusesSubmit, TakesEvent, TakesHead, TakesPost, always};
 ghost use Rattle.as2_station.specs.Traces.{Plays, Taken};
 
 use crate::receiving::receive;
 use crate::recording::record;
+use crate::submitting::submit;
 use as2_agreement::Agreements;
 use as2_exchange::{Answer, Event, HttpAnswer, StoreFault};
 use as2_mic::Pieces;
@@ -93,8 +94,9 @@ impl<S: Alter> Station<S> {
         }
     }
 
-    /// Takes an event. A post is taken as `post` takes it; every other event is Refused for now. A fault of the store may come
-    /// in place of any answer but those that a head alone decides, and nothing is changed then; Full where no number is left.
+    /// Takes an event. A post is taken as `post` takes it. A document is taken in under the next number; one that is refused takes
+    /// neither memory nor the store. Every other event is Refused for now. A fault of the store may come in place of any other
+    /// answer, and nothing is changed then; Full where no number is left.
     pub fn step(
         &mut self,
         alloc: Global,
@@ -103,11 +105,26 @@ impl<S: Alter> Station<S> {
     ) -> Result<Answer, StoreFault>
         ensures taken { TakesEvent agreements.now event (λ a. a) (state S.Store self.old) (state S.Store self.new) result }
         ensures of_head { TakesHead agreements.now event Http self.old self.new result }
+        ensures submitted { RefusesSubmit agreements.now event self.old self.new result }
     {
         match event {
             Event::Post { head, body, moment } => {
                 Ok(Answer::Http(self.post(alloc, agreements, &head, body, moment)?))
             }
+            Event::Submit {
+                organization,
+                partner,
+                content,
+                moment,
+            } => submit(
+                &mut self.store,
+                alloc,
+                agreements,
+                organization,
+                partner,
+                content,
+                moment,
+            ),
             _ => Err(StoreFault::Refused),
         }
     }

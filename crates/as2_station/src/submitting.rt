@@ -1,5 +1,5 @@
 //! Documents that are handed in for a partner: each gets the next number.
-ghost use Rattle.std.specs.Prelude.{◌≡◌, None, Some, Ok};
+ghost use Rattle.std.specs.Prelude.{◌≡◌, None, Some, Ok, is_none, true};
 ghost use Rattle.sqlite.specs.Held.{state};
 ghost use Rattle.as2_exchange.specs.Documents.{submit};
 ghost use Rattle.as2_exchange.specs.declared.answer.Answer.TheVariants.{Refused};
@@ -77,7 +77,7 @@ pub fn submit<S: Alter>(
     content: Pieces,
     moment: Moment,
 ) -> Result<Answer, StoreFault>
-    ensures taken { Does (λ s. submit agreements.now s organization partner content moment) always (submit_refusal agreements.now organization partner content ≡ None) (λ a. a) (state S.Store store.old) (state S.Store store.new) result }
+    ensures taken { Does (λ s. submit agreements.now s organization partner content moment) always (is_none (submit_refusal agreements.now organization partner content) ≡ true) (λ a. a) (state S.Store store.old) (state S.Store store.new) result }
     ensures refused { (reason : TheRefusal) → submit_refusal agreements.now organization partner content ≡ Some reason → result ≡ Ok (Refused reason) }
     ensures same { (reason : TheRefusal) → submit_refusal agreements.now organization partner content ≡ Some reason → store.new ≡ store.old }
 {

@@ -1,4 +1,4 @@
-use Rattle.std.proofs.Common.{◌≡◌, ◌∙◌, None, sym}
+use Rattle.std.proofs.Common.{◌≡◌, ◌∙◌, None, ap, is_none, sym}
 use Rattle.as2_exchange.specs.Readings.{out_id}
 use Rattle.as2_exchange.specs.declared.answer.Answer.TheVariants.{Submitted}
 use Rattle.as2_station.specs.Heads.{submit_refusal}
@@ -9,7 +9,7 @@ use Rattle.as2_station.proofs.submitting.submit.Goals as goal
 pub returns-in-Some-clause-taken : goal.returns-in-Some-clause-taken
 returns-in-Some-clause-taken g c =
     let refused = sym c.refusal_of.ensures ∙ c.in-Some.is in
-    at_once _ _ _ _ _ _ (λ clean asks. absurd (let both = sym refused ∙ asks in cc)) (λ clean s rests known. refuses c.args.agreements.now s c.args.organization c.args.partner c.args.content c.args.moment c.in-Some.reason refused)
+    at_once _ _ _ _ _ _ (λ clean asks. absurd (let none = sym (ap is_none refused) ∙ asks in cc)) (λ clean s rests known. refuses c.args.agreements.now s c.args.organization c.args.partner c.args.content c.args.moment c.in-Some.reason refused)
 
 pub returns-in_err-id-clause-taken : goal.returns-in_err-id-clause-taken
 returns-in_err-id-clause-taken g c =
