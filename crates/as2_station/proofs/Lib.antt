@@ -4,3 +4,4 @@ mod Numbers
 mod Playing
 mod Reaching
 mod HandedIn
+mod Begun

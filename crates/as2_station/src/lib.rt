@@ -6,5 +6,6 @@ mod receiving;
 mod recording;
 mod station;
 mod submitting;
+mod trying;
 
 pub use station::Station;
