@@ -1,5 +1,5 @@
 -- What a try makes of a document that is found, or why it doesn't begin.
-use Rattle.std.proofs.Common.{◌≡◌, ◌∙◌, ℕ, ◌==◌, ◌||◌, Bool, true, false, not, List, map, Option, option_map, Some, None, cond, is_some, nat_le, refl, sym, ap, ap₂, subst, arith}
+use Rattle.std.proofs.Common.{◌≡◌, ◌∙◌, ℕ, ◌==◌, ◌||◌, Bool, true, false, not, List, [], ◌∷◌, map, find, Option, option_map, Some, None, cond, is_some, nat_le, refl, sym, ap, ap₂, subst, arith}
 use Rattle.std.specs.Prelude.{if◌then◌else◌}
 use Rattle.std.specs.Option.{option_map_or}
 use Rattle.std.proofs.lemmas.Bool.Decides.{nat_tests}
@@ -93,3 +93,12 @@ begins A m s t db d p stands found ours known fine is =
     let left : Some (change_document s d.number (come_to (tried p d m))) ≡ Some t = ap (option_map (λ _. change_document s d.number (come_to (tried p d m)))) (sym found) ∙ is in
     let there : change_document s d.number (come_to (tried p d m)) ≡ t = cc in
     ap Some (changes s d db stands found (begun A m) (AJob (document_job A p d.organization d.id d.content)) (come_to (tried p d m)) (a_try A m d p ours known fine) ∙ ap (λ (x : State). (AJob (document_job A p d.organization d.id d.content), x)) there)
+
+-- a document that is found has the number that was asked for
+pub numbered : (n : ℕ) (ds : List OutEntry) (d : OutEntry) → find (λ (x : OutEntry). x.number == n) ds ≡ Some d → d.number ≡ n
+numbered n [] d found = absurd cc
+numbered n (x ∷ ds) d found = go (x.number == n) refl found (numbered n ds d)
+  where
+    go : (t : Bool) → (x.number == n) ≡ t → cond t (Some x) (find (λ (y : OutEntry). y.number == n) ds) ≡ Some d → (find (λ (y : OutEntry). y.number == n) ds ≡ Some d → d.number ≡ n) → d.number ≡ n
+    go true is here later = let same : x ≡ d = cc in let it : x.number ≡ n = grind (arith, nat_tests) in ap (λ (y : OutEntry). y.number) (sym same) ∙ it
+    go false is here later = later here

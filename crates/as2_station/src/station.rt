@@ -10,6 +10,7 @@ ghost use Rattle.as2_station.specs.Traces.{Plays, Taken};
 use crate::receiving::receive;
 use crate::recording::record;
 use crate::submitting::submit;
+use crate::trying::begin;
 use as2_agreement::Agreements;
 use as2_exchange::{Answer, Event, HttpAnswer, StoreFault};
 use as2_mic::Pieces;
@@ -95,7 +96,7 @@ impl<S: Alter> Station<S> {
     }
 
     /// Takes an event. A post is taken as `post` takes it. A document is taken in under the next number; one that is refused takes
-    /// neither memory nor the store. Every other event is Refused for now. A fault of the store may come in place of any other
+    /// neither memory nor the store. A try begins once it is committed. Every other event is Refused for now. A fault of the store may come in place of any other
     /// answer, and nothing is changed then; Full where no number is left.
     pub fn step(
         &mut self,
@@ -125,6 +126,9 @@ impl<S: Alter> Station<S> {
                 content,
                 moment,
             ),
+            Event::Begin { number, moment } => {
+                begin(&mut self.store, alloc, agreements, number, moment)
+            }
             _ => Err(StoreFault::Refused),
         }
     }
