@@ -1,8 +1,12 @@
 //! The station, event by event.
-ghost use Rattle.std.specs.Prelude.{◌≡◌, IfOk, OnErr};
+ghost use Rattle.std.specs.Prelude.{◌≡◌, IfOk, IfErr, OnErr, option_map, true};
 ghost use Rattle.sqlite.specs.Held.{state};
 ghost use Rattle.as2_exchange.specs.declared.event.Event.TheVariants.{Post};
 ghost use Rattle.as2_exchange.specs.declared.answer.Answer.TheVariants.{Http};
+ghost use Rattle.as2_exchange.specs.Views.{due_documents, least};
+ghost use Rattle.as2_exchange.specs.declared.next.Next.TheVariants.{Document};
+ghost use Rattle.as2_store.specs.Calls.{Reads};
+ghost use Rattle.as2_store.specs.Stands.{may_come};
 ghost use Rattle.as2_posts.specs.Openings.{reading_by};
 ghost use Rattle.as2_station.specs.Steps.{ClashesWhole, RefusesSubmit, TakesEvent, TakesHead, TakesPost, always};
 ghost use Rattle.as2_station.specs.Traces.{Plays, Taken};
@@ -12,7 +16,7 @@ use crate::recording::record;
 use crate::submitting::submit;
 use crate::trying::begin;
 use as2_agreement::Agreements;
-use as2_exchange::{Answer, Event, HttpAnswer, StoreFault};
+use as2_exchange::{Answer, Event, HttpAnswer, Next, StoreFault};
 use as2_mic::Pieces;
 use as2_posts::{Opened, document, open};
 use as2_store::Store;
@@ -130,6 +134,18 @@ impl<S: Alter> Station<S> {
                 begin(&mut self.store, alloc, agreements, number, moment)
             }
             _ => Err(StoreFault::Refused),
+        }
+    }
+
+    /// What is to be sent next at this moment: the document of the least number of which a try may begin, if there is one.
+    /// Answers Memory, Disk or Refused.
+    pub fn next(&mut self, moment: Moment) -> Result<Option<Next>, StoreFault>
+        ensures next { Reads (λ s next. next ≡ option_map Document (least (due_documents s moment))) (state S.Store self.old) (state S.Store self.new) result }
+        ensures fault { IfErr result (λ f. may_come f ≡ true) }
+    {
+        match self.store.due_out(moment)? {
+            Some(number) => Ok(Some(Next::Document(number))),
+            None => Ok(None),
         }
     }
 
