@@ -20,6 +20,7 @@ mod reading;
 mod requeuing;
 mod settling;
 mod store;
+mod submitting;
 mod waiting;
 
 pub use counters::NextNumbers;

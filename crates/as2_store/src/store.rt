@@ -15,7 +15,7 @@ ghost use Rattle.as2_store.specs.Requeuing.{requeued_in};
 ghost use Rattle.as2_store.specs.Settling.{settled_in};
 ghost use Rattle.as2_store.specs.Stands.{may_come};
 
-use crate::adding::{add, add_document};
+use crate::adding::add;
 use crate::adopting::check;
 use crate::counters::{NextNumbers, meta_rows, next_of};
 use crate::creating::make;
@@ -29,6 +29,7 @@ use crate::outbox::rows_by_id;
 use crate::progress::{Progress, set};
 use crate::requeuing::requeue;
 use crate::settling::{is_by_receipt, settle};
+use crate::submitting::add_document;
 use crate::{inbox, outbox};
 use as2_exchange::{END_OF_NUMBERS, Evidence, InEntry, OutEntry, StoreFault};
 use as2_mdn::Detail;
@@ -135,7 +136,7 @@ impl<S: Alter> Store<S> {
         ensures full_alone { end_of_numbers ≤ entry.now.number → result ≡ Err Full }
         ensures fault { IfErr result (λ f. (f ≡ Full) ⊎ (may_come f ≡ true)) }
     {
-        if entry.number >= END_OF_NUMBERS {
+        if END_OF_NUMBERS <= entry.number {
             return Err(StoreFault::Full);
         }
         if !fits(&entry.content, entry.tries, entry.due) {

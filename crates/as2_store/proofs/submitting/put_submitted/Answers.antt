@@ -1,6 +1,6 @@
 use Rattle.sqlite.specs.Held.{state}
 use Rattle.as2_store.proofs.AddedDocument.{entered_document}
-use Rattle.as2_store.proofs.adding.put_submitted.Goals as goal
+use Rattle.as2_store.proofs.submitting.put_submitted.Goals as goal
 
 pub returns-clause-put : goal.returns-clause-put
 returns-clause-put g c clean s it =

@@ -7,7 +7,7 @@ use Rattle.as2_store.specs.Calls.{IsInside, Writes}
 use Rattle.as2_store.proofs.TransactionEnds.{undone}
 use Rattle.as2_store.proofs.Committing.{inside_then, commits, gives_up, fails_to_commit}
 use Rattle.as2_store.proofs.AddedDocument.{adds_document}
-use Rattle.as2_store.proofs.adding.add_document.Goals as goal
+use Rattle.as2_store.proofs.submitting.add_document.Goals as goal
 
 pub returns-clause-added : goal.returns-clause-added
 returns-clause-added g c =
