@@ -1,11 +1,10 @@
 -- The request of a document, put together from its parts.
-use Rattle.std.proofs.Common.{◌≡◌, ◌∙◌, ◌++◌, ℕ, List, length, Option, Some, codes, sym, ap, append_assoc}
+use Rattle.std.proofs.Common.{◌≡◌, ◌∙◌, ◌++◌, ℕ, List, length, Some, codes, sym, ap, append_assoc}
 use Rattle.std.specs.Prelude.{decimal}
 use Rattle.as2_mdn.specs.Reports.{report_line}
 use Rattle.as2_text.specs.Addresses.{authority_of, url_of}
 use Rattle.as2_exchange.specs.Agreement.{Agreements, Partner, Text}
 use Rattle.as2_exchange.specs.Jobs.{address_of, address_or_nothing, asking_fields, document_fields, document_request, opening}
-use Rattle.as2_exchange.specs.declared.answer.Job.{Job}
 use Rattle.as2_posts.specs.Sending.{content_fields, name_fields, request_to}
 
 -- four texts that are appended one behind the other

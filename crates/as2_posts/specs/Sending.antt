@@ -1,5 +1,5 @@
 -- The request of a document to an address that is known, part by part (RFC 4130, sections 5.3 and 6).
-use Rattle.std.specs.Prelude.{ℕ, ◌++◌, List, length, codes, decimal}
+use Rattle.std.specs.Prelude.{◌++◌, length, codes, decimal}
 use Rattle.as2_names.specs.Names.{spelling}
 use Rattle.as2_text.specs.Addresses.{authority_of}
 use Rattle.as2_mdn.specs.Reports.{report_line}

@@ -1,5 +1,5 @@
 -- What a try makes of a document that is found, or why it doesn't begin.
-use Rattle.std.proofs.Common.{◌≡◌, ◌∙◌, ℕ, ◌||◌, Bool, true, false, Option, option_map, Some, None, Ok, Err, nat_le, refl, sym, ap}
+use Rattle.std.proofs.Common.{◌≡◌, ◌∙◌, ℕ, ◌||◌, Bool, true, false, option_map, Some, None, Ok, Err, nat_le, refl, sym, ap}
 use Rattle.std.specs.Prelude.{if◌then◌else◌}
 use Rattle.sqlite.specs.Effect.{Database}
 use Rattle.as2_exchange.specs.Agreement.{Agreements, Partner}

@@ -11,7 +11,7 @@ use Rattle.as2_exchange.specs.State.{State, document, change_document, is_settle
 use Rattle.as2_exchange.specs.Step.{acted, on_document}
 use Rattle.as2_exchange.specs.Tries.{is_idle, is_last}
 use Rattle.as2_exchange.specs.declared.answer.Answer.{Answer}
-use Rattle.as2_exchange.specs.declared.answer.Answer.TheVariants.{AlreadySettled, Delivered, Refused, Settled, TryFailed}
+use Rattle.as2_exchange.specs.declared.answer.Answer.TheVariants.{AlreadySettled, Refused, Settled, TryFailed}
 use Rattle.as2_exchange.specs.declared.answer.Refusal.{Refusal}
 use Rattle.as2_exchange.specs.declared.answer.Refusal.TheVariants.{NoOpenTry}
 use Rattle.as2_exchange.specs.declared.attempt.Attempt.TheVariants.{Idle}

@@ -1,5 +1,5 @@
 -- What calls of the store make of the machine, one after the other.
-use Rattle.std.proofs.Common.{◌≡◌, ◌⊎◌, inl, inr, Option, option_map, Some, None, Result, Ok, Err, IfOk, IfErr, IsErr, IsErrAnd, IsTrue, true, refl, sym, subst, arith}
+use Rattle.std.proofs.Common.{◌≡◌, ◌⊎◌, inl, inr, Option, option_map, Some, None, Result, Ok, Err, IsErr, IsErrAnd, IsTrue, true, refl, sym, subst}
 use Rattle.std.proofs.lemmas.Result.{IfErr-weaker, IfOk-weaker}
 use Rattle.sqlite_trees.specs.Tree.{Trees}
 use Rattle.sqlite.specs.Effect.{Database}

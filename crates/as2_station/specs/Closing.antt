@@ -1,10 +1,9 @@
 -- How a try of a document ends, and what that makes of the document.
-use Rattle.std.specs.Prelude.{ℕ, ◌+◌, Option, Some, None, if◌then◌else◌}
+use Rattle.std.specs.Prelude.{ℕ, ◌+◌, Some, None, if◌then◌else◌}
 use Rattle.as2_exchange.specs.Agreement.{Partner, Asked, NoReceipt, Sync, Async}
 use Rattle.as2_exchange.specs.Documents.{settled, settled_as}
 use Rattle.as2_exchange.specs.Posts.{ReceivedReceipt}
 use Rattle.as2_exchange.specs.Readings.{verdict}
-use Rattle.as2_exchange.specs.State.{State}
 use Rattle.as2_exchange.specs.Tries.{is_last}
 use Rattle.as2_exchange.specs.declared.answer.Answer.{Answer}
 use Rattle.as2_exchange.specs.declared.answer.Answer.TheVariants.{Delivered, Settled, TryFailed}

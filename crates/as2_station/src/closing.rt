@@ -165,11 +165,7 @@ fn end_of(
 }
 
 /// Writes how the try of the document has ended.
-fn end_try<S: Alter>(
-    store: &mut Store<S>,
-    entry: &OutEntry,
-    end: End,
-) -> Result<Answer, StoreFault>
+fn end_try<S: Alter>(store: &mut Store<S>, entry: &OutEntry, end: End) -> Result<Answer, StoreFault>
     requires open { HasCleanDisk (state S.Store store.old) → IsTrue (state S.Store store.old).is_open }
     ensures taken { Does (λ s. Some (on_document s entry.now.number (ended end))) (λ s. document s entry.now.number ≡ Some entry.now) (true ≡ true) (λ a. a) (state S.Store store.old) (state S.Store store.new) result }
 {

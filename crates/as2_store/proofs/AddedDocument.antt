@@ -1,32 +1,27 @@
 -- What the tables stand for with a document more.
-use Rattle.std.proofs.Common.{◌≡◌, ◌≢◌, ◌⊎◌, inl, inr, ℕ, ◌+◌, ◌<◌, ◌==◌, List, [], ◌∷◌, ◌++◌, map, Option, option_map, Some, None, IfSome, IsTrue, true, Ok, cond, refl, sym, ap, ap₂, subst, pos, ◌∙◌, arith, append-nil, append_assoc}
+use Rattle.std.proofs.Common.{◌≡◌, ℕ, ◌+◌, ◌<◌, ◌==◌, List, [], ◌∷◌, ◌++◌, map, option_map, Some, None, IsTrue, true, Ok, cond, refl, sym, ap, subst, ◌∙◌, arith, append-nil}
 use Rattle.std.proofs.lemmas.Bool.Decides.{nat_tests}
-use Rattle.std.specs.List.{AllByRecursion, filter, cons_option}
+use Rattle.std.specs.List.{AllByRecursion, cons_option}
 use Rattle.std.proofs.lemmas.List.Concat.{flat_map-append}
-use Rattle.std.proofs.lemmas.List.Elements.{filter-append, filter_map-append}
+use Rattle.std.proofs.lemmas.List.Elements.{filter_map-append}
 use Rattle.sqlite.specs.Store.{Ghosts}
 use Rattle.sqlite.specs.Held.{Held, state}
 use Rattle.sqlite.specs.Tree.{put_row}
 use Rattle.sqlite.specs.State.{State as Connected, HasCleanDisk, Executes}
-use Rattle.sqlite_trees.proofs.ListLemmas.{all-append, all_weaker}
 use Rattle.sql_tables.specs.Changes.{Changed, HasRows}
 use Rattle.sql_tables.proofs.Sorting.{unchanged}
 use Rattle.sql_tables.proofs.Writes.{cast_int, cast_null, IsOneRow, inserts_given}
-use Rattle.as2_mdn.specs.declared.detail.Detail.{Detail}
-use Rattle.as2_mdn.specs.declared.detail.Detail.TheVariants.{New, Sending, Awaiting, Retry, Processed, NoReceiptAsked, Warning, NoMic, UnknownMic, NotProcessed, ErrorModifier, MicDiffers, TriesUsed, Overdue}
 use Rattle.as2_exchange.specs.State.{State, end_of_numbers}
 use Rattle.as2_exchange.specs.Invariants.{AreNumbers}
-use Rattle.as2_exchange.specs.declared.attempt.Attempt.{Attempt}
-use Rattle.as2_exchange.specs.declared.attempt.Attempt.TheVariants.{Idle, Running, Last, Used}
 use Rattle.as2_exchange.specs.declared.inbox.InEntry.{InEntry}
 use Rattle.as2_exchange.specs.declared.outbox.OutEntry.{OutEntry}
 use Rattle.as2_exchange.proofs.Lists.{map_last, all_weaken}
 use Rattle.as2_exchange.proofs.WellFormed.{numbers_push}
 use Rattle.as2_rows.specs.Rows.{out_row, out_shown, evidence_row, meta_row}
 use Rattle.as2_rows.specs.Contents.{pieces, piece_shown}
-use Rattle.as2_rows.specs.Waiting.{WaitingRow, out_kind, out_waiting, waiting_in, waiting_out, to_send, to_answer, to_hear, to_end}
-use Rattle.as2_store.specs.Tables.{store_schema, meta_tree, outbox_table, outbox_tree, outbox_piece_tree, waiting_tree}
-use Rattle.as2_store.specs.Stands.{IsWhole, Stands, HasCounters, place, waiting_row, documents_waiting, all_waiting, evidence_rows, outbox_pieces}
+use Rattle.as2_rows.specs.Waiting.{out_waiting}
+use Rattle.as2_store.specs.Tables.{store_schema, meta_tree, outbox_table, outbox_tree, outbox_piece_tree}
+use Rattle.as2_store.specs.Stands.{IsWhole, Stands, HasCounters, waiting_row, all_waiting, evidence_rows, outbox_pieces}
 use Rattle.as2_store.specs.Adding.{Appended, Noted, noted_rows, IsEntered, with_document, added_document}
 use Rattle.as2_store.proofs.Statements.{out_put_text}
 use Rattle.as2_store.proofs.Texts.{out_put_terms, out_put_is, out_put_plain}

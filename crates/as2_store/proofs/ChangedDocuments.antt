@@ -1,5 +1,5 @@
 -- What the tables hold once the document of one number is changed, but for its number and its content.
-use Rattle.std.proofs.Common.{◌≡◌, ℕ, ◌<◌, ◌==◌, ◌&&◌, List, [], ◌∷◌, ◌++◌, map, filter, length, Option, option_map, Bool, true, false, cond, pos, refl, sym, ap, ap₂, subst, ◌∙◌, arith}
+use Rattle.std.proofs.Common.{◌≡◌, ℕ, ◌<◌, ◌==◌, ◌&&◌, List, [], ◌∷◌, ◌++◌, map, filter, option_map, Bool, true, false, cond, pos, refl, sym, ap, ap₂, subst, ◌∙◌, arith}
 use Rattle.std.specs.List.{AllByRecursion, cons_option}
 use Rattle.std.proofs.lemmas.List.Elements.{filter_agree}
 use Rattle.sqlite.specs.declared.types.Value.TheVariants.{Int}
@@ -10,7 +10,6 @@ use Rattle.sql_tables.specs.Changes.{passes}
 use Rattle.sql_tables.proofs.Queries.{numbers_equal}
 use Rattle.as2_exchange.specs.State.{State, change_document, end_of_numbers}
 use Rattle.as2_exchange.specs.declared.inbox.InEntry.{InEntry}
-use Rattle.as2_exchange.specs.declared.outbox.Evidence.{Evidence}
 use Rattle.as2_exchange.specs.declared.outbox.OutEntry.{OutEntry}
 use Rattle.as2_exchange.proofs.Lists.{all_weaken, map_kept}
 use Rattle.as2_rows.specs.Rows.{out_row, evidence_row}

@@ -1,15 +1,15 @@
 -- What is due, as the queries of what waits show it.
-use Rattle.std.proofs.Common.{◌≡◌, ℕ, ◌+◌, ◌*◌, ◌<◌, ◌≤◌, ◌==◌, ◌&&◌, nat_le, nat_lt, List, [], ◌∷◌, ◌++◌, map, take, filter, length, Option, Some, None, IfSome, Bool, true, false, cond, Less, refl, sym, ap, ap₂, subst, pos, ◌∙◌, arith}
-use Rattle.std.specs.List.{AllByRecursion, filter_map}
+use Rattle.std.proofs.Common.{◌≡◌, ℕ, ◌+◌, ◌*◌, ◌<◌, ◌==◌, ◌&&◌, nat_le, nat_lt, List, [], ◌∷◌, ◌++◌, map, take, filter, Option, Some, None, IfSome, Bool, true, false, cond, Less, refl, sym, ap, ap₂, pos, ◌∙◌, arith}
+use Rattle.std.specs.List.{AllByRecursion}
 use Rattle.std.proofs.lemmas.Int.{ints}
 use Rattle.std.proofs.lemmas.Bool.Decides.{nat_tests}
-use Rattle.std.proofs.lemmas.List.Elements.{filter-append, filter_agree}
+use Rattle.std.proofs.lemmas.List.Elements.{filter_agree}
 use Rattle.sqlite.specs.declared.types.Value.TheVariants.{Int}
 use Rattle.sqlite.specs.Collation.TheVariants.{Binary}
 use Rattle.sqlite.specs.Ops.{binary, is_true}
 use Rattle.sqlite.specs.Order.{Row, value_cmp}
 use Rattle.sqlite.specs.Term.{lit}
-use Rattle.sqlite.specs.Tree.{IsTable, IsAscending}
+use Rattle.sqlite.specs.Tree.{IsAscending}
 use Rattle.sqlite.specs.Command.TheVariants.{Select}
 use Rattle.sqlite.specs.State.{State as Connected, Shown}
 use Rattle.sqlite.proofs.Callers.{reads_as}
@@ -158,5 +158,5 @@ finds_least kind m old new rows h s r =
     let up = ascending-filter _ (λ w. w.kind == kind && is_due m w.due) (all_waiting s) (ascending_from_map _ waiting_row (all_waiting s) table) in
     shows_entries waiting_tree least_due_terms due_columns (lit (Int (pos 1))) old.now.trees (least_params kind m) rows waiting_row (is_between kind m) number_shown (least_passes kind m) (λ _. refl) (all_waiting s) it.entries.waits table read.answer
     ∙ ap (λ ws. take 1 (map number_shown ws)) (filter_same (is_between kind m) (λ w. w.kind == kind && is_due m w.due) (all_waiting s)
-      (all_weaker (λ w. w.number < end_of_numbers) (λ w. is_between kind m w ≡ (w.kind == kind && is_due m w.due)) (λ w small. same_kind kind m w small) (all_waiting s) (numbers_small old s it)))
+    (all_weaker (λ w. w.number < end_of_numbers) (λ w. is_between kind m w ≡ (w.kind == kind && is_due m w.due)) (λ w small. same_kind kind m w small) (all_waiting s) (numbers_small old s it)))
     ∙ first_shown (due_waiting kind m s) (numbers_rise kind (due_waiting kind m s) (of_the_kind kind m (all_waiting s)) up)

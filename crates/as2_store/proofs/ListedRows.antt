@@ -1,6 +1,5 @@
 -- Rows that are read one at a time, and what is listed of them.
-use Rattle.std.proofs.Common.{◌≡◌, ◌⊎◌, ◌∙◌, ℕ, inl, inr, List, [], ◌∷◌, ◌++◌, map, Option, None, Some, Result, Ok, Err, IsTrue, refl, sym, ap, ap₂, subst, arith}
-use Rattle.sqlite_trees.specs.Tree.{Trees}
+use Rattle.std.proofs.Common.{◌≡◌, ◌⊎◌, ◌∙◌, ℕ, inl, inr, List, [], ◌∷◌, ◌++◌, map, None, Some, Ok, Err, IsTrue, refl, sym, ap, ap₂, subst, arith}
 use Rattle.sqlite.specs.Effect.{Database}
 use Rattle.sqlite.specs.Given.{Advances, HasBegun, HasGiven}
 use Rattle.sqlite.specs.Held.{Held, state}

@@ -1,61 +1,47 @@
 -- What the tables stand for once a receipt has settled a document.
-use Rattle.std.proofs.Common.{◌≡◌, ℕ, ◌<◌, ◌^◌, ◌==◌, ◌&&◌, not, List, [], ◌∷◌, ◌++◌, map, filter, find, length, Option, option_map, Some, None, IfSome, is_some, Bool, true, false, cond, Ok, refl, sym, ap, ap₂, subst, ◌∙◌, ◌≢◌, ◌≤◌, nat_lt, inl, inr, IsTrue, pos, arith, w64, to_z, of_z}
+use Rattle.std.proofs.Common.{◌≡◌, ℕ, ◌<◌, ◌^◌, ◌==◌, List, [], ◌∷◌, map, filter, find, length, Option, option_map, Some, None, is_some, Bool, true, false, cond, Ok, refl, sym, ap, ap₂, subst, ◌∙◌, ◌≢◌, ◌≤◌, nat_lt, inl, inr, IsTrue, pos, arith, w64, to_z, of_z}
 use Rattle.std.specs.List.{AllByRecursion, cons_option}
 use Rattle.std.specs.Ordering.{match_ordering}
-use Rattle.std.proofs.lemmas.Int.{ints}
 use Rattle.std.proofs.lemmas.Bool.{cases_Bool}
 use Rattle.std.proofs.lemmas.Bool.Decides.{nat_tests}
-use Rattle.std.proofs.lemmas.List.Elements.{filter-append, filter_agree}
 use Rattle.sqlite.specs.declared.types.Value.TheVariants.{Int}
-use Rattle.sqlite.specs.Collation.TheVariants.{Binary}
-use Rattle.sqlite.specs.Ops.{binary, is_true, from_truth}
 use Rattle.sqlite.specs.Effect.{Database}
-use Rattle.sqlite.specs.Order.{Row, value_cmp}
+use Rattle.sqlite.specs.Order.{Row}
 use Rattle.sqlite.specs.Tree.{put_row, IsAscending}
 use Rattle.sqlite.specs.Edit.{are_fresh}
 use Rattle.sqlite.specs.Store.{Ghosts}
 use Rattle.sqlite.specs.Held.{Held, state}
 use Rattle.sqlite.specs.State.{State as Connected, HasCleanDisk, Executes}
-use Rattle.sqlite_sql.specs.declared.ops.BinaryOp.TheVariants.{Compare}
-use Rattle.sqlite_sql.specs.declared.ops.CompareOp.TheVariants.{Ne}
-use Rattle.std.specs.Ordering.{is_ne}
-use Rattle.sqlite_value.proofs.OrderLemmas.{value_cmp-Int}
-use Rattle.sqlite_trees.proofs.ListLemmas.{all_weaker, filter_all}
-use Rattle.sql_tables.specs.Changes.{Changed, HasRows, passes}
+use Rattle.sql_tables.specs.Changes.{Changed, HasRows}
 use Rattle.sql_tables.proofs.Sorting.{unchanged}
 use Rattle.sql_tables.proofs.Changing.{updates}
-use Rattle.sql_tables.proofs.Deleting.{deletes}
-use Rattle.sql_tables.proofs.Queries.{numbers_equal}
 use Rattle.sql_tables.proofs.Writes.{cast_int, cast_null, IsOneRow, inserts_given, inserts_fresh}
 use Rattle.as2_mdn.specs.declared.detail.Detail.{Detail}
 use Rattle.as2_mdn.specs.declared.detail.Detail.TheVariants.{New, Sending, Awaiting, Retry, Processed, NoReceiptAsked, Warning, NoMic, UnknownMic, NotProcessed, ErrorModifier, MicDiffers, TriesUsed, Overdue}
 use Rattle.as2_exchange.specs.State.{State, end_of_numbers, document, change_document, is_settled}
 use Rattle.as2_exchange.specs.Invariants.{AreNumbers, is_by_receipt}
-use Rattle.as2_exchange.specs.declared.attempt.Attempt.{Attempt}
-use Rattle.as2_exchange.specs.declared.attempt.Attempt.TheVariants.{Idle, Running, Last, Used}
-use Rattle.as2_exchange.specs.declared.inbox.InEntry.{InEntry}
+use Rattle.as2_exchange.specs.declared.attempt.Attempt.TheVariants.{Idle}
 use Rattle.as2_exchange.specs.declared.outbox.Evidence.{Evidence}
 use Rattle.as2_exchange.specs.declared.outbox.OutEntry.{OutEntry}
-use Rattle.as2_exchange.proofs.Lists.{map_kept}
 use Rattle.as2_rows.specs.Rows.{out_row, evidence_row, evidence_shown}
 use Rattle.as2_rows.specs.Codes.{detail_code}
-use Rattle.as2_rows.specs.Contents.{pieces, piece_shown}
-use Rattle.as2_rows.specs.Waiting.{WaitingRow, out_kind, out_waiting, waiting_out, waiting_in, to_send, to_answer, to_hear, to_end}
-use Rattle.as2_store.specs.Tables.{store_schema, outbox_table, outbox_tree, outbox_piece_tree, evidence_table, evidence_tree, waiting_table, waiting_tree}
+use Rattle.as2_rows.specs.Contents.{piece_shown}
+use Rattle.as2_rows.specs.Waiting.{WaitingRow, out_kind}
+use Rattle.as2_store.specs.Tables.{store_schema, outbox_table, outbox_tree, outbox_piece_tree, evidence_table, evidence_tree}
 use Rattle.as2_store.proofs.Statements.{out_settle_text, evidence_put_text}
-use Rattle.as2_store.specs.Stands.{IsWhole, Stands, place, waiting_row, documents_waiting, all_waiting, evidence_rows, outbox_pieces}
+use Rattle.as2_store.specs.Stands.{IsWhole, Stands, place, waiting_row, all_waiting, evidence_rows}
 use Rattle.as2_store.specs.Adding.{noted_rows}
 use Rattle.as2_store.specs.Requeuing.{HoldsWaiting, Renewed}
 use Rattle.as2_exchange.specs.Documents.{settled_as}
 use Rattle.as2_store.specs.Settling.{settled_in, without_document}
 use Rattle.as2_store.proofs.Committing.{FollowsEach}
 use Rattle.as2_store.proofs.Unsettled.{some_found, fresh_unsettled}
-use Rattle.as2_store.proofs.MetaRow.{one_param, fits_i64}
+use Rattle.as2_store.proofs.MetaRow.{fits_i64}
 use Rattle.as2_store.proofs.NumberedRows.{numbers_rise, entries_rise, rises, falls}
 use Rattle.as2_store.proofs.ChangedDocuments.{changed_rows, numbered, same_numbers, same_pieces, waits_changed}
 use Rattle.as2_store.proofs.NumberedEntries.{Split, out_number, split}
 use Rattle.as2_store.proofs.RequeuedTables.{places_in_order}
-use Rattle.as2_store.proofs.QueriedRows.{and_true, found_all}
+use Rattle.as2_store.proofs.QueriedRows.{found_all}
 use Rattle.as2_store.proofs.ForeignKeys.{quiet}
 use Rattle.as2_store.proofs.Texts.{number_terms, settle_project, out_settle_is, out_settle_plain, evidence_put_terms, evidence_put_is, evidence_put_plain}
 

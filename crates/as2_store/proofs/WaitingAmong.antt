@@ -1,19 +1,19 @@
 -- What a document waits for, among all that waits: put in, and taken out.
 use Rattle.std.proofs.Common.{◌≡◌, ◌⊎◌, inl, inr, ℕ, ◌<◌, ◌==◌, List, [], ◌∷◌, ◌++◌, map, Option, option_map, Some, None, IfSome, Bool, true, false, cond, refl, sym, ap, ap₂, subst, ◌∙◌, arith, append_assoc}
-use Rattle.std.specs.List.{AllByRecursion, filter, filter_map, cons_option}
+use Rattle.std.specs.List.{AllByRecursion, filter, cons_option}
 use Rattle.std.proofs.lemmas.Bool.Decides.{nat_tests}
 use Rattle.std.proofs.lemmas.List.Elements.{filter-append, filter_map-append}
 use Rattle.sqlite.specs.Tree.{put_row}
 use Rattle.sqlite_trees.proofs.ListLemmas.{all-append, all-map, all_weaker}
 use Rattle.as2_mdn.specs.declared.detail.Detail.{Detail}
 use Rattle.as2_mdn.specs.declared.detail.Detail.TheVariants.{New, Sending, Awaiting, Retry, Processed, NoReceiptAsked, Warning, NoMic, UnknownMic, NotProcessed, ErrorModifier, MicDiffers, TriesUsed, Overdue}
-use Rattle.as2_exchange.specs.State.{State, end_of_numbers}
+use Rattle.as2_exchange.specs.State.{end_of_numbers}
 use Rattle.as2_exchange.specs.declared.attempt.Attempt.{Attempt}
 use Rattle.as2_exchange.specs.declared.attempt.Attempt.TheVariants.{Idle, Running, Last, Used}
 use Rattle.as2_exchange.specs.declared.inbox.InEntry.{InEntry}
 use Rattle.as2_exchange.specs.declared.outbox.OutEntry.{OutEntry}
 use Rattle.as2_rows.specs.Waiting.{WaitingRow, out_kind, out_waiting, waiting_in, waiting_out, to_send, to_answer, to_hear, to_end}
-use Rattle.as2_store.specs.Stands.{place, waiting_row, documents_waiting, all_waiting}
+use Rattle.as2_store.specs.Stands.{place, waiting_row, documents_waiting}
 use Rattle.as2_store.specs.Adding.{noted_rows}
 use Rattle.as2_store.specs.Requeuing.{not_at}
 use Rattle.as2_store.specs.Settling.{place_of, without_document}

@@ -1,8 +1,6 @@
 -- A document comes further.
-use Rattle.std.specs.Prelude.{ℕ, Option, Some, None, option_map, IfSome, ◌<◌, ◌^◌}
-use Rattle.as2_mdn.specs.declared.detail.Detail.{Detail}
+use Rattle.std.specs.Prelude.{ℕ, Option, option_map, IfSome, ◌<◌, ◌^◌}
 use Rattle.as2_exchange.specs.State.{State, document, change_document}
-use Rattle.as2_exchange.specs.declared.attempt.Attempt.{Attempt}
 use Rattle.as2_exchange.specs.declared.outbox.OutEntry.{OutEntry}
 use Rattle.as2_rows.specs.Waiting.{WaitingRow, out_kind}
 use Rattle.as2_store.specs.declared.progress.Progress.{Progress}

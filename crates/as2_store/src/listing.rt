@@ -19,10 +19,7 @@ use sqlite::{Alter, Connection, params};
 use std::alloc::Global;
 
 /// The entries of the inbox in order of number, each with the length of its content in place of the content.
-pub fn entries<S: Alter>(
-    conn: &mut Connection<S>,
-    alloc: Global,
-) -> Result<Vec<InRow>, StoreFault>
+pub fn entries<S: Alter>(conn: &mut Connection<S>, alloc: Global) -> Result<Vec<InRow>, StoreFault>
     requires autocommit { conn.old.in_transaction ≡ false }
     requires open { HasCleanDisk (state S.Store conn.old) → IsTrue (state S.Store conn.old).is_open }
     ensures autocommit { conn.new.in_transaction ≡ false }

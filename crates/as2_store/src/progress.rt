@@ -61,11 +61,7 @@ fn set_progress<S: Alter>(
 }
 
 /// Sets how far the document of this number has come. No row is said to have the number of no document.
-pub fn set<S: Alter>(
-    conn: &mut Connection<S>,
-    number: u64,
-    progress: Progress,
-) -> Result<(), Error>
+pub fn set<S: Alter>(conn: &mut Connection<S>, number: u64, progress: Progress) -> Result<(), Error>
     requires autocommit { conn.old.in_transaction ≡ false }
     requires fits { FitsProgress progress }
     ensures autocommit { conn.new.in_transaction ≡ false }

@@ -1,4 +1,4 @@
-use Rattle.std.proofs.Common.{◌≡◌, ◌∙◌, Ok, Err, sym, refl}
+use Rattle.std.proofs.Common.{◌≡◌, Ok, Err, sym, refl}
 use Rattle.as2_mdn.specs.ReportReading.{reading}
 use Rattle.as2_exchange.specs.Readings.{report_in, verdict}
 use Rattle.as2_station.proofs.closing.by_receipt.Goals as goal

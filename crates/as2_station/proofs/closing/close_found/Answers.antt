@@ -1,4 +1,4 @@
-use Rattle.std.proofs.Common.{◌≡◌, ◌∙◌, Some, sym, ap}
+use Rattle.std.proofs.Common.{◌∙◌, Some, sym, ap}
 use Rattle.as2_exchange.specs.Documents.{closed}
 use Rattle.as2_station.specs.Closing.{ended}
 use Rattle.as2_station.proofs.Acting.{acts_alike, leaves}

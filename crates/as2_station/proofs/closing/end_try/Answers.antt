@@ -1,4 +1,4 @@
-use Rattle.std.proofs.Common.{◌≡◌, inr, refl}
+use Rattle.std.proofs.Common.{inr, refl}
 use Rattle.as2_exchange.specs.declared.answer.Answer.TheVariants.{Delivered, Settled, TryFailed}
 use Rattle.as2_station.proofs.Closed.{ends_at, ends_by_receipt}
 use Rattle.as2_station.proofs.Doing.{never_full, passed_on, written, unwritten}

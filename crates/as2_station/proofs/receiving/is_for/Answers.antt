@@ -1,4 +1,4 @@
-use Rattle.std.proofs.Common.{◌≡◌, ◌∙◌, ◌&&◌, sym, ap}
+use Rattle.std.proofs.Common.{◌∙◌, ◌&&◌, sym, ap}
 use Rattle.as2_exchange.specs.State.{is_begun}
 use Rattle.as2_station.proofs.receiving.is_for.Goals as goal
 

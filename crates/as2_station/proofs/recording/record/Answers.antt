@@ -1,6 +1,6 @@
 use Rattle.std.proofs.Common.{◌≡◌, ◌∙◌, Some, None, Ok, true, sym, refl, ap, subst}
 use Rattle.as2_exchange.specs.Readings.{value_of}
-use Rattle.as2_exchange.specs.State.{State, received_as}
+use Rattle.as2_exchange.specs.State.{received_as}
 use Rattle.as2_exchange.specs.Recording.{answer_to, record_post}
 use Rattle.as2_exchange.specs.Lines.{refusal}
 use Rattle.as2_exchange.specs.declared.answer.Line.TheVariants.{IdUsedBefore}

@@ -1,4 +1,4 @@
-use Rattle.std.proofs.Common.{◌≡◌, ◌∙◌, Some, None, inr, sym, ap}
+use Rattle.std.proofs.Common.{◌∙◌, Some, inr, sym, ap}
 use Rattle.as2_exchange.specs.Readings.{document_job}
 use Rattle.as2_exchange.specs.declared.answer.Answer.TheVariants.{Job}
 use Rattle.as2_station.proofs.Acting.{leaves}

@@ -1,7 +1,7 @@
-use Rattle.std.proofs.Common.{◌≡◌, ◌∙◌, ℕ, Option}
+use Rattle.std.proofs.Common.{◌≡◌, ◌∙◌}
 use Rattle.as2_exchange.specs.Views.{least}
 use Rattle.as2_rows.specs.Waiting.{kind_code}
-use Rattle.as2_store.specs.Due.{due_numbers, number_rows}
+use Rattle.as2_store.specs.Due.{due_numbers}
 use Rattle.as2_store.proofs.Querying.{read_bad, read_if, read_then}
 use Rattle.as2_store.proofs.due.least_due.Goals as goal
 

@@ -1,4 +1,4 @@
-use Rattle.std.proofs.Common.{rules, Vec, Global, ◌≡◌, ◌∙◌, ◌++◌, inl, inr, ◌∷◌, map, filter, ap, Some, None, Ok, Err, refl, sym, subst, arith}
+use Rattle.std.proofs.Common.{rules, Vec, Global, ◌≡◌, ◌∙◌, inl, map, filter, ap, Some, None, Ok, Err, refl, sym, subst, arith}
 use Rattle.sqlite.specs.Given.{Advances, row_if}
 use Rattle.sqlite.specs.Held.{state}
 use Rattle.sqlite.specs.Values.{bound}
@@ -58,9 +58,10 @@ returns-in_default-clause-documents g c =
     (lists _ old new _ c.requires.open (λ clean. (moved.same clean).0.is_open) (still_nothing old mid new c.rows.invariant.2 c.advance.ensures.survives)
     (λ clean s r.
     let it = c.rows.invariant.3 (omega (arith, c.advance.ensures.survives.clean, clean)) s r in
-    let before = rests_still old mid s r (inl it.same) in
-    (rests_still mid new s before (inl (moved.same clean)),
-    it.read _ (lists_between c.args.wanted mid new it.given (rw c.requires.codes at (all_given g.S.Store out_by_details_text (bound c.args.codes.now) out_shown (λ ds. map out_summary (filter (is_in c.args.wanted) ds)) c.args.conn.now c.rows.rows.conn.now now _ it (subst (Advances g.S.Store c.rows.rows.conn.now now) none (moved.ok clean)))) s before) ∙ ap (map out_summary) (kept_all c.args.wanted s.outbox))))
+    let before = rests_still old mid s r (inl it.same) in (
+      rests_still mid new s before (inl (moved.same clean)),
+      it.read _ (lists_between c.args.wanted mid new it.given (rw c.requires.codes at (all_given g.S.Store out_by_details_text (bound c.args.codes.now) out_shown (λ ds. map out_summary (filter (is_in c.args.wanted) ds)) c.args.conn.now c.rows.rows.conn.now now _ it (subst (Advances g.S.Store c.rows.rows.conn.now now) none (moved.ok clean)))) s before) ∙ ap (map out_summary) (kept_all c.args.wanted s.outbox),
+    )))
 
 pub returns-in_err-document-clause-documents : goal.returns-in_err-document-clause-documents
 returns-in_err-document-clause-documents g c =
@@ -100,11 +101,12 @@ rows-preserved g c =
     let moved = c.in-Ok-advance.ensures in
     let some : row_if c.advance.new.self.has_row now ≡ Some c.in-Some.row.now = rw c.in-Some.is at (sym c.get.ensures) in
     let told : c.read.result ≡ Ok c.in_ok-document.document = told_ok _ _ _ _ c.map_err.ensures.cases c.in_ok-document.was in
-    let read = rw told at c.read.ensures.read in
-    (c.advance.ensures.same_reference ∙ c.rows.invariant.0,
-    c.advance.ensures.mode c.rows.invariant.1,
-    still_nothing old mid (state g.S.Store now) c.rows.invariant.2 c.advance.ensures.survives,
-    λ clean s r.
-    let it = c.rows.invariant.3 (omega (arith, c.advance.ensures.survives.clean, clean)) s r in
-    one_more g.S.Store out_by_details_text (bound c.args.codes.now) out_shown (λ ds. map out_summary (filter (is_in c.args.wanted) ds)) c.args.conn.now c.rows.rows.conn.now now _ it c.in-Some.row.now _ (subst (Advances g.S.Store c.rows.rows.conn.now now) some (moved.ok clean)) (moved.same clean)
-    (λ ds d here so_far. c.in_ok-list_if.ensures.listed ∙ one_more_document c.args.wanted ds d _ _ so_far (read d here)))
+    let read = rw told at c.read.ensures.read in (
+      c.advance.ensures.same_reference ∙ c.rows.invariant.0,
+      c.advance.ensures.mode c.rows.invariant.1,
+      still_nothing old mid (state g.S.Store now) c.rows.invariant.2 c.advance.ensures.survives,
+      λ clean s r.
+          let it = c.rows.invariant.3 (omega (arith, c.advance.ensures.survives.clean, clean)) s r in
+          one_more g.S.Store out_by_details_text (bound c.args.codes.now) out_shown (λ ds. map out_summary (filter (is_in c.args.wanted) ds)) c.args.conn.now c.rows.rows.conn.now now _ it c.in-Some.row.now _ (subst (Advances g.S.Store c.rows.rows.conn.now now) some (moved.ok clean)) (moved.same clean)
+          (λ ds d here so_far. c.in_ok-list_if.ensures.listed ∙ one_more_document c.args.wanted ds d _ _ so_far (read d here)),
+    )

@@ -1,4 +1,4 @@
-use Rattle.std.proofs.Common.{rules, Vec, Global, ◌≡◌, ◌∙◌, ◌++◌, inl, inr, [], ◌∷◌, map, Some, None, Ok, Err, refl, sym, subst, arith}
+use Rattle.std.proofs.Common.{rules, Vec, Global, ◌≡◌, ◌∙◌, ◌++◌, inl, [], ◌∷◌, map, Some, None, Ok, Err, refl, sym, subst, arith}
 use Rattle.sqlite.specs.Given.{Advances, row_if}
 use Rattle.sqlite.specs.Held.{state}
 use Rattle.sql_tables.proofs.Inside.{fails_to_query}
@@ -56,9 +56,10 @@ returns-in_default-clause-entries g c =
     (lists _ old new _ c.requires.open (λ clean. (moved.same clean).0.is_open) (still_nothing old mid new c.rows.invariant.2 c.advance.ensures.survives)
     (λ clean s r.
     let it = c.rows.invariant.3 (omega (arith, c.advance.ensures.survives.clean, clean)) s r in
-    let before = rests_still old mid s r (inl it.same) in
-    (rests_still mid new s before (inl (moved.same clean)),
-    it.read s.inbox (lists_all mid new it.given (all_given g.S.Store in_all_text [] in_shown (map in_summary) c.args.conn.now c.rows.rows.conn.now now _ it (subst (Advances g.S.Store c.rows.rows.conn.now now) none (moved.ok clean))) s before))))
+    let before = rests_still old mid s r (inl it.same) in (
+      rests_still mid new s before (inl (moved.same clean)),
+      it.read s.inbox (lists_all mid new it.given (all_given g.S.Store in_all_text [] in_shown (map in_summary) c.args.conn.now c.rows.rows.conn.now now _ it (subst (Advances g.S.Store c.rows.rows.conn.now now) none (moved.ok clean))) s before),
+    )))
 
 pub returns-in_err-entry-clause-entries : goal.returns-in_err-entry-clause-entries
 returns-in_err-entry-clause-entries g c =
@@ -98,11 +99,12 @@ rows-preserved g c =
     let some : row_if c.advance.new.self.has_row now ≡ Some c.in-Some.row.now = rw c.in-Some.is at (sym c.get.ensures) in
     let told : c.read.result ≡ Ok c.in_ok-entry.entry = told_ok _ _ _ _ c.map_err.ensures.cases c.in_ok-entry.was in
     let read = rw told at c.read.ensures.read in
-    let pushed : c.push.new.self.items ≡ c.rows.entries.items ++ c.in_ok-entry.entry ∷ [] = search rules in
-    (c.advance.ensures.same_reference ∙ c.rows.invariant.0,
-    c.advance.ensures.mode c.rows.invariant.1,
-    still_nothing old mid (state g.S.Store now) c.rows.invariant.2 c.advance.ensures.survives,
-    λ clean s r.
-    let it = c.rows.invariant.3 (omega (arith, c.advance.ensures.survives.clean, clean)) s r in
-    rw pushed (one_more g.S.Store in_all_text [] in_shown (map in_summary) c.args.conn.now c.rows.rows.conn.now now _ it c.in-Some.row.now _ (subst (Advances g.S.Store c.rows.rows.conn.now now) some (moved.ok clean)) (moved.same clean)
-    (λ es e here so_far. one_more_entry es e _ _ so_far (read e here))))
+    let pushed : c.push.new.self.items ≡ c.rows.entries.items ++ c.in_ok-entry.entry ∷ [] = search rules in (
+      c.advance.ensures.same_reference ∙ c.rows.invariant.0,
+      c.advance.ensures.mode c.rows.invariant.1,
+      still_nothing old mid (state g.S.Store now) c.rows.invariant.2 c.advance.ensures.survives,
+      λ clean s r.
+          let it = c.rows.invariant.3 (omega (arith, c.advance.ensures.survives.clean, clean)) s r in
+          rw pushed (one_more g.S.Store in_all_text [] in_shown (map in_summary) c.args.conn.now c.rows.rows.conn.now now _ it c.in-Some.row.now _ (subst (Advances g.S.Store c.rows.rows.conn.now now) some (moved.ok clean)) (moved.same clean)
+          (λ es e here so_far. one_more_entry es e _ _ so_far (read e here))),
+    )

@@ -1,6 +1,5 @@
-use Rattle.std.proofs.Common.{refl, true, rules, ◌≡◌, subst, arith, Ok, Err}
+use Rattle.std.proofs.Common.{true, rules, ◌≡◌, subst, arith, Ok}
 use Rattle.sqlite.specs.Held.{state}
-use Rattle.sqlite.specs.declared.error.Error.TheVariants.{QueryReturnedNoRows}
 use Rattle.as2_store.specs.Progressing.{set_in}
 use Rattle.as2_store.specs.Calls.{IsInside, Writes}
 use Rattle.as2_store.proofs.TransactionEnds.{undone}

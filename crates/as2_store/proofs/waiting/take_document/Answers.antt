@@ -1,4 +1,3 @@
-use Rattle.std.proofs.Common.{◌≡◌}
 use Rattle.sqlite.specs.Held.{state}
 use Rattle.as2_rows.specs.Waiting.{to_send, to_hear, to_end}
 use Rattle.as2_store.proofs.WaitingPlaces.{still_held, taken_then}
