@@ -65,8 +65,8 @@ in_all_text = codes "SELECT number, sender, receiver, identifier_value, identifi
 abbrev pub in_pieces_text : List ℕ
 in_pieces_text = codes "SELECT number, position, bytes FROM inbox_piece WHERE number = ?1 ORDER BY position"
 
-abbrev pub in_requeue_text : List ℕ
-in_requeue_text = codes "UPDATE inbox SET mdn = 2, tries = 0, attempt = 1, due = ?2 WHERE number = ?1"
+abbrev pub in_set_text : List ℕ
+in_set_text = codes "UPDATE inbox SET mdn = ?2, tries = ?3, attempt = ?4, due = ?5 WHERE number = ?1"
 
 -- ---- the outbox
 

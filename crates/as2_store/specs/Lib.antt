@@ -5,6 +5,7 @@ pub mod Adding
 pub mod Finding
 pub mod Listing
 pub mod Requeuing
+pub mod Owing
 pub mod Due
 pub mod Settling
 pub mod Progressing
