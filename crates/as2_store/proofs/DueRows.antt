@@ -35,7 +35,7 @@ use Rattle.as2_store.proofs.Statements.{any_due_text, least_due_text}
 use Rattle.as2_store.proofs.Texts.{due_columns, any_due_terms, any_due_is, any_due_plain, any_due_unlisted, least_due_terms, least_due_is, least_due_plain, least_due_unlisted}
 use Rattle.as2_store.proofs.QueriedRows.{and_true}
 use Rattle.as2_store.proofs.WaitingRows.{IsOf, documents_of, ins_small}
-use Rattle.as2_store.proofs.RequeuedTables.{places_in_order}
+use Rattle.as2_store.proofs.OwedTables.{places_in_order}
 
 -- ---- what the statements ask
 

@@ -1,0 +1,20 @@
+use Rattle.std.proofs.Common.{◌≡◌, pos, Ok}
+use Rattle.sqlite.specs.Held.{state}
+use Rattle.sqlite.specs.State.{Executes}
+use Rattle.sql_tables.proofs.Inside.{made, stays}
+use Rattle.as2_store.proofs.Statements.{out_pass_text}
+use Rattle.as2_store.proofs.SettledTables.{passed_detail}
+use Rattle.as2_store.proofs.PassedTables.{pass_params, passes_one}
+use Rattle.as2_store.proofs.expiring.pass.Goals as goal
+
+pub returns-clause-put : goal.returns-clause-put
+returns-clause-put g c clean n ds is it =
+    let old = state g.S.Store c.args.tx.now.conn.now in
+    let new = state g.S.Store c.execute.new.self.conn.now in
+    let detail = c.args.detail in
+    let ran = (made g.S.Store _ _ c.args.tx.now.conn.now c.execute.new.self.conn.now c.execute.result _ c.execute.ensures.ended (c.execute.ensures.runs clean) c.in_ok-execute.field-0 c.in_ok-execute.was).2 in
+    let went : Executes out_pass_text (pass_params n detail) old new (Ok c.in_ok-execute.field-0) = rw (c.params-to_sql.ensures, c.params-to_sql-2.ensures, c.detail_code.ensures, passed_detail detail, is) at ran in
+    passes_one n c.in_ok-execute.field-0 detail old new ds it went
+
+pub returns-clause-inside : goal.returns-clause-inside
+returns-clause-inside g c clean = stays g.S.Store _ _ c.args.tx.now.conn.now c.execute.new.self.conn.now c.execute.result _ c.execute.ensures.ended (c.execute.ensures.runs clean) c.in_ok-execute.field-0 c.in_ok-execute.was
