@@ -6,7 +6,7 @@ ghost use Rattle.as2_mic.specs.Pieces.{AreWhole, IsKeptAs, joined_pieces, piece_
 
 use crate::{Alg, Digester, MicText};
 use as2_names::Memory;
-use std::alloc::Global;
+use std::alloc::{AllocError, Global};
 use std::cmp::min;
 use std::marker::Model;
 use std::mem;
@@ -175,15 +175,22 @@ impl Pieces {
         true
     }
 
+    /// Appends the content to a text. Where memory runs out, a part of it may be appended.
+    pub fn append_to(&self, text: &mut Vec<u8>) -> Result<(), AllocError>
+        ensures { OnOk result (text.new.items ≡ text.old.items ++ self.now) }
+    {
+        for piece in &self.full {
+            text.extend_from_slice(piece.as_slice())?;
+        }
+        text.extend_from_slice(self.last.as_slice())
+    }
+
     /// All bytes in one piece of memory.
     pub fn joined(&self) -> Result<Vec<u8>, Memory>
         ensures { IfOk result (λ v. v.items ≡ self.now) }
     {
         let mut all = Vec::with_capacity(self.alloc, self.len())?;
-        for piece in &self.full {
-            all.extend_from_slice(piece.as_slice())?;
-        }
-        all.extend_from_slice(self.last.as_slice())?;
+        self.append_to(&mut all)?;
         Ok(all)
     }
 }

@@ -1,3 +1,4 @@
 pub mod Openings
 pub mod Documents
 pub mod Answers
+pub mod Sending

@@ -1,6 +1,7 @@
 -- A post whose head is in order as far as its content type.
+use Rattle.std.specs.Prelude.{Option, option_map}
 use Rattle.as2_exchange.specs.Agreement.{Text}
-use Rattle.as2_exchange.specs.Readings.{Head, MediaType, Receipt}
+use Rattle.as2_exchange.specs.Readings.{Head, MediaType, Receipt, report_in}
 use Rattle.as2_exchange.specs.Posts.{ReceivedReceipt, Reading, received_receipt, report_posted, document_posted, read_further}
 use Rattle.as2_posts.specs.declared.opening.Opened.{Opened}
 
@@ -24,3 +25,7 @@ document_by opened head body = document_posted (names_in opened) (opened_type op
 
 abbrev pub reading_by : Opened → Head → Text → Reading
 reading_by opened head body = read_further (names_in opened) (opened_type opened) head body
+
+-- the receipt that came so, where the body can be read as one
+abbrev pub receipt_as : Opened → Text → Option ReceivedReceipt
+receipt_as opened body = option_map (λ (receipt : Receipt). receipt_by opened receipt body) (report_in opened.media body)

@@ -9,12 +9,16 @@ mod entry;
 mod fields;
 mod opening;
 mod repeating;
+mod replies;
+mod sending;
 
 pub use answering::answer_to;
 pub use documents::document;
 pub use entry::{first_entry, is_requeued};
 pub use opening::{Opened, open};
 pub use repeating::{has_kept_mic, repeats};
+pub use replies::open_answer;
+pub use sending::{document_job, out_id};
 
 #[cfg(test)]
 mod tests;

@@ -1,5 +1,5 @@
 -- What calls of the store make of the machine, one after the other.
-use Rattle.std.proofs.Common.{◌≡◌, ◌⊎◌, inl, inr, Option, Some, None, Result, Ok, Err, IfOk, IfErr, IsErr, IsErrAnd, IsTrue, true, refl, sym, subst, arith}
+use Rattle.std.proofs.Common.{◌≡◌, ◌⊎◌, inl, inr, Option, option_map, Some, None, Result, Ok, Err, IsErr, IsErrAnd, IsTrue, true, refl, sym, subst}
 use Rattle.std.proofs.lemmas.Result.{IfErr-weaker, IfOk-weaker}
 use Rattle.sqlite_trees.specs.Tree.{Trees}
 use Rattle.sqlite.specs.Effect.{Database}
@@ -13,13 +13,28 @@ use Rattle.as2_exchange.specs.declared.fault.StoreFault.TheVariants.{Full}
 use Rattle.as2_store.specs.Stands.{Rests, Stands, may_come}
 use Rattle.as2_store.specs.Calls.{Commits, Keeps, KeepsNext, Reads, Writes}
 use Rattle.as2_store.proofs.Querying.{survives_same}
-use Rattle.as2_station.specs.Steps.{Does, Machine, MayLeave}
+use Rattle.as2_station.specs.Steps.{Does, Left, Machine, MayLeave}
 
 next_kept : (db : Trees) (s : State) → KeepsNext db (Some s) → Keeps db s
 next_kept db s it = subst (Keeps db) (let same : it.state ≡ s = (let i = it.is in cc) in same) it.keeps
 
 pub never_full : {X : Type 0} (f : StoreFault) → may_come f ≡ true → f ≡ Full → X
 never_full f may full = absurd (let no = subst (λ g. may_come g ≡ true) full may in cc)
+
+-- what another machine does that answers and leaves the same wherever that is asked, over an open connection
+pub as_machine : {A : Type 0} (machine other : Machine) (given known : State → Type 0) (asks : Type 0) (told : A → Answer) (old new : Connected) (r : Result A StoreFault) → (HasCleanDisk old → IsTrue old.is_open)
+    → ((s : State) → Stands old.now s → given s → known s × (other s ≡ machine s)) → Does other known asks told old new r → Does machine given asks told old new r
+as_machine machine other given known asks told old new r opened same it = record {
+  clean = it.clean;
+  is_open = it.is_open;
+  answered = λ clean. IfOk-weaker r _ _ (λ a left s rests is. let to = same s (rests.stands (opened (it.clean clean))) is in subst (λ came. Left new came (told a)) to.1 (left s rests to.0)) (it.answered clean);
+  failed = λ clean. IfErr-weaker r _ _ (λ f left s rests is. let to = same s (rests.stands (opened (it.clean clean))) is in subst (λ came. Rests new s × (f ≡ Full → came ≡ None)) to.1 (left s rests to.0)) (it.failed clean);
+  fault = it.fault;
+  crash = survives_weaker old new (MayLeave other known old) (MayLeave machine given old) (λ clean db may. record {
+    was_open = may.was_open;
+    stands = λ s rests is. let to = same s (rests.stands may.was_open) is in subst (λ came. Keeps db s ⊎ KeepsNext db (option_map (λ (x : Answer × State). x.1) came)) to.1 (may.stands s rests to.0);
+  }) it.crash;
+}
 
 module _ {A : Type 0} (machine : Machine) (given : State → Type 0) (asks : Type 0) (told : A → Answer) where
   -- an answer that nothing of the store is read or written for
@@ -79,14 +94,14 @@ module _ {A : Type 0} (machine : Machine) (given : State → Type 0) (asks : Typ
 
   -- what a write commits is what the machine leaves with this answer
   abbrev pub IsStep : (State → Option State) → Answer → Type 0
-  IsStep wrote answer = (s t : State) (d : Database) → Stands d s → given s → wrote s ≡ Some t → IsCounter t.next_in → machine s ≡ Some (answer, t)
+  IsStep wrote answer = (s t : State) (d : Database) → Stands d s → given s → wrote s ≡ Some t → IsCounter t.next_in × IsCounter t.next_out → machine s ≡ Some (answer, t)
 
   leaves : (wrote : State → Option State) (answer : Answer) (old new : Connected) → IsStep wrote answer → Survives old new (Commits wrote old) → Survives old new (MayLeave machine given old)
   leaves wrote answer old new is = survives_weaker old new (Commits wrote old) (MayLeave machine given old) (λ clean db may. record {
     was_open = may.was_open;
     stands = λ s rests known.
         let to = may.stands s rests in
-        inr (record { state = to.state; is = rw (is s to.state old.now (rests.stands may.was_open) known to.is to.keeps.receipts.0) refl; keeps = to.keeps });
+        inr (record { state = to.state; is = rw (is s to.state old.now (rests.stands may.was_open) known to.is (to.keeps.receipts.0, to.keeps.documents.0)) refl; keeps = to.keeps });
   })
 
   -- a write
@@ -96,7 +111,7 @@ module _ {A : Type 0} (machine : Machine) (given : State → Type 0) (asks : Typ
     is_open = λ clean _. it.is_open clean;
     answered = λ clean s rests known.
         let to = it.done clean s rests in
-        record { next = to.state; step = is s to.state old.now (rests.stands (it.was_open clean)) known to.is (to.rests.stands (it.is_open clean)).receipts.0; rests = to.rests };
+        record { next = to.state; step = is s to.state old.now (rests.stands (it.was_open clean)) known to.is (let stood = to.rests.stands (it.is_open clean) in (stood.receipts.0, stood.documents.0)); rests = to.rests };
     failed = λ clean. tt;
     fault = tt;
     crash = leaves wrote (told a) old new is it.crash;

@@ -1,5 +1,9 @@
+mod Acting
 mod Clashing
+mod Closed
 mod Doing
 mod Numbers
 mod Playing
 mod Reaching
+mod HandedIn
+mod Begun

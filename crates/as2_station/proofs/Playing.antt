@@ -10,34 +10,34 @@ use Rattle.as2_exchange.specs.declared.answer.Answer.TheVariants.{Http}
 use Rattle.as2_exchange.specs.declared.answer.HttpAnswer.{HttpAnswer}
 use Rattle.as2_exchange.specs.declared.fault.StoreFault.{StoreFault}
 use Rattle.as2_store.specs.Stands.{Rests}
-use Rattle.as2_station.specs.Steps.{TakesEvent, TakesHead}
+use Rattle.as2_station.specs.Steps.{RefusesSubmit, TakesEvent, TakesHead}
 use Rattle.as2_station.specs.Traces.{Plays, Taken}
 
 module _ {S : Type 0} (g : Ghosts S) (A : Agreements) where
   pub taken_more : (es : List Event) (rs : List (Result Answer StoreFault)) (e : Event) (r : Result Answer StoreFault) (old mid new : Held S) → Taken g A es rs old mid → TakesEvent A e (λ a. a) (state g mid) (state g new) r
-      → TakesHead A e Http mid new r → Taken g A (es ++ e ∷ []) (rs ++ r ∷ []) old new
-  taken_more [] [] e r old mid new same one head = subst (λ h. Taken g A (e ∷ []) (r ∷ []) h new) same (new, one, head, refl)
-  taken_more [] (q ∷ rs) e r old mid new none one head = absurd none
-  taken_more (x ∷ es) [] e r old mid new none one head = absurd none
-  taken_more (x ∷ es) (q ∷ rs) e r old mid new before one head = (before.0, before.1, before.2, taken_more es rs e r before.0 mid new before.3 one head)
+      → TakesHead A e Http mid new r → RefusesSubmit A e mid new r → Taken g A (es ++ e ∷ []) (rs ++ r ∷ []) old new
+  taken_more [] [] e r old mid new same one head refuses = subst (λ h. Taken g A (e ∷ []) (r ∷ []) h new) same (new, one, head, refuses, refl)
+  taken_more [] (q ∷ rs) e r old mid new none one head refuses = absurd none
+  taken_more (x ∷ es) [] e r old mid new none one head refuses = absurd none
+  taken_more (x ∷ es) (q ∷ rs) e r old mid new before one head refuses = (before.0, before.1, before.2, before.3, taken_more es rs e r before.0 mid new before.4 one head refuses)
 
   pub taken_clean : (es : List Event) (rs : List (Result Answer StoreFault)) (old new : Held S) → Taken g A es rs old new → HasCleanDisk (state g new) → HasCleanDisk (state g old)
   taken_clean [] [] old new same clean = subst (λ h. HasCleanDisk (state g h)) same clean
   taken_clean [] (q ∷ rs) old new none clean = absurd none
   taken_clean (x ∷ es) [] old new none clean = absurd none
-  taken_clean (x ∷ es) (q ∷ rs) old new it clean = it.1.does.clean (taken_clean es rs it.0 new it.3 clean)
+  taken_clean (x ∷ es) (q ∷ rs) old new it clean = it.1.does.clean (taken_clean es rs it.0 new it.4 clean)
 
   pub taken_plays : (es : List Event) (rs : List (Result Answer StoreFault)) (old new : Held S) → Taken g A es rs old new → Plays g A es rs old new
   taken_plays [] [] old new same clean s rests = record { end = s; run = refl; rests = subst (λ h. Rests (state g h) s) (sym same) rests }
   taken_plays [] (q ∷ rs) old new none clean s rests = absurd none
   taken_plays (x ∷ es) [] old new none clean s rests = absurd none
   taken_plays (x ∷ es) (Ok a ∷ rs) old new it clean s rests =
-      let now = it.1.does.answered (taken_clean es rs it.0 new it.3 clean) s rests tt in
-      let later = taken_plays es rs it.0 new it.3 clean now.next now.rests in
+      let now = it.1.does.answered (taken_clean es rs it.0 new it.4 clean) s rests tt in
+      let later = taken_plays es rs it.0 new it.4 clean now.next now.rests in
       record { end = later.end; run = (now.next, now.step, later.run); rests = later.rests }
   taken_plays (x ∷ es) (Err f ∷ rs) old new it clean s rests =
-      let now = it.1.does.failed (taken_clean es rs it.0 new it.3 clean) s rests tt in
-      let later = taken_plays es rs it.0 new it.3 clean s now.0 in
+      let now = it.1.does.failed (taken_clean es rs it.0 new it.4 clean) s rests tt in
+      let later = taken_plays es rs it.0 new it.4 clean s now.0 in
       record { end = later.end; run = (now.1, later.run); rests = later.rests }
 
 -- what takes a post takes the event

@@ -1,3 +1,5 @@
+pub mod Closing
 pub mod Heads
 pub mod Steps
 pub mod Traces
+pub mod Trying

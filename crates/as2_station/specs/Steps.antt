@@ -4,12 +4,12 @@ use Rattle.sqlite.specs.Store.{Ghosts}
 use Rattle.sqlite.specs.Held.{Held, state}
 use Rattle.sqlite.specs.State.{State as Connected, HasCleanDisk, Survives}
 use Rattle.sqlite_trees.specs.Tree.{Trees}
-use Rattle.as2_exchange.specs.Agreement.{Agreements}
+use Rattle.as2_exchange.specs.Agreement.{Agreements, Text}
 use Rattle.as2_exchange.specs.Readings.{Head}
 use Rattle.as2_exchange.specs.Posts.{Reading, Refuses, IsDocument, reading}
 use Rattle.as2_exchange.specs.Step.{post, step}
 use Rattle.as2_exchange.specs.declared.event.Event.{Event}
-use Rattle.as2_exchange.specs.declared.event.Event.TheVariants.{Post}
+use Rattle.as2_exchange.specs.declared.event.Event.TheVariants.{Post, Submit}
 use Rattle.as2_exchange.specs.declared.answer.HttpAnswer.{HttpAnswer}
 use Rattle.as2_exchange.specs.declared.answer.Line.{Line}
 use Rattle.as2_exchange.specs.declared.answer.Line.TheVariants.{IdUsedBefore}
@@ -19,12 +19,13 @@ use Rattle.as2_exchange.specs.Lines.{refusal}
 use Rattle.as2_exchange.specs.State.{State, received_as}
 use Rattle.as2_posts.specs.Answers.{has_kept_mic}
 use Rattle.as2_exchange.specs.declared.answer.Answer.{Answer}
-use Rattle.as2_exchange.specs.declared.answer.Answer.TheVariants.{Http}
+use Rattle.as2_exchange.specs.declared.answer.Answer.TheVariants.{Http, Refused}
+use Rattle.as2_exchange.specs.declared.answer.Refusal.{Refusal}
 use Rattle.as2_exchange.specs.declared.fault.StoreFault.{StoreFault}
 use Rattle.as2_exchange.specs.declared.fault.StoreFault.TheVariants.{Full}
 use Rattle.as2_store.specs.Stands.{Rests, may_come}
 use Rattle.as2_store.specs.Calls.{Keeps, KeepsNext, Lasts}
-use Rattle.as2_station.specs.Heads.{is_of_head, asks_store, takes_store}
+use Rattle.as2_station.specs.Heads.{is_of_head, asks_store, submit_refusal, takes_store}
 
 -- what the machine answers in a state, and the state that it leaves; nothing where the number that it needs is used up
 abbrev pub Machine : Type 0
@@ -84,3 +85,8 @@ TakesPost g agreed moment reads given old new r = Does (λ s. post agreed s mome
 pub record TakesHead {A H : Type 0} (agreed : Agreements) (event : Event) (told : HttpAnswer → A) (old new : H) (r : Result A StoreFault) : Type 0 where
   pub answer : (head : Head) (body : List ℕ) (moment : ℕ) (line : Line) → event ≡ Post head body moment → reading agreed head body ≡ Refuses line → is_of_head line ≡ true → r ≡ Ok (told (refusal line))
   pub same : (head : Head) (body : List ℕ) (moment : ℕ) (line : Line) → event ≡ Post head body moment → reading agreed head body ≡ Refuses line → is_of_head line ≡ true → new ≡ old
+
+-- a document that is refused gets its refusal, whatever memory and the store do, and nothing else happens
+pub record RefusesSubmit {H : Type 0} (agreed : Agreements) (event : Event) (old new : H) (r : Result Answer StoreFault) : Type 0 where
+  pub answer : (organization partner content : Text) (moment : ℕ) (reason : Refusal) → event ≡ Submit organization partner content moment → submit_refusal agreed organization partner content ≡ Some reason → r ≡ Ok (Refused reason)
+  pub same : (organization partner content : Text) (moment : ℕ) (reason : Refusal) → event ≡ Submit organization partner content moment → submit_refusal agreed organization partner content ≡ Some reason → new ≡ old

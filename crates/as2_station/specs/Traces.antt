@@ -11,7 +11,7 @@ use Rattle.as2_exchange.specs.declared.answer.Answer.{Answer}
 use Rattle.as2_exchange.specs.declared.answer.Answer.TheVariants.{Http}
 use Rattle.as2_exchange.specs.declared.fault.StoreFault.{StoreFault}
 use Rattle.as2_store.specs.Stands.{Rests}
-use Rattle.as2_station.specs.Steps.{TakesEvent, TakesHead}
+use Rattle.as2_station.specs.Steps.{RefusesSubmit, TakesEvent, TakesHead}
 
 -- an answer, or the fault that stands in its place
 abbrev pub said : Result Answer StoreFault → Said
@@ -37,4 +37,4 @@ abbrev pub Taken : {S : Type 0} → Ghosts S → Agreements → List Event → L
 Taken g A [] [] old new = new ≡ old
 Taken g A [] (r ∷ rs) old new = ⊥
 Taken g A (e ∷ es) [] old new = ⊥
-Taken {S} g A (e ∷ es) (r ∷ rs) old new = (mid : Held S) × TakesEvent A e (λ a. a) (state g old) (state g mid) r × TakesHead A e Http old mid r × Taken g A es rs mid new
+Taken {S} g A (e ∷ es) (r ∷ rs) old new = (mid : Held S) × TakesEvent A e (λ a. a) (state g old) (state g mid) r × TakesHead A e Http old mid r × RefusesSubmit A e old mid r × Taken g A es rs mid new

@@ -2,8 +2,13 @@
 //! the state that it leaves; or it is a fault of the store, and the tables stand for the state before.
 #![tactic(auto)]
 
+mod agreed;
+mod closing;
+mod receipts;
 mod receiving;
 mod recording;
 mod station;
+mod submitting;
+mod trying;
 
 pub use station::Station;

@@ -11,7 +11,8 @@ ghost use Rattle.as2_exchange.specs.declared.answer.HttpBody.TheVariants.{Nothin
 ghost use Rattle.as2_posts.specs.Openings.{receipt_by, report_by};
 ghost use Rattle.as2_station.specs.Steps.{TakesPost, always};
 
-use as2_exchange::{Bytes, Evidence, HttpAnswer, HttpBody, Line, OutEntry, StoreFault};
+use crate::receipts::{bears, evidence_of};
+use as2_exchange::{HttpAnswer, HttpBody, Line, OutEntry, StoreFault};
 use as2_mdn::{Receipt, read_report, verdict_pieces};
 use as2_mic::Pieces;
 use as2_posts::Opened;
@@ -20,17 +21,12 @@ use as2_text::{Moment, without_brackets};
 use sqlite::Alter;
 use std::alloc::Global;
 
-/// Whether the receipt is for the document, and that was begun: it comes from the document's partner, to its organization,
-/// and names its identifier (RFC 4130, section 6.2; RFC 8098, section 3.2.5).
-#[tactic(auto, unfolding(as2_exchange::specs::Readings::named_by, as2_exchange::specs::Readings::value_of))]
+/// Whether the receipt is for the document, and that was begun.
 fn is_for(opened: &Opened<'_>, receipt: &Receipt<'_>, document: &OutEntry) -> bool
     ensures { (body : List ℕ) → result ≡ (bears (receipt_by opened.now receipt.now body) document.now.organization document.now.partner document.now.id
         && is_begun document.now) }
 {
-    document.organization.bytes() == opened.to.bytes()
-        && document.partner.bytes() == opened.from.bytes()
-        && document.id.value().as_bytes() == without_brackets(receipt.original_id)
-        && document.tries >= 1
+    bears(opened, receipt, document) && document.tries >= 1
 }
 
 /// The answer to a receipt that is taken.
@@ -64,11 +60,7 @@ fn settle_named<S: Alter>(
     if document.evidence.is_some() {
         return Ok(taken());
     }
-    let evidence = Evidence {
-        moment,
-        content_type: Bytes::keep(alloc, opened.content_type)?,
-        body,
-    };
+    let evidence = evidence_of(alloc, opened, body, moment)?;
     let detail = verdict_pieces(receipt, &document.content);
     store.settle(document.number, detail, &evidence)?;
     Ok(taken())

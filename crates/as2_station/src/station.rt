@@ -1,16 +1,23 @@
 //! The station, event by event.
-ghost use Rattle.std.specs.Prelude.{◌≡◌, IfOk, OnErr};
+ghost use Rattle.std.specs.Prelude.{◌≡◌, IfOk, IfErr, OnErr, option_map, true};
 ghost use Rattle.sqlite.specs.Held.{state};
 ghost use Rattle.as2_exchange.specs.declared.event.Event.TheVariants.{Post};
 ghost use Rattle.as2_exchange.specs.declared.answer.Answer.TheVariants.{Http};
+ghost use Rattle.as2_exchange.specs.Views.{due_documents, least};
+ghost use Rattle.as2_exchange.specs.declared.next.Next.TheVariants.{Document};
+ghost use Rattle.as2_store.specs.Calls.{Reads};
+ghost use Rattle.as2_store.specs.Stands.{may_come};
 ghost use Rattle.as2_posts.specs.Openings.{reading_by};
-ghost use Rattle.as2_station.specs.Steps.{ClashesWhole, TakesEvent, TakesHead, TakesPost, always};
+ghost use Rattle.as2_station.specs.Steps.{ClashesWhole, RefusesSubmit, TakesEvent, TakesHead, TakesPost, always};
 ghost use Rattle.as2_station.specs.Traces.{Plays, Taken};
 
+use crate::closing::close;
 use crate::receiving::receive;
 use crate::recording::record;
+use crate::submitting::submit;
+use crate::trying::begin;
 use as2_agreement::Agreements;
-use as2_exchange::{Answer, Event, HttpAnswer, StoreFault};
+use as2_exchange::{Answer, Event, HttpAnswer, Next, StoreFault};
 use as2_mic::Pieces;
 use as2_posts::{Opened, document, open};
 use as2_store::Store;
@@ -93,8 +100,10 @@ impl<S: Alter> Station<S> {
         }
     }
 
-    /// Takes an event. A post is taken as `post` takes it; every other event is Refused for now. A fault of the store may come
-    /// in place of any answer but those that a head alone decides, and nothing is changed then; Full where no number is left.
+    /// Takes an event. A post is taken as `post` takes it. A document is taken in under the next number; one that is refused takes
+    /// neither memory nor the store. A try begins once it is committed; its outcome settles the document by the receipt that came in
+    /// the answer, or says when to try again. Every other event is Refused for now. A fault of the store may come in place of any
+    /// other answer, and nothing is changed then; Full where no number is left.
     pub fn step(
         &mut self,
         alloc: Global,
@@ -103,12 +112,47 @@ impl<S: Alter> Station<S> {
     ) -> Result<Answer, StoreFault>
         ensures taken { TakesEvent agreements.now event (λ a. a) (state S.Store self.old) (state S.Store self.new) result }
         ensures of_head { TakesHead agreements.now event Http self.old self.new result }
+        ensures submitted { RefusesSubmit agreements.now event self.old self.new result }
     {
         match event {
             Event::Post { head, body, moment } => {
                 Ok(Answer::Http(self.post(alloc, agreements, &head, body, moment)?))
             }
+            Event::Submit {
+                organization,
+                partner,
+                content,
+                moment,
+            } => submit(
+                &mut self.store,
+                alloc,
+                agreements,
+                organization,
+                partner,
+                content,
+                moment,
+            ),
+            Event::Begin { number, moment } => {
+                begin(&mut self.store, alloc, agreements, number, moment)
+            }
+            Event::Outcome {
+                number,
+                answer,
+                moment,
+            } => close(&mut self.store, alloc, agreements, number, answer, moment),
             _ => Err(StoreFault::Refused),
+        }
+    }
+
+    /// What is to be sent next at this moment: the document of the least number of which a try may begin, if there is one.
+    /// Answers Memory, Disk or Refused.
+    pub fn next(&mut self, moment: Moment) -> Result<Option<Next>, StoreFault>
+        ensures next { Reads (λ s next. next ≡ option_map Document (least (due_documents s moment))) (state S.Store self.old) (state S.Store self.new) result }
+        ensures fault { IfErr result (λ f. may_come f ≡ true) }
+    {
+        match self.store.due_out(moment)? {
+            Some(number) => Ok(Some(Next::Document(number))),
+            None => Ok(None),
         }
     }
 

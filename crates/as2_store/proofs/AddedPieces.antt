@@ -14,10 +14,12 @@ use Rattle.sql_tables.proofs.Sorting.{unchanged, one_more_row}
 use Rattle.sql_tables.proofs.Writes.{cast_int, cast_null, IsOneRow, inserts_chosen}
 use Rattle.as2_mic.specs.Pieces.{piece_size, piece_at}
 use Rattle.as2_rows.specs.Contents.{Piece, piece_bytes, piece_of, piece_shown}
-use Rattle.as2_store.specs.Tables.{store_schema, inbox_piece_table, inbox_piece_tree}
-use Rattle.as2_store.proofs.Statements.{in_piece_put_text}
-use Rattle.as2_store.specs.Adding.{Appended}
-use Rattle.as2_store.proofs.Texts.{in_piece_put_terms, in_piece_put_is, in_piece_put_plain}
+use Rattle.as2_store.specs.Tables.{store_schema, inbox_piece_table, inbox_piece_tree, outbox_piece_table, outbox_piece_tree}
+use Rattle.as2_store.specs.declared.contents.Mailbox.{Mailbox}
+use Rattle.as2_store.specs.declared.contents.Mailbox.TheVariants.{Inbox, Outbox}
+use Rattle.as2_store.proofs.Statements.{piece_put_text}
+use Rattle.as2_store.specs.Adding.{Appended, piece_tree}
+use Rattle.as2_store.proofs.Texts.{piece_put_terms, in_piece_put_is, in_piece_put_plain, out_piece_put_is, out_piece_put_plain}
 
 -- ---- one more
 
@@ -26,7 +28,7 @@ puts_piece p before rows has = subst (HasRows (put_row (Int (next_rowid rows) �
 
 -- ---- one after another
 
-others_then : (a b c : Trees) (tree : ℕ) (tables : List Table) → AllByRecursion (λ t. t.tree ≢ tree → b t.tree ≡ a t.tree) tables → AllByRecursion (λ t. t.tree ≢ tree → c t.tree ≡ b t.tree) tables
+pub others_then : (a b c : Trees) (tree : ℕ) (tables : List Table) → AllByRecursion (λ t. t.tree ≢ tree → b t.tree ≡ a t.tree) tables → AllByRecursion (λ t. t.tree ≢ tree → c t.tree ≡ b t.tree) tables
     → AllByRecursion (λ t. t.tree ≢ tree → c t.tree ≡ a t.tree) tables
 others_then a b c tree [] one two = tt
 others_then a b c tree (t ∷ tables) one two = (λ other. two.0 other ∙ one.0 other, others_then a b c tree tables one.1 two.1)
@@ -40,15 +42,25 @@ appended_then a b c tree ps qs one two = record {
 
 -- ---- the statement
 
-one_piece : (p : Piece) → IsOneRow inbox_piece_table (piece_shown p) in_piece_put_terms 4 (Null ∷ piece_shown p)
-one_piece p = record { source = Null ∷ piece_shown p; made = refl; cast_is = simp (cast_null, cast_int) }
+in_piece : (p : Piece) → IsOneRow inbox_piece_table (piece_shown p) piece_put_terms 4 (Null ∷ piece_shown p)
+in_piece p = record { source = Null ∷ piece_shown p; made = refl; cast_is = simp (cast_null, cast_int) }
 
-pub puts_in_piece : (old new : Connected) (p : Piece) (count : ℕ) → old.now.schema ≡ store_schema → Executes in_piece_put_text (piece_shown p) old new (Ok count) → Appended old new inbox_piece_tree (p ∷ [])
-puts_in_piece old new p count has h =
-    let it = inserts_chosen in_piece_put_text (piece_shown p) old new store_schema has 2 inbox_piece_table refl refl in_piece_put_terms 4 (Null ∷ piece_shown p) (one_piece p) (piece_shown p) refl in_piece_put_is in_piece_put_plain count h in
+out_piece : (p : Piece) → IsOneRow outbox_piece_table (piece_shown p) piece_put_terms 4 (Null ∷ piece_shown p)
+out_piece p = record { source = Null ∷ piece_shown p; made = refl; cast_is = simp (cast_null, cast_int) }
+
+pub puts_piece_in : (mailbox : Mailbox) (old new : Connected) (p : Piece) (count : ℕ) → old.now.schema ≡ store_schema → Executes (piece_put_text mailbox) (piece_shown p) old new (Ok count) → Appended old new (piece_tree mailbox) (p ∷ [])
+puts_piece_in Inbox old new p count has h =
+    let it = inserts_chosen (piece_put_text Inbox) (piece_shown p) old new store_schema has 2 inbox_piece_table refl refl piece_put_terms 4 (Null ∷ piece_shown p) (in_piece p) (piece_shown p) refl in_piece_put_is in_piece_put_plain count h in
     record {
       schema_is = it.schema_is;
       pieces_are = λ before are. unchanged it.rows_are (puts_piece p before (old.now.trees inbox_piece_tree) are);
+      others = it.others;
+    }
+puts_piece_in Outbox old new p count has h =
+    let it = inserts_chosen (piece_put_text Outbox) (piece_shown p) old new store_schema has 4 outbox_piece_table refl refl piece_put_terms 4 (Null ∷ piece_shown p) (out_piece p) (piece_shown p) refl out_piece_put_is out_piece_put_plain count h in
+    record {
+      schema_is = it.schema_is;
+      pieces_are = λ before are. unchanged it.rows_are (puts_piece p before (old.now.trees outbox_piece_tree) are);
       others = it.others;
     }
 

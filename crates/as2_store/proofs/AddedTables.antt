@@ -21,18 +21,18 @@ use Rattle.as2_rows.specs.Contents.{pieces, piece_shown}
 use Rattle.as2_rows.specs.Waiting.{WaitingRow, in_waiting}
 use Rattle.as2_store.specs.Tables.{store_schema, meta_tree, inbox_tree, inbox_piece_tree, waiting_tree}
 use Rattle.as2_store.specs.Stands.{IsWhole, Stands, HasCounters, inbox_pieces}
-use Rattle.as2_store.specs.Adding.{Appended, Noted, IsEntered, with_received, added}
+use Rattle.as2_store.specs.Adding.{Appended, Noted, noted_rows, IsEntered, with_received, added}
 use Rattle.as2_store.proofs.Committing.{FollowsEach}
 use Rattle.as2_store.proofs.NumberedRows.{puts_between}
-use Rattle.as2_store.proofs.WaitingRows.{noted_rows, noted}
+use Rattle.as2_store.proofs.WaitingRows.{noted}
 
 -- what a write of one table, or of none, leaves
-record Wrote (old new : Connected) (tree : ℕ) (rows : List Row) : Type 0 where
+pub record Wrote (old new : Connected) (tree : ℕ) (rows : List Row) : Type 0 where
   pub schema_is : new.now.schema ≡ store_schema
   pub rows_are : new.now.trees tree ≡ rows
   pub others : AllByRecursion (λ t. t.tree ≢ tree → new.now.trees t.tree ≡ old.now.trees t.tree) store_schema.tables
 
-wrote : (old new : Connected) (o : Option WaitingRow) → old.now.schema ≡ store_schema → Noted old new o → Wrote old new waiting_tree (noted_rows o (old.now.trees waiting_tree))
+pub wrote : (old new : Connected) (o : Option WaitingRow) → old.now.schema ≡ store_schema → Noted old new o → Wrote old new waiting_tree (noted_rows o (old.now.trees waiting_tree))
 wrote old new None has same = record {
   schema_is = ap (λ d. d.schema) same ∙ has;
   rows_are = ap (λ d. d.trees waiting_tree) same;
@@ -43,16 +43,16 @@ wrote old new (Some w) has it = record { schema_is = it.schema_is; rows_are = it
 pieces_more : (s : State) (x : InEntry) → inbox_pieces s.inbox ++ pieces x.number x.posted.content ≡ inbox_pieces (s.inbox ++ x ∷ [])
 pieces_more s x = sym (flat_map-append (λ (e : InEntry). pieces e.number e.posted.content) s.inbox (x ∷ []) ∙ ap (λ l. inbox_pieces s.inbox ++ l) (append-nil (pieces x.number x.posted.content)))
 
-below_all : (s : State) → AreNumbers s.next_in (map (λ (e : InEntry). e.number) s.inbox) → (x : InEntry) → x.number ≡ s.next_in → AllByRecursion (λ (q : InEntry). q.number < x.number) s.inbox
-below_all s h x is = subst (λ n. AllByRecursion (λ (q : InEntry). q.number < n) s.inbox) (sym is) (from (λ n. n < s.next_in) s.inbox h.below)
+pub below_all : {E : Type 0} (number : E → ℕ) (next n : ℕ) (es : List E) → AreNumbers next (map number es) → n ≡ next → AllByRecursion (λ q. number q < n) es
+below_all {E} number next n es h is = subst (λ n. AllByRecursion (λ q. number q < n) es) (sym is) (from (λ n. n < next) es h.below)
   where
-    from : (P : ℕ → Type 0) (es : List InEntry) → AllByRecursion P (map (λ (e : InEntry). e.number) es) → AllByRecursion (λ (q : InEntry). P q.number) es
+    from : (P : ℕ → Type 0) (es : List E) → AllByRecursion P (map number es) → AllByRecursion (λ q. P (number q)) es
     from P [] all = tt
     from P (e ∷ es) all = (all.0, from P es all.1)
 
 -- the row, the pieces and what waits
 pub entered : (a b c d : Connected) (s : State) (x : InEntry) → Stands a.now s → x.number < end_of_numbers → Changed a b store_schema inbox_tree (put_row (in_row x) (a.now.trees inbox_tree))
-    → Appended b c inbox_piece_tree (pieces x.number x.posted.content) → Noted c d (in_waiting x) → IsEntered d.now s x
+    → Appended b c inbox_piece_tree (pieces x.number x.posted.content) → Noted c d (in_waiting x) → IsEntered d.now s x.number s.next_in (with_received s x)
 entered a b c d s x it small one two three =
     let has = it.entries in
     let note = wrote c d (in_waiting x) two.schema_is three in
@@ -61,7 +61,7 @@ entered a b c d s x it small one two three =
       counters = record { schema = note.schema_is; meta = note.others.0 (λ e. omega arith) ∙ two.others.0 (λ e. omega arith) ∙ one.others.0 (λ e. omega arith) ∙ it.meta };
       entries = λ is. record {
         inbox = note.others.1.0 (λ e. omega arith) ∙ two.others.1.0 (λ e. omega arith) ∙ one.rows_are ∙ ap (put_row (in_row x)) (has.inbox ∙ ap (map in_row) (sym (append-nil s.inbox)))
-            ∙ puts_between in_row (λ (q : InEntry). q.number) (λ _. refl) x s.inbox [] (below_all s it.receipts.1 x is) tt;
+            ∙ puts_between in_row (λ (q : InEntry). q.number) (λ _. refl) x s.inbox [] (below_all (λ (q : InEntry). q.number) s.next_in x.number s.inbox it.receipts.1 is) tt;
         inbox_contents = subst (λ ps. HasRows (d.now.trees inbox_piece_tree) (map piece_shown ps)) (pieces_more s x) (unchanged (note.others.1.1.0 (λ e. omega arith)) (two.pieces_are (inbox_pieces s.inbox) (unchanged (one.others.1.1.0 (λ e. omega arith)) has.inbox_contents)));
         outbox = note.others.1.1.1.0 (λ e. omega arith) ∙ two.others.1.1.1.0 (λ e. omega arith) ∙ one.others.1.1.1.0 (λ e. omega arith) ∙ has.outbox;
         outbox_contents = unchanged (note.others.1.1.1.1.0 (λ e. omega arith) ∙ two.others.1.1.1.1.0 (λ e. omega arith) ∙ one.others.1.1.1.1.0 (λ e. omega arith)) has.outbox_contents;
@@ -72,7 +72,7 @@ entered a b c d s x it small one two three =
     }
 
 -- and then the counter
-pub stands_received : (a d e : Connected) (s : State) (x : InEntry) → Stands a.now s → x.number ≡ s.next_in → x.number < end_of_numbers → IsEntered d.now s x
+pub stands_received : (a d e : Connected) (s : State) (x : InEntry) → Stands a.now s → x.number ≡ s.next_in → x.number < end_of_numbers → IsEntered d.now s x.number s.next_in (with_received s x)
     → Changed d e store_schema meta_tree (meta_row (x.number + 1) s.next_out ∷ []) → Stands e.now (with_received s x)
 unfolding IsWhole
 stands_received a d e s x it is small mid four = record {
@@ -96,7 +96,7 @@ stands_received a d e s x it is small mid four = record {
 
 -- an entry is added under the next number, and under no other
 pub adds : {S : Type 0} (g : Ghosts S) (old : Held S) (mid last : Connected) (x : InEntry) → x.number < end_of_numbers → (HasCleanDisk last → HasCleanDisk mid)
-    → (HasCleanDisk mid → IsTrue (state g old).is_open) → (HasCleanDisk mid → (s : State) → Stands (state g old).now s → IsEntered mid.now s x)
+    → (HasCleanDisk mid → IsTrue (state g old).is_open) → (HasCleanDisk mid → (s : State) → Stands (state g old).now s → IsEntered mid.now s x.number s.next_in (with_received s x))
     → (HasCleanDisk last → (n m : ℕ) → HasCounters mid.now n m → (x.number ≡ n) × Changed mid last store_schema meta_tree (meta_row (x.number + 1) m ∷ [])) → HasCleanDisk last → FollowsEach g old last (added x)
 adds g old mid last x small was opened put raised clean = record {
   was_open = opened (was clean);

@@ -1,9 +1,9 @@
 -- What the queries of the inbox answer.
-use Rattle.std.proofs.Common.{◌≡◌, ℕ, pos, ◌+◌, ◌<◌, ◌≤◌, ◌^◌, ◌==◌, nat_le, inl, inr, List, [], ◌∷◌, ◌++◌, map, take, length, get_or, Bool, true, false, ◌&&◌, refl, sym, ap, ap₂, ◌∙◌, negsuc, arith}
+use Rattle.std.proofs.Common.{◌≡◌, ℕ, pos, ◌<◌, ◌≤◌, ◌^◌, ◌==◌, nat_le, inl, inr, List, [], ◌∷◌, ◌++◌, map, Bool, true, false, ◌&&◌, refl, sym, ap, ap₂, ◌∙◌, negsuc, arith}
 use Rattle.std.specs.List.{filter}
-use Rattle.std.proofs.lemmas.List.{take_more, get_or-map, length-map, map-append}
+use Rattle.std.proofs.lemmas.List.{map-append}
 use Rattle.as2_rows.specs.declared.inbox.InRow.{InRow}
-use Rattle.as2_rows.specs.Summaries.{in_entry, in_summary}
+use Rattle.as2_rows.specs.Summaries.{in_summary}
 use Rattle.std.specs.List.{AllByRecursion}
 use Rattle.std.proofs.lemmas.Bool.{cases_Bool}
 use Rattle.std.proofs.lemmas.Bool.Decides.{nat_tests}
@@ -72,10 +72,10 @@ asked_small n w beyond within = elim (cases_Bool (nat_le end_of_numbers n)) [
   | inr low ↦ let under : n < end_of_numbers = grind (arith, nat_tests) in omega (arith, under, within under)
 ]
 
-pub same_tests : (n w : ℕ) → (end_of_numbers ≤ n → w ≡ end_of_numbers) → (n < end_of_numbers → w ≡ n) → (es : List InEntry) → AllByRecursion (λ m. m < end_of_numbers) (map (λ (e : InEntry). e.number) es)
-    → AllByRecursion (λ (e : InEntry). (e.number == w) ≡ (e.number == n)) es
-same_tests n w beyond within [] all = tt
-same_tests n w beyond within (e ∷ es) all = (same_test n w e.number beyond within all.0, same_tests n w beyond within es all.1)
+pub same_tests : {E : Type 0} (number : E → ℕ) (n w : ℕ) → (end_of_numbers ≤ n → w ≡ end_of_numbers) → (n < end_of_numbers → w ≡ n) → (es : List E) → AllByRecursion (λ m. m < end_of_numbers) (map number es)
+    → AllByRecursion (λ (e : E). (number e == w) ≡ (number e == n)) es
+same_tests number n w beyond within [] all = tt
+same_tests number n w beyond within (e ∷ es) all = (same_test n w (number e) beyond within all.0, same_tests number n w beyond within es all.1)
 
 pub finds_number : (n w : ℕ) → (end_of_numbers ≤ n → w ≡ end_of_numbers) → (n < end_of_numbers → w ≡ n) → (old new : Connected) (rows : List Row) → Shown in_by_number_text (by_number_params w) old new rows → (s : State) → Rests old s
     → rows ≡ map in_shown (filter (λ (e : InEntry). e.number == n) s.inbox)
@@ -83,7 +83,7 @@ finds_number n w beyond within old new rows h s r =
     let it = r.stands (shown_open in_by_number_text (by_number_params w) old new rows h) in
     let low = all_weaken (λ m. m < s.next_in) (λ m. m < end_of_numbers) (λ m less. omega (arith, less, it.receipts.0.most)) (map (λ (e : InEntry). e.number) s.inbox) it.receipts.1.below in
     reads_entries in_by_number_text in_by_number_plain in_by_number_unlisted number_terms in_by_number_is (by_number_params w) (λ e. e.number == w) (λ e. ap (λ b. b && true) (numbers_equal e.number w) ∙ and_true _) old new rows h s r
-    ∙ ap (map in_shown) (filter_same (λ (e : InEntry). e.number == w) (λ (e : InEntry). e.number == n) s.inbox (same_tests n w beyond within s.inbox low))
+    ∙ ap (map in_shown) (filter_same (λ (e : InEntry). e.number == w) (λ (e : InEntry). e.number == n) s.inbox (same_tests (λ (e : InEntry). e.number) n w beyond within s.inbox low))
 
 every : (es : List InEntry) → filter (λ _. true) es ≡ es
 every [] = refl
@@ -94,10 +94,5 @@ lists_all old new rows h s r = reads_entries in_all_text in_all_plain in_all_unl
 
 -- ---- all rows, one after another
 
-pub more_read : (rows : List Row) (es : List InEntry) (done : List InRow) (i : ℕ) (x : InRow) (d : Row) → rows ≡ map in_shown es → i < length rows → done ≡ map in_summary (take i es)
-    → ((e : InEntry) → get_or rows i d ≡ in_shown e → x ≡ in_summary e) → done ++ x ∷ [] ≡ map in_summary (take (i + 1) es)
-more_read rows es done i x d all within so_far is =
-    let short : i < length es = omega (arith, within, ap length all, length-map es in_shown) in
-    let here : get_or rows i d ≡ in_shown (get_or es i (in_entry x [])) = ap (λ l. get_or l i d) all ∙ get_or-map in_shown es i (in_entry x []) d short in
-    ap₂ (λ l y. l ++ y ∷ []) so_far (is (get_or es i (in_entry x [])) here)
-    ∙ sym (ap (map in_summary) (take_more es i (in_entry x []) short) ∙ map-append in_summary (take i es) (get_or es i (in_entry x []) ∷ []))
+pub one_more_entry : (es : List InEntry) (e : InEntry) (done : List InRow) (row : InRow) → done ≡ map in_summary es → row ≡ in_summary e → done ++ row ∷ [] ≡ map in_summary (es ++ e ∷ [])
+one_more_entry es e done row so_far is = ap₂ (λ l x. l ++ x ∷ []) so_far is ∙ sym (map-append in_summary es (e ∷ []))

@@ -29,10 +29,10 @@ use Rattle.sql_tables.proofs.Failing.{HasParameters, fails_outside}
 use Rattle.as2_exchange.specs.State.{State}
 use Rattle.as2_rows.specs.Rows.{whole, meta_row, meta_shown}
 use Rattle.as2_store.specs.Tables.{store_schema, meta_tree, meta_table, inbox_table, inbox_piece_table, outbox_table, outbox_piece_table, evidence_table, waiting_table}
-use Rattle.as2_store.proofs.Statements.{meta_read_text, receipt_text}
+use Rattle.as2_store.proofs.Statements.{meta_read_text, receipt_text, document_text}
 use Rattle.as2_store.specs.Stands.{Stands, Rests, MetaSays, HasCounters}
 use Rattle.as2_store.proofs.ForeignKeys.{quiet}
-use Rattle.as2_store.proofs.Texts.{meta_command, meta_columns, with_meta_first, meta_read_is, meta_read_plain, meta_read_unlisted, receipt_terms, receipt_project, receipt_is, receipt_plain}
+use Rattle.as2_store.proofs.Texts.{meta_command, meta_columns, with_meta_first, meta_read_is, meta_read_plain, meta_read_unlisted, receipt_terms, receipt_project, receipt_is, receipt_plain, document_terms, document_project, document_is, document_plain}
 
 -- a number that is passed as i64
 pub fits_i64 : (n : ℕ) → n < 2 ^ 63 → to_z w64 (of_z w64 (pos n)) ≡ pos n
@@ -94,17 +94,28 @@ reads_meta old new rows h s r = reads_said old new rows h (codes "as2-station") 
 abbrev pub one_param : ℕ → Row
 one_param n = Int (pos n) ∷ []
 
-abbrev pub receipt_params : ℕ → Row
-receipt_params n = Int (pos n) ∷ Int (pos (n + 1)) ∷ []
+abbrev pub raise_params : ℕ → Row
+raise_params n = Int (pos n) ∷ Int (pos (n + 1)) ∷ []
 
 -- where a row was changed, it had this number
-pub counts_receipts : (old new : Connected) (number count n m : ℕ) → Executes receipt_text (receipt_params number) old new (Ok count) → HasCounters old.now n m → count ≢ 0
+pub counts_receipts : (old new : Connected) (number count n m : ℕ) → Executes receipt_text (raise_params number) old new (Ok count) → HasCounters old.now n m → count ≢ 0
     → (number ≡ n) × Changed old new store_schema meta_tree (meta_row (number + 1) m ∷ [])
 counts_receipts old new number count n m h has some =
-    let done = updates receipt_text (receipt_params number) old new store_schema has.schema 0 meta_table refl receipt_terms receipt_project (λ _. pos 1) (λ k. meta_row k m) (λ _. refl) (λ _. meta_row (number + 1) m) (λ _. refl) (λ _. simp cast_int)
+    let done = updates receipt_text (raise_params number) old new store_schema has.schema 0 meta_table refl receipt_terms receipt_project (λ _. pos 1) (λ k. meta_row k m) (λ _. refl) (λ _. meta_row (number + 1) m) (λ _. refl) (λ _. simp cast_int)
     (n ∷ []) has.meta (tt, tt) (quiet meta_tree) receipt_is receipt_plain count h in
-    go (passes receipt_terms (receipt_params number) (meta_row n m)) (ap (λ b. b && true) (numbers_equal n number) ∙ and_true _) done.0 done.1
+    go (passes receipt_terms (raise_params number) (meta_row n m)) (ap (λ b. b && true) (numbers_equal n number) ∙ and_true _) done.0 done.1
   where
     go : (t : Bool) → t ≡ (n == number) → Changed old new store_schema meta_tree (cond t (meta_row (number + 1) m) (meta_row n m) ∷ []) → count ≡ length (cond t (n ∷ []) []) → (number ≡ n) × Changed old new store_schema meta_tree (meta_row (number + 1) m ∷ [])
+    go true is changed counted = (grind (arith, nat_tests, is), changed)
+    go false is changed counted = absurd (some counted)
+
+pub counts_documents : (old new : Connected) (number count n m : ℕ) → Executes document_text (raise_params number) old new (Ok count) → HasCounters old.now n m → count ≢ 0
+    → (number ≡ m) × Changed old new store_schema meta_tree (meta_row n (number + 1) ∷ [])
+counts_documents old new number count n m h has some =
+    let done = updates document_text (raise_params number) old new store_schema has.schema 0 meta_table refl document_terms document_project (λ _. pos 1) (λ k. meta_row n k) (λ _. refl) (λ _. meta_row n (number + 1)) (λ _. refl) (λ _. simp cast_int)
+    (m ∷ []) has.meta (tt, tt) (quiet meta_tree) document_is document_plain count h in
+    go (passes document_terms (raise_params number) (meta_row n m)) (ap (λ b. b && true) (numbers_equal m number) ∙ and_true _) done.0 done.1
+  where
+    go : (t : Bool) → t ≡ (m == number) → Changed old new store_schema meta_tree (cond t (meta_row n (number + 1)) (meta_row n m) ∷ []) → count ≡ length (cond t (m ∷ []) []) → (number ≡ m) × Changed old new store_schema meta_tree (meta_row n (number + 1) ∷ [])
     go true is changed counted = (grind (arith, nat_tests, is), changed)
     go false is changed counted = absurd (some counted)

@@ -1,6 +1,6 @@
 -- The rows of entries whose numbers rise, and where a row goes among them.
-use Rattle.std.proofs.Common.{◌≡◌, ℕ, ◌<◌, ◌==◌, List, [], ◌∷◌, ◌++◌, map, Option, Some, None, IfSome, pos, nat_lt, Less, Greater, false, refl, sym, ap, subst, subst₂, ◌∙◌, arith}
-use Rattle.std.specs.List.{AllByRecursion, IsDistinct, filter_map, cons_option}
+use Rattle.std.proofs.Common.{◌≡◌, ℕ, ◌<◌, ◌==◌, List, [], ◌∷◌, ◌++◌, map, Option, Some, None, IfSome, Bool, cond, pos, nat_lt, Less, Greater, true, false, refl, sym, ap, subst, subst₂, ◌∙◌, arith}
+use Rattle.std.specs.List.{AllByRecursion, IsDistinct, filter_map, cons_option, find}
 use Rattle.std.specs.Ordering.{match_ordering}
 use Rattle.std.proofs.lemmas.Int.{ints}
 use Rattle.std.proofs.lemmas.Bool.Decides.{nat_tests}
@@ -11,6 +11,7 @@ use Rattle.sqlite_value.proofs.OrderLemmas.{value_cmp-Int}
 use Rattle.sqlite_trees.proofs.ListLemmas.{ascending-map, ascending_from_map, ascending_weaker}
 use Rattle.sqlite_keyed.proofs.KeyedLemmas.{Less-from_lt}
 use Rattle.as2_exchange.specs.Invariants.{AreNumbers}
+use Rattle.as2_exchange.proofs.Finds.{all_found}
 
 -- a lower number is a lower rowid
 pub rises : (m n : ℕ) → m < n → value_cmp (Int (pos m)) (Int (pos n)) ≡ Less
@@ -33,6 +34,29 @@ rising (n ∷ ns) distinct in_order = (above n ns distinct.0 in_order.0, rising 
 
 pub numbers_rise : {X : Type 0} (at : X → ℕ) (next : ℕ) (xs : List X) → AreNumbers next (map at xs) → IsAscending (λ x y. at x < at y) xs
 numbers_rise at next xs h = ascending_from_map (λ a b. a < b) at xs (rising (map at xs) h.distinct h.in_order)
+
+same_number : (n : ℕ) → (n == n) ≡ true
+same_number n = grind (arith, nat_tests)
+
+-- an entry that is found is the one of its number
+pub found_number : {X : Type 0} (number : X → ℕ) (p : X → Bool) (xs : List X) (e : X) → IsDistinct (λ a b. a == b) (map number xs) → find p xs ≡ Some e → find (λ x. number x == number e) xs ≡ Some e
+unfolding IsDistinct
+found_number number p [] e apart found = absurd cc
+found_number {X} number p (x ∷ xs) e apart found = go (p x) found (found_number number p xs e apart.1)
+  where
+    this : (b : Bool) → b ≡ true → x ≡ e → cond b (Some x) (find (λ y. number y == number e) xs) ≡ Some e
+    this true is same = ap Some same
+    this false is same = absurd cc
+
+    other : (b : Bool) → b ≡ false → find (λ y. number y == number e) xs ≡ Some e → cond b (Some x) (find (λ y. number y == number e) xs) ≡ Some e
+    other true is there = absurd cc
+    other false is there = there
+
+    go : (b : Bool) → cond b (Some x) (find p xs) ≡ Some e → (find p xs ≡ Some e → find (λ y. number y == number e) xs ≡ Some e) → find (λ y. number y == number e) (x ∷ xs) ≡ Some e
+    go true is rest =
+        let same : x ≡ e = cc in
+        this (number x == number e) (subst (λ (y : X). (number x == number y) ≡ true) same (same_number (number x))) same
+    go false is rest = other (number x == number e) (all_found (λ y. (number x == y) ≡ false) number p xs e apart.0 is) (rest is)
 
 -- what some of the entries give rises as they do
 module _ {X Y : Type 0} (f : X → Option Y) (at : X → ℕ) (of : Y → ℕ) (kept : (x : X) → IfSome (f x) (λ y. of y ≡ at x)) where

@@ -82,6 +82,18 @@ reads_less fits more old new r less it = record {
   crash = it.crash;
 }
 
+-- what fits where the tables stand so
+pub reads_standing : {A E : Type 0} (fits more : State → A → Type 0) (old new : Connected) (r : Result A E) → ((s : State) (a : A) → Stands old.now s → fits s a → more s a) → Reads fits old new r → Reads more old new r
+reads_standing fits more old new (Ok a) then it = record {
+  clean = it.clean;
+  was_open = it.was_open;
+  is_open = it.is_open;
+  answer = λ clean s rests. then s a (rests.stands (it.was_open clean)) (it.answer clean s rests);
+  same = it.same;
+  crash = it.crash;
+}
+reads_standing fits more old new (Err e) then it = record { clean = it.clean; was_open = it.was_open; is_open = it.is_open; answer = it.answer; same = it.same; crash = it.crash }
+
 -- ---- reads one after the other
 
 -- what is made of an answer
@@ -108,6 +120,19 @@ told_ok (Err e) told Q a cases is = absurd (subst (λ t. IsErrAnd t (Q e)) is ca
 pub mapped : {A E F : Type 0} (fits : State → A → Type 0) (old new : Connected) (r : Result A E) (told : Result A F) (Q : E → F → Type 0) (a : A) → MatchResult r (λ x. told ≡ Ok x) (λ e. IsErrAnd told (Q e)) → told ≡ Ok a
     → Reads fits old new r → Reads {A = A} {E = F} fits old new (Ok a)
 mapped fits old new r told Q a cases is it = read_ok fits fits old new a a (λ s r found. found) (subst (λ r. Reads fits old new r) (told_ok r told Q a cases is) it)
+
+-- an answer whose error is told in other words
+pub reads_told : {A E F : Type 0} (fits more : State → A → Type 0) (old new : Connected) (r : Result A E) (told : Result A F) (Q : E → F → Type 0)
+    → MatchResult r (λ x. told ≡ Ok x) (λ e. IsErrAnd told (Q e)) → ((s : State) (a : A) → Rests old s → fits s a → more s a) → Reads fits old new r → Reads more old new told
+reads_told {A = A} {F = F} fits more old new (Ok a) told Q cases less it = subst (λ (t : Result A F). Reads more old new t) (sym cases) (read_ok fits more old new a a (λ s r found. less s a r found) it)
+reads_told fits more old new (Err e) (Ok b) Q cases less it = absurd cases
+reads_told fits more old new (Err e) (Err f) Q cases less it = read_err fits more old new (Err e) f it
+
+-- what is read of an answer
+pub read_if : {A B D F : Type 0} (fits : State → A → Type 0) (more : State → B → Type 0) (old new : Connected) (a : A) (r : Result B F) (P : B → Type 0)
+    → IfOk r P → ((s : State) (b : B) → P b → fits s a → more s b) → Reads {A = A} {E = D} fits old new (Ok a) → Reads more old new r
+read_if fits more old new a (Ok b) P is then it = read_ok fits more old new a b (λ s r found. then s b is found) it
+read_if fits more old new a (Err e) P is then it = read_err fits more old new (Ok a) e it
 
 -- a read, and what is made of its answer, if anything is
 pub read_told : {A B D E F : Type 0} (fits : State → A → Type 0) (more : State → B → Type 0) (old new : Connected) (a : A) (r : Result B E) (told : Result B F) (Q : E → F → Type 0) (P : B → Type 0)

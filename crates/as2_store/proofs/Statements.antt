@@ -1,5 +1,7 @@
 -- The texts of the statements.
 use Rattle.std.specs.Prelude.{codes, List, ℕ}
+use Rattle.as2_store.specs.declared.contents.Mailbox.{Mailbox}
+use Rattle.as2_store.specs.declared.contents.Mailbox.TheVariants.{Inbox, Outbox}
 
 -- ---- the tables
 
@@ -38,13 +40,18 @@ meta_read_text = codes "SELECT kind, version, next_receipt, next_document FROM m
 abbrev pub receipt_text : List ℕ
 receipt_text = codes "UPDATE meta SET next_receipt = ?2 WHERE next_receipt = ?1"
 
+abbrev pub document_text : List ℕ
+document_text = codes "UPDATE meta SET next_document = ?2 WHERE next_document = ?1"
+
 -- ---- the inbox
 
 abbrev pub in_put_text : List ℕ
 in_put_text = codes "INSERT INTO inbox (number, sender, receiver, identifier_value, identifier, content_type, length, moment, outcome, how, url, digest, mic, mdn, tries, attempt, due) VALUES (?1, ?2, ?3, ?4, ?5, ?6, ?7, ?8, ?9, ?10, ?11, ?12, ?13, ?14, ?15, ?16, ?17)"
 
-abbrev pub in_piece_put_text : List ℕ
-in_piece_put_text = codes "INSERT INTO inbox_piece (number, position, bytes) VALUES (?1, ?2, ?3)"
+-- a piece of a content
+abbrev pub piece_put_text : Mailbox → List ℕ
+piece_put_text Inbox = codes "INSERT INTO inbox_piece (number, position, bytes) VALUES (?1, ?2, ?3)"
+piece_put_text Outbox = codes "INSERT INTO outbox_piece (number, position, bytes) VALUES (?1, ?2, ?3)"
 
 abbrev pub in_by_key_text : List ℕ
 in_by_key_text = codes "SELECT number, sender, receiver, identifier_value, identifier, content_type, length, moment, outcome, how, url, digest, mic, mdn, tries, attempt, due FROM inbox WHERE sender = ?1 AND receiver = ?2 AND identifier_value = ?3 ORDER BY number"
@@ -63,8 +70,17 @@ in_requeue_text = codes "UPDATE inbox SET mdn = 2, tries = 0, attempt = 1, due =
 
 -- ---- the outbox
 
+abbrev pub out_put_text : List ℕ
+out_put_text = codes "INSERT INTO outbox (number, organization, partner, identifier_value, identifier, length, moment, tries, attempt, due, detail) VALUES (?1, ?2, ?3, ?4, ?5, ?6, ?7, ?8, ?9, ?10, ?11)"
+
 abbrev pub out_by_id_text : List ℕ
 out_by_id_text = codes "SELECT number, organization, partner, identifier_value, identifier, length, moment, tries, attempt, due, detail FROM outbox WHERE identifier_value = ?1 ORDER BY number"
+
+abbrev pub out_by_number_text : List ℕ
+out_by_number_text = codes "SELECT number, organization, partner, identifier_value, identifier, length, moment, tries, attempt, due, detail FROM outbox WHERE number = ?1 ORDER BY number"
+
+abbrev pub out_by_details_text : List ℕ
+out_by_details_text = codes "SELECT number, organization, partner, identifier_value, identifier, length, moment, tries, attempt, due, detail FROM outbox WHERE detail >= ?1 AND detail <= ?2 ORDER BY number"
 
 abbrev pub out_pieces_text : List ℕ
 out_pieces_text = codes "SELECT number, position, bytes FROM outbox_piece WHERE number = ?1 ORDER BY position"
@@ -75,6 +91,9 @@ evidence_by_number_text = codes "SELECT number, moment, content_type, body FROM 
 abbrev pub evidence_put_text : List ℕ
 evidence_put_text = codes "INSERT INTO evidence (number, moment, content_type, body) VALUES (?1, ?2, ?3, ?4)"
 
+abbrev pub out_set_text : List ℕ
+out_set_text = codes "UPDATE outbox SET tries = ?2, attempt = ?3, due = ?4, detail = ?5 WHERE number = ?1"
+
 abbrev pub out_settle_text : List ℕ
 out_settle_text = codes "UPDATE outbox SET attempt = 1, due = NULL, detail = ?2 WHERE number = ?1"
 
@@ -83,8 +102,11 @@ out_settle_text = codes "UPDATE outbox SET attempt = 1, due = NULL, detail = ?2 
 abbrev pub waiting_put_text : List ℕ
 waiting_put_text = codes "INSERT INTO waiting (place, kind, number, due) VALUES (?1, ?2, ?3, ?4)"
 
+abbrev pub any_due_text : List ℕ
+any_due_text = codes "SELECT number FROM waiting WHERE kind = ?1 AND due <= ?2 LIMIT 1"
+
+abbrev pub least_due_text : List ℕ
+least_due_text = codes "SELECT number FROM waiting WHERE place >= ?1 AND place < ?2 AND due <= ?3 ORDER BY place LIMIT 1"
+
 abbrev pub waiting_take_text : List ℕ
 waiting_take_text = codes "DELETE FROM waiting WHERE place = ?1"
-
-abbrev pub document_take_text : List ℕ
-document_take_text = codes "DELETE FROM waiting WHERE number = ?1 AND kind <> 2"

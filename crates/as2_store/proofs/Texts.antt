@@ -12,14 +12,15 @@ use Rattle.sqlite_schema.specs.declared.schema.Index.{Index}
 use Rattle.sqlite.specs.Listing.{understood, reads_listing}
 use Rattle.sqlite.proofs.Callers.{IsPlain, command_of}
 use Rattle.sqlite_sql.specs.declared.ops.BinaryOp.TheVariants.{Compare}
-use Rattle.sqlite_sql.specs.declared.ops.CompareOp.TheVariants.{Eq, Ne}
+use Rattle.sqlite_sql.specs.declared.ops.CompareOp.TheVariants.{Eq, Ge, Le, Lt}
 use Rattle.sqlite_tied.specs.Compute.{everything}
 use Rattle.sql_tables.specs.Changes.{over_table}
 use Rattle.sql_tables.proofs.Queries.{by_number, by_column}
 use Rattle.sql_tables.proofs.Changing.{update_program}
 use Rattle.sql_tables.proofs.Deleting.{delete_program}
+use Rattle.as2_store.specs.declared.contents.Mailbox.TheVariants.{Inbox, Outbox}
 use Rattle.as2_store.specs.Tables.{store_schema, meta_table, meta_tree, inbox_tree, inbox_piece_tree, outbox_tree, outbox_piece_tree, evidence_tree, waiting_tree}
-use Rattle.as2_store.proofs.Statements.{meta_put_text, meta_read_text, receipt_text, in_put_text, in_piece_put_text, in_by_key_text, in_by_number_text, in_all_text, in_pieces_text, in_requeue_text, out_by_id_text, out_pieces_text, evidence_by_number_text, evidence_put_text, out_settle_text, waiting_put_text, waiting_take_text, document_take_text}
+use Rattle.as2_store.proofs.Statements.{meta_put_text, meta_read_text, receipt_text, document_text, in_put_text, piece_put_text, in_by_key_text, in_by_number_text, in_all_text, in_pieces_text, in_requeue_text, out_put_text, out_by_id_text, out_by_number_text, out_by_details_text, out_pieces_text, evidence_by_number_text, evidence_put_text, out_set_text, out_settle_text, waiting_put_text, waiting_take_text, any_due_text, least_due_text}
 
 -- ---- the counters
 
@@ -70,6 +71,20 @@ pub receipt_plain : IsPlain (understood store_schema receipt_text)
 unfolding understood everything
 receipt_plain = (refl, refl)
 
+abbrev pub document_project : List Term
+document_project = col 1 0 ∷ col 1 1 ∷ col 1 2 ∷ col 1 3 ∷ col 0 1 ∷ []
+
+abbrev pub document_terms : List Term
+document_terms = op2 (Compare Eq Binary) (col 1 4) (col 0 0) ∷ []
+
+pub document_is : command_of (understood store_schema document_text) ≡ Update 0 (update_program meta_tree document_terms document_project)
+unfolding understood everything
+document_is = refl
+
+pub document_plain : IsPlain (understood store_schema document_text)
+unfolding understood everything
+document_plain = (refl, refl)
+
 -- ---- the inbox
 
 abbrev pub in_put_terms : List Term
@@ -84,16 +99,24 @@ pub in_put_plain : IsPlain (understood store_schema in_put_text)
 unfolding understood everything
 in_put_plain = (refl, refl)
 
-abbrev pub in_piece_put_terms : List Term
-in_piece_put_terms = lit Null ∷ col 0 0 ∷ col 0 1 ∷ col 0 2 ∷ []
+abbrev pub piece_put_terms : List Term
+piece_put_terms = lit Null ∷ col 0 0 ∷ col 0 1 ∷ col 0 2 ∷ []
 
-pub in_piece_put_is : command_of (understood store_schema in_piece_put_text) ≡ Insert 2 (Values in_piece_put_terms 4)
+pub in_piece_put_is : command_of (understood store_schema (piece_put_text Inbox)) ≡ Insert 2 (Values piece_put_terms 4)
 unfolding understood everything
 in_piece_put_is = refl
 
-pub in_piece_put_plain : IsPlain (understood store_schema in_piece_put_text)
+pub in_piece_put_plain : IsPlain (understood store_schema (piece_put_text Inbox))
 unfolding understood everything
 in_piece_put_plain = (refl, refl)
+
+pub out_piece_put_is : command_of (understood store_schema (piece_put_text Outbox)) ≡ Insert 4 (Values piece_put_terms 4)
+unfolding understood everything
+out_piece_put_is = refl
+
+pub out_piece_put_plain : IsPlain (understood store_schema (piece_put_text Outbox))
+unfolding understood everything
+out_piece_put_plain = (refl, refl)
 
 abbrev pub in_column_terms : List Term
 in_column_terms =
@@ -180,6 +203,17 @@ in_requeue_plain = (refl, refl)
 
 -- ---- the outbox
 
+abbrev pub out_put_terms : List Term
+out_put_terms = col 0 0 ∷ lit Null ∷ col 0 1 ∷ col 0 2 ∷ col 0 3 ∷ col 0 4 ∷ col 0 5 ∷ col 0 6 ∷ col 0 7 ∷ col 0 8 ∷ col 0 9 ∷ col 0 10 ∷ []
+
+pub out_put_is : command_of (understood store_schema out_put_text) ≡ Insert 3 (Values out_put_terms 12)
+unfolding understood everything
+out_put_is = refl
+
+pub out_put_plain : IsPlain (understood store_schema out_put_text)
+unfolding understood everything
+out_put_plain = (refl, refl)
+
 abbrev pub out_column_terms : List Term
 out_column_terms = col 1 0 ∷ col 1 2 ∷ col 1 3 ∷ col 1 4 ∷ col 1 5 ∷ col 1 6 ∷ col 1 7 ∷ col 1 8 ∷ col 1 9 ∷ col 1 10 ∷ col 1 11 ∷ []
 
@@ -201,6 +235,33 @@ out_by_id_plain = (refl, refl)
 pub out_by_id_unlisted : reads_listing store_schema out_by_id_text ≡ false
 unfolding understood everything
 out_by_id_unlisted = refl
+
+abbrev pub details_terms : List Term
+details_terms = op2 (Compare Ge Binary) (col 1 11) (col 0 0) ∷ op2 (Compare Le Binary) (col 1 11) (col 0 1) ∷ []
+
+pub out_by_details_is : command_of (understood store_schema out_by_details_text) ≡ Select (record { lets = []; body = over_table outbox_tree details_terms out_column_terms by_number (lit (Int (negsuc 0))) }) out_names
+unfolding understood everything
+out_by_details_is = refl
+
+pub out_by_details_plain : IsPlain (understood store_schema out_by_details_text)
+unfolding understood everything
+out_by_details_plain = (refl, refl)
+
+pub out_by_details_unlisted : reads_listing store_schema out_by_details_text ≡ false
+unfolding understood everything
+out_by_details_unlisted = refl
+
+pub out_by_number_is : command_of (understood store_schema out_by_number_text) ≡ Select (record { lets = []; body = over_table outbox_tree number_terms out_column_terms by_number (lit (Int (negsuc 0))) }) out_names
+unfolding understood everything
+out_by_number_is = refl
+
+pub out_by_number_plain : IsPlain (understood store_schema out_by_number_text)
+unfolding understood everything
+out_by_number_plain = (refl, refl)
+
+pub out_by_number_unlisted : reads_listing store_schema out_by_number_text ≡ false
+unfolding understood everything
+out_by_number_unlisted = refl
 
 pub out_pieces_is : command_of (understood store_schema out_pieces_text)
     ≡ Select (record { lets = []; body = over_table outbox_piece_tree piece_terms piece_column_terms (by_column 2) (lit (Int (negsuc 0))) }) (codes "number" ∷ codes "position" ∷ codes "bytes" ∷ [])
@@ -249,6 +310,18 @@ abbrev pub settle_project : List Term
 settle_project =
     col 1 0 ∷ lit Null ∷ col 1 2 ∷ col 1 3 ∷ col 1 4 ∷ col 1 5 ∷ col 1 6 ∷ col 1 7 ∷ col 1 8 ∷ lit (Int (pos 1)) ∷ lit Null ∷ col 0 1 ∷ []
 
+abbrev pub set_project : List Term
+set_project =
+    col 1 0 ∷ lit Null ∷ col 1 2 ∷ col 1 3 ∷ col 1 4 ∷ col 1 5 ∷ col 1 6 ∷ col 1 7 ∷ col 0 1 ∷ col 0 2 ∷ col 0 3 ∷ col 0 4 ∷ []
+
+pub out_set_is : command_of (understood store_schema out_set_text) ≡ Update 3 (update_program outbox_tree number_terms set_project)
+unfolding understood everything
+out_set_is = refl
+
+pub out_set_plain : IsPlain (understood store_schema out_set_text)
+unfolding understood everything
+out_set_plain = (refl, refl)
+
 pub out_settle_is : command_of (understood store_schema out_settle_text) ≡ Update 3 (update_program outbox_tree number_terms settle_project)
 unfolding understood everything
 out_settle_is = refl
@@ -270,6 +343,39 @@ pub waiting_put_plain : IsPlain (understood store_schema waiting_put_text)
 unfolding understood everything
 waiting_put_plain = (refl, refl)
 
+abbrev pub due_columns : List Term
+due_columns = col 1 3 ∷ []
+
+abbrev pub any_due_terms : List Term
+any_due_terms = op2 (Compare Eq Binary) (col 1 2) (col 0 0) ∷ op2 (Compare Le Binary) (col 1 4) (col 0 1) ∷ []
+
+pub any_due_is : command_of (understood store_schema any_due_text) ≡ Select (record { lets = []; body = over_table waiting_tree any_due_terms due_columns [] (lit (Int (pos 1))) }) (codes "number" ∷ [])
+unfolding understood everything
+any_due_is = refl
+
+pub any_due_plain : IsPlain (understood store_schema any_due_text)
+unfolding understood everything
+any_due_plain = (refl, refl)
+
+pub any_due_unlisted : reads_listing store_schema any_due_text ≡ false
+unfolding understood everything
+any_due_unlisted = refl
+
+abbrev pub least_due_terms : List Term
+least_due_terms = op2 (Compare Ge Binary) (col 1 0) (col 0 0) ∷ op2 (Compare Lt Binary) (col 1 0) (col 0 1) ∷ op2 (Compare Le Binary) (col 1 4) (col 0 2) ∷ []
+
+pub least_due_is : command_of (understood store_schema least_due_text) ≡ Select (record { lets = []; body = over_table waiting_tree least_due_terms due_columns by_number (lit (Int (pos 1))) }) (codes "number" ∷ [])
+unfolding understood everything
+least_due_is = refl
+
+pub least_due_plain : IsPlain (understood store_schema least_due_text)
+unfolding understood everything
+least_due_plain = (refl, refl)
+
+pub least_due_unlisted : reads_listing store_schema least_due_text ≡ false
+unfolding understood everything
+least_due_unlisted = refl
+
 pub waiting_take_is : command_of (understood store_schema waiting_take_text) ≡ Delete 6 (delete_program waiting_tree number_terms)
 unfolding understood everything
 waiting_take_is = refl
@@ -277,14 +383,3 @@ waiting_take_is = refl
 pub waiting_take_plain : IsPlain (understood store_schema waiting_take_text)
 unfolding understood everything
 waiting_take_plain = (refl, refl)
-
-abbrev pub document_terms : List Term
-document_terms = op2 (Compare Eq Binary) (col 1 3) (col 0 0) ∷ op2 (Compare Ne Binary) (col 1 2) (lit (Int (pos 2))) ∷ []
-
-pub document_take_is : command_of (understood store_schema document_take_text) ≡ Delete 6 (delete_program waiting_tree document_terms)
-unfolding understood everything
-document_take_is = refl
-
-pub document_take_plain : IsPlain (understood store_schema document_take_text)
-unfolding understood everything
-document_take_plain = (refl, refl)

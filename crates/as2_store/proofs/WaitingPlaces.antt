@@ -3,9 +3,10 @@ use Rattle.std.proofs.Common.{◌≡◌, ℕ, ◌<◌, ◌==◌, ◌&&◌, List,
 use Rattle.std.specs.List.{AllByRecursion, filter_map, cons_option}
 use Rattle.std.proofs.lemmas.Bool.Decides.{nat_tests}
 use Rattle.std.proofs.lemmas.List.Elements.{filter-append, filter_agree}
+use Rattle.sqlite.specs.Order.{Row}
 use Rattle.sqlite.specs.Tree.{put_row, IsTable, IsAscending}
 use Rattle.sqlite.specs.State.{State as Connected, Executes}
-use Rattle.sqlite_trees.proofs.ListLemmas.{all-append, all_weaker, all_both, filter_all, ascending-append, ascending-filter}
+use Rattle.sqlite_trees.proofs.ListLemmas.{all-append, all_weaker, all_both, filter_all, ascending-append, ascending-filter, ascending-map, ascending_from_map}
 use Rattle.sql_tables.specs.Changes.{Changed, passes}
 use Rattle.sql_tables.proofs.Queries.{numbers_equal}
 use Rattle.sql_tables.proofs.Deleting.{deletes}
@@ -16,9 +17,10 @@ use Rattle.as2_rows.specs.Waiting.{WaitingRow, out_kind, in_kind, in_waiting, ou
 use Rattle.as2_store.specs.Tables.{store_schema, waiting_table, waiting_tree}
 use Rattle.as2_store.proofs.Statements.{waiting_take_text}
 use Rattle.as2_store.specs.Stands.{place, waiting_row, documents_waiting}
-use Rattle.as2_store.specs.Requeuing.{HoldsWaiting, not_at}
+use Rattle.as2_store.specs.Requeuing.{HoldsWaiting, Renewed, not_at}
 use Rattle.as2_store.proofs.MetaRow.{one_param}
 use Rattle.as2_store.proofs.NumberedRows.{given_rise, ordered_rise, puts_between}
+use Rattle.as2_store.proofs.AddedPieces.{others_then}
 use Rattle.as2_store.proofs.WaitingRows.{IsOf, IsLast}
 use Rattle.as2_store.proofs.QueriedRows.{and_true}
 use Rattle.as2_store.proofs.ForeignKeys.{quiet}
@@ -31,6 +33,23 @@ takes_waiting p count old new ws it h =
     let done = deletes waiting_take_text (one_param p) old new store_schema it.schema 6 waiting_table refl number_terms (λ (w : WaitingRow). pos (place w)) waiting_row (λ _. refl) ws it.rows it.in_order (quiet waiting_tree) waiting_take_is waiting_take_plain count h in
     subst (λ l. Changed old new store_schema waiting_tree (map waiting_row l))
     (filter_agree (λ (w : WaitingRow). not (passes number_terms (one_param p) (waiting_row w))) (λ (w : WaitingRow). not (place w == p)) (λ w. ap not (ap (λ b. b && true) (numbers_equal (place w) p) ∙ and_true _)) ws) done.0
+
+-- what waits is in order once some of it is taken out
+pub still_held : (old new : Connected) (p : ℕ) (ws : List WaitingRow) → HoldsWaiting old.now ws → Changed old new store_schema waiting_tree (map waiting_row (not_at p ws)) → HoldsWaiting new.now (not_at p ws)
+still_held old new p ws it done = record {
+  schema = done.schema_is;
+  rows = done.rows_are;
+  in_order = ascending-map _ waiting_row (not_at p ws) (ascending-filter _ (λ w. not (place w == p)) ws (ascending_from_map _ waiting_row ws it.in_order));
+}
+
+-- three statements, one after another
+pub taken_then : (a b c d : Connected) (first second third : List Row) → Changed a b store_schema waiting_tree first → Changed b c store_schema waiting_tree second → Changed c d store_schema waiting_tree third → Renewed a d third
+taken_then a b c d first second third one two three = record {
+  sound = three.sound;
+  schema_is = three.schema_is;
+  rows_are = three.rows_are;
+  others = others_then a.now.trees b.now.trees d.now.trees waiting_tree store_schema.tables one.others (others_then b.now.trees c.now.trees d.now.trees waiting_tree store_schema.tables two.others three.others);
+}
 
 -- ---- the places rise
 
@@ -99,7 +118,7 @@ kept_high p ws all = all_weaker (λ w. p < place w) (λ w. not (place w == p) �
 dropped : (p q : ℕ) → q ≡ p → not (q == p) ≡ false
 dropped p q same = grind (arith, nat_tests)
 
-taken : (p : ℕ) (o : Option WaitingRow) → IfSome o (λ w. place w ≡ p) → (front back : List WaitingRow) → AllByRecursion (λ w. place w < p) front → AllByRecursion (λ w. p < place w) back
+pub taken : (p : ℕ) (o : Option WaitingRow) → IfSome o (λ w. place w ≡ p) → (front back : List WaitingRow) → AllByRecursion (λ w. place w < p) front → AllByRecursion (λ w. p < place w) back
     → not_at p (front ++ cons_option o back) ≡ front ++ back
 taken p None at front back low high =
     filter-append (λ w. not (place w == p)) front back ∙ ap₂ ◌++◌ (filter_all _ front (kept_low p front low)) (filter_all _ back (kept_high p back high))

@@ -24,7 +24,7 @@ use Rattle.as2_rows.specs.Waiting.{WaitingRow, out_kind, in_kind, in_waiting, wa
 use Rattle.as2_store.specs.Tables.{store_schema, waiting_table}
 use Rattle.as2_store.proofs.Statements.{waiting_put_text}
 use Rattle.as2_store.specs.Stands.{place, waiting_row, documents_waiting, all_waiting}
-use Rattle.as2_store.specs.Adding.{Noted, with_received}
+use Rattle.as2_store.specs.Adding.{Noted, noted_rows, with_received}
 use Rattle.as2_store.proofs.NumberedRows.{puts_between}
 use Rattle.as2_store.proofs.Texts.{waiting_put_terms, waiting_put_is, waiting_put_plain}
 
@@ -87,10 +87,6 @@ pub documents_of : (kind next : ℕ) (ds : List OutEntry) → AllByRecursion (λ
 documents_of kind next ds all = kind_below kind next (waiting_out ds) (outs_small next ds all)
 
 -- ---- the rows with one more
-
-abbrev pub noted_rows : Option WaitingRow → List Row → List Row
-noted_rows None rows = rows
-noted_rows (Some w) rows = put_row (waiting_row w) rows
 
 abbrev pub IsLast : ℕ → WaitingRow → Type 0
 IsLast n w = (w.kind ≡ to_answer) × (w.number ≡ n)

@@ -1,14 +1,18 @@
 -- An entry more, and what the statements that add it leave.
 use Rattle.std.specs.Prelude.{if◌then◌else◌, ◌==◌, ◌≡◌, ◌≢◌, ℕ, ◌+◌, ◌<◌, ◌^◌, List, [], ◌∷◌, ◌++◌, length, map, Option, Some, None, IfSome}
 use Rattle.std.specs.List.{AllByRecursion}
+use Rattle.sqlite.specs.Order.{Row}
 use Rattle.sqlite.specs.Tree.{put_row}
 use Rattle.sqlite.specs.State.{State as Connected}
 use Rattle.sql_tables.specs.Changes.{Changed, HasRows}
 use Rattle.as2_exchange.specs.State.{State}
 use Rattle.as2_exchange.specs.declared.inbox.InEntry.{InEntry}
+use Rattle.as2_exchange.specs.declared.outbox.OutEntry.{OutEntry}
 use Rattle.as2_rows.specs.Contents.{Piece, piece_shown}
 use Rattle.as2_rows.specs.Waiting.{WaitingRow}
-use Rattle.as2_store.specs.Tables.{store_schema, waiting_tree}
+use Rattle.as2_store.specs.Tables.{store_schema, inbox_piece_tree, outbox_piece_tree, waiting_tree}
+use Rattle.as2_store.specs.declared.contents.Mailbox.{Mailbox}
+use Rattle.as2_store.specs.declared.contents.Mailbox.TheVariants.{Inbox, Outbox}
 use Rattle.as2_store.specs.Stands.{HasCounters, HasEntries, waiting_row}
 use Rattle.sqlite.specs.Effect.{Database}
 
@@ -20,11 +24,24 @@ with_received s e = record s { inbox = s.inbox ++ e ∷ []; next_in = s.next_in 
 abbrev pub added : InEntry → State → Option State
 added e s = if e.number == s.next_in then Some (with_received s e) else None
 
+-- the state with a document more in its outbox, under the next number
+abbrev pub with_document : State → OutEntry → State
+with_document s d = record s { outbox = s.outbox ++ d ∷ []; next_out = s.next_out + 1 }
+
+-- the state once the document is added, if it has the next number
+abbrev pub added_document : OutEntry → State → Option State
+added_document d s = if d.number == s.next_out then Some (with_document s d) else None
+
 -- the numbers of an entry fit into columns
-pub record Fits (e : InEntry) : Type 0 where
-  pub content : length e.posted.content < 2 ^ 63
-  pub tries : e.tries < 2 ^ 63
-  pub due : IfSome e.due (λ due. due < 2 ^ 63)
+pub record Fits (content : List ℕ) (tries : ℕ) (due : Option ℕ) : Type 0 where
+  pub length_fits : length content < 2 ^ 63
+  pub tries_fit : tries < 2 ^ 63
+  pub due_fits : IfSome due (λ due. due < 2 ^ 63)
+
+-- the tree of the pieces of its contents
+abbrev pub piece_tree : Mailbox → ℕ
+piece_tree Inbox = inbox_piece_tree
+piece_tree Outbox = outbox_piece_tree
 
 -- pieces were put into a table beside those that were there, and the other tables are as they were
 pub record Appended (old new : Connected) (tree : ℕ) (ps : List Piece) : Type 0 where
@@ -37,7 +54,12 @@ abbrev pub Noted : Connected → Connected → Option WaitingRow → Type 0
 Noted old new None = new.now ≡ old.now
 Noted old new (Some w) = Changed old new store_schema waiting_tree (put_row (waiting_row w) (old.now.trees waiting_tree))
 
--- the entry is in the tables, where it has the next number, and the counter isn't raised yet
-pub record IsEntered (d : Database) (s : State) (e : InEntry) : Type 0 where
+-- the rows with one more for what waits, if something does
+abbrev pub noted_rows : Option WaitingRow → List Row → List Row
+noted_rows None rows = rows
+noted_rows (Some w) rows = put_row (waiting_row w) rows
+
+-- an entry of this number is in the tables, where that is the next one, as in the later state; the counter isn't raised yet
+pub record IsEntered (d : Database) (s : State) (number next : ℕ) (later : State) : Type 0 where
   pub counters : HasCounters d s.next_in s.next_out
-  pub entries : e.number ≡ s.next_in → HasEntries d (with_received s e)
+  pub entries : number ≡ next → HasEntries d later

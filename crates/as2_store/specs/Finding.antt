@@ -1,8 +1,8 @@
 -- Which entry is looked for, and what is shown of a document that is found.
-use Rattle.std.specs.Prelude.{◌≡◌, find, ℕ, List, [], ◌∷◌, Option, Some, None, Bool, bytes_eq}
+use Rattle.std.specs.Prelude.{◌≡◌, find, ℕ, List, [], ◌∷◌, Option, Some, None, option_and_then, Bool, bytes_eq}
 use Rattle.as2_names.specs.Identifiers.{value_of}
 use Rattle.sqlite.specs.Order.{Row}
-use Rattle.as2_exchange.specs.State.{State, has_key}
+use Rattle.as2_exchange.specs.State.{State, document, has_key}
 use Rattle.as2_store.specs.declared.counters.NextNumbers.{NextNumbers}
 use Rattle.as2_exchange.specs.declared.inbox.InEntry.{InEntry}
 use Rattle.as2_exchange.specs.declared.outbox.Evidence.{Evidence}
@@ -21,6 +21,10 @@ pub record AreNext (next : NextNumbers) (s : State) : Type 0 where
 -- it has an identifier of this value
 abbrev pub has_id : List ℕ → OutEntry → Bool
 has_id value d = bytes_eq (value_of d.id) value
+
+-- the receipt that settled the document of this number, if one has
+abbrev pub evidence_at : State → ℕ → Option Evidence
+evidence_at s n = option_and_then (λ d. d.evidence) (document s n)
 
 -- the rows of a document's evidence, as a query shows them
 abbrev pub shown_evidence : ℕ → Option Evidence → List Row

@@ -3,5 +3,8 @@ pub mod Stands
 pub mod Calls
 pub mod Adding
 pub mod Finding
+pub mod Listing
 pub mod Requeuing
+pub mod Due
 pub mod Settling
+pub mod Progressing

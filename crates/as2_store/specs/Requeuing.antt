@@ -2,6 +2,7 @@
 use Rattle.std.specs.Prelude.{◌≡◌, ◌≢◌, ◌==◌, ℕ, List, map, filter, not, Option, Some}
 use Rattle.std.specs.List.{AllByRecursion}
 use Rattle.sqlite.specs.Effect.{Database, IsDatabase}
+use Rattle.sqlite.specs.Order.{Row}
 use Rattle.sqlite.specs.State.{State as Connected}
 use Rattle.sqlite.specs.Tree.{put_row, IsTable}
 use Rattle.as2_exchange.specs.Recording.{requeued}
@@ -24,9 +25,13 @@ pub record HoldsWaiting (d : Database) (ws : List WaitingRow) : Type 0 where
 abbrev pub not_at : ℕ → List WaitingRow → List WaitingRow
 not_at p ws = filter (λ w. not (place w == p)) ws
 
--- this waits, in place of what stood at its place, and the other tables are as they were
-pub record Renewed (old new : Connected) (w : WaitingRow) (ws : List WaitingRow) : Type 0 where
+-- this waits, in place of what stood at its place
+abbrev pub anew : WaitingRow → List WaitingRow → List Row
+anew w ws = put_row (waiting_row w) (map waiting_row (not_at (place w) ws))
+
+-- the rows of what waits are these, and the other tables are as they were
+pub record Renewed (old new : Connected) (rows : List Row) : Type 0 where
   pub sound : IsDatabase new.now
   pub schema_is : new.now.schema ≡ store_schema
-  pub rows_are : new.now.trees waiting_tree ≡ put_row (waiting_row w) (map waiting_row (not_at (place w) ws))
+  pub rows_are : new.now.trees waiting_tree ≡ rows
   pub others : AllByRecursion (λ t. t.tree ≢ waiting_tree → new.now.trees t.tree ≡ old.now.trees t.tree) store_schema.tables

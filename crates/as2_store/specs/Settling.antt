@@ -1,12 +1,13 @@
 -- A receipt settles a document.
-use Rattle.std.specs.Prelude.{ℕ, Bool, true, ◌==◌, ◌&&◌, ◌||◌, not, if◌then◌else◌, List, filter, Option, Some, None}
+use Rattle.std.specs.Prelude.{ℕ, ◌+◌, ◌*◌, true, ◌||◌, not, if◌then◌else◌, List, Option, Some, None}
 use Rattle.std.specs.Option.{option_map_or}
 use Rattle.as2_mdn.specs.declared.detail.Detail.{Detail}
 use Rattle.as2_exchange.specs.Documents.{settled_as}
-use Rattle.as2_exchange.specs.State.{State, document, change_document, is_settled}
+use Rattle.as2_exchange.specs.State.{State, document, change_document, end_of_numbers, is_settled}
 use Rattle.as2_exchange.specs.Invariants.{is_by_receipt}
 use Rattle.as2_exchange.specs.declared.outbox.Evidence.{Evidence}
-use Rattle.as2_rows.specs.Waiting.{WaitingRow, to_answer}
+use Rattle.as2_rows.specs.Waiting.{WaitingRow, to_send, to_hear, to_end}
+use Rattle.as2_store.specs.Requeuing.{not_at}
 
 -- the state once a receipt settles the document of this number so: one that no receipt has settled, by a detail that a receipt
 -- gives
@@ -15,10 +16,10 @@ settled_in n detail evidence s =
     if option_map_or is_settled (document s n) true || not (is_by_receipt detail) then None
     else Some (change_document s n (settled_as detail evidence))
 
--- the document of this number waits
-abbrev pub of_document : ℕ → WaitingRow → Bool
-of_document n w = w.number == n && not (w.kind == to_answer)
+-- where the row stands of what the document of this number waits for
+abbrev pub place_of : ℕ → ℕ → ℕ
+place_of kind n = kind * end_of_numbers + n
 
--- all but what the document of this number waits for
+-- all but what the document of this number waits for: to be sent, to hear of its receipt, or the end of its last try
 abbrev pub without_document : ℕ → List WaitingRow → List WaitingRow
-without_document n ws = filter (λ w. not (of_document n w)) ws
+without_document n ws = not_at (place_of to_end n) (not_at (place_of to_hear n) (not_at (place_of to_send n) ws))

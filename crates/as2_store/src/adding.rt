@@ -6,9 +6,9 @@ ghost use Rattle.sqlite.specs.State.{HasCleanDisk};
 ghost use Rattle.as2_store.specs.Calls.{IsInside, Writes};
 ghost use Rattle.as2_exchange.specs.State.{State, end_of_numbers};
 ghost use Rattle.as2_store.specs.Stands.{Stands};
-ghost use Rattle.as2_store.specs.Adding.{Fits, IsEntered, added};
+ghost use Rattle.as2_store.specs.Adding.{Fits, IsEntered, added, with_received};
 
-use crate::contents::put_in_pieces;
+use crate::contents::{Mailbox, put_pieces};
 use crate::counters::raise_next_receipt;
 use crate::inbox::put_in;
 use crate::waiting::put_in_waiting;
@@ -18,14 +18,14 @@ use sqlite::{Alter, Connection, Error, Transaction};
 /// Puts in the row, the content and the wait of an entry of the inbox.
 fn put_received<S: Alter>(tx: &mut Transaction<'_, S>, entry: &InEntry) -> Result<(), Error>
     requires number { entry.now.number < end_of_numbers }
-    requires fits { Fits entry.now }
+    requires fits { Fits entry.now.posted.content entry.now.tries entry.now.due }
     ensures same_reference { tx.new.conn.ghost_name ≡ tx.old.conn.ghost_name }
     ensures within { IsInside (state S.Store tx.old.conn.now) (state S.Store tx.new.conn.now) }
     ensures open { HasCleanDisk (state S.Store tx.new.conn.now) → OnOk result (IsTrue (state S.Store tx.old.conn.now).is_open) }
-    ensures put { HasCleanDisk (state S.Store tx.new.conn.now) → OnOk result ((s : State) → Stands (state S.Store tx.old.conn.now).now s → IsEntered (state S.Store tx.new.conn.now).now s entry.now) }
+    ensures put { HasCleanDisk (state S.Store tx.new.conn.now) → OnOk result ((s : State) → Stands (state S.Store tx.old.conn.now).now s → IsEntered (state S.Store tx.new.conn.now).now s entry.now.number s.next_in (with_received s entry.now)) }
 {
     put_in(tx, entry)?;
-    put_in_pieces(tx, entry.number, &entry.posted.content)?;
+    put_pieces(tx, Mailbox::Inbox, entry.number, &entry.posted.content)?;
     put_in_waiting(tx, entry)?;
     Ok(())
 }
@@ -34,7 +34,7 @@ fn put_received<S: Alter>(tx: &mut Transaction<'_, S>, entry: &InEntry) -> Resul
 pub fn add<S: Alter>(conn: &mut Connection<S>, entry: &InEntry) -> Result<(), Error>
     requires autocommit { conn.old.in_transaction ≡ false }
     requires number { entry.now.number < end_of_numbers }
-    requires fits { Fits entry.now }
+    requires fits { Fits entry.now.posted.content entry.now.tries entry.now.due }
     ensures autocommit { conn.new.in_transaction ≡ false }
     ensures added { Writes (added entry.now) (state S.Store conn.old) (state S.Store conn.new) result }
 {

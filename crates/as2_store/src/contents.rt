@@ -8,8 +8,8 @@ ghost use Rattle.as2_rows.specs.Contents.{pieces, piece_shown};
 ghost use Rattle.as2_exchange.specs.State.{State};
 ghost use Rattle.as2_exchange.specs.declared.inbox.InEntry.{InEntry as Entry};
 ghost use Rattle.as2_exchange.specs.declared.outbox.OutEntry.{OutEntry as Document};
-ghost use Rattle.as2_store.specs.Tables.{store_schema, inbox_piece_tree};
-ghost use Rattle.as2_store.specs.Adding.{Appended};
+ghost use Rattle.as2_store.specs.Tables.{store_schema};
+ghost use Rattle.as2_store.specs.Adding.{Appended, piece_tree};
 ghost use Rattle.as2_store.specs.Stands.{Rests};
 
 use crate::numbers::whole;
@@ -17,9 +17,17 @@ use crate::reading::query_all;
 use as2_mic::Pieces;
 use sqlite::{Alter, Connection, Error, Row, Transaction, params};
 
-/// Puts in a piece of the content of an entry of the inbox.
-fn put_in_piece<S: Alter>(
+/// Where an entry is kept.
+#[derive(Clone, Copy, Debug, PartialEq, Eq)]
+pub enum Mailbox {
+    Inbox,
+    Outbox,
+}
+
+/// Puts in a piece of the content of an entry.
+fn put_piece<S: Alter>(
     tx: &mut Transaction<'_, S>,
+    mailbox: Mailbox,
     number: u64,
     position: u64,
     bytes: &[u8],
@@ -29,20 +37,27 @@ fn put_in_piece<S: Alter>(
     ensures same_reference { tx.new.conn.ghost_name ≡ tx.old.conn.ghost_name }
     ensures within { IsInside (state S.Store tx.old.conn.now) (state S.Store tx.new.conn.now) }
     ensures put { HasCleanDisk (state S.Store tx.new.conn.now) → OnOk result ((state S.Store tx.old.conn.now).now.schema ≡ store_schema
-        → Appended (state S.Store tx.old.conn.now) (state S.Store tx.new.conn.now) inbox_piece_tree (record { number = number; position = position; bytes = bytes.now } ∷ [])) }
+        → Appended (state S.Store tx.old.conn.now) (state S.Store tx.new.conn.now) (piece_tree mailbox) (record { number = number; position = position; bytes = bytes.now } ∷ [])) }
 {
     let number = whole(number);
     let position = whole(position);
-    tx.execute(
-        "INSERT INTO inbox_piece (number, position, bytes) VALUES (?1, ?2, ?3)",
-        params![number, position, bytes],
-    )?;
+    match mailbox {
+        Mailbox::Inbox => tx.execute(
+            "INSERT INTO inbox_piece (number, position, bytes) VALUES (?1, ?2, ?3)",
+            params![number, position, bytes],
+        )?,
+        Mailbox::Outbox => tx.execute(
+            "INSERT INTO outbox_piece (number, position, bytes) VALUES (?1, ?2, ?3)",
+            params![number, position, bytes],
+        )?,
+    };
     Ok(())
 }
 
-/// Puts in all pieces of the content of an entry of the inbox.
-pub fn put_in_pieces<S: Alter>(
+/// Puts in all pieces of the content of an entry.
+pub fn put_pieces<S: Alter>(
     tx: &mut Transaction<'_, S>,
+    mailbox: Mailbox,
     number: u64,
     content: &Pieces,
 ) -> Result<(), Error>
@@ -51,11 +66,11 @@ pub fn put_in_pieces<S: Alter>(
     ensures same_reference { tx.new.conn.ghost_name ≡ tx.old.conn.ghost_name }
     ensures within { IsInside (state S.Store tx.old.conn.now) (state S.Store tx.new.conn.now) }
     ensures put { HasCleanDisk (state S.Store tx.new.conn.now) → OnOk result ((state S.Store tx.old.conn.now).now.schema ≡ store_schema
-        → Appended (state S.Store tx.old.conn.now) (state S.Store tx.new.conn.now) inbox_piece_tree (pieces number content.now)) }
+        → Appended (state S.Store tx.old.conn.now) (state S.Store tx.new.conn.now) (piece_tree mailbox) (pieces number content.now)) }
 {
     let mut i = 0;
     'pieces: while let Some(piece) = content.piece(i) {
-        put_in_piece(tx, number, i as u64, piece)?;
+        put_piece(tx, mailbox, number, i as u64, piece)?;
         i += 1;
     }
     Ok(())

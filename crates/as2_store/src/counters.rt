@@ -63,6 +63,27 @@ pub fn raise_next_receipt<S: Alter>(
     )
 }
 
+/// Raises the next number of a document past this one, and answers in how many rows it was this one.
+pub fn raise_next_document<S: Alter>(
+    tx: &mut Transaction<'_, S>,
+    number: u64,
+) -> Result<usize, Error>
+    requires { number + 1 < 2 ^ 63 }
+    ensures same_reference { tx.new.conn.ghost_name ≡ tx.old.conn.ghost_name }
+    ensures within { IsInside (state S.Store tx.old.conn.now) (state S.Store tx.new.conn.now) }
+    ensures open { HasCleanDisk (state S.Store tx.new.conn.now) → OnOk result (IsTrue (state S.Store tx.old.conn.now).is_open) }
+    ensures inside { HasCleanDisk (state S.Store tx.new.conn.now) → OnOk result (IsTrue (state S.Store tx.new.conn.now).in_transaction) }
+    ensures put { HasCleanDisk (state S.Store tx.new.conn.now) → IfOk result (λ count. (n m : ℕ) → HasCounters (state S.Store tx.old.conn.now).now n m → count ≢ 0
+        → (number ≡ m) × Changed (state S.Store tx.old.conn.now) (state S.Store tx.new.conn.now) store_schema meta_tree (meta_row n (number + 1) ∷ [])) }
+{
+    let next = whole(number + 1);
+    let number = whole(number);
+    tx.execute(
+        "UPDATE meta SET next_document = ?2 WHERE next_document = ?1",
+        params![number, next],
+    )
+}
+
 /// The row as it is shown.
 pub fn meta_rows<S: Alter>(conn: &mut Connection<S>) -> Result<Vec<Row>, Error>
     requires autocommit { conn.old.in_transaction ≡ false }

@@ -7,6 +7,7 @@ ghost use Rattle.as2_exchange.specs.State.{State};
 ghost use Rattle.as2_exchange.specs.declared.outbox.OutEntry.{OutEntry as Document};
 ghost use Rattle.as2_rows.specs.Rows.{out_shown};
 ghost use Rattle.as2_store.specs.Calls.{Reads};
+ghost use Rattle.as2_store.specs.Finding.{evidence_at};
 ghost use Rattle.as2_store.specs.Stands.{Rests, may_come};
 
 use crate::contents::out_piece_rows;
@@ -34,16 +35,15 @@ fn out_content<S: Alter>(
     content_in(alloc, &pieces, row.number, row.length).map_err(unread_row)
 }
 
-/// The receipt that settled a document, if one has.
-fn evidence_in<S: Alter>(
+/// The receipt that settled the document of this number, if there is one and one has.
+pub fn evidence_in<S: Alter>(
     conn: &mut Connection<S>,
     alloc: Global,
     number: u64,
 ) -> Result<Option<Evidence>, StoreFault>
     requires autocommit { conn.old.in_transaction ≡ false }
-    requires number { number < 2 ^ 63 }
     ensures autocommit { conn.new.in_transaction ≡ false }
-    ensures evidence { Reads (λ s evidence. (p : Document → Bool) (d : Document) → find p s.outbox ≡ Some d → number ≡ d.number → evidence ≡ d.evidence) (state S.Store conn.old) (state S.Store conn.new) result }
+    ensures evidence { Reads (λ s evidence. evidence ≡ evidence_at s number) (state S.Store conn.old) (state S.Store conn.new) result }
     ensures fault { IfErr result (λ f. may_come f ≡ true) }
 {
     let rows = evidence_rows(conn, number).map_err(fault_of)?;

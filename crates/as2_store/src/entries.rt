@@ -1,12 +1,11 @@
 //! Rows of the inbox as its entries.
 
-ghost use Rattle.std.specs.Prelude.{◌≡◌, ◌<◌, ◌^◌, Bool, true, false, List, Some, find, filter, map, IsTrue, IfOk, IfErr, OnOk};
+ghost use Rattle.std.specs.Prelude.{◌≡◌, ◌<◌, ◌^◌, Bool, true, false, Some, find, filter, map, IsTrue, IfErr};
 ghost use Rattle.sqlite.specs.Held.{state};
 ghost use Rattle.sqlite.specs.State.{HasCleanDisk};
 ghost use Rattle.as2_exchange.specs.State.{State};
 ghost use Rattle.as2_exchange.specs.declared.inbox.InEntry.{InEntry as Entry};
 ghost use Rattle.as2_rows.specs.Rows.{in_shown};
-ghost use Rattle.as2_rows.specs.Summaries.{in_summary};
 ghost use Rattle.as2_store.specs.Calls.{Reads};
 ghost use Rattle.as2_store.specs.Stands.{Rests, may_come};
 
@@ -55,20 +54,4 @@ pub fn shown_entry<S: Alter>(
     }
     let content = in_content(conn, alloc, &row)?;
     Ok(Some(row.with_content(content)))
-}
-
-/// The entries that the rows show, each with its length in place of the content.
-pub fn entries_in(alloc: Global, rows: &[Row]) -> Result<Vec<InRow>, StoreFault>
-    ensures entries { IfOk result (λ entries. (es : List Entry) → rows.now ≡ map in_shown es → entries.items ≡ map in_summary es) }
-    ensures fault { IfErr result (λ f. may_come f ≡ true) }
-{
-    let mut entries = Vec::new(alloc);
-    'rows: for row in rows {
-        let entry = InRow::read(alloc, row).map_err(unread_row)?;
-        match entries.push(entry) {
-            Ok(()) => (),
-            Err(_) => return Err(StoreFault::Memory),
-        }
-    }
-    Ok(entries)
 }

@@ -22,7 +22,7 @@ use sqlite::{Alter, Connection, Error, Row, Transaction, params};
 /// Puts in the row of an entry.
 pub fn put_in<S: Alter>(tx: &mut Transaction<'_, S>, entry: &InEntry) -> Result<(), Error>
     requires number { entry.now.number < 2 ^ 63 }
-    requires fits { Fits entry.now }
+    requires fits { Fits entry.now.posted.content entry.now.tries entry.now.due }
     ensures same_reference { tx.new.conn.ghost_name ≡ tx.old.conn.ghost_name }
     ensures within { IsInside (state S.Store tx.old.conn.now) (state S.Store tx.new.conn.now) }
     ensures open { HasCleanDisk (state S.Store tx.new.conn.now) → OnOk result (IsTrue (state S.Store tx.old.conn.now).is_open) }
@@ -90,18 +90,5 @@ pub fn rows_by_number<S: Alter>(conn: &mut Connection<S>, number: u64) -> Result
         conn,
         "SELECT number, sender, receiver, identifier_value, identifier, content_type, length, moment, outcome, how, url, digest, mic, mdn, tries, attempt, due FROM inbox WHERE number = ?1 ORDER BY number",
         params![param],
-    )
-}
-
-/// The rows of all entries, in order of number.
-pub fn all_rows<S: Alter>(conn: &mut Connection<S>) -> Result<Vec<Row>, Error>
-    requires autocommit { conn.old.in_transaction ≡ false }
-    ensures autocommit { conn.new.in_transaction ≡ false }
-    ensures rows { Reads (λ s rows. rows.items ≡ map in_shown s.inbox) (state S.Store conn.old) (state S.Store conn.new) result }
-{
-    query_all(
-        conn,
-        "SELECT number, sender, receiver, identifier_value, identifier, content_type, length, moment, outcome, how, url, digest, mic, mdn, tries, attempt, due FROM inbox ORDER BY number",
-        &[],
     )
 }

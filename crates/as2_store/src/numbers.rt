@@ -1,10 +1,13 @@
 //! Numbers as the database takes them.
 
-ghost use Rattle.std.specs.Prelude.{◌≡◌, ◌<◌, ◌≤◌, ◌^◌, pos, IfSome, IsTrue, length, option_map};
+ghost use Rattle.std.specs.Prelude.{◌≡◌, ◌<◌, ◌≤◌, ◌^◌, pos, IfSome, IsTrue, option_map};
 ghost use Rattle.as2_exchange.specs.State.{end_of_numbers};
 ghost use Rattle.as2_store.specs.Adding.{Fits};
+ghost use Rattle.as2_store.specs.Progressing.{FitsProgress};
 
-use as2_exchange::{END_OF_NUMBERS, InEntry};
+use crate::progress::Progress;
+use as2_exchange::END_OF_NUMBERS;
+use as2_mic::Pieces;
 use std::cmp::min;
 
 /// The greatest number that fits into a column.
@@ -40,10 +43,17 @@ fn may_stand(n: Option<u64>) -> bool
 }
 
 /// Whether the numbers of an entry fit into its columns.
-pub fn fits(entry: &InEntry) -> bool
-    ensures { IsTrue result → Fits entry.now }
+pub fn fits(content: &Pieces, tries: u64, due: Option<u64>) -> bool
+    ensures { IsTrue result → Fits content.now tries due }
 {
-    entry.posted.content.len() as u64 <= MOST && entry.tries <= MOST && may_stand(entry.due)
+    content.len() as u64 <= MOST && tries <= MOST && may_stand(due)
+}
+
+/// Whether the numbers of a document that has come so far fit into its columns.
+pub fn fits_progress(progress: Progress) -> bool
+    ensures { IsTrue result → FitsProgress progress }
+{
+    progress.tries <= MOST && may_stand(progress.due)
 }
 
 /// The number, or else one that is never given in place of any other that is never given.

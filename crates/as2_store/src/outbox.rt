@@ -1,6 +1,6 @@
 //! The rows of the outbox and of its evidence, without the contents.
 
-ghost use Rattle.std.specs.Prelude.{◌≡◌, ◌<◌, ◌^◌, [], ◌∷◌, Bool, true, false, Some, find, map, filter, IsTrue, IfOk, OnOk};
+ghost use Rattle.std.specs.Prelude.{◌≡◌, ◌==◌, ◌<◌, ◌^◌, [], ◌∷◌, true, false, map, filter, IsTrue, IfOk, OnOk};
 ghost use Rattle.sqlite.specs.Held.{state};
 ghost use Rattle.sqlite.specs.Edit.{are_fresh};
 ghost use Rattle.sqlite.specs.State.{HasCleanDisk};
@@ -8,16 +8,51 @@ ghost use Rattle.as2_store.specs.Calls.{IsInside, Reads};
 ghost use Rattle.sqlite.specs.Tree.{put_row};
 ghost use Rattle.sql_tables.specs.Changes.{Changed};
 ghost use Rattle.as2_exchange.specs.State.{State};
-ghost use Rattle.as2_exchange.specs.declared.outbox.OutEntry.{OutEntry as Document};
-ghost use Rattle.as2_rows.specs.Rows.{out_shown, evidence_row};
-ghost use Rattle.as2_store.specs.Finding.{has_id, shown_evidence};
+ghost use Rattle.as2_rows.specs.Rows.{out_row, out_shown, evidence_row};
+ghost use Rattle.as2_store.specs.Adding.{Fits};
+ghost use Rattle.as2_store.specs.Finding.{evidence_at, has_id, shown_evidence};
 ghost use Rattle.as2_store.specs.Stands.{Rests};
-ghost use Rattle.as2_store.specs.Tables.{store_schema, evidence_tree};
+ghost use Rattle.as2_store.specs.Tables.{store_schema, evidence_tree, outbox_tree};
 
-use crate::numbers::whole;
+use crate::numbers::{asked, whole, whole_or_none};
 use crate::reading::query_all;
-use as2_exchange::Evidence;
+use as2_exchange::{Evidence, OutEntry};
+use as2_rows::{attempt_code, detail_code};
 use sqlite::{Alter, Connection, Error, Row, Transaction, params};
+
+/// Puts in the row of a document.
+pub fn put_out<S: Alter>(tx: &mut Transaction<'_, S>, entry: &OutEntry) -> Result<(), Error>
+    requires number { entry.now.number < 2 ^ 63 }
+    requires fits { Fits entry.now.content entry.now.tries entry.now.due }
+    ensures same_reference { tx.new.conn.ghost_name ≡ tx.old.conn.ghost_name }
+    ensures within { IsInside (state S.Store tx.old.conn.now) (state S.Store tx.new.conn.now) }
+    ensures open { HasCleanDisk (state S.Store tx.new.conn.now) → OnOk result (IsTrue (state S.Store tx.old.conn.now).is_open) }
+    ensures put { HasCleanDisk (state S.Store tx.new.conn.now) → OnOk result ((state S.Store tx.old.conn.now).now.schema ≡ store_schema
+        → Changed (state S.Store tx.old.conn.now) (state S.Store tx.new.conn.now) store_schema outbox_tree (put_row (out_row entry.now) ((state S.Store tx.old.conn.now).now.trees outbox_tree))) }
+{
+    let number = whole(entry.number);
+    let length = whole(entry.content.len() as u64);
+    let moment = whole(entry.moment.seconds());
+    let tries = whole(entry.tries);
+    let due = whole_or_none(entry.due);
+    tx.execute(
+        "INSERT INTO outbox (number, organization, partner, identifier_value, identifier, length, moment, tries, attempt, due, detail) VALUES (?1, ?2, ?3, ?4, ?5, ?6, ?7, ?8, ?9, ?10, ?11)",
+        params![
+            number,
+            entry.organization.bytes(),
+            entry.partner.bytes(),
+            entry.id.value().as_bytes(),
+            entry.id.as_received().as_bytes(),
+            length,
+            moment,
+            tries,
+            attempt_code(entry.attempt),
+            due,
+            detail_code(entry.detail)
+        ],
+    )?;
+    Ok(())
+}
 
 /// The rows of the documents with an identifier of this value.
 pub fn rows_by_id<S: Alter>(conn: &mut Connection<S>, value: &[u8]) -> Result<Vec<Row>, Error>
@@ -32,19 +67,33 @@ pub fn rows_by_id<S: Alter>(conn: &mut Connection<S>, value: &[u8]) -> Result<Ve
     )
 }
 
+/// The rows of the document of this number.
+pub fn rows_by_number<S: Alter>(conn: &mut Connection<S>, number: u64) -> Result<Vec<Row>, Error>
+    requires autocommit { conn.old.in_transaction ≡ false }
+    ensures autocommit { conn.new.in_transaction ≡ false }
+    ensures rows { Reads (λ s rows. rows.items ≡ map out_shown (filter (λ d. d.number == number) s.outbox)) (state S.Store conn.old) (state S.Store conn.new) result }
+{
+    let wanted = asked(number);
+    let param = whole(wanted);
+    query_all(
+        conn,
+        "SELECT number, organization, partner, identifier_value, identifier, length, moment, tries, attempt, due, detail FROM outbox WHERE number = ?1 ORDER BY number",
+        params![param],
+    )
+}
+
 /// The rows of the evidence of the document of this number.
 pub fn evidence_rows<S: Alter>(conn: &mut Connection<S>, number: u64) -> Result<Vec<Row>, Error>
     requires autocommit { conn.old.in_transaction ≡ false }
-    requires number { number < 2 ^ 63 }
     ensures autocommit { conn.new.in_transaction ≡ false }
-    ensures rows { Reads (λ s rows. (p : Document → Bool) (d : Document) → find p s.outbox ≡ Some d → number ≡ d.number
-        → rows.items ≡ shown_evidence d.number d.evidence) (state S.Store conn.old) (state S.Store conn.new) result }
+    ensures rows { Reads (λ s rows. rows.items ≡ shown_evidence number (evidence_at s number)) (state S.Store conn.old) (state S.Store conn.new) result }
 {
-    let number = whole(number);
+    let wanted = asked(number);
+    let param = whole(wanted);
     query_all(
         conn,
         "SELECT number, moment, content_type, body FROM evidence WHERE number = ?1 ORDER BY number",
-        params![number],
+        params![param],
     )
 }
 

@@ -1,14 +1,16 @@
 //! The store: its contracts speak of the state that the tables stand for, and of no row.
 
-ghost use Rattle.std.specs.Prelude.{◌≡◌, ◌⊎◌, ◌<◌, ◌≤◌, ℕ, List, map, find, None, Some, true, false, Err, IsTrue, IfOk, IfErr, OnOk, OnErr};
+ghost use Rattle.std.specs.Prelude.{◌≡◌, ◌⊎◌, ◌<◌, ◌≤◌, ℕ, List, map, filter, find, None, Some, true, false, Err, IsTrue, IfOk, IfErr, OnOk, OnErr};
 ghost use Rattle.sqlite.specs.Held.{state};
 ghost use Rattle.sqlite.specs.State.{HasCleanDisk};
-ghost use Rattle.as2_exchange.specs.State.{State, empty, end_of_numbers, document_named, received};
+ghost use Rattle.as2_exchange.specs.State.{State, empty, end_of_numbers, document, document_named, received};
+ghost use Rattle.as2_exchange.specs.Views.{due_documents, is_in, least};
 ghost use Rattle.as2_exchange.specs.declared.fault.StoreFault.TheVariants.{Full};
-ghost use Rattle.as2_rows.specs.Summaries.{in_summary};
-ghost use Rattle.as2_store.specs.Adding.{added};
+ghost use Rattle.as2_rows.specs.Summaries.{in_summary, out_summary};
+ghost use Rattle.as2_store.specs.Adding.{added, added_document};
 ghost use Rattle.as2_store.specs.Calls.{Adopts, Commits, CommitsFirst, Creates, IsGivenBack, IsReason, Reads, Writes};
-ghost use Rattle.as2_store.specs.Finding.{AreNext, IsPostedAs};
+ghost use Rattle.as2_store.specs.Finding.{AreNext, IsPostedAs, evidence_at};
+ghost use Rattle.as2_store.specs.Progressing.{set_in};
 ghost use Rattle.as2_store.specs.Requeuing.{requeued_in};
 ghost use Rattle.as2_store.specs.Settling.{settled_in};
 ghost use Rattle.as2_store.specs.Stands.{may_come};
@@ -17,17 +19,21 @@ use crate::adding::add;
 use crate::adopting::check;
 use crate::counters::{NextNumbers, meta_rows, next_of};
 use crate::creating::make;
-use crate::documents::shown_document;
-use crate::entries::{entries_in, shown_entry};
+use crate::documents::{evidence_in, shown_document};
+use crate::due::least_due;
+use crate::entries::shown_entry;
 use crate::fault::fault_of;
-use crate::inbox::{all_rows, rows_by_key, rows_by_number};
-use crate::numbers::fits;
+use crate::inbox::rows_by_key;
+use crate::numbers::{fits, fits_progress};
 use crate::outbox::rows_by_id;
+use crate::progress::{Progress, set};
 use crate::requeuing::requeue;
 use crate::settling::{is_by_receipt, settle};
+use crate::submitting::add_document;
+use crate::{inbox, listing, outbox};
 use as2_exchange::{END_OF_NUMBERS, Evidence, InEntry, OutEntry, StoreFault};
-use as2_mdn::Detail;
-use as2_rows::InRow;
+use as2_mdn::{Detail, State};
+use as2_rows::{InRow, OutRow, Wait};
 use as2_text::{AsName, Moment};
 use sqlite::{Alter, Connection};
 use std::alloc::Global;
@@ -114,10 +120,29 @@ impl<S: Alter> Store<S> {
         if entry.number >= END_OF_NUMBERS {
             return Err(StoreFault::Full);
         }
-        if !fits(entry) {
+        if !fits(&entry.posted.content, entry.tries, entry.due) {
             return Err(StoreFault::Refused);
         }
         add(&mut self.conn, entry).map_err(fault_of)
+    }
+
+    /// Adds a document that no receipt has settled to the outbox under the next number of a document, as `next_numbers` gives it.
+    /// Answers Full exactly where the number is past 999,999,999,999; Refused where it isn't the next, or another document has
+    /// an identifier of its value; Memory, Disk or Refused. A fault leaves the state.
+    pub fn add_out(&mut self, entry: &OutEntry) -> Result<(), StoreFault>
+        requires unsettled { entry.now.evidence ≡ None }
+        ensures added { Writes (added_document entry.now) (state S.Store self.old) (state S.Store self.new) result }
+        ensures full { IfErr result (λ f. f ≡ Full → end_of_numbers ≤ entry.now.number) }
+        ensures full_alone { end_of_numbers ≤ entry.now.number → result ≡ Err Full }
+        ensures fault { IfErr result (λ f. (f ≡ Full) ⊎ (may_come f ≡ true)) }
+    {
+        if END_OF_NUMBERS <= entry.number {
+            return Err(StoreFault::Full);
+        }
+        if !fits(&entry.content, entry.tries, entry.due) {
+            return Err(StoreFault::Refused);
+        }
+        add_document(&mut self.conn, entry).map_err(fault_of)
     }
 
     /// Sets the receipt of the entry of the inbox of this number, if there is one, to be sent from this moment on, with all
@@ -127,6 +152,18 @@ impl<S: Alter> Store<S> {
         ensures fault { IfErr result (λ f. may_come f ≡ true) }
     {
         requeue(&mut self.conn, number, moment).map_err(fault_of)
+    }
+
+    /// Sets how far the document of this number has come. Answers Refused where no document has the number; Memory, Disk or
+    /// Refused; and then the state stays.
+    pub fn set_out(&mut self, number: u64, progress: Progress) -> Result<(), StoreFault>
+        ensures set { Writes (set_in number progress) (state S.Store self.old) (state S.Store self.new) result }
+        ensures fault { IfErr result (λ f. may_come f ≡ true) }
+    {
+        if !fits_progress(progress) {
+            return Err(StoreFault::Refused);
+        }
+        set(&mut self.conn, number, progress).map_err(fault_of)
     }
 
     /// Settles the document of this number by a receipt: it gets this detail and this evidence, no try of it is open, and
@@ -180,8 +217,17 @@ impl<S: Alter> Store<S> {
         ensures found { Reads (λ s found. found ≡ received s number) (state S.Store self.old) (state S.Store self.new) result }
         ensures fault { IfErr result (λ f. may_come f ≡ true) }
     {
-        let rows = rows_by_number(&mut self.conn, number).map_err(fault_of)?;
+        let rows = inbox::rows_by_number(&mut self.conn, number).map_err(fault_of)?;
         shown_entry(&mut self.conn, alloc, &rows)
+    }
+
+    /// The document of this number, if there is one, with its content and its evidence. Answers Memory, Disk or Refused.
+    pub fn find_out(&mut self, alloc: Global, number: u64) -> Result<Option<OutEntry>, StoreFault>
+        ensures found { Reads (λ s found. found ≡ document s number) (state S.Store self.old) (state S.Store self.new) result }
+        ensures fault { IfErr result (λ f. may_come f ≡ true) }
+    {
+        let rows = outbox::rows_by_number(&mut self.conn, number).map_err(fault_of)?;
+        shown_document(&mut self.conn, alloc, &rows)
     }
 
     /// The document of the outbox with an identifier of this value, if there is one, with its content and its evidence.
@@ -198,12 +244,45 @@ impl<S: Alter> Store<S> {
         shown_document(&mut self.conn, alloc, &rows)
     }
 
-    /// The entries of the inbox in order of number, each with the length of its content in place of the content.
+    /// The receipt that settled the document of this number; None where none has, or where there is no such document. Answers
+    /// Memory, Disk or Refused.
+    pub fn evidence(&mut self, alloc: Global, number: u64) -> Result<Option<Evidence>, StoreFault>
+        ensures found { Reads (λ s found. found ≡ evidence_at s number) (state S.Store self.old) (state S.Store self.new) result }
+        ensures fault { IfErr result (λ f. may_come f ≡ true) }
+    {
+        evidence_in(&mut self.conn, alloc, number)
+    }
+
+    /// The least number of the documents of which a try may begin at this moment, if there is one. Answers Memory, Disk or
+    /// Refused.
+    pub fn due_out(&mut self, moment: Moment) -> Result<Option<u64>, StoreFault>
+        ensures due { Reads (λ s number. number ≡ least (due_documents s moment)) (state S.Store self.old) (state S.Store self.new) result }
+        ensures fault { IfErr result (λ f. may_come f ≡ true) }
+    {
+        least_due(&mut self.conn, Wait::ToSend, moment).map_err(fault_of)
+    }
+
+    /// The documents of that state, or all, in order of number, each with the length of its content in place of the content,
+    /// and without its evidence. Answers Memory, Disk or Refused.
+    pub fn list_out(
+        &mut self,
+        alloc: Global,
+        wanted: Option<State>,
+    ) -> Result<Vec<OutRow>, StoreFault>
+        ensures documents { Reads (λ s documents. documents.items ≡ map out_summary (filter (is_in wanted) s.outbox)) (state S.Store self.old) (state S.Store self.new) result }
+        ensures fault { IfErr result (λ f. may_come f ≡ true) }
+    {
+        meta_rows(&mut self.conn).map_err(fault_of)?;
+        listing::documents(&mut self.conn, alloc, wanted)
+    }
+
+    /// The entries of the inbox in order of number, each with the length of its content in place of the content. Answers
+    /// Memory, Disk or Refused.
     pub fn list_in(&mut self, alloc: Global) -> Result<Vec<InRow>, StoreFault>
         ensures entries { Reads (λ s entries. entries.items ≡ map in_summary s.inbox) (state S.Store self.old) (state S.Store self.new) result }
         ensures fault { IfErr result (λ f. may_come f ≡ true) }
     {
-        let rows = all_rows(&mut self.conn).map_err(fault_of)?;
-        entries_in(alloc, &rows)
+        meta_rows(&mut self.conn).map_err(fault_of)?;
+        listing::entries(&mut self.conn, alloc)
     }
 }

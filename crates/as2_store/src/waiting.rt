@@ -1,20 +1,23 @@
 //! The rows of what waits.
 
-ghost use Rattle.std.specs.Prelude.{◌≡◌, ◌≤◌, ◌<◌, ◌^◌, Some, None, false, List, map, IsTrue, IfSome, OnOk};
+ghost use Rattle.std.specs.Prelude.{◌≡◌, ◌≤◌, ◌<◌, ◌^◌, Some, None, option_map, false, List, map, IsTrue, IfSome, OnOk};
 ghost use Rattle.sqlite.specs.Held.{state};
 ghost use Rattle.sqlite.specs.State.{HasCleanDisk};
 ghost use Rattle.as2_store.specs.Calls.{IsInside};
 ghost use Rattle.sql_tables.specs.Changes.{Changed};
 ghost use Rattle.as2_exchange.specs.State.{end_of_numbers};
-ghost use Rattle.as2_rows.specs.Waiting.{WaitingRow, in_waiting, kind_code, to_answer};
+ghost use Rattle.as2_rows.specs.Waiting.{WaitingRow, in_waiting, kind_code, out_kind, to_answer};
 ghost use Rattle.as2_store.specs.Tables.{store_schema, waiting_tree};
 ghost use Rattle.as2_store.specs.Stands.{waiting_row};
-ghost use Rattle.as2_store.specs.Adding.{Noted};
-ghost use Rattle.as2_store.specs.Requeuing.{HoldsWaiting, Renewed, not_at};
-ghost use Rattle.as2_store.specs.Settling.{without_document};
+ghost use Rattle.as2_store.specs.Adding.{Noted, noted_rows};
+ghost use Rattle.as2_store.specs.Requeuing.{HoldsWaiting, Renewed, anew, not_at};
+ghost use Rattle.as2_store.specs.Progressing.{waits_at};
+ghost use Rattle.as2_store.specs.Settling.{place_of, without_document};
 
 use crate::numbers::{whole, whole_or_none};
+use crate::progress::Progress;
 use as2_exchange::{Attempt, END_OF_NUMBERS, InEntry, MdnState};
+use as2_mdn::Detail;
 use as2_rows::Wait;
 use sqlite::{Alter, Error, Transaction, params};
 
@@ -45,11 +48,21 @@ fn put_waiting<S: Alter>(
     Ok(())
 }
 
+/// The place of the row of what an entry waits for.
+fn place_of(wait: Wait, number: u64) -> u64
+    requires { number ≤ end_of_numbers }
+    ensures place { result ≡ place_of (kind_code wait) number }
+    ensures fits { result < 2 ^ 63 }
+{
+    wait.code() * END_OF_NUMBERS + number
+}
+
 /// Takes out the row of what waits at this place.
 fn take_waiting<S: Alter>(tx: &mut Transaction<'_, S>, place: u64) -> Result<(), Error>
     requires { place < 2 ^ 63 }
     ensures same_reference { tx.new.conn.ghost_name ≡ tx.old.conn.ghost_name }
     ensures within { IsInside (state S.Store tx.old.conn.now) (state S.Store tx.new.conn.now) }
+    ensures inside { HasCleanDisk (state S.Store tx.new.conn.now) → OnOk result (IsTrue (state S.Store tx.new.conn.now).in_transaction) }
     ensures put { HasCleanDisk (state S.Store tx.new.conn.now) → OnOk result ((ws : List WaitingRow) → HoldsWaiting (state S.Store tx.old.conn.now).now ws
         → Changed (state S.Store tx.old.conn.now) (state S.Store tx.new.conn.now) store_schema waiting_tree (map waiting_row (not_at place ws))) }
 {
@@ -84,6 +97,60 @@ pub fn put_in_waiting<S: Alter>(tx: &mut Transaction<'_, S>, entry: &InEntry) ->
     Ok(())
 }
 
+/// What a document waits for.
+fn wait_of(detail: Detail, attempt: Attempt) -> Option<Wait>
+    ensures { option_map kind_code result ≡ out_kind detail attempt }
+{
+    match detail {
+        Detail::New | Detail::Retry => Some(Wait::ToSend),
+        Detail::Awaiting => Some(Wait::ToHear),
+        Detail::Sending => match attempt {
+            Attempt::Running => Some(Wait::ToSend),
+            Attempt::Last => Some(Wait::ToEnd),
+            _ => None,
+        },
+        _ => None,
+    }
+}
+
+/// Puts in the row of what the document of this number waits for, if it waits for something.
+pub fn put_out_waiting<S: Alter>(
+    tx: &mut Transaction<'_, S>,
+    number: u64,
+    progress: Progress,
+) -> Result<(), Error>
+    requires number { number ≤ end_of_numbers }
+    requires due { IfSome progress.due (λ due. due < 2 ^ 63) }
+    ensures same_reference { tx.new.conn.ghost_name ≡ tx.old.conn.ghost_name }
+    ensures within { IsInside (state S.Store tx.old.conn.now) (state S.Store tx.new.conn.now) }
+    ensures inside { HasCleanDisk (state S.Store tx.new.conn.now) → IsTrue (state S.Store tx.old.conn.now).in_transaction → OnOk result (IsTrue (state S.Store tx.new.conn.now).in_transaction) }
+    ensures put { HasCleanDisk (state S.Store tx.new.conn.now) → OnOk result ((state S.Store tx.old.conn.now).now.schema ≡ store_schema
+        → Noted (state S.Store tx.old.conn.now) (state S.Store tx.new.conn.now) (waits_at number progress)) }
+{
+    if let Some(wait) = wait_of(progress.detail, progress.attempt) {
+        put_waiting(tx, wait, number, progress.due)?;
+    }
+    Ok(())
+}
+
+/// Puts in the row of what the document of this number waits for now, in place of what it waited for.
+pub fn wait_for<S: Alter>(
+    tx: &mut Transaction<'_, S>,
+    number: u64,
+    progress: Progress,
+) -> Result<(), Error>
+    requires number { number ≤ end_of_numbers }
+    requires due { IfSome progress.due (λ due. due < 2 ^ 63) }
+    ensures same_reference { tx.new.conn.ghost_name ≡ tx.old.conn.ghost_name }
+    ensures within { IsInside (state S.Store tx.old.conn.now) (state S.Store tx.new.conn.now) }
+    ensures inside { HasCleanDisk (state S.Store tx.new.conn.now) → OnOk result (IsTrue (state S.Store tx.new.conn.now).in_transaction) }
+    ensures put { HasCleanDisk (state S.Store tx.new.conn.now) → OnOk result ((ws : List WaitingRow) → HoldsWaiting (state S.Store tx.old.conn.now).now ws
+        → Renewed (state S.Store tx.old.conn.now) (state S.Store tx.new.conn.now) (noted_rows (waits_at number progress) (map waiting_row (without_document number ws)))) }
+{
+    take_document(tx, number)?;
+    put_out_waiting(tx, number, progress)
+}
+
 /// Puts in the row of a receipt that is to be sent from this moment on, in place of the one that it has, if it has one.
 pub fn wait_anew<S: Alter>(tx: &mut Transaction<'_, S>, number: u64, due: u64) -> Result<(), Error>
     requires number { number ≤ end_of_numbers }
@@ -92,26 +159,24 @@ pub fn wait_anew<S: Alter>(tx: &mut Transaction<'_, S>, number: u64, due: u64) -
     ensures within { IsInside (state S.Store tx.old.conn.now) (state S.Store tx.new.conn.now) }
     ensures inside { HasCleanDisk (state S.Store tx.new.conn.now) → OnOk result (IsTrue (state S.Store tx.new.conn.now).in_transaction) }
     ensures put { HasCleanDisk (state S.Store tx.new.conn.now) → OnOk result ((ws : List WaitingRow) → HoldsWaiting (state S.Store tx.old.conn.now).now ws
-        → Renewed (state S.Store tx.old.conn.now) (state S.Store tx.new.conn.now) (record { kind = to_answer; number = number; due = Some due }) ws) }
+        → Renewed (state S.Store tx.old.conn.now) (state S.Store tx.new.conn.now) (anew (record { kind = to_answer; number = number; due = Some due }) ws)) }
 {
-    take_waiting(tx, Wait::ToAnswer.code() * END_OF_NUMBERS + number)?;
+    take_waiting(tx, place_of(Wait::ToAnswer, number))?;
     put_waiting(tx, Wait::ToAnswer, number, Some(due))?;
     Ok(())
 }
 
 /// Takes out what the document of this number waits for. A receipt of the same number stays.
 pub fn take_document<S: Alter>(tx: &mut Transaction<'_, S>, number: u64) -> Result<(), Error>
-    requires { number < 2 ^ 63 }
+    requires { number ≤ end_of_numbers }
     ensures same_reference { tx.new.conn.ghost_name ≡ tx.old.conn.ghost_name }
     ensures within { IsInside (state S.Store tx.old.conn.now) (state S.Store tx.new.conn.now) }
     ensures inside { HasCleanDisk (state S.Store tx.new.conn.now) → OnOk result (IsTrue (state S.Store tx.new.conn.now).in_transaction) }
     ensures put { HasCleanDisk (state S.Store tx.new.conn.now) → OnOk result ((ws : List WaitingRow) → HoldsWaiting (state S.Store tx.old.conn.now).now ws
-        → Changed (state S.Store tx.old.conn.now) (state S.Store tx.new.conn.now) store_schema waiting_tree (map waiting_row (without_document number ws))) }
+        → Renewed (state S.Store tx.old.conn.now) (state S.Store tx.new.conn.now) (map waiting_row (without_document number ws))) }
 {
-    let number = whole(number);
-    tx.execute(
-        "DELETE FROM waiting WHERE number = ?1 AND kind <> 2",
-        params![number],
-    )?;
+    take_waiting(tx, place_of(Wait::ToSend, number))?;
+    take_waiting(tx, place_of(Wait::ToHear, number))?;
+    take_waiting(tx, place_of(Wait::ToEnd, number))?;
     Ok(())
 }

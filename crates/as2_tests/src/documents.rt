@@ -26,7 +26,7 @@ INSERT INTO waiting VALUES (1000000000001, 1, 1, 1030), (1000000000002, 1, 2, 10
 UPDATE meta SET next_document = 3";
 
 /// Buyer's receipt for the first, with the MD5 MIC of `abc`.
-const RECEIPT: &[u8] = b"--as2-mdn-7\r\n\
+pub const RECEIPT: &[u8] = b"--as2-mdn-7\r\n\
 Content-Type: text/plain\r\n\
 \r\n\
 Receipt 7 for the message named below.\r\n\
@@ -44,7 +44,7 @@ Received-content-MIC: kAFQmDzST7DWlj99KOF/cg==, md5\r\n\
 --as2-mdn-7--\r\n";
 
 /// The type of a receipt's body.
-const RECEIPT_TYPE: &str =
+pub const RECEIPT_TYPE: &str =
     "multipart/report; report-type=disposition-notification; boundary=\"as2-mdn-7\"";
 
 /// A store with those documents.

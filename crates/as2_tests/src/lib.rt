@@ -11,6 +11,8 @@ mod documents;
 #[cfg(test)]
 mod files;
 #[cfg(test)]
+mod outbox;
+#[cfg(test)]
 mod pieces;
 #[cfg(test)]
 mod posts;

@@ -30,8 +30,8 @@ returns-in_err-settle g c = record {
   taken = λ A.
       let d = c.args.document.now in
       let r = receipt_by c.args.opened.now c.args.receipt.now c.args.body in
-      let now = settled_as c.verdict_pieces-detail.result (record { moment = c.args.moment; content_type = c.in_ok-keep.field-0; body = c.args.body }) in
-      let same : now d ≡ settled c.args.moment r d = rw (c.verdict_pieces-detail.ensures, c.in_ok-keep.ensures) refl in
+      let now = settled_as c.verdict_pieces-detail.result c.in_ok-evidence.evidence in
+      let same : now d ≡ settled c.args.moment r d = rw (c.verdict_pieces-detail.ensures, c.in_ok-evidence.ensures c.args.receipt.now) refl in
       passed_on _ _ _ _ _ _ _ _ c.from_residual-in_err-settle.ensures.0 c.from_residual-in_err-settle.ensures.1
       (unwritten _ _ _ _ _ _ _ _ (http 200 Nothing)
       (λ s t db stands named is counter.
@@ -47,8 +47,8 @@ returns g c = record {
   taken = λ A.
       let d = c.args.document.now in
       let r = receipt_by c.args.opened.now c.args.receipt.now c.args.body in
-      let now = settled_as c.verdict_pieces-detail.result (record { moment = c.args.moment; content_type = c.in_ok-keep.field-0; body = c.args.body }) in
-      let same : now d ≡ settled c.args.moment r d = rw (c.verdict_pieces-detail.ensures, c.in_ok-keep.ensures) refl in
+      let now = settled_as c.verdict_pieces-detail.result c.in_ok-evidence.evidence in
+      let same : now d ≡ settled c.args.moment r d = rw (c.verdict_pieces-detail.ensures, c.in_ok-evidence.ensures c.args.receipt.now) refl in
       rw c.taken-2.ensures (written _ _ _ _ _ _ _ _ _
       (λ s t db stands named is counter.
       settles s t db c.args.moment r d _ _ stands named (sym (c.if-not-is_for.ensures c.args.body)) (sym c.if-is_some.ensures) (rw c.verdict_pieces-detail.ensures (verdict_range c.args.receipt.now d.content)) same is)

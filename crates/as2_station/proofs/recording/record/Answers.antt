@@ -1,6 +1,6 @@
 use Rattle.std.proofs.Common.{◌≡◌, ◌∙◌, Some, None, Ok, true, sym, refl, ap, subst}
 use Rattle.as2_exchange.specs.Readings.{value_of}
-use Rattle.as2_exchange.specs.State.{State, received_as}
+use Rattle.as2_exchange.specs.State.{received_as}
 use Rattle.as2_exchange.specs.Recording.{answer_to, record_post}
 use Rattle.as2_exchange.specs.Lines.{refusal}
 use Rattle.as2_exchange.specs.declared.answer.Line.TheVariants.{IdUsedBefore}
@@ -35,7 +35,7 @@ returns-in_err-add_in-clause-taken g c =
     (after_read _ _ _ _ _ (λ s. (received_as s c.args.posted ≡ None) × (c.in_ok-number.field-0.receipt ≡ s.next_in)) _ _ _ _ _ (λ s known next. (known, next.receipt)) c.in_ok-number.ensures.numbers
     (passed_on _ _ _ _ _ _ _ _ c.from_residual-in_err-add_in.ensures.0 c.from_residual-in_err-add_in.ensures.1
     (unwritten _ _ _ _ _ _ _ _ (answer_to c.args.agreements.now c.in_ok-number.field-0.receipt c.args.posted)
-    (λ s t db stands known is counter. rw known.0 (adds _ s t c.args.moment _ c.args.posted known.1 (rw c.first_entry.ensures at is) counter))
+    (λ s t db stands known is counter. rw known.0 (adds _ s t c.args.moment _ c.args.posted known.1 (rw c.first_entry.ensures at is) counter.0))
     c.in_err-add_in.ensures.fault (λ s known full. rw known.0 (fills_up _ s c.args.moment _ c.args.posted known.1 (rw c.first_entry.ensures at (c.in_err-add_in.ensures.full full)))) c.in_err-add_in.ensures.added)))
 
 pub returns-clause-taken : goal.returns-clause-taken
@@ -44,7 +44,7 @@ returns-clause-taken g c =
     after_read _ _ _ _ _ (λ s. received_as s c.args.posted ≡ None) _ _ _ _ _ (λ s known found. sym (rw c.value.ensures at found) ∙ c.in_default.is) c.in_ok-found.ensures.found
     (after_read _ _ _ _ _ (λ s. (received_as s c.args.posted ≡ None) × (c.in_ok-number.field-0.receipt ≡ s.next_in)) _ _ _ _ _ (λ s known next. (known, next.receipt)) c.in_ok-number.ensures.numbers
     (written _ _ _ _ _ _ _ _ _
-    (λ s t db stands known is counter. rw (known.0, c.in_ok-answer.ensures) (adds _ s t c.args.moment _ c.args.posted known.1 (rw c.first_entry.ensures at is) counter))
+    (λ s t db stands known is counter. rw (known.0, c.in_ok-answer.ensures) (adds _ s t c.args.moment _ c.args.posted known.1 (rw c.first_entry.ensures at is) counter.0))
     c.in_ok-add_in.ensures.added))
 
 pub returns-in-Some-clause-whole : goal.returns-in-Some-clause-whole

@@ -3,7 +3,7 @@ use Rattle.sqlite.specs.Held.{state}
 use Rattle.sqlite.specs.State.{Executes}
 use Rattle.sql_tables.proofs.Inside.{if_made, made, stays}
 use Rattle.as2_store.proofs.Statements.{receipt_text}
-use Rattle.as2_store.proofs.MetaRow.{counts_receipts, receipt_params, fits_i64}
+use Rattle.as2_store.proofs.MetaRow.{counts_receipts, raise_params, fits_i64}
 use Rattle.as2_store.proofs.counters.raise_next_receipt.Goals as goal
 
 pub returns-clause-put : goal.returns-clause-put
@@ -12,7 +12,7 @@ returns-clause-put g c clean = if_made c.execute.result _ (λ count is n m has s
     let new = state g.S.Store c.execute.new.self.conn.now in
     let number = c.args.number in
     let ran = (made g.S.Store _ _ c.args.tx.now.conn.now c.execute.new.self.conn.now c.execute.result _ c.execute.ensures.ended (c.execute.ensures.runs clean) count is).2 in
-    let went : Executes receipt_text (receipt_params number) old new (Ok count) =
+    let went : Executes receipt_text (raise_params number) old new (Ok count) =
     rw (c.params-to_sql.ensures, c.params-to_sql-2.ensures, c.whole-number.ensures, c.whole-next.ensures, fits_i64 number (omega (arith, c.requires)), fits_i64 (number + 1) c.requires) at ran in
     counts_receipts old new number count n m went has some)
 

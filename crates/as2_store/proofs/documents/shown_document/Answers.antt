@@ -4,9 +4,10 @@ use Rattle.as2_exchange.specs.declared.outbox.Evidence.{Evidence}
 use Rattle.as2_exchange.specs.declared.outbox.OutEntry.{OutEntry}
 use Rattle.as2_rows.specs.Rows.{out_shown}
 use Rattle.as2_rows.specs.Summaries.{out_summary, out_entry}
+use Rattle.as2_store.specs.Finding.{evidence_at}
 use Rattle.as2_store.proofs.QueriedRows.{none_first, some_first}
-use Rattle.as2_store.proofs.OutboxQueries.{document_is}
-use Rattle.as2_store.proofs.Querying.{read_ok, read_then, read_bad, told_ok, unread}
+use Rattle.as2_store.proofs.OutboxQueries.{document_is, own_evidence}
+use Rattle.as2_store.proofs.Querying.{read_ok, read_then, read_bad, reads_standing, told_ok, unread}
 use Rattle.as2_store.proofs.documents.shown_document.Goals as goal
 
 pub returns-in_default-clause-found : goal.returns-in_default-clause-found
@@ -25,7 +26,9 @@ returns-clause-found g c =
     let read = rw same at c.read.ensures.read in
     let summary : c.in_ok-row.row ≡ out_summary it.0 = read it.0 it.2 in
     let number = ap (λ x. x.number) summary in
-    ap Some (document_is c.in_ok-row.row c.in_ok-content.content b it.0 summary (content p it.0 it.1 number) (evidence p it.0 it.1 number)) ∙ sym it.1) c.in_ok-content.ensures.content c.in_ok-evidence.ensures.evidence)
+    ap Some (document_is c.in_ok-row.row c.in_ok-content.content b it.0 summary (content p it.0 it.1 number) (evidence p it.0 it.1 number)) ∙ sym it.1) c.in_ok-content.ensures.content
+    (reads_standing _ (λ s b. (p : OutEntry → Bool) (d : OutEntry) → find p s.outbox ≡ Some d → c.in_ok-row.row.number ≡ d.number → b ≡ d.evidence) _ _ _
+    (λ s b stands is p d found own. is ∙ ap (evidence_at s) own ∙ own_evidence p s.outbox d stands.documents.1.distinct found) c.in_ok-evidence.ensures.evidence))
 
 pub returns-in_err-evidence-clause-found : goal.returns-in_err-evidence-clause-found
 returns-in_err-evidence-clause-found g c =

@@ -1,16 +1,24 @@
-use Rattle.std.proofs.Common.{Ok}
 use Rattle.sqlite.specs.Held.{state}
-use Rattle.sqlite.specs.State.{Executes}
-use Rattle.sql_tables.proofs.Inside.{made}
-use Rattle.as2_store.proofs.Statements.{document_take_text}
-use Rattle.as2_store.proofs.MetaRow.{one_param, fits_i64}
-use Rattle.as2_store.proofs.SettledTables.{takes_document}
+use Rattle.as2_rows.specs.Waiting.{to_send, to_hear, to_end}
+use Rattle.as2_store.proofs.WaitingPlaces.{still_held, taken_then}
+use Rattle.as2_store.specs.Requeuing.{not_at}
+use Rattle.as2_store.specs.Settling.{place_of}
 use Rattle.as2_store.proofs.waiting.take_document.Goals as goal
 
 pub returns-clause-put : goal.returns-clause-put
 returns-clause-put g c clean ws it =
     let old = state g.S.Store c.args.tx.now.conn.now in
-    let new = state g.S.Store c.execute.new.self.conn.now in
-    let ran = (made g.S.Store _ _ c.args.tx.now.conn.now c.execute.new.self.conn.now c.execute.result _ c.execute.ensures.ended (c.execute.ensures.runs clean) c.in_ok-execute.field-0 c.in_ok-execute.was).2 in
-    let went : Executes document_take_text (one_param c.args.number) old new (Ok c.in_ok-execute.field-0) = rw (c.params-to_sql.ensures, c.whole-number.ensures, fits_i64 c.args.number c.requires) at ran in
-    takes_document c.args.number c.in_ok-execute.field-0 old new ws it went
+    let one = state g.S.Store c.take_waiting.new.tx.conn.now in
+    let two = state g.S.Store c.take_waiting-2.new.tx.conn.now in
+    let new = state g.S.Store c.take_waiting-3.new.tx.conn.now in
+    let n = c.args.number in
+    let was_two = c.take_waiting-3.ensures.within.clean clean in
+    let was_one = c.take_waiting-2.ensures.within.clean was_two in
+    let p = place_of to_send n in
+    let q = place_of to_hear n in
+    let r = place_of to_end n in
+    let first = rw c.place_of.ensures.place at c.in_ok-take_waiting.ensures.put was_one ws it in
+    let held = still_held old one p ws it first in
+    let second = rw c.place_of-2.ensures.place at c.in_ok-take_waiting-2.ensures.put was_two (not_at p ws) held in
+    let third = rw c.place_of-3.ensures.place at c.in_ok-take_waiting-3.ensures.put clean (not_at q (not_at p ws)) (still_held one two q (not_at p ws) held second) in
+    taken_then old one two new _ _ _ first second third

@@ -1,6 +1,6 @@
 use Rattle.std.proofs.Common.{◌≡◌, ◌∙◌, refl, sym, subst}
 use Rattle.sqlite.specs.Held.{state}
-use Rattle.as2_exchange.specs.Posts.{Reading, reading}
+use Rattle.as2_exchange.specs.Posts.{Reading}
 use Rattle.as2_exchange.specs.declared.answer.Answer.TheVariants.{Http}
 use Rattle.as2_station.specs.Steps.{ClashesWhole, TakesPost, always}
 use Rattle.as2_station.proofs.Reaching.{rests_lasts}

@@ -1,11 +1,15 @@
-use Rattle.std.proofs.Common.{◌≡◌, ◌∙◌, sym, ap, subst, Ok}
-use Rattle.sqlite.specs.Held.{state}
+use Rattle.std.proofs.Common.{◌≡◌, ◌∙◌, is_none, true, Some, sym, ap, subst, Ok}
+use Rattle.sqlite.specs.Held.{Held, state}
 use Rattle.as2_exchange.specs.declared.event.Event.{Event}
 use Rattle.as2_exchange.specs.declared.answer.Answer.TheVariants.{Http}
 use Rattle.as2_exchange.specs.declared.answer.HttpAnswer.{HttpAnswer}
 use Rattle.as2_exchange.specs.Lines.{refusal}
-use Rattle.as2_station.specs.Steps.{TakesEvent}
+use Rattle.as2_station.specs.Steps.{Does, TakesEvent, always}
+use Rattle.as2_station.specs.Heads.{submit_refusal}
+use Rattle.as2_exchange.specs.Documents.{begun, closed, submit}
+use Rattle.as2_exchange.specs.Step.{on_document}
 use Rattle.as2_station.proofs.Playing.{as_event}
+use Rattle.as2_station.proofs.Reaching.{rests_lasts}
 use Rattle.as2_station.proofs.station.Station.step.Goals as goal
 
 pub returns-in_err-post-in-Post-clause-of_head : goal.returns-in_err-post-in-Post-clause-of_head
@@ -31,3 +35,34 @@ pub returns-in-Post-clause-taken : goal.returns-in-Post-clause-taken
 returns-in-Post-clause-taken g c =
     subst (λ (e : Event). TakesEvent c.args.agreements.now e (λ a. a) (state g.S.Store c.args.self.now) (state g.S.Store c.post.new.self) (Ok (Http c.in_ok-post-in-Post.field-0))) (sym c.in-Post.is)
     (as_event _ _ _ _ _ c.in_ok-post-in-Post.ensures.taken)
+
+pub returns-in-Submit-clause-taken : goal.returns-in-Submit-clause-taken
+returns-in-Submit-clause-taken g c =
+    let new = state g.S.Store c.submit.new.store in
+    subst (λ (e : Event). TakesEvent c.args.agreements.now e (λ a. a) (state g.S.Store c.args.self.now) new c.submit.result) (sym c.in-Submit.is)
+    (record {
+      does = subst (λ (h : Held g.row.S.Denot). Does (λ s. submit c.args.agreements.now s c.in-Submit.organization c.in-Submit.partner c.in-Submit.content c.in-Submit.moment) always
+          (is_none (submit_refusal c.args.agreements.now c.in-Submit.organization c.in-Submit.partner c.in-Submit.content) ≡ true) (λ a. a) (state g.S.Store h) new c.submit.result) c.self.view_is c.submit.ensures.taken;
+      lasts = rests_lasts new (λ db opened may. g.met.S.Store.settled c.submit.new.store.store db opened may);
+      whole = λ head body moment is. absurd (let other = is in cc);
+    })
+
+pub returns-in-Begin-clause-taken : goal.returns-in-Begin-clause-taken
+returns-in-Begin-clause-taken g c =
+    let new = state g.S.Store c.begin.new.store in
+    subst (λ (e : Event). TakesEvent c.args.agreements.now e (λ a. a) (state g.S.Store c.args.self.now) new c.begin.result) (sym c.in-Begin.is)
+    (record {
+      does = subst (λ (h : Held g.row.S.Denot). Does (λ s. Some (on_document s c.in-Begin.number (begun c.args.agreements.now c.in-Begin.moment))) always (true ≡ true) (λ a. a) (state g.S.Store h) new c.begin.result) c.self-in-Begin.view_is c.begin.ensures.taken;
+      lasts = rests_lasts new (λ db opened may. g.met.S.Store.settled c.begin.new.store.store db opened may);
+      whole = λ head body moment is. absurd (let other = is in cc);
+    })
+
+pub returns-in-Outcome-clause-taken : goal.returns-in-Outcome-clause-taken
+returns-in-Outcome-clause-taken g c =
+    let new = state g.S.Store c.close.new.store in
+    subst (λ (e : Event). TakesEvent c.args.agreements.now e (λ a. a) (state g.S.Store c.args.self.now) new c.close.result) (sym c.in-Outcome.is)
+    (record {
+      does = subst (λ (h : Held g.row.S.Denot). Does (λ s. Some (on_document s c.in-Outcome.number (closed c.args.agreements.now c.in-Outcome.answer c.in-Outcome.moment))) always (true ≡ true) (λ a. a) (state g.S.Store h) new c.close.result) c.self-in-Outcome.view_is c.close.ensures.taken;
+      lasts = rests_lasts new (λ db opened may. g.met.S.Store.settled c.close.new.store.store db opened may);
+      whole = λ head body moment is. absurd (let other = is in cc);
+    })

@@ -1,0 +1,7 @@
+use Rattle.std.proofs.Common.{◌∙◌, sym}
+use Rattle.as2_posts.proofs.Requests.{same_request}
+use Rattle.as2_posts.proofs.sending.document_job.Goals as goal
+
+pub returns-clause-job : goal.returns-clause-job
+returns-clause-job c =
+    c.in_ok-job.ensures.job ∙ same_request c.args.agreements.now c.args.partner.now c.args.organization.now c.args.id.now c.args.content.now c.in-Some.url (sym (rw (c.as_bytes.ensures.value, c.as_str.ensures.text) at c.parse.ensures.exact) ∙ c.in-Some.is)

@@ -1,0 +1,31 @@
+-- The request of a document to an address that is known, part by part (RFC 4130, sections 5.3 and 6).
+use Rattle.std.specs.Prelude.{◌++◌, length, codes, decimal}
+use Rattle.as2_names.specs.Names.{spelling}
+use Rattle.as2_text.specs.Addresses.{authority_of}
+use Rattle.as2_mdn.specs.Reports.{report_line}
+use Rattle.as2_exchange.specs.Agreement.{Agreements, Partner, Text}
+use Rattle.as2_exchange.specs.Jobs.{asking_fields, opening}
+use Rattle.as2_exchange.specs.declared.answer.Job.{Job}
+
+-- from whom and to whom it is, and which it is
+abbrev pub name_fields : Partner → Text → Text → Text
+name_fields p organization id =
+    codes "AS2-Version: 1.0\r\n"
+    ++ report_line (codes "AS2-From: ") (spelling organization)
+    ++ report_line (codes "AS2-To: ") (spelling p.name)
+    ++ report_line (codes "Message-ID: ") id
+
+-- its content, and how its receipt is asked for
+abbrev pub content_fields : Agreements → Partner → Text → Text
+content_fields A p content =
+    report_line (codes "Content-Type: ") p.content_type
+    ++ codes "Content-Transfer-Encoding: binary\r\n"
+    ++ asking_fields p.receipt A p
+    ++ report_line (codes "Content-Length: ") (decimal (length content))
+
+abbrev pub request_to : Text × Text → Agreements → Partner → Text → Text → Text → Job
+request_to address A p organization id content =
+    record {
+      authority = authority_of address;
+      bytes = opening address ++ name_fields p organization id ++ content_fields A p content ++ codes "\r\n" ++ content;
+    }

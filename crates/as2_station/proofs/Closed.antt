@@ -1,0 +1,101 @@
+-- What the end of a try makes of a document that is found.
+use Rattle.std.proofs.Common.{◌≡◌, ◌∙◌, ℕ, ◌+◌, ◌||◌, not, Bool, true, false, Option, option_map, option_and_then, Some, None, Ok, Err, refl, sym, ap}
+use Rattle.std.specs.Prelude.{if◌then◌else◌}
+use Rattle.std.specs.Option.{option_map_or}
+use Rattle.as2_exchange.specs.Agreement.{Agreements, Partner, Asked, NoReceipt, Sync, Async}
+use Rattle.as2_exchange.specs.Documents.{closed, closed_by, delivered, failed_try, if_for, settled_as}
+use Rattle.as2_exchange.specs.Invariants.{is_by_receipt}
+use Rattle.as2_exchange.specs.Posts.{ReceivedReceipt}
+use Rattle.as2_exchange.specs.Receipts.{is_delivery, receipt_in_answer}
+use Rattle.as2_exchange.specs.State.{State, document, change_document, is_settled}
+use Rattle.as2_exchange.specs.Step.{acted, on_document}
+use Rattle.as2_exchange.specs.Tries.{is_idle, is_last}
+use Rattle.as2_exchange.specs.declared.answer.Answer.{Answer}
+use Rattle.as2_exchange.specs.declared.answer.Answer.TheVariants.{AlreadySettled, Refused, Settled, TryFailed}
+use Rattle.as2_exchange.specs.declared.answer.Refusal.{Refusal}
+use Rattle.as2_exchange.specs.declared.answer.Refusal.TheVariants.{NoOpenTry}
+use Rattle.as2_exchange.specs.declared.attempt.Attempt.TheVariants.{Idle}
+use Rattle.as2_exchange.specs.declared.event.TryAnswer.{TryAnswer}
+use Rattle.as2_exchange.specs.declared.outbox.Evidence.{Evidence}
+use Rattle.as2_exchange.specs.declared.outbox.OutEntry.{OutEntry}
+use Rattle.as2_mdn.specs.declared.detail.Detail.{Detail}
+use Rattle.as2_mdn.specs.declared.detail.Detail.TheVariants.{Retry, TriesUsed}
+use Rattle.as2_store.specs.Progressing.{come_to, set_in}
+use Rattle.as2_store.specs.Settling.{settled_in}
+use Rattle.as2_store.specs.declared.progress.Progress.{Progress}
+use Rattle.as2_station.specs.Closing.{after_failure, ended, settled_by, without_receipt}
+use Rattle.as2_station.specs.Trying.{agreed_partner}
+use Rattle.as2_station.specs.declared.closing.End.TheVariants as ending
+use Rattle.as2_station.proofs.Acting.{acts_agreed, refused_agreed}
+
+-- ---- how it ends
+
+module _ (p : Partner) (m : ℕ) (d : OutEntry) where
+  -- a try that failed
+  pub fails : ended (ending.Failed (after_failure p m d)) d ≡ failed_try p m d
+  fails = by (is_last d.attempt)
+    where
+      by : (last : Bool)
+          → ◌≡◌ {A = Answer × OutEntry} (TryFailed, come_to (if last then record { tries = d.tries; attempt = Idle; due = None; detail = TriesUsed } else record { tries = d.tries; attempt = Idle; due = Some (m + p.retry_seconds); detail = Retry }) d)
+          (if last then (TryFailed, record d { attempt = Idle; due = None; detail = TriesUsed }) else (TryFailed, record d { attempt = Idle; due = Some (m + p.retry_seconds); detail = Retry }))
+      by true = refl
+      by false = refl
+
+  -- an answer of success without its receipt
+  pub delivers : ended (without_receipt p.receipt p m d) d ≡ delivered p.receipt p m d
+  delivers = by p.receipt
+    where
+      by : (asked : Asked) → ended (without_receipt asked p m d) d ≡ delivered asked p m d
+      by Async = refl
+      by NoReceipt = refl
+      by Sync = fails
+
+  -- the receipt for it, or none
+  pub closes_by_receipt : (got : TryAnswer) (o : Option ReceivedReceipt) (x : Answer × OutEntry) → option_map (settled_by m d) o ≡ Some x → closed_by p got m d o ≡ x
+  closes_by_receipt got None x is = absurd cc
+  closes_by_receipt got (Some r) x is = cc
+
+  pub closes_without : (got : TryAnswer) (o : Option ReceivedReceipt) → option_map (settled_by m d) o ≡ None → is_delivery got ≡ true → closed_by p got m d o ≡ ended (without_receipt p.receipt p m d) d
+  closes_without got None is success = rw success (sym delivers)
+  closes_without got (Some r) is success = absurd cc
+
+-- ---- the outcome
+
+module _ (A : Agreements) (got : TryAnswer) (m : ℕ) (d : OutEntry) where
+  pub not_agreed : (reason : Refusal) → agreed_partner A d.organization d.partner ≡ Err reason → closed A got m d ≡ (Refused reason, d)
+  unfolding closed
+  not_agreed reason is = refused_agreed A d.organization d.partner d _ reason is
+
+  pub settled_before : (p : Partner) → agreed_partner A d.organization d.partner ≡ Ok p → is_settled d ≡ true → closed A got m d ≡ (AlreadySettled, d)
+  unfolding closed
+  settled_before p known settled = acts_agreed A d.organization d.partner d _ p known ∙ rw settled refl
+
+  pub no_open_try : (p : Partner) → agreed_partner A d.organization d.partner ≡ Ok p → is_settled d ≡ false → is_idle d.attempt ≡ true → closed A got m d ≡ (Refused NoOpenTry, d)
+  unfolding closed
+  no_open_try p known unsettled idle = acts_agreed A d.organization d.partner d _ p known ∙ rw (unsettled, idle) refl
+
+  pub closes : (p : Partner) → agreed_partner A d.organization d.partner ≡ Ok p → is_settled d ≡ false → is_idle d.attempt ≡ false → closed A got m d ≡ closed_by p got m d (option_and_then (if_for d) (receipt_in_answer got))
+  unfolding closed
+  closes p known unsettled under_way = acts_agreed A d.organization d.partner d _ p known ∙ rw (unsettled, under_way) refl
+
+-- ---- what is written
+
+module _ (s t : State) (d : OutEntry) (found : document s d.number ≡ Some d) where
+  acts_on : (act : OutEntry → Answer × OutEntry) (a : Answer) (change : OutEntry → OutEntry) → ((e : OutEntry) → act e ≡ (a, change e)) → change_document s d.number change ≡ t → on_document s d.number act ≡ (a, t)
+  acts_on act a change is left =
+      ap (acted s d.number act) found ∙ ap (λ (f : OutEntry → Answer × OutEntry). ((f d).0, change_document s d.number (λ e. (f e).1))) (λ i e. is e i) ∙ ap (λ (x : State). (a, x)) left
+
+  -- the receipt settles it
+  pub ends_by_receipt : (detail : Detail) (evidence : Evidence) → settled_in d.number detail evidence s ≡ Some t → Some (on_document s d.number (ended (ending.ByReceipt detail evidence))) ≡ Some (Settled detail, t)
+  ends_by_receipt detail evidence is = ap Some (acts_on _ (Settled detail) (settled_as detail evidence) (λ e. refl) (by (option_map_or is_settled (document s d.number) true || not (is_by_receipt detail)) is))
+    where
+      by : (refused : Bool) → (if refused then None else Some (change_document s d.number (settled_as detail evidence))) ≡ Some t → change_document s d.number (settled_as detail evidence) ≡ t
+      by true is = absurd cc
+      by false is = cc
+
+  -- it comes so far
+  pub ends_at : (act : OutEntry → Answer × OutEntry) (a : Answer) (progress : Progress) → ((e : OutEntry) → act e ≡ (a, come_to progress e)) → set_in d.number progress s ≡ Some t → Some (on_document s d.number act) ≡ Some (a, t)
+  ends_at act a progress acts is =
+      let left : Some (change_document s d.number (come_to progress)) ≡ Some t = ap (option_map (λ _. change_document s d.number (come_to progress))) (sym found) ∙ is in
+      let there : change_document s d.number (come_to progress) ≡ t = cc in
+      ap Some (acts_on act a (come_to progress) acts there)

@@ -1,0 +1,229 @@
+//! Outcomes of tries: the receipt for the document settles it, or the answer says how the try ended.
+ghost use Rattle.std.specs.Prelude.{◌≡◌, IfOk, Some, IsTrue, true, option_map, option_and_then};
+ghost use Rattle.sqlite.specs.Held.{state};
+ghost use Rattle.sqlite.specs.State.{HasCleanDisk};
+ghost use Rattle.as2_agreement.specs.Partners.{IsPartner};
+ghost use Rattle.as2_exchange.specs.Documents.{closed, closed_by, if_for};
+ghost use Rattle.as2_exchange.specs.Readings.{report_in, verdict};
+ghost use Rattle.as2_exchange.specs.Receipts.{is_success, receipt_in_answer};
+ghost use Rattle.as2_exchange.specs.State.{document};
+ghost use Rattle.as2_exchange.specs.declared.event.TryAnswer.TheVariants.{Reply};
+ghost use Rattle.as2_exchange.specs.Step.{on_document};
+ghost use Rattle.as2_exchange.specs.Tries.{is_idle};
+ghost use Rattle.as2_posts.specs.Openings.{receipt_as};
+ghost use Rattle.as2_station.specs.Closing.{after_failure, ended, settled_by, without_receipt};
+ghost use Rattle.as2_station.specs.Steps.{Does, always};
+
+use crate::agreed::agreed_partner;
+use crate::receipts::{bears, evidence_of};
+use as2_agreement::{Agreements, Asked, Partner};
+use as2_exchange::{Answer, Attempt, Evidence, OutEntry, Refusal, StoreFault, TryAnswer};
+use as2_mdn::{Detail, read_report, verdict_pieces};
+use as2_mic::Pieces;
+use as2_posts::{Opened, open_answer};
+use as2_store::{Progress, Store};
+use as2_text::{Head, Memory, Moment};
+use sqlite::Alter;
+use std::alloc::Global;
+
+/// How a try of a document ends.
+#[derive(Drop)]
+pub enum End {
+    /// The receipt for the document came in the answer, and settles it.
+    ByReceipt {
+        /// What it says of the content.
+        detail: Detail,
+        /// What is kept of it.
+        evidence: Evidence,
+    },
+    /// An answer of success came without it; so far the document has come.
+    Delivered(Progress),
+    /// Neither came; so far the document has come.
+    Failed(Progress),
+}
+
+/// A status of success (RFC 9110, section 15.3).
+fn is_success(status: u16) -> bool
+    ensures { result ≡ is_success status }
+{
+    200 <= status && status < 300
+}
+
+/// Whether no try is open.
+fn is_idle(attempt: Attempt) -> bool
+    ensures { result ≡ is_idle attempt }
+{
+    matches!(attempt, Attempt::Idle)
+}
+
+/// How far the document has come once its try has failed.
+fn after_failure(partner: &Partner, document: &OutEntry, moment: Moment) -> Progress
+    requires terms { IsPartner partner.now }
+    ensures { result ≡ after_failure partner.now moment document.now }
+{
+    if matches!(document.attempt, Attempt::Last) {
+        return Progress {
+            tries: document.tries,
+            attempt: Attempt::Idle,
+            due: None,
+            detail: Detail::TriesUsed,
+        };
+    }
+    Progress {
+        tries: document.tries,
+        attempt: Attempt::Idle,
+        due: Some(moment.seconds() + partner.retry_seconds),
+        detail: Detail::Retry,
+    }
+}
+
+/// How a try ends by an answer of success that brought no receipt for the document.
+fn without_receipt(partner: &Partner, document: &OutEntry, moment: Moment) -> End
+    requires terms { IsPartner partner.now }
+    ensures { result ≡ without_receipt partner.now.receipt partner.now moment document.now }
+{
+    let (due, detail) = match partner.receipt {
+        Asked::Async => (
+            Some(moment.seconds() + partner.overdue_seconds),
+            Detail::Awaiting,
+        ),
+        Asked::NoReceipt => (None, Detail::NoReceiptAsked),
+        Asked::Sync => return End::Failed(after_failure(partner, document, moment)),
+    };
+    End::Delivered(Progress {
+        tries: document.tries,
+        attempt: Attempt::Idle,
+        due,
+        detail,
+    })
+}
+
+/// How a try ends by the receipt for the document, where the body is one.
+fn by_receipt(
+    alloc: Global,
+    opened: &Opened<'_>,
+    body: Pieces,
+    document: &OutEntry,
+    moment: Moment,
+) -> Result<Option<End>, Memory>
+    ensures { IfOk result (λ end. option_map (λ e. ended e document.now) end ≡ option_map (settled_by moment document.now) (option_and_then (if_for document.now) (receipt_as opened.now body))) }
+{
+    let report = body.joined()?;
+    let Ok(receipt) = read_report(&opened.media, &report) else {
+        return Ok(None);
+    };
+    if !bears(opened, &receipt, document) {
+        return Ok(None);
+    }
+    let detail = verdict_pieces(&receipt, &document.content);
+    let evidence = evidence_of(alloc, opened, body, moment)?;
+    Ok(Some(End::ByReceipt { detail, evidence }))
+}
+
+/// How a try ends by an HTTP answer.
+fn by_reply(
+    alloc: Global,
+    partner: &Partner,
+    document: &OutEntry,
+    status: u16,
+    head: &Head,
+    body: Pieces,
+    moment: Moment,
+) -> Result<End, Memory>
+    requires terms { IsPartner partner.now }
+    ensures { IfOk result (λ end. ended end document.now ≡ closed_by partner.now (Reply status head.now body) moment document.now (option_and_then (if_for document.now) (receipt_in_answer (Reply status head.now body)))) }
+{
+    if !is_success(status) {
+        return Ok(End::Failed(after_failure(partner, document, moment)));
+    }
+    let Some(opened) = open_answer(head) else {
+        return Ok(without_receipt(partner, document, moment));
+    };
+    match by_receipt(alloc, &opened, body, document, moment)? {
+        Some(end) => Ok(end),
+        None => Ok(without_receipt(partner, document, moment)),
+    }
+}
+
+/// How the open try of the document ends.
+fn end_of(
+    alloc: Global,
+    partner: &Partner,
+    document: &OutEntry,
+    answer: TryAnswer,
+    moment: Moment,
+) -> Result<End, Memory>
+    requires terms { IsPartner partner.now }
+    ensures { IfOk result (λ end. ended end document.now ≡ closed_by partner.now answer moment document.now (option_and_then (if_for document.now) (receipt_in_answer answer))) }
+{
+    match answer {
+        TryAnswer::NoAnswer => Ok(End::Failed(after_failure(partner, document, moment))),
+        TryAnswer::Reply { status, head, body } => {
+            by_reply(alloc, partner, document, status, &head, body, moment)
+        }
+    }
+}
+
+/// Writes how the try of the document has ended.
+fn end_try<S: Alter>(store: &mut Store<S>, entry: &OutEntry, end: End) -> Result<Answer, StoreFault>
+    requires open { HasCleanDisk (state S.Store store.old) → IsTrue (state S.Store store.old).is_open }
+    ensures taken { Does (λ s. Some (on_document s entry.now.number (ended end))) (λ s. document s entry.now.number ≡ Some entry.now) (true ≡ true) (λ a. a) (state S.Store store.old) (state S.Store store.new) result }
+{
+    match end {
+        End::ByReceipt { detail, evidence } => {
+            store.settle(entry.number, detail, &evidence)?;
+            Ok(Answer::Settled(detail))
+        }
+        End::Delivered(progress) => {
+            store.set_out(entry.number, progress)?;
+            Ok(Answer::Delivered)
+        }
+        End::Failed(progress) => {
+            store.set_out(entry.number, progress)?;
+            Ok(Answer::TryFailed)
+        }
+    }
+}
+
+/// Takes the outcome of a try of this document, unless none is open.
+fn close_found<S: Alter>(
+    store: &mut Store<S>,
+    alloc: Global,
+    agreements: &Agreements,
+    entry: &OutEntry,
+    answer: TryAnswer,
+    moment: Moment,
+) -> Result<Answer, StoreFault>
+    requires open { HasCleanDisk (state S.Store store.old) → IsTrue (state S.Store store.old).is_open }
+    ensures taken { Does (λ s. Some (on_document s entry.now.number (closed agreements.now answer moment))) (λ s. document s entry.now.number ≡ Some entry.now) (true ≡ true) (λ a. a) (state S.Store store.old) (state S.Store store.new) result }
+{
+    let partner = match agreed_partner(agreements, &entry.organization, &entry.partner) {
+        Ok(partner) => partner,
+        Err(reason) => return Ok(Answer::Refused(reason)),
+    };
+    if entry.evidence.is_some() {
+        return Ok(Answer::AlreadySettled);
+    }
+    if is_idle(entry.attempt) {
+        return Ok(Answer::Refused(Refusal::NoOpenTry));
+    }
+    let end = end_of(alloc, partner, entry, answer, moment)?;
+    end_try(store, entry, end)
+}
+
+/// Takes the outcome of a try of the document of this number.
+pub fn close<S: Alter>(
+    store: &mut Store<S>,
+    alloc: Global,
+    agreements: &Agreements,
+    number: u64,
+    answer: TryAnswer,
+    moment: Moment,
+) -> Result<Answer, StoreFault>
+    ensures taken { Does (λ s. Some (on_document s number (closed agreements.now answer moment))) always (true ≡ true) (λ a. a) (state S.Store store.old) (state S.Store store.new) result }
+{
+    match store.find_out(alloc, number)? {
+        Some(document) => close_found(store, alloc, agreements, &document, answer, moment),
+        None => Ok(Answer::Refused(Refusal::NoSuchNumber)),
+    }
+}

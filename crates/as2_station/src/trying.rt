@@ -1,0 +1,124 @@
+//! Tries of documents: each is committed before its request is handed out.
+ghost use Rattle.std.specs.Prelude.{◌≡◌, ◌<◌, ℕ, Some, IsTrue, true};
+ghost use Rattle.sqlite.specs.Held.{state};
+ghost use Rattle.sqlite.specs.State.{HasCleanDisk};
+ghost use Rattle.as2_agreement.specs.Partners.{IsPartner};
+ghost use Rattle.as2_exchange.specs.Documents.{begun, waits};
+ghost use Rattle.as2_exchange.specs.State.{document};
+ghost use Rattle.as2_exchange.specs.Step.{on_document};
+ghost use Rattle.as2_exchange.specs.Tries.{is_early};
+ghost use Rattle.as2_station.specs.Steps.{Does, always};
+ghost use Rattle.as2_station.specs.Trying.{tried, try_refusal};
+
+use crate::agreed::agreed_partner;
+use as2_agreement::{Agreements, Partner};
+use as2_exchange::{Answer, Attempt, OutEntry, Refusal, StoreFault};
+use as2_mdn::Detail;
+use as2_posts::document_job;
+use as2_store::{Progress, Store};
+use as2_text::Moment;
+use sqlite::Alter;
+use std::alloc::Global;
+
+/// Whether a document waits for what no try can bring.
+fn waits(detail: Detail) -> bool
+    ensures { result ≡ waits detail }
+{
+    matches!(
+        detail,
+        Detail::Awaiting | Detail::Overdue | Detail::NoReceiptAsked
+    )
+}
+
+/// Whether it is due only after this moment.
+fn is_early(moment: Moment, due: Option<u64>) -> bool
+    ensures { result ≡ is_early moment due }
+{
+    match due {
+        Some(due) => moment.seconds() < due,
+        None => false,
+    }
+}
+
+/// Why no try of the document may begin, if none may.
+fn try_refusal(partner: &Partner, document: &OutEntry, moment: Moment) -> Option<Refusal>
+    ensures { result ≡ try_refusal partner.now document.now moment }
+{
+    if document.evidence.is_some() {
+        return Some(Refusal::AllSettled);
+    }
+    if document.tries >= partner.max_tries {
+        return Some(Refusal::TriesUsed);
+    }
+    if waits(document.detail) || is_early(moment, document.due) {
+        return Some(Refusal::NotDue);
+    }
+    None
+}
+
+/// How far the document has come once a try has begun.
+fn tried(partner: &Partner, document: &OutEntry, moment: Moment) -> Progress
+    requires terms { IsPartner partner.now }
+    requires left { document.now.tries < partner.now.max_tries }
+    ensures { result ≡ tried partner.now document.now moment }
+{
+    let tries = document.tries + 1;
+    let attempt = if tries >= partner.max_tries {
+        Attempt::Last
+    } else {
+        Attempt::Running
+    };
+    Progress {
+        tries,
+        attempt,
+        due: Some(moment.seconds() + partner.retry_seconds),
+        detail: Detail::Sending,
+    }
+}
+
+/// Begins a try of this document, unless that is refused.
+fn begin_found<S: Alter>(
+    store: &mut Store<S>,
+    alloc: Global,
+    agreements: &Agreements,
+    entry: &OutEntry,
+    moment: Moment,
+) -> Result<Answer, StoreFault>
+    requires open { HasCleanDisk (state S.Store store.old) → IsTrue (state S.Store store.old).is_open }
+    ensures taken { Does (λ s. Some (on_document s entry.now.number (begun agreements.now moment))) (λ s. document s entry.now.number ≡ Some entry.now) (true ≡ true) (λ a. a) (state S.Store store.old) (state S.Store store.new) result }
+{
+    let partner = match agreed_partner(agreements, &entry.organization, &entry.partner) {
+        Ok(partner) => partner,
+        Err(reason) => return Ok(Answer::Refused(reason)),
+    };
+    if let Some(reason) = try_refusal(partner, entry, moment) {
+        return Ok(Answer::Refused(reason));
+    }
+    let progress = tried(partner, entry, moment);
+    let job = document_job(
+        alloc,
+        agreements,
+        partner,
+        &entry.organization,
+        &entry.id,
+        &entry.content,
+    )?;
+    store.set_out(entry.number, progress)?;
+    Ok(Answer::Job(job))
+}
+
+/// Begins a try of the document of this number.
+pub fn begin<S: Alter>(
+    store: &mut Store<S>,
+    alloc: Global,
+    agreements: &Agreements,
+    number: u64,
+    moment: Moment,
+) -> Result<Answer, StoreFault>
+    ensures taken { Does (λ s. Some (on_document s number (begun agreements.now moment))) always (true ≡ true) (λ a. a) (state S.Store store.old) (state S.Store store.new) result }
+{
+    match store.find_out(alloc, number)? {
+        Some(document) => begin_found(store, alloc, agreements, &document, moment),
+        None => Ok(Answer::Refused(Refusal::NoSuchNumber)),
+    }
+}

@@ -1,0 +1,162 @@
+-- What is due, as the queries of what waits show it.
+use Rattle.std.proofs.Common.{◌≡◌, ℕ, ◌+◌, ◌*◌, ◌<◌, ◌==◌, ◌&&◌, nat_le, nat_lt, List, [], ◌∷◌, ◌++◌, map, take, filter, Option, Some, None, IfSome, Bool, true, false, cond, Less, refl, sym, ap, ap₂, pos, ◌∙◌, arith}
+use Rattle.std.specs.List.{AllByRecursion}
+use Rattle.std.proofs.lemmas.Int.{ints}
+use Rattle.std.proofs.lemmas.Bool.Decides.{nat_tests}
+use Rattle.std.proofs.lemmas.List.Elements.{filter_agree}
+use Rattle.sqlite.specs.declared.types.Value.TheVariants.{Int}
+use Rattle.sqlite.specs.Collation.TheVariants.{Binary}
+use Rattle.sqlite.specs.Ops.{binary, is_true}
+use Rattle.sqlite.specs.Order.{Row, value_cmp}
+use Rattle.sqlite.specs.Term.{lit}
+use Rattle.sqlite.specs.Tree.{IsAscending}
+use Rattle.sqlite.specs.Command.TheVariants.{Select}
+use Rattle.sqlite.specs.State.{State as Connected, Shown}
+use Rattle.sqlite.proofs.Callers.{reads_as}
+use Rattle.sqlite_sql.specs.declared.ops.BinaryOp.TheVariants.{Compare}
+use Rattle.sqlite_sql.specs.declared.ops.CompareOp.TheVariants.{Le}
+use Rattle.sqlite_value.proofs.OrderLemmas.{value_cmp-Int}
+use Rattle.sqlite_trees.proofs.ListLemmas.{all-append, all_weaker, all_both, ascending-filter, ascending_from_map, filter-map, filter_same}
+use Rattle.sql_tables.specs.Changes.{over_table, passes}
+use Rattle.sql_tables.proofs.Inside.{shown_open}
+use Rattle.sql_tables.proofs.Queries.{by_number, numbers_at_least, numbers_at_most, numbers_below, numbers_equal, null_at_most, none_passes, shows_entries}
+use Rattle.as2_exchange.specs.State.{State, end_of_numbers}
+use Rattle.as2_exchange.specs.Tries.{is_due}
+use Rattle.as2_exchange.specs.Views.{least, smaller}
+use Rattle.as2_exchange.specs.declared.inbox.InEntry.{InEntry}
+use Rattle.as2_exchange.specs.declared.outbox.OutEntry.{OutEntry}
+use Rattle.as2_exchange.proofs.Lists.{all_weaken}
+use Rattle.as2_rows.specs.Rows.{whole, whole_or_null}
+use Rattle.as2_rows.specs.Waiting.{WaitingRow, waiting_in, to_send, to_answer, to_hear, to_end}
+use Rattle.as2_store.specs.Tables.{store_schema, waiting_tree}
+use Rattle.as2_store.specs.Stands.{Stands, Rests, place, waiting_row, documents_waiting, all_waiting}
+use Rattle.as2_store.specs.Due.{due_waiting, due_numbers, number_rows}
+use Rattle.as2_store.proofs.Statements.{any_due_text, least_due_text}
+use Rattle.as2_store.proofs.Texts.{due_columns, any_due_terms, any_due_is, any_due_plain, any_due_unlisted, least_due_terms, least_due_is, least_due_plain, least_due_unlisted}
+use Rattle.as2_store.proofs.QueriedRows.{and_true}
+use Rattle.as2_store.proofs.WaitingRows.{IsOf, documents_of, ins_small}
+use Rattle.as2_store.proofs.RequeuedTables.{places_in_order}
+
+-- ---- what the statements ask
+
+-- the moment has come
+has_come : (m : ℕ) (due : Option ℕ) → is_true (binary (Compare Le Binary) (whole_or_null due) (Int (pos m))) ≡ is_due m due
+has_come m None = null_at_most m
+has_come m (Some due) = numbers_at_most due m
+
+abbrev pub any_params : ℕ → ℕ → Row
+any_params kind m = Int (pos kind) ∷ Int (pos m) ∷ []
+
+any_passes : (kind m : ℕ) (w : WaitingRow) → passes any_due_terms (any_params kind m) (waiting_row w) ≡ (w.kind == kind && is_due m w.due)
+any_passes kind m w = ap₂ ◌&&◌ (numbers_equal w.kind kind) (ap (λ b. b && true) (has_come m w.due) ∙ and_true _)
+
+abbrev pub least_params : ℕ → ℕ → Row
+least_params kind m = Int (pos (kind * end_of_numbers)) ∷ Int (pos ((kind + 1) * end_of_numbers)) ∷ Int (pos m) ∷ []
+
+-- it stands at a place of this kind, and is due
+abbrev is_between : ℕ → ℕ → WaitingRow → Bool
+is_between kind m w = nat_le (kind * end_of_numbers) (place w) && (nat_lt (place w) ((kind + 1) * end_of_numbers) && is_due m w.due)
+
+least_passes : (kind m : ℕ) (w : WaitingRow) → passes least_due_terms (least_params kind m) (waiting_row w) ≡ is_between kind m w
+least_passes kind m w = ap₂ ◌&&◌ (numbers_at_least (place w) (kind * end_of_numbers)) (ap₂ ◌&&◌ (numbers_below (place w) ((kind + 1) * end_of_numbers)) (ap (λ b. b && true) (has_come m w.due) ∙ and_true _))
+
+-- so it is of the kind, since its number is one that is given
+same_kind : (kind m : ℕ) (w : WaitingRow) → w.number < end_of_numbers → is_between kind m w ≡ (w.kind == kind && is_due m w.due)
+same_kind kind m w small = joined (nat_le (kind * end_of_numbers) (place w)) (nat_lt (place w) ((kind + 1) * end_of_numbers)) (w.kind == kind) (is_due m w.due) (grind (arith, nat_tests, small))
+  where
+    joined : (a b c d : Bool) → (a && b) ≡ c → (a && (b && d)) ≡ (c && d)
+    joined true b c d is = ap (λ t. t && d) is
+    joined false b c d is = ap (λ t. t && d) is
+
+-- ---- what waits
+
+numbers_small : (t : Connected) (s : State) → Stands t.now s → AllByRecursion (λ w. w.number < end_of_numbers) (all_waiting s)
+numbers_small t s it =
+    let outs = all_weaken (λ k. k < s.next_out) (λ k. k < end_of_numbers) (λ k less. omega (arith, less, it.documents.0.most)) (map (λ (d : OutEntry). d.number) s.outbox) it.documents.1.below in
+    let ins = all_weaken (λ k. k < s.next_in) (λ k. k < end_of_numbers) (λ k less. omega (arith, less, it.receipts.0.most)) (map (λ (e : InEntry). e.number) s.inbox) it.receipts.1.below in
+    let of = λ (kind : ℕ). all_weaker (IsOf kind end_of_numbers) (λ w. w.number < end_of_numbers) (λ w is. is.1) (documents_waiting kind s.outbox) (documents_of kind end_of_numbers s.outbox outs) in
+    all-append (λ w. w.number < end_of_numbers) (documents_waiting to_send s.outbox) (waiting_in s.inbox ++ (documents_waiting to_hear s.outbox ++ documents_waiting to_end s.outbox)) (of to_send)
+    (all-append (λ w. w.number < end_of_numbers) (waiting_in s.inbox) (documents_waiting to_hear s.outbox ++ documents_waiting to_end s.outbox) (all_weaker (IsOf to_answer end_of_numbers) (λ w. w.number < end_of_numbers) (λ w is. is.1) (waiting_in s.inbox) (ins_small end_of_numbers s.inbox ins))
+    (all-append (λ w. w.number < end_of_numbers) (documents_waiting to_hear s.outbox) (documents_waiting to_end s.outbox) (of to_hear) (of to_end)))
+
+of_the_kind : (kind m : ℕ) (ws : List WaitingRow) → AllByRecursion (λ w. w.kind ≡ kind) (filter (λ w. w.kind == kind && is_due m w.due) ws)
+of_the_kind kind m [] = tt
+of_the_kind kind m (w ∷ ws) = go (w.kind == kind) refl (is_due m w.due) (of_the_kind kind m ws)
+  where
+    go : (t : Bool) → (w.kind == kind) ≡ t → (d : Bool) → AllByRecursion (λ w. w.kind ≡ kind) (filter (λ w. w.kind == kind && is_due m w.due) ws)
+        → AllByRecursion (λ w. w.kind ≡ kind) (cond (t && d) (w ∷ filter (λ w. w.kind == kind && is_due m w.due) ws) (filter (λ w. w.kind == kind && is_due m w.due) ws))
+    go true is true rest = ((grind (arith, nat_tests, is)), rest)
+    go true is false rest = rest
+    go false is d rest = rest
+
+abbrev IsEarlier : WaitingRow → WaitingRow → Type 0
+IsEarlier v w = value_cmp (Int (pos (place v))) (Int (pos (place w))) ≡ Less
+
+before : (m n : ℕ) → value_cmp (Int (pos m)) (Int (pos n)) ≡ Less → m < n
+before m n is = let less = sym (value_cmp-Int (pos m) (pos n)) ∙ is in grind (arith, ints, less)
+
+-- of one kind the numbers rise as the places do
+numbers_rise : (kind : ℕ) (ws : List WaitingRow) → AllByRecursion (λ w. w.kind ≡ kind) ws → IsAscending IsEarlier ws → IsAscending (λ v w. v.number < w.number) ws
+numbers_rise kind [] of up = tt
+numbers_rise kind (w ∷ ws) of up =
+    (all_both (λ v. v.kind ≡ kind) (IsEarlier w) (λ v. w.number < v.number) (λ v is less. omega (arith, of.0, is, before (place w) (place v) less)) ws of.1 up.0, numbers_rise kind ws of.1 up.1)
+
+-- ---- the least of numbers that rise
+
+least_above : (n : ℕ) (ns : List ℕ) → AllByRecursion (λ k. n < k) ns → IfSome (least ns) (λ k. n < k)
+least_above n [] all = tt
+least_above n (k ∷ ns) all = go (least ns) (least_above n ns all.1)
+  where
+    go : (o : Option ℕ) → IfSome o (λ k. n < k) → n < smaller k o
+    go None above = all.0
+    go (Some j) above = by (nat_le k j)
+      where
+        by : (t : Bool) → n < cond t k j
+        by true = all.0
+        by false = above
+
+first_is_least : (n : ℕ) (ns : List ℕ) → AllByRecursion (λ k. n < k) ns → least (n ∷ ns) ≡ Some n
+first_is_least n ns all = go (least ns) (least_above n ns all)
+  where
+    go : (o : Option ℕ) → IfSome o (λ k. n < k) → Some (smaller n o) ≡ Some n
+    go None above = refl
+    go (Some k) above = ap (λ t. Some (cond t n k)) (low k above)
+      where
+        low : (k : ℕ) → n < k → nat_le n k ≡ true
+        low k less = grind (arith, nat_tests)
+
+abbrev number_shown : WaitingRow → Row
+number_shown w = whole w.number ∷ []
+
+first_shown : (ws : List WaitingRow) → IsAscending (λ v w. v.number < w.number) ws → take 1 (map number_shown ws) ≡ number_rows (least (map (λ w. w.number) ws))
+first_shown [] up = refl
+first_shown (w ∷ ws) up = sym (ap number_rows (first_is_least w.number (map (λ v. v.number) ws) (mapped ws up.0)))
+  where
+    mapped : (vs : List WaitingRow) → AllByRecursion (λ v. w.number < v.number) vs → AllByRecursion (λ k. w.number < k) (map (λ v. v.number) vs)
+    mapped [] all = tt
+    mapped (v ∷ vs) all = (all.0, mapped vs all.1)
+
+-- ---- the queries
+
+pub finds_none : (kind m : ℕ) (old new : Connected) (rows : List Row) → Shown any_due_text (any_params kind m) old new rows → (s : State) → Rests old s → rows ≡ [] → due_numbers kind m s ≡ []
+finds_none kind m old new rows h s r none =
+    let it = r.stands (shown_open any_due_text (any_params kind m) old new rows h) in
+    let read = reads_as any_due_text (any_params kind m) old new store_schema it.schema (Select (record { lets = []; body = over_table waiting_tree any_due_terms due_columns [] (lit (Int (pos 1))) }) _) any_due_is any_due_plain any_due_unlisted rows h in
+    let passed = none_passes waiting_tree any_due_terms due_columns old.now.trees (any_params kind m) rows read.answer none in
+    let same = sym (filter-map (passes any_due_terms (any_params kind m)) waiting_row (all_waiting s)) ∙ ap (filter (passes any_due_terms (any_params kind m))) (sym it.entries.waits) ∙ passed in
+    ap (map (λ w. w.number)) (sym (filter_agree (λ w. passes any_due_terms (any_params kind m) (waiting_row w)) (λ w. w.kind == kind && is_due m w.due) (any_passes kind m) (all_waiting s)) ∙ unmapped _ same)
+  where
+    unmapped : (ws : List WaitingRow) → map waiting_row ws ≡ [] → ws ≡ []
+    unmapped [] is = refl
+    unmapped (w ∷ ws) is = absurd cc
+
+pub finds_least : (kind m : ℕ) (old new : Connected) (rows : List Row) → Shown least_due_text (least_params kind m) old new rows → (s : State) → Rests old s → rows ≡ number_rows (least (due_numbers kind m s))
+finds_least kind m old new rows h s r =
+    let it = r.stands (shown_open least_due_text (least_params kind m) old new rows h) in
+    let read = reads_as least_due_text (least_params kind m) old new store_schema it.schema (Select (record { lets = []; body = over_table waiting_tree least_due_terms due_columns by_number (lit (Int (pos 1))) }) _) least_due_is least_due_plain least_due_unlisted rows h in
+    let table = places_in_order old.now s it in
+    let up = ascending-filter _ (λ w. w.kind == kind && is_due m w.due) (all_waiting s) (ascending_from_map _ waiting_row (all_waiting s) table) in
+    shows_entries waiting_tree least_due_terms due_columns (lit (Int (pos 1))) old.now.trees (least_params kind m) rows waiting_row (is_between kind m) number_shown (least_passes kind m) (λ _. refl) (all_waiting s) it.entries.waits table read.answer
+    ∙ ap (λ ws. take 1 (map number_shown ws)) (filter_same (is_between kind m) (λ w. w.kind == kind && is_due m w.due) (all_waiting s)
+    (all_weaker (λ w. w.number < end_of_numbers) (λ w. is_between kind m w ≡ (w.kind == kind && is_due m w.due)) (λ w small. same_kind kind m w small) (all_waiting s) (numbers_small old s it)))
+    ∙ first_shown (due_waiting kind m s) (numbers_rise kind (due_waiting kind m s) (of_the_kind kind m (all_waiting s)) up)

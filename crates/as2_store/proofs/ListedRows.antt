@@ -1,0 +1,107 @@
+-- Rows that are read one at a time, and what is listed of them.
+use Rattle.std.proofs.Common.{◌≡◌, ◌⊎◌, ◌∙◌, ℕ, inl, inr, List, [], ◌∷◌, ◌++◌, map, None, Some, Ok, Err, IsTrue, refl, sym, ap, ap₂, subst, arith}
+use Rattle.sqlite.specs.Effect.{Database}
+use Rattle.sqlite.specs.Given.{Advances, HasBegun, HasGiven}
+use Rattle.sqlite.specs.Held.{Held, state}
+use Rattle.sqlite.specs.Listing.{understood}
+use Rattle.sqlite.specs.Order.{Row}
+use Rattle.sqlite.specs.State.{State as Connected, HasCleanDisk, Survives, Shown, CommitsShowing, IsRolledBack, IsUnchanged}
+use Rattle.sqlite.specs.Store.{Ghosts}
+use Rattle.sqlite.proofs.Callers.{IsPlain, begun_plain, never_commits, unchanged_then}
+use Rattle.sqlite.proofs.StateLemmas.{survives_then, survives_weaker}
+use Rattle.as2_exchange.specs.State.{State}
+use Rattle.as2_exchange.specs.declared.fault.StoreFault.{StoreFault}
+use Rattle.as2_store.specs.Calls.{Commits, Reads}
+use Rattle.as2_store.specs.Stands.{Rests, Stands}
+use Rattle.as2_store.specs.Tables.{store_schema}
+use Rattle.as2_store.proofs.TransactionEnds.{rests_after}
+
+-- ---- the connection meanwhile
+
+-- what changed nothing, or went back to the last commit, stands for what it stood for
+pub rests_still : (old new : Connected) (s : State) → Rests old s → IsUnchanged old new ⊎ IsRolledBack old new → Rests new s
+rests_still old new s r (inl same) = record {
+  autocommit = same.0.mode ∙ r.autocommit;
+  stands = λ _. subst (λ (d : Database). Stands d s) (sym same.0.now_is) (r.stands same.0.was_open);
+  committed = λ _. same.0.committed_is ∙ r.committed same.0.was_open ∙ sym same.0.now_is;
+}
+rests_still old new s r (inr back) = rests_after old old new s r (record { was_open = λ opened. opened; committed = λ _. refl }) back
+
+-- a query of the store's tables leaves nothing to a crash that wasn't there
+pub leaves_nothing : (sql : List ℕ) (params : Row) (old new : Connected) → IsPlain (understood store_schema sql) → (HasCleanDisk old → IsTrue old.is_open) → Survives old new (CommitsShowing sql params old) → Survives old new (Commits Some old)
+leaves_nothing sql params old new plain opened survives = survives_weaker old new (CommitsShowing sql params old) (Commits Some old) (λ clean db shows.
+    let was = opened (omega (arith, survives.clean, clean)) in
+    record { was_open = was; stands = λ s r. absurd (never_commits sql params old db (subst (λ k. IsPlain (understood k sql)) (sym (r.stands was).schema) plain) shows) }) survives
+
+-- ---- what is listed
+
+-- rows were given that show entries, if they show any, of which these are listed; and nothing has changed
+pub record HasListed {S X Y : Type 0} (g : Ghosts S) (sql : List ℕ) (params : Row) (shown : X → Row) (listed : List X → List Y) (old now : Held S) (ys : List Y) : Type 0 where
+  pub given : List Row
+  pub has : HasGiven g sql params now given
+  pub same : IsUnchanged (state g old) (state g now)
+  pub read : (xs : List X) → given ≡ map shown xs → ys ≡ listed xs
+
+-- the last row shows the last entry
+split : {X : Type 0} (shown : X → Row) (given : List Row) (row : Row) (xs : List X) → given ++ row ∷ [] ≡ map shown xs → (front : List X) × (x : X) × (xs ≡ front ++ x ∷ []) × (given ≡ map shown front) × (row ≡ shown x)
+split shown [] row [] all = absurd cc
+split shown [] row (x ∷ []) all = ([], x, refl, refl, cc)
+split shown [] row (x ∷ y ∷ xs) all = absurd cc
+split shown (r ∷ given) row [] all = absurd cc
+split shown (r ∷ given) row (x ∷ xs) all =
+    let behind : given ++ row ∷ [] ≡ map shown xs = cc in
+    let first : r ≡ shown x = cc in
+    let rest = split shown given row xs behind in
+    (x ∷ rest.0, rest.1, ap (λ l. x ∷ l) rest.2, ap₂ ◌∷◌ first rest.3, rest.4)
+
+module _ {S X Y : Type 0} (g : Ghosts S) (sql : List ℕ) (params : Row) (shown : X → Row) (listed : List X → List Y) (old : Held S) where
+  -- none at first
+  pub none_listed : IsPlain (understood store_schema sql) → listed [] ≡ [] → (new : Held S) → HasBegun g sql params old new → IsTrue (state g old).is_open → (s : State) → Rests (state g old) s → HasListed g sql params shown listed old new []
+  none_listed plain none new begun opened s r =
+      let both = begun_plain g sql params old new (subst (λ k. IsPlain (understood k sql)) (sym (r.stands opened).schema) plain) begun in
+      record { given = []; has = both.0; same = both.1; read = λ xs all. empty xs all }
+    where
+      empty : (xs : List X) → [] ≡ map shown xs → [] ≡ listed xs
+      empty [] all = sym none
+      empty (x ∷ xs) all = absurd cc
+
+  module _ (mid new : Held S) (ys : List Y) (it : HasListed g sql params shown listed old mid ys) where
+    -- one row more
+    pub one_more : (row : Row) (zs : List Y) → Advances g mid new (Some row) → IsUnchanged (state g mid) (state g new) → ((xs : List X) (x : X) → row ≡ shown x → ys ≡ listed xs → zs ≡ listed (xs ++ x ∷ [])) → HasListed g sql params shown listed old new zs
+    one_more row zs goes same more = record {
+      given = it.given ++ row ∷ [];
+      has = goes sql params it.given it.has;
+      same = unchanged_then (state g old) (state g mid) (state g new) it.same same;
+      read = λ xs all. let last = split shown it.given row xs all in subst (λ l. zs ≡ listed l) (sym last.2) (more last.0 last.1 last.4 (it.read last.0 last.3));
+    }
+
+    -- no row more: those were all
+    pub all_given : Advances g mid new None → Shown sql params (state g mid) (state g new) it.given
+    all_given goes = goes sql params it.given it.has
+
+-- ---- as reads
+
+pub lists : {A : Type 0} (fits : State → A → Type 0) (old new : Connected) (a : A) → (HasCleanDisk old → IsTrue old.is_open) → (HasCleanDisk new → IsTrue new.is_open) → Survives old new (Commits Some old)
+    → (HasCleanDisk new → (s : State) → Rests old s → Rests new s × fits s a) → Reads {A = A} {E = StoreFault} fits old new (Ok a)
+lists fits old new a opened is_open survives each = record {
+  clean = λ clean. omega (arith, survives.clean, clean);
+  was_open = λ clean. opened (omega (arith, survives.clean, clean));
+  is_open = is_open;
+  answer = λ clean s r. (each clean s r).1;
+  same = λ clean s r. (each clean s r).0;
+  crash = survives;
+}
+
+pub lists_none : {A : Type 0} (fits : State → A → Type 0) (old new : Connected) (f : StoreFault) → Survives old new (Commits Some old) → (HasCleanDisk new → (s : State) → Rests old s → Rests new s) → Reads {A = A} {E = StoreFault} fits old new (Err f)
+lists_none fits old new f survives same = record {
+  clean = λ clean. omega (arith, survives.clean, clean);
+  was_open = λ clean. tt;
+  is_open = λ clean. tt;
+  answer = λ clean. tt;
+  same = same;
+  crash = survives;
+}
+
+-- a step that leaves nothing more to a crash
+pub still_nothing : (old mid new : Connected) → Survives old mid (Commits Some old) → Survives mid new (λ _. ⊥) → Survives old new (Commits Some old)
+still_nothing old mid new one two = survives_then old mid new (Commits Some old) (λ _. ⊥) (Commits Some old) (λ _ db is. is) (λ _ db none. absurd none) one two

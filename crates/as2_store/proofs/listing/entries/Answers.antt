@@ -1,0 +1,110 @@
+use Rattle.std.proofs.Common.{rules, Vec, Global, ◌≡◌, ◌∙◌, ◌++◌, inl, [], ◌∷◌, map, Some, None, Ok, Err, refl, sym, subst, arith}
+use Rattle.sqlite.specs.Given.{Advances, row_if}
+use Rattle.sqlite.specs.Held.{state}
+use Rattle.sql_tables.proofs.Inside.{fails_to_query}
+use Rattle.as2_rows.specs.Rows.{in_shown}
+use Rattle.as2_exchange.specs.State.{State}
+use Rattle.as2_exchange.specs.declared.fault.StoreFault.TheVariants.{Memory}
+use Rattle.as2_rows.specs.Summaries.{in_summary}
+use Rattle.as2_rows.specs.declared.inbox.InRow.{InRow}
+use Rattle.as2_store.specs.Calls.{Reads}
+use Rattle.as2_store.proofs.InboxQueries.{lists_all, one_more_entry}
+use Rattle.as2_store.proofs.ListedRows.{all_given, leaves_nothing, lists, lists_none, none_listed, one_more, rests_still, still_nothing}
+use Rattle.as2_store.proofs.Querying.{read_bad, told_ok}
+use Rattle.as2_store.proofs.Statements.{in_all_text}
+use Rattle.as2_store.proofs.Texts.{in_all_plain}
+use Rattle.as2_store.proofs.listing.entries.Goals as goal
+
+pub returns-in-Err-clause-entries : goal.returns-in-Err-clause-entries
+returns-in-Err-clause-entries g c =
+    let old = state g.S.Store c.args.conn.now in
+    let new = state g.S.Store c.query.follows.lender-at-none in
+    let refused = rw c.in-Err.is at c.query.follows.holds-at-none in
+    lists_none _ old new _ (leaves_nothing in_all_text [] old new in_all_plain c.requires.open refused.survives)
+    (λ clean s r. rests_still old new s r (fails_to_query in_all_text [] old new c.in-Err.error (refused.err clean)))
+
+pub rows-init : goal.rows-init
+rows-init g c =
+    let made = c.in-Ok.ensures in
+    let old = state g.S.Store c.args.conn.now in
+    let new = state g.S.Store c.in-Ok.rows.conn.now in
+    let kept = leaves_nothing in_all_text [] old new in_all_plain c.requires.open made.survives in
+    (refl, made.mode c.requires.autocommit, kept, λ clean s r. rw c.new-entries.ensures.items (none_listed g.S.Store in_all_text [] in_shown (map in_summary) c.args.conn.now in_all_plain refl c.in-Ok.rows.conn.now (made.begun clean) (c.requires.open (omega (arith, kept.clean, clean))) s r))
+
+pub returns-in-Err-advance-clause-entries : goal.returns-in-Err-advance-clause-entries
+returns-in-Err-advance-clause-entries g c =
+    let old = state g.S.Store c.args.conn.now in
+    let mid = state g.S.Store c.rows.rows.conn.now in
+    let now = c.advance.new.self.conn.now in
+    let same : now ≡ c.conn-in-Err-advance-1.given.0 = search rules in
+    subst (λ h. Reads (λ s entries. entries.items ≡ map in_summary s.inbox) old (state g.S.Store h) (Err c.fault_of-in-Err-advance.result)) same
+    (lists_none _ old (state g.S.Store now) _ (still_nothing old mid (state g.S.Store now) c.rows.invariant.2 c.advance.ensures.survives)
+    (λ clean s r.
+    let it = c.rows.invariant.3 (omega (arith, c.advance.ensures.survives.clean, clean)) s r in
+    rests_still mid (state g.S.Store now) s (rests_still old mid s r (inl it.same)) (fails_to_query in_all_text [] mid (state g.S.Store now) c.in-Err-advance.error (c.in-Err-advance.ensures.err clean in_all_text [] it.given it.has))))
+
+pub returns-in_default-clause-entries : goal.returns-in_default-clause-entries
+returns-in_default-clause-entries g c =
+    let old = state g.S.Store c.args.conn.now in
+    let mid = state g.S.Store c.rows.rows.conn.now in
+    let now = c.advance.new.self.conn.now in
+    let new = state g.S.Store now in
+    let same : now ≡ c.conn-in_default-1.given.0 = search rules in
+    let moved = c.in-Ok-advance.ensures in
+    let none : row_if c.advance.new.self.has_row now ≡ None = rw c.in_default.is at (sym c.get.ensures) in
+    subst (λ h. Reads (λ s entries. entries.items ≡ map in_summary s.inbox) old (state g.S.Store h) (Ok c.rows.entries)) same
+    (lists _ old new _ c.requires.open (λ clean. (moved.same clean).0.is_open) (still_nothing old mid new c.rows.invariant.2 c.advance.ensures.survives)
+    (λ clean s r.
+    let it = c.rows.invariant.3 (omega (arith, c.advance.ensures.survives.clean, clean)) s r in
+    let before = rests_still old mid s r (inl it.same) in (
+      rests_still mid new s before (inl (moved.same clean)),
+      it.read s.inbox (lists_all mid new it.given (all_given g.S.Store in_all_text [] in_shown (map in_summary) c.args.conn.now c.rows.rows.conn.now now _ it (subst (Advances g.S.Store c.rows.rows.conn.now now) none (moved.ok clean))) s before),
+    )))
+
+pub returns-in_err-entry-clause-entries : goal.returns-in_err-entry-clause-entries
+returns-in_err-entry-clause-entries g c =
+    let old = state g.S.Store c.args.conn.now in
+    let mid = state g.S.Store c.rows.rows.conn.now in
+    let now = c.advance.new.self.conn.now in
+    let new = state g.S.Store now in
+    let same : now ≡ c.conn-in_err-entry-1.given.0 = search rules in
+    let fits : State → Vec InRow Global → Type 0 = λ s entries. entries.items ≡ map in_summary s.inbox in
+    subst (λ h. Reads fits old (state g.S.Store h) c.from_residual.result) same
+    (read_bad fits fits old new (Err Memory) c.from_residual.result c.from_residual.ensures.0
+    (lists_none fits old new Memory (still_nothing old mid new c.rows.invariant.2 c.advance.ensures.survives)
+    (λ clean s r.
+    let it = c.rows.invariant.3 (omega (arith, c.advance.ensures.survives.clean, clean)) s r in
+    rests_still mid new s (rests_still old mid s r (inl it.same)) (inl (c.in-Ok-advance.ensures.same clean)))))
+
+pub returns-in-Err-push-clause-entries : goal.returns-in-Err-push-clause-entries
+returns-in-Err-push-clause-entries g c =
+    let old = state g.S.Store c.args.conn.now in
+    let mid = state g.S.Store c.rows.rows.conn.now in
+    let now = c.advance.new.self.conn.now in
+    let new = state g.S.Store now in
+    let same : now ≡ c.conn-in-Err-push-1.given.0 = search rules in
+    let fits : State → Vec InRow Global → Type 0 = λ s entries. entries.items ≡ map in_summary s.inbox in
+    subst (λ h. Reads fits old (state g.S.Store h) (Err Memory)) same
+    (lists_none fits old new Memory (still_nothing old mid new c.rows.invariant.2 c.advance.ensures.survives)
+    (λ clean s r.
+    let it = c.rows.invariant.3 (omega (arith, c.advance.ensures.survives.clean, clean)) s r in
+    rests_still mid new s (rests_still old mid s r (inl it.same)) (inl (c.in-Ok-advance.ensures.same clean))))
+
+pub rows-preserved : goal.rows-preserved
+rows-preserved g c =
+    let old = state g.S.Store c.args.conn.now in
+    let mid = state g.S.Store c.rows.rows.conn.now in
+    let now = c.advance.new.self.conn.now in
+    let moved = c.in-Ok-advance.ensures in
+    let some : row_if c.advance.new.self.has_row now ≡ Some c.in-Some.row.now = rw c.in-Some.is at (sym c.get.ensures) in
+    let told : c.read.result ≡ Ok c.in_ok-entry.entry = told_ok _ _ _ _ c.map_err.ensures.cases c.in_ok-entry.was in
+    let read = rw told at c.read.ensures.read in
+    let pushed : c.push.new.self.items ≡ c.rows.entries.items ++ c.in_ok-entry.entry ∷ [] = search rules in (
+      c.advance.ensures.same_reference ∙ c.rows.invariant.0,
+      c.advance.ensures.mode c.rows.invariant.1,
+      still_nothing old mid (state g.S.Store now) c.rows.invariant.2 c.advance.ensures.survives,
+      λ clean s r.
+          let it = c.rows.invariant.3 (omega (arith, c.advance.ensures.survives.clean, clean)) s r in
+          rw pushed (one_more g.S.Store in_all_text [] in_shown (map in_summary) c.args.conn.now c.rows.rows.conn.now now _ it c.in-Some.row.now _ (subst (Advances g.S.Store c.rows.rows.conn.now now) some (moved.ok clean)) (moved.same clean)
+          (λ es e here so_far. one_more_entry es e _ _ so_far (read e here))),
+    )

@@ -1,0 +1,60 @@
+use Rattle.std.proofs.Common.{Ok, length, arith}
+use Rattle.sqlite.specs.Held.{state}
+use Rattle.sqlite.specs.State.{Executes}
+use Rattle.sql_tables.proofs.Inside.{made}
+use Rattle.as2_rows.specs.Rows.{out_shown}
+use Rattle.as2_store.proofs.Statements.{out_put_text}
+use Rattle.as2_store.proofs.MetaRow.{fits_i64}
+use Rattle.as2_store.proofs.WaitingRows.{bound_optional}
+use Rattle.as2_store.proofs.InboxRow.{passed_attempt}
+use Rattle.as2_store.proofs.SettledTables.{passed_detail}
+use Rattle.as2_store.proofs.AddedDocument.{puts_out}
+use Rattle.as2_store.proofs.Committing.{ran_inside}
+use Rattle.as2_store.proofs.outbox.put_out.Goals as goal
+
+pub returns-in_err-execute-clause-within : goal.returns-in_err-execute-clause-within
+returns-in_err-execute-clause-within g c = ran_inside g.S.Store _ _ c.args.tx.now.conn.now c.execute.new.self.conn.now c.execute.result _ c.execute.ensures.ended c.execute.ensures.runs c.execute.ensures.survives
+
+pub returns-clause-put : goal.returns-clause-put
+returns-clause-put g c clean has =
+    let old = state g.S.Store c.args.tx.now.conn.now in
+    let new = state g.S.Store c.execute.new.self.conn.now in
+    let e = c.args.entry.now in
+    let ran = (made g.S.Store _ _ c.args.tx.now.conn.now c.execute.new.self.conn.now c.execute.result _ c.execute.ensures.ended (c.execute.ensures.runs clean) c.in_ok-execute.field-0 c.in_ok-execute.was).2 in
+    let went : Executes out_put_text (out_shown e) old new (Ok c.in_ok-execute.field-0) =
+    rw (
+      c.params-to_sql.ensures,
+      c.params-to_sql-2.ensures,
+      c.params-to_sql-3.ensures,
+      c.params-to_sql-4.ensures,
+      c.params-to_sql-5.ensures,
+      c.params-to_sql-6.ensures,
+      c.params-to_sql-7.ensures,
+      c.params-to_sql-8.ensures,
+      c.params-to_sql-9.ensures,
+      c.params-to_sql-10.ensures,
+      c.params-to_sql-11.ensures,
+      c.bytes.ensures.bytes,
+      c.bytes-2.ensures.bytes,
+      c.as_bytes.ensures.value,
+      c.value.ensures,
+      c.as_bytes-2.ensures.value,
+      c.as_received.ensures.text,
+      c.whole-number.ensures,
+      c.whole-length.ensures,
+      c.len.ensures,
+      c.whole-moment.ensures,
+      c.seconds.ensures.seconds,
+      c.whole-tries.ensures,
+      c.whole_or_none-due.ensures,
+      c.attempt_code.ensures,
+      c.detail_code.ensures,
+      fits_i64 e.number c.requires.number,
+      fits_i64 (length e.content) c.requires.fits.length_fits,
+      fits_i64 e.moment (omega (arith, c.seconds.ensures.bound, c.seconds.ensures.seconds)),
+      fits_i64 e.tries c.requires.fits.tries_fit,
+      passed_attempt e.attempt,
+      passed_detail e.detail,
+      bound_optional,
+    ) at ran in
+    puts_out old new e c.in_ok-execute.field-0 has went

@@ -1,0 +1,82 @@
+//! What is due, by the rows of what waits.
+
+ghost use Rattle.std.specs.Prelude.{◌≡◌, [], false, Option, ℕ, IfOk};
+ghost use Rattle.sqlite.specs.Held.{state};
+ghost use Rattle.as2_exchange.specs.Views.{least};
+ghost use Rattle.as2_rows.specs.Waiting.{kind_code};
+ghost use Rattle.as2_store.specs.Calls.{Reads};
+ghost use Rattle.as2_store.specs.Due.{due_numbers, number_rows};
+
+use crate::numbers::whole;
+use crate::reading::query_all;
+use as2_exchange::END_OF_NUMBERS;
+use as2_rows::Wait;
+use as2_text::Moment;
+use sqlite::{Alter, Connection, Error, Row, params};
+
+/// Rows of which there is one where something is due that waits so.
+fn any_due_rows<S: Alter>(
+    conn: &mut Connection<S>,
+    wait: Wait,
+    moment: Moment,
+) -> Result<Vec<Row>, Error>
+    requires autocommit { conn.old.in_transaction ≡ false }
+    ensures autocommit { conn.new.in_transaction ≡ false }
+    ensures rows { Reads (λ s rows. rows.items ≡ [] → due_numbers (kind_code wait) moment s ≡ []) (state S.Store conn.old) (state S.Store conn.new) result }
+{
+    let kind = whole(wait.code());
+    let moment = whole(moment.seconds());
+    query_all(
+        conn,
+        "SELECT number FROM waiting WHERE kind = ?1 AND due <= ?2 LIMIT 1",
+        params![kind, moment],
+    )
+}
+
+/// The row of the least number of what is due and waits so.
+fn least_due_rows<S: Alter>(
+    conn: &mut Connection<S>,
+    wait: Wait,
+    moment: Moment,
+) -> Result<Vec<Row>, Error>
+    requires autocommit { conn.old.in_transaction ≡ false }
+    ensures autocommit { conn.new.in_transaction ≡ false }
+    ensures rows { Reads (λ s rows. rows.items ≡ number_rows (least (due_numbers (kind_code wait) moment s))) (state S.Store conn.old) (state S.Store conn.new) result }
+{
+    let first = whole(wait.code() * END_OF_NUMBERS);
+    let end = whole((wait.code() + 1) * END_OF_NUMBERS);
+    let moment = whole(moment.seconds());
+    query_all(
+        conn,
+        "SELECT number FROM waiting WHERE place >= ?1 AND place < ?2 AND due <= ?3 ORDER BY place LIMIT 1",
+        params![first, end, moment],
+    )
+}
+
+/// The number that the first of the rows shows.
+fn number_in(rows: &[Row]) -> Result<Option<u64>, Error>
+    ensures { IfOk result (λ found. (number : Option ℕ) → rows.now ≡ number_rows number → found ≡ number) }
+{
+    match rows.first() {
+        Some(row) => Ok(Some(row.get(0)?)),
+        None => Ok(None),
+    }
+}
+
+/// The least number of what is due at this moment and waits so, if there is one. Where nothing is due that is found by the
+/// index; the rows are read in order of their places only where something is.
+pub fn least_due<S: Alter>(
+    conn: &mut Connection<S>,
+    wait: Wait,
+    moment: Moment,
+) -> Result<Option<u64>, Error>
+    requires autocommit { conn.old.in_transaction ≡ false }
+    ensures autocommit { conn.new.in_transaction ≡ false }
+    ensures due { Reads (λ s number. number ≡ least (due_numbers (kind_code wait) moment s)) (state S.Store conn.old) (state S.Store conn.new) result }
+{
+    if any_due_rows(conn, wait, moment)?.is_empty() {
+        return Ok(None);
+    }
+    let rows = least_due_rows(conn, wait, moment)?;
+    number_in(&rows)
+}

@@ -1,0 +1,152 @@
+//! Listings: the rows of a query are read one at a time, and none is held beside the list.
+
+ghost use Rattle.std.specs.Prelude.{◌≡◌, false, true, if◌then◌else◌, [], ◌∷◌, ◌++◌, map, filter, IsTrue, IfErr, OnOk};
+ghost use Rattle.sqlite.specs.Held.{state};
+ghost use Rattle.sqlite.specs.State.{HasCleanDisk};
+ghost use Rattle.sqlite.specs.Values.{bound};
+ghost use Rattle.as2_exchange.specs.Views.{is_in};
+ghost use Rattle.as2_rows.specs.Summaries.{in_summary, out_summary};
+ghost use Rattle.as2_store.specs.Calls.{Reads};
+ghost use Rattle.as2_store.specs.Listing.{detail_in, first_detail, last_detail, state_codes};
+ghost use Rattle.as2_store.specs.Stands.{may_come};
+
+use crate::fault::{fault_of, unread_row};
+use as2_exchange::{END_OF_NUMBERS, StoreFault};
+use as2_mdn::{Detail, State};
+use as2_rows::{InRow, OutRow, detail_code};
+use sqlite::types::ValueRef;
+use sqlite::{Alter, Connection, params};
+use std::alloc::Global;
+
+/// The entries of the inbox in order of number, each with the length of its content in place of the content.
+pub fn entries<S: Alter>(conn: &mut Connection<S>, alloc: Global) -> Result<Vec<InRow>, StoreFault>
+    requires autocommit { conn.old.in_transaction ≡ false }
+    requires open { HasCleanDisk (state S.Store conn.old) → IsTrue (state S.Store conn.old).is_open }
+    ensures autocommit { conn.new.in_transaction ≡ false }
+    ensures entries { Reads (λ s entries. entries.items ≡ map in_summary s.inbox) (state S.Store conn.old) (state S.Store conn.new) result }
+    ensures fault { IfErr result (λ f. may_come f ≡ true) }
+{
+    let mut entries = Vec::new(alloc);
+    let mut rows = match conn.query(
+        "SELECT number, sender, receiver, identifier_value, identifier, content_type, length, moment, outcome, how, url, digest, mic, mdn, tries, attempt, due FROM inbox ORDER BY number",
+        &[],
+    ) {
+        Ok(rows) => rows,
+        Err(error) => return Err(fault_of(error)),
+    };
+    'rows: for _ in 0..END_OF_NUMBERS {
+        match rows.advance() {
+            Ok(()) => (),
+            Err(error) => return Err(fault_of(error)),
+        }
+        let Some(row) = rows.get() else {
+            return Ok(entries);
+        };
+        let entry = InRow::read(alloc, row).map_err(unread_row)?;
+        match entries.push(entry) {
+            Ok(()) => (),
+            Err(_) => return Err(StoreFault::Memory),
+        }
+    }
+    Err(StoreFault::Refused)
+}
+
+/// The first and the last of the details of a state, or of all.
+fn details_of(wanted: Option<State>) -> (Detail, Detail)
+    ensures { result ≡ (first_detail wanted, last_detail wanted) }
+{
+    match wanted {
+        None => (Detail::New, Detail::Overdue),
+        Some(State::P) => (Detail::New, Detail::Awaiting),
+        Some(State::R) => (Detail::Sending, Detail::Retry),
+        Some(State::S) => (Detail::Processed, Detail::Processed),
+        Some(State::W) => (Detail::NoReceiptAsked, Detail::UnknownMic),
+        Some(State::E) => (Detail::NotProcessed, Detail::Overdue),
+    }
+}
+
+/// Whether the detail is one of that state, where one is asked for.
+fn is_in(wanted: Option<State>, detail: Detail) -> bool
+    ensures { result ≡ detail_in wanted detail }
+{
+    match wanted {
+        Some(state) => detail.state() == state,
+        None => true,
+    }
+}
+
+/// Lists the document, where it is of that state.
+fn list_if(
+    documents: &mut Vec<OutRow>,
+    wanted: Option<State>,
+    document: OutRow,
+) -> Result<(), StoreFault>
+    ensures listed { OnOk result (documents.new.items ≡ (if detail_in wanted document.detail then documents.old.items ++ document ∷ [] else documents.old.items)) }
+    ensures fault { IfErr result (λ f. may_come f ≡ true) }
+{
+    if !is_in(wanted, document.detail) {
+        return Ok(());
+    }
+    match documents.push(document) {
+        Ok(()) => Ok(()),
+        Err(_) => Err(StoreFault::Memory),
+    }
+}
+
+/// The documents of that state, or all; only rows between these two codes are looked at.
+fn documents_between<S: Alter>(
+    conn: &mut Connection<S>,
+    alloc: Global,
+    wanted: Option<State>,
+    codes: &[ValueRef<'_>],
+) -> Result<Vec<OutRow>, StoreFault>
+    requires autocommit { conn.old.in_transaction ≡ false }
+    requires open { HasCleanDisk (state S.Store conn.old) → IsTrue (state S.Store conn.old).is_open }
+    requires codes { bound codes.now ≡ state_codes wanted }
+    ensures autocommit { conn.new.in_transaction ≡ false }
+    ensures documents { Reads (λ s documents. documents.items ≡ map out_summary (filter (is_in wanted) s.outbox)) (state S.Store conn.old) (state S.Store conn.new) result }
+    ensures fault { IfErr result (λ f. may_come f ≡ true) }
+{
+    let mut documents = Vec::new(alloc);
+    let mut rows = match conn.query(
+        "SELECT number, organization, partner, identifier_value, identifier, length, moment, tries, attempt, due, detail FROM outbox WHERE detail >= ?1 AND detail <= ?2 ORDER BY number",
+        codes,
+    ) {
+        Ok(rows) => rows,
+        Err(error) => return Err(fault_of(error)),
+    };
+    'rows: for _ in 0..END_OF_NUMBERS {
+        match rows.advance() {
+            Ok(()) => (),
+            Err(error) => return Err(fault_of(error)),
+        }
+        let Some(row) = rows.get() else {
+            return Ok(documents);
+        };
+        let document = OutRow::read(alloc, row).map_err(unread_row)?;
+        list_if(&mut documents, wanted, document)?;
+    }
+    Err(StoreFault::Refused)
+}
+
+/// The documents of that state, or all, in order of number, each with the length of its content in place of the content,
+/// and without its evidence.
+pub fn documents<S: Alter>(
+    conn: &mut Connection<S>,
+    alloc: Global,
+    wanted: Option<State>,
+) -> Result<Vec<OutRow>, StoreFault>
+    requires autocommit { conn.old.in_transaction ≡ false }
+    requires open { HasCleanDisk (state S.Store conn.old) → IsTrue (state S.Store conn.old).is_open }
+    ensures autocommit { conn.new.in_transaction ≡ false }
+    ensures documents { Reads (λ s documents. documents.items ≡ map out_summary (filter (is_in wanted) s.outbox)) (state S.Store conn.old) (state S.Store conn.new) result }
+    ensures fault { IfErr result (λ f. may_come f ≡ true) }
+{
+    let (first, last) = details_of(wanted);
+    documents_between(
+        conn,
+        alloc,
+        wanted,
+        params![detail_code(first), detail_code(last)],
+    )
+}

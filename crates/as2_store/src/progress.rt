@@ -1,0 +1,78 @@
+//! A document comes further: in one transaction its row changes, and it waits for something else.
+
+ghost use Rattle.std.specs.Prelude.{◌≡◌, ◌==◌, ◌≤◌, ◌<◌, ◌^◌, false, map, filter, length, IsTrue, IfOk, OnOk};
+ghost use Rattle.sqlite.specs.Held.{state};
+ghost use Rattle.sqlite.specs.State.{HasCleanDisk};
+ghost use Rattle.as2_store.specs.Calls.{IsInside, Writes};
+ghost use Rattle.sql_tables.specs.Changes.{Changed};
+ghost use Rattle.as2_exchange.specs.State.{State, change_document};
+ghost use Rattle.as2_rows.specs.Rows.{out_row};
+ghost use Rattle.as2_store.specs.Tables.{store_schema, outbox_tree};
+ghost use Rattle.as2_store.specs.Stands.{Stands};
+ghost use Rattle.as2_store.specs.Progressing.{FitsProgress, come_to, set_in};
+
+use crate::numbers::{asked, whole, whole_or_none};
+use crate::waiting::wait_for;
+use as2_exchange::Attempt;
+use as2_mdn::Detail;
+use as2_rows::{attempt_code, detail_code};
+use sqlite::{Alter, Connection, Error, Transaction, params};
+
+/// How far a document has come.
+#[derive(Clone, Copy, Debug, PartialEq, Eq)]
+pub struct Progress {
+    /// How often it was tried.
+    pub tries: u64,
+    /// Whether a try is open.
+    pub attempt: Attempt,
+    /// When the next try may begin, or what is waited for is overdue, in seconds since 1970.
+    pub due: Option<u64>,
+    /// How it stands.
+    pub detail: Detail,
+}
+
+/// Sets how far the document of this number has come, and answers how many documents have the number.
+fn set_progress<S: Alter>(
+    tx: &mut Transaction<'_, S>,
+    number: u64,
+    progress: Progress,
+) -> Result<usize, Error>
+    requires number { number < 2 ^ 63 }
+    requires fits { FitsProgress progress }
+    ensures same_reference { tx.new.conn.ghost_name ≡ tx.old.conn.ghost_name }
+    ensures within { IsInside (state S.Store tx.old.conn.now) (state S.Store tx.new.conn.now) }
+    ensures open { HasCleanDisk (state S.Store tx.new.conn.now) → OnOk result (IsTrue (state S.Store tx.old.conn.now).is_open) }
+    ensures put { HasCleanDisk (state S.Store tx.new.conn.now) → IfOk result (λ count. (s : State) → Stands (state S.Store tx.old.conn.now).now s
+        → Changed (state S.Store tx.old.conn.now) (state S.Store tx.new.conn.now) store_schema outbox_tree (map out_row (change_document s number (come_to progress)).outbox) × (count ≡ length (filter (λ d. d.number == number) s.outbox))) }
+{
+    let number = whole(number);
+    let tries = whole(progress.tries);
+    let due = whole_or_none(progress.due);
+    tx.execute(
+        "UPDATE outbox SET tries = ?2, attempt = ?3, due = ?4, detail = ?5 WHERE number = ?1",
+        params![
+            number,
+            tries,
+            attempt_code(progress.attempt),
+            due,
+            detail_code(progress.detail)
+        ],
+    )
+}
+
+/// Sets how far the document of this number has come. No row is said to have the number of no document.
+pub fn set<S: Alter>(conn: &mut Connection<S>, number: u64, progress: Progress) -> Result<(), Error>
+    requires autocommit { conn.old.in_transaction ≡ false }
+    requires fits { FitsProgress progress }
+    ensures autocommit { conn.new.in_transaction ≡ false }
+    ensures set { Writes (set_in number progress) (state S.Store conn.old) (state S.Store conn.new) result }
+{
+    let wanted = asked(number);
+    let mut tx = conn.transaction();
+    if set_progress(&mut tx, wanted, progress)? == 0 {
+        return Err(Error::QueryReturnedNoRows);
+    }
+    wait_for(&mut tx, wanted, progress)?;
+    tx.commit()?;
+    Ok(())
+}
