@@ -10,20 +10,28 @@ use crate::answering::report;
 use crate::sending::{HEAD, add_opening, add_text};
 use as2_agreement::Agreements;
 use as2_exchange::{Bytes, Job, Posted, ReceiptDelivery, StoreFault};
-use as2_mdn::{ReportOut, write_head_fields, write_report};
+use as2_mdn::{write_head_fields, write_report};
 use as2_text::{Memory, Url};
 use std::alloc::Global;
 
-/// The request of a receipt to that address.
-fn job_to(alloc: Global, url: &Url<'_>, out: &ReportOut) -> Result<Job, Memory>
-    ensures job { IfOk result (λ job. job ≡ receipt_to url.now out.now) }
+/// The request of the receipt of that number for a document, to that address.
+fn job_to(
+    alloc: Global,
+    url: &Url<'_>,
+    agreements: &Agreements,
+    number: u64,
+    posted: &Posted,
+) -> Result<Job, Memory>
+    ensures job { IfOk result (λ job. job ≡ receipt_to url.now (report agreements.now number posted.now)) }
 {
-    let report = write_report(alloc, out)?;
+    let out = report(agreements, number, posted)?;
+    let report = Bytes::of(write_report(alloc, &out)?);
+    let report = report.as_slice();
     let mut bytes = Vec::with_capacity(alloc, report.len().saturating_add(HEAD))?;
     add_opening(&mut bytes, url)?;
-    write_head_fields(alloc, &mut bytes, out, report.len())?;
+    write_head_fields(alloc, &mut bytes, &out, report.len())?;
     add_text(&mut bytes, b"\r\n")?;
-    add_text(&mut bytes, &report)?;
+    add_text(&mut bytes, report)?;
     Ok(Job {
         authority: Bytes::keep(alloc, url.authority())?,
         bytes: Bytes::of(bytes),
@@ -49,7 +57,6 @@ pub fn receipt_job(
     let Some(url) = Url::parse(address.as_slice()) else {
         return Err(StoreFault::Refused);
     };
-    let out = report(agreements, number, posted)?;
-    let job = job_to(alloc, &url, &out)?;
+    let job = job_to(alloc, &url, agreements, number, posted)?;
     Ok(job)
 }

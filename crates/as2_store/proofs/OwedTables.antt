@@ -38,7 +38,7 @@ use Rattle.as2_store.proofs.InboxRow.{cast_url, cast_digest, cast_mic}
 use Rattle.as2_store.proofs.QueriedRows.{and_true}
 use Rattle.as2_store.proofs.InboxQueries.{same_tests}
 use Rattle.as2_store.proofs.ForeignKeys.{quiet}
-use Rattle.as2_store.proofs.Texts.{number_terms, owed_project, in_requeue_is, in_requeue_plain}
+use Rattle.as2_store.proofs.Texts.{number_terms, owed_project, in_set_is, in_set_plain}
 use Rattle.as2_store.proofs.NumberedEntries.{in_number, Split, split, at_one, changed, changed_none, changed_split, none_numbered}
 use Rattle.as2_store.proofs.Committing.{FollowsEach}
 use Rattle.as2_store.proofs.WaitingPlaces.{documents_rise, receipts_rise, places_rise, renewed}

@@ -126,10 +126,10 @@ commute p r [] = refl
 commute p r (w ∷ ws) = go (p w) refl (r w) refl (commute p r ws)
   where
     go : (t : Bool) → p w ≡ t → (u : Bool) → r w ≡ u → filter p (filter r ws) ≡ filter r (filter p ws) → filter p (cond u (w ∷ filter r ws) (filter r ws)) ≡ filter r (cond t (w ∷ filter p ws) (filter p ws))
-    go true is true as rest = ap (λ b. cond b (w ∷ filter p (filter r ws)) (filter p (filter r ws))) is ∙ ap (λ l. w ∷ l) rest ∙ sym (ap (λ b. cond b (w ∷ filter r (filter p ws)) (filter r (filter p ws))) as)
-    go true is false as rest = rest ∙ sym (ap (λ b. cond b (w ∷ filter r (filter p ws)) (filter r (filter p ws))) as)
-    go false is true as rest = ap (λ b. cond b (w ∷ filter p (filter r ws)) (filter p (filter r ws))) is ∙ rest
-    go false is false as rest = rest
+    go true is true out rest = ap (λ b. cond b (w ∷ filter p (filter r ws)) (filter p (filter r ws))) is ∙ ap (λ l. w ∷ l) rest ∙ sym (ap (λ b. cond b (w ∷ filter r (filter p ws)) (filter r (filter p ws))) out)
+    go true is false out rest = rest ∙ sym (ap (λ b. cond b (w ∷ filter r (filter p ws)) (filter r (filter p ws))) out)
+    go false is true out rest = ap (λ b. cond b (w ∷ filter p (filter r ws)) (filter p (filter r ws))) is ∙ rest
+    go false is false out rest = rest
 
 ended : (kind : ℕ) (detail : Detail) → PassesInto kind detail → (a : Attempt) → out_kind detail a ≡ None
 ended kind detail (inl is) a = ap (λ x. out_kind x a) is.1

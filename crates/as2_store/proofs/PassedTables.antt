@@ -1,5 +1,6 @@
 -- What the tables stand for once documents whose wait is over have passed into another detail.
-use Rattle.std.proofs.Common.{◌≡◌, ℕ, ℤ, ◌+◌, ◌<◌, ◌≤◌, ◌==◌, ◌&&◌, not, List, [], ◌∷◌, map, filter, length, take, get_or, count_by, Bool, true, false, cond, Result, Ok, Err, IfOk, OnOk, Some, IsTrue, pos, negsuc, refl, sym, ap, ap₂, subst, ◌∙◌, arith}
+use Rattle.std.proofs.Common.{◌≡◌, ℕ, zero, suc, ◌+◌, ◌<◌, ◌≤◌, ◌==◌, ◌&&◌, not, List, [], ◌∷◌, map, filter, length, take, get_or, count_by, Bool, true, false, cond, Result, Ok, Err, IfOk, OnOk, Some, IsTrue, pos, negsuc, refl, sym, ap, ap₂, subst, ◌∙◌, arith}
+use Rattle.std.specs.List.{AllByRecursion}
 use Rattle.std.proofs.lemmas.List.{get_or-map, length-map, take_all}
 use Rattle.std.proofs.lemmas.List.Elements.{filter_agree}
 use Rattle.std.proofs.lemmas.List.Sums.{length-filter}
@@ -26,7 +27,7 @@ use Rattle.as2_mdn.specs.declared.detail.Detail.{Detail}
 use Rattle.as2_mdn.specs.declared.detail.Detail.TheVariants.{Overdue, TriesUsed}
 use Rattle.as2_exchange.specs.Documents.{passed, tick}
 use Rattle.as2_exchange.specs.Invariants.{AreNumbers}
-use Rattle.as2_exchange.specs.State.{State}
+use Rattle.as2_exchange.specs.State.{State, end_of_numbers}
 use Rattle.as2_exchange.specs.Tries.{is_due}
 use Rattle.as2_exchange.specs.declared.outbox.OutEntry.{OutEntry}
 use Rattle.as2_rows.specs.Codes.{detail_code}
@@ -43,7 +44,7 @@ use Rattle.as2_store.proofs.Texts.{number_terms, pass_project, out_pass_is, out_
 use Rattle.as2_store.proofs.AddedPieces.{others_then}
 use Rattle.as2_store.proofs.ChangedDocuments.{changed_rows}
 use Rattle.as2_store.proofs.Committing.{FollowsEach}
-use Rattle.as2_store.proofs.DueRows.{any_params, any_passes}
+use Rattle.as2_store.proofs.DueRows.{any_params, any_passes, numbers_small}
 use Rattle.as2_store.proofs.ForeignKeys.{quiet}
 use Rattle.as2_store.proofs.NumberedRows.{numbers_rise, ordered_rise}
 use Rattle.as2_store.proofs.OwedTables.{places_in_order}
@@ -65,6 +66,25 @@ pub ok_then : {V E Q : Type 0} {P : V → Type 0} (r : Result V E) → IfOk r P 
 ok_then (Ok v) is then = then v is
 ok_then (Err e) is then = tt
 
+small_filtered : (p : WaitingRow → Bool) (ws : List WaitingRow) → AllByRecursion (λ w. w.number < end_of_numbers) ws → AllByRecursion (λ n. n < end_of_numbers) (map (λ w. w.number) (filter p ws))
+small_filtered p [] all = tt
+small_filtered p (w ∷ ws) all = go (p w) (small_filtered p ws all.1)
+  where
+    go : (t : Bool) → AllByRecursion (λ n. n < end_of_numbers) (map (λ w. w.number) (filter p ws)) → AllByRecursion (λ n. n < end_of_numbers) (map (λ w. w.number) (cond t (w ∷ filter p ws) (filter p ws)))
+    go true rest = (all.0, rest)
+    go false rest = rest
+
+pub due_small : (kind m : ℕ) (t : Connected) (s : State) → Stands t.now s → AllByRecursion (λ n. n < end_of_numbers) (due_numbers kind m s)
+due_small kind m t s it = small_filtered (λ w. w.kind == kind && is_due m w.due) (all_waiting s) (numbers_small t s it)
+
+pub asked_number : (ns : List ℕ) (i number wanted : ℕ) → AllByRecursion (λ n. n < end_of_numbers) ns → i < length ns → number ≡ get_or ns i 0 → (number < end_of_numbers → wanted ≡ number) → wanted ≡ get_or ns i 0
+asked_number ns i number wanted small within is same = same (subst (λ k. k < end_of_numbers) (sym is) (at ns i small within)) ∙ is
+  where
+    at : (ns : List ℕ) (i : ℕ) → AllByRecursion (λ n. n < end_of_numbers) ns → i < length ns → get_or ns i 0 < end_of_numbers
+    at [] i small within = absurd (omega (arith, within))
+    at (n ∷ ns) zero small within = small.0
+    at (n ∷ ns) (suc i) small within = at ns i small.1 (omega (arith, within))
+
 -- ---- one document
 
 abbrev pub pass_params : ℕ → Detail → Row
@@ -78,10 +98,10 @@ passes_one n count detail old new ds it h =
     subst (Changed old new store_schema outbox_tree) (changed_rows (λ (d : OutEntry). passed d (Some detail)) n (Int (pos (detail_code detail)) ∷ []) ds) done.0
 
 -- the number that the row at place i shows
-pub number_here : (rows : List Row) (ns : List ℕ) (i : ℕ) (d : Row) (number : ℤ) → rows ≡ map number_row ns → i < length rows → column (get_or rows i d) 0 ≡ Int number → number ≡ pos (get_or ns i 0)
+pub number_here : (rows : List Row) (ns : List ℕ) (i : ℕ) (d : Row) (number : ℕ) → rows ≡ map number_row ns → i < length rows → column (get_or rows i d) 0 ≡ Int (pos number) → number ≡ get_or ns i 0
 number_here rows ns i d number all within is =
     let some : i < length ns = omega (arith, within, ap length all, length-map ns number_row) in
-    let shown : Int (pos (get_or ns i 0)) ≡ Int number = sym (ap (λ r. column r 0) (ap (λ l. get_or l i d) all ∙ get_or-map number_row ns i 0 d some)) ∙ is in
+    let shown : Int (pos (get_or ns i 0)) ≡ Int (pos number) = sym (ap (λ r. column r 0) (ap (λ l. get_or l i d) all ∙ get_or-map number_row ns i 0 d some)) ∙ is in
     cc
 
 -- ---- one after another
@@ -96,7 +116,7 @@ rise_still detail n ds up =
     kept d false = refl
 
 pub none_rewritten : (old : Connected) (ds : List OutEntry) → HoldsDocuments old.now ds → Rewritten old old ds
-none_rewritten old ds it = record { holds = it; others = (λ _. refl, λ _. refl, λ _. refl, λ _. refl, λ _. refl, λ _. refl, λ _. refl, tt) }
+none_rewritten old ds it = record { holds = it; others = (λ _. refl, (λ _. refl, (λ _. refl, (λ _. refl, (λ _. refl, (λ _. refl, (λ _. refl, tt))))))) }
 
 pub rewritten_more : (old mid new : Connected) (detail : Detail) (n : ℕ) (ds : List OutEntry) → Rewritten old mid ds → Changed mid new store_schema outbox_tree (map out_row (passing_one detail n ds)) → Rewritten old new (passing_one detail n ds)
 rewritten_more old mid new detail n ds it one = record {
@@ -164,6 +184,10 @@ all_passed detail rows ns i ds all past = ap (λ k. passing detail k ds) (take_a
 pub no_number : (ns : List ℕ) → map number_row ns ≡ [] → ns ≡ []
 no_number [] is = refl
 no_number (n ∷ ns) is = absurd cc
+
+pub no_row : (rows : List Row) → length rows ≡ 0 → rows ≡ []
+no_row [] is = refl
+no_row (r ∷ rows) is = absurd (omega (arith, is))
 
 -- ---- the transaction
 

@@ -1,7 +1,7 @@
 use Rattle.std.proofs.Common.{◌≡◌, ◌≤◌, arith}
 use Rattle.std.proofs.lemmas.Result.{IfOk-weaker}
 use Rattle.sqlite.specs.Held.{state}
-use Rattle.sqlite.specs.State.{Shown}
+use Rattle.sqlite.specs.State.{HasCleanDisk, Shown}
 use Rattle.sql_tables.proofs.Inside.{shown_open}
 use Rattle.sql_tables.proofs.Asking.{shown_stays}
 use Rattle.as2_rows.specs.Waiting.{kind_code}
@@ -13,13 +13,21 @@ use Rattle.as2_store.proofs.PassedTables.{ok_then, reads_due}
 use Rattle.as2_store.proofs.expiring.due_rows.Goals as goal
 
 pub returns-clause-within : goal.returns-clause-within
-returns-clause-within g c = queried_inside (λ rows. rows.items) _ _ _ _ c.query_all.result c.requires.begun c.query_all.ensures.ok c.query_all.ensures.err c.query_all.ensures.survives
+returns-clause-within g c =
+    let old = state g.S.Store c.args.tx.now.conn.now in
+    let new = state g.S.Store c.query_all.new.self.conn.now in
+    let was : HasCleanDisk new → HasCleanDisk old = λ clean. omega (arith, c.query_all.ensures.survives.clean, clean) in
+    queried_inside (λ rows. rows.items) _ _ old new c.query_all.result (λ clean. c.requires.begun (was clean)) c.query_all.ensures.ok c.query_all.ensures.err c.query_all.ensures.survives
 
 pub returns-clause-open : goal.returns-clause-open
 returns-clause-open g c clean = ok_then c.query_all.result (c.query_all.ensures.ok clean) (λ rows shown. shown_open _ _ _ _ rows.items shown)
 
 pub returns-clause-inside : goal.returns-clause-inside
-returns-clause-inside g c clean = ok_then c.query_all.result (c.query_all.ensures.ok clean) (λ rows shown. shown_stays _ _ _ _ rows.items c.requires.begun shown)
+returns-clause-inside g c clean =
+    let old = state g.S.Store c.args.tx.now.conn.now in
+    let new = state g.S.Store c.query_all.new.self.conn.now in
+    let was : HasCleanDisk old = omega (arith, c.query_all.ensures.survives.clean, clean) in
+    ok_then c.query_all.result (c.query_all.ensures.ok clean) (λ rows shown. shown_stays _ _ old new rows.items (c.requires.begun was) shown)
 
 pub returns-clause-rows : goal.returns-clause-rows
 returns-clause-rows g c clean =

@@ -7,7 +7,11 @@ use Rattle.as2_store.proofs.Statements.{waiting_take_due_text}
 use Rattle.as2_store.proofs.MetaRow.{fits_i64}
 use Rattle.as2_store.proofs.DueRows.{any_params}
 use Rattle.as2_store.proofs.PassedTables.{takes_due}
+use Rattle.as2_store.proofs.Committing.{ran_inside}
 use Rattle.as2_store.proofs.expiring.take_due.Goals as goal
+
+pub returns-in_err-execute-clause-within : goal.returns-in_err-execute-clause-within
+returns-in_err-execute-clause-within g c = ran_inside g.S.Store _ _ c.args.tx.now.conn.now c.execute.new.self.conn.now c.execute.result _ c.execute.ensures.ended c.execute.ensures.runs c.execute.ensures.survives
 
 pub returns-clause-put : goal.returns-clause-put
 returns-clause-put g c clean ws it =

@@ -8,7 +8,11 @@ use Rattle.as2_store.proofs.InboxQueries.{asked_small}
 use Rattle.as2_store.proofs.InboxRow.{passed_attempt, passed_mdn}
 use Rattle.as2_store.proofs.WaitingRows.{bound_optional}
 use Rattle.as2_store.proofs.OwedTables.{sets_owed, owed_params}
+use Rattle.as2_store.proofs.Committing.{ran_inside}
 use Rattle.as2_store.proofs.owed.set_owed.Goals as goal
+
+pub returns-clause-within : goal.returns-clause-within
+returns-clause-within g c = ran_inside g.S.Store _ _ c.args.tx.now.conn.now c.execute.new.self.conn.now c.execute.result _ c.execute.ensures.ended c.execute.ensures.runs c.execute.ensures.survives
 
 pub returns-clause-put : goal.returns-clause-put
 returns-clause-put g c clean = if_made c.execute.result _ (λ count is s it.
