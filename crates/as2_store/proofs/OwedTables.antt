@@ -26,7 +26,7 @@ use Rattle.as2_rows.specs.Contents.{pieces, piece_shown}
 use Rattle.as2_rows.specs.Waiting.{WaitingRow, in_waiting, waiting_in, to_send, to_answer, to_hear, to_end}
 use Rattle.as2_store.specs.Tables.{store_schema, inbox_table, inbox_tree, inbox_piece_tree}
 use Rattle.as2_store.proofs.Statements.{in_set_text}
-use Rattle.as2_store.specs.Stands.{IsWhole, Stands, place, waiting_row, documents_waiting, all_waiting, inbox_pieces}
+use Rattle.as2_store.specs.Stands.{IsWhole, Stands, waiting_row, documents_waiting, all_waiting, inbox_pieces}
 use Rattle.as2_store.specs.Adding.{noted_rows}
 use Rattle.as2_store.specs.Owing.{answers_at, owed_as, set_mdn_in}
 use Rattle.as2_store.specs.Requeuing.{not_at, HoldsWaiting, Renewed}

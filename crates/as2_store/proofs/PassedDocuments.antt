@@ -1,12 +1,12 @@
 -- Documents whose wait is over, among all documents: by their numbers, by what waits, and as time passes.
-use Rattle.std.proofs.Common.{◌≡◌, ◌⊎◌, inl, inr, ℕ, ◌+◌, ◌<◌, ◌==◌, ◌&&◌, ◌||◌, not, List, [], ◌∷◌, ◌++◌, map, filter, length, take, get_or, Option, option_map, Some, None, is_some, Bool, true, false, cond, count_by, refl, sym, ap, ap₂, subst, ◌∙◌, arith}
+use Rattle.std.proofs.Common.{◌≡◌, inl, inr, ℕ, ◌+◌, ◌<◌, ◌==◌, ◌&&◌, ◌||◌, not, List, [], ◌∷◌, ◌++◌, map, filter, length, take, get_or, Option, option_map, Some, None, is_some, Bool, true, false, cond, count_by, refl, sym, ap, ap₂, subst, ◌∙◌, arith}
 use Rattle.std.specs.List.{AllByRecursion, cons_option, list_any}
 use Rattle.std.proofs.lemmas.Bool.Decides.{nat_tests}
 use Rattle.std.proofs.lemmas.List.Elements.{filter-append}
 use Rattle.std.proofs.lemmas.List.Folds.{list_any_more}
 use Rattle.std.proofs.lemmas.List.Sums.{length-filter}
 use Rattle.sqlite.specs.Tree.{IsAscending}
-use Rattle.sqlite_trees.proofs.ListLemmas.{all_both, all_weaker, ascending-map, ascending_weaker, filter_all}
+use Rattle.sqlite_trees.proofs.ListLemmas.{all_both, all_weaker, filter_all}
 use Rattle.as2_mdn.specs.declared.detail.Detail.{Detail}
 use Rattle.as2_mdn.specs.declared.detail.Detail.TheVariants.{New, Sending, Awaiting, Retry, Processed, NoReceiptAsked, Warning, NoMic, UnknownMic, NotProcessed, ErrorModifier, MicDiffers, TriesUsed, Overdue}
 use Rattle.as2_exchange.specs.Documents.{passed, passes_at, tick}

@@ -1,5 +1,5 @@
 -- What the tables stand for once documents whose wait is over have passed into another detail.
-use Rattle.std.proofs.Common.{◌≡◌, ℕ, zero, suc, ◌+◌, ◌<◌, ◌≤◌, ◌==◌, ◌&&◌, not, List, [], ◌∷◌, map, filter, length, take, get_or, count_by, Bool, true, false, cond, Result, Ok, Err, IfOk, OnOk, Some, IsTrue, pos, negsuc, refl, sym, ap, ap₂, subst, ◌∙◌, arith}
+use Rattle.std.proofs.Common.{◌≡◌, ℕ, zero, suc, ◌<◌, ◌≤◌, ◌==◌, ◌&&◌, not, List, [], ◌∷◌, map, filter, length, take, get_or, count_by, Bool, true, false, cond, Result, Ok, Err, IfOk, OnOk, Some, IsTrue, pos, negsuc, refl, sym, ap, subst, ◌∙◌, arith}
 use Rattle.std.specs.List.{AllByRecursion}
 use Rattle.std.proofs.lemmas.List.{get_or-map, length-map, take_all}
 use Rattle.std.proofs.lemmas.List.Elements.{filter_agree}
@@ -12,10 +12,10 @@ use Rattle.sqlite.specs.Store.{Ghosts}
 use Rattle.sqlite.specs.Held.{Held, state}
 use Rattle.sqlite.specs.State.{State as Connected, HasCleanDisk, Executes, Shown}
 use Rattle.sqlite.specs.Term.{lit}
-use Rattle.sqlite.specs.Tree.{IsTable, IsAscending}
+use Rattle.sqlite.specs.Tree.{IsAscending}
 use Rattle.sqlite.specs.Listing.{understood}
 use Rattle.sqlite.proofs.Callers.{IsPlain, reads_as}
-use Rattle.sqlite_trees.proofs.ListLemmas.{ascending-filter, ascending-map, ascending_from_map, ascending_weaker, map-map}
+use Rattle.sqlite_trees.proofs.ListLemmas.{ascending-map, ascending_weaker, map-map}
 use Rattle.sql_tables.specs.Changes.{Changed, HasRows, over_table, passes}
 use Rattle.sql_tables.proofs.Changing.{updates}
 use Rattle.sql_tables.proofs.Deleting.{deletes}
@@ -48,7 +48,7 @@ use Rattle.as2_store.proofs.DueRows.{any_params, any_passes, numbers_small}
 use Rattle.as2_store.proofs.ForeignKeys.{quiet}
 use Rattle.as2_store.proofs.NumberedRows.{numbers_rise, ordered_rise}
 use Rattle.as2_store.proofs.OwedTables.{places_in_order}
-use Rattle.as2_store.proofs.PassedDocuments.{all_counted, all_ticked, by_number as moved_by_number, due_are_over, moved, none_passed, one_more_passed, same_evidence, same_numbers, same_pieces, waits_left}
+use Rattle.as2_store.proofs.PassedDocuments.{all_ticked, by_number as moved_by_number, due_are_over, moved, none_passed, same_evidence, same_numbers, same_pieces, waits_left}
 
 -- ---- the numbers that are due
 

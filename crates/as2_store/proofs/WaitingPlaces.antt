@@ -4,7 +4,7 @@ use Rattle.std.specs.List.{AllByRecursion, filter_map, cons_option}
 use Rattle.std.proofs.lemmas.Bool.Decides.{nat_tests}
 use Rattle.std.proofs.lemmas.List.Elements.{filter-append, filter_agree}
 use Rattle.sqlite.specs.Order.{Row}
-use Rattle.sqlite.specs.Tree.{put_row, IsTable, IsAscending}
+use Rattle.sqlite.specs.Tree.{IsTable, IsAscending}
 use Rattle.sqlite.specs.State.{State as Connected, Executes}
 use Rattle.sqlite_trees.proofs.ListLemmas.{all-append, all_weaker, all_both, filter_all, ascending-append, ascending-filter, ascending-map, ascending_from_map}
 use Rattle.sql_tables.specs.Changes.{Changed, passes}

@@ -80,11 +80,7 @@ fn pass_each<S: Alter>(
 }
 
 /// Takes out the rows of what waits so and is due at this moment.
-fn take_due<S: Alter>(
-    tx: &mut Transaction<'_, S>,
-    wait: Wait,
-    moment: Moment,
-) -> Result<(), Error>
+fn take_due<S: Alter>(tx: &mut Transaction<'_, S>, wait: Wait, moment: Moment) -> Result<(), Error>
     ensures same_reference { tx.new.conn.ghost_name ≡ tx.old.conn.ghost_name }
     ensures within { IsInside (state S.Store tx.old.conn.now) (state S.Store tx.new.conn.now) }
     ensures inside { HasCleanDisk (state S.Store tx.new.conn.now) → OnOk result (IsTrue (state S.Store tx.new.conn.now).in_transaction) }
