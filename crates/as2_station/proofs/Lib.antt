@@ -8,5 +8,6 @@ mod Playing
 mod Reaching
 mod HandedIn
 mod Begun
-mod Owed
-mod Ticking
+mod OwedTries
+mod Ticked
+mod NextDue

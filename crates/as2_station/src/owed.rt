@@ -78,11 +78,7 @@ fn begin_found<S: Alter>(
     requires open { HasCleanDisk (state S.Store store.old) → IsTrue (state S.Store store.old).is_open }
     ensures taken { Does (λ s. Some (on_received s entry.now.number (mdn_begun agreements.now moment))) (λ s. received s entry.now.number ≡ Some entry.now) (true ≡ true) (λ a. a) (state S.Store store.old) (state S.Store store.new) result }
 {
-    let partner = match agreed_partner(
-        agreements,
-        &entry.posted.receiver,
-        &entry.posted.sender,
-    ) {
+    let partner = match agreed_partner(agreements, &entry.posted.receiver, &entry.posted.sender) {
         Ok(partner) => partner,
         Err(reason) => return Ok(Answer::Refused(reason)),
     };
@@ -129,12 +125,7 @@ fn is_shut(attempt: Attempt) -> bool
 }
 
 /// How far the receipt has come once its try has ended, by an answer of success or without one.
-fn after_try(
-    partner: &Partner,
-    entry: &InEntry,
-    delivered: bool,
-    moment: Moment,
-) -> MdnProgress
+fn after_try(partner: &Partner, entry: &InEntry, delivered: bool, moment: Moment) -> MdnProgress
     requires terms { IsPartner partner.now }
     ensures { result ≡ mdn_ended delivered partner.now entry.now moment }
 {
@@ -179,11 +170,7 @@ fn close_found<S: Alter>(
     requires open { HasCleanDisk (state S.Store store.old) → IsTrue (state S.Store store.old).is_open }
     ensures taken { Does (λ s. Some (on_received s entry.now.number (mdn_closed agreements.now answer.now moment))) (λ s. received s entry.now.number ≡ Some entry.now) (true ≡ true) (λ a. a) (state S.Store store.old) (state S.Store store.new) result }
 {
-    let partner = match agreed_partner(
-        agreements,
-        &entry.posted.receiver,
-        &entry.posted.sender,
-    ) {
+    let partner = match agreed_partner(agreements, &entry.posted.receiver, &entry.posted.sender) {
         Ok(partner) => partner,
         Err(reason) => return Ok(Answer::Refused(reason)),
     };
@@ -204,13 +191,13 @@ pub fn close_mdn<S: Alter>(
     alloc: Global,
     agreements: &Agreements,
     number: u64,
-    answer: &TryAnswer,
+    answer: TryAnswer,
     moment: Moment,
 ) -> Result<Answer, StoreFault>
-    ensures taken { Does (λ s. Some (on_received s number (mdn_closed agreements.now answer.now moment))) always (true ≡ true) (λ a. a) (state S.Store store.old) (state S.Store store.new) result }
+    ensures taken { Does (λ s. Some (on_received s number (mdn_closed agreements.now answer moment))) always (true ≡ true) (λ a. a) (state S.Store store.old) (state S.Store store.new) result }
 {
     match store.find_in_number(alloc, number)? {
-        Some(entry) => close_found(store, agreements, &entry, answer, moment),
+        Some(entry) => close_found(store, agreements, &entry, &answer, moment),
         None => Ok(Answer::Refused(Refusal::NoSuchNumber)),
     }
 }

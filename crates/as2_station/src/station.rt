@@ -149,14 +149,7 @@ impl<S: Alter> Station<S> {
                 number,
                 answer,
                 moment,
-            } => close_mdn(
-                &mut self.store,
-                alloc,
-                agreements,
-                number,
-                &answer,
-                moment,
-            ),
+            } => close_mdn(&mut self.store, alloc, agreements, number, answer, moment),
             Event::Tick { moment } => tick(&mut self.store, moment),
         }
     }

@@ -1,9 +1,10 @@
 //! Receipts that are sent by a request of their own, and what is to be sent next then.
 use super::{Did, RECEIVED, Row, Said, moment, play, played, played_from};
 use crate::agreements::AGREEMENTS;
-use as2_exchange::{Attempt, InEntry, MdnState, Next, Refusal};
+use as2_exchange::{Attempt, InEntry, MdnState, Next, Refusal, StoreFault};
 use as2_mdn::Detail;
 use as2_station::Station;
+use as2_store::Store;
 use std::alloc::Global;
 use std::test::Fail;
 
@@ -239,5 +240,17 @@ fn a_receipt_settles_where_no_number_is_left(rt: HostRuntime) -> Result<(), Fail
         Some(document) => assert!(rt; document.detail == Detail::Processed),
         None => assert!(rt; false),
     }
+    Ok(())
+}
+
+#[test]
+fn an_entry_without_an_address_is_no_entry(rt: HostRuntime) -> Result<(), Fail> {
+    let mut conn = played(rt.alloc(), BOTH)?.into_connection();
+    conn.execute_batch("UPDATE inbox SET url = x'6e6f2061646472657373'")?;
+    assert!(rt; conn.is_autocommit());
+    let Ok(mut store) = Store::adopt(conn) else {
+        return Err(Fail::new("not adopted"));
+    };
+    assert!(rt; matches!(store.find_in_number(rt.alloc(), 1), Err(StoreFault::Refused)));
     Ok(())
 }

@@ -3,7 +3,7 @@ use Rattle.as2_exchange.specs.Readings.{receipt_job}
 use Rattle.as2_exchange.specs.Recording.{report}
 use Rattle.as2_exchange.specs.declared.answer.Answer.TheVariants.{Job}
 use Rattle.as2_station.proofs.ActingIn.{leaves_in}
-use Rattle.as2_station.proofs.Owed.{begins_mdn, no_try, not_agreed}
+use Rattle.as2_station.proofs.OwedTries.{begins_mdn, no_try, not_agreed}
 use Rattle.as2_station.proofs.Doing.{at_once, never_full, passed_on, written, unwritten}
 use Rattle.as2_station.proofs.owed.begin_found.Goals as goal
 

@@ -1,5 +1,5 @@
 use Rattle.as2_station.proofs.Doing.{passed_on}
-use Rattle.as2_station.proofs.Ticking.{fails_to_tick, ticks}
+use Rattle.as2_station.proofs.Ticked.{fails_to_tick, ticks}
 use Rattle.as2_station.proofs.ticking.tick.Goals as goal
 
 pub returns-in_err-count : goal.returns-in_err-count
@@ -8,4 +8,4 @@ returns-in_err-count g c = record {
 }
 
 pub returns : goal.returns
-returns g c = record { taken = ticks c.args.moment _ _ c.in_ok-count.count c.in_ok-count.ensures.passed c.in_ok-count.ensures.counted; }
+returns g c = record { taken = ticks c.args.moment _ _ c.in_ok-count.count c.in_ok-count.ensures.passed c.in_ok-count.ensures.counted }

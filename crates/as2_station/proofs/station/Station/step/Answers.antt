@@ -22,8 +22,8 @@ returns-in_err-post-in-Post-clause-of_head g c = record {
   same = λ head body moment line is reads by_head. c.post.ensures.of_head.same head body moment line (sym c.in-Post.is ∙ is) reads by_head;
 }
 
-pub returns-in-Post-clause-of_head : goal.returns-in-Post-clause-of_head
-returns-in-Post-clause-of_head g c = record {
+pub returns-in_ok-post-in-Post-clause-of_head : goal.returns-in_ok-post-in-Post-clause-of_head
+returns-in_ok-post-in-Post-clause-of_head g c = record {
   answer = λ head body moment line is reads by_head.
       let answered = c.post.ensures.of_head.answer head body moment line (sym c.in-Post.is ∙ is) reads by_head in
       let shown = c.in_ok-post-in-Post.was in
@@ -32,8 +32,8 @@ returns-in-Post-clause-of_head g c = record {
   same = λ head body moment line is reads by_head. c.post.ensures.of_head.same head body moment line (sym c.in-Post.is ∙ is) reads by_head;
 }
 
-pub returns-in-Post-clause-taken : goal.returns-in-Post-clause-taken
-returns-in-Post-clause-taken g c =
+pub returns-in_ok-post-in-Post-clause-taken : goal.returns-in_ok-post-in-Post-clause-taken
+returns-in_ok-post-in-Post-clause-taken g c =
     subst (λ (e : Event). TakesEvent c.args.agreements.now e (λ a. a) (state g.S.Store c.args.self.now) (state g.S.Store c.post.new.self) (Ok (Http c.in_ok-post-in-Post.field-0))) (sym c.in-Post.is)
     (as_event _ _ _ _ _ c.in_ok-post-in-Post.ensures.taken)
 
