@@ -1,3 +1,4 @@
+use crate::address::Address;
 use crate::attempt::Attempt;
 use crate::bytes::Bytes;
 use as2_mdn::{Outcome, ReportMic};
@@ -11,8 +12,8 @@ pub enum ReceiptDelivery {
     NoReceipt,
     /// In the answer to the post.
     Sync,
-    /// Later, by a request to this address, which is kept as it was spelled.
-    Async(Bytes),
+    /// Later, by a request to this address.
+    Async(Address),
 }
 
 /// How the receipt for a posted document stands.

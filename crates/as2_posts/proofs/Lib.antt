@@ -1,1 +1,2 @@
 mod Requests
+mod Addressed

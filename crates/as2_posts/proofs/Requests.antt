@@ -1,11 +1,16 @@
--- The request of a document, put together from its parts.
-use Rattle.std.proofs.Common.{◌≡◌, ◌∙◌, ◌++◌, ℕ, List, length, Some, codes, sym, ap, append_assoc}
+-- The requests of a document and of a receipt, put together from their parts.
+use Rattle.std.proofs.Common.{◌≡◌, ◌∙◌, ◌++◌, ℕ, List, length, Option, Some, IfSome, codes, subst, sym, ap, append_assoc}
 use Rattle.std.specs.Prelude.{decimal}
-use Rattle.as2_mdn.specs.Reports.{report_line}
-use Rattle.as2_text.specs.Addresses.{authority_of, url_of}
+use Rattle.as2_mdn.specs.Reports.{head_fields, report_line, report_text}
+use Rattle.as2_mdn.specs.declared.report.ReportOut.{ReportOut}
+use Rattle.as2_text.specs.Addresses.{IsAuthority, IsUrl, authority_of, url_of}
 use Rattle.as2_exchange.specs.Agreement.{Agreements, Partner, Text}
-use Rattle.as2_exchange.specs.Jobs.{address_of, address_or_nothing, asking_fields, document_fields, document_request, opening}
-use Rattle.as2_posts.specs.Sending.{content_fields, name_fields, request_to}
+use Rattle.as2_exchange.specs.Jobs.{address_of, address_or_nothing, asking_fields, document_fields, document_request, opening, receipt_request}
+use Rattle.as2_posts.specs.Sending.{content_fields, name_fields, receipt_to, request_to}
+
+-- the authority of an address that was read
+pub named_authority : (text : Text) (read : Option (Text × Text)) (address : Text × Text) → read ≡ Some address → IfSome read (IsUrl text) → IsAuthority (authority_of address)
+named_authority text read address is found = (subst (λ o. IfSome o (IsUrl text)) is found).authority
 
 -- four texts that are appended one behind the other
 pub four : (t a b c d : List ℕ) → (((t ++ a) ++ b) ++ c) ++ d ≡ t ++ (((a ++ b) ++ c) ++ d)
@@ -22,3 +27,9 @@ same_request A p organization id content address is =
     ap (λ (text : Text). record { authority = authority_of address; bytes = text ++ codes "\r\n" ++ content })
     (append_assoc (opening address) (name_fields p organization id) (content_fields A p content) ∙ ap (λ l. opening address ++ l) (joined A p organization id content))
     ∙ ap (λ (a : Text × Text). record { authority = authority_of a; bytes = opening a ++ document_fields A p organization id content ++ codes "\r\n" ++ content }) there
+
+-- the address is the one that was named
+pub same_receipt : (out : ReportOut) (url : Text) (address : Text × Text) → url_of url ≡ Some address → receipt_to address out ≡ receipt_request url out
+same_receipt out url address is =
+    let there : address_or_nothing (Some address) ≡ address_of url = ap address_or_nothing (sym is) in
+    ap (λ (a : Text × Text). record { authority = authority_of a; bytes = opening a ++ head_fields out ++ codes "\r\n" ++ report_text out }) there

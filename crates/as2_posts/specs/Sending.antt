@@ -1,8 +1,9 @@
--- The request of a document to an address that is known, part by part (RFC 4130, sections 5.3 and 6).
+-- The requests of a document and of a receipt to an address that is known, part by part (RFC 4130, sections 5.3, 6 and 7.3).
 use Rattle.std.specs.Prelude.{◌++◌, length, codes, decimal}
 use Rattle.as2_names.specs.Names.{spelling}
 use Rattle.as2_text.specs.Addresses.{authority_of}
-use Rattle.as2_mdn.specs.Reports.{report_line}
+use Rattle.as2_mdn.specs.Reports.{head_fields, report_line, report_text}
+use Rattle.as2_mdn.specs.declared.report.ReportOut.{ReportOut}
 use Rattle.as2_exchange.specs.Agreement.{Agreements, Partner, Text}
 use Rattle.as2_exchange.specs.Jobs.{asking_fields, opening}
 use Rattle.as2_exchange.specs.declared.answer.Job.{Job}
@@ -28,4 +29,11 @@ request_to address A p organization id content =
     record {
       authority = authority_of address;
       bytes = opening address ++ name_fields p organization id ++ content_fields A p content ++ codes "\r\n" ++ content;
+    }
+
+abbrev pub receipt_to : Text × Text → ReportOut → Job
+receipt_to address out =
+    record {
+      authority = authority_of address;
+      bytes = opening address ++ head_fields out ++ codes "\r\n" ++ report_text out;
     }

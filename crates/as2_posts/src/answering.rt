@@ -22,7 +22,7 @@ fn nothing(status: u16) -> HttpAnswer
 }
 
 /// The receipt of that number for a document.
-fn report(agreements: &Agreements, number: u64, posted: &Posted) -> Result<ReportOut, AllocError>
+pub fn report(agreements: &Agreements, number: u64, posted: &Posted) -> Result<ReportOut, AllocError>
     ensures { IfOk result (λ out. out ≡ report agreements.now number posted.now) }
 {
     Ok(ReportOut {

@@ -12,7 +12,7 @@ ghost use Rattle.as2_posts.specs.Openings.{document_by, names_in, opened_type};
 use crate::encodings::encoding_refused;
 use crate::fields::id_in;
 use crate::opening::Opened;
-use as2_exchange::{Bytes, Line, Posted, ReceiptDelivery};
+use as2_exchange::{Address, Bytes, Line, Posted, ReceiptDelivery};
 use as2_mdn::{Outcome, ReportMic, outcome_of};
 use as2_mic::{Alg, Pieces, mic_of_pieces};
 use as2_text::{Head, How, Memory, MessageId, Once, ReceiptAsk};
@@ -36,7 +36,10 @@ fn how_of(alloc: Global, head: &Head, ask: &ReceiptAsk<'_>) -> Result<ReceiptDel
     match ask.how {
         How::NoReceipt => Ok(ReceiptDelivery::NoReceipt),
         How::Sync => Ok(ReceiptDelivery::Sync),
-        How::Async(_) => Ok(ReceiptDelivery::Async(Bytes::keep(alloc, delivery_address(head))?)),
+        How::Async(_) => Ok(ReceiptDelivery::Async(Address::keep(
+            alloc,
+            delivery_address(head),
+        )?)),
     }
 }
 

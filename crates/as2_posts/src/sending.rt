@@ -1,6 +1,7 @@
 //! Documents that are sent: the identifier that one gets, and the request that carries it to its partner (RFC 4130, sections
 //! 5.3 and 6; RFC 9112, section 3).
 ghost use Rattle.std.specs.Prelude.{◌≡◌, ◌⊎◌, ◌++◌, List, ℕ, codes, option_map, IfOk, IfErr, OnOk};
+ghost use Rattle.as2_text.specs.Addresses.{IsAuthority};
 ghost use Rattle.as2_exchange.specs.Jobs.{asking_fields, bracketed, document_request, identifier_value, opening, request_fields, return_field};
 ghost use Rattle.as2_exchange.specs.declared.fault.StoreFault.TheVariants as fault;
 ghost use Rattle.as2_posts.specs.Sending.{content_fields, name_fields, request_to};
@@ -14,7 +15,7 @@ use itoa::Buffer;
 use std::alloc::{AllocError, Global};
 
 /// More than the head of a request takes: two addresses, names, an identifier and a content type, each with its limit.
-const HEAD: usize = 4_096;
+pub const HEAD: usize = 4_096;
 
 /// The text of the identifier of the document of this number.
 fn identifier_text(alloc: Global, agreements: &Agreements, number: u64) -> Result<Vec<u8>, Memory>
@@ -43,14 +44,14 @@ pub fn out_id(alloc: Global, agreements: &Agreements, number: u64) -> Result<Mes
 }
 
 /// Appends a text. Where memory runs out, a part of it may be appended.
-fn add_text(text: &mut Vec<u8>, more: &[u8]) -> Result<(), AllocError>
+pub fn add_text(text: &mut Vec<u8>, more: &[u8]) -> Result<(), AllocError>
     ensures { OnOk result (text.new.items ≡ text.old.items ++ more.now) }
 {
     text.extend_from_slice(more)
 }
 
 /// Appends what a request to that address begins with: its line, and the fields of the connection.
-fn add_opening(text: &mut Vec<u8>, url: &Url<'_>) -> Result<(), AllocError>
+pub fn add_opening(text: &mut Vec<u8>, url: &Url<'_>) -> Result<(), AllocError>
     ensures { OnOk result (text.new.items ≡ text.old.items ++ opening url.now) }
 {
     add_text(text, b"POST ")?;
@@ -190,6 +191,7 @@ pub fn document_job(
     content: &Pieces,
 ) -> Result<Job, StoreFault>
     ensures job { IfOk result (λ job. job ≡ document_request agreements.now partner.now organization.now id.now content.now) }
+    ensures address { IfOk result (λ job. IsAuthority job.authority) }
     ensures fault { IfErr result (λ f. (f ≡ fault.Memory) ⊎ (f ≡ fault.Refused)) }
 {
     let Some(url) = Url::parse(partner.url.as_str().as_bytes()) else {

@@ -1,26 +1,28 @@
 //! The values of a row, one at a time.
 
-ghost use Rattle.std.specs.Prelude.{◌≡◌, ◌≤◌, ℕ, List, Option, Some, Ok, IfOk, IfErr, IfSome, pos};
+ghost use Rattle.std.specs.Prelude.{◌≡◌, ◌≤◌, ℕ, List, Option, Some, Ok, IfOk, IfErr, IfSome, IsTrue, is_some, pos};
 ghost use Rattle.sqlite_value.specs.declared.value.Value.TheVariants.{Int, Blob};
 ghost use Rattle.sqlite_value.specs.Order.{column};
 ghost use Rattle.sqlite_value.specs.Value.{owned};
 ghost use Rattle.as2_names.specs.Names.{IsName};
 ghost use Rattle.as2_names.specs.Identifiers.{IsIdentifier, value_of};
 ghost use Rattle.as2_names.specs.Moments.{last_moment};
+ghost use Rattle.as2_text.specs.Addresses.{url_of};
 ghost use Rattle.as2_mic.specs.Algs.{alg_name};
 ghost use Rattle.as2_mic.specs.Mic.{IsMicText};
 ghost use Rattle.as2_mic.specs.declared.alg.Alg.{Alg as Digest};
 ghost use Rattle.as2_mdn.specs.declared.report.ReportMic.{ReportMic as Mic};
 ghost use Rattle.as2_exchange.specs.declared.inbox.ReceiptDelivery.{ReceiptDelivery as HowOf};
 ghost use Rattle.as2_rows.specs.Codes.{how_code};
+ghost use Rattle.as2_rows.specs.Texts.{IsAddressed};
 ghost use Rattle.as2_rows.specs.Rows.{whole, whole_or_null, url_value, digest_value, mic_value};
 ghost use Rattle.as2_rows.specs.declared.fault.RowFault.TheVariants as fault;
 
 use crate::RowFault;
-use as2_exchange::{Bytes, ReceiptDelivery};
+use as2_exchange::{Address, Bytes, ReceiptDelivery};
 use as2_mdn::ReportMic;
 use as2_mic::{Alg, MicText, Pieces};
-use as2_text::{AsName, IdFault, MessageId, Moment, is_identifier, without_brackets};
+use as2_text::{AsName, IdFault, MessageId, Moment, Url, is_identifier, without_brackets};
 use sqlite::Row;
 use sqlite::types::ValueRef;
 use std::alloc::Global;
@@ -138,6 +140,18 @@ pub fn moment(value: ValueRef<'_>) -> Result<Moment, RowFault>
     Moment::new(whole(value)?).ok_or(RowFault::NotAnEntry)
 }
 
+/// The address that a receipt is sent to.
+fn address(alloc: Global, value: ValueRef<'_>) -> Result<Address, RowFault>
+    ensures read { IfOk result (λ url. owned value.entry ≡ Blob url) }
+    ensures taken { IfErr result (λ f. (url : List ℕ) → IsTrue (is_some (url_of url)) → owned value.entry ≡ Blob url → f ≡ fault.Memory) }
+{
+    let text = blob(value)?;
+    if Url::parse(text).is_none() {
+        return Err(RowFault::NotAnEntry);
+    }
+    Ok(Address::keep(alloc, text)?)
+}
+
 /// How a receipt was asked for, of its code and the address.
 pub fn how(
     alloc: Global,
@@ -147,12 +161,12 @@ pub fn how(
     ensures code { IfOk result (λ h. owned code.entry ≡ whole (how_code h)) }
     ensures url { IfOk result (λ h. owned url.entry ≡ url_value h) }
     ensures read { IfOk result (λ h. (g : HowOf) → owned code.entry ≡ whole (how_code g) → owned url.entry ≡ url_value g → h ≡ g) }
-    ensures taken { IfErr result (λ f. (g : HowOf) → owned code.entry ≡ whole (how_code g) → owned url.entry ≡ url_value g → f ≡ fault.Memory) }
+    ensures taken { IfErr result (λ f. (g : HowOf) → IsAddressed g → owned code.entry ≡ whole (how_code g) → owned url.entry ≡ url_value g → f ≡ fault.Memory) }
 {
     match (integer(code)?, url) {
         (1, ValueRef::Null) => Ok(ReceiptDelivery::NoReceipt),
         (2, ValueRef::Null) => Ok(ReceiptDelivery::Sync),
-        (3, url) => Ok(ReceiptDelivery::Async(text(alloc, url)?)),
+        (3, url) => Ok(ReceiptDelivery::Async(address(alloc, url)?)),
         _ => Err(RowFault::NotAnEntry),
     }
 }

@@ -54,13 +54,13 @@ module _ (s : State) (d : OutEntry) (db : Database) (stands : Stands db s) (foun
       ∙ ap₂ (λ (x : Answer) (ds : List OutEntry). (x, record s { outbox = ds })) (ap (λ y. y.0) is)
       (changes_alike (λ (x : OutEntry). x.number) (λ e. (act e).1) g d.number d s.outbox stands.documents.1.distinct found (ap (λ y. y.1) is))
 
--- a document that is found has the number that was asked for
-pub numbered : (n : ℕ) (ds : List OutEntry) (d : OutEntry) → find (λ (x : OutEntry). x.number == n) ds ≡ Some d → d.number ≡ n
-numbered n [] d found = absurd cc
-numbered n (x ∷ ds) d found = go (x.number == n) refl found (numbered n ds d)
+-- an entry that is found has the number that was asked for
+pub numbered : {E : Type 0} (number : E → ℕ) (n : ℕ) (ds : List E) (d : E) → find (λ x. number x == n) ds ≡ Some d → number d ≡ n
+numbered number n [] d found = absurd cc
+numbered {E} number n (x ∷ ds) d found = go (number x == n) refl found (numbered number n ds d)
   where
-    go : (t : Bool) → (x.number == n) ≡ t → cond t (Some x) (find (λ (y : OutEntry). y.number == n) ds) ≡ Some d → (find (λ (y : OutEntry). y.number == n) ds ≡ Some d → d.number ≡ n) → d.number ≡ n
-    go true is here later = let same : x ≡ d = cc in let it : x.number ≡ n = grind (arith, nat_tests) in ap (λ (y : OutEntry). y.number) (sym same) ∙ it
+    go : (t : Bool) → (number x == n) ≡ t → cond t (Some x) (find (λ y. number y == n) ds) ≡ Some d → (find (λ y. number y == n) ds ≡ Some d → number d ≡ n) → number d ≡ n
+    go true is here later = let same : x ≡ d = cc in let it : number x ≡ n = grind (arith, nat_tests) in ap (λ (y : E). number y) (sym same) ∙ it
     go false is here later = later here
 
 -- an act that does the same to it

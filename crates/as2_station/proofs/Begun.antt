@@ -20,14 +20,14 @@ use Rattle.as2_station.proofs.Acting.{acts_agreed, changes, refused_agreed}
 
 -- ---- the tests
 
-refused_by : (a b c : Bool) (d : OutEntry) (rest : Answer × OutEntry) (reason : Refusal) → (if a then Some AllSettled else if b then Some TriesUsed else if c then Some NotDue else None) ≡ Some reason
+pub refused_by : {E : Type 0} (a b c : Bool) (d : E) (rest : Answer × E) (reason : Refusal) → (if a then Some AllSettled else if b then Some TriesUsed else if c then Some NotDue else None) ≡ Some reason
     → (if a then (Refused AllSettled, d) else if b then (Refused TriesUsed, d) else if c then (Refused NotDue, d) else rest) ≡ (Refused reason, d)
 refused_by true b c d rest reason is = let same : AllSettled ≡ reason = cc in ap (λ r. (Refused r, d)) same
 refused_by false true c d rest reason is = let same : TriesUsed ≡ reason = cc in ap (λ r. (Refused r, d)) same
 refused_by false false true d rest reason is = let same : NotDue ≡ reason = cc in ap (λ r. (Refused r, d)) same
 refused_by false false false d rest reason is = absurd cc
 
-begins_by : (a b c : Bool) (d : OutEntry) (rest : Answer × OutEntry) → (if a then Some AllSettled else if b then Some TriesUsed else if c then Some NotDue else None) ≡ None
+pub begins_by : {E : Type 0} (a b c : Bool) (d : E) (rest : Answer × E) → (if a then Some AllSettled else if b then Some TriesUsed else if c then Some NotDue else None) ≡ None
     → (if a then (Refused AllSettled, d) else if b then (Refused TriesUsed, d) else if c then (Refused NotDue, d) else rest) ≡ rest
 begins_by true b c d rest is = absurd cc
 begins_by false true c d rest is = absurd cc

@@ -1,4 +1,5 @@
 mod Acting
+mod ActingIn
 mod Clashing
 mod Closed
 mod Doing
@@ -7,3 +8,6 @@ mod Playing
 mod Reaching
 mod HandedIn
 mod Begun
+mod OwedTries
+mod Ticked
+mod NextDue

@@ -1,5 +1,6 @@
 pub mod Closing
 pub mod Heads
+pub mod OwedTries
 pub mod Steps
 pub mod Traces
 pub mod Trying

@@ -43,7 +43,7 @@ pub enum End {
 }
 
 /// A status of success (RFC 9110, section 15.3).
-fn is_success(status: u16) -> bool
+pub fn is_success(status: u16) -> bool
     ensures { result ≡ is_success status }
 {
     200 <= status && status < 300

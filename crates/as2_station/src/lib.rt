@@ -4,11 +4,13 @@
 
 mod agreed;
 mod closing;
+mod owed;
 mod receipts;
 mod receiving;
 mod recording;
 mod station;
 mod submitting;
+mod ticking;
 mod trying;
 
 pub use station::Station;

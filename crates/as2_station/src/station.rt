@@ -1,10 +1,9 @@
 //! The station, event by event.
-ghost use Rattle.std.specs.Prelude.{◌≡◌, IfOk, IfErr, OnErr, option_map, true};
+ghost use Rattle.std.specs.Prelude.{◌≡◌, IfOk, IfErr, OnErr, true};
 ghost use Rattle.sqlite.specs.Held.{state};
 ghost use Rattle.as2_exchange.specs.declared.event.Event.TheVariants.{Post};
 ghost use Rattle.as2_exchange.specs.declared.answer.Answer.TheVariants.{Http};
-ghost use Rattle.as2_exchange.specs.Views.{due_documents, least};
-ghost use Rattle.as2_exchange.specs.declared.next.Next.TheVariants.{Document};
+ghost use Rattle.as2_exchange.specs.Views.{next};
 ghost use Rattle.as2_store.specs.Calls.{Reads};
 ghost use Rattle.as2_store.specs.Stands.{may_come};
 ghost use Rattle.as2_posts.specs.Openings.{reading_by};
@@ -12,9 +11,11 @@ ghost use Rattle.as2_station.specs.Steps.{ClashesWhole, RefusesSubmit, TakesEven
 ghost use Rattle.as2_station.specs.Traces.{Plays, Taken};
 
 use crate::closing::close;
+use crate::owed::{begin_mdn, close_mdn};
 use crate::receiving::receive;
 use crate::recording::record;
 use crate::submitting::submit;
+use crate::ticking::tick;
 use crate::trying::begin;
 use as2_agreement::Agreements;
 use as2_exchange::{Answer, Event, HttpAnswer, Next, StoreFault};
@@ -102,8 +103,9 @@ impl<S: Alter> Station<S> {
 
     /// Takes an event. A post is taken as `post` takes it. A document is taken in under the next number; one that is refused takes
     /// neither memory nor the store. A try begins once it is committed; its outcome settles the document by the receipt that came in
-    /// the answer, or says when to try again. Every other event is Refused for now. A fault of the store may come in place of any
-    /// other answer, and nothing is changed then; Full where no number is left.
+    /// the answer, or says when to try again; a receipt that is sent later is tried likewise. As time passes, what waited too
+    /// long is given up. A fault of the store may come in place of any other answer, and nothing is changed then; Full where no
+    /// number is left.
     pub fn step(
         &mut self,
         alloc: Global,
@@ -140,16 +142,27 @@ impl<S: Alter> Station<S> {
                 answer,
                 moment,
             } => close(&mut self.store, alloc, agreements, number, answer, moment),
-            _ => Err(StoreFault::Refused),
+            Event::BeginMdn { number, moment } => {
+                begin_mdn(&mut self.store, alloc, agreements, number, moment)
+            }
+            Event::OutcomeMdn {
+                number,
+                answer,
+                moment,
+            } => close_mdn(&mut self.store, alloc, agreements, number, answer, moment),
+            Event::Tick { moment } => tick(&mut self.store, moment),
         }
     }
 
-    /// What is to be sent next at this moment: the document of the least number of which a try may begin, if there is one.
-    /// Answers Memory, Disk or Refused.
+    /// What is to be sent next at this moment: the receipt of the least number of which a try may begin, or else the document of
+    /// the least number, or nothing. Answers Memory, Disk or Refused.
     pub fn next(&mut self, moment: Moment) -> Result<Option<Next>, StoreFault>
-        ensures next { Reads (λ s next. next ≡ option_map Document (least (due_documents s moment))) (state S.Store self.old) (state S.Store self.new) result }
+        ensures next { Reads (λ s found. found ≡ next s moment) (state S.Store self.old) (state S.Store self.new) result }
         ensures fault { IfErr result (λ f. may_come f ≡ true) }
     {
+        if let Some(number) = self.store.due_mdn(moment)? {
+            return Ok(Some(Next::Receipt(number)));
+        }
         match self.store.due_out(moment)? {
             Some(number) => Ok(Some(Next::Document(number))),
             None => Ok(None),

@@ -31,7 +31,7 @@ fn waits(detail: Detail) -> bool
 }
 
 /// Whether it is due only after this moment.
-fn is_early(moment: Moment, due: Option<u64>) -> bool
+pub fn is_early(moment: Moment, due: Option<u64>) -> bool
     ensures { result ≡ is_early moment due }
 {
     match due {

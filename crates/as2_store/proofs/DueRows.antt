@@ -35,7 +35,7 @@ use Rattle.as2_store.proofs.Statements.{any_due_text, least_due_text}
 use Rattle.as2_store.proofs.Texts.{due_columns, any_due_terms, any_due_is, any_due_plain, any_due_unlisted, least_due_terms, least_due_is, least_due_plain, least_due_unlisted}
 use Rattle.as2_store.proofs.QueriedRows.{and_true}
 use Rattle.as2_store.proofs.WaitingRows.{IsOf, documents_of, ins_small}
-use Rattle.as2_store.proofs.RequeuedTables.{places_in_order}
+use Rattle.as2_store.proofs.OwedTables.{places_in_order}
 
 -- ---- what the statements ask
 
@@ -47,7 +47,7 @@ has_come m (Some due) = numbers_at_most due m
 abbrev pub any_params : ℕ → ℕ → Row
 any_params kind m = Int (pos kind) ∷ Int (pos m) ∷ []
 
-any_passes : (kind m : ℕ) (w : WaitingRow) → passes any_due_terms (any_params kind m) (waiting_row w) ≡ (w.kind == kind && is_due m w.due)
+pub any_passes : (kind m : ℕ) (w : WaitingRow) → passes any_due_terms (any_params kind m) (waiting_row w) ≡ (w.kind == kind && is_due m w.due)
 any_passes kind m w = ap₂ ◌&&◌ (numbers_equal w.kind kind) (ap (λ b. b && true) (has_come m w.due) ∙ and_true _)
 
 abbrev pub least_params : ℕ → ℕ → Row
@@ -70,7 +70,7 @@ same_kind kind m w small = joined (nat_le (kind * end_of_numbers) (place w)) (na
 
 -- ---- what waits
 
-numbers_small : (t : Connected) (s : State) → Stands t.now s → AllByRecursion (λ w. w.number < end_of_numbers) (all_waiting s)
+pub numbers_small : (t : Connected) (s : State) → Stands t.now s → AllByRecursion (λ w. w.number < end_of_numbers) (all_waiting s)
 numbers_small t s it =
     let outs = all_weaken (λ k. k < s.next_out) (λ k. k < end_of_numbers) (λ k less. omega (arith, less, it.documents.0.most)) (map (λ (d : OutEntry). d.number) s.outbox) it.documents.1.below in
     let ins = all_weaken (λ k. k < s.next_in) (λ k. k < end_of_numbers) (λ k less. omega (arith, less, it.receipts.0.most)) (map (λ (e : InEntry). e.number) s.inbox) it.receipts.1.below in

@@ -22,12 +22,14 @@ mod WaitingPlaces
 mod WaitingAmong
 mod ChangedDocuments
 mod AddedDocument
-mod RequeuedTables
+mod OwedTables
 mod OutboxQueries
 mod StateQueries
 mod SettledTables
 mod DueRows
-mod DueDocuments
+mod DueEntries
 mod Unsettled
 mod SetTables
+mod PassedDocuments
+mod PassedTables
 mod Single

@@ -21,17 +21,17 @@ use Rattle.sqlite.proofs.StateLemmas.{survives_then}
 
 -- ---- the query inside
 
-pub queried_inside : {V : Type 0} (items : V → List Row) (sql : List ℕ) (params : Row) (old new : Connected) (r : Result V Error) → IsTrue old.in_transaction → (HasCleanDisk new → IfOk r (λ v. Shown sql params old new (items v)))
+pub queried_inside : {V : Type 0} (items : V → List Row) (sql : List ℕ) (params : Row) (old new : Connected) (r : Result V Error) → (HasCleanDisk new → IsTrue old.in_transaction) → (HasCleanDisk new → IfOk r (λ v. Shown sql params old new (items v)))
     → (HasCleanDisk new → IfErr r (λ e. FailsToQuery sql params old new e ⊎ IsTooLate sql params old new e)) → Survives old new (λ _. ⊥) → IsInside old new
 queried_inside items sql params old new r inside ok err survives = record {
   clean = λ clean. omega (arith, survives.clean, clean);
-  kept = λ clean. go r (ok clean) (err clean);
+  kept = λ clean. go r (inside clean) (ok clean) (err clean);
   survives = survives;
 }
   where
-    go : (r : Result _ Error) → IfOk r (λ v. Shown sql params old new (items v)) → IfErr r (λ e. FailsToQuery sql params old new e ⊎ IsTooLate sql params old new e) → KeepsCommit old new
-    go (Ok v) shown failed = shown_keeps sql params old new (items v) inside shown
-    go (Err e) shown failed = failed_keeps sql params old new e failed
+    go : (r : Result _ Error) → IsTrue old.in_transaction → IfOk r (λ v. Shown sql params old new (items v)) → IfErr r (λ e. FailsToQuery sql params old new e ⊎ IsTooLate sql params old new e) → KeepsCommit old new
+    go (Ok v) begun shown failed = shown_keeps sql params old new (items v) begun shown
+    go (Err e) begun shown failed = failed_keeps sql params old new e failed
 
 -- ---- a query of the store's tables
 
@@ -144,6 +144,10 @@ read_told fits more old new a (Err e) (Err f) Q P cases is then it = read_err fi
 
 pub survives_same : (c : Connected) (P : Trees → Type 0) → Survives c c P
 survives_same c P = record { clean = omega arith; shield = λ is. is; counts = omega arith; limit = refl; closes = λ clean is. inl is; crash = λ clean db may. inl may }
+
+-- no statement ran
+pub nothing_inside : (c : Connected) → IsInside c c
+nothing_inside c = record { clean = λ clean. clean; kept = λ clean. record { was_open = λ o. o; committed = λ o. refl }; survives = survives_same c (λ _. ⊥) }
 
 -- nothing is read, over an open connection
 pub unread : {A E : Type 0} (fits : State → A → Type 0) (old : Connected) (a : A) → (HasCleanDisk old → IsTrue old.is_open) → ((s : State) → fits s a) → Reads {A = A} {E = E} fits old old (Ok a)

@@ -33,7 +33,7 @@ use Rattle.as2_store.proofs.NumberedRows.{numbers_rise, entries_rise}
 use Rattle.as2_store.proofs.NumberedEntries.{Split, out_number, split}
 use Rattle.as2_store.proofs.WaitingRows.{cast_optional}
 use Rattle.as2_store.proofs.ChangedDocuments.{changed_rows, numbered, same_numbers, same_pieces, same_evidence, waits_changed}
-use Rattle.as2_store.proofs.RequeuedTables.{places_in_order}
+use Rattle.as2_store.proofs.OwedTables.{places_in_order}
 use Rattle.as2_store.proofs.SettledTables.{given}
 use Rattle.as2_store.proofs.Unsettled.{some_found}
 

@@ -65,8 +65,8 @@ in_all_text = codes "SELECT number, sender, receiver, identifier_value, identifi
 abbrev pub in_pieces_text : List ℕ
 in_pieces_text = codes "SELECT number, position, bytes FROM inbox_piece WHERE number = ?1 ORDER BY position"
 
-abbrev pub in_requeue_text : List ℕ
-in_requeue_text = codes "UPDATE inbox SET mdn = 2, tries = 0, attempt = 1, due = ?2 WHERE number = ?1"
+abbrev pub in_set_text : List ℕ
+in_set_text = codes "UPDATE inbox SET mdn = ?2, tries = ?3, attempt = ?4, due = ?5 WHERE number = ?1"
 
 -- ---- the outbox
 
@@ -94,6 +94,9 @@ evidence_put_text = codes "INSERT INTO evidence (number, moment, content_type, b
 abbrev pub out_set_text : List ℕ
 out_set_text = codes "UPDATE outbox SET tries = ?2, attempt = ?3, due = ?4, detail = ?5 WHERE number = ?1"
 
+abbrev pub out_pass_text : List ℕ
+out_pass_text = codes "UPDATE outbox SET due = NULL, detail = ?2 WHERE number = ?1"
+
 abbrev pub out_settle_text : List ℕ
 out_settle_text = codes "UPDATE outbox SET attempt = 1, due = NULL, detail = ?2 WHERE number = ?1"
 
@@ -105,8 +108,14 @@ waiting_put_text = codes "INSERT INTO waiting (place, kind, number, due) VALUES 
 abbrev pub any_due_text : List ℕ
 any_due_text = codes "SELECT number FROM waiting WHERE kind = ?1 AND due <= ?2 LIMIT 1"
 
+abbrev pub all_due_text : List ℕ
+all_due_text = codes "SELECT number FROM waiting WHERE kind = ?1 AND due <= ?2 ORDER BY place"
+
 abbrev pub least_due_text : List ℕ
 least_due_text = codes "SELECT number FROM waiting WHERE place >= ?1 AND place < ?2 AND due <= ?3 ORDER BY place LIMIT 1"
 
 abbrev pub waiting_take_text : List ℕ
 waiting_take_text = codes "DELETE FROM waiting WHERE place = ?1"
+
+abbrev pub waiting_take_due_text : List ℕ
+waiting_take_due_text = codes "DELETE FROM waiting WHERE kind = ?1 AND due <= ?2"

@@ -20,7 +20,7 @@ use Rattle.sql_tables.proofs.Changing.{update_program}
 use Rattle.sql_tables.proofs.Deleting.{delete_program}
 use Rattle.as2_store.specs.declared.contents.Mailbox.TheVariants.{Inbox, Outbox}
 use Rattle.as2_store.specs.Tables.{store_schema, meta_table, meta_tree, inbox_tree, inbox_piece_tree, outbox_tree, outbox_piece_tree, evidence_tree, waiting_tree}
-use Rattle.as2_store.proofs.Statements.{meta_put_text, meta_read_text, receipt_text, document_text, in_put_text, piece_put_text, in_by_key_text, in_by_number_text, in_all_text, in_pieces_text, in_requeue_text, out_put_text, out_by_id_text, out_by_number_text, out_by_details_text, out_pieces_text, evidence_by_number_text, evidence_put_text, out_set_text, out_settle_text, waiting_put_text, waiting_take_text, any_due_text, least_due_text}
+use Rattle.as2_store.proofs.Statements.{meta_put_text, meta_read_text, receipt_text, document_text, in_put_text, piece_put_text, in_by_key_text, in_by_number_text, in_all_text, in_pieces_text, in_set_text, out_put_text, out_by_id_text, out_by_number_text, out_by_details_text, out_pieces_text, evidence_by_number_text, evidence_put_text, out_set_text, out_settle_text, out_pass_text, waiting_put_text, waiting_take_text, waiting_take_due_text, any_due_text, all_due_text, least_due_text}
 
 -- ---- the counters
 
@@ -188,18 +188,18 @@ pub in_pieces_unlisted : reads_listing store_schema in_pieces_text ≡ false
 unfolding understood everything
 in_pieces_unlisted = refl
 
-abbrev pub requeue_project : List Term
-requeue_project =
+abbrev pub owed_project : List Term
+owed_project =
     col 1 0 ∷ lit Null ∷ col 1 2 ∷ col 1 3 ∷ col 1 4 ∷ col 1 5 ∷ col 1 6 ∷ col 1 7 ∷ col 1 8 ∷ col 1 9 ∷ col 1 10 ∷ col 1 11 ∷ col 1 12 ∷ col 1 13
-    ∷ lit (Int (pos 2)) ∷ lit (Int (pos 0)) ∷ lit (Int (pos 1)) ∷ col 0 1 ∷ []
+    ∷ col 0 1 ∷ col 0 2 ∷ col 0 3 ∷ col 0 4 ∷ []
 
-pub in_requeue_is : command_of (understood store_schema in_requeue_text) ≡ Update 1 (update_program inbox_tree number_terms requeue_project)
+pub in_set_is : command_of (understood store_schema in_set_text) ≡ Update 1 (update_program inbox_tree number_terms owed_project)
 unfolding understood everything
-in_requeue_is = refl
+in_set_is = refl
 
-pub in_requeue_plain : IsPlain (understood store_schema in_requeue_text)
+pub in_set_plain : IsPlain (understood store_schema in_set_text)
 unfolding understood everything
-in_requeue_plain = (refl, refl)
+in_set_plain = (refl, refl)
 
 -- ---- the outbox
 
@@ -322,6 +322,18 @@ pub out_set_plain : IsPlain (understood store_schema out_set_text)
 unfolding understood everything
 out_set_plain = (refl, refl)
 
+abbrev pub pass_project : List Term
+pass_project =
+    col 1 0 ∷ lit Null ∷ col 1 2 ∷ col 1 3 ∷ col 1 4 ∷ col 1 5 ∷ col 1 6 ∷ col 1 7 ∷ col 1 8 ∷ col 1 9 ∷ lit Null ∷ col 0 1 ∷ []
+
+pub out_pass_is : command_of (understood store_schema out_pass_text) ≡ Update 3 (update_program outbox_tree number_terms pass_project)
+unfolding understood everything
+out_pass_is = refl
+
+pub out_pass_plain : IsPlain (understood store_schema out_pass_text)
+unfolding understood everything
+out_pass_plain = (refl, refl)
+
 pub out_settle_is : command_of (understood store_schema out_settle_text) ≡ Update 3 (update_program outbox_tree number_terms settle_project)
 unfolding understood everything
 out_settle_is = refl
@@ -361,6 +373,18 @@ pub any_due_unlisted : reads_listing store_schema any_due_text ≡ false
 unfolding understood everything
 any_due_unlisted = refl
 
+pub all_due_is : command_of (understood store_schema all_due_text) ≡ Select (record { lets = []; body = over_table waiting_tree any_due_terms due_columns by_number (lit (Int (negsuc 0))) }) (codes "number" ∷ [])
+unfolding understood everything
+all_due_is = refl
+
+pub all_due_plain : IsPlain (understood store_schema all_due_text)
+unfolding understood everything
+all_due_plain = (refl, refl)
+
+pub all_due_unlisted : reads_listing store_schema all_due_text ≡ false
+unfolding understood everything
+all_due_unlisted = refl
+
 abbrev pub least_due_terms : List Term
 least_due_terms = op2 (Compare Ge Binary) (col 1 0) (col 0 0) ∷ op2 (Compare Lt Binary) (col 1 0) (col 0 1) ∷ op2 (Compare Le Binary) (col 1 4) (col 0 2) ∷ []
 
@@ -383,3 +407,11 @@ waiting_take_is = refl
 pub waiting_take_plain : IsPlain (understood store_schema waiting_take_text)
 unfolding understood everything
 waiting_take_plain = (refl, refl)
+
+pub waiting_take_due_is : command_of (understood store_schema waiting_take_due_text) ≡ Delete 6 (delete_program waiting_tree any_due_terms)
+unfolding understood everything
+waiting_take_due_is = refl
+
+pub waiting_take_due_plain : IsPlain (understood store_schema waiting_take_due_text)
+unfolding understood everything
+waiting_take_due_plain = (refl, refl)

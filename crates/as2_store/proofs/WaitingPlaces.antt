@@ -1,10 +1,10 @@
--- What waits, in order of the places; and a receipt put there in place of what stood at its place.
+-- What waits, in order of the places; and a receipt there in place of what stood at its place.
 use Rattle.std.proofs.Common.{◌≡◌, ℕ, ◌<◌, ◌==◌, ◌&&◌, List, [], ◌∷◌, ◌++◌, map, Option, option_map, Some, None, IfSome, true, false, not, cond, Ok, refl, sym, ap, ap₂, subst, pos, ◌∙◌, arith, append_assoc}
 use Rattle.std.specs.List.{AllByRecursion, filter_map, cons_option}
 use Rattle.std.proofs.lemmas.Bool.Decides.{nat_tests}
 use Rattle.std.proofs.lemmas.List.Elements.{filter-append, filter_agree}
 use Rattle.sqlite.specs.Order.{Row}
-use Rattle.sqlite.specs.Tree.{put_row, IsTable, IsAscending}
+use Rattle.sqlite.specs.Tree.{IsTable, IsAscending}
 use Rattle.sqlite.specs.State.{State as Connected, Executes}
 use Rattle.sqlite_trees.proofs.ListLemmas.{all-append, all_weaker, all_both, filter_all, ascending-append, ascending-filter, ascending-map, ascending_from_map}
 use Rattle.sql_tables.specs.Changes.{Changed, passes}
@@ -17,7 +17,9 @@ use Rattle.as2_rows.specs.Waiting.{WaitingRow, out_kind, in_kind, in_waiting, ou
 use Rattle.as2_store.specs.Tables.{store_schema, waiting_table, waiting_tree}
 use Rattle.as2_store.proofs.Statements.{waiting_take_text}
 use Rattle.as2_store.specs.Stands.{place, waiting_row, documents_waiting}
+use Rattle.as2_store.specs.Adding.{noted_rows}
 use Rattle.as2_store.specs.Requeuing.{HoldsWaiting, Renewed, not_at}
+use Rattle.as2_store.specs.Settling.{place_of}
 use Rattle.as2_store.proofs.MetaRow.{one_param}
 use Rattle.as2_store.proofs.NumberedRows.{given_rise, ordered_rise, puts_between}
 use Rattle.as2_store.proofs.AddedPieces.{others_then}
@@ -126,25 +128,35 @@ taken p (Some w) at front back low high =
     filter-append (λ w. not (place w == p)) front (w ∷ back)
     ∙ ap₂ ◌++◌ (filter_all _ front (kept_low p front low)) (ap (λ b. cond b (w ∷ not_at p back) (not_at p back)) (dropped p (place w) at) ∙ filter_all _ back (kept_high p back high))
 
-pub renewed : (n : ℕ) (w : WaitingRow) → IsLast n w → n < end_of_numbers → (o : Option WaitingRow) → IfSome o (IsLast n) → (send front back hear end : List WaitingRow)
+pub renewed : (n : ℕ) (new : Option WaitingRow) → IfSome new (IsLast n) → n < end_of_numbers → (o : Option WaitingRow) → IfSome o (IsLast n) → (send front back hear end : List WaitingRow)
     → AllByRecursion (IsOf to_send end_of_numbers) send → AllByRecursion (IsOf to_answer n) front → AllByRecursion (λ v. (v.kind ≡ to_answer) × (n < v.number)) back
     → AllByRecursion (IsOf to_hear end_of_numbers) hear → AllByRecursion (IsOf to_end end_of_numbers) end
-    → put_row (waiting_row w) (map waiting_row (not_at (place w) (send ++ ((front ++ cons_option o back) ++ (hear ++ end))))) ≡ map waiting_row (send ++ ((front ++ w ∷ back) ++ (hear ++ end)))
-renewed n w is small o was send front back hear end s f b h e =
-    let low = all-append (λ q. place q < place w) send front (all_weaker (IsOf to_send end_of_numbers) (λ q. place q < place w) (λ q of. omega (arith, of.0, of.1, is.0, is.1)) send s)
-    (all_weaker (IsOf to_answer n) (λ q. place q < place w) (λ q of. omega (arith, of.0, of.1, is.0, is.1)) front f) in
-    let ends = all-append (λ q. place w < place q) hear end (all_weaker (IsOf to_hear end_of_numbers) (λ q. place w < place q) (λ q of. omega (arith, of.0, of.1, is.0, is.1, small)) hear h)
-    (all_weaker (IsOf to_end end_of_numbers) (λ q. place w < place q) (λ q of. omega (arith, of.0, of.1, is.0, is.1, small)) end e) in
-    let high = all-append (λ q. place w < place q) back (hear ++ end) (all_weaker (λ v. (v.kind ≡ to_answer) × (n < v.number)) (λ q. place w < place q) (λ q of. omega (arith, of.0, of.1, is.0, is.1)) back b) ends in
-    ap (λ l. put_row (waiting_row w) (map waiting_row (not_at (place w) l))) (spread o)
-    ∙ ap (λ l. put_row (waiting_row w) (map waiting_row l)) (taken (place w) o (stood o was) (send ++ front) (back ++ (hear ++ end)) low high)
-    ∙ puts_between waiting_row place (λ _. refl) w (send ++ front) (back ++ (hear ++ end)) low high
-    ∙ ap (map waiting_row) (sym (joined send front (w ∷ back) (hear ++ end)))
+    → noted_rows new (map waiting_row (not_at (place_of to_answer n) (send ++ ((front ++ cons_option o back) ++ (hear ++ end))))) ≡ map waiting_row (send ++ ((front ++ cons_option new back) ++ (hear ++ end)))
+renewed n new is small o was send front back hear end s f b h e =
+    let p = place_of to_answer n in
+    let low = all-append (λ q. place q < p) send front (all_weaker (IsOf to_send end_of_numbers) (λ q. place q < p) (λ q of. omega (arith, of.0, of.1)) send s)
+    (all_weaker (IsOf to_answer n) (λ q. place q < p) (λ q of. omega (arith, of.0, of.1)) front f) in
+    let ends = all-append (λ q. p < place q) hear end (all_weaker (IsOf to_hear end_of_numbers) (λ q. p < place q) (λ q of. omega (arith, of.0, of.1, small)) hear h)
+    (all_weaker (IsOf to_end end_of_numbers) (λ q. p < place q) (λ q of. omega (arith, of.0, of.1, small)) end e) in
+    let high = all-append (λ q. p < place q) back (hear ++ end) (all_weaker (λ v. (v.kind ≡ to_answer) × (n < v.number)) (λ q. p < place q) (λ q of. omega (arith, of.0, of.1)) back b) ends in
+    ap (λ l. noted_rows new (map waiting_row (not_at p l))) (spread o)
+    ∙ ap (λ l. noted_rows new (map waiting_row l)) (taken p o (stood o was) (send ++ front) (back ++ (hear ++ end)) low high)
+    ∙ put new is low high
+    ∙ ap (map waiting_row) (sym (spread new))
   where
     spread : (o : Option WaitingRow) → send ++ ((front ++ cons_option o back) ++ (hear ++ end)) ≡ (send ++ front) ++ cons_option o (back ++ (hear ++ end))
     spread None = joined send front back (hear ++ end)
     spread (Some v) = joined send front (v ∷ back) (hear ++ end)
 
-    stood : (o : Option WaitingRow) → IfSome o (IsLast n) → IfSome o (λ v. place v ≡ place w)
+    at_place : (v : WaitingRow) → IsLast n v → place v ≡ place_of to_answer n
+    at_place v is = omega (arith, is.0, is.1)
+
+    stood : (o : Option WaitingRow) → IfSome o (IsLast n) → IfSome o (λ v. place v ≡ place_of to_answer n)
     stood None was = tt
-    stood (Some v) was = omega (arith, was.0, was.1, is.0, is.1)
+    stood (Some v) was = at_place v was
+
+    put : (new : Option WaitingRow) → IfSome new (IsLast n) → AllByRecursion (λ q. place q < place_of to_answer n) (send ++ front) → AllByRecursion (λ q. place_of to_answer n < place q) (back ++ (hear ++ end))
+        → noted_rows new (map waiting_row ((send ++ front) ++ (back ++ (hear ++ end)))) ≡ map waiting_row ((send ++ front) ++ cons_option new (back ++ (hear ++ end)))
+    put None is low high = refl
+    put (Some w) is low high =
+        puts_between waiting_row place (λ _. refl) w (send ++ front) (back ++ (hear ++ end)) (subst (λ k. AllByRecursion (λ q. place q < k) (send ++ front)) (sym (at_place w is)) low) (subst (λ k. AllByRecursion (λ q. k < place q) (back ++ (hear ++ end))) (sym (at_place w is)) high)

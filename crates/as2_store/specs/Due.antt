@@ -15,7 +15,11 @@ due_waiting kind m s = filter (λ w. w.kind == kind && is_due m w.due) (all_wait
 abbrev pub due_numbers : ℕ → ℕ → State → List ℕ
 due_numbers kind m s = map (λ w. w.number) (due_waiting kind m s)
 
+-- the row that shows a number
+abbrev pub number_row : ℕ → Row
+number_row n = whole n ∷ []
+
 -- the rows of a query that shows a number, or finds none
 abbrev pub number_rows : Option ℕ → List Row
 number_rows None = []
-number_rows (Some n) = (whole n ∷ []) ∷ []
+number_rows (Some n) = number_row n ∷ []

@@ -5,6 +5,8 @@ pub mod Adding
 pub mod Finding
 pub mod Listing
 pub mod Requeuing
+pub mod Owing
 pub mod Due
 pub mod Settling
 pub mod Progressing
+pub mod Expiring

@@ -1,14 +1,17 @@
 -- Documents of a state, by the codes of their details.
-use Rattle.std.specs.Prelude.{[], ◌∷◌, Bool, true, Option, Some, None}
+use Rattle.std.specs.Prelude.{List, [], ◌∷◌, map, filter, Bool, true, Option, Some, None}
 use Rattle.sqlite.specs.Order.{Row}
 use Rattle.as2_mdn.specs.Details.{state_of}
 use Rattle.as2_mdn.specs.declared.detail.Detail.{Detail}
 use Rattle.as2_mdn.specs.declared.detail.Detail.TheVariants.{New, Sending, Awaiting, Retry, Processed, NoReceiptAsked, UnknownMic, NotProcessed, Overdue}
 use Rattle.as2_mdn.specs.declared.detail.State.{State as StateOf}
 use Rattle.as2_mdn.specs.declared.detail.State.TheVariants.{P, R, S, W, E}
-use Rattle.as2_exchange.specs.Views.{same_state}
+use Rattle.as2_exchange.specs.State.{State}
+use Rattle.as2_exchange.specs.Views.{is_in, same_state}
 use Rattle.as2_rows.specs.Codes.{detail_code}
 use Rattle.as2_rows.specs.Rows.{whole}
+use Rattle.as2_rows.specs.Summaries.{out_summary}
+use Rattle.as2_rows.specs.declared.outbox.OutRow.{OutRow}
 
 -- the detail is one of this state, where one is asked for
 abbrev pub detail_in : Option StateOf → Detail → Bool
@@ -35,3 +38,7 @@ last_detail (Some E) = Overdue
 -- their codes, as a query is given them
 abbrev pub state_codes : Option StateOf → Row
 state_codes wanted = whole (detail_code (first_detail wanted)) ∷ whole (detail_code (last_detail wanted)) ∷ []
+
+-- the documents of this state, or all, each as its row has it
+abbrev pub listed : Option StateOf → State → List OutRow
+listed wanted s = map out_summary (filter (is_in wanted) s.outbox)

@@ -4,7 +4,7 @@ use Rattle.std.specs.List.{AllByRecursion}
 use Rattle.sqlite.specs.Effect.{Database, IsDatabase}
 use Rattle.sqlite.specs.Order.{Row}
 use Rattle.sqlite.specs.State.{State as Connected}
-use Rattle.sqlite.specs.Tree.{put_row, IsTable}
+use Rattle.sqlite.specs.Tree.{IsTable}
 use Rattle.as2_exchange.specs.Recording.{requeued}
 use Rattle.as2_exchange.specs.State.{State, change_received}
 use Rattle.as2_rows.specs.Waiting.{WaitingRow}
@@ -24,10 +24,6 @@ pub record HoldsWaiting (d : Database) (ws : List WaitingRow) : Type 0 where
 -- what stands at another place
 abbrev pub not_at : ℕ → List WaitingRow → List WaitingRow
 not_at p ws = filter (λ w. not (place w == p)) ws
-
--- this waits, in place of what stood at its place
-abbrev pub anew : WaitingRow → List WaitingRow → List Row
-anew w ws = put_row (waiting_row w) (map waiting_row (not_at (place w) ws))
 
 -- the rows of what waits are these, and the other tables are as they were
 pub record Renewed (old new : Connected) (rows : List Row) : Type 0 where

@@ -1,13 +1,12 @@
 //! Listings: the rows of a query are read one at a time, and none is held beside the list.
 
-ghost use Rattle.std.specs.Prelude.{◌≡◌, false, true, if◌then◌else◌, [], ◌∷◌, ◌++◌, map, filter, IsTrue, IfErr, OnOk};
+ghost use Rattle.std.specs.Prelude.{◌≡◌, false, true, if◌then◌else◌, [], ◌∷◌, ◌++◌, map, IsTrue, IfErr, OnOk};
 ghost use Rattle.sqlite.specs.Held.{state};
 ghost use Rattle.sqlite.specs.State.{HasCleanDisk};
 ghost use Rattle.sqlite.specs.Values.{bound};
-ghost use Rattle.as2_exchange.specs.Views.{is_in};
-ghost use Rattle.as2_rows.specs.Summaries.{in_summary, out_summary};
+ghost use Rattle.as2_rows.specs.Summaries.{in_summary};
 ghost use Rattle.as2_store.specs.Calls.{Reads};
-ghost use Rattle.as2_store.specs.Listing.{detail_in, first_detail, last_detail, state_codes};
+ghost use Rattle.as2_store.specs.Listing.{detail_in, first_detail, last_detail, listed, state_codes};
 ghost use Rattle.as2_store.specs.Stands.{may_come};
 
 use crate::fault::{fault_of, unread_row};
@@ -104,7 +103,7 @@ fn documents_between<S: Alter>(
     requires open { HasCleanDisk (state S.Store conn.old) → IsTrue (state S.Store conn.old).is_open }
     requires codes { bound codes.now ≡ state_codes wanted }
     ensures autocommit { conn.new.in_transaction ≡ false }
-    ensures documents { Reads (λ s documents. documents.items ≡ map out_summary (filter (is_in wanted) s.outbox)) (state S.Store conn.old) (state S.Store conn.new) result }
+    ensures documents { Reads (λ s documents. documents.items ≡ listed wanted s) (state S.Store conn.old) (state S.Store conn.new) result }
     ensures fault { IfErr result (λ f. may_come f ≡ true) }
 {
     let mut documents = Vec::new(alloc);
@@ -139,7 +138,7 @@ pub fn documents<S: Alter>(
     requires autocommit { conn.old.in_transaction ≡ false }
     requires open { HasCleanDisk (state S.Store conn.old) → IsTrue (state S.Store conn.old).is_open }
     ensures autocommit { conn.new.in_transaction ≡ false }
-    ensures documents { Reads (λ s documents. documents.items ≡ map out_summary (filter (is_in wanted) s.outbox)) (state S.Store conn.old) (state S.Store conn.new) result }
+    ensures documents { Reads (λ s documents. documents.items ≡ listed wanted s) (state S.Store conn.old) (state S.Store conn.new) result }
     ensures fault { IfErr result (λ f. may_come f ≡ true) }
 {
     let (first, last) = details_of(wanted);

@@ -3,8 +3,10 @@
 ghost use Rattle.std.specs.Prelude.{◌≡◌, ◌<◌, ◌≤◌, ◌^◌, pos, IfSome, IsTrue, option_map};
 ghost use Rattle.as2_exchange.specs.State.{end_of_numbers};
 ghost use Rattle.as2_store.specs.Adding.{Fits};
+ghost use Rattle.as2_store.specs.Owing.{FitsMdn};
 ghost use Rattle.as2_store.specs.Progressing.{FitsProgress};
 
+use crate::owed::MdnProgress;
 use crate::progress::Progress;
 use as2_exchange::END_OF_NUMBERS;
 use as2_mic::Pieces;
@@ -52,6 +54,13 @@ pub fn fits(content: &Pieces, tries: u64, due: Option<u64>) -> bool
 /// Whether the numbers of a document that has come so far fit into its columns.
 pub fn fits_progress(progress: Progress) -> bool
     ensures { IsTrue result → FitsProgress progress }
+{
+    progress.tries <= MOST && may_stand(progress.due)
+}
+
+/// Whether the numbers of a receipt that has come so far fit into its columns.
+pub fn fits_mdn(progress: MdnProgress) -> bool
+    ensures { IsTrue result → FitsMdn progress }
 {
     progress.tries <= MOST && may_stand(progress.due)
 }

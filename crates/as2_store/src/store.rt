@@ -1,15 +1,18 @@
 //! The store: its contracts speak of the state that the tables stand for, and of no row.
 
-ghost use Rattle.std.specs.Prelude.{◌≡◌, ◌⊎◌, ◌<◌, ◌≤◌, ℕ, List, map, filter, find, None, Some, true, false, Err, IsTrue, IfOk, IfErr, OnOk, OnErr};
+ghost use Rattle.std.specs.Prelude.{◌≡◌, ◌⊎◌, ◌<◌, ◌≤◌, ℕ, List, map, find, None, Some, true, false, Err, IsTrue, IfOk, IfErr, OnOk, OnErr};
 ghost use Rattle.sqlite.specs.Held.{state};
 ghost use Rattle.sqlite.specs.State.{HasCleanDisk};
 ghost use Rattle.as2_exchange.specs.State.{State, empty, end_of_numbers, document, document_named, received};
-ghost use Rattle.as2_exchange.specs.Views.{due_documents, is_in, least};
+ghost use Rattle.as2_exchange.specs.Views.{due_documents, due_receipts, least};
 ghost use Rattle.as2_exchange.specs.declared.fault.StoreFault.TheVariants.{Full};
-ghost use Rattle.as2_rows.specs.Summaries.{in_summary, out_summary};
+ghost use Rattle.as2_rows.specs.Summaries.{in_summary};
 ghost use Rattle.as2_store.specs.Adding.{added, added_document};
 ghost use Rattle.as2_store.specs.Calls.{Adopts, Commits, CommitsFirst, Creates, IsGivenBack, IsReason, Reads, Writes};
+ghost use Rattle.as2_store.specs.Expiring.{AreTicked, ticked_in};
 ghost use Rattle.as2_store.specs.Finding.{AreNext, IsPostedAs, evidence_at};
+ghost use Rattle.as2_store.specs.Listing.{listed};
+ghost use Rattle.as2_store.specs.Owing.{set_mdn_in};
 ghost use Rattle.as2_store.specs.Progressing.{set_in};
 ghost use Rattle.as2_store.specs.Requeuing.{requeued_in};
 ghost use Rattle.as2_store.specs.Settling.{settled_in};
@@ -22,16 +25,17 @@ use crate::creating::make;
 use crate::documents::{evidence_in, shown_document};
 use crate::due::least_due;
 use crate::entries::shown_entry;
+use crate::expiring::expire;
 use crate::fault::fault_of;
 use crate::inbox::rows_by_key;
-use crate::numbers::{fits, fits_progress};
+use crate::numbers::{fits, fits_mdn, fits_progress};
 use crate::outbox::rows_by_id;
+use crate::owed::MdnProgress;
 use crate::progress::{Progress, set};
-use crate::requeuing::requeue;
 use crate::settling::{is_by_receipt, settle};
 use crate::submitting::add_document;
-use crate::{inbox, listing, outbox};
-use as2_exchange::{END_OF_NUMBERS, Evidence, InEntry, OutEntry, StoreFault};
+use crate::{inbox, listing, outbox, owed};
+use as2_exchange::{Attempt, END_OF_NUMBERS, Evidence, InEntry, MdnState, OutEntry, StoreFault};
 use as2_mdn::{Detail, State};
 use as2_rows::{InRow, OutRow, Wait};
 use as2_text::{AsName, Moment};
@@ -151,7 +155,35 @@ impl<S: Alter> Store<S> {
         ensures requeued { Writes (requeued_in number moment) (state S.Store self.old) (state S.Store self.new) result }
         ensures fault { IfErr result (λ f. may_come f ≡ true) }
     {
-        requeue(&mut self.conn, number, moment).map_err(fault_of)
+        let anew = MdnProgress {
+            mdn: MdnState::Pending,
+            tries: 0,
+            attempt: Attempt::Idle,
+            due: Some(moment.seconds()),
+        };
+        owed::set(&mut self.conn, number, anew).map_err(fault_of)
+    }
+
+    /// Sets how far the receipt of the entry of the inbox of this number, if there is one, has come. Answers Memory, Disk or
+    /// Refused, and then the state stays.
+    pub fn set_mdn(&mut self, number: u64, progress: MdnProgress) -> Result<(), StoreFault>
+        ensures set { Writes (set_mdn_in number progress) (state S.Store self.old) (state S.Store self.new) result }
+        ensures fault { IfErr result (λ f. may_come f ≡ true) }
+    {
+        if !fits_mdn(progress) {
+            return Err(StoreFault::Refused);
+        }
+        owed::set(&mut self.conn, number, progress).map_err(fault_of)
+    }
+
+    /// Time passes: each document whose receipt is overdue at this moment passes into `Overdue`, and each whose last try is into
+    /// `TriesUsed`. Answers how many there are; Memory, Disk or Refused, and then the state stays.
+    pub fn expire(&mut self, moment: Moment) -> Result<u64, StoreFault>
+        ensures passed { Writes (ticked_in moment) (state S.Store self.old) (state S.Store self.new) result }
+        ensures counted { HasCleanDisk (state S.Store self.new) → IfOk result (AreTicked moment (state S.Store self.old)) }
+        ensures fault { IfErr result (λ f. may_come f ≡ true) }
+    {
+        expire(&mut self.conn, moment).map_err(fault_of)
     }
 
     /// Sets how far the document of this number has come. Answers Refused where no document has the number; Memory, Disk or
@@ -262,6 +294,15 @@ impl<S: Alter> Store<S> {
         least_due(&mut self.conn, Wait::ToSend, moment).map_err(fault_of)
     }
 
+    /// The least number of the receipts of which a try may begin at this moment, if there is one. Answers Memory, Disk or
+    /// Refused.
+    pub fn due_mdn(&mut self, moment: Moment) -> Result<Option<u64>, StoreFault>
+        ensures due { Reads (λ s number. number ≡ least (due_receipts s moment)) (state S.Store self.old) (state S.Store self.new) result }
+        ensures fault { IfErr result (λ f. may_come f ≡ true) }
+    {
+        least_due(&mut self.conn, Wait::ToAnswer, moment).map_err(fault_of)
+    }
+
     /// The documents of that state, or all, in order of number, each with the length of its content in place of the content,
     /// and without its evidence. Answers Memory, Disk or Refused.
     pub fn list_out(
@@ -269,7 +310,7 @@ impl<S: Alter> Store<S> {
         alloc: Global,
         wanted: Option<State>,
     ) -> Result<Vec<OutRow>, StoreFault>
-        ensures documents { Reads (λ s documents. documents.items ≡ map out_summary (filter (is_in wanted) s.outbox)) (state S.Store self.old) (state S.Store self.new) result }
+        ensures documents { Reads (λ s documents. documents.items ≡ listed wanted s) (state S.Store self.old) (state S.Store self.new) result }
         ensures fault { IfErr result (λ f. may_come f ≡ true) }
     {
         meta_rows(&mut self.conn).map_err(fault_of)?;

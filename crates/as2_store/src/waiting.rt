@@ -6,15 +6,17 @@ ghost use Rattle.sqlite.specs.State.{HasCleanDisk};
 ghost use Rattle.as2_store.specs.Calls.{IsInside};
 ghost use Rattle.sql_tables.specs.Changes.{Changed};
 ghost use Rattle.as2_exchange.specs.State.{end_of_numbers};
-ghost use Rattle.as2_rows.specs.Waiting.{WaitingRow, in_waiting, kind_code, out_kind, to_answer};
+ghost use Rattle.as2_rows.specs.Waiting.{WaitingRow, in_kind, in_waiting, kind_code, out_kind, to_answer};
 ghost use Rattle.as2_store.specs.Tables.{store_schema, waiting_tree};
 ghost use Rattle.as2_store.specs.Stands.{waiting_row};
 ghost use Rattle.as2_store.specs.Adding.{Noted, noted_rows};
-ghost use Rattle.as2_store.specs.Requeuing.{HoldsWaiting, Renewed, anew, not_at};
+ghost use Rattle.as2_store.specs.Owing.{answers_at};
+ghost use Rattle.as2_store.specs.Requeuing.{HoldsWaiting, Renewed, not_at};
 ghost use Rattle.as2_store.specs.Progressing.{waits_at};
 ghost use Rattle.as2_store.specs.Settling.{place_of, without_document};
 
 use crate::numbers::{whole, whole_or_none};
+use crate::owed::MdnProgress;
 use crate::progress::Progress;
 use as2_exchange::{Attempt, END_OF_NUMBERS, InEntry, MdnState};
 use as2_mdn::Detail;
@@ -71,15 +73,35 @@ fn take_waiting<S: Alter>(tx: &mut Transaction<'_, S>, place: u64) -> Result<(),
     Ok(())
 }
 
-/// Whether the receipt of an entry is to be sent.
-fn is_waiting(entry: &InEntry) -> bool
-    ensures to_answer { IsTrue result → in_waiting entry.now ≡ Some (record { kind = to_answer; number = entry.now.number; due = entry.now.due }) }
-    ensures nothing { result ≡ false → in_waiting entry.now ≡ None }
+/// Whether a receipt that stands so is to be sent.
+fn is_to_answer(mdn: MdnState, attempt: Attempt) -> bool
+    ensures to_answer { IsTrue result → in_kind mdn attempt ≡ Some to_answer }
+    ensures nothing { result ≡ false → in_kind mdn attempt ≡ None }
 {
-    match entry.mdn {
-        MdnState::Pending => matches!(entry.attempt, Attempt::Idle | Attempt::Running),
+    match mdn {
+        MdnState::Pending => matches!(attempt, Attempt::Idle | Attempt::Running),
         _ => false,
     }
+}
+
+/// Puts in the row of the receipt of this number, if it is to be sent.
+fn put_owed_waiting<S: Alter>(
+    tx: &mut Transaction<'_, S>,
+    number: u64,
+    progress: MdnProgress,
+) -> Result<(), Error>
+    requires number { number ≤ end_of_numbers }
+    requires due { IfSome progress.due (λ due. due < 2 ^ 63) }
+    ensures same_reference { tx.new.conn.ghost_name ≡ tx.old.conn.ghost_name }
+    ensures within { IsInside (state S.Store tx.old.conn.now) (state S.Store tx.new.conn.now) }
+    ensures inside { HasCleanDisk (state S.Store tx.new.conn.now) → IsTrue (state S.Store tx.old.conn.now).in_transaction → OnOk result (IsTrue (state S.Store tx.new.conn.now).in_transaction) }
+    ensures put { HasCleanDisk (state S.Store tx.new.conn.now) → OnOk result ((state S.Store tx.old.conn.now).now.schema ≡ store_schema
+        → Noted (state S.Store tx.old.conn.now) (state S.Store tx.new.conn.now) (answers_at number progress)) }
+{
+    if is_to_answer(progress.mdn, progress.attempt) {
+        put_waiting(tx, Wait::ToAnswer, number, progress.due)?;
+    }
+    Ok(())
 }
 
 /// Puts in the row of an entry whose receipt is to be sent.
@@ -91,7 +113,7 @@ pub fn put_in_waiting<S: Alter>(tx: &mut Transaction<'_, S>, entry: &InEntry) ->
     ensures put { HasCleanDisk (state S.Store tx.new.conn.now) → OnOk result ((state S.Store tx.old.conn.now).now.schema ≡ store_schema
         → Noted (state S.Store tx.old.conn.now) (state S.Store tx.new.conn.now) (in_waiting entry.now)) }
 {
-    if is_waiting(entry) {
+    if is_to_answer(entry.mdn, entry.attempt) {
         put_waiting(tx, Wait::ToAnswer, entry.number, entry.due)?;
     }
     Ok(())
@@ -151,19 +173,22 @@ pub fn wait_for<S: Alter>(
     put_out_waiting(tx, number, progress)
 }
 
-/// Puts in the row of a receipt that is to be sent from this moment on, in place of the one that it has, if it has one.
-pub fn wait_anew<S: Alter>(tx: &mut Transaction<'_, S>, number: u64, due: u64) -> Result<(), Error>
+/// Puts in the row of the receipt of this number, where it is to be sent, in place of the one that it has, if it has one.
+pub fn answer_for<S: Alter>(
+    tx: &mut Transaction<'_, S>,
+    number: u64,
+    progress: MdnProgress,
+) -> Result<(), Error>
     requires number { number ≤ end_of_numbers }
-    requires due { due < 2 ^ 63 }
+    requires due { IfSome progress.due (λ due. due < 2 ^ 63) }
     ensures same_reference { tx.new.conn.ghost_name ≡ tx.old.conn.ghost_name }
     ensures within { IsInside (state S.Store tx.old.conn.now) (state S.Store tx.new.conn.now) }
     ensures inside { HasCleanDisk (state S.Store tx.new.conn.now) → OnOk result (IsTrue (state S.Store tx.new.conn.now).in_transaction) }
     ensures put { HasCleanDisk (state S.Store tx.new.conn.now) → OnOk result ((ws : List WaitingRow) → HoldsWaiting (state S.Store tx.old.conn.now).now ws
-        → Renewed (state S.Store tx.old.conn.now) (state S.Store tx.new.conn.now) (anew (record { kind = to_answer; number = number; due = Some due }) ws)) }
+        → Renewed (state S.Store tx.old.conn.now) (state S.Store tx.new.conn.now) (noted_rows (answers_at number progress) (map waiting_row (not_at (place_of to_answer number) ws)))) }
 {
     take_waiting(tx, place_of(Wait::ToAnswer, number))?;
-    put_waiting(tx, Wait::ToAnswer, number, Some(due))?;
-    Ok(())
+    put_owed_waiting(tx, number, progress)
 }
 
 /// Takes out what the document of this number waits for. A receipt of the same number stays.

@@ -5,6 +5,8 @@
 #[cfg(test)]
 mod agreements;
 #[cfg(test)]
+mod cases;
+#[cfg(test)]
 mod desk;
 #[cfg(test)]
 mod documents;

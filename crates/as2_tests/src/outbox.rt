@@ -1,17 +1,19 @@
-//! Documents for partners: lists of events that are played, their answers, and how the documents then stand.
+//! Documents for partners, and receipts that are sent later: lists of events that are played, their answers, and how
+//! documents and receipts then stand.
 // Expected values are the worked ones of the project's profile, and follow from its formats.
 ghost use Rattle.std.specs.Prelude.{◌≤◌, ◌<◌};
 ghost use Rattle.as2_exchange.specs.State.{end_of_numbers};
 
 mod due;
 mod evidence;
+pub mod owed;
 mod refusals;
 mod replies;
 mod tries;
 
 use crate::agreements::AGREEMENTS;
 use crate::documents::{RECEIPT, RECEIPT_TYPE};
-use crate::posts::body;
+use crate::posts::{self, body};
 use crate::stores::new_store;
 use crate::texts::{Change, NOTHING, Text};
 use as2_agreement::Agreements;
@@ -54,6 +56,12 @@ const EMPTY: Reply = Reply {
     ..RECEIVED
 };
 
+/// What the post that asks for a later receipt has in its head.
+const ASKED_LATER: [posts::Change; 2] = [
+    ("AS2-From", "Depot"),
+    ("Receipt-Delivery-Option", "http://127.0.0.1:8082/mdn"),
+];
+
 /// What happens, and when.
 #[derive(Clone, Copy)]
 enum Did {
@@ -69,11 +77,23 @@ enum Did {
     Answered(u64, Reply, u64),
     /// That is posted.
     Posted(Reply, u64),
+    /// The plain post.
+    Plain(u64),
+    /// The same from Depot, which asks for a receipt by a post to `127.0.0.1:8082`.
+    AskedLater(u64),
+    /// A try of that receipt begins.
+    BeginMdn(u64, u64),
+    /// A try of that receipt has no answer.
+    MdnUnanswered(u64, u64),
+    /// A try of that receipt is answered with that status.
+    MdnAnswered(u64, u16, u64),
+    /// The moment comes.
+    Tick(u64),
 }
 
 /// What is answered to it.
 #[derive(Clone, Copy)]
-enum Said {
+pub enum Said {
     Submitted(u64),
     /// The request of these bytes, to that address.
     Job(&'static str, &'static str),
@@ -86,8 +106,16 @@ enum Said {
     Refused(Refusal),
     /// 200 without a body.
     Taken,
+    /// 202 without a body.
+    Accepted,
+    /// 200 and the plain post's receipt.
+    Receipt,
+    /// 200 and a receipt.
+    Reported,
     /// 404 and its line.
     NoSuchMessage,
+    /// So many documents have passed into another detail.
+    Ticked(u64),
     /// No number is left.
     Full,
 }
@@ -166,6 +194,43 @@ fn post(alloc: Global, reply: &Reply, seconds: u64) -> Result<Event, Fail> {
     })
 }
 
+/// The plain post with these changes.
+fn plain_post(alloc: Global, changes: &[posts::Change], seconds: u64) -> Result<Event, Fail> {
+    Ok(Event::Post {
+        head: posts::head(alloc, changes)?,
+        body: body(alloc, b"abc")?,
+        moment: moment(seconds)?,
+    })
+}
+
+/// A receipt is tried, or a moment comes.
+fn later_event(alloc: Global, did: &Did) -> Result<Event, Fail> {
+    match *did {
+        Did::BeginMdn(number, seconds) => Ok(Event::BeginMdn {
+            number,
+            moment: moment(seconds)?,
+        }),
+        Did::MdnUnanswered(number, seconds) => Ok(Event::OutcomeMdn {
+            number,
+            answer: TryAnswer::NoAnswer,
+            moment: moment(seconds)?,
+        }),
+        Did::MdnAnswered(number, status, seconds) => Ok(Event::OutcomeMdn {
+            number,
+            answer: TryAnswer::Reply {
+                status,
+                head: Head::new(alloc),
+                body: body(alloc, b"")?,
+            },
+            moment: moment(seconds)?,
+        }),
+        Did::Tick(seconds) => Ok(Event::Tick {
+            moment: moment(seconds)?,
+        }),
+        _ => Err(Fail::new("no such event")),
+    }
+}
+
 fn event(alloc: Global, did: &Did) -> Result<Event, Fail> {
     match *did {
         Did::Submit(partner, seconds) => submit(alloc, "Supplier", partner, b"abc", seconds),
@@ -184,6 +249,9 @@ fn event(alloc: Global, did: &Did) -> Result<Event, Fail> {
         }),
         Did::Answered(number, reply, seconds) => outcome(alloc, number, &reply, seconds),
         Did::Posted(reply, seconds) => post(alloc, &reply, seconds),
+        Did::Plain(seconds) => plain_post(alloc, &[], seconds),
+        Did::AskedLater(seconds) => plain_post(alloc, &ASKED_LATER, seconds),
+        _ => later_event(alloc, did),
     }
 }
 
@@ -203,6 +271,11 @@ fn is_job(job: &Job, authority: &str, bytes: &str) -> bool {
 fn is_http(answer: &HttpAnswer, said: &Said) -> bool {
     match (&answer.body, said) {
         (HttpBody::Nothing, Said::Taken) => answer.status == 200,
+        (HttpBody::Nothing, Said::Accepted) => answer.status == 202,
+        (HttpBody::Report { .. }, Said::Reported) => answer.status == 200,
+        (HttpBody::Report { bytes, .. }, Said::Receipt) => {
+            answer.status == 200 && bytes.as_slice() == posts::REPORT.as_bytes()
+        }
         (HttpBody::Words(line), Said::NoSuchMessage) => {
             answer.status == 404 && line.text() == "no such message"
         }
@@ -216,6 +289,7 @@ fn is_said(answer: &Answer, said: &Said) -> bool {
         (Answer::Job(job), Said::Job(authority, bytes)) => is_job(job, authority, bytes),
         (Answer::Settled(detail), Said::Settled(wanted)) => detail == wanted,
         (Answer::Refused(reason), Said::Refused(wanted)) => reason == wanted,
+        (Answer::Ticked(count), Said::Ticked(wanted)) => count == wanted,
         (Answer::Job(_), Said::Begun)
         | (Answer::Delivered, Said::Delivered)
         | (Answer::TryFailed, Said::TryFailed)
@@ -381,7 +455,7 @@ fn check_all(alloc: Global, rows: &[Row], looks: &[(usize, Stand)]) -> Result<()
 }
 
 /// The request of the first document to Buyer.
-const TO_BUYER: Said = Said::Job(
+pub const TO_BUYER: Said = Said::Job(
     "127.0.0.1:8081",
     "POST /as2 HTTP/1.1\r\n\
 Host: 127.0.0.1:8081\r\n\
@@ -400,7 +474,7 @@ abc",
 );
 
 /// The request to Depot, whose receipt comes later.
-const TO_DEPOT: Said = Said::Job(
+pub const TO_DEPOT: Said = Said::Job(
     "127.0.0.1:8082",
     "POST /as2 HTTP/1.1\r\n\
 Host: 127.0.0.1:8082\r\n\
@@ -420,7 +494,7 @@ abc",
 );
 
 /// The request to the partner that gives no receipt.
-const TO_QUOTED: Said = Said::Job(
+pub const TO_QUOTED: Said = Said::Job(
     "127.0.0.1:8083",
     "POST /as2 HTTP/1.1\r\n\
 Host: 127.0.0.1:8083\r\n\

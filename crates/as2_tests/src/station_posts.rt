@@ -45,10 +45,17 @@ const PLAIN: Row<'static> = Row {
     answer: Wanted::Report(1, "<m1@x>", "processed", MIC),
 };
 
-/// The report of that number on that identifier.
-fn report(alloc: Global, number: u64, id: &str, outcome: &str, mic: &str) -> Result<String, Fail> {
+/// The organization's report of that number on that identifier.
+pub fn report(
+    alloc: Global,
+    number: u64,
+    organization: &str,
+    id: &str,
+    outcome: &str,
+    mic: &str,
+) -> Result<String, Fail> {
     Ok(format!(in alloc;
-        "--as2-mdn-{number}\r\nContent-Type: text/plain\r\n\r\nReceipt {number} for the message named below.\r\nOutcome: {outcome}\r\n\r\n--as2-mdn-{number}\r\nContent-Type: message/disposition-notification\r\n\r\nReporting-UA: as2-station\r\nFinal-Recipient: rfc822; Supplier\r\nOriginal-Message-ID: {id}\r\nDisposition: automatic-action/MDN-sent-automatically; {outcome}\r\n{mic}\r\n--as2-mdn-{number}--\r\n"
+        "--as2-mdn-{number}\r\nContent-Type: text/plain\r\n\r\nReceipt {number} for the message named below.\r\nOutcome: {outcome}\r\n\r\n--as2-mdn-{number}\r\nContent-Type: message/disposition-notification\r\n\r\nReporting-UA: as2-station\r\nFinal-Recipient: rfc822; {organization}\r\nOriginal-Message-ID: {id}\r\nDisposition: automatic-action/MDN-sent-automatically; {outcome}\r\n{mic}\r\n--as2-mdn-{number}--\r\n"
     )?)
 }
 
@@ -69,7 +76,7 @@ fn is_report(answer: &HttpAnswer, number: u64, text: &str) -> bool {
 fn is_wanted(alloc: Global, answer: &HttpAnswer, wanted: &Wanted) -> Result<bool, Fail> {
     match wanted {
         Wanted::Report(number, id, outcome, mic) => {
-            let text = report(alloc, *number, id, outcome, mic)?;
+            let text = report(alloc, *number, "Supplier", id, outcome, mic)?;
             Ok(is_report(answer, *number, text.as_str()))
         }
         Wanted::Line(status, text) => Ok(
@@ -157,7 +164,7 @@ fn check(
 
 #[test]
 fn the_plain_report_is_spelled_so(rt: HostRuntime) -> Result<(), Fail> {
-    let text = report(rt.alloc(), 1, "<m1@x>", "processed", MIC)?;
+    let text = report(rt.alloc(), 1, "Supplier", "<m1@x>", "processed", MIC)?;
     assert!(rt; text.as_str() == REPORT);
     Ok(())
 }

@@ -1,5 +1,6 @@
 use crate::*;
-use as2_exchange::{Attempt, Bytes, MdnState, ReceiptDelivery};
+use as2_exchange::{Address, Attempt, MdnState, ReceiptDelivery};
+use as2_text::Url;
 use std::test::Fail;
 
 // The columns whose values are codes.
@@ -135,7 +136,8 @@ fn ways_of_asking_have_their_codes_and_addresses(rt: HostRuntime) -> Result<(), 
     assert!(rt; how_code(&ReceiptDelivery::Sync) == 2);
     assert!(rt; url_of(&ReceiptDelivery::Sync).is_none());
     for address in &ADDRESSES {
-        let later = ReceiptDelivery::Async(Bytes::keep(rt.alloc(), address)?);
+        assert!(rt; Url::parse(address).is_some());
+        let later = ReceiptDelivery::Async(Address::keep(rt.alloc(), address)?);
         assert!(rt; how_code(&later) == 3 && url_of(&later) == Some(*address));
     }
     Ok(())

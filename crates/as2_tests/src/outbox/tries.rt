@@ -63,18 +63,53 @@ const AWAITED: &[Row] = &[
     (Did::Answered(1, EMPTY, 1000), Said::Delivered),
     (Did::Begin(1, 2000), Said::Refused(Refusal::NotDue)),
     (Did::NoAnswer(1, 2000), Said::Refused(Refusal::NoOpenTry)),
+    (Did::Tick(1059), Said::Ticked(0)),
+    (Did::Tick(1060), Said::Ticked(1)),
+    (Did::Tick(1060), Said::Ticked(0)),
+    (Did::Begin(1, 2000), Said::Refused(Refusal::NotDue)),
 ];
+
+/// Its receipt is overdue.
+const OVERDUE: Stand = Stand {
+    detail: Detail::Overdue,
+    state: State::E,
+    due: None,
+    ..TRIED
+};
 
 #[test]
 fn awaited_then_overdue(rt: HostRuntime) -> Result<(), Fail> {
-    static STANDS: [(usize, Stand); 4] = [
+    static STANDS: [(usize, Stand); 7] = [
         (2, SENDING),
         (3, AWAITING),
-        (4, AWAITING),
         (5, AWAITING),
+        (6, AWAITING),
+        (7, OVERDUE),
+        (8, OVERDUE),
+        (9, OVERDUE),
     ];
-    check_all(rt.alloc(), AWAITED, &STANDS)
+    check_all(rt.alloc(), AWAITED, &STANDS)?;
+    check_one(rt.alloc(), LATE, &SETTLED)
 }
+
+/// A receipt from Depot that comes when it is overdue; the moments run backwards in between.
+const LATE: &[Row] = &[
+    (Did::Submit("Depot", 2000), Said::Submitted(1)),
+    (Did::Begin(1, 2000), TO_DEPOT),
+    (Did::Answered(1, EMPTY, 1000), Said::Delivered),
+    (Did::Tick(1060), Said::Ticked(1)),
+    (Did::Tick(0), Said::Ticked(0)),
+    (
+        Did::Posted(
+            Reply {
+                from: "Depot",
+                ..RECEIVED
+            },
+            1000,
+        ),
+        Said::Taken,
+    ),
+];
 
 const BEFORE_OUTCOME: &[Row] = &[
     (Did::Submit("Buyer", 1000), Said::Submitted(1)),
@@ -103,11 +138,19 @@ const LAST_TRY: &[Row] = &[
     (Did::Begin(1, 1029), Said::Refused(Refusal::NotDue)),
     (Did::Begin(1, 1030), TO_BUYER),
     (Did::Begin(1, 1060), Said::Refused(Refusal::TriesUsed)),
+    (Did::Tick(1059), Said::Ticked(0)),
+    (Did::Tick(1060), Said::Ticked(1)),
     (
         Did::Answered(1, RECEIVED, 1061),
         Said::Settled(Detail::Processed),
     ),
 ];
+
+/// Its last try had no outcome in time; one that comes late is still taken.
+const EXPIRED: Stand = Stand {
+    attempt: Attempt::Last,
+    ..USED
+};
 
 const AT_THE_LAST_MOMENT: &[Row] = &[
     (Did::Submit("Buyer", 1000), Said::Submitted(1)),
@@ -116,12 +159,14 @@ const AT_THE_LAST_MOMENT: &[Row] = &[
 
 #[test]
 fn last_try_expires(rt: HostRuntime) -> Result<(), Fail> {
-    static STANDS: [(usize, Stand); 5] = [
+    static STANDS: [(usize, Stand); 7] = [
         (2, SENDING),
         (3, SENDING),
         (4, LAST),
         (5, LAST),
-        (6, SETTLED_LATE),
+        (6, LAST),
+        (7, EXPIRED),
+        (8, SETTLED_LATE),
     ];
     const PAST_THE_LAST_MOMENT: Stand = Stand {
         due: Some(253_402_300_829),

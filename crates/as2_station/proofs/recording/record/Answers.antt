@@ -17,6 +17,9 @@ unfolding value_of
 returns-in-Some-clause-taken g c =
     after_read _ _ _ _ _ _ _ _ _ _ _ (λ s known found. sym (rw c.value.ensures at found) ∙ c.in-Some.is) c.in_ok-found.ensures.found c.record_again.ensures.taken
 
+pub returns-in_err-found-clause-taken : goal.returns-in_err-found-clause-taken
+returns-in_err-found-clause-taken g c = passed_on _ _ _ _ _ _ _ _ c.from_residual.ensures.0 c.from_residual.ensures.1 (unread _ _ _ _ _ _ _ _ c.in_err-found.ensures.found c.in_err-found.ensures.fault)
+
 pub returns-in_err-answer-clause-taken : goal.returns-in_err-answer-clause-taken
 returns-in_err-answer-clause-taken g c =
     after_read _ _ _ _ _ _ _ _ _ _ _ (λ s known found. known) c.in_ok-found.ensures.found

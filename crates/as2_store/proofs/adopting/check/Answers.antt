@@ -19,7 +19,7 @@ returns-in-Err-clause-given_back g c =
     let old = c.args.conn.now in
     let begun = state g.S.Store (record old { in_transaction = true }) in
     let mid = state g.S.Store c.query_all.new.self.conn.now in
-    let inside = queried_inside (λ rows. rows.items) meta_read_text [] begun mid c.query_all.result refl (rw c.transaction-tx.ensures.begun at c.query_all.ensures.ok) (rw c.transaction-tx.ensures.begun at c.query_all.ensures.err) (rw c.transaction-tx.ensures.begun at c.query_all.ensures.survives) in
+    let inside = queried_inside (λ rows. rows.items) meta_read_text [] begun mid c.query_all.result (λ clean. refl) (rw c.transaction-tx.ensures.begun at c.query_all.ensures.ok) (rw c.transaction-tx.ensures.begun at c.query_all.ensures.err) (rw c.transaction-tx.ensures.begun at c.query_all.ensures.survives) in
     let end = c.drop-tx.new.self.0 in
     let same : end ≡ c.conn-1.given.0 = search rules in
     subst (λ h. IsGivenBack (Commits Some (state g.S.Store old)) (state g.S.Store old) (state g.S.Store h)) same
@@ -36,7 +36,7 @@ returns-then-is_bare-clause-given_back g c =
     let old = c.args.conn.now in
     let begun = state g.S.Store (record old { in_transaction = true }) in
     let mid = state g.S.Store c.query_all.new.self.conn.now in
-    let inside = queried_inside (λ rows. rows.items) meta_read_text [] begun mid c.query_all.result refl (rw c.transaction-tx.ensures.begun at c.query_all.ensures.ok) (rw c.transaction-tx.ensures.begun at c.query_all.ensures.err) (rw c.transaction-tx.ensures.begun at c.query_all.ensures.survives) in
+    let inside = queried_inside (λ rows. rows.items) meta_read_text [] begun mid c.query_all.result (λ clean. refl) (rw c.transaction-tx.ensures.begun at c.query_all.ensures.ok) (rw c.transaction-tx.ensures.begun at c.query_all.ensures.err) (rw c.transaction-tx.ensures.begun at c.query_all.ensures.survives) in
     let end = c.drop-tx-then-is_bare.new.self.0 in
     let same : end ≡ c.conn-then-is_bare-1.given.0 = search rules in
     subst (λ h. IsGivenBack (Commits Some (state g.S.Store old)) (state g.S.Store old) (state g.S.Store h)) same
@@ -47,7 +47,7 @@ returns-in-Some-clause-given_back g c =
     let old = c.args.conn.now in
     let begun = state g.S.Store (record old { in_transaction = true }) in
     let mid = state g.S.Store c.query_all.new.self.conn.now in
-    let inside = queried_inside (λ rows. rows.items) meta_read_text [] begun mid c.query_all.result refl (rw c.transaction-tx.ensures.begun at c.query_all.ensures.ok) (rw c.transaction-tx.ensures.begun at c.query_all.ensures.err) (rw c.transaction-tx.ensures.begun at c.query_all.ensures.survives) in
+    let inside = queried_inside (λ rows. rows.items) meta_read_text [] begun mid c.query_all.result (λ clean. refl) (rw c.transaction-tx.ensures.begun at c.query_all.ensures.ok) (rw c.transaction-tx.ensures.begun at c.query_all.ensures.err) (rw c.transaction-tx.ensures.begun at c.query_all.ensures.survives) in
     let end = c.drop-tx-in-Some.new.self.0 in
     let same : end ≡ c.conn-in-Some-1.given.0 = search rules in
     subst (λ h. IsGivenBack (Commits Some (state g.S.Store old)) (state g.S.Store old) (state g.S.Store h)) same
@@ -71,7 +71,7 @@ returns-in_default-commit-clause-adopted g c =
     let old = c.args.conn.now in
     let begun = state g.S.Store (record old { in_transaction = true }) in
     let mid = state g.S.Store c.query_all.new.self.conn.now in
-    let inside = queried_inside (λ rows. rows.items) meta_read_text [] begun mid c.query_all.result refl (rw c.transaction-tx.ensures.begun at c.query_all.ensures.ok) (rw c.transaction-tx.ensures.begun at c.query_all.ensures.err) (rw c.transaction-tx.ensures.begun at c.query_all.ensures.survives) in
+    let inside = queried_inside (λ rows. rows.items) meta_read_text [] begun mid c.query_all.result (λ clean. refl) (rw c.transaction-tx.ensures.begun at c.query_all.ensures.ok) (rw c.transaction-tx.ensures.begun at c.query_all.ensures.err) (rw c.transaction-tx.ensures.begun at c.query_all.ensures.survives) in
     let end = c.commit.new.self.0 in
     let same : end ≡ c.conn-2-1.given.0 = search rules in
     let rows = c.in-Ok.rows.items in
@@ -87,7 +87,7 @@ returns-clause-given_back g c =
     let old = c.args.conn.now in
     let begun = state g.S.Store (record old { in_transaction = true }) in
     let mid = state g.S.Store c.query_all.new.self.conn.now in
-    let inside = queried_inside (λ rows. rows.items) meta_read_text [] begun mid c.query_all.result refl (rw c.transaction-tx.ensures.begun at c.query_all.ensures.ok) (rw c.transaction-tx.ensures.begun at c.query_all.ensures.err) (rw c.transaction-tx.ensures.begun at c.query_all.ensures.survives) in
+    let inside = queried_inside (λ rows. rows.items) meta_read_text [] begun mid c.query_all.result (λ clean. refl) (rw c.transaction-tx.ensures.begun at c.query_all.ensures.ok) (rw c.transaction-tx.ensures.begun at c.query_all.ensures.err) (rw c.transaction-tx.ensures.begun at c.query_all.ensures.survives) in
     let end = c.commit.new.self.0 in
     let same : end ≡ c.conn-2-1.given.0 = search rules in
     let rows = c.in-Ok.rows.items in

@@ -19,7 +19,7 @@ returns-in_err-rows-clause-shown g c =
     let mid = state g.S.Store c.query_all.new.self.conn.now in
     let end = c.drop-tx.new.self.0 in
     let same : end ≡ c.conn-1.given.0 = search rules in
-    let inside = queried_inside (λ rows. rows.items) sql params begun mid c.query_all.result refl (rw c.transaction-tx.ensures.begun at c.query_all.ensures.ok) (rw c.transaction-tx.ensures.begun at c.query_all.ensures.err) (rw c.transaction-tx.ensures.begun at c.query_all.ensures.survives) in
+    let inside = queried_inside (λ rows. rows.items) sql params begun mid c.query_all.result (λ clean. refl) (rw c.transaction-tx.ensures.begun at c.query_all.ensures.ok) (rw c.transaction-tx.ensures.begun at c.query_all.ensures.err) (rw c.transaction-tx.ensures.begun at c.query_all.ensures.survives) in
     subst (λ h. Reads (λ s rows. Shown sql params (state g.S.Store old) (state g.S.Store old) rows.items) (state g.S.Store old) (state g.S.Store h) c.from_residual.result) same
     (as_read _ (state g.S.Store old) (state g.S.Store end) c.from_residual.result (gives_up g.S.Store old mid end Some c.from_residual.result c.from_residual.ensures.0 inside c.drop-tx.ensures.survives c.drop-tx.ensures.undone)
     (λ late. IfOk-from_err c.from_residual.result _ c.from_residual.ensures.0))
@@ -33,7 +33,7 @@ returns-in_err-commit-clause-shown g c =
     let mid = state g.S.Store c.query_all.new.self.conn.now in
     let end = c.commit.new.self.0 in
     let same : end ≡ c.conn-2-1.given.0 = search rules in
-    let inside = queried_inside (λ rows. rows.items) sql params begun mid c.query_all.result refl (rw c.transaction-tx.ensures.begun at c.query_all.ensures.ok) (rw c.transaction-tx.ensures.begun at c.query_all.ensures.err) (rw c.transaction-tx.ensures.begun at c.query_all.ensures.survives) in
+    let inside = queried_inside (λ rows. rows.items) sql params begun mid c.query_all.result (λ clean. refl) (rw c.transaction-tx.ensures.begun at c.query_all.ensures.ok) (rw c.transaction-tx.ensures.begun at c.query_all.ensures.err) (rw c.transaction-tx.ensures.begun at c.query_all.ensures.survives) in
     let rows = c.in_ok-rows.rows.items in
     let shown : HasCleanDisk mid → Shown sql params begun mid rows = rw c.transaction-tx.ensures.begun at c.in_ok-rows.ensures.ok in
     let done = query_keeps g.S.Store old mid sql params rows c.requires.plain shown in
@@ -53,7 +53,7 @@ returns-clause-shown g c =
     let mid = state g.S.Store c.query_all.new.self.conn.now in
     let end = c.commit.new.self.0 in
     let same : end ≡ c.conn-2-1.given.0 = search rules in
-    let inside = queried_inside (λ rows. rows.items) sql params begun mid c.query_all.result refl (rw c.transaction-tx.ensures.begun at c.query_all.ensures.ok) (rw c.transaction-tx.ensures.begun at c.query_all.ensures.err) (rw c.transaction-tx.ensures.begun at c.query_all.ensures.survives) in
+    let inside = queried_inside (λ rows. rows.items) sql params begun mid c.query_all.result (λ clean. refl) (rw c.transaction-tx.ensures.begun at c.query_all.ensures.ok) (rw c.transaction-tx.ensures.begun at c.query_all.ensures.err) (rw c.transaction-tx.ensures.begun at c.query_all.ensures.survives) in
     let rows = c.in_ok-rows.rows.items in
     let shown : HasCleanDisk mid → Shown sql params begun mid rows = rw c.transaction-tx.ensures.begun at c.in_ok-rows.ensures.ok in
     let done = query_keeps g.S.Store old mid sql params rows c.requires.plain shown in

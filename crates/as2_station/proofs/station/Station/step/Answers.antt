@@ -6,8 +6,9 @@ use Rattle.as2_exchange.specs.declared.answer.HttpAnswer.{HttpAnswer}
 use Rattle.as2_exchange.specs.Lines.{refusal}
 use Rattle.as2_station.specs.Steps.{Does, TakesEvent, always}
 use Rattle.as2_station.specs.Heads.{submit_refusal}
-use Rattle.as2_exchange.specs.Documents.{begun, closed, submit}
-use Rattle.as2_exchange.specs.Step.{on_document}
+use Rattle.as2_exchange.specs.Documents.{begun, closed, submit, tick}
+use Rattle.as2_exchange.specs.OwedReceipts.{mdn_begun, mdn_closed}
+use Rattle.as2_exchange.specs.Step.{on_document, on_received}
 use Rattle.as2_station.proofs.Playing.{as_event}
 use Rattle.as2_station.proofs.Reaching.{rests_lasts}
 use Rattle.as2_station.proofs.station.Station.step.Goals as goal
@@ -21,8 +22,8 @@ returns-in_err-post-in-Post-clause-of_head g c = record {
   same = λ head body moment line is reads by_head. c.post.ensures.of_head.same head body moment line (sym c.in-Post.is ∙ is) reads by_head;
 }
 
-pub returns-in-Post-clause-of_head : goal.returns-in-Post-clause-of_head
-returns-in-Post-clause-of_head g c = record {
+pub returns-in_ok-post-in-Post-clause-of_head : goal.returns-in_ok-post-in-Post-clause-of_head
+returns-in_ok-post-in-Post-clause-of_head g c = record {
   answer = λ head body moment line is reads by_head.
       let answered = c.post.ensures.of_head.answer head body moment line (sym c.in-Post.is ∙ is) reads by_head in
       let shown = c.in_ok-post-in-Post.was in
@@ -31,8 +32,8 @@ returns-in-Post-clause-of_head g c = record {
   same = λ head body moment line is reads by_head. c.post.ensures.of_head.same head body moment line (sym c.in-Post.is ∙ is) reads by_head;
 }
 
-pub returns-in-Post-clause-taken : goal.returns-in-Post-clause-taken
-returns-in-Post-clause-taken g c =
+pub returns-in_ok-post-in-Post-clause-taken : goal.returns-in_ok-post-in-Post-clause-taken
+returns-in_ok-post-in-Post-clause-taken g c =
     subst (λ (e : Event). TakesEvent c.args.agreements.now e (λ a. a) (state g.S.Store c.args.self.now) (state g.S.Store c.post.new.self) (Ok (Http c.in_ok-post-in-Post.field-0))) (sym c.in-Post.is)
     (as_event _ _ _ _ _ c.in_ok-post-in-Post.ensures.taken)
 
@@ -64,5 +65,35 @@ returns-in-Outcome-clause-taken g c =
     (record {
       does = subst (λ (h : Held g.row.S.Denot). Does (λ s. Some (on_document s c.in-Outcome.number (closed c.args.agreements.now c.in-Outcome.answer c.in-Outcome.moment))) always (true ≡ true) (λ a. a) (state g.S.Store h) new c.close.result) c.self-in-Outcome.view_is c.close.ensures.taken;
       lasts = rests_lasts new (λ db opened may. g.met.S.Store.settled c.close.new.store.store db opened may);
+      whole = λ head body moment is. absurd (let other = is in cc);
+    })
+
+pub returns-in-BeginMdn-clause-taken : goal.returns-in-BeginMdn-clause-taken
+returns-in-BeginMdn-clause-taken g c =
+    let new = state g.S.Store c.begin_mdn.new.store in
+    subst (λ (e : Event). TakesEvent c.args.agreements.now e (λ a. a) (state g.S.Store c.args.self.now) new c.begin_mdn.result) (sym c.in-BeginMdn.is)
+    (record {
+      does = subst (λ (h : Held g.row.S.Denot). Does (λ s. Some (on_received s c.in-BeginMdn.number (mdn_begun c.args.agreements.now c.in-BeginMdn.moment))) always (true ≡ true) (λ a. a) (state g.S.Store h) new c.begin_mdn.result) c.self-in-BeginMdn.view_is c.begin_mdn.ensures.taken;
+      lasts = rests_lasts new (λ db opened may. g.met.S.Store.settled c.begin_mdn.new.store.store db opened may);
+      whole = λ head body moment is. absurd (let other = is in cc);
+    })
+
+pub returns-in-OutcomeMdn-clause-taken : goal.returns-in-OutcomeMdn-clause-taken
+returns-in-OutcomeMdn-clause-taken g c =
+    let new = state g.S.Store c.close_mdn.new.store in
+    subst (λ (e : Event). TakesEvent c.args.agreements.now e (λ a. a) (state g.S.Store c.args.self.now) new c.close_mdn.result) (sym c.in-OutcomeMdn.is)
+    (record {
+      does = subst (λ (h : Held g.row.S.Denot). Does (λ s. Some (on_received s c.in-OutcomeMdn.number (mdn_closed c.args.agreements.now c.in-OutcomeMdn.answer c.in-OutcomeMdn.moment))) always (true ≡ true) (λ a. a) (state g.S.Store h) new c.close_mdn.result) c.self-in-OutcomeMdn.view_is c.close_mdn.ensures.taken;
+      lasts = rests_lasts new (λ db opened may. g.met.S.Store.settled c.close_mdn.new.store.store db opened may);
+      whole = λ head body moment is. absurd (let other = is in cc);
+    })
+
+pub returns-in-Tick-clause-taken : goal.returns-in-Tick-clause-taken
+returns-in-Tick-clause-taken g c =
+    let new = state g.S.Store c.tick.new.store in
+    subst (λ (e : Event). TakesEvent c.args.agreements.now e (λ a. a) (state g.S.Store c.args.self.now) new c.tick.result) (sym c.in-Tick.is)
+    (record {
+      does = subst (λ (h : Held g.row.S.Denot). Does (λ s. Some (tick c.in-Tick.moment s)) always (true ≡ true) (λ a. a) (state g.S.Store h) new c.tick.result) c.self-in-Tick.view_is c.tick.ensures.taken;
+      lasts = rests_lasts new (λ db opened may. g.met.S.Store.settled c.tick.new.store.store db opened may);
       whole = λ head body moment is. absurd (let other = is in cc);
     })

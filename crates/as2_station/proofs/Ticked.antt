@@ -1,0 +1,44 @@
+-- Time passes, as a step of the machine.
+use Rattle.std.proofs.Common.{◌≡◌, ◌∙◌, ◌⊎◌, inl, inr, ℕ, Some, Ok, Err, IsTrue, true, sym, ap}
+use Rattle.sqlite.specs.State.{State as Connected, HasCleanDisk, Survives}
+use Rattle.sqlite.proofs.StateLemmas.{survives_weaker}
+use Rattle.as2_exchange.specs.Documents.{tick}
+use Rattle.as2_exchange.specs.State.{State}
+use Rattle.as2_exchange.specs.declared.answer.Answer.{Answer}
+use Rattle.as2_exchange.specs.declared.answer.Answer.TheVariants.{Ticked}
+use Rattle.as2_exchange.specs.declared.fault.StoreFault.{StoreFault}
+use Rattle.as2_store.specs.Calls.{Commits, Writes}
+use Rattle.as2_store.specs.Expiring.{AreTicked, ticked_in}
+use Rattle.as2_store.specs.Stands.{may_come}
+use Rattle.as2_station.specs.Steps.{Does, MayLeave, always}
+use Rattle.as2_station.proofs.Doing.{never_full}
+
+module _ (m : ℕ) (old new : Connected) where
+  leaves : Survives old new (Commits (ticked_in m) old) → Survives old new (MayLeave (λ s. Some (tick m s)) always old)
+  leaves it = survives_weaker old new (Commits (ticked_in m) old) (MayLeave (λ s. Some (tick m s)) always old) (λ clean db may. record {
+    was_open = may.was_open;
+    stands = λ s rests known. inr (may.stands s rests);
+  }) it
+
+  pub ticks : (count : ℕ) → Writes {A = ℕ} {E = StoreFault} (ticked_in m) old new (Ok count) → (HasCleanDisk new → AreTicked m old count) → Does (λ s. Some (tick m s)) always (true ≡ true) (λ (a : Answer). a) old new (Ok (Ticked count))
+  ticks count it counted = record {
+    clean = it.clean;
+    is_open = λ clean _. it.is_open clean;
+    answered = λ clean s rests known.
+        let to = it.done clean s rests in
+        let left : (tick m s).1 ≡ to.state = (let i = to.is in cc) in
+        record { next = to.state; step = ap Some (ap (λ (a : Answer). (a, (tick m s).1)) (sym (counted clean s rests)) ∙ ap (λ (t : State). (Ticked count, t)) left); rests = to.rests };
+    failed = λ clean. tt;
+    fault = tt;
+    crash = leaves it.crash;
+  }
+
+  pub fails_to_tick : (f : StoreFault) → may_come f ≡ true → Writes {A = ℕ} {E = StoreFault} (ticked_in m) old new (Err f) → Does (λ s. Some (tick m s)) always (true ≡ true) (λ (a : Answer). a) old new (Err f)
+  fails_to_tick f may it = record {
+    clean = it.clean;
+    is_open = λ clean. tt;
+    answered = λ clean. tt;
+    failed = λ clean s rests known. (it.failed clean s rests, never_full f may);
+    fault = inr may;
+    crash = leaves it.crash;
+  }

@@ -1,0 +1,203 @@
+//! Tries of receipts that are sent by a request of their own: each is committed before its request is handed out.
+ghost use Rattle.std.specs.Prelude.{◌≡◌, ◌<◌, Some, IsTrue, true};
+ghost use Rattle.sqlite.specs.Held.{state};
+ghost use Rattle.sqlite.specs.State.{HasCleanDisk};
+ghost use Rattle.as2_agreement.specs.Partners.{IsPartner};
+ghost use Rattle.as2_exchange.specs.OwedReceipts.{is_pending, is_shut, mdn_begun, mdn_closed};
+ghost use Rattle.as2_exchange.specs.Receipts.{is_delivery};
+ghost use Rattle.as2_exchange.specs.State.{received};
+ghost use Rattle.as2_exchange.specs.Step.{on_received};
+ghost use Rattle.as2_station.specs.OwedTries.{end_answer, mdn_ended, mdn_tried, mdn_try_refusal};
+ghost use Rattle.as2_station.specs.Steps.{Does, always};
+
+use crate::agreed::agreed_partner;
+use crate::closing::is_success;
+use crate::trying::is_early;
+use as2_agreement::{Agreements, Partner};
+use as2_exchange::{Answer, Attempt, InEntry, MdnState, Refusal, StoreFault, TryAnswer};
+use as2_posts::receipt_job;
+use as2_store::{MdnProgress, Store};
+use as2_text::Moment;
+use sqlite::Alter;
+use std::alloc::Global;
+
+/// Whether the receipt is still to be sent.
+fn is_pending(entry: &InEntry) -> bool
+    ensures { result ≡ is_pending entry.now.mdn }
+{
+    matches!(entry.mdn, MdnState::Pending)
+}
+
+/// Why no try of the receipt may begin, if none may.
+fn try_refusal(partner: &Partner, entry: &InEntry, moment: Moment) -> Option<Refusal>
+    ensures { result ≡ mdn_try_refusal partner.now entry.now moment }
+{
+    if !is_pending(entry) {
+        return Some(Refusal::AllSettled);
+    }
+    if entry.tries >= partner.max_tries {
+        return Some(Refusal::TriesUsed);
+    }
+    if is_early(moment, entry.due) {
+        return Some(Refusal::NotDue);
+    }
+    None
+}
+
+/// How far the receipt has come once a try has begun.
+fn tried(partner: &Partner, entry: &InEntry, moment: Moment) -> MdnProgress
+    requires terms { IsPartner partner.now }
+    requires left { entry.now.tries < partner.now.max_tries }
+    ensures { result ≡ mdn_tried partner.now entry.now moment }
+{
+    let tries = entry.tries + 1;
+    if tries >= partner.max_tries {
+        return MdnProgress {
+            mdn: entry.mdn,
+            tries,
+            attempt: Attempt::Last,
+            due: None,
+        };
+    }
+    MdnProgress {
+        mdn: entry.mdn,
+        tries,
+        attempt: Attempt::Running,
+        due: Some(moment.seconds() + partner.retry_seconds),
+    }
+}
+
+/// Begins a try of the receipt of this entry, unless that is refused.
+fn begin_found<S: Alter>(
+    store: &mut Store<S>,
+    alloc: Global,
+    agreements: &Agreements,
+    entry: &InEntry,
+    moment: Moment,
+) -> Result<Answer, StoreFault>
+    requires open { HasCleanDisk (state S.Store store.old) → IsTrue (state S.Store store.old).is_open }
+    ensures taken { Does (λ s. Some (on_received s entry.now.number (mdn_begun agreements.now moment))) (λ s. received s entry.now.number ≡ Some entry.now) (true ≡ true) (λ a. a) (state S.Store store.old) (state S.Store store.new) result }
+{
+    let partner = match agreed_partner(agreements, &entry.posted.receiver, &entry.posted.sender) {
+        Ok(partner) => partner,
+        Err(reason) => return Ok(Answer::Refused(reason)),
+    };
+    if let Some(reason) = try_refusal(partner, entry, moment) {
+        return Ok(Answer::Refused(reason));
+    }
+    let progress = tried(partner, entry, moment);
+    let job = receipt_job(alloc, agreements, entry.number, &entry.posted)?;
+    store.set_mdn(entry.number, progress)?;
+    Ok(Answer::Job(job))
+}
+
+/// Begins a try of the receipt of the entry of this number.
+pub fn begin_mdn<S: Alter>(
+    store: &mut Store<S>,
+    alloc: Global,
+    agreements: &Agreements,
+    number: u64,
+    moment: Moment,
+) -> Result<Answer, StoreFault>
+    ensures taken { Does (λ s. Some (on_received s number (mdn_begun agreements.now moment))) always (true ≡ true) (λ a. a) (state S.Store store.old) (state S.Store store.new) result }
+{
+    match store.find_in_number(alloc, number)? {
+        Some(entry) => begin_found(store, alloc, agreements, &entry, moment),
+        None => Ok(Answer::Refused(Refusal::NoSuchNumber)),
+    }
+}
+
+/// Whether an answer says success.
+fn is_delivery(answer: &TryAnswer) -> bool
+    ensures { result ≡ is_delivery answer.now }
+{
+    match answer {
+        TryAnswer::NoAnswer => false,
+        TryAnswer::Reply { status, .. } => is_success(*status),
+    }
+}
+
+/// Whether it has no open try.
+fn is_shut(attempt: Attempt) -> bool
+    ensures { result ≡ is_shut attempt }
+{
+    matches!(attempt, Attempt::Idle | Attempt::Used)
+}
+
+/// How far the receipt has come once its try has ended, by an answer of success or without one.
+fn after_try(partner: &Partner, entry: &InEntry, delivered: bool, moment: Moment) -> MdnProgress
+    requires terms { IsPartner partner.now }
+    ensures { result ≡ mdn_ended delivered partner.now entry.now moment }
+{
+    let (mdn, attempt, due) = if delivered {
+        (MdnState::Sent, Attempt::Idle, None)
+    } else if matches!(entry.attempt, Attempt::Last) {
+        (entry.mdn, Attempt::Used, None)
+    } else {
+        (
+            entry.mdn,
+            Attempt::Idle,
+            Some(moment.seconds() + partner.retry_seconds),
+        )
+    };
+    MdnProgress {
+        mdn,
+        tries: entry.tries,
+        attempt,
+        due,
+    }
+}
+
+/// What is answered where a try has ended by an answer of success, or without one.
+fn end_answer(delivered: bool) -> Answer
+    ensures { result ≡ end_answer delivered }
+{
+    if delivered {
+        Answer::Delivered
+    } else {
+        Answer::TryFailed
+    }
+}
+
+/// Takes the outcome of a try of the receipt of this entry, unless none is open.
+fn close_found<S: Alter>(
+    store: &mut Store<S>,
+    agreements: &Agreements,
+    entry: &InEntry,
+    answer: &TryAnswer,
+    moment: Moment,
+) -> Result<Answer, StoreFault>
+    requires open { HasCleanDisk (state S.Store store.old) → IsTrue (state S.Store store.old).is_open }
+    ensures taken { Does (λ s. Some (on_received s entry.now.number (mdn_closed agreements.now answer.now moment))) (λ s. received s entry.now.number ≡ Some entry.now) (true ≡ true) (λ a. a) (state S.Store store.old) (state S.Store store.new) result }
+{
+    let partner = match agreed_partner(agreements, &entry.posted.receiver, &entry.posted.sender) {
+        Ok(partner) => partner,
+        Err(reason) => return Ok(Answer::Refused(reason)),
+    };
+    if !is_pending(entry) {
+        return Ok(Answer::AlreadySettled);
+    }
+    if is_shut(entry.attempt) {
+        return Ok(Answer::Refused(Refusal::NoOpenTry));
+    }
+    let delivered = is_delivery(answer);
+    store.set_mdn(entry.number, after_try(partner, entry, delivered, moment))?;
+    Ok(end_answer(delivered))
+}
+
+/// Takes the outcome of a try of the receipt of the entry of this number.
+pub fn close_mdn<S: Alter>(
+    store: &mut Store<S>,
+    alloc: Global,
+    agreements: &Agreements,
+    number: u64,
+    answer: TryAnswer,
+    moment: Moment,
+) -> Result<Answer, StoreFault>
+    ensures taken { Does (λ s. Some (on_received s number (mdn_closed agreements.now answer moment))) always (true ≡ true) (λ a. a) (state S.Store store.old) (state S.Store store.new) result }
+{
+    match store.find_in_number(alloc, number)? {
+        Some(entry) => close_found(store, agreements, &entry, &answer, moment),
+        None => Ok(Answer::Refused(Refusal::NoSuchNumber)),
+    }
+}

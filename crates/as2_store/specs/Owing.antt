@@ -1,0 +1,23 @@
+-- A receipt that is owed comes further.
+use Rattle.std.specs.Prelude.{ℕ, ◌<◌, ◌^◌, Option, Some, option_map, IfSome}
+use Rattle.as2_exchange.specs.State.{State, change_received}
+use Rattle.as2_exchange.specs.declared.inbox.InEntry.{InEntry}
+use Rattle.as2_rows.specs.Waiting.{WaitingRow, in_kind}
+use Rattle.as2_store.specs.declared.owed.MdnProgress.{MdnProgress}
+
+-- the entry once its receipt has come so far
+abbrev pub owed_as : MdnProgress → InEntry → InEntry
+owed_as p e = record e { mdn = p.mdn; tries = p.tries; attempt = p.attempt; due = p.due }
+
+-- the state once the receipt of the entry of this number, if there is one, has come so far
+abbrev pub set_mdn_in : ℕ → MdnProgress → State → Option State
+set_mdn_in n p s = Some (change_received s n (owed_as p))
+
+-- what the entry of this number waits for then
+abbrev pub answers_at : ℕ → MdnProgress → Option WaitingRow
+answers_at n p = option_map (λ kind. record { kind = kind; number = n; due = p.due }) (in_kind p.mdn p.attempt)
+
+-- its numbers fit into columns
+pub record FitsMdn (p : MdnProgress) : Type 0 where
+  pub tries_fit : p.tries < 2 ^ 63
+  pub due_fits : IfSome p.due (λ due. due < 2 ^ 63)

@@ -1,0 +1,82 @@
+//! A receipt that is owed comes further: in one transaction its entry changes, and it waits again, or no more.
+
+ghost use Rattle.std.specs.Prelude.{◌≡◌, ◌==◌, ◌≤◌, ◌<◌, ◌^◌, false, map, filter, length, IsTrue, IfOk, OnOk};
+ghost use Rattle.sqlite.specs.Held.{state};
+ghost use Rattle.sqlite.specs.State.{HasCleanDisk};
+ghost use Rattle.as2_store.specs.Calls.{IsInside, Writes};
+ghost use Rattle.sql_tables.specs.Changes.{Changed};
+ghost use Rattle.as2_exchange.specs.State.{State, change_received};
+ghost use Rattle.as2_rows.specs.Rows.{in_row};
+ghost use Rattle.as2_store.specs.Tables.{store_schema, inbox_tree};
+ghost use Rattle.as2_store.specs.Stands.{Stands};
+ghost use Rattle.as2_store.specs.Owing.{FitsMdn, owed_as, set_mdn_in};
+
+use crate::numbers::{asked, whole, whole_or_none};
+use crate::waiting::answer_for;
+use as2_exchange::{Attempt, MdnState};
+use as2_rows::{attempt_code, mdn_code};
+use sqlite::{Alter, Connection, Error, Transaction, params};
+
+/// How far the receipt for a posted document has come.
+#[derive(Clone, Copy, Debug, PartialEq, Eq)]
+pub struct MdnProgress {
+    /// How it stands.
+    pub mdn: MdnState,
+    /// How often it was tried.
+    pub tries: u64,
+    /// Whether a try is open.
+    pub attempt: Attempt,
+    /// When the next try may begin, in seconds since 1970.
+    pub due: Option<u64>,
+}
+
+/// Sets how far the receipt of the entry of this number has come, and answers how many entries have the number.
+fn set_owed<S: Alter>(
+    tx: &mut Transaction<'_, S>,
+    number: u64,
+    progress: MdnProgress,
+) -> Result<usize, Error>
+    requires fits { FitsMdn progress }
+    ensures same_reference { tx.new.conn.ghost_name ≡ tx.old.conn.ghost_name }
+    ensures within { IsInside (state S.Store tx.old.conn.now) (state S.Store tx.new.conn.now) }
+    ensures open { HasCleanDisk (state S.Store tx.new.conn.now) → OnOk result (IsTrue (state S.Store tx.old.conn.now).is_open) }
+    ensures inside { HasCleanDisk (state S.Store tx.new.conn.now) → OnOk result (IsTrue (state S.Store tx.new.conn.now).in_transaction) }
+    ensures put { HasCleanDisk (state S.Store tx.new.conn.now) → IfOk result (λ count. (s : State) → Stands (state S.Store tx.old.conn.now).now s
+        → Changed (state S.Store tx.old.conn.now) (state S.Store tx.new.conn.now) store_schema inbox_tree (map in_row (change_received s number (owed_as progress)).inbox) × (count ≡ length (filter (λ e. e.number == number) s.inbox))) }
+{
+    let wanted = asked(number);
+    let param = whole(wanted);
+    let tries = whole(progress.tries);
+    let due = whole_or_none(progress.due);
+    tx.execute(
+        "UPDATE inbox SET mdn = ?2, tries = ?3, attempt = ?4, due = ?5 WHERE number = ?1",
+        params![
+            param,
+            mdn_code(progress.mdn),
+            tries,
+            attempt_code(progress.attempt),
+            due
+        ],
+    )
+}
+
+/// Sets how far the receipt of the entry of this number, if there is one, has come.
+pub fn set<S: Alter>(
+    conn: &mut Connection<S>,
+    number: u64,
+    progress: MdnProgress,
+) -> Result<(), Error>
+    requires autocommit { conn.old.in_transaction ≡ false }
+    requires fits { FitsMdn progress }
+    ensures autocommit { conn.new.in_transaction ≡ false }
+    ensures set { Writes (set_mdn_in number progress) (state S.Store conn.old) (state S.Store conn.new) result }
+{
+    let mut tx = conn.transaction();
+    if set_owed(&mut tx, number, progress)? == 0 {
+        tx.commit()?;
+        return Ok(());
+    }
+    answer_for(&mut tx, asked(number), progress)?;
+    tx.commit()?;
+    Ok(())
+}

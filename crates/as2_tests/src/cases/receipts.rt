@@ -1,0 +1,110 @@
+//! Posts of receipts.
+
+/// Receipts that can't be read, or are for no document.
+pub const UNTAKEN: &str = r#"
+= a receipt that can't be read
+or 1000 post | receipt | Content-Type: multipart/report; report-type=disposition-notification => 400 unreadable receipt
+or 1000 post | receipt | --as2-mdn-7 -> --other => 400 unreadable receipt
+or 1000 post | receipt | ~--as2-mdn-7~Content-Type: message -> ~Content-Type: message => 400 unreadable receipt
+or 1000 post | receipt | --as2-mdn-7-- -> -- => 400 unreadable receipt
+or 1000 post | receipt | Content-Type: message -> X-Type: message => 400 unreadable receipt
+or 1000 post | receipt | Content-Type: message -> Content-Type: a/b~Content-Type: message => 400 unreadable receipt
+or 1000 post | receipt | message/disposition-notification -> text/plain => 400 unreadable receipt
+or 1000 post | receipt | message/disposition-notification -> message => 400 unreadable receipt
+or 1000 post | receipt | ~~Reporting-UA -> ~Content-Transfer-Encoding: base64~~Reporting-UA => 400 unreadable receipt
+or 1000 post | receipt | ~~Reporting-UA -> ~Content-Transfer-Encoding: 7bit~Content-Transfer-Encoding: 7bit~~Reporting-UA => 400 unreadable receipt
+or 1000 post | receipt | Reporting-UA: as2-station -> Disposition: automatic-action/MDN-sent-automatically; processed => 400 unreadable receipt
+or 1000 post | receipt | Reporting-UA: as2-station -> Original-Message-ID: <out-#1@station.example> => 400 unreadable receipt
+or 1000 post | receipt | Original-Message-ID -> X-ID => 400 unreadable receipt
+or 1000 post | receipt | <out-#1@station.example> -> <> => 400 unreadable receipt
+or 1000 post | receipt | Disposition: automatic -> X-Disposition: automatic => 400 unreadable receipt
+or 1000 post | receipt | automatic-action/MDN-sent-automatically; processed -> processed => 400 unreadable receipt
+or 1000 post | receipt | automatic-action -> other-action => 400 unreadable receipt
+or 1000 post | receipt | automatically; processed -> automatically; => 400 unreadable receipt
+or 1000 post | 0 | Content-Type: multipart/report; report-type=disposition-notification; boundary=b => 400 unreadable receipt
+= a receipt for a document that isn't begun
+or 1000 post | receipt => 404 no such message
+or 1000 submit | Supplier | Buyer | @length => submitted #1
+1000 post | receipt => 404 no such message
+= a receipt under other names or another identifier
+1000 submit | Supplier | Buyer | @length => submitted #1
+1000 submit | Supplier | Buyer | @length => submitted #2
+1000 begin #1 => job sync #1
+or 1000 post | receipt | AS2-From: Depot => 404 no such message
+or 1000 post | receipt | AS2-To: Maker => 404 no such message
+or 1000 post | receipt | <out-#1@ -> <out-#2@ => 404 no such message
+or 1000 post | receipt | <out-#1@ -> <out-#3@ => 404 no such message
+or 1000 post | receipt | @station.example> -> @other.example> => 404 no such message
+"#;
+
+/// Receipts that are taken, whatever they say, and as the document stands.
+pub const TAKEN: &str = r#"
+= a receipt settles the document, whatever it says
+1000 submit | Supplier | Buyer | @length => submitted #1
+1000 begin #1 => job sync #1
+or 1000 post | receipt => 200
+1000 unanswered #1 => already settled
+2000 begin #1 => refused AllSettled
+or 1000 post | receipt | Message-ID: | Disposition-Notification-To: => 200
+1000 unanswered #1 => already settled
+or 1000 post | receipt | Disposition-Notification-Options: x => 200
+1000 unanswered #1 => already settled
+or 1000 post | receipt | <out-#1@station.example> -> out-#1@station.example => 200
+1000 unanswered #1 => already settled
+or 1000 post | receipt | ~ -> ^ => 200
+1000 unanswered #1 => already settled
+or 1000 post | receipt | @md5, md5 -> kAFQmDzST7DWlj99KOF/cg==, md5 => 200
+1000 unanswered #1 => already settled
+or 1000 post | receipt | Received-content-MIC -> X-MIC => 200
+1000 unanswered #1 => already settled
+or 1000 post | receipt | @md5, md5 -> @md5, sha-999 => 200
+1000 unanswered #1 => already settled
+or 1000 post | receipt | ; processed~ -> ; processed/warning: x~ => 200
+1000 unanswered #1 => already settled
+or 1000 post | receipt | ; processed~ -> ; processed/error: x~ => 200
+1000 unanswered #1 => already settled
+or 1000 post | receipt | ; processed~ -> ; failed/failure: y~ => 200
+1000 unanswered #1 => already settled
+= a second receipt
+1000 submit | Supplier | Buyer | @length => submitted #1
+1000 begin #1 => job sync #1
+or 1000 post | receipt => 200
+1000 post | receipt => 200
+1000 post | receipt | ; processed~ -> ; failed/failure: y~ => 200
+or 1000 reply #1 200 | receipt => settled processed
+1000 post | receipt => 200
+= a receipt as the document is tried
+1000 submit | Supplier | Buyer | @length => submitted #1
+1000 begin #1 => job sync #1
+or 1030 begin #1 => job sync #1
+1030 post | receipt => 200
+1030 unanswered #1 => already settled
+2000 tick => ticked 0
+or 1000 unanswered #1 => try failed
+1000 post | receipt => 200
+1030 begin #1 => refused AllSettled
+or 1030 begin #1 => job sync #1
+1030 unanswered #1 => try failed
+1030 post | receipt => 200
+2000 begin #1 => refused AllSettled
+or 1030 begin #1 => job sync #1
+1060 tick => ticked 1
+1060 post | receipt => 200
+2000 begin #1 => refused AllSettled
+= a receipt that is awaited, or overdue
+1000 submit | Supplier | Depot | @length => submitted #1
+1000 begin #1 => job async #1
+1000 reply #1 200 | 0 => delivered
+or 1000 post | receipt | AS2-From: Depot => 200
+2000 tick => ticked 0
+2000 begin #1 => refused AllSettled
+or 1060 tick => ticked 1
+1060 post | receipt | AS2-From: Depot => 200
+2000 begin #1 => refused AllSettled
+= a receipt that wasn't asked for
+1000 submit | Supplier | A "B" \ C | @length => submitted #1
+1000 begin #1 => job none #1
+1000 reply #1 200 | 0 => delivered
+1000 post | receipt | AS2-From: "A \"B\" \\ C" => 200
+2000 begin #1 => refused AllSettled
+"#;
