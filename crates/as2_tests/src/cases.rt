@@ -38,10 +38,13 @@ use std::test::Fail;
 const HELD: u64 = 300;
 
 /// The agreements, with an organization that is nobody's.
-const AGREEMENTS: Text = AGREED.with(&[(
-    "[[organization]]",
-    "[[organization]]\nname = \"Maker\"\n\n[[organization]]",
-)]);
+const AGREEMENTS: Text = Text {
+    changes: &[(
+        "[[organization]]",
+        "[[organization]]\nname = \"Maker\"\n\n[[organization]]",
+    )],
+    ..AGREED
+};
 
 /// The agreements that the first line of a play names.
 fn agreements(alloc: Global, line: &str, choice: &Choice) -> Result<Agreements, Fail> {

@@ -41,7 +41,7 @@ static FIELDS: [(&str, &str); 7] = [
 pub type Change = (&'static str, &'static str);
 
 /// The value that the changes give to a field of that name, if they do.
-fn changed<'a>(changes: &[(&'a str, &'a str)], name: &str) -> Option<&'a str> {
+fn changed<'a>(changes: &'a [(&'a str, &'a str)], name: &str) -> Option<&'a str> {
     for (field, value) in changes {
         if *field == name {
             return Some(value);
@@ -61,7 +61,7 @@ fn is_plain(name: &str) -> bool {
 }
 
 /// Adds the fields that the plain post hasn't.
-fn append_others(head: &mut Head, changes: &[(&str, &str)]) -> Result<(), HeadFault> {
+fn append_others<'a>(head: &mut Head, changes: &'a [(&'a str, &'a str)]) -> Result<(), HeadFault> {
     for (name, value) in changes {
         if !is_plain(name) {
             head.append(name.as_bytes(), value.as_bytes())?;
@@ -70,17 +70,22 @@ fn append_others(head: &mut Head, changes: &[(&str, &str)]) -> Result<(), HeadFa
     Ok(())
 }
 
+/// Adds a field, unless its value is empty.
+fn append(head: &mut Head, name: &str, value: &str) -> Result<(), HeadFault> {
+    if value.is_empty() {
+        return Ok(());
+    }
+    head.append(name.as_bytes(), value.as_bytes())
+}
+
 /// The head of the plain post with these changes: a field of it has the changed value, or is left out where that is empty; a
 /// field that it hasn't comes last.
-pub fn head(alloc: Global, changes: &[(&str, &str)]) -> Result<Head, HeadFault> {
+pub fn head<'a>(alloc: Global, changes: &'a [(&'a str, &'a str)]) -> Result<Head, HeadFault> {
     let mut head = Head::new(alloc);
     for (name, plain) in &FIELDS {
-        let value = match changed(changes, name) {
-            Some(value) => value,
-            None => plain,
-        };
-        if !value.is_empty() {
-            head.append(name.as_bytes(), value.as_bytes())?;
+        match changed(changes, name) {
+            Some(value) => append(&mut head, name, value)?,
+            None => append(&mut head, name, plain)?,
         }
     }
     append_others(&mut head, changes)?;

@@ -103,15 +103,10 @@ fn made(alloc: Global, text: &str, number: &str, choice: &Choice) -> Result<Stri
     let digits = format!(in alloc; "-{number}@")?;
     let boundary = format!(in alloc; "as2-mdn-{number}")?;
     let first_line = format!(in alloc; "Receipt {number} for")?;
-    let mut text = String::from_str(alloc, text)?;
-    for (old, new) in [
-        ("-1@", digits.as_str()),
-        ("as2-mdn-1", boundary.as_str()),
-        ("Receipt 1 for", first_line.as_str()),
-        ("qZk+NkcGgWq6PiVxeFDCbJzQ2J0=", "@sha1"),
-    ] {
-        text = text.replace(alloc, old, new)?;
-    }
+    let text = text.replace(alloc, "-1@", digits.as_str())?;
+    let text = text.replace(alloc, "as2-mdn-1", boundary.as_str())?;
+    let text = text.replace(alloc, "Receipt 1 for", first_line.as_str())?;
+    let text = text.replace(alloc, "qZk+NkcGgWq6PiVxeFDCbJzQ2J0=", "@sha1")?;
     Ok(chosen(alloc, text.as_str(), choice)?)
 }
 

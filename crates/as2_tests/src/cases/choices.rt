@@ -95,13 +95,9 @@ pub fn chosen(alloc: Global, text: &str, choice: &Choice) -> Result<String, Allo
         text = text.replace(alloc, sign, stands)?;
     }
     let length = choice.length.to_string(alloc)?;
-    for (sign, stands) in [
-        ("@length", length.as_str()),
-        ("@sha1", choice.sha1),
-        ("@md5", choice.md5),
-    ] {
-        text = text.replace(alloc, sign, stands)?;
-    }
+    text = text.replace(alloc, "@length", length.as_str())?;
+    text = text.replace(alloc, "@sha1", choice.sha1)?;
+    text = text.replace(alloc, "@md5", choice.md5)?;
     let text = numbered(alloc, text.as_str(), choice.first)?;
     renamed(alloc, text.as_str(), choice)
 }

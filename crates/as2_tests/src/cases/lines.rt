@@ -15,31 +15,31 @@ use std::test::Fail;
 
 /// What an event brings.
 #[derive(Drop)]
-struct Brought<'a> {
+struct Arguments<'a> {
     /// Fields that differ from the plain post's.
     fields: Vec<(&'a str, &'a str)>,
     /// Changes in a receipt.
     changes: Vec<(&'a str, &'a str)>,
-    /// All else, in turn.
+    /// All else, in turn; the first names the event.
     words: Vec<&'a str>,
 }
 
-fn brought(alloc: Global, text: &str) -> Result<Brought<'_>, Fail> {
-    let mut brought = Brought {
+fn arguments_of(alloc: Global, text: &str) -> Result<Arguments<'_>, Fail> {
+    let mut arguments = Arguments {
         fields: Vec::new(alloc),
         changes: Vec::new(alloc),
         words: Vec::new(alloc),
     };
     for part in text.split(" | ") {
         if let Some(change) = part.split_once(" -> ") {
-            brought.changes.push(change)?;
+            arguments.changes.push(change)?;
         } else if let Some((name, value)) = part.split_once(":") {
-            brought.fields.push((name, value.trim()))?;
+            arguments.fields.push((name, value.trim()))?;
         } else {
-            brought.words.push(part.trim())?;
+            arguments.words.push(part.trim())?;
         }
     }
-    Ok(brought)
+    Ok(arguments)
 }
 
 /// The text of a change, with the line ends that its signs stand for.
@@ -47,7 +47,7 @@ fn with_line_ends(alloc: Global, text: &str) -> Result<String, AllocError> {
     text.replace(alloc, "~", "\r\n")?.replace(alloc, "^", "\n")
 }
 
-impl Brought<'_> {
+impl Arguments<'_> {
     /// The word at that place.
     fn word(&self, place: usize) -> Result<&str, Fail> {
         match self.words.get(place) {
@@ -62,7 +62,7 @@ impl Brought<'_> {
     }
 
     fn is_receipt(&self) -> bool {
-        matches!(self.words.first(), Some(&"receipt"))
+        matches!(self.words.get(1), Some(&"receipt"))
     }
 
     /// The head: that of a receipt has the type of one.
@@ -88,87 +88,81 @@ impl Brought<'_> {
         Ok(text)
     }
 
-    /// The bytes: so many letters as the word at that place says, or a receipt.
+    /// The bytes: so many letters as the word at that place says, none where it isn't there, or a receipt.
     fn body(&self, alloc: Global, place: usize, choice: &Choice) -> Result<Pieces, Fail> {
         let text = if self.is_receipt() {
             self.receipt(alloc, choice)?
         } else {
-            "a".repeat(alloc, self.word(place)?.parse()?)?
+            let count = match self.words.get(place) {
+                Some(count) => count.parse()?,
+                None => 0,
+            };
+            "a".repeat(alloc, count)?
         };
         Ok(body(alloc, text.as_bytes())?)
     }
 }
 
-/// When something happens, what, to which number, and with which status.
-#[derive(Clone, Copy)]
-struct Named<'a> {
-    moment: Moment,
-    name: &'a str,
-    number: u64,
-    status: u16,
+/// The number that a word spells; one that isn't there is 0.
+fn number(word: Option<&str>) -> Result<u64, Fail> {
+    match word {
+        Some(word) => Ok(word.parse()?),
+        None => Ok(0),
+    }
 }
 
-/// The words by which an event is named; a number that isn't there is 0.
-fn named(text: &str) -> Result<Named<'_>, Fail> {
-    let mut words = text.split_whitespace();
-    let seconds = words.next().unwrap_or("").parse()?;
-    let Some(moment) = Moment::new(seconds) else {
-        return Err(Fail::new("no moment"));
-    };
-    Ok(Named {
-        moment,
-        name: words.next().unwrap_or(""),
-        number: words.next().unwrap_or("0").parse()?,
-        status: words.next().unwrap_or("0").parse()?,
-    })
-}
-
-/// What came of a try: nothing, where the event isn't a reply.
+/// What came of a try: nothing, where it isn't told with a status.
 fn answer(
     alloc: Global,
-    named: &Named<'_>,
-    brought: &Brought<'_>,
+    status: u64,
+    arguments: &Arguments<'_>,
     choice: &Choice,
 ) -> Result<TryAnswer, Fail> {
-    match named.name {
-        "unanswered" | "unanswered-mdn" => Ok(TryAnswer::NoAnswer),
-        _ => Ok(TryAnswer::Reply {
-            status: named.status,
-            head: brought.head(alloc)?,
-            body: brought.body(alloc, 0, choice)?,
-        }),
+    if status == 0 {
+        return Ok(TryAnswer::NoAnswer);
     }
+    Ok(TryAnswer::Reply {
+        status: u16::try_from(status)?,
+        head: arguments.head(alloc)?,
+        body: arguments.body(alloc, 0, choice)?,
+    })
 }
 
 /// The event that a line tells.
 pub fn event(alloc: Global, line: &str, choice: &Choice) -> Result<Event, Fail> {
-    let (front, rest) = line.split_once(" | ").unwrap_or((line, "0"));
-    let named = named(front)?;
-    let brought = brought(alloc, rest)?;
-    let number = named.number;
-    let moment = named.moment;
-    match named.name {
+    let arguments = arguments_of(alloc, line)?;
+    let mut words = arguments.word(0)?.split_whitespace();
+    let Some(moment) = Moment::new(number(words.next())?) else {
+        return Err(Fail::new("no moment"));
+    };
+    let Some(name) = words.next() else {
+        return Err(Fail::new("no event"));
+    };
+    let number_word = words.next();
+    let status = number(words.next())?;
+    let number = number(number_word)?;
+    match name {
         "post" => Ok(Event::Post {
-            head: brought.head(alloc)?,
-            body: brought.body(alloc, 0, choice)?,
+            head: arguments.head(alloc)?,
+            body: arguments.body(alloc, 1, choice)?,
             moment,
         }),
         "submit" => Ok(Event::Submit {
-            organization: brought.name(0)?,
-            partner: brought.name(1)?,
-            content: brought.body(alloc, 2, choice)?,
+            organization: arguments.name(1)?,
+            partner: arguments.name(2)?,
+            content: arguments.body(alloc, 3, choice)?,
             moment,
         }),
         "begin" => Ok(Event::Begin { number, moment }),
+        "begin-mdn" => Ok(Event::BeginMdn { number, moment }),
         "reply" | "unanswered" => Ok(Event::Outcome {
             number,
-            answer: answer(alloc, &named, &brought, choice)?,
+            answer: answer(alloc, status, &arguments, choice)?,
             moment,
         }),
-        "begin-mdn" => Ok(Event::BeginMdn { number, moment }),
         "reply-mdn" | "unanswered-mdn" => Ok(Event::OutcomeMdn {
             number,
-            answer: answer(alloc, &named, &brought, choice)?,
+            answer: answer(alloc, status, &arguments, choice)?,
             moment,
         }),
         "tick" => Ok(Event::Tick { moment }),
