@@ -34,9 +34,6 @@ use sqlite::MemStore;
 use std::alloc::Global;
 use std::test::Fail;
 
-/// How many posts, and how many documents, a store holds before in half of the plays.
-const HELD: u64 = 300;
-
 /// The agreements, with an organization that is nobody's.
 const AGREEMENTS: Text = Text {
     changes: &[(
@@ -175,18 +172,16 @@ fn from_last(text: &str, choice: &Choice) -> Choice {
     Choice { first, ..*choice }
 }
 
-/// Plays all lists of a table over new stores, and over stores that hold other entries before.
-fn check(alloc: Global, table: &str, choice: &Choice) -> Result<(), Fail> {
-    for held in [0, HELD] {
+/// Plays all lists of all tables.
+fn check_all(alloc: Global, choice: &Choice) -> Result<(), Fail> {
+    for table in &TABLES {
         for text in table.split("\n= ").skip(1) {
-            let choice = from_last(text, &Choice { held, ..*choice });
-            check_lists(alloc, text, &choice)?;
+            check_lists(alloc, text, &from_last(text, choice))?;
         }
     }
     Ok(())
 }
 
-/// All tables.
 static TABLES: [&str; 8] = [
     posts::REFUSED,
     posts::RECORDED,
@@ -198,25 +193,39 @@ static TABLES: [&str; 8] = [
     owed::OWED,
 ];
 
-/// Plays all lists of all tables.
-fn check_all(alloc: Global, choice: &Choice) -> Result<(), Fail> {
-    for table in &TABLES {
-        check(alloc, table, choice)?;
-    }
-    Ok(())
-}
+/// How many posts, and how many documents, a store holds before in half of the plays.
+const HELD: u64 = 300;
 
 #[test]
 fn each_way_of_answering(rt: HostRuntime) -> Result<(), Fail> {
-    check_all(rt.alloc(), &SHORT)
+    check_all(rt.alloc(), &SHORT)?;
+    check_all(
+        rt.alloc(),
+        &Choice {
+            held: HELD,
+            ..SHORT
+        },
+    )
 }
 
 #[test]
 fn with_empty_contents(rt: HostRuntime) -> Result<(), Fail> {
-    check_all(rt.alloc(), &EMPTY)
+    check_all(rt.alloc(), &EMPTY)?;
+    check_all(
+        rt.alloc(),
+        &Choice {
+            held: HELD,
+            ..EMPTY
+        },
+    )
 }
 
 #[test]
 fn with_the_longest_contents_names_and_identifiers(rt: HostRuntime) -> Result<(), Fail> {
     check_all(rt.alloc(), &LONG)
+}
+
+#[test]
+fn with_the_longest_over_other_entries(rt: HostRuntime) -> Result<(), Fail> {
+    check_all(rt.alloc(), &Choice { held: HELD, ..LONG })
 }

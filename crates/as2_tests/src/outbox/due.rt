@@ -43,6 +43,23 @@ const AWAITED: &[Row] = &[
     (Did::Submit("Depot", 1000), Said::Submitted(1)),
     (Did::Begin(1, 1000), TO_DEPOT),
     (Did::Answered(1, EMPTY, 1000), Said::Delivered),
+    (Did::Tick(1060), Said::Ticked(1)),
+];
+
+/// The last try is over.
+const EXPIRED: &[Row] = &[
+    (Did::Submit("Buyer", 1000), Said::Submitted(1)),
+    (Did::Begin(1, 1000), TO_BUYER),
+    (Did::Begin(1, 1030), TO_BUYER),
+    (Did::Tick(1060), Said::Ticked(1)),
+];
+
+/// A receipt that is sent later.
+const OWED: &[Row] = &[
+    (Did::AskedLater(1000), Said::Accepted),
+    (Did::BeginMdn(1, 1000), Said::Begun),
+    (Did::MdnUnanswered(1, 1000), Said::TryFailed),
+    (Did::BeginMdn(1, 1030), Said::Begun),
 ];
 
 const UNASKED: &[Row] = &[
@@ -102,11 +119,12 @@ fn the_least_due_number_is_next(rt: HostRuntime) -> Result<(), Fail> {
     Ok(())
 }
 
-/// What waits: the code of what it waits for, the document, and when it is due.
+/// What waits: the code of what it waits for, the number of its document or receipt, and when it is due.
 type Waiting = (u64, u64, u64);
 
-// How many of the rows are played, and what then waits: 1 is to be sent, 3 a receipt, 4 the outcome of the last try.
-static WAITING: [(&[Row], usize, &[Waiting]); 12] = [
+// How many of the rows are played, and what then waits: 1 is a document to be sent, 2 a receipt to be sent, 3 a receipt to come,
+// 4 the outcome of the last try.
+static WAITING: [(&[Row], usize, &[Waiting]); 18] = [
     (FALLING, 3, &[(1, 1, 30), (1, 2, 20), (1, 3, 10)]),
     (TRIES, 1, &[(1, 1, 1000)]),
     (TRIES, 2, &[(1, 1, 1030)]),
@@ -118,6 +136,12 @@ static WAITING: [(&[Row], usize, &[Waiting]); 12] = [
     (POSTED, 4, &[]),
     (AWAITED, 2, &[(1, 1, 1030)]),
     (AWAITED, 3, &[(3, 1, 1060)]),
+    (AWAITED, 4, &[]),
+    (EXPIRED, 3, &[(4, 1, 1060)]),
+    (EXPIRED, 4, &[]),
+    (OWED, 1, &[(2, 1, 1000)]),
+    (OWED, 2, &[(2, 1, 1030)]),
+    (OWED, 4, &[]),
     (UNASKED, 3, &[]),
 ];
 
@@ -141,7 +165,7 @@ fn waits(alloc: Global, rows: &[Row], waiting: &[Waiting]) -> Result<bool, Fail>
 }
 
 #[test]
-fn a_document_waits_once(rt: HostRuntime) -> Result<(), Fail> {
+fn what_waits_waits_once(rt: HostRuntime) -> Result<(), Fail> {
     for (at, &(rows, count, waiting)) in WAITING.iter().enumerate() {
         if !waits(rt.alloc(), first(rows, count)?, waiting)? {
             return Err(Fail::new(at));
