@@ -1,6 +1,5 @@
 -- The address that a head asks its receipt to be sent to.
 use Rattle.std.proofs.Common.{◌≡◌, ◌∙◌, ◌⊎◌, inl, inr, ℕ, List, [], ◌∷◌, Some, Ok, is_some, IsTrue, true, false, refl, sym, ap, subst}
-
 use Rattle.as2_text.specs.Addresses.{url_of}
 use Rattle.as2_text.specs.ReceiptRequests.{AsksFor, Fields, Request, SaysHow, asked_by, delivery_option, is_given_twice, nothing_asked, reading, text_of}
 use Rattle.as2_text.specs.declared.receipt_ask.How.{How}

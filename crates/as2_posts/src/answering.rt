@@ -22,7 +22,11 @@ fn nothing(status: u16) -> HttpAnswer
 }
 
 /// The receipt of that number for a document.
-pub fn report(agreements: &Agreements, number: u64, posted: &Posted) -> Result<ReportOut, AllocError>
+pub fn report(
+    agreements: &Agreements,
+    number: u64,
+    posted: &Posted,
+) -> Result<ReportOut, AllocError>
     ensures { IfOk result (λ out. out ≡ report agreements.now number posted.now) }
 {
     Ok(ReportOut {

@@ -36,10 +36,7 @@ fn how_of(alloc: Global, head: &Head, ask: &ReceiptAsk<'_>) -> Result<ReceiptDel
     match ask.how {
         How::NoReceipt => Ok(ReceiptDelivery::NoReceipt),
         How::Sync => Ok(ReceiptDelivery::Sync),
-        How::Async(_) => Ok(ReceiptDelivery::Async(Address::keep(
-            alloc,
-            delivery_address(head),
-        )?)),
+        How::Async(_) => Ok(ReceiptDelivery::Async(Address::keep(alloc, delivery_address(head))?)),
     }
 }
 
