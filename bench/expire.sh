@@ -76,8 +76,8 @@ fn put<S: Alter>(alloc: Global, tx: &mut Transaction<'_, S>, number: u64) -> Opt
     let digits = number.to_string(alloc).ok()?;
     let value = format!(in alloc; "out-{digits}@station.example").ok()?;
     let id = format!(in alloc; "<out-{digits}@station.example>").ok()?;
-    let due = due_of(number) as i64;
-    let number = number as i64;
+    let due = i64::try_from(due_of(number)).ok()?;
+    let number = i64::try_from(number).ok()?;
     tx.execute(
         "INSERT INTO outbox VALUES (?1, x'537570706c696572', x'4275796572', ?2, ?3, 3000, 1000, 1, 1, ?4, 3)",
         params![number, value.as_bytes(), id.as_bytes(), due],
@@ -99,7 +99,6 @@ fn put<S: Alter>(alloc: Global, tx: &mut Transaction<'_, S>, number: u64) -> Opt
 /// Puts in the documents with the numbers up to this.
 fn fill<S: Alter>(alloc: Global, conn: &mut Connection<S>, count: u64) -> Option<()>
     requires { conn.old.in_transaction ≡ false }
-    ensures { conn.new.in_transaction ≡ false }
 {
     let mut tx = conn.transaction();
     for number in 1..count.saturating_add(1) {
@@ -107,7 +106,7 @@ fn fill<S: Alter>(alloc: Global, conn: &mut Connection<S>, count: u64) -> Option
     }
     tx.execute(
         "UPDATE meta SET next_document = ?1",
-        params![count.saturating_add(1) as i64],
+        params![i64::try_from(count.saturating_add(1)).ok()?],
     )
     .ok()?;
     tx.commit().ok()
@@ -133,9 +132,13 @@ fn receipt(alloc: Global, number: u64) -> Option<(Head, Pieces)> {
     )
     .ok()?;
     let mut body = Pieces::new(alloc);
-    body.append(b"--as2-mdn-1\r\nContent-Type: text/plain\r\n\r\nReceipt 1 for the message named below.\r\nOutcome: processed\r\n\r\n--as2-mdn-1\r\nContent-Type: message/disposition-notification\r\n\r\nReporting-UA: buyer\r\nFinal-Recipient: rfc822; Buyer\r\nOriginal-Message-ID: <out-").ok()?;
+    body.append(
+        b"--as2-mdn-1\r\nContent-Type: text/plain\r\n\r\nReceipt 1 for the message named below.\r\nOutcome: processed\r\n\r\n--as2-mdn-1\r\nContent-Type: message/disposition-notification\r\n\r\nReporting-UA: buyer\r\nFinal-Recipient: rfc822; Buyer\r\nOriginal-Message-ID: <out-",
+    ).ok()?;
     body.append(number.to_string(alloc).ok()?.as_bytes()).ok()?;
-    body.append(b"@station.example>\r\nDisposition: automatic-action/MDN-sent-automatically; processed\r\nReceived-content-MIC: ").ok()?;
+    body.append(
+        b"@station.example>\r\nDisposition: automatic-action/MDN-sent-automatically; processed\r\nReceived-content-MIC: ",
+    ).ok()?;
     body.append(mic_of(Alg::Sha1, &CONTENT).bytes()).ok()?;
     body.append(b", sha1\r\n\r\n--as2-mdn-1--\r\n").ok()?;
     Some((head, body))
@@ -157,7 +160,11 @@ fn quickest_tick<S: Alter>(
         let start = SystemTime::now(rt)?;
         let answer = station.step(rt.alloc(), agreements, Event::Tick { moment });
         let end = SystemTime::now(rt)?;
-        if !matches!(answer, Ok(Answer::Ticked(count)) if count == overdue) {
+        let is_ticked = match answer {
+            Ok(Answer::Ticked(count)) => count == overdue,
+            _ => false,
+        };
+        if !is_ticked {
             return Ok(None);
         }
         quickest = quickest.min(nanoseconds(start, end));
@@ -183,7 +190,11 @@ fn posts<S: Alter>(
         let start = SystemTime::now(rt)?;
         let answer = station.post(rt.alloc(), agreements, &head, body, moment);
         let end = SystemTime::now(rt)?;
-        if !matches!(answer, Ok(answer) if answer.status == 200) {
+        let is_taken = match answer {
+            Ok(answer) => answer.status == 200,
+            Err(_) => false,
+        };
+        if !is_taken {
             return Ok(None);
         }
         sum = sum.saturating_add(nanoseconds(start, end));
@@ -201,7 +212,11 @@ fn measure<S: Alter>(
     for (overdue, first) in TICKS {
         if size > overdue.saturating_mul(TURNS) {
             if let Some(time) = quickest_tick(rt, station, agreements, first, overdue)? {
-                writeln!(rt.stdout(), "{size} documents, a Tick of {overdue}: {} us", time / 1_000)?;
+                writeln!(
+                    rt.stdout(),
+                    "{size} documents, a Tick of {overdue}: {} us",
+                    time / 1_000
+                )?;
             }
         }
     }
@@ -212,7 +227,11 @@ fn measure<S: Alter>(
             quickest = quickest.min(time);
         }
     }
-    writeln!(rt.stdout(), "{size} documents, a post that settles one: {} us", quickest / 1_000)
+    writeln!(
+        rt.stdout(),
+        "{size} documents, a post that settles one: {} us",
+        quickest / 1_000
+    )
 }
 
 fn main(rt: HostRuntime) -> io::Result<()> {
@@ -236,7 +255,7 @@ fn main(rt: HostRuntime) -> io::Result<()> {
         return Ok(());
     };
     let mut conn = store.into_connection();
-    if fill(rt.alloc(), &mut conn, size).is_none() {
+    if fill(rt.alloc(), &mut conn, size).is_none() || !conn.is_autocommit() {
         return Ok(());
     }
     if let Ok(store) = Store::adopt(conn) {

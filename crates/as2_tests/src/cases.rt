@@ -141,7 +141,7 @@ fn check_list(alloc: Global, lines: &str, others: &str, choice: &Choice) -> Resu
     let text = format!(in alloc; "{lines}\n{others}")?;
     let text = chosen(alloc, text.as_str(), choice)?;
     let mut store = store(alloc, choice)?;
-    for part in text.split("under ") {
+    for part in text.split("\nunder ") {
         store = play(alloc, store, part, choice)?;
     }
     Ok(())

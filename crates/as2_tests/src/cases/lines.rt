@@ -3,7 +3,7 @@
 //! `post` and `reply` bring a body, which is a count of letters or `receipt`, and fields `NAME: VALUE`, which the plain post's
 //! then has in place of its own; a field without a value is left out. Each `OLD -> NEW` is a change in Buyer's receipt for the
 //! first document, with `~` for a line end, and `^` for one that is LF alone.
-use super::choices::{Choice, chosen};
+use super::choices::{Choice, chosen, renamed};
 use crate::documents::{RECEIPT, RECEIPT_TYPE};
 use crate::posts::{body, head};
 use as2_exchange::{Event, TryAnswer};
@@ -12,6 +12,9 @@ use as2_text::{AsName, Head, Moment};
 use std::alloc::{AllocError, Global};
 use std::str;
 use std::test::Fail;
+
+/// Fields of the plain post that depend on what is chosen, for an event that doesn't tell them.
+const FIELDS: &str = " | AS2-From: Buyer | AS2-To: Supplier | Message-ID: <m1@x>";
 
 /// What an event brings.
 #[derive(Drop)]
@@ -93,11 +96,8 @@ impl Arguments<'_> {
         let text = if self.is_receipt() {
             self.receipt(alloc, choice)?
         } else {
-            let count = match self.words.get(place) {
-                Some(count) => count.parse()?,
-                None => 0,
-            };
-            "a".repeat(alloc, count)?
+            let count = number(self.words.get(place).copied())?;
+            "a".repeat(alloc, count as usize)?
         };
         Ok(body(alloc, text.as_bytes())?)
     }
@@ -105,9 +105,12 @@ impl Arguments<'_> {
 
 /// The number that a word spells; one that isn't there is 0.
 fn number(word: Option<&str>) -> Result<u64, Fail> {
-    match word {
-        Some(word) => Ok(word.parse()?),
-        None => Ok(0),
+    let Some(word) = word else {
+        return Ok(0);
+    };
+    match word.parse() {
+        Ok(number) => Ok(number),
+        Err(_) => Err(Fail::new(format_args!("no number: {word}"))),
     }
 }
 
@@ -124,13 +127,15 @@ fn answer(
     Ok(TryAnswer::Reply {
         status: u16::try_from(status)?,
         head: arguments.head(alloc)?,
-        body: arguments.body(alloc, 0, choice)?,
+        body: arguments.body(alloc, 1, choice)?,
     })
 }
 
 /// The event that a line tells.
 pub fn event(alloc: Global, line: &str, choice: &Choice) -> Result<Event, Fail> {
-    let arguments = arguments_of(alloc, line)?;
+    let fields = renamed(alloc, FIELDS, choice)?;
+    let line = format!(in alloc; "{line}{fields}")?;
+    let arguments = arguments_of(alloc, line.as_str())?;
     let mut words = arguments.word(0)?.split_whitespace();
     let Some(moment) = Moment::new(number(words.next())?) else {
         return Err(Fail::new("no moment"));
