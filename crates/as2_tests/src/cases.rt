@@ -172,9 +172,9 @@ fn from_last(text: &str, choice: &Choice) -> Choice {
     Choice { first, ..*choice }
 }
 
-/// Plays all lists of all tables.
-fn check_all(alloc: Global, choice: &Choice) -> Result<(), Fail> {
-    for table in &TABLES {
+/// Plays all lists of the tables.
+fn check(alloc: Global, tables: &[&str], choice: &Choice) -> Result<(), Fail> {
+    for table in tables {
         for text in table.split("\n= ").skip(1) {
             check_lists(alloc, text, &from_last(text, choice))?;
         }
@@ -182,11 +182,16 @@ fn check_all(alloc: Global, choice: &Choice) -> Result<(), Fail> {
     Ok(())
 }
 
-static TABLES: [&str; 8] = [
+/// What is posted.
+static POSTED: [&str; 4] = [
     posts::REFUSED,
     posts::RECORDED,
     receipts::UNTAKEN,
     receipts::TAKEN,
+];
+
+/// What is tried, and what comes of it.
+static TRIED: [&str; 4] = [
     documents::TRIED,
     documents::ENDED,
     documents::TICKED,
@@ -196,36 +201,51 @@ static TABLES: [&str; 8] = [
 /// How many posts, and how many documents, a store holds before in half of the plays.
 const HELD: u64 = 300;
 
+/// The same over a store that holds other entries before.
+fn over_others(choice: Choice) -> Choice {
+    Choice {
+        held: HELD,
+        ..choice
+    }
+}
+
+/// Plays all lists of all tables, over new stores and over others.
+fn check_all(alloc: Global, choice: Choice) -> Result<(), Fail> {
+    for choice in [choice, over_others(choice)] {
+        check(alloc, &POSTED, &choice)?;
+        check(alloc, &TRIED, &choice)?;
+    }
+    Ok(())
+}
+
 #[test]
 fn each_way_of_answering(rt: HostRuntime) -> Result<(), Fail> {
-    check_all(rt.alloc(), &SHORT)?;
-    check_all(
-        rt.alloc(),
-        &Choice {
-            held: HELD,
-            ..SHORT
-        },
-    )
+    check_all(rt.alloc(), SHORT)
 }
 
 #[test]
 fn with_empty_contents(rt: HostRuntime) -> Result<(), Fail> {
-    check_all(rt.alloc(), &EMPTY)?;
-    check_all(
-        rt.alloc(),
-        &Choice {
-            held: HELD,
-            ..EMPTY
-        },
-    )
+    check_all(rt.alloc(), EMPTY)
+}
+
+// With the longest contents, names and identifiers; each takes some ten seconds.
+
+#[test]
+fn long_posts(rt: HostRuntime) -> Result<(), Fail> {
+    check(rt.alloc(), &POSTED, &LONG)
 }
 
 #[test]
-fn with_the_longest_contents_names_and_identifiers(rt: HostRuntime) -> Result<(), Fail> {
-    check_all(rt.alloc(), &LONG)
+fn long_posts_over_others(rt: HostRuntime) -> Result<(), Fail> {
+    check(rt.alloc(), &POSTED, &over_others(LONG))
 }
 
 #[test]
-fn with_the_longest_over_other_entries(rt: HostRuntime) -> Result<(), Fail> {
-    check_all(rt.alloc(), &Choice { held: HELD, ..LONG })
+fn long_tries(rt: HostRuntime) -> Result<(), Fail> {
+    check(rt.alloc(), &TRIED, &LONG)
+}
+
+#[test]
+fn long_tries_over_others(rt: HostRuntime) -> Result<(), Fail> {
+    check(rt.alloc(), &TRIED, &over_others(LONG))
 }
