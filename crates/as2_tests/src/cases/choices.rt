@@ -18,7 +18,7 @@ pub struct Choice {
     pub first: u64,
 }
 
-/// A short list's.
+/// Contents of three bytes, short names and identifiers.
 pub const SHORT: Choice = Choice {
     length: 3,
     sha1: "fiQN50+x7Qj6CNOAY/amqRRiqBU=",
@@ -28,6 +28,7 @@ pub const SHORT: Choice = Choice {
     first: 1,
 };
 
+/// Contents without a byte.
 pub const EMPTY: Choice = Choice {
     length: 0,
     sha1: "2jmj7l5rSw0yVb/vlWAYkK/YBwk=",
@@ -35,7 +36,7 @@ pub const EMPTY: Choice = Choice {
     ..SHORT
 };
 
-/// The most of everything.
+/// Contents, names and identifiers as long as they may be.
 pub const LONG: Choice = Choice {
     length: 1_048_576,
     sha1: "RUAn1k47hVc1VS1CIw7qHL1kX6A=",
