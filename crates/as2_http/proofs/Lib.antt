@@ -1,6 +1,5 @@
 pub mod Heads
 pub mod Reading
-pub mod Scanning
 pub mod Judging
 pub mod Framed
 pub mod Alone
