@@ -65,18 +65,18 @@ Grows more old new = (list_any is_empty_line new ≡ true) × ((cut_at_empty_lin
 joined_more : (text more : List ℕ) → concat (lines (text ++ more)) ≡ concat (lines text) ++ more
 joined_more text more = lines_joined (text ++ more) ∙ ap (λ (t : List ℕ). t ++ more) (sym (lines_joined text))
 
-alone : (b : ℕ) → eqb b 10 ≡ false → is_empty_line (b ∷ []) ≡ false
+pub alone : (b : ℕ) → eqb b 10 ≡ false → is_empty_line (b ∷ []) ≡ false
 alone b f = elim (cases_Bool (eqb b 13)) [ inl t ↦ rw (f, t) refl | inr g ↦ rw (f, g) refl ]
 
-longer : (b c : ℕ) (line : List ℕ) → eqb b 10 ≡ false → eqb c 10 ≡ false → is_empty_line (b ∷ c ∷ line) ≡ false
+pub longer : (b c : ℕ) (line : List ℕ) → eqb b 10 ≡ false → eqb c 10 ≡ false → is_empty_line (b ∷ c ∷ line) ≡ false
 longer b c line f u = elim (cases_Bool (eqb b 13)) [ inl t ↦ rw (f, t, u) refl | inr g ↦ rw (f, g) refl ]
 
-first_longer : (b c : ℕ) (ls : List (List ℕ)) → eqb b 10 ≡ false → eqb c 10 ≡ false
+pub first_longer : (b c : ℕ) (ls : List (List ℕ)) → eqb b 10 ≡ false → eqb c 10 ≡ false
     → (list_any is_empty_line (onto_first b (onto_first c ls)) ≡ list_any is_empty_line (drop 1 ls)) × ((cut_at_empty_line (onto_first b (onto_first c ls))).1 ≡ (cut_at_empty_line (drop 1 ls)).1)
 first_longer b c [] f u = rw (longer b c [] f u) (refl, refl)
 first_longer b c (line ∷ ls) f u = rw (longer b c line f u) (refl, refl)
 
-onto_behind : (b : ℕ) (ls : List (List ℕ)) → drop 1 (onto_first b ls) ≡ drop 1 ls
+pub onto_behind : (b : ℕ) (ls : List (List ℕ)) → drop 1 (onto_first b ls) ≡ drop 1 ls
 onto_behind b [] = refl
 onto_behind b (line ∷ ls) = refl
 

@@ -1,5 +1,7 @@
 pub mod Heads
 pub mod Reading
+pub mod Scanning
+pub mod Feeding
 pub mod Judging
 pub mod Framed
 pub mod Alone

@@ -1,4 +1,6 @@
 pub mod HeadText
+pub mod Scanning
+pub mod HeadPieces
 pub mod Inputs
 pub mod Stops
 pub mod Framing

@@ -3,11 +3,14 @@
 
 mod arrival;
 mod framing;
+mod head_bytes;
+mod head_feed;
 mod head_text;
 mod input;
 mod laws;
 mod reply;
 mod request;
+mod scan;
 
 pub use arrival::{Arrival, Request, read_first};
 pub use framing::{Method, Refused, RequestFault, Target};
