@@ -45,7 +45,7 @@ unblank_on kept text front blank behind k =
     ]
 
 -- a text within the limit is its own window
-short_window : (text : List ℕ) → length text ≤ head_limit → window text ≡ unblank text
+pub short_window : (text : List ℕ) → length text ≤ head_limit → window text ≡ unblank text
 short_window text le = ap unblank (take_all head_limit text le)
 
 -- the pieces' bytes were scanned, and no empty line ended

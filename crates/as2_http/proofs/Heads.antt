@@ -116,7 +116,7 @@ grows true (b ∷ c ∷ rest) more h =
     ]
 
 -- how long the text is up to there
-line_end : (text : List ℕ) (k : ℕ) → up_to_empty_line text ≡ Some k → (list_any is_empty_line (lines text) ≡ true) × (length text - length (part_in text).1 ≡ k)
+pub line_end : (text : List ℕ) (k : ℕ) → up_to_empty_line text ≡ Some k → (list_any is_empty_line (lines text) ≡ true) × (length text - length (part_in text).1 ≡ k)
 line_end text k h =
     elim (cases_Bool (list_any is_empty_line (lines text))) [
       | inl t ↦ let e : Some (length text - length (part_in text).1) ≡ Some k = rw t at h in (t, cc)

@@ -4,6 +4,7 @@ pub mod Scanning
 pub mod Feeding
 pub mod Judging
 pub mod Framed
+pub mod Parsing
 pub mod Alone
 pub mod Arriving
 pub mod Dated

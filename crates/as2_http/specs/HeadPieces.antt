@@ -1,5 +1,5 @@
 -- A head whose bytes come in pieces (RFC 9112, sections 2.1 and 2.2).
-use Rattle.std.specs.Prelude.{◌≡◌, ℕ, ◌+◌, ◌<◌, ◌≤◌, List, [], ◌++◌, length, drop, Option, None, Some}
+use Rattle.std.specs.Prelude.{◌≡◌, ℕ, ◌+◌, ◌<◌, ◌≤◌, List, [], ◌++◌, length, drop, Option, None, Some, ⊤}
 use Rattle.as2_http.specs.HeadText.{unblank, up_to_empty_line, head_limit, HasHeadText, HasNoHeadText}
 use Rattle.as2_http.specs.Scanning.{line_in}
 use Rattle.as2_http.specs.declared.scan.LineSoFar.TheVariants.{Nothing}
@@ -39,3 +39,9 @@ abbrev pub Takes : HeadBytes → List ℕ → List ℕ → HeadPiece → Type 0
 Takes h text bytes piece.Open = HoldsHead h (text ++ bytes)
 Takes h text bytes (piece.Whole n) = EndsHead h text bytes n
 Takes h text bytes piece.TooLong = HasNoHeadText (text ++ bytes) × (head_limit ≤ length (text ++ bytes))
+
+-- a head ends within so many bytes
+abbrev pub PieceWithin : ℕ → HeadPiece → Type 0
+PieceWithin size piece.Open = ⊤
+PieceWithin size (piece.Whole n) = n ≤ size
+PieceWithin size piece.TooLong = ⊤

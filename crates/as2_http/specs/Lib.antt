@@ -6,6 +6,7 @@ pub mod Stops
 pub mod Framing
 pub mod Requests
 pub mod Laws
+pub mod Parsing
 pub mod Reading
 pub mod Arrivals
 pub mod Replies

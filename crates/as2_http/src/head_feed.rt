@@ -1,7 +1,7 @@
 //! A head whose bytes come in pieces (RFC 9112, sections 2.1 and 2.2).
-ghost use Rattle.std.specs.Prelude.{◌≡◌, ◌+◌, ◌≤◌, List, ℕ, [], length, take, vec_len, IfOk};
+ghost use Rattle.std.specs.Prelude.{◌≡◌, ◌+◌, ◌≤◌, List, ℕ, [], length, take, vec_len, IfOk, IfSome};
 ghost use Rattle.as2_http.specs.HeadText.{head_limit};
-ghost use Rattle.as2_http.specs.HeadPieces.{Adds, HoldsHead, HoldsText, LeavesRest, Takes};
+ghost use Rattle.as2_http.specs.HeadPieces.{Adds, HoldsHead, HoldsText, LeavesRest, PieceWithin, Takes};
 
 use crate::head_bytes::{HeadBytes, HeadPiece};
 use crate::head_text::{HEAD_LIMIT, blank_length};
@@ -46,7 +46,8 @@ impl HeadBytes {
     /// Keeps bytes of which there is room for all, up to the end of the head; tells where that is.
     fn add(&mut self, front: &[u8]) -> Result<Option<usize>, AllocError>
         requires room { self.old.skipped + vec_len self.old.text + length front.now ≤ head_limit }
-        ensures { IfOk result (λ end. (text : List ℕ) → HoldsText self.old text → Adds self.new text front.now end) }
+        ensures within { IfOk result (λ end. IfSome end (λ n. n ≤ length front.now)) }
+        ensures added { IfOk result (λ end. (text : List ℕ) → HoldsText self.old text → Adds self.new text front.now end) }
     {
         let blank = self.blank_in(front);
         let rest = &front[blank..];
@@ -65,9 +66,19 @@ impl HeadBytes {
         }
     }
 
+    /// Forgets all bytes, and keeps the room for the next.
+    pub fn clear(&mut self)
+        ensures { HoldsHead self.new [] }
+    {
+        self.text.clear();
+        self.skipped = 0;
+        self.line = LineSoFar::Nothing;
+    }
+
     /// Takes a piece, each byte looked at once. What comes behind the end of the head isn't kept.
     pub fn feed(&mut self, bytes: &[u8]) -> Result<HeadPiece, AllocError>
-        ensures { IfOk result (λ piece. (text : List ℕ) → HoldsHead self.old text → Takes self.new text bytes.now piece) }
+        ensures within { IfOk result (PieceWithin (length bytes.now)) }
+        ensures fed { IfOk result (λ piece. (text : List ℕ) → HoldsHead self.old text → Takes self.new text bytes.now piece) }
     {
         let room = HEAD_LIMIT - self.skipped - self.text.len();
         match self.add(first(bytes, room))? {

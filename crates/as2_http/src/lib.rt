@@ -8,6 +8,7 @@ mod head_feed;
 mod head_text;
 mod input;
 mod laws;
+mod parser;
 mod reply;
 mod request;
 mod scan;
@@ -15,6 +16,7 @@ mod scan;
 pub use arrival::{Arrival, Request, read_first};
 pub use framing::{Method, Refused, RequestFault, Target};
 pub use laws::{one_arrival, one_refusal, one_reply_text, one_request};
+pub use parser::{Parsed, RequestParser};
 pub use reply::{Form, refusal, write_reply};
 
 #[cfg(test)]

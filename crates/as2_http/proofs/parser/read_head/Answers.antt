@@ -1,0 +1,11 @@
+use Rattle.std.proofs.Common.{refl, rules}
+use Rattle.as2_http.specs.Requests.{no_head}
+use Rattle.as2_http.proofs.Parsing.{judged_refused}
+use Rattle.as2_http.proofs.parser.read_head.Goals as goal
+
+pub returns-in-Err-BadHead-clause-refused : goal.returns-in-Err-BadHead-clause-refused
+returns-in-Err-BadHead-clause-refused c = λ text after found. no_head c.args.head.now after found (c.judge.ensures.none (search rules)) refl
+
+pub returns-in-Err-clause-refused : goal.returns-in-Err-clause-refused
+returns-in-Err-clause-refused c = λ text after found.
+    judged_refused text c.args.head.now after c.in-Ok.judged c.in-Err.reason c.is_head.result found c.in-Ok.ensures.found c.in-Err.is c.is_head.ensures
