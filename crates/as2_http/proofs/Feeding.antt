@@ -1,5 +1,5 @@
 -- A head that comes in pieces is the head of the whole text.
-use Rattle.std.proofs.Common.{◌≡◌, ◌+◌, ◌-◌, ◌<◌, ◌≤◌, ℕ, Bool, List, [], ◌∷◌, ◌++◌, length, take, drop, Option, Some, None, refl, sym, ap, ◌∙◌, subst, append_assoc, append-nil, length-append, arith, inl, inr, ◌⊎◌}
+use Rattle.std.proofs.Common.{◌≡◌, ◌+◌, ◌-◌, ◌<◌, ◌≤◌, ℕ, List, [], ◌∷◌, ◌++◌, length, take, drop, Some, refl, sym, ap, ◌∙◌, subst, append_assoc, length-append, arith, inl, inr, ◌⊎◌}
 use Rattle.std.proofs.lemmas.Bool.{cases_Bool}
 use Rattle.std.proofs.lemmas.List.{take_all, take-append-drop, take-append-le, length-take-le, length-drop, drop-append-le, drop-drop}
 use Rattle.as2_media.specs.Bytes.{is_line_byte}
@@ -9,7 +9,6 @@ use Rattle.as2_http.specs.Scanning.{line_in, scanned}
 use Rattle.as2_http.specs.declared.head_bytes.HeadBytes.{HeadBytes}
 use Rattle.as2_http.specs.declared.scan.LineSoFar.{LineSoFar}
 use Rattle.as2_http.specs.declared.scan.LineSoFar.TheVariants.{Nothing}
-use Rattle.as2_http.specs.declared.scan.Scanned.{Scanned}
 use Rattle.as2_http.specs.declared.scan.Scanned.TheVariants.{Ended, Open}
 use Rattle.as2_http.proofs.Heads.{unblank_append, line_stays, head_append}
 use Rattle.as2_http.proofs.Scanning.{Runs, runs}

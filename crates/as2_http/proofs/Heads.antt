@@ -1,11 +1,10 @@
 -- A head that is found stays found when more bytes come.
-use Rattle.std.proofs.Common.{◌≡◌, ◌+◌, ◌-◌, ◌<◌, ◌≤◌, ℕ, suc, zero, Bool, true, false, eqb, List, [], ◌∷◌, ◌++◌, length, take, drop, slice_range, Option, Some, None, refl, sym, ap, ◌∙◌, append_assoc, length-append, arith, inl, inr}
+use Rattle.std.proofs.Common.{◌≡◌, ◌+◌, ◌-◌, ◌<◌, ℕ, suc, zero, Bool, true, false, eqb, List, [], ◌∷◌, ◌++◌, length, take, drop, Some, None, refl, sym, ap, ◌∙◌, append_assoc, length-append, arith, inl, inr}
 use Rattle.std.specs.List.{list_any, concat, onto_first}
-use Rattle.std.proofs.lemmas.Bool.{cases_Bool, or_parts, eqb-true}
-use Rattle.std.proofs.lemmas.List.{take_all, take-append-drop, length-take, length-drop, drop-append-le}
+use Rattle.std.proofs.lemmas.Bool.{cases_Bool, eqb-true}
+use Rattle.std.proofs.lemmas.List.{take_all, take-append-drop}
 use Rattle.as2_media.specs.Bytes.{is_line_byte}
-use Rattle.as2_http.specs.HeadText.{unblank, up_to_empty_line, window, HasHeadText, HasNoHeadText, HeadLies}
-use Rattle.httparse.proofs.RunLemmas.{drop_split, length-slice_range}
+use Rattle.as2_http.specs.HeadText.{unblank, up_to_empty_line, window, HasHeadText}
 use Rattle.as2_parts.specs.Lines.{lines, is_empty_line}
 use Rattle.as2_parts.specs.Parts.{cut_at_empty_line, part_in}
 use Rattle.as2_parts.proofs.Cutting.{lines_joined}
@@ -26,10 +25,6 @@ unblank_append (a ∷ text) more b rest h =
 
 -- ---- the first empty line
 
-cut_none : (ls : List (List ℕ)) → list_any is_empty_line ls ≡ false → (cut_at_empty_line ls).0 ≡ concat ls
-cut_none [] h = refl
-cut_none (line ∷ rest) h = let p = or_parts (is_empty_line line) (list_any is_empty_line rest) h in rw p.0 (ap (λ (t : List ℕ). line ++ t) (cut_none rest p.1))
-
 cut_some : (ls : List (List ℕ)) → list_any is_empty_line ls ≡ true → length (cut_at_empty_line ls).0 + length (cut_at_empty_line ls).1 < length (concat ls)
 cut_some [] h = absurd cc
 cut_some ([] ∷ rest) h = cut_some rest h
@@ -42,21 +37,6 @@ cut_some ((b ∷ line) ∷ rest) h =
 -- where there is one, it isn't all of the text that stands before it
 pub cut_of : (text : List ℕ) → list_any is_empty_line (lines text) ≡ true → length (part_in text).0 + length (part_in text).1 < length text
 cut_of text t = omega (arith, cut_some (lines text) t, ap length (lines_joined text))
-
-pub no_head : (text : List ℕ) (part : List ℕ × List ℕ) → part ≡ part_in text → length part.0 ≡ length text → None ≡ up_to_empty_line text
-no_head text part e h =
-    elim (cases_Bool (list_any is_empty_line (lines text))) [
-      | inl t ↦ absurd (omega (arith, cut_of text t, ap (λ (p : List ℕ × List ℕ). length p.0) e, h))
-      | inr f ↦ rw f refl
-    ]
-
-pub one_head : (text : List ℕ) (part : List ℕ × List ℕ) → part ≡ part_in text → (length part.0 ≡ length text → ⊥) → (length part.1 ≤ length text) × (Some (length text - length part.1) ≡ up_to_empty_line text)
-one_head text part e h =
-    let content = ap (λ (p : List ℕ × List ℕ). length p.1) e in
-    elim (cases_Bool (list_any is_empty_line (lines text))) [
-      | inl t ↦ (omega (arith, cut_of text t, content), rw (t, content) refl)
-      | inr f ↦ absurd (h (ap (λ (p : List ℕ × List ℕ). length p.0) e ∙ ap length (cut_none (lines text) f ∙ lines_joined text)))
-    ]
 
 -- an empty line that is found stays, and more comes behind what stands behind it
 abbrev Grows : List ℕ → List (List ℕ) → List (List ℕ) → Type 0
@@ -155,35 +135,3 @@ head_append text more head after h =
       window_append text more (length head) h.0,
       unblank_append text more f.0 (f.1 ++ drop 16384 text) e ∙ ap (λ (t : List ℕ). t ++ more) h.1 ∙ append_assoc head after more,
     )
-
-pub length-slice : (text : List ℕ) (head n : ℕ) → head + n ≤ length text → length (slice_range text head (head + n)) ≡ n
-length-slice text head n le = omega (arith, length-slice_range text head (head + n) (omega arith) le)
-
-pub lies : (text : List ℕ) (head n : ℕ) → drop head (take 16384 text) ≡ window text → head ≤ length (take 16384 text) → up_to_empty_line (window text) ≡ Some n → n ≤ length (window text) → HeadLies text head (head + n)
-lies text head n d le h fits =
-    let l = line_end (window text) n h in
-    let total : length (window text) ≡ length (take 16384 text) - head = ap length (sym d) ∙ length-drop head (take 16384 text) in
-    let most : length (take 16384 text) ≤ length text = omega (arith, length-take 16384 text) in
-    let e : unblank text ≡ drop head text =
-    unblank_window text n h ∙ ap (λ (t : List ℕ). t ++ drop 16384 text) (sym d)
-    ∙ sym (drop-append-le head (take 16384 text) (drop 16384 text) le) ∙ ap (drop head) (take-append-drop 16384 text) in
-    record {
-      some = omega (arith, l.1, cut_of (window text) l.0);
-      within = omega (arith, total, most, fits, le);
-      found = (h ∙ ap (λ (m : ℕ). Some m) (sym (length-slice text head n (omega (arith, total, most, fits, le)))), e ∙ drop_split text head (head + n) (omega arith));
-    }
-
--- the part of the front behind its CR and LF
-pub head_front : (text front : List ℕ) (head : ℕ) → front ≡ take 16384 text → drop head front ≡ unblank front → take (length front - head) (drop head front) ≡ window text
-head_front text front head f d =
-    take_all (length front - head) (drop head front) (omega (arith, length-drop head front)) ∙ d ∙ ap unblank f
-
-pub lies_in : (text front : List ℕ) (head n : ℕ) (r : Option ℕ) → front ≡ take 16384 text → drop head front ≡ unblank front → head ≤ length front
-    → r ≡ up_to_empty_line (take (length front - head) (drop head front)) → r ≡ Some n → n ≤ length (take (length front - head) (drop head front)) → HeadLies text head (head + n)
-lies_in text front head n r f d le u s fits =
-    let b = head_front text front head f d in
-    lies text head n (ap (drop head) (sym f) ∙ d ∙ ap unblank f) (omega (arith, ap length f, le)) (sym (ap up_to_empty_line b) ∙ sym u ∙ s) (omega (arith, fits, ap length b))
-
-pub lies_nowhere : (text front : List ℕ) (head : ℕ) (r : Option ℕ) → front ≡ take 16384 text → drop head front ≡ unblank front
-    → r ≡ up_to_empty_line (take (length front - head) (drop head front)) → r ≡ None → HasNoHeadText text
-lies_nowhere text front head r f d u s = sym (ap up_to_empty_line (head_front text front head f d)) ∙ sym u ∙ s

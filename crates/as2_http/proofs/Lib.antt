@@ -1,5 +1,4 @@
 pub mod Heads
-pub mod Reading
 pub mod Scanning
 pub mod Feeding
 pub mod Judging

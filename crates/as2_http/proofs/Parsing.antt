@@ -1,9 +1,9 @@
 -- The request of a text that comes in pieces is the one that the whole text begins with.
-use Rattle.std.proofs.Common.{◌≡◌, ◌+◌, ◌<◌, ◌≤◌, ℕ, Bool, true, false, List, [], ◌∷◌, ◌++◌, length, take, drop, Option, Some, None, Result, Ok, Err, refl, sym, ap, ◌∙◌, subst, append_assoc, append-nil, length-append, arith}
+use Rattle.std.proofs.Common.{◌≡◌, ◌+◌, ◌<◌, ◌≤◌, ℕ, Bool, true, false, List, [], ◌∷◌, ◌++◌, length, drop, Option, Some, None, Result, Ok, Err, sym, ap, ◌∙◌, subst, append-nil, arith}
 use Rattle.std.specs.Prelude.{is_none, IfOk, IfErr}
 use Rattle.std.proofs.lemmas.List.{length-drop, drop_all, drop-drop}
 use Rattle.as2_http.specs.HeadText.{unblank, up_to_empty_line, window, HasHeadText}
-use Rattle.as2_http.specs.HeadPieces.{HoldsHead, EndsHead}
+use Rattle.as2_http.specs.HeadPieces.{HoldsHead}
 use Rattle.as2_http.specs.Parsing.{Awaits, RefusesHead, TakesBody, HoldsBy, Holds, Framed, EndsRequest, TellsBlank}
 use Rattle.as2_http.specs.Reading.{Judges}
 use Rattle.as2_http.specs.Requests.{Frames, Begins, IsRefused, framing, IsOpen, in_head, in_body, body_length, is_head}
@@ -95,6 +95,14 @@ awaits_on old new text rest used w t some =
 
 -- ---- between pieces
 
+open_by : (head : HeadBytes) (o : Option Awaited) (text : List ℕ) → HoldsBy head o text → IsOpen text
+open_by head None text h = head_open head text h
+open_by head (Some a) text h = awaits_open a text h.2 h.1
+
+-- a request isn't whole yet
+pub holds_open : (p : RequestParser) (text : List ℕ) → Holds p text → IsOpen text
+holds_open p text h = open_by p.head p.awaited text h
+
 pub held_head : (p : RequestParser) (text : List ℕ) → p.awaited ≡ None → Holds p text → HoldsHead p.head text
 held_head p text none h = subst (λ (o : Option Awaited). HoldsBy p.head o text) none h
 
@@ -119,3 +127,6 @@ has_head_bytes text (b ∷ bytes) after h none = let e : b ∷ (bytes ++ after) 
 pub tells_not_blank : (head : HeadBytes) (o : Option Awaited) (text : List ℕ) (b : Bool) → b ≡ is_none o → b ≡ false → HoldsBy head o text → TellsBlank text b
 tells_not_blank head None text b is off h = let e : true ≡ false = sym is ∙ off in absurd cc
 tells_not_blank head (Some a) text b is off h = rw off (has_head_bytes text h.2.frames.bytes h.2.after h.2.frames.found)
+
+pub told_blank : (text : List ℕ) (b c : Bool) → b ≡ c → TellsBlank text b → TellsBlank text c
+told_blank text b c e t = subst (TellsBlank text) e t

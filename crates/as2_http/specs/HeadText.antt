@@ -1,5 +1,5 @@
 -- Where the head of a message lies in a text (RFC 9112, section 2.1): behind CR and LF bytes, up to its first empty line.
-use Rattle.std.specs.Prelude.{◌≡◌, ℕ, ◌-◌, ◌<◌, ◌≤◌, Bool, ◌||◌, List, [], ◌∷◌, ◌++◌, length, take, drop, slice_range, if◌then◌else◌, ◌==◌, Option, Some, None}
+use Rattle.std.specs.Prelude.{◌≡◌, ℕ, ◌-◌, List, [], ◌∷◌, ◌++◌, length, take, if◌then◌else◌, Option, Some, None}
 use Rattle.std.specs.List.{list_any}
 use Rattle.as2_media.specs.Bytes.{is_line_byte}
 use Rattle.as2_parts.specs.Lines.{lines, is_empty_line}
@@ -29,11 +29,3 @@ HasHeadText text head after = (up_to_empty_line (window text) ≡ Some (length h
 -- no head ends in the first 16,384 bytes
 abbrev pub HasNoHeadText : List ℕ → Type 0
 HasNoHeadText text = up_to_empty_line (window text) ≡ None
-
--- ---- where the code finds it
-
--- the head's bytes are those from here to there
-pub record HeadLies (text : List ℕ) (start end : ℕ) : Type 0 where
-  pub some : start < end
-  pub within : end ≤ length text
-  pub found : HasHeadText text (slice_range text start end) (drop end text)

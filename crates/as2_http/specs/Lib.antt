@@ -1,12 +1,11 @@
 pub mod HeadText
 pub mod Scanning
 pub mod HeadPieces
-pub mod Inputs
-pub mod Stops
 pub mod Framing
 pub mod Requests
 pub mod Laws
 pub mod Parsing
+pub mod Inputs
 pub mod Reading
 pub mod Arrivals
 pub mod Replies

@@ -1,5 +1,5 @@
 -- What is kept of a text whose request isn't whole yet, and what a piece more tells (RFC 9112, section 2.1).
-use Rattle.std.specs.Prelude.{◌≡◌, ℕ, ◌+◌, ◌<◌, ◌≤◌, Bool, true, false, List, [], ◌++◌, length, take, drop, Option, Some, None, Ok, ⊤}
+use Rattle.std.specs.Prelude.{◌≡◌, ℕ, ◌+◌, ◌<◌, ◌≤◌, Bool, true, false, List, [], ◌++◌, length, drop, Option, Some, None, Ok, ⊤}
 use Rattle.httparse.specs.Grammar.{RequestHead}
 use Rattle.as2_http.specs.HeadText.{unblank, HasHeadText}
 use Rattle.as2_http.specs.HeadPieces.{HoldsHead}

@@ -1,16 +1,21 @@
 //! The first request of a stream, as it comes.
-ghost use Rattle.std.specs.Prelude.{◌≡◌, ◌≢◌, List, ℕ, Some, IsTrue, false, IfOk};
+ghost use Rattle.std.specs.Prelude.{◌≡◌, ◌≤◌, ◌<◌, List, ℕ, Some, IsTrue, false, vec_len, take, IfOk, IfSome};
+ghost use Rattle.std.specs.Io.KnownBytes.{Consumes, IsAtEnd};
 ghost use Rattle.as2_http.specs.Arrivals.{Arrives, LeavesUnread, is_decided};
-ghost use Rattle.as2_http.specs.Requests.{IsOpen, is_head};
+ghost use Rattle.as2_http.specs.Parsing.{Holds};
 
-use crate::framing::{Method, Refused, RequestFault, Target};
-use crate::head_text::blank_length;
-use crate::input::{Input, NoHead, Stop};
-use crate::request::{NotJudged, judge};
+use crate::framing::{Method, Refused, Target};
+use crate::parser::{Parsed, RequestParser};
 use as2_mic::Pieces;
-use as2_text::{Head, Memory};
+use as2_text::Head;
 use std::alloc::Global;
 use std::io::Read;
+
+/// The most reads that are made of one stream.
+const READS: u32 = 100_000;
+
+/// The most bytes that one read asks for.
+const READ_LIMIT: usize = 65_536;
 
 /// A request, as far as its answer depends on it (RFC 9112, section 3).
 #[derive(Drop)]
@@ -46,43 +51,29 @@ pub enum Arrival {
     TooLong,
 }
 
-const BAD_HEAD: Arrival = Arrival::Refused(Refused {
-    reason: RequestFault::BadHead,
-    to_head: false,
-});
-
-/// What it is that reading stopped there.
-fn stopped(stop: Stop, text: &[u8]) -> Arrival
-    ensures ended { stop ≡ Stop.Ended → IsOpen text.now → Arrives text.now result }
-    ensures fault { stop ≢ Stop.Ended → (input : List ℕ) → Arrives input result }
-    ensures undecided { is_decided result ≡ false }
+/// Makes one read, and tells how many bytes it gave, unless it failed.
+fn pull<R: Read>(reader: &mut R, buffer: &mut Vec<u8>) -> Option<usize>
+    ensures given { IfSome result (λ n. Consumes (R.remaining reader.old) (R.remaining reader.new) (take n buffer.new.items)) }
+    ensures within { IfSome result (λ n. n ≤ vec_len buffer.new) }
+    ensures room { vec_len buffer.new ≡ vec_len buffer.old }
+    ensures ended { result ≡ Some 0 → 0 < vec_len buffer.old → IsAtEnd (R.remaining reader.new) }
 {
-    match stop {
-        Stop::Ended if blank_length(text) == text.len() => Arrival::Closed,
-        Stop::Ended => Arrival::Truncated,
-        Stop::ReadFault => Arrival::ReadFault,
-        Stop::Memory => Arrival::Memory,
-        Stop::TooLong => Arrival::TooLong,
+    match reader.read(buffer) {
+        Ok(count) => Some(count),
+        Err(_) => None,
     }
 }
 
-/// A refused head, by the reason and its method.
-fn refused(reason: RequestFault, method: Method) -> Arrival
-    ensures { result ≡ Arrival.Refused (record { reason = reason; to_head = is_head method }) }
+/// What a stream is that ends within its first request.
+fn ended(parser: &RequestParser) -> Arrival
+    ensures ended { (text : List ℕ) → Holds parser.now text → Arrives text result }
+    ensures undecided { is_decided result ≡ false }
 {
-    Arrival::Refused(Refused {
-        reason,
-        to_head: method.is_head(),
-    })
-}
-
-/// A body, as it is kept.
-fn kept(alloc: Global, bytes: &[u8]) -> Result<Pieces, Memory>
-    ensures { IfOk result (λ body. body ≡ bytes.now) }
-{
-    let mut body = Pieces::new(alloc);
-    body.append(bytes)?;
-    Ok(body)
+    if parser.is_blank() {
+        Arrival::Closed
+    } else {
+        Arrival::Truncated
+    }
 }
 
 /// Reads the first request of a stream, and no more than the reads that it takes.
@@ -93,35 +84,24 @@ pub fn read_first<R: Read>(alloc: Global, reader: &mut R) -> Arrival
     ensures unread { (input : List ℕ) → R.remaining reader.old ≡ Some input
         → IsTrue (is_decided result) → LeavesUnread input (R.remaining reader.new) }
 {
-    let Ok(mut input) = Input::new(alloc) else {
+    let mut buffer = Vec::new(alloc);
+    if buffer.resize(READ_LIMIT, 0).is_err() {
         return Arrival::Memory;
-    };
-    let place = match input.to_head(reader) {
-        Ok(place) => place,
-        Err(NoHead::TooLarge) => return BAD_HEAD,
-        Err(NoHead::Stopped(stop)) => return stopped(stop, &input.text),
-    };
-    let judged = match judge(alloc, &input.text[place.start..place.end]) {
-        Ok(judged) => judged,
-        Err(NotJudged::BadHead) => return BAD_HEAD,
-        Err(NotJudged::Memory) => return Arrival::Memory,
-    };
-    let length = match judged.length {
-        Ok(length) => length,
-        Err(reason) => return refused(reason, judged.method),
-    };
-    let end = place.end + length;
-    if let Err(stop) = input.to_length(reader, end) {
-        return stopped(stop, &input.text);
     }
-    let Ok(body) = kept(alloc, &input.text[place.end..end]) else {
-        return Arrival::Memory;
-    };
-    Arrival::Request(Request {
-        method: judged.method,
-        target: judged.target,
-        fields: judged.fields,
-        body,
-        last: judged.last,
-    })
+    let mut parser = RequestParser::new(alloc);
+    for _ in 0..READS {
+        let Some(count) = pull(reader, &mut buffer) else {
+            return Arrival::ReadFault;
+        };
+        if count == 0 {
+            return ended(&parser);
+        }
+        match parser.feed(&buffer[..count]) {
+            Ok(Parsed::Open) => {}
+            Ok(Parsed::Request(request, _)) => return Arrival::Request(request),
+            Ok(Parsed::Refused(refused)) => return Arrival::Refused(refused),
+            Err(_) => return Arrival::Memory,
+        }
+    }
+    Arrival::TooLong
 }

@@ -6,7 +6,6 @@ mod framing;
 mod head_bytes;
 mod head_feed;
 mod head_text;
-mod input;
 mod laws;
 mod parser;
 mod reply;

@@ -1,6 +1,7 @@
 // Expected values are those of the project's profile of HTTP, and of RFC 9112.
 mod arrivals;
 mod limits;
+mod pieces;
 mod readers;
 mod refusals;
 mod replies;

@@ -1,4 +1,4 @@
-use Rattle.std.proofs.Common.{ℕ, List, ◌++◌, Option, None, rules, subst, sym, ◌∙◌}
+use Rattle.std.proofs.Common.{ℕ, List, ◌++◌, Option, rules, subst, sym, ◌∙◌}
 use Rattle.as2_http.specs.HeadPieces.{HoldsHead, Takes}
 use Rattle.as2_http.specs.Parsing.{HoldsBy, Framed, Holds, Tells}
 use Rattle.as2_http.specs.declared.head_bytes.HeadPiece.{HeadPiece}

@@ -1,4 +1,4 @@
-use Rattle.std.proofs.Common.{◌++◌, drop, refl, rules}
+use Rattle.std.proofs.Common.{◌++◌, drop, rules}
 use Rattle.as2_http.proofs.Parsing.{head_refused}
 use Rattle.as2_http.proofs.parser.RequestParser.take_head.Goals as goal
 
