@@ -4,7 +4,7 @@ use Rattle.std.specs.Io.KnownBytes.{Consumes, IsAtEnd}
 use Rattle.std.proofs.KnownBytes.{Consumes-trans}
 use Rattle.as2_http.specs.Arrivals.{LeavesUnread}
 use Rattle.as2_http.specs.Inputs.{WasRead, read_limit}
-use Rattle.as2_http.specs.Parsing.{Holds, EndsRequest}
+use Rattle.as2_http.specs.Parsing.{HasTaken, EndsRequest}
 use Rattle.as2_http.specs.Requests.{Begins, IsRefused}
 use Rattle.as2_http.specs.declared.arrival.Request.{Request}
 use Rattle.as2_http.specs.declared.framing.Refused.{Refused}
@@ -28,12 +28,12 @@ came : (before mid after : Option (List ℕ)) (p : RequestParser) (piece input :
 came before mid after p piece input r c known = split before after (r.text ++ piece) input (Consumes-trans before mid after r.text piece r.consumed c) known
 
 -- the input ended
-pub came_all : (before mid after : Option (List ℕ)) (p : RequestParser) (input : List ℕ) (r : WasRead p before mid) → Consumes mid after [] → IsAtEnd after → before ≡ Some input → Holds p input
+pub came_all : (before mid after : Option (List ℕ)) (p : RequestParser) (input : List ℕ) (r : WasRead p before mid) → Consumes mid after [] → IsAtEnd after → before ≡ Some input → HasTaken p input
 came_all before mid after p input r c done known =
     let m = came before mid after p [] input r c known in
     let none : m.left ≡ [] = (let at : IsAtEnd (Some m.left) = subst IsAtEnd m.kept done in at) in
     let same : r.text ≡ input = sym (m.whole ∙ ap (λ (t : List ℕ). (r.text ++ []) ++ t) none ∙ append-nil (r.text ++ []) ∙ append-nil r.text) in
-    subst (Holds p) same r.holds
+    subst (HasTaken p) same r.holds
 
 pub request_arrives : (before mid after : Option (List ℕ)) (p q : RequestParser) (piece input : List ℕ) (request : Request) (n : ℕ) (r : WasRead p before mid) → Consumes mid after piece
     → EndsRequest q r.text piece request n → before ≡ Some input → (rest : List ℕ) × Begins input request rest
@@ -61,7 +61,7 @@ leaves_unread before mid after p piece input r c most known =
     }
 
 -- .. and with it too
-pub reads_on : (before mid after : Option (List ℕ)) (p q : RequestParser) (piece : List ℕ) (r : WasRead p before mid) → Consumes mid after piece → Holds q (r.text ++ piece) → WasRead q before after
+pub reads_on : (before mid after : Option (List ℕ)) (p q : RequestParser) (piece : List ℕ) (r : WasRead p before mid) → Consumes mid after piece → HasTaken q (r.text ++ piece) → WasRead q before after
 reads_on before mid after p q piece r c h = record {
   text = r.text ++ piece;
   consumed = Consumes-trans before mid after r.text piece r.consumed c;

@@ -4,7 +4,7 @@ use Rattle.std.specs.Prelude.{is_none, IfOk, IfErr}
 use Rattle.std.proofs.lemmas.List.{length-drop, drop_all, drop-drop}
 use Rattle.as2_http.specs.HeadText.{unblank, up_to_empty_line, window, HasHeadText}
 use Rattle.as2_http.specs.HeadPieces.{HoldsHead}
-use Rattle.as2_http.specs.Parsing.{Awaits, RefusesHead, TakesBody, HoldsBy, Holds, Framed, EndsRequest, TellsBlank}
+use Rattle.as2_http.specs.Parsing.{Awaits, RefusesHead, TakesBody, HasTakenBy, HasTaken, Framed, EndsRequest, TellsBlank}
 use Rattle.as2_http.specs.Reading.{Judges}
 use Rattle.as2_http.specs.Requests.{Frames, Begins, IsRefused, framing, IsOpen, in_head, in_body, body_length, is_head}
 use Rattle.as2_http.specs.declared.framing.Method.{Method}
@@ -86,7 +86,7 @@ ends_request p old new text bytes from used none le f t whole = record {
   within = omega (arith, t.within, length-drop from bytes, le);
   begins = awaits_begins new (text ++ bytes) (drop (from + used) bytes)
       (subst (λ (rest : List ℕ). Awaits new (text ++ bytes) rest) (drop-drop used from bytes) (t.awaits (text ++ bytes) f.awaits)) whole;
-  empty = subst (λ (a : Option Awaited). HoldsBy p.head a []) (sym none) f.empty;
+  empty = subst (λ (a : Option Awaited). HasTakenBy p.head a []) (sym none) f.empty;
 }
 
 pub awaits_on : (old new : Awaited) (text rest : List ℕ) (used : ℕ) → Awaits old text rest → TakesBody old new rest used → 0 < new.missing → Awaits new text []
@@ -95,24 +95,24 @@ awaits_on old new text rest used w t some =
 
 -- ---- between pieces
 
-open_by : (head : HeadBytes) (o : Option Awaited) (text : List ℕ) → HoldsBy head o text → IsOpen text
+open_by : (head : HeadBytes) (o : Option Awaited) (text : List ℕ) → HasTakenBy head o text → IsOpen text
 open_by head None text h = head_open head text h
 open_by head (Some a) text h = awaits_open a text h.2 h.1
 
 -- a request isn't whole yet
-pub holds_open : (p : RequestParser) (text : List ℕ) → Holds p text → IsOpen text
+pub holds_open : (p : RequestParser) (text : List ℕ) → HasTaken p text → IsOpen text
 holds_open p text h = open_by p.head p.awaited text h
 
-pub held_head : (p : RequestParser) (text : List ℕ) → p.awaited ≡ None → Holds p text → HoldsHead p.head text
-held_head p text none h = subst (λ (o : Option Awaited). HoldsBy p.head o text) none h
+pub held_head : (p : RequestParser) (text : List ℕ) → p.awaited ≡ None → HasTaken p text → HoldsHead p.head text
+held_head p text none h = subst (λ (o : Option Awaited). HasTakenBy p.head o text) none h
 
 pub when_ok : {A E : Type 0} (P Q : A → Type 0) (r : Result A E) → ((a : A) → P a → Q a) → IfOk r P → IfOk r Q
 when_ok P Q (Ok a) f p = f a p
 when_ok P Q (Err e) f p = tt
 
-pub framed_again : (p : RequestParser) (a : Awaited) (text bytes : List ℕ) → p.awaited ≡ Some a → Holds p text → Framed p.head a text bytes 0
+pub framed_again : (p : RequestParser) (a : Awaited) (text bytes : List ℕ) → p.awaited ≡ Some a → HasTaken p text → Framed p.head a text bytes 0
 framed_again p a text bytes is h =
-    let k : HoldsBy p.head (Some a) text = subst (λ (o : Option Awaited). HoldsBy p.head o text) is h in
+    let k : HasTakenBy p.head (Some a) text = subst (λ (o : Option Awaited). HasTakenBy p.head o text) is h in
     record { empty = k.0; some = omega (arith, k.1); awaits = awaits_more a text bytes k.2 }
 
 -- no head is empty
@@ -124,7 +124,7 @@ has_head_bytes : (text bytes after : List ℕ) → HasHeadText text bytes after 
 has_head_bytes text [] after h none = nothing_ends text h.0
 has_head_bytes text (b ∷ bytes) after h none = let e : b ∷ (bytes ++ after) ≡ [] = sym h.1 ∙ none in absurd cc
 
-pub tells_not_blank : (head : HeadBytes) (o : Option Awaited) (text : List ℕ) (b : Bool) → b ≡ is_none o → b ≡ false → HoldsBy head o text → TellsBlank text b
+pub tells_not_blank : (head : HeadBytes) (o : Option Awaited) (text : List ℕ) (b : Bool) → b ≡ is_none o → b ≡ false → HasTakenBy head o text → TellsBlank text b
 tells_not_blank head None text b is off h = let e : true ≡ false = sym is ∙ off in absurd cc
 tells_not_blank head (Some a) text b is off h = rw off (has_head_bytes text h.2.frames.bytes h.2.after h.2.frames.found)
 

@@ -35,10 +35,10 @@ Adds h text front None = HoldsText h (text ++ front)
 Adds h text front (Some n) = EndsHead h text front n
 
 -- what a piece does to a head
-abbrev pub Takes : HeadBytes → List ℕ → List ℕ → HeadPiece → Type 0
-Takes h text bytes piece.Open = HoldsHead h (text ++ bytes)
-Takes h text bytes (piece.Whole n) = EndsHead h text bytes n
-Takes h text bytes piece.TooLong = HasNoHeadText (text ++ bytes) × (head_limit ≤ length (text ++ bytes))
+abbrev pub FeedsHead : HeadBytes → List ℕ → List ℕ → HeadPiece → Type 0
+FeedsHead h text bytes piece.Open = HoldsHead h (text ++ bytes)
+FeedsHead h text bytes (piece.Whole n) = EndsHead h text bytes n
+FeedsHead h text bytes piece.TooLong = HasNoHeadText (text ++ bytes) × (head_limit ≤ length (text ++ bytes))
 
 -- a head ends within so many bytes
 abbrev pub PieceWithin : ℕ → HeadPiece → Type 0

@@ -1,7 +1,7 @@
 -- What was read of a stream.
 use Rattle.std.specs.Prelude.{ℕ, List, Option}
 use Rattle.std.specs.Io.KnownBytes.{Consumes}
-use Rattle.as2_http.specs.Parsing.{Holds}
+use Rattle.as2_http.specs.Parsing.{HasTaken}
 use Rattle.as2_http.specs.declared.parser.RequestParser.{RequestParser}
 
 -- the most bytes that one read asks for
@@ -12,4 +12,4 @@ read_limit = 65536
 pub record WasRead (p : RequestParser) (before after : Option (List ℕ)) : Type 0 where
   pub text : List ℕ
   pub consumed : Consumes before after text
-  pub holds : Holds p text
+  pub holds : HasTaken p text

@@ -36,12 +36,12 @@ pub record TakesBody (old new : Awaited) (rest : List ℕ) (used : ℕ) : Type 0
   pub awaits : (text : List ℕ) → Awaits old text rest → Awaits new text (drop used rest)
 
 -- the text is less than a request: a part of a head is kept, or a request with a part of its body
-abbrev pub HoldsBy : HeadBytes → Option Awaited → List ℕ → Type 0
-HoldsBy head None text = HoldsHead head text
-HoldsBy head (Some a) text = HoldsHead head [] × (0 < a.missing) × Awaits a text []
+abbrev pub HasTakenBy : HeadBytes → Option Awaited → List ℕ → Type 0
+HasTakenBy head None text = HoldsHead head text
+HasTakenBy head (Some a) text = HoldsHead head [] × (0 < a.missing) × Awaits a text []
 
-abbrev pub Holds : RequestParser → List ℕ → Type 0
-Holds p text = HoldsBy p.head p.awaited text
+abbrev pub HasTaken : RequestParser → List ℕ → Type 0
+HasTaken p text = HasTakenBy p.head p.awaited text
 
 -- the head of a request is there, in the text or with so many bytes of the piece, and the rest of the piece is to be taken
 pub record Framed (head : HeadBytes) (a : Awaited) (text bytes : List ℕ) (from : ℕ) : Type 0 where
@@ -54,13 +54,13 @@ pub record EndsRequest (p : RequestParser) (text bytes : List ℕ) (r : Request)
   pub some : 0 < n
   pub within : n ≤ length bytes
   pub begins : Begins (text ++ bytes) r (drop n bytes)
-  pub empty : Holds p []
+  pub empty : HasTaken p []
 
 -- what the text and the piece behind it begin with
-abbrev pub Tells : RequestParser → List ℕ → List ℕ → Parsed → Type 0
-Tells p text bytes parsed.Open = IsOpen (text ++ bytes) × Holds p (text ++ bytes)
-Tells p text bytes (parsed.Request r n) = EndsRequest p text bytes r n
-Tells p text bytes (parsed.Refused refused) = IsRefused (text ++ bytes) refused
+abbrev pub Parses : RequestParser → List ℕ → List ℕ → Parsed → Type 0
+Parses p text bytes parsed.Open = IsOpen (text ++ bytes) × HasTaken p (text ++ bytes)
+Parses p text bytes (parsed.Request r n) = EndsRequest p text bytes r n
+Parses p text bytes (parsed.Refused refused) = IsRefused (text ++ bytes) refused
 
 -- the text has nothing but CR and LF bytes, or more
 abbrev pub TellsBlank : List ℕ → Bool → Type 0

@@ -2,7 +2,7 @@
 ghost use Rattle.std.specs.Prelude.{◌≡◌, ◌≤◌, ◌<◌, List, ℕ, Some, IsTrue, false, vec_len, take, IfOk, IfSome};
 ghost use Rattle.std.specs.Io.KnownBytes.{Consumes, IsAtEnd};
 ghost use Rattle.as2_http.specs.Arrivals.{Arrives, LeavesUnread, is_decided};
-ghost use Rattle.as2_http.specs.Parsing.{Holds};
+ghost use Rattle.as2_http.specs.Parsing.{HasTaken};
 
 use crate::framing::{Method, Refused, Target};
 use crate::parser::{Parsed, RequestParser};
@@ -66,7 +66,7 @@ fn pull<R: Read>(reader: &mut R, buffer: &mut Vec<u8>) -> Option<usize>
 
 /// What a stream is that ends within its first request.
 fn ended(parser: &RequestParser) -> Arrival
-    ensures ended { (text : List ℕ) → Holds parser.now text → Arrives text result }
+    ensures ended { (text : List ℕ) → HasTaken parser.now text → Arrives text result }
     ensures undecided { is_decided result ≡ false }
 {
     if parser.is_blank() {

@@ -1,7 +1,7 @@
 //! A head whose bytes come in pieces (RFC 9112, sections 2.1 and 2.2).
 ghost use Rattle.std.specs.Prelude.{◌≡◌, ◌+◌, ◌≤◌, List, ℕ, [], length, take, vec_len, IfOk, IfSome};
 ghost use Rattle.as2_http.specs.HeadText.{head_limit};
-ghost use Rattle.as2_http.specs.HeadPieces.{Adds, HoldsHead, HoldsText, LeavesRest, PieceWithin, Takes};
+ghost use Rattle.as2_http.specs.HeadPieces.{Adds, HoldsHead, HoldsText, LeavesRest, PieceWithin, FeedsHead};
 
 use crate::head_bytes::{HeadBytes, HeadPiece};
 use crate::head_text::{HEAD_LIMIT, blank_length};
@@ -75,10 +75,10 @@ impl HeadBytes {
         self.line = LineSoFar::Nothing;
     }
 
-    /// Takes a piece, each byte looked at once. What comes behind the end of the head isn't kept.
+    /// FeedsHead a piece, each byte looked at once. What comes behind the end of the head isn't kept.
     pub fn feed(&mut self, bytes: &[u8]) -> Result<HeadPiece, AllocError>
         ensures within { IfOk result (PieceWithin (length bytes.now)) }
-        ensures fed { IfOk result (λ piece. (text : List ℕ) → HoldsHead self.old text → Takes self.new text bytes.now piece) }
+        ensures fed { IfOk result (λ piece. (text : List ℕ) → HoldsHead self.old text → FeedsHead self.new text bytes.now piece) }
     {
         let room = HEAD_LIMIT - self.skipped - self.text.len();
         match self.add(first(bytes, room))? {

@@ -2,7 +2,7 @@
 ghost use Rattle.std.specs.Prelude.{◌≡◌, ◌≤◌, List, ℕ, [], ◌++◌, length, drop, None, IfOk, IfErr};
 ghost use Rattle.as2_http.specs.HeadText.{HasHeadText};
 ghost use Rattle.as2_http.specs.HeadPieces.{EndsHead};
-ghost use Rattle.as2_http.specs.Parsing.{Awaits, Framed, Holds, RefusesHead, TakesBody, Tells, TellsBlank};
+ghost use Rattle.as2_http.specs.Parsing.{Awaits, Framed, HasTaken, RefusesHead, TakesBody, Parses, TellsBlank};
 
 use crate::arrival::Request;
 use crate::framing::{Refused, RequestFault};
@@ -98,7 +98,7 @@ pub struct RequestParser {
 impl RequestParser {
     /// No byte came yet.
     pub fn new(alloc: Global) -> RequestParser
-        ensures { Holds result [] }
+        ensures { HasTaken result [] }
     {
         RequestParser {
             alloc,
@@ -111,7 +111,7 @@ impl RequestParser {
     fn take_body(&mut self, awaited: Awaited, bytes: &[u8], from: usize) -> Result<Parsed, Memory>
         requires within { from ≤ length bytes.now }
         requires none { self.old.awaited ≡ None }
-        ensures { IfOk result (λ p. (text : List ℕ) → Framed self.old.head awaited text bytes.now from → Tells self.new text bytes.now p) }
+        ensures { IfOk result (λ p. (text : List ℕ) → Framed self.old.head awaited text bytes.now from → Parses self.new text bytes.now p) }
     {
         let mut awaited = awaited;
         let used = awaited.take(&bytes[from..])?;
@@ -126,7 +126,7 @@ impl RequestParser {
     fn take_head(&mut self, bytes: &[u8], from: usize) -> Result<Parsed, Memory>
         requires within { from ≤ length bytes.now }
         requires none { self.old.awaited ≡ None }
-        ensures { IfOk result (λ p. (text : List ℕ) → EndsHead self.old.head text bytes.now from → Tells self.new text bytes.now p) }
+        ensures { IfOk result (λ p. (text : List ℕ) → EndsHead self.old.head text bytes.now from → Parses self.new text bytes.now p) }
     {
         let found = read_head(self.alloc, &self.head.text);
         self.head.clear();
@@ -141,7 +141,7 @@ impl RequestParser {
     /// request the rest of the piece is to be given again, as the first of what follows; behind a refusal nothing more.
     /// Memory means that memory for the request wasn't there.
     pub fn feed(&mut self, bytes: &[u8]) -> Result<Parsed, Memory>
-        ensures { IfOk result (λ p. (text : List ℕ) → Holds self.old text → Tells self.new text bytes.now p) }
+        ensures { IfOk result (λ p. (text : List ℕ) → HasTaken self.old text → Parses self.new text bytes.now p) }
     {
         if let Some(awaited) = self.awaited.take() {
             return self.take_body(awaited, bytes, 0);
@@ -155,7 +155,7 @@ impl RequestParser {
 
     /// Nothing but CR and LF came since the last request.
     pub fn is_blank(&self) -> bool
-        ensures { (text : List ℕ) → Holds self.now text → TellsBlank text result }
+        ensures { (text : List ℕ) → HasTaken self.now text → TellsBlank text result }
     {
         self.awaited.is_none() && self.head.text.is_empty()
     }

@@ -1,6 +1,6 @@
 use Rattle.std.proofs.Common.{◌≡◌, ℕ, List, ◌++◌, take, rules, subst, arith}
 use Rattle.std.specs.Io.KnownBytes.{Consumes}
-use Rattle.as2_http.specs.Parsing.{Holds, EndsRequest, Tells}
+use Rattle.as2_http.specs.Parsing.{HasTaken, EndsRequest, Parses}
 use Rattle.as2_http.specs.Requests.{IsRefused}
 use Rattle.as2_http.specs.declared.parser.Parsed.{Parsed}
 use Rattle.as2_http.proofs.Arriving.{came_all, request_arrives, refusal_arrives, leaves_unread, reads_on}
@@ -27,7 +27,7 @@ returns-in-Ok-Request-clause-arrives g c = λ input known.
     request_arrives (g.R.Read.remaining c.args.reader.now) (g.R.Read.remaining c.loop.reader) (g.R.Read.remaining c.pull.new.reader) c.loop.parser c.feed.new.self
     (take c.in-Some.count c.pull.new.buffer.items) input c.in-Ok-Request.request n r c.in-Some.ensures.given
     (subst (λ (s : List ℕ). EndsRequest c.feed.new.self r.text (take c.in-Some.count s) c.in-Ok-Request.request n) c.deref.ensures.value
-    (subst (λ (p : Parsed). Tells c.feed.new.self r.text (take c.in-Some.count c.deref.result.now) p) c.in-Ok-Request.field-0-is (c.in-Ok-Request.ensures r.text r.holds)))
+    (subst (λ (p : Parsed). Parses c.feed.new.self r.text (take c.in-Some.count c.deref.result.now) p) c.in-Ok-Request.field-0-is (c.in-Ok-Request.ensures r.text r.holds)))
     known
 
 pub returns-in-Ok-Request-clause-unread : goal.returns-in-Ok-Request-clause-unread
@@ -43,7 +43,7 @@ returns-in-Ok-Refused-clause-arrives g c = λ input known.
     refusal_arrives (g.R.Read.remaining c.args.reader.now) (g.R.Read.remaining c.loop.reader) (g.R.Read.remaining c.pull.new.reader) c.loop.parser
     (take c.in-Some.count c.pull.new.buffer.items) input c.in-Ok-Refused.refused r c.in-Some.ensures.given
     (subst (λ (s : List ℕ). IsRefused (r.text ++ take c.in-Some.count s) c.in-Ok-Refused.refused) c.deref.ensures.value
-    (subst (λ (p : Parsed). Tells c.feed.new.self r.text (take c.in-Some.count c.deref.result.now) p) c.in-Ok-Refused.field-0-is (c.in-Ok-Refused.ensures r.text r.holds)))
+    (subst (λ (p : Parsed). Parses c.feed.new.self r.text (take c.in-Some.count c.deref.result.now) p) c.in-Ok-Refused.field-0-is (c.in-Ok-Refused.ensures r.text r.holds)))
     known
 
 pub returns-in-Ok-Refused-clause-unread : goal.returns-in-Ok-Refused-clause-unread
@@ -58,7 +58,7 @@ loop-preserved g c =
     let r = c.loop.invariant.0 in (
       reads_on (g.R.Read.remaining c.args.reader.now) (g.R.Read.remaining c.loop.reader) (g.R.Read.remaining c.pull.new.reader) c.loop.parser c.feed.new.self
           (take c.in-Some.count c.pull.new.buffer.items) r c.in-Some.ensures.given
-          (subst (λ (s : List ℕ). Holds c.feed.new.self (r.text ++ take c.in-Some.count s)) c.deref.ensures.value
-          (subst (λ (p : Parsed). Tells c.feed.new.self r.text (take c.in-Some.count c.deref.result.now) p) c.in-Ok-Open.field-0-is (c.in-Ok-Open.ensures r.text r.holds)).1),
+          (subst (λ (s : List ℕ). HasTaken c.feed.new.self (r.text ++ take c.in-Some.count s)) c.deref.ensures.value
+          (subst (λ (p : Parsed). Parses c.feed.new.self r.text (take c.in-Some.count c.deref.result.now) p) c.in-Ok-Open.field-0-is (c.in-Ok-Open.ensures r.text r.holds)).1),
       search rules,
     )
