@@ -1,3 +1,4 @@
+pub mod Devices
 pub mod HeadText
 pub mod Scanning
 pub mod HeadPieces

@@ -2,6 +2,7 @@
 #![tactic(auto)]
 
 mod arrival;
+mod device;
 mod framing;
 mod head_bytes;
 mod head_feed;
@@ -13,6 +14,7 @@ mod request;
 mod scan;
 
 pub use arrival::{Arrival, Request, read_first};
+pub use device::{Count, Counted, DeviceFault, Sink, Source};
 pub use framing::{Method, Refused, RequestFault, Target};
 pub use laws::{one_arrival, one_refusal, one_reply_text, one_request};
 pub use parser::{Parsed, RequestParser};
