@@ -10,3 +10,6 @@ pub mod Inputs
 pub mod Reading
 pub mod Arrivals
 pub mod Replies
+pub mod Responses
+pub mod Sending
+pub mod Streams
