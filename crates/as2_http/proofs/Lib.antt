@@ -9,5 +9,6 @@ pub mod Arriving
 pub mod TakenPosts
 pub mod Unsaid
 pub mod Streaming
+pub mod Serving
 pub mod Dated
 pub mod Phrases

@@ -58,7 +58,7 @@ answers_join A moment s mid t text rest left replies more (x ∷ done) later a b
 pub answers_one : (A : AgreedValues) (moment : ℕ) (s t : State) (text reply rest : List ℕ) (x : Exchange) → Answers A moment s text x t reply rest → AnswersAll A moment s text (x ∷ []) t reply rest
 answers_one A moment s t text reply rest x a = (t, reply, rest, [], a, sym (append-nil reply), (refl, refl, refl))
 
-go_on_join : (done later : List Exchange) → GoOn done → GoOn later → GoOn (done ++ later)
+pub go_on_join : (done later : List Exchange) → GoOn done → GoOn later → GoOn (done ++ later)
 go_on_join [] later a b = b
 go_on_join (x ∷ done) later a b = (a.0, go_on_join done later a.1 b)
 
@@ -197,8 +197,11 @@ piece_cut {U} A moment s text rest next left p q c d before now later r failed s
       rest = w.held ++ rest ++ left;
       all = w.all;
       rests = x.rests;
-      ends = (w.go_on, for_reply r (next ++ left) x.response (begins_append (w.held ++ rest) left r next b) x.responds
-          (subst (Appends before later) (append-nil w.replies) (Appends-trans before now later w.replies [] w.appended e)));
+      ends = (
+        w.go_on,
+        for_reply r (next ++ left) x.response (begins_append (w.held ++ rest) left r next b) x.responds
+            (subst (Appends before later) (append-nil w.replies) (Appends-trans before now later w.replies [] w.appended e)),
+      );
     }
 
 -- a refusal is written

@@ -1,5 +1,8 @@
 //! The requests of a stream, answered one after the other.
-ghost use Rattle.std.specs.Prelude.{◌≡◌, ◌+◌, ◌<◌, ◌≤◌, List, ℕ, ◌++◌, Some, None};
+ghost use Rattle.std.specs.Prelude.{◌≡◌, ◌⊎◌, ◌+◌, ◌<◌, ◌≤◌, List, ℕ, [], ◌++◌, take, vec_len, Some, None, IfSome};
+ghost use Rattle.std.specs.Io.KnownBytes.{Consumes, IsAtEnd, Keeps};
+ghost use Rattle.as2_http.specs.HeadText.{unblank};
+ghost use Rattle.as2_http.specs.declared.stream.Served.TheVariants.{Closed, Truncated};
 ghost use Rattle.sqlite.specs.Held.{state};
 ghost use Rattle.sqlite.specs.State.{HasCleanDisk};
 ghost use Rattle.as2_exchange.specs.State.{State};
@@ -121,6 +124,34 @@ fn answer_piece<S: Alter, W: Sink>(
     None
 }
 
+/// Makes one read, and tells how many bytes it gave, unless it failed.
+fn pull<R: Source>(source: &mut R, buffer: &mut Vec<u8>) -> Option<usize>
+    ensures given { IfSome result (λ n. Consumes (R.left source.old) (R.left source.new) (take n buffer.new.items)) }
+    ensures within { IfSome result (λ n. n ≤ vec_len buffer.new) }
+    ensures room { vec_len buffer.new ≡ vec_len buffer.old }
+    ensures ended { result ≡ Some 0 → 0 < vec_len buffer.old → IsAtEnd (R.left source.new) }
+    ensures kept { result ≡ None → Keeps (R.left source.old) (R.left source.new) }
+    ensures counted { R.calls source.new ≡ R.calls source.old + 1 }
+{
+    match source.pull(buffer) {
+        Ok(count) => Some(count),
+        Err(_) => None,
+    }
+}
+
+/// How a stream ends that has no more bytes.
+fn ended(parser: &RequestParser) -> Served
+    ensures closed { result ≡ Closed → (text : List ℕ) → HasTaken parser.now text → unblank text ≡ [] }
+    ensures truncated { result ≡ Truncated → (text : List ℕ) → HasTaken parser.now text → ¬ (unblank text ≡ []) }
+    ensures one { (result ≡ Closed) ⊎ (result ≡ Truncated) }
+{
+    if parser.is_blank() {
+        Served::Closed
+    } else {
+        Served::Truncated
+    }
+}
+
 /// Answers the requests of a stream one after the other: a post is taken by the station, over the agreements. A read is made
 /// only when every whole request that was read has its reply, and none once the stream has ended; at most 100,000 are made.
 pub fn serve_stream<S: Alter, R: Source, W: Sink>(
@@ -143,15 +174,11 @@ pub fn serve_stream<S: Alter, R: Source, W: Sink>(
     }
     let mut parser = RequestParser::new(alloc);
     for _ in 0..READS {
-        let Ok(count) = source.pull(&mut buffer) else {
+        let Some(count) = pull(source, &mut buffer) else {
             return Served::ReadFault;
         };
         if count == 0 {
-            return if parser.is_blank() {
-                Served::Closed
-            } else {
-                Served::Truncated
-            };
+            return ended(&parser);
         }
         let end = answer_piece(
             alloc,

@@ -70,8 +70,11 @@ loop-rest-preserved g c =
     let later = g.W.Sink.written c.reply.new.sink in (
       λ clean. c.loop-rest.invariant.0 (c.reply.ensures.clean clean),
       omega (arith, c.loop-rest.invariant.1, c.reply.ensures.counted),
-      ([], (let e : EndsRequest c.feed.new.self c.loop-rest.invariant.2.0 rest r n =
-      subst (λ (p : Parsed). Parses c.feed.new.self c.loop-rest.invariant.2.0 rest p) c.in-Ok-Request.field-0-is (c.in-Ok-Request.ensures c.loop-rest.invariant.2.0 c.loop-rest.invariant.2.1) in e.empty)),
+      (
+        [],
+        (let e : EndsRequest c.feed.new.self c.loop-rest.invariant.2.0 rest r n =
+            subst (λ (p : Parsed). Parses c.feed.new.self c.loop-rest.invariant.2.0 rest p) c.in-Ok-Request.field-0-is (c.in-Ok-Request.ensures c.loop-rest.invariant.2.0 c.loop-rest.invariant.2.1) in e.empty),
+      ),
       λ clean s rests held left taken.
           let w = c.loop-rest.invariant.3 (c.reply.ensures.clean clean) s rests held left taken in
           let e : EndsRequest c.feed.new.self w.held rest r n = subst (λ (p : Parsed). Parses c.feed.new.self w.held rest p) c.in-Ok-Request.field-0-is (c.in-Ok-Request.ensures w.held w.taken) in
