@@ -1,3 +1,4 @@
+pub mod Devices
 pub mod HeadText
 pub mod Scanning
 pub mod HeadPieces
@@ -9,3 +10,6 @@ pub mod Inputs
 pub mod Reading
 pub mod Arrivals
 pub mod Replies
+pub mod Responses
+pub mod Sending
+pub mod Streams
