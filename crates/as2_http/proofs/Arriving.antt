@@ -18,7 +18,7 @@ pub record HasArrived (input text : List ℕ) (after : Option (List ℕ)) : Type
   pub kept : after ≡ Some left
   pub whole : input ≡ text ++ left
 
-pub split : (before after : Option (List ℕ)) (got input : List ℕ) → Consumes before after got → before ≡ Some input → HasArrived input got after
+split : (before after : Option (List ℕ)) (got input : List ℕ) → Consumes before after got → before ≡ Some input → HasArrived input got after
 split None after got input c e = absurd cc
 split (Some x) None got input c e = absurd c
 split (Some x) (Some y) got input c e = record { left = y; kept = refl; whole = (let same : x ≡ input = cc in sym same ∙ c) }

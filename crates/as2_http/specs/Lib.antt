@@ -1,4 +1,3 @@
-pub mod Devices
 pub mod HeadText
 pub mod Scanning
 pub mod HeadPieces
@@ -10,6 +9,3 @@ pub mod Inputs
 pub mod Reading
 pub mod Arrivals
 pub mod Replies
-pub mod Responses
-pub mod Sending
-pub mod Streams
