@@ -75,7 +75,7 @@ impl HeadBytes {
         self.line = LineSoFar::Nothing;
     }
 
-    /// FeedsHead a piece, each byte looked at once. What comes behind the end of the head isn't kept.
+    /// Takes a piece, each byte looked at once. What comes behind the end of the head isn't kept.
     pub fn feed(&mut self, bytes: &[u8]) -> Result<HeadPiece, AllocError>
         ensures within { IfOk result (PieceWithin (length bytes.now)) }
         ensures fed { IfOk result (λ piece. (text : List ℕ) → HoldsHead self.old text → FeedsHead self.new text bytes.now piece) }

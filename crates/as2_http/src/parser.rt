@@ -76,7 +76,7 @@ fn read_head(alloc: Global, head: &[u8]) -> Result<Awaited, NotAwaited>
 }
 
 impl Awaited {
-    /// TakesBody what is there of the body, and tells how many bytes that is.
+    /// Takes what is there of the body, and tells how many bytes that is.
     fn take(&mut self, rest: &[u8]) -> Result<usize, Memory>
         ensures taken { IfOk result (TakesBody self.old self.new rest.now) }
     {
@@ -107,7 +107,7 @@ impl RequestParser {
         }
     }
 
-    /// TakesBody what is there of the body of a request, behind the first bytes of the piece.
+    /// Takes what is there of the body of a request, behind the first bytes of the piece.
     fn take_body(&mut self, awaited: Awaited, bytes: &[u8], from: usize) -> Result<Parsed, Memory>
         requires within { from ≤ length bytes.now }
         requires none { self.old.awaited ≡ None }
@@ -122,7 +122,7 @@ impl RequestParser {
         Ok(Parsed::Open)
     }
 
-    /// TakesBody a whole head, which ends with the first bytes of the piece, and what is there of the body behind it.
+    /// Takes a whole head, which ends with the first bytes of the piece, and what is there of the body behind it.
     fn take_head(&mut self, bytes: &[u8], from: usize) -> Result<Parsed, Memory>
         requires within { from ≤ length bytes.now }
         requires none { self.old.awaited ≡ None }
@@ -137,7 +137,7 @@ impl RequestParser {
         }
     }
 
-    /// TakesBody the next piece. Each byte of a head is looked at once to find its end, and each of a body copied once. Behind a
+    /// Takes the next piece. Each byte of a head is looked at once to find its end, and each of a body copied once. Behind a
     /// request the rest of the piece is to be given again, as the first of what follows; behind a refusal nothing more.
     /// Memory means that memory for the request wasn't there.
     pub fn feed(&mut self, bytes: &[u8]) -> Result<Parsed, Memory>
