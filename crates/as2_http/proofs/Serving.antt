@@ -1,5 +1,5 @@
 -- A stream, put together from its pieces.
-use Rattle.std.proofs.Common.{◌≡◌, ℕ, true, false, List, [], ◌∷◌, ◌++◌, ◌⊎◌, Option, Some, None, refl, sym, ap, ◌∙◌, subst, append_assoc, append-nil, inl, inr}
+use Rattle.std.proofs.Common.{◌≡◌, ℕ, true, false, List, [], ◌∷◌, ◌++◌, ◌⊎◌, ◌≤◌, length, Option, Some, None, refl, sym, ap, ◌∙◌, subst, append_assoc, append-nil, inl, inr, arith}
 use Rattle.std.proofs.KnownBytes.{Appends-nil, Appends-trans}
 use Rattle.std.specs.Io.KnownBytes.{Appends, Consumes, IsAtEnd, Keeps}
 use Rattle.sqlite.specs.State.{State as Connected}
@@ -9,9 +9,10 @@ use Rattle.as2_exchange.specs.State.{State}
 use Rattle.as2_store.specs.Stands.{Rests}
 use Rattle.as2_http.specs.HeadText.{unblank}
 use Rattle.as2_http.specs.Requests.{IsOpen}
+use Rattle.as2_http.specs.Inputs.{read_limit}
 use Rattle.as2_http.specs.Parsing.{HasTaken, TellsBlank}
 use Rattle.as2_http.specs.Responses.{RespondsTo, Responds, Unsaid}
-use Rattle.as2_http.specs.Streams.{Exchange, AnswersAll, GoOn, EndsLast, event_by, events, AnswersPiece, PieceEnds, Ends, Serves, CutShort, in_reply, in_refusal, OutOfMemory, for_request, for_reply}
+use Rattle.as2_http.specs.Streams.{Exchange, AnswersAll, GoOn, EndsLast, event_by, events, AnswersPiece, PieceEnds, Ends, LastReadNeeded, Serves, CutShort, in_reply, in_refusal, OutOfMemory, for_request, for_reply, may_end_piece}
 use Rattle.as2_http.specs.declared.arrival.Request.{Request}
 use Rattle.as2_http.specs.declared.framing.Method.{Method}
 use Rattle.as2_http.specs.declared.framing.Method.TheVariants as method
@@ -58,11 +59,12 @@ pub record Serving (A : AgreedValues) (moment : ℕ) (s : State) (input : List �
   pub rests : Rests c mid
   pub taken : HasTaken p held
   pub appended : Appends before now replies
+  pub read : (unread ≡ Some input) ⊎ LastReadNeeded A moment s input unread
 
 pub serving_begins : (A : AgreedValues) (moment : ℕ) (s : State) (input : List ℕ) (p : RequestParser) (c : Connected) (unread now : Option (List ℕ)) → Rests c s → HasTaken p [] → unread ≡ Some input
     → Serving A moment s input p c unread now now
 serving_begins A moment s input p c unread now rests taken known =
-    record { done = []; mid = s; replies = []; held = []; left = input; all = (refl, refl, refl); go_on = tt; known = known; rests = rests; taken = taken; appended = Appends-nil now }
+    record { done = []; mid = s; replies = []; held = []; left = input; all = (refl, refl, refl); go_on = tt; known = known; rests = rests; taken = taken; appended = Appends-nil now; read = inl known }
 
 -- ---- a piece more
 
@@ -70,30 +72,48 @@ serving_begins A moment s input p c unread now rests taken known =
 pub piece_of : (unread after : Option (List ℕ)) (left piece : List ℕ) → Consumes unread after piece → unread ≡ Some left → HasArrived left piece after
 piece_of unread after left piece c known = split unread after piece left c known
 
-joined : (A : AgreedValues) (moment : ℕ) (s : State) (input : List ℕ) (p q : RequestParser) (c d : Connected) (unread after before now later : Option (List ℕ)) (piece : List ℕ) (failed : Type 0) (end : Option Served)
-    → (w : Serving A moment s input p c unread before now) → (m : HasArrived w.left piece after) → (a : AnswersPiece A moment w.mid (w.held ++ piece ++ m.left) m.left q d now later failed end)
+-- the piece was needed
+last_read : (A : AgreedValues) (moment : ℕ) (s : State) (input : List ℕ) (p : RequestParser) (c : Connected) (unread after before now : Option (List ℕ)) (piece : List ℕ) (w : Serving A moment s input p c unread before now) (m : HasArrived w.left piece after)
+    → length piece ≤ read_limit → LastReadNeeded A moment s input after
+last_read A moment s input p c unread after before now piece w m most = record {
+  done = w.done;
+  mid = w.mid;
+  replies = w.replies;
+  held = w.held;
+  piece = piece;
+  left = m.left;
+  all = subst (λ (t : List ℕ). AnswersAll A moment s input w.done w.mid w.replies t) (ap (λ (t : List ℕ). w.held ++ t) m.whole ∙ sym (append_assoc w.held piece m.left)) w.all;
+  go_on = w.go_on;
+  undecided = holds_open p w.held w.taken;
+  most = most;
+  known = m.kept;
+}
+
+joined : (A : AgreedValues) (moment : ℕ) (s : State) (input : List ℕ) (p q : RequestParser) (c d : Connected) (unread after before now later : Option (List ℕ)) (piece : List ℕ) (end : Option Served)
+    → (w : Serving A moment s input p c unread before now) → (m : HasArrived w.left piece after) → (a : AnswersPiece A moment w.mid (w.held ++ piece ++ m.left) m.left q d now later end)
     → AnswersAll A moment s input (w.done ++ a.done) a.mid (w.replies ++ a.replies) a.rest
-joined A moment s input p q c d unread after before now later piece failed end w m a =
+joined A moment s input p q c d unread after before now later piece end w m a =
     answers_join A moment s w.mid a.mid input (w.held ++ piece ++ m.left) a.rest w.replies a.replies w.done a.done
     (subst (λ (t : List ℕ). AnswersAll A moment s input w.done w.mid w.replies t) (ap (λ (t : List ℕ). w.held ++ t) m.whole ∙ sym (append_assoc w.held piece m.left)) w.all) a.all
 
-pub serving_on : (A : AgreedValues) (moment : ℕ) (s : State) (input : List ℕ) (p q : RequestParser) (c d : Connected) (unread after before now later : Option (List ℕ)) (piece : List ℕ) (failed : Type 0) (end : Option Served)
-    → (w : Serving A moment s input p c unread before now) → (m : HasArrived w.left piece after) → AnswersPiece A moment w.mid (w.held ++ piece ++ m.left) m.left q d now later failed end → end ≡ None
+pub serving_on : (A : AgreedValues) (moment : ℕ) (s : State) (input : List ℕ) (p q : RequestParser) (c d : Connected) (unread after before now later : Option (List ℕ)) (piece : List ℕ) (end : Option Served)
+    → (w : Serving A moment s input p c unread before now) → (m : HasArrived w.left piece after) → length piece ≤ read_limit → AnswersPiece A moment w.mid (w.held ++ piece ++ m.left) m.left q d now later end → end ≡ None
     → Serving A moment s input q d after before later
-serving_on A moment s input p q c d unread after before now later piece failed end w m a is =
-    let e = subst (λ (x : Option Served). PieceEnds A moment a.done a.mid a.replies a.rest m.left q now later failed a.last x) is a.ends in
+serving_on A moment s input p q c d unread after before now later piece end w m most a is =
+    let e = subst (λ (x : Option Served). PieceEnds A moment a.done a.mid a.replies a.rest m.left q now later a.last x) is a.ends in
     record {
       done = w.done ++ a.done;
       mid = a.mid;
       replies = w.replies ++ a.replies;
       held = e.3.0;
       left = m.left;
-      all = subst (λ (t : List ℕ). AnswersAll A moment s input (w.done ++ a.done) a.mid (w.replies ++ a.replies) t) e.3.1 (joined A moment s input p q c d unread after before now later piece failed end w m a);
+      all = subst (λ (t : List ℕ). AnswersAll A moment s input (w.done ++ a.done) a.mid (w.replies ++ a.replies) t) e.3.1 (joined A moment s input p q c d unread after before now later piece end w m a);
       go_on = go_on_join w.done a.done w.go_on e.0;
       known = m.kept;
       rests = subst (λ (t : State). Rests d t) e.1 a.rests;
       taken = e.3.2;
       appended = Appends-trans before now later w.replies a.replies w.appended e.2;
+      read = inr (last_read A moment s input p c unread after before now piece w m most);
     }
 
 -- the replies of the stream so far stand before those of the piece
@@ -115,25 +135,25 @@ memory_on A moment mid replies more rest before now later t a (for_reply r next 
 last_on : (done later : List Exchange) → GoOn done → EndsLast later → EndsLast (done ++ later)
 last_on done later go l = (done ++ l.0, l.1, ap (λ (t : List Exchange). done ++ t) l.2 ∙ sym (append_assoc done l.0 (l.1 ∷ [])), go_on_join done l.0 go l.3, l.4)
 
-ends_on : (A : AgreedValues) (moment : ℕ) (done later : List Exchange) (mid : State) (replies more rest left : List ℕ) (q : RequestParser) (unread before now after : Option (List ℕ)) (failed : Type 0) (t : State) (end : Served)
-    → GoOn done → Appends before now replies → PieceEnds A moment later mid more rest left q now after failed t (Some end) → Ends A moment (done ++ later) mid (replies ++ more) rest unread before after t end
-ends_on A moment done later mid replies more rest left q unread before now after failed t served.Closed go a e = (e.1, Appends-trans before now after replies more a e.2, inl (last_on done later go e.0))
-ends_on A moment done later mid replies more rest left q unread before now after failed t served.Truncated go a e = absurd e
-ends_on A moment done later mid replies more rest left q unread before now after failed t served.BadFraming go a e = (
+ends_on : (A : AgreedValues) (moment : ℕ) (done later : List Exchange) (mid : State) (replies more rest left : List ℕ) (q : RequestParser) (unread before now after : Option (List ℕ)) (t : State) (end : Served)
+    → GoOn done → Appends before now replies → PieceEnds A moment later mid more rest left q now after t (Some end) → Ends A moment (done ++ later) mid (replies ++ more) rest unread before after t end
+ends_on A moment done later mid replies more rest left q unread before now after t served.Closed go a e = (e.1, Appends-trans before now after replies more a e.2, inl (last_on done later go e.0))
+ends_on A moment done later mid replies more rest left q unread before now after t served.Truncated go a e = absurd e
+ends_on A moment done later mid replies more rest left q unread before now after t served.BadFraming go a e = (
   e.1,
   go_on_join done later go e.0,
   record { refused = e.2.refused; refuses = e.2.refuses; text = e.2.text; is = e.2.is; written = behind before now after replies more e.2.text a e.2.written },
 )
-ends_on A moment done later mid replies more rest left q unread before now after failed t served.ReadFault go a e = absurd e
-ends_on A moment done later mid replies more rest left q unread before now after failed t served.WriteFault go a e = (go_on_join done later go e.0, cut_on A moment mid replies more rest before now after t a e.1)
-ends_on A moment done later mid replies more rest left q unread before now after failed t served.Memory go a e = (go_on_join done later go e.0, memory_on A moment mid replies more rest before now after t a e.1)
-ends_on A moment done later mid replies more rest left q unread before now after failed t served.TooLong go a e = absurd e
+ends_on A moment done later mid replies more rest left q unread before now after t served.ReadFault go a e = absurd e
+ends_on A moment done later mid replies more rest left q unread before now after t served.WriteFault go a e = (go_on_join done later go e.0, cut_on A moment mid replies more rest before now after t a e.1)
+ends_on A moment done later mid replies more rest left q unread before now after t served.Memory go a e = (go_on_join done later go e.0, memory_on A moment mid replies more rest before now after t a e.1)
+ends_on A moment done later mid replies more rest left q unread before now after t served.TooLong go a e = absurd e
 
-pub serving_ends : (A : AgreedValues) (moment : ℕ) (s : State) (input : List ℕ) (p q : RequestParser) (c d : Connected) (unread after before now later : Option (List ℕ)) (piece : List ℕ) (failed : Type 0) (result : Option Served) (end : Served)
-    → (w : Serving A moment s input p c unread before now) → (m : HasArrived w.left piece after) → AnswersPiece A moment w.mid (w.held ++ piece ++ m.left) m.left q d now later failed result → result ≡ Some end
+pub serving_ends : (A : AgreedValues) (moment : ℕ) (s : State) (input : List ℕ) (p q : RequestParser) (c d : Connected) (unread after before now later : Option (List ℕ)) (piece : List ℕ) (result : Option Served) (end : Served)
+    → (w : Serving A moment s input p c unread before now) → (m : HasArrived w.left piece after) → length piece ≤ read_limit → AnswersPiece A moment w.mid (w.held ++ piece ++ m.left) m.left q d now later result → result ≡ Some end
     → Serves A moment s input after d before later end
-serving_ends A moment s input p q c d unread after before now later piece failed result end w m a is =
-    let all = joined A moment s input p q c d unread after before now later piece failed result w m a in
+serving_ends A moment s input p q c d unread after before now later piece result end w m most a is =
+    let all = joined A moment s input p q c d unread after before now later piece result w m a in
     record {
       done = w.done ++ a.done;
       mid = a.mid;
@@ -143,16 +163,17 @@ serving_ends A moment s input p q c d unread after before now later piece failed
       all = all;
       run = answers_run A moment s a.mid input (w.replies ++ a.replies) a.rest (w.done ++ a.done) all;
       rests = a.rests;
-      ends = ends_on A moment w.done a.done a.mid w.replies a.replies a.rest m.left q after before now later failed a.last end w.go_on w.appended
-          (subst (λ (x : Option Served). PieceEnds A moment a.done a.mid a.replies a.rest m.left q now later failed a.last x) is a.ends);
+      ends = ends_on A moment w.done a.done a.mid w.replies a.replies a.rest m.left q after before now later a.last end w.go_on w.appended
+          (subst (λ (x : Option Served). PieceEnds A moment a.done a.mid a.replies a.rest m.left q now later a.last x) is a.ends);
+      read = inr (last_read A moment s input p c unread after before now piece w m most);
     }
 
 -- ---- the other ends
 
 -- behind the replies so far, in the state that they left
 serves_as : (A : AgreedValues) (moment : ℕ) (s : State) (input : List ℕ) (p : RequestParser) (c : Connected) (unread after before now : Option (List ℕ)) (end : Served)
-    → (w : Serving A moment s input p c unread before now) → Ends A moment w.done w.mid w.replies (w.held ++ w.left) after before now w.mid end → Serves A moment s input after c before now end
-serves_as A moment s input p c unread after before now end w e = record {
+    → (w : Serving A moment s input p c unread before now) → Ends A moment w.done w.mid w.replies (w.held ++ w.left) after before now w.mid end → (after ≡ Some input) ⊎ LastReadNeeded A moment s input after → Serves A moment s input after c before now end
+serves_as A moment s input p c unread after before now end w e read = record {
   done = w.done;
   mid = w.mid;
   last = w.mid;
@@ -162,6 +183,7 @@ serves_as A moment s input p c unread after before now end w e = record {
   run = answers_run A moment s w.mid input w.replies (w.held ++ w.left) w.done w.all;
   rests = w.rests;
   ends = e;
+  read = read;
 }
 
 -- nothing is left
@@ -176,6 +198,7 @@ serves_closed A moment s input p c unread after before now w consumed done blank
     let same : w.held ≡ w.held ++ w.left = sym (append-nil w.held) ∙ ap (λ (t : List ℕ). w.held ++ t) (sym (at_end unread after w.left consumed done w.known)) in
     serves_as A moment s input p c unread after before now served.Closed w
     (refl, w.appended, inr (w.go_on, subst IsOpen same (holds_open p w.held w.taken), subst (λ (t : List ℕ). unblank t ≡ []) same (blank w.held w.taken)))
+    (inr (last_read A moment s input p c unread after before now [] w (piece_of unread after w.left [] consumed w.known) (omega arith)))
 
 pub serves_truncated : (A : AgreedValues) (moment : ℕ) (s : State) (input : List ℕ) (p : RequestParser) (c : Connected) (unread after before now : Option (List ℕ)) (w : Serving A moment s input p c unread before now)
     → Consumes unread after [] → IsAtEnd after → ((text : List ℕ) → HasTaken p text → ¬ (unblank text ≡ [])) → Serves A moment s input after c before now served.Truncated
@@ -183,6 +206,7 @@ serves_truncated A moment s input p c unread after before now w consumed done so
     let same : w.held ≡ w.held ++ w.left = sym (append-nil w.held) ∙ ap (λ (t : List ℕ). w.held ++ t) (sym (at_end unread after w.left consumed done w.known)) in
     serves_as A moment s input p c unread after before now served.Truncated w
     (refl, w.appended, w.go_on, subst IsOpen same (holds_open p w.held w.taken), subst (λ (t : List ℕ). ¬ (unblank t ≡ [])) same (some w.held w.taken))
+    (inr (last_read A moment s input p c unread after before now [] w (piece_of unread after w.left [] consumed w.known) (omega arith)))
 
 -- the input ended
 pub serves_ended : (A : AgreedValues) (moment : ℕ) (s : State) (input : List ℕ) (p : RequestParser) (c : Connected) (unread after before now : Option (List ℕ)) (end : Served) → Serving A moment s input p c unread before now
@@ -199,20 +223,37 @@ kept_left None after left k known = absurd cc
 kept_left (Some x) None left k known = absurd k
 kept_left (Some x) (Some y) left k known = ap (λ (t : List ℕ). Some t) k ∙ known
 
+-- a read that fails takes nothing
+read_kept : (A : AgreedValues) (moment : ℕ) (s : State) (input : List ℕ) (unread after : Option (List ℕ)) → Keeps unread after → (unread ≡ Some input) ⊎ LastReadNeeded A moment s input unread → (after ≡ Some input) ⊎ LastReadNeeded A moment s input after
+read_kept A moment s input unread after kept (inl known) = inl (kept_left unread after input kept known)
+read_kept A moment s input unread after kept (inr n) = inr (record {
+  done = n.done;
+  mid = n.mid;
+  replies = n.replies;
+  held = n.held;
+  piece = n.piece;
+  left = n.left;
+  all = n.all;
+  go_on = n.go_on;
+  undecided = n.undecided;
+  most = n.most;
+  known = kept_left unread after n.left kept n.known;
+})
+
 pub serves_fault : (A : AgreedValues) (moment : ℕ) (s : State) (input : List ℕ) (p : RequestParser) (c : Connected) (unread after before now : Option (List ℕ)) → Serving A moment s input p c unread before now → Keeps unread after
     → Serves A moment s input after c before now served.ReadFault
 serves_fault A moment s input p c unread after before now w kept =
     serves_as A moment s input p c unread after before now served.ReadFault w
-    (refl, w.appended, w.go_on, (w.held, w.left, refl, holds_open p w.held w.taken, kept_left unread after w.left kept w.known))
+    (refl, w.appended, w.go_on, (w.held, w.left, refl, holds_open p w.held w.taken, kept_left unread after w.left kept w.known)) (read_kept A moment s input unread after kept w.read)
 
 pub serves_long : (A : AgreedValues) (moment : ℕ) (s : State) (input : List ℕ) (p : RequestParser) (c : Connected) (unread before now : Option (List ℕ)) → Serving A moment s input p c unread before now
     → Serves A moment s input unread c before now served.TooLong
 serves_long A moment s input p c unread before now w =
-    serves_as A moment s input p c unread unread before now served.TooLong w (refl, w.appended, w.go_on, (w.held, w.left, refl, holds_open p w.held w.taken, w.known))
+    serves_as A moment s input p c unread unread before now served.TooLong w (refl, w.appended, w.go_on, (w.held, w.left, refl, holds_open p w.held w.taken, w.known)) w.read
 
 -- memory for the reads was wanting
-pub serves_nothing : (A : AgreedValues) (moment : ℕ) (s : State) (input : List ℕ) (c : Connected) (unread now : Option (List ℕ)) → Rests c s → Serves A moment s input unread c now now served.Memory
-serves_nothing A moment s input c unread now rests = record {
+pub serves_nothing : (A : AgreedValues) (moment : ℕ) (s : State) (input : List ℕ) (c : Connected) (unread now : Option (List ℕ)) → Rests c s → unread ≡ Some input → Serves A moment s input unread c now now served.Memory
+serves_nothing A moment s input c unread now rests known = record {
   done = [];
   mid = s;
   last = s;
@@ -222,4 +263,12 @@ serves_nothing A moment s input c unread now rests = record {
   run = refl;
   rests = rests;
   ends = (tt, for_request refl (Appends-nil now));
+  read = inl known;
 }
+
+-- a piece ends no stream so
+pub not_read : (end : Served) → may_end_piece end ≡ true → end ≡ served.ReadFault → ⊥
+not_read end may is = absurd (cc (sym may ∙ ap may_end_piece is))
+
+pub not_long : (end : Served) → may_end_piece end ≡ true → end ≡ served.TooLong → ⊥
+not_long end may is = absurd (cc (sym may ∙ ap may_end_piece is))

@@ -84,10 +84,10 @@ pub record IsAnswered (A : AgreedValues) (moment : ℕ) (mid : State) (r : Reque
   pub is : IsReply moment (form_of r) (answer_of response) text
   pub appended : Appends now later text
 
-pub replied_whole : {U : Type 0} (A : AgreedValues) (moment : ℕ) (mid : State) (r : Request) (c : Connected) (now later : Option (List ℕ)) (failed : Type 0) (sent : Result U SendFault) (u : U)
-    → sent ≡ Ok u → Replied A moment mid r c now later failed sent → IsAnswered A moment mid r c now later
-replied_whole {U} A moment mid r c now later failed sent u is p =
-    let w : Sends {U = U} moment (form_of r) (answer_of p.response) now later failed (Ok u) = subst (λ (x : Result U SendFault). Sends moment (form_of r) (answer_of p.response) now later failed x) is p.sends in
+pub replied_whole : {U : Type 0} (A : AgreedValues) (moment : ℕ) (mid : State) (r : Request) (c : Connected) (now later : Option (List ℕ)) (sent : Result U SendFault) (u : U)
+    → sent ≡ Ok u → Replied A moment mid r c now later sent → IsAnswered A moment mid r c now later
+replied_whole {U} A moment mid r c now later sent u is p =
+    let w : Sends {U = U} moment (form_of r) (answer_of p.response) now later (Ok u) = subst (λ (x : Result U SendFault). Sends moment (form_of r) (answer_of p.response) now later x) is p.sends in
     record { response = p.response; next = p.left; rests = p.rests; responds = p.responds; text = w.0; is = w.1; appended = w.2 }
 
 -- the request begins the rest of the text, too, where that goes on
@@ -118,10 +118,10 @@ proceeds_on A moment s text rest next left p q c d before now later r w b taken 
   appended = Appends-trans before now later w.replies a.text w.appended a.appended;
 }
 
-pub piece_last : (A : AgreedValues) (moment : ℕ) (s : State) (text rest next left : List ℕ) (p q : RequestParser) (c d : Connected) (before now later : Option (List ℕ)) (r : Request) (failed : Type 0)
+pub piece_last : (A : AgreedValues) (moment : ℕ) (s : State) (text rest next left : List ℕ) (p q : RequestParser) (c d : Connected) (before now later : Option (List ℕ)) (r : Request)
     → (w : Proceeds A moment s text rest left p c before now) → Begins (w.held ++ rest) r next → IsAnswered A moment w.mid r d now later → r.last ≡ true
-    → AnswersPiece A moment s text left q d before later failed (Some served.Closed)
-piece_last A moment s text rest next left p q c d before now later r failed w b a ends = record {
+    → AnswersPiece A moment s text left q d before later (Some served.Closed)
+piece_last A moment s text rest next left p q c d before now later r w b a ends = record {
   done = w.done ++ (r, a.response) ∷ [];
   mid = a.next;
   last = a.next;
@@ -134,9 +134,9 @@ piece_last A moment s text rest next left p q c d before now later r failed w b 
 }
 
 -- no request ends in the rest
-pub piece_open : (A : AgreedValues) (moment : ℕ) (s : State) (text rest left : List ℕ) (p q : RequestParser) (c : Connected) (before now : Option (List ℕ)) (failed : Type 0)
-    → (w : Proceeds A moment s text rest left p c before now) → HasTaken q (w.held ++ rest) → AnswersPiece A moment s text left q c before now failed None
-piece_open A moment s text rest left p q c before now failed w taken = record {
+pub piece_open : (A : AgreedValues) (moment : ℕ) (s : State) (text rest left : List ℕ) (p q : RequestParser) (c : Connected) (before now : Option (List ℕ))
+    → (w : Proceeds A moment s text rest left p c before now) → HasTaken q (w.held ++ rest) → AnswersPiece A moment s text left q c before now None
+piece_open A moment s text rest left p q c before now w taken = record {
   done = w.done;
   mid = w.mid;
   last = w.mid;
@@ -148,15 +148,15 @@ piece_open A moment s text rest left p q c before now failed w taken = record {
 }
 
 -- nothing is left of the piece
-pub piece_taken : (A : AgreedValues) (moment : ℕ) (s : State) (text rest left : List ℕ) (p : RequestParser) (c : Connected) (before now : Option (List ℕ)) (failed : Type 0)
-    → Proceeds A moment s text rest left p c before now → rest ≡ [] → AnswersPiece A moment s text left p c before now failed None
-piece_taken A moment s text rest left p c before now failed w none =
-    piece_open A moment s text rest left p p c before now failed w (subst (HasTaken p) (sym (append-nil w.held) ∙ ap (λ (t : List ℕ). w.held ++ t) (sym none)) w.taken)
+pub piece_taken : (A : AgreedValues) (moment : ℕ) (s : State) (text rest left : List ℕ) (p : RequestParser) (c : Connected) (before now : Option (List ℕ))
+    → Proceeds A moment s text rest left p c before now → rest ≡ [] → AnswersPiece A moment s text left p c before now None
+piece_taken A moment s text rest left p c before now w none =
+    piece_open A moment s text rest left p p c before now w (subst (HasTaken p) (sym (append-nil w.held) ∙ ap (λ (t : List ℕ). w.held ++ t) (sym none)) w.taken)
 
 -- memory for a request was wanting
-pub piece_unread : (A : AgreedValues) (moment : ℕ) (s : State) (text rest left : List ℕ) (p q : RequestParser) (c : Connected) (before now : Option (List ℕ)) (failed : Type 0)
-    → Proceeds A moment s text rest left p c before now → AnswersPiece A moment s text left q c before now failed (Some served.Memory)
-piece_unread A moment s text rest left p q c before now failed w = record {
+pub piece_unread : (A : AgreedValues) (moment : ℕ) (s : State) (text rest left : List ℕ) (p q : RequestParser) (c : Connected) (before now : Option (List ℕ))
+    → Proceeds A moment s text rest left p c before now → AnswersPiece A moment s text left q c before now (Some served.Memory)
+piece_unread A moment s text rest left p q c before now w = record {
   done = w.done;
   mid = w.mid;
   last = w.mid;
@@ -168,11 +168,11 @@ piece_unread A moment s text rest left p q c before now failed w = record {
 }
 
 -- a reply wasn't written whole
-pub piece_cut : {U : Type 0} (A : AgreedValues) (moment : ℕ) (s : State) (text rest next left : List ℕ) (p q : RequestParser) (c d : Connected) (before now later : Option (List ℕ)) (r : Request) (failed since : Type 0)
-    (sent : Result U SendFault) (fault : SendFault) → (w : Proceeds A moment s text rest left p c before now) → Begins (w.held ++ rest) r next → (failed → since) → sent ≡ Err fault
-    → Replied A moment w.mid r d now later failed sent → AnswersPiece A moment s text left q d before later since (Some (end_by fault))
-piece_cut {U} A moment s text rest next left p q c d before now later r failed since sent send_fault.Write w b f is x =
-    let e : Sends {U = U} moment (form_of r) (answer_of x.response) now later failed (Err send_fault.Write) = subst (λ (y : Result U SendFault). Sends moment (form_of r) (answer_of x.response) now later failed y) is x.sends in
+pub piece_cut : {U : Type 0} (A : AgreedValues) (moment : ℕ) (s : State) (text rest next left : List ℕ) (p q : RequestParser) (c d : Connected) (before now later : Option (List ℕ)) (r : Request)
+    (sent : Result U SendFault) (fault : SendFault) → (w : Proceeds A moment s text rest left p c before now) → Begins (w.held ++ rest) r next → sent ≡ Err fault
+    → Replied A moment w.mid r d now later sent → AnswersPiece A moment s text left q d before later (Some (end_by fault))
+piece_cut {U} A moment s text rest next left p q c d before now later r sent send_fault.Write w b is x =
+    let e : Sends {U = U} moment (form_of r) (answer_of x.response) now later (Err send_fault.Write) = subst (λ (y : Result U SendFault). Sends moment (form_of r) (answer_of x.response) now later y) is x.sends in
     record {
       done = w.done;
       mid = w.mid;
@@ -184,11 +184,10 @@ piece_cut {U} A moment s text rest next left p q c d before now later r failed s
       ends = (
         w.go_on,
         in_reply r (next ++ left) x.response e.0 e.2.part e.2.missing (begins_append (w.held ++ rest) left r next b) x.responds e.1 e.2.cut (Appends-trans before now later w.replies e.2.part w.appended e.2.appended),
-        f e.3,
       );
     }
-piece_cut {U} A moment s text rest next left p q c d before now later r failed since sent send_fault.Memory w b f is x =
-    let e : Sends {U = U} moment (form_of r) (answer_of x.response) now later failed (Err send_fault.Memory) = subst (λ (y : Result U SendFault). Sends moment (form_of r) (answer_of x.response) now later failed y) is x.sends in
+piece_cut {U} A moment s text rest next left p q c d before now later r sent send_fault.Memory w b is x =
+    let e : Sends {U = U} moment (form_of r) (answer_of x.response) now later (Err send_fault.Memory) = subst (λ (y : Result U SendFault). Sends moment (form_of r) (answer_of x.response) now later y) is x.sends in
     record {
       done = w.done;
       mid = w.mid;
@@ -205,11 +204,11 @@ piece_cut {U} A moment s text rest next left p q c d before now later r failed s
     }
 
 -- a refusal is written
-pub piece_refused : {U : Type 0} (A : AgreedValues) (moment : ℕ) (s : State) (text rest left : List ℕ) (p q : RequestParser) (c : Connected) (before now later : Option (List ℕ)) (refused : Refused) (failed since : Type 0)
+pub piece_refused : {U : Type 0} (A : AgreedValues) (moment : ℕ) (s : State) (text rest left : List ℕ) (p q : RequestParser) (c : Connected) (before now later : Option (List ℕ)) (refused : Refused)
     (sent : Result U SendFault) (u : U) → (w : Proceeds A moment s text rest left p c before now) → IsRefused (w.held ++ rest) refused → sent ≡ Ok u
-    → Sends moment (refusal_form refused) (refusal (refusal_line refused.reason)) now later failed sent → AnswersPiece A moment s text left q c before later since (Some served.BadFraming)
-piece_refused {U} A moment s text rest left p q c before now later refused failed since sent u w b is x =
-    let e : Sends {U = U} moment (refusal_form refused) (refusal (refusal_line refused.reason)) now later failed (Ok u) = subst (λ (y : Result U SendFault). Sends moment (refusal_form refused) (refusal (refusal_line refused.reason)) now later failed y) is x in
+    → Sends moment (refusal_form refused) (refusal (refusal_line refused.reason)) now later sent → AnswersPiece A moment s text left q c before later (Some served.BadFraming)
+piece_refused {U} A moment s text rest left p q c before now later refused sent u w b is x =
+    let e : Sends {U = U} moment (refusal_form refused) (refusal (refusal_line refused.reason)) now later (Ok u) = subst (λ (y : Result U SendFault). Sends moment (refusal_form refused) (refusal (refusal_line refused.reason)) now later y) is x in
     record {
       done = w.done;
       mid = w.mid;
@@ -225,11 +224,11 @@ piece_refused {U} A moment s text rest left p q c before now later refused faile
       );
     }
 
-pub piece_refusal_cut : {U : Type 0} (A : AgreedValues) (moment : ℕ) (s : State) (text rest left : List ℕ) (p q : RequestParser) (c : Connected) (before now later : Option (List ℕ)) (refused : Refused) (failed since : Type 0)
-    (sent : Result U SendFault) (fault : SendFault) → (w : Proceeds A moment s text rest left p c before now) → IsRefused (w.held ++ rest) refused → (failed → since) → sent ≡ Err fault
-    → Sends moment (refusal_form refused) (refusal (refusal_line refused.reason)) now later failed sent → AnswersPiece A moment s text left q c before later since (Some (end_by fault))
-piece_refusal_cut {U} A moment s text rest left p q c before now later refused failed since sent send_fault.Write w b f is x =
-    let e : Sends {U = U} moment (refusal_form refused) (refusal (refusal_line refused.reason)) now later failed (Err send_fault.Write) = subst (λ (y : Result U SendFault). Sends moment (refusal_form refused) (refusal (refusal_line refused.reason)) now later failed y) is x in
+pub piece_refusal_cut : {U : Type 0} (A : AgreedValues) (moment : ℕ) (s : State) (text rest left : List ℕ) (p q : RequestParser) (c : Connected) (before now later : Option (List ℕ)) (refused : Refused)
+    (sent : Result U SendFault) (fault : SendFault) → (w : Proceeds A moment s text rest left p c before now) → IsRefused (w.held ++ rest) refused → sent ≡ Err fault
+    → Sends moment (refusal_form refused) (refusal (refusal_line refused.reason)) now later sent → AnswersPiece A moment s text left q c before later (Some (end_by fault))
+piece_refusal_cut {U} A moment s text rest left p q c before now later refused sent send_fault.Write w b is x =
+    let e : Sends {U = U} moment (refusal_form refused) (refusal (refusal_line refused.reason)) now later (Err send_fault.Write) = subst (λ (y : Result U SendFault). Sends moment (refusal_form refused) (refusal (refusal_line refused.reason)) now later y) is x in
     record {
       done = w.done;
       mid = w.mid;
@@ -241,11 +240,10 @@ piece_refusal_cut {U} A moment s text rest left p q c before now later refused f
       ends = (
         w.go_on,
         in_refusal refused e.0 e.2.part e.2.missing (refuses_append (w.held ++ rest) left refused b) refl e.1 e.2.cut (Appends-trans before now later w.replies e.2.part w.appended e.2.appended),
-        f e.3,
       );
     }
-piece_refusal_cut {U} A moment s text rest left p q c before now later refused failed since sent send_fault.Memory w b f is x =
-    let e : Sends {U = U} moment (refusal_form refused) (refusal (refusal_line refused.reason)) now later failed (Err send_fault.Memory) = subst (λ (y : Result U SendFault). Sends moment (refusal_form refused) (refusal (refusal_line refused.reason)) now later failed y) is x in
+piece_refusal_cut {U} A moment s text rest left p q c before now later refused sent send_fault.Memory w b is x =
+    let e : Sends {U = U} moment (refusal_form refused) (refusal (refusal_line refused.reason)) now later (Err send_fault.Memory) = subst (λ (y : Result U SendFault). Sends moment (refusal_form refused) (refusal (refusal_line refused.reason)) now later y) is x in
     record {
       done = w.done;
       mid = w.mid;

@@ -25,8 +25,8 @@ pub record AppendsPart (before after : Option (List ℕ)) (bytes : List ℕ) : T
   pub cut : bytes ≡ part ++ missing
   pub appended : Appends before after part
 
--- the answer's reply is written; or a write failed, and the first of its bytes are; or memory was wanting, and none is
-abbrev pub Sends : {U : Type 0} → ℕ → Form → HttpAnswer → Option (List ℕ) → Option (List ℕ) → Type 0 → Result U SendFault → Type 0
-Sends moment form answer before after failed (Ok done) = (text : List ℕ) × IsReply moment form answer text × Appends before after text
-Sends moment form answer before after failed (Err fault.Write) = (text : List ℕ) × IsReply moment form answer text × AppendsPart before after text × failed
-Sends moment form answer before after failed (Err fault.Memory) = Appends before after []
+-- the answer's reply is written; or the first of its bytes are, where a write failed; or none is, where memory was wanting
+abbrev pub Sends : {U : Type 0} → ℕ → Form → HttpAnswer → Option (List ℕ) → Option (List ℕ) → Result U SendFault → Type 0
+Sends moment form answer before after (Ok done) = (text : List ℕ) × IsReply moment form answer text × Appends before after text
+Sends moment form answer before after (Err fault.Write) = (text : List ℕ) × IsReply moment form answer text × AppendsPart before after text
+Sends moment form answer before after (Err fault.Memory) = Appends before after []

@@ -1,5 +1,5 @@
 -- What the requests of a stream get, one after the other (RFC 9112, sections 2.1 and 9.3), and how the stream ends.
-use Rattle.std.specs.Prelude.{◌≡◌, ℕ, ◌⊎◌, true, false, List, [], ◌∷◌, ◌++◌, Option, Some, None, Result, ⊤}
+use Rattle.std.specs.Prelude.{◌≡◌, ℕ, ◌⊎◌, Bool, true, false, List, [], ◌∷◌, ◌++◌, length, ◌≤◌, Option, Some, None, Result, ⊤}
 use Rattle.std.specs.Io.KnownBytes.{Appends}
 use Rattle.sqlite.specs.State.{State as Connected}
 use Rattle.as2_agreement.specs.Agreements.{AgreedValues}
@@ -9,6 +9,7 @@ use Rattle.as2_exchange.specs.State.{State}
 use Rattle.as2_exchange.specs.declared.answer.Answer.TheVariants.{Http}
 use Rattle.as2_store.specs.Stands.{Rests}
 use Rattle.as2_http.specs.HeadText.{unblank}
+use Rattle.as2_http.specs.Inputs.{read_limit}
 use Rattle.as2_http.specs.Parsing.{HasTaken}
 use Rattle.as2_http.specs.Replies.{IsReply, refusal_line}
 use Rattle.as2_http.specs.Requests.{Begins, IsRefused, IsOpen}
@@ -76,12 +77,12 @@ events moment (x ∷ more) = event_by x.0.method x.0.target moment x ++ events m
 -- ---- what is written, and what is left
 
 -- the request got that, and t is left; its reply is written, or the first bytes of it
-pub record Replied {U : Type 0} (A : AgreedValues) (moment : ℕ) (s : State) (r : Request) (c : Connected) (before after : Option (List ℕ)) (failed : Type 0) (sent : Result U SendFault) : Type 0 where
+pub record Replied {U : Type 0} (A : AgreedValues) (moment : ℕ) (s : State) (r : Request) (c : Connected) (before after : Option (List ℕ)) (sent : Result U SendFault) : Type 0 where
   pub response : Response
   pub left : State
   pub rests : Rests c left
   pub responds : Responds A moment s r response Unsaid left
-  pub sends : Sends moment (form_of r) (answer_of response) before after failed sent
+  pub sends : Sends moment (form_of r) (answer_of response) before after sent
 
 -- a reply or a refusal was cut short: the first bytes of it were written behind the others, and t is left
 pub data CutShort (A : AgreedValues) (moment : ℕ) (mid : State) (replies rest : List ℕ) (before after : Option (List ℕ)) (t : State) : Type 0 where
@@ -112,18 +113,28 @@ end_by send_fault.Write = served.WriteFault
 end_by send_fault.Memory = served.Memory
 
 -- how a stream ends with a piece: behind the requests that were answered
-abbrev pub PieceEnds : AgreedValues → ℕ → List Exchange → State → List ℕ → List ℕ → List ℕ → RequestParser → Option (List ℕ) → Option (List ℕ) → Type 0 → State → Option Served → Type 0
-PieceEnds A moment done mid replies rest left p before after failed t None = GoOn done × (t ≡ mid) × Appends before after replies × ((held : List ℕ) × (rest ≡ held ++ left) × HasTaken p held)
-PieceEnds A moment done mid replies rest left p before after failed t (Some served.Closed) = EndsLast done × (t ≡ mid) × Appends before after replies
-PieceEnds A moment done mid replies rest left p before after failed t (Some served.BadFraming) = GoOn done × (t ≡ mid) × WritesRefusal moment replies rest before after
-PieceEnds A moment done mid replies rest left p before after failed t (Some served.WriteFault) = GoOn done × CutShort A moment mid replies rest before after t × failed
-PieceEnds A moment done mid replies rest left p before after failed t (Some served.Memory) = GoOn done × OutOfMemory A moment mid replies rest before after t
-PieceEnds A moment done mid replies rest left p before after failed t (Some served.Truncated) = ⊥
-PieceEnds A moment done mid replies rest left p before after failed t (Some served.ReadFault) = ⊥
-PieceEnds A moment done mid replies rest left p before after failed t (Some served.TooLong) = ⊥
+abbrev pub PieceEnds : AgreedValues → ℕ → List Exchange → State → List ℕ → List ℕ → List ℕ → RequestParser → Option (List ℕ) → Option (List ℕ) → State → Option Served → Type 0
+PieceEnds A moment done mid replies rest left p before after t None = GoOn done × (t ≡ mid) × Appends before after replies × ((held : List ℕ) × (rest ≡ held ++ left) × HasTaken p held)
+PieceEnds A moment done mid replies rest left p before after t (Some served.Closed) = EndsLast done × (t ≡ mid) × Appends before after replies
+PieceEnds A moment done mid replies rest left p before after t (Some served.BadFraming) = GoOn done × (t ≡ mid) × WritesRefusal moment replies rest before after
+PieceEnds A moment done mid replies rest left p before after t (Some served.WriteFault) = GoOn done × CutShort A moment mid replies rest before after t
+PieceEnds A moment done mid replies rest left p before after t (Some served.Memory) = GoOn done × OutOfMemory A moment mid replies rest before after t
+PieceEnds A moment done mid replies rest left p before after t (Some served.Truncated) = ⊥
+PieceEnds A moment done mid replies rest left p before after t (Some served.ReadFault) = ⊥
+PieceEnds A moment done mid replies rest left p before after t (Some served.TooLong) = ⊥
+
+-- a stream may end so with a piece
+abbrev pub may_end_piece : Served → Bool
+may_end_piece served.Closed = true
+may_end_piece served.BadFraming = true
+may_end_piece served.WriteFault = true
+may_end_piece served.Memory = true
+may_end_piece served.Truncated = false
+may_end_piece served.ReadFault = false
+may_end_piece served.TooLong = false
 
 -- the requests that end in a piece were answered, in the text that it stands in; and how the stream ends with it, if it does
-pub record AnswersPiece (A : AgreedValues) (moment : ℕ) (s : State) (text left : List ℕ) (p : RequestParser) (c : Connected) (before after : Option (List ℕ)) (failed : Type 0) (end : Option Served) : Type 0 where
+pub record AnswersPiece (A : AgreedValues) (moment : ℕ) (s : State) (text left : List ℕ) (p : RequestParser) (c : Connected) (before after : Option (List ℕ)) (end : Option Served) : Type 0 where
   pub done : List Exchange
   pub mid : State
   pub last : State
@@ -131,7 +142,7 @@ pub record AnswersPiece (A : AgreedValues) (moment : ℕ) (s : State) (text left
   pub rest : List ℕ
   pub all : AnswersAll A moment s text done mid replies rest
   pub rests : Rests c last
-  pub ends : PieceEnds A moment done mid replies rest left p before after failed last end
+  pub ends : PieceEnds A moment done mid replies rest left p before after last end
 
 -- ---- the stream
 
@@ -145,6 +156,20 @@ Ends A moment done mid replies rest unread before after t served.TooLong = (t �
 Ends A moment done mid replies rest unread before after t served.WriteFault = GoOn done × CutShort A moment mid replies rest before after t
 Ends A moment done mid replies rest unread before after t served.Memory = GoOn done × OutOfMemory A moment mid replies rest before after t
 
+-- The last read was needed: what had been read before it are requests that go on, and then less than a request.
+pub record LastReadNeeded (A : AgreedValues) (moment : ℕ) (s : State) (input : List ℕ) (unread : Option (List ℕ)) : Type 0 where
+  pub done : List Exchange
+  pub mid : State
+  pub replies : List ℕ
+  pub held : List ℕ
+  pub piece : List ℕ
+  pub left : List ℕ
+  pub all : AnswersAll A moment s input done mid replies (held ++ piece ++ left)
+  pub go_on : GoOn done
+  pub undecided : IsOpen held
+  pub most : length piece ≤ read_limit
+  pub known : unread ≡ Some left
+
 -- the requests that the input begins with were answered one after the other, a run of the machine; their replies were written, and this end followed
 pub record Serves (A : AgreedValues) (moment : ℕ) (s : State) (input : List ℕ) (unread : Option (List ℕ)) (c : Connected) (before after : Option (List ℕ)) (served : Served) : Type 0 where
   pub done : List Exchange
@@ -156,3 +181,4 @@ pub record Serves (A : AgreedValues) (moment : ℕ) (s : State) (input : List �
   pub run : Run A s (events moment done) mid
   pub rests : Rests c last
   pub ends : Ends A moment done mid replies rest unread before after last served
+  pub read : (unread ≡ Some input) ⊎ LastReadNeeded A moment s input unread

@@ -1,9 +1,10 @@
 //! Replies, as they are written.
-ghost use Rattle.std.specs.Prelude.{◌≡◌, ◌<◌, ◌≤◌, OnOk, OnErr};
+ghost use Rattle.std.specs.Prelude.{◌≡◌, ◌<◌, ◌≤◌, Err, OnOk, OnErr};
 ghost use Rattle.std.specs.Io.KnownBytes.{Appends};
 ghost use Rattle.as2_exchange.specs.Lines.{refusal};
 ghost use Rattle.as2_http.specs.Replies.{refusal_line};
 ghost use Rattle.as2_http.specs.Sending.{AppendsPart, Sends, refusal_form};
+ghost use Rattle.as2_http.specs.declared.sending.SendFault.TheVariants.{Write};
 
 use crate::device::{DeviceFault, Sink};
 use crate::framing::Refused;
@@ -47,7 +48,8 @@ pub fn send<W: Sink>(
     answer: &HttpAnswer,
     sink: &mut W,
 ) -> Result<(), SendFault>
-    ensures sends { Sends moment form answer.now (W.written sink.old) (W.written sink.new) (W.failed sink.old < W.failed sink.new) result }
+    ensures sends { Sends moment form answer.now (W.written sink.old) (W.written sink.new) result }
+    ensures failed { result ≡ Err Write → W.failed sink.old < W.failed sink.new }
     ensures counted { W.failed sink.old ≤ W.failed sink.new }
 {
     let Ok(text) = write_reply(alloc, moment, form, answer) else {
@@ -64,7 +66,8 @@ pub fn send_refusal<W: Sink>(
     sink: &mut W,
 ) -> Result<(), SendFault>
     ensures sends { Sends moment (refusal_form refused) (refusal (refusal_line refused.reason))
-        (W.written sink.old) (W.written sink.new) (W.failed sink.old < W.failed sink.new) result }
+        (W.written sink.old) (W.written sink.new) result }
+    ensures failed { result ≡ Err Write → W.failed sink.old < W.failed sink.new }
     ensures counted { W.failed sink.old ≤ W.failed sink.new }
 {
     let form = Form {

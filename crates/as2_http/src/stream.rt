@@ -1,14 +1,15 @@
 //! The requests of a stream, answered one after the other.
-ghost use Rattle.std.specs.Prelude.{◌≡◌, ◌⊎◌, ◌+◌, ◌<◌, ◌≤◌, List, ℕ, [], ◌++◌, take, vec_len, Some, None, IfSome};
+ghost use Rattle.std.specs.Prelude.{◌≡◌, ◌⊎◌, ◌+◌, ◌<◌, ◌≤◌, List, ℕ, [], ◌++◌, take, vec_len, Some, None, Err, IfSome, true};
 ghost use Rattle.std.specs.Io.KnownBytes.{Consumes, IsAtEnd, Keeps};
 ghost use Rattle.as2_http.specs.HeadText.{unblank};
-ghost use Rattle.as2_http.specs.declared.stream.Served.TheVariants.{Closed, Truncated};
+ghost use Rattle.as2_http.specs.declared.stream.Served.TheVariants.{Closed, ReadFault, TooLong, Truncated, WriteFault};
+ghost use Rattle.as2_http.specs.declared.sending.SendFault.TheVariants.{Write};
 ghost use Rattle.sqlite.specs.Held.{state};
 ghost use Rattle.sqlite.specs.State.{HasCleanDisk};
 ghost use Rattle.as2_exchange.specs.State.{State};
 ghost use Rattle.as2_store.specs.Stands.{Rests};
 ghost use Rattle.as2_http.specs.Parsing.{HasTaken};
-ghost use Rattle.as2_http.specs.Streams.{AnswersPiece, Replied, Serves, end_by};
+ghost use Rattle.as2_http.specs.Streams.{AnswersPiece, Replied, Serves, end_by, may_end_piece};
 
 use crate::arrival::Request;
 use crate::device::{Sink, Source};
@@ -49,7 +50,8 @@ pub enum Served {
 
 /// How a stream ends with a reply that wasn't written whole.
 fn end_by(fault: SendFault) -> Served
-    ensures { result ≡ end_by fault }
+    ensures end { result ≡ end_by fault }
+    ensures of_piece { may_end_piece result ≡ true }
 {
     match fault {
         SendFault::Write => Served::WriteFault,
@@ -68,8 +70,8 @@ fn reply<S: Alter, W: Sink>(
 ) -> Result<(), SendFault>
     ensures clean { HasCleanDisk (state S.Store station.new) → HasCleanDisk (state S.Store station.old) }
     ensures replied { HasCleanDisk (state S.Store station.new) → (s : State) → Rests (state S.Store station.old) s
-        → Replied agreements.now moment s request (state S.Store station.new) (W.written sink.old) (W.written sink.new)
-        (W.failed sink.old < W.failed sink.new) result }
+        → Replied agreements.now moment s request (state S.Store station.new) (W.written sink.old) (W.written sink.new) result }
+    ensures failed { result ≡ Err Write → W.failed sink.old < W.failed sink.new }
     ensures counted { W.failed sink.old ≤ W.failed sink.new }
 {
     let form = Form {
@@ -95,7 +97,10 @@ fn answer_piece<S: Alter, W: Sink>(
     ensures answered { HasCleanDisk (state S.Store station.new) → (s : State) → Rests (state S.Store station.old) s
         → (held left : List ℕ) → HasTaken parser.old held
         → AnswersPiece agreements.now moment s (held ++ piece.now ++ left) left parser.new (state S.Store station.new)
-        (W.written sink.old) (W.written sink.new) (W.failed sink.old < W.failed sink.new) result }
+        (W.written sink.old) (W.written sink.new) result }
+    ensures failed { result ≡ Some WriteFault → W.failed sink.old < W.failed sink.new }
+    ensures counted { W.failed sink.old ≤ W.failed sink.new }
+    ensures of_piece { IfSome result (λ end. may_end_piece end ≡ true) }
     ensures open { result ≡ None → (held : List ℕ) × HasTaken parser.new held }
 {
     let mut rest = piece;
@@ -131,7 +136,9 @@ fn pull<R: Source>(source: &mut R, buffer: &mut Vec<u8>) -> Option<usize>
     ensures room { vec_len buffer.new ≡ vec_len buffer.old }
     ensures ended { result ≡ Some 0 → 0 < vec_len buffer.old → IsAtEnd (R.left source.new) }
     ensures kept { result ≡ None → Keeps (R.left source.old) (R.left source.new) }
-    ensures counted { R.calls source.new ≡ R.calls source.old + 1 }
+    ensures calls { R.calls source.new ≡ R.calls source.old + 1 }
+    ensures failed { result ≡ None → R.failed source.old < R.failed source.new }
+    ensures counted { R.failed source.old ≤ R.failed source.new }
 {
     match source.pull(buffer) {
         Ok(count) => Some(count),
@@ -167,6 +174,9 @@ pub fn serve_stream<S: Alter, R: Source, W: Sink>(
         → (input : List ℕ) → R.left source.old ≡ Some input
         → Serves agreements.now moment s input (R.left source.new) (state S.Store station.new) (W.written sink.old) (W.written sink.new) result }
     ensures reads { R.calls source.new ≤ R.calls source.old + 100000 }
+    ensures read_fault { result ≡ ReadFault → R.failed source.old < R.failed source.new }
+    ensures write_fault { result ≡ WriteFault → W.failed sink.old < W.failed sink.new }
+    ensures too_long { result ≡ TooLong → R.calls source.new ≡ R.calls source.old + 100000 }
 {
     let mut buffer = Vec::new(alloc);
     if buffer.resize(READ_LIMIT, 0).is_err() {

@@ -24,7 +24,7 @@ returns-in-Ok-Open-clause-answered g c = λ clean s rests held left taken.
     let rest = c.loop-rest.rest.now in
     let told = subst (λ (p : Parsed). Parses c.feed.new.self w.held rest p) c.in-Ok-Open.field-0-is (c.in-Ok-Open.ensures w.held w.taken) in
     piece_open c.args.agreements.now c.args.moment s (held ++ c.args.piece.now ++ left) rest left c.loop-rest.parser c.feed.new.self (state g.S.Store c.loop-rest.station)
-    (g.W.Sink.written c.args.sink.now) (g.W.Sink.written c.loop-rest.sink) (g.W.Sink.failed c.args.sink.now < g.W.Sink.failed c.loop-rest.sink) w told.1
+    (g.W.Sink.written c.args.sink.now) (g.W.Sink.written c.loop-rest.sink) w told.1
 
 pub returns-in-Err-reply-clause-answered : goal.returns-in-Err-reply-clause-answered
 returns-in-Err-reply-clause-answered g c = λ clean s rests held left taken.
@@ -36,12 +36,10 @@ returns-in-Err-reply-clause-answered g c = λ clean s rests held left taken.
     let before = g.W.Sink.written c.args.sink.now in
     let now = g.W.Sink.written c.loop-rest.sink in
     let later = g.W.Sink.written c.reply.new.sink in
-    let since = g.W.Sink.failed c.args.sink.now < g.W.Sink.failed c.reply.new.sink in
     let text = held ++ c.args.piece.now ++ left in
-    subst (λ (end : Served). AnswersPiece c.args.agreements.now c.args.moment s text left c.feed.new.self (state g.S.Store c.reply.new.station) before later since (Some end)) (sym c.end_by.ensures)
+    subst (λ (end : Served). AnswersPiece c.args.agreements.now c.args.moment s text left c.feed.new.self (state g.S.Store c.reply.new.station) before later (Some end)) (sym c.end_by.ensures.end)
     (piece_cut c.args.agreements.now c.args.moment s text rest (drop n rest) left c.loop-rest.parser c.feed.new.self (state g.S.Store c.loop-rest.station) (state g.S.Store c.reply.new.station)
-    before now later r (g.W.Sink.failed c.loop-rest.sink < g.W.Sink.failed c.reply.new.sink) since c.reply.result c.in-Err-reply.fault w e.begins
-    (λ f. omega (arith, f, c.loop-rest.invariant.1)) c.in-Err-reply.is (c.reply.ensures.replied clean w.mid w.rests))
+    before now later r c.reply.result c.in-Err-reply.fault w e.begins c.in-Err-reply.is (c.reply.ensures.replied clean w.mid w.rests))
 
 pub returns-then-last-clause-answered : goal.returns-then-last-clause-answered
 returns-then-last-clause-answered g c = λ clean s rests held left taken.
@@ -53,11 +51,10 @@ returns-then-last-clause-answered g c = λ clean s rests held left taken.
     let before = g.W.Sink.written c.args.sink.now in
     let now = g.W.Sink.written c.loop-rest.sink in
     let later = g.W.Sink.written c.reply.new.sink in
-    let since = g.W.Sink.failed c.args.sink.now < g.W.Sink.failed c.reply.new.sink in
     let ends : r.last ≡ true = search rules in
     piece_last c.args.agreements.now c.args.moment s (held ++ c.args.piece.now ++ left) rest (drop n rest) left c.loop-rest.parser c.feed.new.self
-    (state g.S.Store c.loop-rest.station) (state g.S.Store c.reply.new.station) before now later r since w e.begins
-    (replied_whole c.args.agreements.now c.args.moment w.mid r (state g.S.Store c.reply.new.station) now later (g.W.Sink.failed c.loop-rest.sink < g.W.Sink.failed c.reply.new.sink) c.reply.result c.in_default.field-0 c.in_default.is
+    (state g.S.Store c.loop-rest.station) (state g.S.Store c.reply.new.station) before now later r w e.begins
+    (replied_whole c.args.agreements.now c.args.moment w.mid r (state g.S.Store c.reply.new.station) now later c.reply.result c.in_default.field-0 c.in_default.is
     (c.reply.ensures.replied clean w.mid w.rests)) ends
 
 pub loop-rest-preserved : goal.loop-rest-preserved
@@ -82,7 +79,7 @@ loop-rest-preserved g c =
           subst (λ (t : List ℕ). Proceeds c.args.agreements.now c.args.moment s (held ++ c.args.piece.now ++ left) t left c.feed.new.self (state g.S.Store c.reply.new.station) before later) (sym (rest_of n rest))
           (proceeds_on c.args.agreements.now c.args.moment s (held ++ c.args.piece.now ++ left) rest (drop n rest) left c.loop-rest.parser c.feed.new.self
           (state g.S.Store c.loop-rest.station) (state g.S.Store c.reply.new.station) before now later r w e.begins e.empty
-          (replied_whole c.args.agreements.now c.args.moment w.mid r (state g.S.Store c.reply.new.station) now later (g.W.Sink.failed c.loop-rest.sink < g.W.Sink.failed c.reply.new.sink) c.reply.result c.in_default.field-0 c.in_default.is
+          (replied_whole c.args.agreements.now c.args.moment w.mid r (state g.S.Store c.reply.new.station) now later c.reply.result c.in_default.field-0 c.in_default.is
           (c.reply.ensures.replied clean w.mid w.rests)) go),
     )
 
@@ -93,7 +90,6 @@ returns-in-Ok-clause-answered g c = λ clean s rests held left taken.
     let e : IsRefused (w.held ++ rest) c.in-Ok-Refused.refused = subst (λ (p : Parsed). Parses c.feed.new.self w.held rest p) c.in-Ok-Refused.field-0-is (c.in-Ok-Refused.ensures w.held w.taken) in
     piece_refused c.args.agreements.now c.args.moment s (held ++ c.args.piece.now ++ left) rest left c.loop-rest.parser c.feed.new.self (state g.S.Store c.loop-rest.station)
     (g.W.Sink.written c.args.sink.now) (g.W.Sink.written c.loop-rest.sink) (g.W.Sink.written c.send_refusal.new.sink) c.in-Ok-Refused.refused
-    (g.W.Sink.failed c.loop-rest.sink < g.W.Sink.failed c.send_refusal.new.sink) (g.W.Sink.failed c.args.sink.now < g.W.Sink.failed c.send_refusal.new.sink)
     c.send_refusal.result c.in-Ok.field-0 w e c.in-Ok.is c.send_refusal.ensures.sends
 
 pub returns-in-Err-send_refusal-clause-answered : goal.returns-in-Err-send_refusal-clause-answered
@@ -103,19 +99,18 @@ returns-in-Err-send_refusal-clause-answered g c = λ clean s rests held left tak
     let e : IsRefused (w.held ++ rest) c.in-Ok-Refused.refused = subst (λ (p : Parsed). Parses c.feed.new.self w.held rest p) c.in-Ok-Refused.field-0-is (c.in-Ok-Refused.ensures w.held w.taken) in
     let before = g.W.Sink.written c.args.sink.now in
     let later = g.W.Sink.written c.send_refusal.new.sink in
-    let since = g.W.Sink.failed c.args.sink.now < g.W.Sink.failed c.send_refusal.new.sink in
     let text = held ++ c.args.piece.now ++ left in
-    subst (λ (end : Served). AnswersPiece c.args.agreements.now c.args.moment s text left c.feed.new.self (state g.S.Store c.loop-rest.station) before later since (Some end)) (sym c.end_by-in-Err-send_refusal.ensures)
+    subst (λ (end : Served). AnswersPiece c.args.agreements.now c.args.moment s text left c.feed.new.self (state g.S.Store c.loop-rest.station) before later (Some end)) (sym c.end_by-in-Err-send_refusal.ensures.end)
     (piece_refusal_cut c.args.agreements.now c.args.moment s text rest left c.loop-rest.parser c.feed.new.self (state g.S.Store c.loop-rest.station)
-    before (g.W.Sink.written c.loop-rest.sink) later c.in-Ok-Refused.refused (g.W.Sink.failed c.loop-rest.sink < g.W.Sink.failed c.send_refusal.new.sink) since
-    c.send_refusal.result c.in-Err-send_refusal.fault w e (λ f. omega (arith, f, c.loop-rest.invariant.1)) c.in-Err-send_refusal.is c.send_refusal.ensures.sends)
+    before (g.W.Sink.written c.loop-rest.sink) later c.in-Ok-Refused.refused
+    c.send_refusal.result c.in-Err-send_refusal.fault w e c.in-Err-send_refusal.is c.send_refusal.ensures.sends)
 
 pub returns-in-Err-clause-answered : goal.returns-in-Err-clause-answered
 returns-in-Err-clause-answered g c = λ clean s rests held left taken.
     piece_unread c.args.agreements.now c.args.moment s (held ++ c.args.piece.now ++ left) c.loop-rest.rest.now left c.loop-rest.parser c.feed.new.self (state g.S.Store c.loop-rest.station)
-    (g.W.Sink.written c.args.sink.now) (g.W.Sink.written c.loop-rest.sink) (g.W.Sink.failed c.args.sink.now < g.W.Sink.failed c.loop-rest.sink) (c.loop-rest.invariant.3 clean s rests held left taken)
+    (g.W.Sink.written c.args.sink.now) (g.W.Sink.written c.loop-rest.sink) (c.loop-rest.invariant.3 clean s rests held left taken)
 
 pub returns-clause-answered : goal.returns-clause-answered
 returns-clause-answered g c = λ clean s rests held left taken.
     piece_taken c.args.agreements.now c.args.moment s (held ++ c.args.piece.now ++ left) c.loop-rest.rest.now left c.loop-rest.parser (state g.S.Store c.loop-rest.station)
-    (g.W.Sink.written c.args.sink.now) (g.W.Sink.written c.loop-rest.sink) (g.W.Sink.failed c.args.sink.now < g.W.Sink.failed c.loop-rest.sink) (c.loop-rest.invariant.3 clean s rests held left taken) (nil_from_length c.loop-rest.rest.now (search rules))
+    (g.W.Sink.written c.args.sink.now) (g.W.Sink.written c.loop-rest.sink) (c.loop-rest.invariant.3 clean s rests held left taken) (nil_from_length c.loop-rest.rest.now (search rules))

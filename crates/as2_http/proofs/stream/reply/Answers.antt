@@ -10,7 +10,7 @@ pub returns-clause-replied : goal.returns-clause-replied
 returns-clause-replied g c = λ clean s rests.
     let left = c.respond-response.ensures.responds clean s rests in
     let sends = λ (to_head : Bool) (a : HttpAnswer).
-    Sends c.args.moment (record { closes = false; to_head = to_head }) a (g.W.Sink.written c.args.sink.now) (g.W.Sink.written c.send.new.sink) (g.W.Sink.failed c.args.sink.now < g.W.Sink.failed c.send.new.sink) c.send.result in
+    Sends c.args.moment (record { closes = false; to_head = to_head }) a (g.W.Sink.written c.args.sink.now) (g.W.Sink.written c.send.new.sink) c.send.result in
     record {
       response = c.respond-response.result;
       left = left.0;

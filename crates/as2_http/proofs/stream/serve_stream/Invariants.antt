@@ -11,7 +11,9 @@ abbrev pub invariant-loop : goal.invariant-loop
 invariant-loop g l =
     (HasCleanDisk (state g.S.Store l.station) → HasCleanDisk (state g.S.Store l.fn.station))
     × (vec_len l.buffer ≡ 65536)
-    × (g.R.Source.calls l.source ≤ g.R.Source.calls l.fn.source + l.counter)
+    × (g.R.Source.calls l.source ≡ g.R.Source.calls l.fn.source + l.counter)
+    × (g.R.Source.failed l.fn.source ≤ g.R.Source.failed l.source)
+    × (g.W.Sink.failed l.fn.sink ≤ g.W.Sink.failed l.sink)
     × ((held : List ℕ) × HasTaken l.parser held)
     × (HasCleanDisk (state g.S.Store l.station) → (s : State) → Rests (state g.S.Store l.fn.station) s → (input : List ℕ) → g.R.Source.left l.fn.source ≡ Some input
     → Serving l.agreements l.moment s input l.parser (state g.S.Store l.station) (g.R.Source.left l.source) (g.W.Sink.written l.fn.sink) (g.W.Sink.written l.sink))
