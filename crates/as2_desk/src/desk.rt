@@ -20,12 +20,13 @@ use crate::agreed::agreements_in;
 use crate::check::write_counts;
 use crate::command::command;
 use crate::files::ReadFiles;
-use crate::first_request::{Served, first_post};
 use crate::options::{OptionFault, Options, Posting, Task};
 use crate::refusal::{CommandFault, is_said, refusal_status};
 use crate::status::{DONE, FAULTY, Ran};
 use crate::stores::{OpenFault, OpenStores, records_in, records_in_memory};
+use crate::streams::serve;
 use as2_agreement::Agreements;
+use as2_http::Served;
 use as2_station::Station;
 use as2_store::Store;
 use clap::error::ErrorKind;
@@ -58,7 +59,7 @@ pub fn run<'a, F: ReadFiles, O: OpenStores, R: Read, W: Write, E: Write>(
         → Runs (F.content files.now path) (kept_at store (O.kept stores.now store)) task
         (R.remaining input.old) (R.remaining input.new) (input.new ≡ input.old) (output.new ≡ output.old)
         (λ t. IfSome result.1 (λ l. Rests (state O.Kind.Store l.1) t))
-        (Appends (W.contents output.old) (W.contents output.new)) (Appends (E.contents errors.old) (E.contents errors.new)) result.0
+        (W.contents output.old) (W.contents output.new) (Appends (E.contents errors.old) (E.contents errors.new)) result.0
         ⊎ ((input.new ≡ input.old) × (output.new ≡ output.old)
         × EndsRefused Memory (Appends (E.contents errors.old) (E.contents errors.new)) result.0) }
     // A store that was opened for the post is handed back, with its path.
@@ -139,7 +140,7 @@ fn carry_out<'a, O: OpenStores, R: Read, W: Write, E: Write>(
     ensures comes { Comes agreed (kept_at options.now.store.now (O.kept stores.now options.now.store.now)) options.now.task
         (R.remaining input.old) (R.remaining input.new) (input.new ≡ input.old) (output.new ≡ output.old)
         (λ t. IfSome result.1 (λ l. Rests (state O.Kind.Store l.1) t))
-        (Appends (W.contents output.old) (W.contents output.new)) (Appends (E.contents errors.old) (E.contents errors.new)) result.0 }
+        (W.contents output.old) (W.contents output.new) (Appends (E.contents errors.old) (E.contents errors.new)) result.0 }
     ensures store { result.0.status ≡ failed → Stopped (input.new ≡ input.old) (output.new ≡ output.old)
         (Appends (E.contents errors.old) (E.contents errors.new)) result.0 }
     ensures handed { HandsBack options.now.store.now (input.new ≡ input.old) (option_map (λ l. l.0.now) result.1) }
@@ -166,7 +167,7 @@ fn carry_out<'a, O: OpenStores, R: Read, W: Write, E: Write>(
     }
 }
 
-/// Answers the first post of the input over the store of that path, and hands the store back.
+/// Answers the requests of the input over the store of that path, and hands the store back.
 fn post_over<'a, O: OpenStores, R: Read, W: Write, E: Write>(
     alloc: Global,
     agreements: &Agreements,
@@ -182,7 +183,7 @@ fn post_over<'a, O: OpenStores, R: Read, W: Write, E: Write>(
         × Fails (kept_at path.now (O.kept stores.now path.now)) (Appends (E.contents errors.old) (E.contents errors.new)) result.0)
         ⊎ Posts agreements.now posting.moment (stands_for (kept_at path.now (O.kept stores.now path.now)) posting.first)
         (R.remaining input.old) (R.remaining input.new) (λ t. IfSome result.1 (λ l. Rests (state O.Kind.Store l.1) t))
-        (Appends (W.contents output.old) (W.contents output.new)) (Appends (E.contents errors.old) (E.contents errors.new)) result.0 }
+        (W.contents output.old) (W.contents output.new) (Appends (E.contents errors.old) (E.contents errors.new)) result.0 }
     ensures store { result.0.status ≡ failed → Stopped (input.new ≡ input.old) (output.new ≡ output.old)
         (Appends (E.contents errors.old) (E.contents errors.new)) result.0 }
     ensures handed { HandsBack path.now (input.new ≡ input.old) (option_map (λ l. l.0.now) result.1) }
@@ -214,7 +215,7 @@ fn under<'a, S: Alter + Drop>(
 /// Tells how many organizations and partners there are.
 fn check<W: Write, E: Write>(agreements: &Agreements, output: &mut W, errors: &mut E) -> Ran
     ensures status { (result.status ≡ done) ⊎ (result.status ≡ refused) }
-    ensures counts { Counts agreements.now (Appends (W.contents output.old) (W.contents output.new))
+    ensures counts { Counts agreements.now (W.contents output.old) (W.contents output.new)
         (Appends (E.contents errors.old) (E.contents errors.new)) result }
 {
     if write_counts(agreements, output).is_err() {
@@ -226,7 +227,7 @@ fn check<W: Write, E: Write>(agreements: &Agreements, output: &mut W, errors: &m
     }
 }
 
-/// Answers the first post of the input, where there are records to answer it from, and gives their connection back.
+/// Answers the requests of the input, where there are records to answer them from, and gives their connection back.
 fn post<S: Alter + Drop, R: Read, W: Write, E: Write>(
     alloc: Global,
     agreements: &Agreements,
@@ -242,7 +243,7 @@ fn post<S: Alter + Drop, R: Read, W: Write, E: Write>(
         × Fails kept (Appends (E.contents errors.old) (E.contents errors.new)) result.0)
         ⊎ Posts agreements.now posting.moment (stands_for kept posting.first) (R.remaining input.old) (R.remaining input.new)
         (λ t. IfSome result.1 (λ conn. Rests (state S.Store conn) t))
-        (Appends (W.contents output.old) (W.contents output.new)) (Appends (E.contents errors.old) (E.contents errors.new)) result.0 }
+        (W.contents output.old) (W.contents output.new) (Appends (E.contents errors.old) (E.contents errors.new)) result.0 }
     ensures store { result.0.status ≡ failed → Stopped (input.new ≡ input.old) (output.new ≡ output.old)
         (Appends (E.contents errors.old) (E.contents errors.new)) result.0 }
     ensures handed { (input.new ≡ input.old) ⊎ IsSome result.1 }
@@ -250,7 +251,7 @@ fn post<S: Alter + Drop, R: Read, W: Write, E: Write>(
     match records {
         Ok(store) => {
             let mut station = Station::new(store);
-            let end = first_post(
+            let end = serve(
                 alloc,
                 agreements,
                 posting.moment,

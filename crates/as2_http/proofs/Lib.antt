@@ -5,6 +5,11 @@ pub mod Judging
 pub mod Framed
 pub mod Parsing
 pub mod Alone
-pub mod Arriving
+pub mod TakenPosts
+pub mod Unsaid
+pub mod Streaming
+pub mod Serving
 pub mod Dated
 pub mod Phrases
+pub mod Repeated
+pub mod Alike

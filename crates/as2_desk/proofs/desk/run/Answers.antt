@@ -24,7 +24,7 @@ returns-in-Ok-clause-runs g c = λ path store task gives.
     (g.R.Read.remaining c.args.input.now) (g.R.Read.remaining c.carry_out.new.input)
     (c.carry_out.new.input ≡ c.args.input.now) (c.carry_out.new.output ≡ c.args.output.now)
     (λ t. IfSome c.carry_out.result.1 (λ l. Rests (state g.O.Kind.Store l.1) t))
-    (Appends (g.W.Write.contents c.args.output.now) (g.W.Write.contents c.carry_out.new.output))
+    (g.W.Write.contents c.args.output.now) (g.W.Write.contents c.carry_out.new.output)
     (Appends (g.E.Write.contents c.args.errors.now) (g.E.Write.contents c.carry_out.new.errors)) c.carry_out.result.0)
     c.in-Ok.ensures.given gives (record { opened = c.agreements_in-agreed.result; opens = c.agreements_in-agreed.ensures; comes = c.carry_out.ensures.comes }))
 
