@@ -12,7 +12,6 @@ mod options;
 mod refusal;
 mod status;
 mod stores;
-mod streams;
 
 pub use as2_exchange::StoreFault;
 pub use as2_http::Served;

@@ -25,6 +25,7 @@ pub use parser::{Parsed, RequestParser};
 pub use reply::{Form, refusal, write_reply};
 pub use request::Request;
 pub use response::Response;
+pub use sending::push_all;
 pub use stream::{Served, serve_stream};
 
 #[cfg(test)]

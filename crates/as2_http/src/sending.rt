@@ -23,7 +23,7 @@ pub enum SendFault {
 }
 
 /// Writes all the bytes, or the first of them.
-fn push_all<W: Sink>(sink: &mut W, bytes: &[u8]) -> Result<(), DeviceFault>
+pub fn push_all<W: Sink>(sink: &mut W, bytes: &[u8]) -> Result<(), DeviceFault>
     ensures whole { OnOk result (Appends (W.written sink.old) (W.written sink.new) bytes.now) }
     ensures part { OnErr result (AppendsPart (W.written sink.old) (W.written sink.new) bytes.now) }
     ensures failed { OnErr result (W.failed sink.old < W.failed sink.new) }
