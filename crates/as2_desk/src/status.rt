@@ -2,7 +2,6 @@
 ghost use Rattle.std.specs.Prelude.{◌≡◌};
 ghost use Rattle.as2_desk.specs.Statuses.{end_name};
 
-
 use as2_http::Served;
 
 /// How a command line ended.

@@ -7,9 +7,14 @@ pub mod Parsing
 pub mod Alone
 pub mod TakenPosts
 pub mod Unsaid
+pub mod Pushing
 pub mod Streaming
 pub mod Serving
 pub mod Dated
 pub mod Phrases
 pub mod Repeated
 pub mod Alike
+pub mod AnswerHeads
+pub mod Answered
+pub mod AnswerReads
+pub mod OneAnswer

@@ -367,16 +367,20 @@ serves_long A moment s input p c unread before now i j w =
 
 -- memory for the reads was wanting
 pub serves_nothing : (A : AgreedValues) (moment : ℕ) (s : State) (input : List ℕ) (c : Connected) (unread now : Option (List ℕ)) (calls : ℕ) → Rests c s → unread ≡ Some input → LeavesServed A moment s input unread c now now calls calls served.Memory
-serves_nothing A moment s input c unread now calls rests known = (s, rests, record {
-  done = [];
-  mid = s;
-  replies = [];
-  rest = input;
-  all = (refl, refl, refl);
-  run = refl;
-  ends = (tt, for_request refl (Appends-nil now));
-  reads = record { pieces = []; read = []; left = input; counted = omega arith; needed = refl; whole = refl; known = known };
-})
+serves_nothing A moment s input c unread now calls rests known = (
+  s,
+  rests,
+  record {
+    done = [];
+    mid = s;
+    replies = [];
+    rest = input;
+    all = (refl, refl, refl);
+    run = refl;
+    ends = (tt, for_request refl (Appends-nil now));
+    reads = record { pieces = []; read = []; left = input; counted = omega arith; needed = refl; whole = refl; known = known };
+  },
+)
 
 -- a piece ends no stream so
 pub not_read : (end : Served) → may_end_piece end ≡ true → end ≡ served.ReadFault → ⊥

@@ -1,7 +1,6 @@
 -- What the requests of a stream get, put together from its pieces.
 use Rattle.std.proofs.Common.{◌≡◌, ◌<◌, ◌≤◌, ℕ, true, false, List, [], ◌∷◌, ◌++◌, length, take, drop, Option, Some, None, Result, Ok, Err, refl, sym, ap, ◌∙◌, subst, append_assoc, append-nil, arith}
 use Rattle.std.proofs.KnownBytes.{Appends-nil, Appends-trans}
-use Rattle.std.proofs.lemmas.List.{take-append-drop}
 use Rattle.std.specs.Io.KnownBytes.{Appends}
 use Rattle.sqlite.specs.State.{State as Connected}
 use Rattle.as2_agreement.specs.Agreements.{AgreedValues}
@@ -22,21 +21,6 @@ use Rattle.as2_http.specs.declared.sending.SendFault.{SendFault}
 use Rattle.as2_http.specs.declared.sending.SendFault.TheVariants as send_fault
 use Rattle.as2_http.specs.declared.stream.Served.TheVariants as served
 use Rattle.as2_http.proofs.Framed.{begins_append, refuses_append}
-
--- ---- a text that is written in parts
-
--- the first of the bytes were written, and these are left
-pub record Pushed (before now : Option (List ℕ)) (bytes rest : List ℕ) : Type 0 where
-  pub part : List ℕ
-  pub cut : bytes ≡ part ++ rest
-  pub appended : Appends before now part
-
-pub pushed_more : (before mid now : Option (List ℕ)) (bytes rest : List ℕ) (n : ℕ) → Pushed before mid bytes rest → Appends mid now (take n rest) → Pushed before now bytes (drop n rest)
-pushed_more before mid now bytes rest n w a = record {
-  part = w.part ++ take n rest;
-  cut = w.cut ∙ ap (λ (t : List ℕ). w.part ++ t) (sym (take-append-drop n rest)) ∙ sym (append_assoc w.part (take n rest) (drop n rest));
-  appended = Appends-trans before mid now w.part (take n rest) w.appended a;
-}
 
 -- ---- requests, one after the other
 

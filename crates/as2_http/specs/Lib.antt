@@ -13,3 +13,6 @@ pub mod Sending
 pub mod Streams
 pub mod StreamReads
 pub mod StreamLaws
+pub mod Answering
+pub mod AnswerPieces
+pub mod AnswerLaws

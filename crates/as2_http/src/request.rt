@@ -96,7 +96,7 @@ fn is_last(minor: u8, fields: &Head) -> bool
 }
 
 /// The fields of a head.
-fn fields_of(alloc: Global, text: &[u8], spans: &[HeaderSpan]) -> Result<Head, NotJudged>
+pub(crate) fn fields_of(alloc: Global, text: &[u8], spans: &[HeaderSpan]) -> Result<Head, NotJudged>
     requires within { All (IsHeaderWithin (length text.now)) spans.now }
     ensures found { IfOk result (λ fields. appended [] (map (header_bytes text.now) spans.now) ≡ Some fields) }
     ensures none { result ≡ Err NotJudged.BadHead → appended [] (map (header_bytes text.now) spans.now) ≡ None }

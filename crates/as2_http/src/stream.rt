@@ -1,6 +1,5 @@
 //! The requests of a stream, answered one after the other.
 ghost use Rattle.std.specs.Prelude.{◌≡◌, ◌⊎◌, ◌+◌, ◌<◌, ◌≤◌, List, ℕ, [], ◌++◌, take, vec_len, Option, Some, None, Err, IfSome, true};
-ghost use Rattle.std.specs.Io.KnownBytes.{Consumes, IsAtEnd, Keeps};
 ghost use Rattle.as2_http.specs.HeadText.{unblank};
 ghost use Rattle.as2_http.specs.declared.stream.Served.TheVariants.{Closed, ReadFault, TooLong, Truncated, WriteFault};
 ghost use Rattle.as2_http.specs.declared.sending.SendFault.TheVariants.{Write};
@@ -14,6 +13,7 @@ ghost use Rattle.as2_http.specs.Streams.{AnswersPiece, Replied, end_by, may_end_
 
 use crate::device::{Sink, Source};
 use crate::parser::{Parsed, RequestParser};
+use crate::reads::{READ_LIMIT, READS, pull};
 use crate::reply::Form;
 use crate::request::Request;
 use crate::response::respond;
@@ -23,12 +23,6 @@ use as2_station::Station;
 use as2_text::Moment;
 use sqlite::Alter;
 use std::alloc::Global;
-
-/// The most reads that are made of one stream.
-const READS: u32 = 100_000;
-
-/// The most bytes that one read asks for.
-const READ_LIMIT: usize = 65_536;
 
 /// What a stream came to.
 #[derive(Clone, Copy, Debug, PartialEq, Eq)]
@@ -128,23 +122,6 @@ fn answer_piece<S: Alter, W: Sink>(
         }
     }
     None
-}
-
-/// Makes one read, and tells how many bytes it gave, unless it failed.
-fn pull<R: Source>(source: &mut R, buffer: &mut Vec<u8>) -> Option<usize>
-    ensures given { IfSome result (λ n. Consumes (R.left source.old) (R.left source.new) (take n buffer.new.items)) }
-    ensures within { IfSome result (λ n. n ≤ vec_len buffer.new) }
-    ensures room { vec_len buffer.new ≡ vec_len buffer.old }
-    ensures ended { result ≡ Some 0 → 0 < vec_len buffer.old → IsAtEnd (R.left source.new) }
-    ensures kept { result ≡ None → Keeps (R.left source.old) (R.left source.new) }
-    ensures calls { R.calls source.new ≡ R.calls source.old + 1 }
-    ensures failed { result ≡ None → R.failed source.old < R.failed source.new }
-    ensures counted { R.failed source.old ≤ R.failed source.new }
-{
-    match source.pull(buffer) {
-        Ok(count) => Some(count),
-        Err(_) => None,
-    }
 }
 
 /// How a stream ends that has no more bytes.

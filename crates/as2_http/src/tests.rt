@@ -1,4 +1,5 @@
 // Expected values are those of the project's profile of HTTP, and of RFC 9112.
+mod answers;
 mod limits;
 mod pieces;
 mod refusals;

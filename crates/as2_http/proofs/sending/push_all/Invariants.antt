@@ -1,5 +1,5 @@
 use Rattle.std.proofs.Common.{◌≤◌, length}
-use Rattle.as2_http.proofs.Streaming.{Pushed}
+use Rattle.as2_http.proofs.Pushing.{Pushed}
 use Rattle.as2_http.proofs.sending.push_all.Given as goal
 
 abbrev pub invariant-loop-rest : goal.invariant-loop-rest
