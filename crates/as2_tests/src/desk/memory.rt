@@ -122,16 +122,13 @@ impl Calls {
         ..Calls::ALL
     };
 
-    /// Counts a call; what it comes to where it doesn't succeed.
-    fn fault(&mut self) -> Option<IoResult<usize>> {
+    /// Counts a call that succeeds; whether it doesn't.
+    fn is_out(&mut self) -> bool {
         if self.sound == 0 {
-            return match self.fault {
-                Fault::Broken => Some(Err(Error::from(ErrorKind::BrokenPipe))),
-                Fault::Nothing => Some(Ok(0)),
-            };
+            return true;
         }
         self.sound -= 1;
-        None
+        false
     }
 }
 
@@ -162,8 +159,11 @@ impl Input<'_> {
 
 impl Read for Input<'_> {
     fn read(&mut self, buf: &mut [u8]) -> IoResult<usize> {
-        if let Some(fault) = self.calls.fault() {
-            return fault;
+        if self.calls.is_out() {
+            return match self.calls.fault {
+                Fault::Broken => Err(Error::from(ErrorKind::BrokenPipe)),
+                Fault::Nothing => Ok(0),
+            };
         }
         if self.part.is_empty()
             && let Some((first, rest)) = self.next.split_first()
@@ -194,8 +194,11 @@ impl Paper {
 
 impl Write for Paper {
     fn write(&mut self, buf: &[u8]) -> IoResult<usize> {
-        if let Some(fault) = self.calls.fault() {
-            return fault;
+        if self.calls.is_out() {
+            return match self.calls.fault {
+                Fault::Broken => Err(Error::from(ErrorKind::BrokenPipe)),
+                Fault::Nothing => Ok(0),
+            };
         }
         let most = min(buf.len(), self.calls.most);
         self.bytes.write(&buf[..most])
