@@ -9,6 +9,7 @@ mod memory;
 mod posts;
 mod receipts;
 mod served;
+mod sockets;
 mod stores;
 mod streams;
 
