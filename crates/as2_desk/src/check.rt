@@ -1,14 +1,19 @@
 //! The command `check`: how many members agreements have.
-ghost use Rattle.std.specs.Prelude.{◌≡◌, IfOk, string_bytes};
+ghost use Rattle.std.specs.Prelude.{◌≡◌, OnOk};
+ghost use Rattle.std.specs.Io.KnownBytes.{Appends};
 ghost use Rattle.as2_desk.specs.Checks.{counts_line};
 
 use as2_agreement::Agreements;
-use std::alloc::{AllocError, Global};
+use std::io;
+use std::io::Write;
 
-/// The line that says how many organizations and partners there are.
-pub(crate) fn counts(alloc: Global, agreements: &Agreements) -> Result<String, AllocError>
-    ensures { IfOk result (λ line. string_bytes line ≡ counts_line agreements.now) }
+/// Writes how many organizations and partners there are.
+pub(crate) fn write_counts<W: Write>(agreements: &Agreements, output: &mut W) -> io::Result<()>
+    ensures { OnOk result (Appends (W.contents output.old) (W.contents output.new) (counts_line agreements.now)) }
 {
     let (organizations, partners) = agreements.counts();
-    format!(in alloc; "organizations {organizations}, partners {partners}\n")
+    write!(
+        output,
+        "organizations {organizations}, partners {partners}\n"
+    )
 }

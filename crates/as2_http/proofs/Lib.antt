@@ -5,16 +5,6 @@ pub mod Judging
 pub mod Framed
 pub mod Parsing
 pub mod Alone
-pub mod TakenPosts
-pub mod Unsaid
-pub mod Pushing
-pub mod Streaming
-pub mod Serving
+pub mod Arriving
 pub mod Dated
 pub mod Phrases
-pub mod Repeated
-pub mod Alike
-pub mod AnswerHeads
-pub mod Answered
-pub mod AnswerReads
-pub mod OneAnswer

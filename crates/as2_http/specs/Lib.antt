@@ -1,4 +1,3 @@
-pub mod Devices
 pub mod HeadText
 pub mod Scanning
 pub mod HeadPieces
@@ -6,13 +5,7 @@ pub mod Framing
 pub mod Requests
 pub mod Laws
 pub mod Parsing
+pub mod Inputs
 pub mod Reading
+pub mod Arrivals
 pub mod Replies
-pub mod Responses
-pub mod Sending
-pub mod Streams
-pub mod StreamReads
-pub mod StreamLaws
-pub mod Answering
-pub mod AnswerPieces
-pub mod AnswerLaws

@@ -1,6 +1,5 @@
 //! Command lines: help, faults, clocks, and output that cannot be written.
-use super::memory::Calls;
-use super::{Case, FIXTURE, PLAIN, check, check_all, post};
+use super::{Broken, Case, FIXTURE, PLAIN, check, check_all, post};
 use crate::texts::{NOTHING, Text};
 use std::alloc::{AllocError, Global};
 use std::process::Abort;
@@ -429,7 +428,7 @@ fn a_moment_is_wanted_where_the_clock_tells_none(rt: HostRuntime) -> Result<(), 
 
 /// The plain post, whose reply can't be written.
 const UNWRITTEN: Case = Case {
-    writes: Calls::NONE,
+    broken: Broken::Output,
     status: 1,
     output: NOTHING,
     errors: &["refused: WriteFault\n"],
