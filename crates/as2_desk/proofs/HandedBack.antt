@@ -12,10 +12,11 @@ each_known P Q None p f = tt
 each_known P Q (Some s) p f = f s p
 
 -- it may be said in other words
-pub posts_left : (A : AgreedValues) (moment : ℕ) (known : Option State) (before after : Option (List ℕ)) (Left Later : State → Type 0) (Wrote Said : List ℕ → Type 0) (ran : Ran)
-    → ((t : State) → Left t → Later t) → Posts A moment known before after Left Wrote Said ran → Posts A moment known before after Later Wrote Said ran
-posts_left A moment known before after Left Later Wrote Said ran later it = record {
+pub posts_left : (A : AgreedValues) (moment : ℕ) (known : Option State) (before after : Option (List ℕ)) (calls later_calls : ℕ) (Left Later : State → Type 0) (written now : Option (List ℕ)) (Said : List ℕ → Type 0) (ran : Ran)
+    → ((t : State) → Left t → Later t) → Posts A moment known before after calls later_calls Left written now Said ran → Posts A moment known before after calls later_calls Later written now Said ran
+posts_left A moment known before after calls later_calls Left Later written now Said ran later it = record {
   end = it.end;
+  posts = each_known _ _ known it.posts (λ s left. (left.0, later left.0 left.1, left.2));
   serves = each_known _ _ known it.serves (λ s serves input is. let served = serves input is in (served.0, later served.0 served.1, served.2));
   told = it.told;
 }

@@ -4,7 +4,3 @@ mod HandedBack
 mod StreamEnds
 mod Numbers
 mod Ranges
-pub mod SentReplies
-mod TakenPosts
-pub mod Unsaid
-mod OneReply

@@ -3,8 +3,8 @@ use Rattle.std.proofs.Common.{◌≡◌, ℕ, List, refl, arith}
 use Rattle.as2_desk.specs.Refusals.{end_line, error_line}
 use Rattle.as2_desk.specs.Runs.{Ends}
 use Rattle.as2_desk.specs.Statuses.{done, failed, refused, exit_status}
-use Rattle.as2_desk.specs.declared.first_request.Served.{Served}
-use Rattle.as2_desk.specs.declared.first_request.Served.TheVariants.{Closed, Truncated, BadFraming, ReadFault, WriteFault, Memory, TooLong}
+use Rattle.as2_http.specs.declared.stream.Served.{Served}
+use Rattle.as2_http.specs.declared.stream.Served.TheVariants.{Closed, Truncated, BadFraming, ReadFault, WriteFault, Memory, TooLong}
 use Rattle.as2_desk.specs.declared.refusal.CommandFault.TheVariants.{Stream}
 use Rattle.as2_desk.specs.declared.status.Ran.{Ran}
 

@@ -5,8 +5,5 @@ pub mod Refusals
 pub mod FileContents
 pub mod FileAgreements
 pub mod Stores
-pub mod Responses
-pub mod FirstRequest
-pub mod Laws
 pub mod Checks
 pub mod Runs

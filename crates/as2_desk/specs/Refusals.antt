@@ -6,8 +6,8 @@ use Rattle.as2_agreement.specs.declared.key.Key.{Key}
 use Rattle.as2_exchange.specs.declared.fault.StoreFault.{StoreFault}
 use Rattle.as2_exchange.specs.declared.fault.StoreFault.TheVariants as store_fault
 use Rattle.as2_desk.specs.Statuses.{end_name, failed, refused}
-use Rattle.as2_desk.specs.declared.first_request.Served.{Served}
-use Rattle.as2_desk.specs.declared.first_request.Served.TheVariants as end
+use Rattle.as2_http.specs.declared.stream.Served.{Served}
+use Rattle.as2_http.specs.declared.stream.Served.TheVariants as end
 use Rattle.as2_desk.specs.declared.refusal.CommandFault.{CommandFault}
 use Rattle.as2_desk.specs.declared.stores.OpenFault.{OpenFault}
 use Rattle.as2_desk.specs.declared.stores.OpenFault.TheVariants.{Held, Store}

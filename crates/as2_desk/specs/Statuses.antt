@@ -1,7 +1,7 @@
 -- How the end of a stream is told to a shell: by the exit status, and by a name.
 use Rattle.std.specs.Prelude.{ℕ, List, codes}
-use Rattle.as2_desk.specs.declared.first_request.Served.{Served}
-use Rattle.as2_desk.specs.declared.first_request.Served.TheVariants as end
+use Rattle.as2_http.specs.declared.stream.Served.{Served}
+use Rattle.as2_http.specs.declared.stream.Served.TheVariants as end
 
 -- the exit statuses
 abbrev pub done : ℕ

@@ -17,28 +17,28 @@ ghost use Rattle.as2_desk.specs.declared.stores.OpenFault.{OpenFault as TheFault
 ghost use Rattle.as2_desk.specs.declared.refusal.CommandFault.TheVariants.{Memory, Store as Failing};
 
 use crate::agreed::agreements_in;
-use crate::check::write_counts;
+use crate::check::counts;
 use crate::command::command;
 use crate::files::ReadFiles;
-use crate::first_request::{Served, first_post};
 use crate::options::{OptionFault, Options, Posting, Task};
 use crate::refusal::{CommandFault, is_said, refusal_status};
 use crate::status::{DONE, FAULTY, Ran};
 use crate::stores::{OpenFault, OpenStores, records_in, records_in_memory};
 use as2_agreement::Agreements;
+use as2_http::{Served, Sink, Source, push_all, serve_stream};
 use as2_station::Station;
 use as2_store::Store;
 use clap::error::ErrorKind;
 use clap::{ArgMatches, Command, Error};
 use sqlite::{Alter, Connection};
 use std::alloc::{AllocError, Global};
-use std::io::{Read, Write};
+use std::io::Write;
 
 /// Runs the command line `words`, which begin with the program's name. `clock` is the moment where the options give
 /// none, in seconds since 1970, if it can be told. The agreements are read from `files`; a store is opened from `stores`,
 /// or in memory where its path is `:memory:`. What the command has to say goes to `output`; why something was refused or
 /// is faulty, to `errors`. A store that was opened from `stores` is handed back with its path, for the caller to close.
-pub fn run<'a, F: ReadFiles, O: OpenStores, R: Read, W: Write, E: Write>(
+pub fn run<'a, F: ReadFiles, O: OpenStores, R: Source, W: Sink, E: Write>(
     alloc: Global,
     words: &'a [&'a str],
     clock: Option<u64>,
@@ -56,9 +56,9 @@ pub fn run<'a, F: ReadFiles, O: OpenStores, R: Read, W: Write, E: Write>(
     ensures runs { (path store : List ℕ) (task : TheTask)
         → Gives (texts words.entry.now) clock path store task
         → Runs (F.content files.now path) (kept_at store (O.kept stores.now store)) task
-        (R.remaining input.old) (R.remaining input.new) (input.new ≡ input.old) (output.new ≡ output.old)
+        (R.left input.old) (R.left input.new) (R.calls input.old) (R.calls input.new) (input.new ≡ input.old) (output.new ≡ output.old)
         (λ t. IfSome result.1 (λ l. Rests (state O.Kind.Store l.1) t))
-        (Appends (W.contents output.old) (W.contents output.new)) (Appends (E.contents errors.old) (E.contents errors.new)) result.0
+        (W.written output.old) (W.written output.new) (Appends (E.contents errors.old) (E.contents errors.new)) result.0
         ⊎ ((input.new ≡ input.old) × (output.new ≡ output.old)
         × EndsRefused Memory (Appends (E.contents errors.old) (E.contents errors.new)) result.0) }
     // A store that was opened for the post is handed back, with its path.
@@ -126,7 +126,7 @@ fn explained(
 }
 
 /// Does what is asked for, where there are agreements to do it over.
-fn carry_out<'a, O: OpenStores, R: Read, W: Write, E: Write>(
+fn carry_out<'a, O: OpenStores, R: Source, W: Sink, E: Write>(
     alloc: Global,
     options: &Options<'a>,
     agreed: Result<Agreements, CommandFault>,
@@ -137,9 +137,9 @@ fn carry_out<'a, O: OpenStores, R: Read, W: Write, E: Write>(
 ) -> (Ran, Option<(&'a str, Connection<O::Kind>)>)
     ensures status { (result.0.status ≡ done) ⊎ ((result.0.status ≡ refused) ⊎ (result.0.status ≡ failed)) }
     ensures comes { Comes agreed (kept_at options.now.store.now (O.kept stores.now options.now.store.now)) options.now.task
-        (R.remaining input.old) (R.remaining input.new) (input.new ≡ input.old) (output.new ≡ output.old)
+        (R.left input.old) (R.left input.new) (R.calls input.old) (R.calls input.new) (input.new ≡ input.old) (output.new ≡ output.old)
         (λ t. IfSome result.1 (λ l. Rests (state O.Kind.Store l.1) t))
-        (Appends (W.contents output.old) (W.contents output.new)) (Appends (E.contents errors.old) (E.contents errors.new)) result.0 }
+        (W.written output.old) (W.written output.new) (Appends (E.contents errors.old) (E.contents errors.new)) result.0 }
     ensures store { result.0.status ≡ failed → Stopped (input.new ≡ input.old) (output.new ≡ output.old)
         (Appends (E.contents errors.old) (E.contents errors.new)) result.0 }
     ensures handed { HandsBack options.now.store.now (input.new ≡ input.old) (option_map (λ l. l.0.now) result.1) }
@@ -149,7 +149,7 @@ fn carry_out<'a, O: OpenStores, R: Read, W: Write, E: Write>(
         Err(refusal) => return (refuse(refusal, errors), None),
     };
     match options.task {
-        Task::Check => (check(&agreements, output, errors), None),
+        Task::Check => (check(alloc, &agreements, output, errors), None),
         Task::Post(posting) => {
             let path = options.store;
             post_over(
@@ -166,8 +166,8 @@ fn carry_out<'a, O: OpenStores, R: Read, W: Write, E: Write>(
     }
 }
 
-/// Answers the first post of the input over the store of that path, and hands the store back.
-fn post_over<'a, O: OpenStores, R: Read, W: Write, E: Write>(
+/// Answers the requests of the input over the store of that path, and hands the store back.
+fn post_over<'a, O: OpenStores, R: Source, W: Sink, E: Write>(
     alloc: Global,
     agreements: &Agreements,
     posting: Posting,
@@ -181,8 +181,8 @@ fn post_over<'a, O: OpenStores, R: Read, W: Write, E: Write>(
     ensures posts { ((input.new ≡ input.old) × (output.new ≡ output.old)
         × Fails (kept_at path.now (O.kept stores.now path.now)) (Appends (E.contents errors.old) (E.contents errors.new)) result.0)
         ⊎ Posts agreements.now posting.moment (stands_for (kept_at path.now (O.kept stores.now path.now)) posting.first)
-        (R.remaining input.old) (R.remaining input.new) (λ t. IfSome result.1 (λ l. Rests (state O.Kind.Store l.1) t))
-        (Appends (W.contents output.old) (W.contents output.new)) (Appends (E.contents errors.old) (E.contents errors.new)) result.0 }
+        (R.left input.old) (R.left input.new) (R.calls input.old) (R.calls input.new) (λ t. IfSome result.1 (λ l. Rests (state O.Kind.Store l.1) t))
+        (W.written output.old) (W.written output.new) (Appends (E.contents errors.old) (E.contents errors.new)) result.0 }
     ensures store { result.0.status ≡ failed → Stopped (input.new ≡ input.old) (output.new ≡ output.old)
         (Appends (E.contents errors.old) (E.contents errors.new)) result.0 }
     ensures handed { HandsBack path.now (input.new ≡ input.old) (option_map (λ l. l.0.now) result.1) }
@@ -212,12 +212,20 @@ fn under<'a, S: Alter + Drop>(
 }
 
 /// Tells how many organizations and partners there are.
-fn check<W: Write, E: Write>(agreements: &Agreements, output: &mut W, errors: &mut E) -> Ran
+fn check<W: Sink, E: Write>(
+    alloc: Global,
+    agreements: &Agreements,
+    output: &mut W,
+    errors: &mut E,
+) -> Ran
     ensures status { (result.status ≡ done) ⊎ (result.status ≡ refused) }
-    ensures counts { Counts agreements.now (Appends (W.contents output.old) (W.contents output.new))
+    ensures counts { Counts agreements.now (W.written output.old) (W.written output.new)
         (Appends (E.contents errors.old) (E.contents errors.new)) result }
 {
-    if write_counts(agreements, output).is_err() {
+    let Ok(line) = counts(alloc, agreements) else {
+        return refuse(CommandFault::Memory, errors);
+    };
+    if push_all(output, line.as_bytes()).is_err() {
         return refuse(CommandFault::CannotWrite, errors);
     }
     Ran {
@@ -226,8 +234,8 @@ fn check<W: Write, E: Write>(agreements: &Agreements, output: &mut W, errors: &m
     }
 }
 
-/// Answers the first post of the input, where there are records to answer it from, and gives their connection back.
-fn post<S: Alter + Drop, R: Read, W: Write, E: Write>(
+/// Answers the requests of the input, where there are records to answer them from, and gives their connection back.
+fn post<S: Alter + Drop, R: Source, W: Sink, E: Write>(
     alloc: Global,
     agreements: &Agreements,
     posting: Posting,
@@ -240,9 +248,9 @@ fn post<S: Alter + Drop, R: Read, W: Write, E: Write>(
     ensures posts { (kept : Kept) → Holds S.Store kept posting.first records
         → ((input.new ≡ input.old) × (output.new ≡ output.old)
         × Fails kept (Appends (E.contents errors.old) (E.contents errors.new)) result.0)
-        ⊎ Posts agreements.now posting.moment (stands_for kept posting.first) (R.remaining input.old) (R.remaining input.new)
+        ⊎ Posts agreements.now posting.moment (stands_for kept posting.first) (R.left input.old) (R.left input.new) (R.calls input.old) (R.calls input.new)
         (λ t. IfSome result.1 (λ conn. Rests (state S.Store conn) t))
-        (Appends (W.contents output.old) (W.contents output.new)) (Appends (E.contents errors.old) (E.contents errors.new)) result.0 }
+        (W.written output.old) (W.written output.new) (Appends (E.contents errors.old) (E.contents errors.new)) result.0 }
     ensures store { result.0.status ≡ failed → Stopped (input.new ≡ input.old) (output.new ≡ output.old)
         (Appends (E.contents errors.old) (E.contents errors.new)) result.0 }
     ensures handed { (input.new ≡ input.old) ⊎ IsSome result.1 }
@@ -250,7 +258,7 @@ fn post<S: Alter + Drop, R: Read, W: Write, E: Write>(
     match records {
         Ok(store) => {
             let mut station = Station::new(store);
-            let end = first_post(
+            let end = serve_stream(
                 alloc,
                 agreements,
                 posting.moment,
@@ -291,7 +299,7 @@ fn refuse<E: Write>(refusal: CommandFault, errors: &mut E) -> Ran
 }
 
 /// Says why nothing is run: help and the version on `output`, a fault on `errors`.
-fn tell<W: Write, E: Write>(alloc: Global, error: &Error, output: &mut W, errors: &mut E) -> Ran
+fn tell<W: Sink, E: Write>(alloc: Global, error: &Error, output: &mut W, errors: &mut E) -> Ran
     ensures status { (result.status ≡ done) ⊎ ((result.status ≡ refused) ⊎ (result.status ≡ faulty)) }
     ensures fault { ¬ IsHelp (kind_of error.now)
         → ((result.status ≡ faulty) ⊎ (result.status ≡ refused)) × (output.new ≡ output.old) }
@@ -312,7 +320,7 @@ fn tell<W: Write, E: Write>(alloc: Global, error: &Error, output: &mut W, errors
             told: errors.write_all(text.as_bytes()).is_ok(),
         };
     }
-    if output.write_all(text.as_bytes()).is_err() {
+    if push_all(output, text.as_bytes()).is_err() {
         return refuse(CommandFault::CannotWrite, errors);
     }
     Ran {

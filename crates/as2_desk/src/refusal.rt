@@ -3,11 +3,11 @@ ghost use Rattle.std.specs.Prelude.{◌≡◌, OnOk, true};
 ghost use Rattle.std.specs.Io.KnownBytes.{Appends};
 ghost use Rattle.as2_desk.specs.Refusals.{agreements_line, error_line, refusal_status, refused_line, store_fault_name, store_lines};
 
-use crate::first_request::Served;
 use crate::status::{FAILED, REFUSED, end_name};
 use crate::stores::OpenFault;
 use as2_agreement::AgreementFault;
 use as2_exchange::StoreFault;
+use as2_http::Served;
 use std::io;
 use std::io::Write;
 

@@ -2,7 +2,7 @@
 ghost use Rattle.std.specs.Prelude.{◌≡◌};
 ghost use Rattle.as2_desk.specs.Statuses.{end_name};
 
-use crate::first_request::Served;
+use as2_http::Served;
 
 /// How a command line ended.
 #[derive(Clone, Copy, Debug, PartialEq, Eq)]

@@ -12,16 +12,16 @@ use Rattle.as2_http.specs.declared.framing.Method.{Method}
 use Rattle.as2_http.specs.declared.framing.Target.{Target}
 use Rattle.as2_http.specs.declared.framing.RequestFault.{RequestFault}
 use Rattle.as2_http.specs.declared.framing.Refused.{Refused}
-use Rattle.as2_http.specs.declared.arrival.Request.{Request}
+use Rattle.as2_http.specs.declared.request.Request.{Request}
 
 -- a text is cut in one way at one length
-one_cut : (a b x y : List ℕ) → length a ≡ length b → a ++ x ≡ b ++ y → (a ≡ b) × (x ≡ y)
+pub one_cut : (a b x y : List ℕ) → length a ≡ length b → a ++ x ≡ b ++ y → (a ≡ b) × (x ≡ y)
 one_cut a b x y n e = (
   sym (take-append_seam a x) ∙ rw n (ap (take (length b)) e) ∙ take-append_seam b y,
   sym (drop-append_seam a x) ∙ rw n (ap (drop (length b)) e) ∙ drop-append_seam b y,
 )
 
-one_head_text : (text a b x y : List ℕ) → HasHeadText text a x → HasHeadText text b y → (a ≡ b) × (x ≡ y)
+pub one_head_text : (text a b x y : List ℕ) → HasHeadText text a x → HasHeadText text b y → (a ≡ b) × (x ≡ y)
 one_head_text text a b x y h k = one_cut a b x y (cc (sym h.0 ∙ k.0)) (sym h.1 ∙ k.1)
 
 no_head_text : (text a x : List ℕ) → HasHeadText text a x → HasNoHeadText text → ⊥

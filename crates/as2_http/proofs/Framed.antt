@@ -4,7 +4,7 @@ use Rattle.std.proofs.lemmas.List.{take-append-le, length-append}
 use Rattle.httparse.specs.Grammar.{RequestHead}
 use Rattle.as2_http.specs.HeadText.{HasNoHeadText, head_limit}
 use Rattle.as2_http.specs.Requests.{Fields, Frames, Begins, IsRefused, too_long, no_head, framing}
-use Rattle.as2_http.specs.declared.arrival.Request.{Request}
+use Rattle.as2_http.specs.declared.request.Request.{Request}
 use Rattle.as2_http.specs.declared.framing.RequestFault.{RequestFault}
 use Rattle.as2_http.specs.declared.framing.Refused.{Refused}
 use Rattle.as2_http.proofs.Heads.{head_append}

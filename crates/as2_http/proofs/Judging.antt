@@ -14,7 +14,7 @@ use Rattle.as2_names.specs.Heads.{is_field, field_of}
 use Rattle.as2_http.specs.Requests.{Fields, appended, IsHead}
 
 -- a head takes no more than 64 fields
-appended_fits : (fields more all : Fields) → length fields ≤ 64 → appended fields more ≡ Some all → length fields + length more ≤ 64
+pub appended_fits : (fields more all : Fields) → length fields ≤ 64 → appended fields more ≡ Some all → length fields + length more ≤ 64
 appended_fits fields [] all fits h = omega arith
 appended_fits fields (f ∷ more) all fits h =
     elim (cases_Bool (is_field f.0 f.1)) [

@@ -4,7 +4,7 @@ use Rattle.as2_exchange.specs.declared.answer.HttpAnswer.{HttpAnswer}
 use Rattle.as2_http.specs.Replies.{IsReply}
 use Rattle.as2_http.specs.Requests.{Begins, IsRefused, IsOpen}
 use Rattle.as2_http.specs.declared.framing.Refused.{Refused}
-use Rattle.as2_http.specs.declared.arrival.Request.{Request}
+use Rattle.as2_http.specs.declared.request.Request.{Request}
 use Rattle.as2_http.specs.declared.reply.Form.{Form}
 
 -- two requests that a text begins with are one, and so is what follows

@@ -1,3 +1,4 @@
+pub mod Devices
 pub mod HeadText
 pub mod Scanning
 pub mod HeadPieces
@@ -5,7 +6,14 @@ pub mod Framing
 pub mod Requests
 pub mod Laws
 pub mod Parsing
-pub mod Inputs
 pub mod Reading
-pub mod Arrivals
 pub mod Replies
+pub mod Responses
+pub mod Sending
+pub mod InputReads
+pub mod Streams
+pub mod StreamReads
+pub mod StreamLaws
+pub mod Answering
+pub mod AnswerPieces
+pub mod AnswerLaws

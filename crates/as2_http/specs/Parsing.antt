@@ -5,7 +5,7 @@ use Rattle.as2_http.specs.HeadText.{unblank, HasHeadText}
 use Rattle.as2_http.specs.HeadPieces.{HoldsHead}
 use Rattle.as2_http.specs.Requests.{Frames, Begins, IsRefused, IsOpen, method_of, target_of, is_last_request}
 use Rattle.as2_http.specs.declared.head_bytes.HeadBytes.{HeadBytes}
-use Rattle.as2_http.specs.declared.arrival.Request.{Request}
+use Rattle.as2_http.specs.declared.request.Request.{Request}
 use Rattle.as2_http.specs.declared.parser.Awaited.{Awaited}
 use Rattle.as2_http.specs.declared.parser.NotAwaited.{NotAwaited}
 use Rattle.as2_http.specs.declared.parser.NotAwaited.TheVariants as not_awaited

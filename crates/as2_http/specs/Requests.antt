@@ -16,7 +16,7 @@ use Rattle.as2_http.specs.declared.framing.Method.TheVariants as method
 use Rattle.as2_http.specs.declared.framing.Target.{Target}
 use Rattle.as2_http.specs.declared.framing.Target.TheVariants as target
 use Rattle.as2_http.specs.declared.framing.Refused.{Refused}
-use Rattle.as2_http.specs.declared.arrival.Request.{Request}
+use Rattle.as2_http.specs.declared.request.Request.{Request}
 
 -- ---- the head
 

@@ -1,5 +1,6 @@
 //! What holds of every text, whoever reads it.
 ghost use Rattle.as2_http.specs.Laws.{BeginsWithOne, RefusesInOneWay, NeverRefusesRequests, NeverOpensRequests, NeverOpensRefused, RepliesInOneWay};
+ghost use Rattle.as2_http.specs.StreamLaws.{RepeatsGetTheSame, ServesInOneWay, StreamsKeepHistory};
 
 /// A text begins with one request at most, and one thing follows it.
 pub fn one_request()
@@ -12,7 +13,7 @@ pub fn one_refusal()
 {}
 
 /// Of these a text does one at most: it begins with a request, it is refused, or it is open.
-pub fn one_arrival()
+pub fn one_beginning()
     ensures never_refused { NeverRefusesRequests }
     ensures never_open { NeverOpensRequests }
     ensures refused_for_good { NeverOpensRefused }
@@ -21,4 +22,21 @@ pub fn one_arrival()
 /// An answer has one reply at a moment.
 pub fn one_reply_text()
     ensures { RepliesInOneWay }
+{}
+
+/// In one state an input is served in one way, where no read, write or memory failed, and the store neither: the same
+/// requests get the same, their replies and the end are the same, and so is what is left.
+pub fn one_stream()
+    ensures { ServesInOneWay }
+{}
+
+/// After any run from an empty store and a stream behind it, the detail, the evidence and the tries of each document are
+/// told by the answered events of both alone.
+pub fn streams_keep_history()
+    ensures { StreamsKeepHistory }
+{}
+
+/// A post that was recorded and comes again in any later stream gets the same answer.
+pub fn repeats_get_the_same()
+    ensures { RepeatsGetTheSame }
 {}

@@ -4,10 +4,9 @@ ghost use Rattle.as2_http.specs.HeadText.{HasHeadText};
 ghost use Rattle.as2_http.specs.HeadPieces.{EndsHead};
 ghost use Rattle.as2_http.specs.Parsing.{Awaits, Framed, HasTaken, RefusesHead, TakesBody, Parses, TellsBlank};
 
-use crate::arrival::Request;
 use crate::framing::{Refused, RequestFault};
 use crate::head_bytes::{HeadBytes, HeadPiece};
-use crate::request::{NotJudged, judge};
+use crate::request::{NotJudged, Request, judge};
 use as2_mic::Pieces;
 use as2_text::Memory;
 use std::alloc::Global;

@@ -7,10 +7,26 @@ ghost use Rattle.as2_http.specs.Framing.{body_limit};
 ghost use Rattle.as2_http.specs.Reading.{Judges};
 
 use crate::framing::{BODY_LIMIT, Method, RequestFault, Target, content_length};
+use as2_mic::Pieces;
 use as2_text::{Head, HeadFault, Once};
 use httparse::Status;
 use httparse::spans::{EMPTY_HEADER_SPAN, HeaderSpan, parse_request};
 use std::alloc::Global;
+
+/// A request, as far as its answer depends on it (RFC 9112, section 3).
+#[derive(Drop)]
+pub struct Request {
+    /// Its method, of those that an answer depends on.
+    pub method: Method,
+    /// Its target: the station's path or another.
+    pub target: Target,
+    /// The fields of its head.
+    pub fields: Head,
+    /// As many bytes as its head says.
+    pub body: Pieces,
+    /// No further request is read behind this one.
+    pub last: bool,
+}
 
 /// What a head says.
 #[derive(Drop)]
@@ -80,7 +96,7 @@ fn is_last(minor: u8, fields: &Head) -> bool
 }
 
 /// The fields of a head.
-fn fields_of(alloc: Global, text: &[u8], spans: &[HeaderSpan]) -> Result<Head, NotJudged>
+pub(crate) fn fields_of(alloc: Global, text: &[u8], spans: &[HeaderSpan]) -> Result<Head, NotJudged>
     requires within { All (IsHeaderWithin (length text.now)) spans.now }
     ensures found { IfOk result (λ fields. appended [] (map (header_bytes text.now) spans.now) ≡ Some fields) }
     ensures none { result ≡ Err NotJudged.BadHead → appended [] (map (header_bytes text.now) spans.now) ≡ None }

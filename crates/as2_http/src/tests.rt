@@ -1,14 +1,13 @@
 // Expected values are those of the project's profile of HTTP, and of RFC 9112.
-mod arrivals;
+mod answers;
 mod limits;
 mod pieces;
-mod readers;
 mod refusals;
 mod replies;
+mod requests;
 
-use crate::{Arrival, Method, Refused, RequestFault, Target, read_first};
+use crate::{Method, Parsed, Refused, Request, RequestFault, RequestParser, Target};
 use std::alloc::{AllocError, Global};
-use std::io::Read;
 
 // A post of three bytes of content.
 const POST: &str = "POST /as2 HTTP/1.1\r\n\
@@ -24,7 +23,7 @@ Content-Length: 3\r\n\
 \r\n\
 abc";
 
-// An arrival, with the length of the body alone and without the fields.
+// What a text begins with, by the length of the body alone and without the fields.
 #[derive(Clone, Copy, PartialEq, Eq)]
 enum Seen {
     Request {
@@ -34,11 +33,11 @@ enum Seen {
         last: bool,
     },
     Refused(Refused),
-    Closed,
-    Truncated,
-    ReadFault,
+    /// CR and LF alone, or nothing.
+    Blank,
+    /// Less than a request.
+    Open,
     Memory,
-    TooLong,
 }
 
 // What the post is.
@@ -54,31 +53,31 @@ const BAD_HEAD: Seen = Seen::Refused(Refused {
     to_head: false,
 });
 
-fn summary(arrival: &Arrival) -> Seen {
-    match arrival {
-        Arrival::Request(request) => Seen::Request {
-            method: request.method,
-            target: request.target,
-            body: request.body.len(),
-            last: request.last,
-        },
-        Arrival::Refused(refused) => Seen::Refused(*refused),
-        Arrival::Closed => Seen::Closed,
-        Arrival::Truncated => Seen::Truncated,
-        Arrival::ReadFault => Seen::ReadFault,
-        Arrival::Memory => Seen::Memory,
-        Arrival::TooLong => Seen::TooLong,
+fn summary(request: &Request) -> Seen {
+    Seen::Request {
+        method: request.method,
+        target: request.target,
+        body: request.body.len(),
+        last: request.last,
     }
 }
 
-fn first_of<R: Read>(alloc: Global, reader: &mut R) -> Seen {
-    summary(&read_first(alloc, reader))
+/// What a text is that is given at once.
+fn first_of(alloc: Global, text: &[u8]) -> Seen {
+    let mut parser = RequestParser::new(alloc);
+    match parser.feed(text) {
+        Ok(Parsed::Request(request, _)) => summary(&request),
+        Ok(Parsed::Refused(refused)) => Seen::Refused(refused),
+        Ok(Parsed::Open) if parser.is_blank() => Seen::Blank,
+        Ok(Parsed::Open) => Seen::Open,
+        Err(_) => Seen::Memory,
+    }
 }
 
 /// What a text is that was made for it.
 fn first_in(alloc: Global, text: Result<Vec<u8>, AllocError>) -> Seen {
     match text {
-        Ok(text) => first_of(alloc, &mut text.as_slice()),
+        Ok(text) => first_of(alloc, &text),
         Err(_) => Seen::Memory,
     }
 }

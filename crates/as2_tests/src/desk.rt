@@ -1,19 +1,27 @@
 //! Command lines over a file, stores and streams in memory: how they are run, and what they come to.
 // Expected values are the worked ones of the project's profile, and follow from its formats.
+ghost use Rattle.as2_http.specs.Devices.{Opens};
+
 mod agreements;
 mod command_lines;
+mod cuts;
 mod memory;
 mod posts;
 mod receipts;
+mod served;
+mod sockets;
 mod stores;
 mod streams;
 
 use crate::agreements::AGREED;
 use crate::texts::{Change, NOTHING, Text, joined};
 use as2_desk::{Ran, run};
-use memory::{Input, OneFile, Paper, Stores};
+use as2_http::Counted;
+use memory::{Calls, Input, OneFile, Paper, Stores};
 use std::alloc::{AllocError, Global};
+use std::marker::Brand;
 use std::process::Abort;
+use std::sync::ledger::{Blank, Ledger};
 
 /// A command line, what it is run over, and what it comes to.
 #[derive(Clone, Copy)]
@@ -28,7 +36,10 @@ struct Case {
     /// Standard input, and the parts behind it.
     input: Text,
     behind: &'static [Text],
-    broken: Broken,
+    /// How the calls of standard input, standard output and standard error go.
+    reads: Calls,
+    writes: Calls,
+    says: Calls,
     status: u8,
     output: Text,
     /// The parts of the text.
@@ -36,15 +47,6 @@ struct Case {
     is_told: bool,
     /// What is left at least: bytes of the part that was read last, and parts behind it.
     left: (usize, usize),
-}
-
-/// The stream whose every call fails.
-#[derive(Clone, Copy, PartialEq, Eq)]
-enum Broken {
-    Nothing,
-    Input,
-    Output,
-    Errors,
 }
 
 const FIXTURE: &[&str] = &["--agreements", "agreements.toml", "--store", ":memory:"];
@@ -124,7 +126,9 @@ const PLAIN: Case = Case {
     rest: AT_1000,
     input: POST,
     behind: &[],
-    broken: Broken::Nothing,
+    reads: Calls::ALL,
+    writes: Calls::ALL,
+    says: Calls::ALL,
     status: 0,
     output: RECEIPT,
     errors: &[],
@@ -177,20 +181,32 @@ fn outcome_of(alloc: Global, case: &Case) -> Result<Outcome, AllocError> {
     ))
 }
 
-fn outcome_over(
+/// What the command line comes to, with counts of the calls that are made of its streams.
+fn outcome_counted<A: Ledger, B: Ledger, C: Ledger, D: Ledger>(
     alloc: Global,
     case: &Case,
     bytes: &[u8],
     words: &[&str],
     parts: &[String],
-) -> Outcome {
+    reads: Blank,
+    failed_reads: Blank,
+    writes: Blank,
+    failed_writes: Blank,
+) -> Outcome
+    requires reads { Opens reads.name reads.parts A.name A.parts }
+    requires failed_reads { Opens failed_reads.name failed_reads.parts B.name B.parts }
+    requires writes { Opens writes.name writes.parts C.name C.parts }
+    requires failed_writes { Opens failed_writes.name failed_writes.parts D.name D.parts }
+{
     let files = OneFile {
         path: "agreements.toml",
         bytes,
     };
-    let mut input = Input::new(parts, case.broken == Broken::Input);
-    let mut output = Paper::new(alloc, case.broken == Broken::Output);
-    let mut errors = Paper::new(alloc, case.broken == Broken::Errors);
+    let input = Input::new(parts, case.reads);
+    let mut input: Counted<Input<'_>, A, B> = Counted::new(input, reads, failed_reads);
+    let output = Paper::new(alloc, case.writes);
+    let mut output: Counted<Paper, C, D> = Counted::new(output, writes, failed_writes);
+    let mut errors = Paper::new(alloc, case.says);
     let (ran, _) = run(
         alloc,
         words,
@@ -203,10 +219,30 @@ fn outcome_over(
     );
     Outcome {
         ran,
-        output: output.bytes,
+        output: output.into_inner().bytes,
         errors: errors.bytes,
-        left: input.left(),
+        left: input.into_inner().left(),
     }
+}
+
+fn outcome_over(
+    alloc: Global,
+    case: &Case,
+    bytes: &[u8],
+    words: &[&str],
+    parts: &[String],
+) -> Outcome {
+    outcome_counted::<Brand, Brand, Brand, Brand>(
+        alloc,
+        case,
+        bytes,
+        words,
+        parts,
+        Blank::new(1),
+        Blank::new(1),
+        Blank::new(1),
+        Blank::new(1),
+    )
 }
 
 /// Runs the command line, and compares what it comes to.

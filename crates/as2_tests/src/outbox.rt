@@ -6,6 +6,7 @@ ghost use Rattle.as2_exchange.specs.State.{end_of_numbers};
 
 mod due;
 mod evidence;
+mod exchanges;
 pub mod owed;
 mod refusals;
 mod replies;

@@ -3,8 +3,14 @@
 
 mod file_system;
 
+ghost use Rattle.as2_http.specs.Devices.{Opens};
+
 use crate::file_system::FileSystem;
+use as2_http::Counted;
+use std::io::{Stdin, Stdout};
+use std::marker::Brand;
 use std::process::ExitCode;
+use std::sync::ledger::{Blank, Ledger};
 use std::time::SystemTime;
 use std::{env, io};
 
@@ -13,6 +19,40 @@ fn clock(rt: &HostRuntime) -> Option<u64> {
     let now = SystemTime::now(rt).ok()?;
     let since = now.duration_since(SystemTime::UNIX_EPOCH).ok()?;
     Some(since.as_secs())
+}
+
+/// Runs the command line `words` over the file system and the standard streams, with counts of the calls that are made of
+/// input and output. The exit status.
+fn run<A: Ledger, B: Ledger, C: Ledger, D: Ledger>(
+    rt: &HostRuntime,
+    words: &[&str],
+    reads: Blank,
+    failed_reads: Blank,
+    writes: Blank,
+    failed_writes: Blank,
+) -> u8
+    requires reads { Opens reads.name reads.parts A.name A.parts }
+    requires failed_reads { Opens failed_reads.name failed_reads.parts B.name B.parts }
+    requires writes { Opens writes.name writes.parts C.name C.parts }
+    requires failed_writes { Opens failed_writes.name failed_writes.parts D.name D.parts }
+{
+    let files = FileSystem { rt };
+    let mut input: Counted<Stdin, A, B> = Counted::new(rt.stdin(), reads, failed_reads);
+    let mut output: Counted<Stdout, C, D> = Counted::new(rt.stdout(), writes, failed_writes);
+    let (ran, left) = as2_desk::run(
+        rt.alloc(),
+        words,
+        clock(rt),
+        &files,
+        &files,
+        &mut input,
+        &mut output,
+        &mut rt.stderr(),
+    );
+    if let Some((path, store)) = left {
+        files.close(path, store);
+    }
+    ran.status
 }
 
 fn main(rt: HostRuntime) -> io::Result<ExitCode> {
@@ -28,19 +68,13 @@ fn main(rt: HostRuntime) -> io::Result<ExitCode> {
     for word in &words {
         texts.push(word.as_str())?;
     }
-    let files = FileSystem { rt: &rt };
-    let (ran, left) = as2_desk::run(
-        rt.alloc(),
+    let status = run::<Brand, Brand, Brand, Brand>(
+        &rt,
         texts.as_slice(),
-        clock(&rt),
-        &files,
-        &files,
-        &mut rt.stdin(),
-        &mut rt.stdout(),
-        &mut rt.stderr(),
+        Blank::new(1),
+        Blank::new(1),
+        Blank::new(1),
+        Blank::new(1),
     );
-    if let Some((path, store)) = left {
-        files.close(path, store);
-    }
-    Ok(ExitCode::from(ran.status))
+    Ok(ExitCode::from(status))
 }

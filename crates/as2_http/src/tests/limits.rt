@@ -60,9 +60,9 @@ static SIZES: [(&str, usize, u8, &str, Seen); 10] = [
         BAD_HEAD,
     ),
     // No head in so many bytes.
-    ("", 16_383, b'\n', "", Seen::Closed),
+    ("", 16_383, b'\n', "", Seen::Blank),
     ("", 16_384, b'\n', "", BAD_HEAD),
-    ("", 16_383, b'x', "", Seen::Truncated),
+    ("", 16_383, b'x', "", Seen::Open),
     ("", 16_384, b'x', "", BAD_HEAD),
     // A head of 47 bytes, and a body of 1,048,576 or one less.
     (
@@ -77,7 +77,7 @@ static SIZES: [(&str, usize, u8, &str, Seen); 10] = [
         1_048_622,
         b'x',
         "",
-        Seen::Truncated,
+        Seen::Open,
     ),
 ];
 

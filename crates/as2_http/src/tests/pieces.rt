@@ -1,5 +1,4 @@
 use super::*;
-use crate::{Parsed, RequestParser};
 
 // Four requests: CR and LF stand before the first, the second has lines that end in LF alone, the third an empty body, and
 // the last is refused.
@@ -36,7 +35,7 @@ fn fed(parser: &mut RequestParser, piece: &[u8], before: usize) -> Option<usize>
         match parser.feed(rest).ok()? {
             Parsed::Open => return Some(count),
             Parsed::Request(request, used) => {
-                if summary(&Arrival::Request(request)) != *want {
+                if summary(&request) != *want {
                     return None;
                 }
                 rest = rest.get(used..)?;
@@ -81,4 +80,24 @@ fn each_cutting_into_three(rt: HostRuntime) {
     for i in 0..=text.len() {
         assert!(rt; come_behind(rt.alloc(), &text[..i], &text[i..]));
     }
+}
+
+/// The post comes with its last byte, and not before.
+fn comes_byte_by_byte(alloc: Global) -> Option<bool> {
+    let mut parser = RequestParser::new(alloc);
+    let (last, front) = POST.as_bytes().split_last()?;
+    for byte in front {
+        let Parsed::Open = parser.feed(&[*byte]).ok()? else {
+            return Some(false);
+        };
+    }
+    match parser.feed(&[*last]).ok()? {
+        Parsed::Request(request, used) => Some(summary(&request) == POSTED && used == 1),
+        _ => Some(false),
+    }
+}
+
+#[test]
+fn byte_by_byte(rt: HostRuntime) {
+    assert!(rt; comes_byte_by_byte(rt.alloc()) == Some(true));
 }

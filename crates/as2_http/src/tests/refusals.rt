@@ -95,7 +95,7 @@ fn refused_heads(rt: HostRuntime) {
             to_head: case.to_head,
         });
         for text in case.texts {
-            assert!(rt; first_of(rt.alloc(), &mut text.as_bytes()) == want);
+            assert!(rt; first_of(rt.alloc(), text.as_bytes()) == want);
         }
     }
 }

@@ -1,6 +1,7 @@
 //! Command lines over files of agreements.
 use super::command_lines::{HINT, USAGE};
-use super::{AT_1000, Broken, Case, PLAIN, POST, RECEIPT, TAKEN, check, check_all, post};
+use super::memory::Calls;
+use super::{AT_1000, Case, PLAIN, POST, RECEIPT, TAKEN, check, check_all, post};
 use crate::agreements::AGREED;
 use crate::texts::{Change, NOTHING, Text};
 use std::alloc::{AllocError, Global};
@@ -283,7 +284,7 @@ static CASES: &[Case] = &[
     Case {
         clock: None,
         agreements: NO_TOML,
-        broken: Broken::Errors,
+        says: Calls::NONE,
         status: 1,
         is_told: false,
         ..CHECK

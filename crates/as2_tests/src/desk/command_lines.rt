@@ -1,5 +1,6 @@
 //! Command lines: help, faults, clocks, and output that cannot be written.
-use super::{Broken, Case, FIXTURE, PLAIN, check, check_all, post};
+use super::memory::Calls;
+use super::{Case, FIXTURE, PLAIN, check, check_all, post};
 use crate::texts::{NOTHING, Text};
 use std::alloc::{AllocError, Global};
 use std::process::Abort;
@@ -428,7 +429,7 @@ fn a_moment_is_wanted_where_the_clock_tells_none(rt: HostRuntime) -> Result<(), 
 
 /// The plain post, whose reply can't be written.
 const UNWRITTEN: Case = Case {
-    broken: Broken::Output,
+    writes: Calls::NONE,
     status: 1,
     output: NOTHING,
     errors: &["refused: WriteFault\n"],

@@ -9,6 +9,7 @@ use as2_desk::{
 };
 use sqlite::{Connection, MemStore};
 use std::alloc::Global;
+use std::cmp::min;
 use std::io::{Error, ErrorKind, Read, Result as IoResult, Write};
 
 /// One file, and no other.
@@ -92,22 +93,61 @@ impl OpenStores for Stores {
     }
 }
 
-/// A stream in parts: no read gives bytes of two of them. Where it is broken every read fails.
+/// How the calls of a stream go.
+#[derive(Clone, Copy)]
+pub(super) struct Calls {
+    /// How many bytes one gives or takes at most.
+    pub(super) most: usize,
+    /// How many succeed. The next fails, or takes no byte.
+    pub(super) sound: usize,
+    pub(super) fault: Fault,
+}
+
+/// What comes of the call that doesn't succeed.
+#[derive(Clone, Copy, PartialEq, Eq)]
+pub(super) enum Fault {
+    Broken,
+    Nothing,
+}
+
+impl Calls {
+    pub(super) const ALL: Calls = Calls {
+        most: usize::MAX,
+        sound: usize::MAX,
+        fault: Fault::Broken,
+    };
+
+    pub(super) const NONE: Calls = Calls {
+        sound: 0,
+        ..Calls::ALL
+    };
+
+    /// Counts a call that succeeds; whether it doesn't.
+    fn is_out(&mut self) -> bool {
+        if self.sound == 0 {
+            return true;
+        }
+        self.sound -= 1;
+        false
+    }
+}
+
+/// A stream in parts: no read gives bytes of two of them.
 #[derive(Drop)]
 pub(super) struct Input<'a> {
     /// What is left of the part that is read.
     part: &'a [u8],
     /// The parts behind it.
     next: &'a [String],
-    is_broken: bool,
+    calls: Calls,
 }
 
 impl Input<'_> {
-    pub(super) fn new(parts: &[String], is_broken: bool) -> Input<'_> {
+    pub(super) fn new(parts: &[String], calls: Calls) -> Input<'_> {
         Input {
             part: b"",
             next: parts,
-            is_broken,
+            calls,
         }
     }
 
@@ -119,8 +159,11 @@ impl Input<'_> {
 
 impl Read for Input<'_> {
     fn read(&mut self, buf: &mut [u8]) -> IoResult<usize> {
-        if self.is_broken {
-            return Err(Error::from(ErrorKind::BrokenPipe));
+        if self.calls.is_out() {
+            return match self.calls.fault {
+                Fault::Broken => Err(Error::from(ErrorKind::BrokenPipe)),
+                Fault::Nothing => Ok(0),
+            };
         }
         if self.part.is_empty()
             && let Some((first, rest)) = self.next.split_first()
@@ -128,32 +171,37 @@ impl Read for Input<'_> {
             self.part = first.as_bytes();
             self.next = rest;
         }
-        self.part.read(buf)
+        let most = min(buf.len(), self.calls.most);
+        self.part.read(&mut buf[..most])
     }
 }
 
-/// What is written. Where it is broken every write fails.
+/// What is written.
 #[derive(Drop)]
 pub(super) struct Paper {
     pub(super) bytes: Vec<u8>,
-    is_broken: bool,
+    calls: Calls,
 }
 
 impl Paper {
-    pub(super) fn new(alloc: Global, is_broken: bool) -> Paper {
+    pub(super) fn new(alloc: Global, calls: Calls) -> Paper {
         Paper {
             bytes: Vec::new(alloc),
-            is_broken,
+            calls,
         }
     }
 }
 
 impl Write for Paper {
     fn write(&mut self, buf: &[u8]) -> IoResult<usize> {
-        if self.is_broken {
-            return Err(Error::from(ErrorKind::BrokenPipe));
+        if self.calls.is_out() {
+            return match self.calls.fault {
+                Fault::Broken => Err(Error::from(ErrorKind::BrokenPipe)),
+                Fault::Nothing => Ok(0),
+            };
         }
-        self.bytes.write(buf)
+        let most = min(buf.len(), self.calls.most);
+        self.bytes.write(&buf[..most])
     }
 
     fn flush(&mut self) -> IoResult<()> {

@@ -384,7 +384,7 @@ static CASES: &[Case] = &[
 ];
 
 /// The receipt that has the last number.
-pub(super) const LAST_RECEIPT: Text = Text {
+const LAST_RECEIPT: Text = Text {
     changes: &[
         ("mdn-1", "mdn-999999999999"),
         ("Receipt 1 ", "Receipt 999999999999 "),

@@ -1,16 +1,7 @@
-//! Stores that are opened, and that aren't; and one that has no number left.
-use super::memory::{Input, Paper, Stores};
-use super::posts::LAST_RECEIPT;
-use super::{Case, PLAIN, POST, check_all};
-use crate::agreements::AGREEMENTS;
-use crate::stores::new_store;
+//! Stores that are opened, and that aren't.
+use super::memory::Stores;
+use super::{Case, PLAIN, check_all};
 use crate::texts::{NOTHING, Text};
-use as2_agreement::Agreements;
-use as2_desk::first_post;
-use as2_station::Station;
-use as2_text::Moment;
-use sqlite::MemStore;
-use std::alloc::Global;
 use std::test::Fail;
 
 /// The plain post to a store in a file, which is neither read nor answered.
@@ -88,62 +79,4 @@ static CASES: &[Case] = &[
 #[test]
 fn each_store_is_told(rt: HostRuntime) -> Result<(), Fail> {
     Ok(check_all(&rt, rt.alloc(), CASES)?)
-}
-
-/// The reply where no number is left.
-const FULL: Text = Text {
-    plain: "\
-HTTP/1.1 503 Service Unavailable\r
-Date: Thu, 01 Jan 1970 00:16:40 GMT\r
-Content-Type: text/plain\r
-Content-Length: 14\r
-\r
-store is full
-",
-    ..NOTHING
-};
-
-/// What is written for a post at the moment 1000.
-fn reply(
-    alloc: Global,
-    agreements: &Agreements,
-    station: &mut Station<MemStore>,
-    post: &Text,
-) -> Result<Vec<u8>, Fail> {
-    let Some(moment) = Moment::new(1000) else {
-        return Err(Fail::new("no moment"));
-    };
-    let parts = [post.made(alloc)?];
-    let mut input = Input::new(parts.as_slice(), false);
-    let mut output = Paper::new(alloc, false);
-    first_post(alloc, agreements, moment, station, &mut input, &mut output);
-    Ok(output.bytes)
-}
-
-// Posts to a station that has one number left, and the replies.
-static LAST: &[(Text, Text)] = &[
-    (POST, LAST_RECEIPT),
-    (
-        Text {
-            changes: &[("<m1@x>", "<m2@x>")],
-            ..POST
-        },
-        FULL,
-    ),
-    (POST, LAST_RECEIPT),
-];
-
-#[test]
-fn the_last_number_is_given_once(rt: HostRuntime) -> Result<(), Fail> {
-    let agreements = Agreements::read(rt.alloc(), AGREEMENTS)?;
-    let Some(store) = new_store(rt.alloc(), 999_999_999_999) else {
-        return Err(Fail::new("no store"));
-    };
-    let mut station = Station::new(store);
-    for &(post, wanted) in LAST {
-        let reply = reply(rt.alloc(), &agreements, &mut station, &post)?;
-        let wanted = wanted.made(rt.alloc())?;
-        assert!(rt; reply.as_slice() == wanted.as_bytes());
-    }
-    Ok(())
 }

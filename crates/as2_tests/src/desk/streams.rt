@@ -1,6 +1,7 @@
 //! Streams: what they come to, and what of them is read.
-use super::{Broken, Case, PLAIN, POST, POST_TEXT, TAKEN, check, check_all, post};
-use crate::texts::{NOTHING, Text};
+use super::memory::{Calls, Fault};
+use super::{Case, PLAIN, POST, POST_TEXT, RECEIPT_TEXT, TAKEN, check, check_all, post};
+use crate::texts::{Change, NOTHING, Text};
 use std::alloc::{AllocError, Global};
 use std::process::Abort;
 use std::test::Fail;
@@ -187,10 +188,22 @@ const MORE_FIELDS: Text = Text {
     ..POST
 };
 
-/// A document of 70,000 bytes, and 100,000 bytes behind it.
+/// The last post of its stream.
+const LAST_POST: Text = Text {
+    changes: &[(
+        "Host: 127.0.0.1:8080\r\n",
+        "Host: h\r\nConnection: close\r\n",
+    )],
+    ..POST
+};
+
+/// A last post of 70,000 bytes, and 100,000 bytes behind it.
 const LONG_POST: Text = Text {
     changes: &[
-        ("Disposition-Notification-To: a@x\r\n", ""),
+        (
+            "Disposition-Notification-To: a@x\r\n",
+            "Connection: close\r\n",
+        ),
         (
             "Content-Length: 3\r\n\r\nabc",
             "Content-Length: 70000\r\n\r\n*",
@@ -198,6 +211,31 @@ const LONG_POST: Text = Text {
     ],
     entries: ("x", 170_000),
     ..POST
+};
+
+/// The plain post with another identifier.
+const OTHER_ID: Change = ("<m1@x>", "<m2@x>");
+
+/// An entry so many times, and nothing else.
+const TWICE: Text = Text {
+    plain: "*",
+    ..NOTHING
+};
+
+/// The reply where no number is left.
+const STORE_FULL: &str = "\
+HTTP/1.1 503 Service Unavailable\r
+Date: Thu, 01 Jan 1970 00:16:40 GMT\r
+Content-Type: text/plain\r
+Content-Length: 14\r
+\r
+store is full
+";
+
+/// The reply to a document whose receipt isn't asked for.
+const ANSWERED: Text = Text {
+    plain: TAKEN,
+    ..NOTHING
 };
 
 static CASES: &[Case] = &[
@@ -233,46 +271,202 @@ static CASES: &[Case] = &[
         errors: &["refused: BadFraming\n"],
         ..PLAIN
     },
-    // The first post alone is answered.
+    // Each post is answered in turn, the repeat by the same receipt.
     Case {
         input: Text {
-            plain: "*",
             entries: (POST_TEXT, 2),
-            ..NOTHING
+            ..TWICE
+        },
+        output: Text {
+            entries: (RECEIPT_TEXT, 2),
+            ..TWICE
         },
         ..PLAIN
     },
-    // No read is made behind it.
+    // A stream goes on behind CR and LF, and behind a part that ends with a request.
     Case {
         input: Text {
             plain: "\r\n",
             ..NOTHING
         },
         behind: &[POST, POST],
+        output: Text {
+            entries: (RECEIPT_TEXT, 2),
+            ..TWICE
+        },
+        ..PLAIN
+    },
+    // No read is made behind the last reply.
+    Case {
+        input: LAST_POST,
+        behind: &[POST],
         left: (0, 1),
+        ..PLAIN
+    },
+    Case {
+        input: LAST_POST,
+        reads: Calls {
+            sound: 1,
+            ..Calls::ALL
+        },
         ..PLAIN
     },
     // The last read that a long post took began inside it, and gave at most 65,536 bytes.
     Case {
         input: LONG_POST,
-        output: Text {
-            plain: TAKEN,
-            ..NOTHING
-        },
+        output: ANSWERED,
         left: (100_000 - 65_536 + 1, 0),
         ..PLAIN
     },
-    // A read that fails.
+    // A read that fails at once, and one behind a post, which is answered.
     Case {
-        broken: Broken::Input,
+        reads: Calls::NONE,
         status: 1,
         output: NOTHING,
         errors: &["refused: ReadFault\n"],
         ..PLAIN
     },
+    Case {
+        reads: Calls {
+            sound: 1,
+            ..Calls::ALL
+        },
+        status: 1,
+        errors: &["refused: ReadFault\n"],
+        ..PLAIN
+    },
+    // A write that takes no byte.
+    Case {
+        writes: Calls {
+            sound: 0,
+            fault: Fault::Nothing,
+            ..Calls::ALL
+        },
+        status: 1,
+        output: NOTHING,
+        errors: &["refused: WriteFault\n"],
+        ..PLAIN
+    },
+    // One byte a read, one byte a write.
+    Case {
+        reads: Calls {
+            most: 1,
+            ..Calls::ALL
+        },
+        writes: Calls {
+            most: 1,
+            ..Calls::ALL
+        },
+        ..PLAIN
+    },
+    // A post, and another whose last byte is missing.
+    Case {
+        behind: &[Text {
+            changes: &[OTHER_ID, ("\r\n\r\nabc", "\r\n\r\nab")],
+            ..POST
+        }],
+        status: 1,
+        errors: &["refused: Truncated\n"],
+        ..PLAIN
+    },
+    // The largest body.
+    Case {
+        input: Text {
+            changes: &[
+                ("Disposition-Notification-To: a@x\r\n", ""),
+                (
+                    "Content-Length: 3\r\n\r\nabc",
+                    "Content-Length: 1048576\r\n\r\n*",
+                ),
+            ],
+            entries: ("abcdefghijklmnop", 65_536),
+            ..POST
+        },
+        output: ANSWERED,
+        ..PLAIN
+    },
+    // The 100,001st read isn't made.
+    Case {
+        input: Text {
+            changes: &[(
+                "Content-Length: 3\r\n\r\nabc",
+                "Content-Length: 100000\r\n\r\n*",
+            )],
+            entries: ("abcdefghij", 10_000),
+            ..POST
+        },
+        reads: Calls {
+            most: 1,
+            ..Calls::ALL
+        },
+        status: 1,
+        output: NOTHING,
+        errors: &["refused: TooLong\n"],
+        ..PLAIN
+    },
 ];
 
 #[test]
-fn no_more_than_the_first_post_is_read(rt: HostRuntime) -> Result<(), Fail> {
+fn each_read_is_needed(rt: HostRuntime) -> Result<(), Fail> {
     Ok(check_all(&rt, rt.alloc(), CASES)?)
+}
+
+/// A request, what it gets in place of `!`, and then a post's receipt: the stream goes on.
+static GOING_ON: &[(&str, &[Change])] = &[
+    ("GET /as2 HTTP/1.1\r\nHost: h\r\n\r\n", &[("!", ONLY_POST)]),
+    (
+        "POST /x HTTP/1.1\r\nHost: h\r\nContent-Length: 3\r\n\r\nabc",
+        &[("!", NO_PATH)],
+    ),
+    ("HEAD /x HTTP/1.1\r\n\r\n", &[("!", ONLY_POST_HEAD)]),
+];
+
+static ONE_MORE: &[Text] = &[POST];
+
+#[test]
+fn a_stream_goes_on_behind_a_refusal(rt: HostRuntime) -> Result<(), Fail> {
+    for &(input, changes) in GOING_ON {
+        let case = Case {
+            input: Text::of(input),
+            behind: ONE_MORE,
+            output: Text {
+                plain: "!*",
+                changes,
+                entries: (RECEIPT_TEXT, 1),
+                ..NOTHING
+            },
+            ..PLAIN
+        };
+        check(&rt, rt.alloc(), &case)?;
+    }
+    Ok(())
+}
+
+/// A store whose first number is the last: one post takes it, and its repeat is answered still.
+static LAST_NUMBER: Case = Case {
+    rest: &["--first", "999999999999", "--moment", "1000", "post"],
+    behind: &[
+        Text {
+            changes: &[OTHER_ID],
+            ..POST
+        },
+        POST,
+    ],
+    output: Text {
+        plain: "?!?",
+        changes: &[
+            ("?", RECEIPT_TEXT),
+            ("mdn-1", "mdn-999999999999"),
+            ("Receipt 1 ", "Receipt 999999999999 "),
+            ("Content-Length: 397", "Content-Length: 441"),
+            ("!", STORE_FULL),
+        ],
+        ..NOTHING
+    },
+    ..PLAIN
+};
+
+#[test]
+fn the_last_number_is_used_once(rt: HostRuntime) -> Result<(), Fail> {
+    Ok(check(&rt, rt.alloc(), &LAST_NUMBER)?)
 }

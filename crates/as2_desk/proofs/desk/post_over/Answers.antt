@@ -14,7 +14,7 @@ returns-then-eq-clause-posts g c =
     let holds = subst (λ (k : Kept). Holds over_memory k c.args.posting.first c.records_in_memory-records.result) (sym (at_memory path kept (sym c.eq.ensures ∙ c.if-eq.true))) c.records_in_memory-records.ensures in
     elim (c.post.ensures.posts (kept_at path kept) holds) [
       | inl fails ↦ inl fails
-      | inr posts ↦ inr (posts_left _ _ _ _ _ _ _ _ _ _ (λ t left. tt) posts)
+      | inr posts ↦ inr (posts_left _ _ _ _ _ _ _ _ _ _ _ _ _ (λ t left. tt) posts)
     ]
 
 -- it stands under the path
@@ -25,7 +25,7 @@ returns-clause-posts g c =
     let holds = subst (λ (k : Kept). Holds g.O.Kind.Store k c.args.posting.first c.records_in-records.result) (sym (elsewhere path kept (sym c.eq.ensures ∙ c.if-eq.false))) c.records_in-records.ensures in
     elim (c.post-conn.ensures.posts (kept_at path kept) holds) [
       | inl fails ↦ inl fails
-      | inr posts ↦ inr (posts_left _ _ _ _ _ _ _ _ _ _ (λ t left. of_second (λ (h : Held g.row.O-Kind.Denot). Rests (state g.O.Kind.Store h) t) c.under.result c.post-conn.result.1 c.under.ensures.conn left) posts)
+      | inr posts ↦ inr (posts_left _ _ _ _ _ _ _ _ _ _ _ _ _ (λ t left. of_second (λ (h : Held g.row.O-Kind.Denot). Rests (state g.O.Kind.Store h) t) c.under.result c.post-conn.result.1 c.under.ensures.conn left) posts)
     ]
 
 pub returns-clause-handed : goal.returns-clause-handed

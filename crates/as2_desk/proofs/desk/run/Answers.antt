@@ -21,10 +21,10 @@ returns-in-Ok-clause-runs g c = λ path store task gives.
     let read = c.in-Ok.options in
     inl (given_one (texts c.args.words.now) c.args.clock read.agreements.now path read.store.now store read.task task
     (λ (p b : Text) (t : Task). Runs (g.F.ReadFiles.content c.args.files.now p) (kept_at b (g.O.OpenStores.kept c.args.stores.now b)) t
-    (g.R.Read.remaining c.args.input.now) (g.R.Read.remaining c.carry_out.new.input)
+    (g.R.Source.left c.args.input.now) (g.R.Source.left c.carry_out.new.input) (g.R.Source.calls c.args.input.now) (g.R.Source.calls c.carry_out.new.input)
     (c.carry_out.new.input ≡ c.args.input.now) (c.carry_out.new.output ≡ c.args.output.now)
     (λ t. IfSome c.carry_out.result.1 (λ l. Rests (state g.O.Kind.Store l.1) t))
-    (Appends (g.W.Write.contents c.args.output.now) (g.W.Write.contents c.carry_out.new.output))
+    (g.W.Sink.written c.args.output.now) (g.W.Sink.written c.carry_out.new.output)
     (Appends (g.E.Write.contents c.args.errors.now) (g.E.Write.contents c.carry_out.new.errors)) c.carry_out.result.0)
     c.in-Ok.ensures.given gives (record { opened = c.agreements_in-agreed.result; opens = c.agreements_in-agreed.ensures; comes = c.carry_out.ensures.comes }))
 

@@ -1,0 +1,18 @@
+-- A text that is written in parts.
+use Rattle.std.proofs.Common.{◌≡◌, ℕ, List, ◌++◌, take, drop, Option, sym, ap, ◌∙◌, append_assoc}
+use Rattle.std.proofs.KnownBytes.{Appends-trans}
+use Rattle.std.proofs.lemmas.List.{take-append-drop}
+use Rattle.std.specs.Io.KnownBytes.{Appends}
+
+-- the first of the bytes were written, and these are left
+pub record Pushed (before now : Option (List ℕ)) (bytes rest : List ℕ) : Type 0 where
+  pub part : List ℕ
+  pub cut : bytes ≡ part ++ rest
+  pub appended : Appends before now part
+
+pub pushed_more : (before mid now : Option (List ℕ)) (bytes rest : List ℕ) (n : ℕ) → Pushed before mid bytes rest → Appends mid now (take n rest) → Pushed before now bytes (drop n rest)
+pushed_more before mid now bytes rest n w a = record {
+  part = w.part ++ take n rest;
+  cut = w.cut ∙ ap (λ (t : List ℕ). w.part ++ t) (sym (take-append-drop n rest)) ∙ sym (append_assoc w.part (take n rest) (drop n rest));
+  appended = Appends-trans before mid now w.part (take n rest) w.appended a;
+}

@@ -1,0 +1,352 @@
+-- A stream, put together from its pieces.
+use Rattle.std.proofs.Common.{◌≡◌, ℕ, true, List, [], ◌∷◌, ◌++◌, ◌⊎◌, ◌+◌, ◌≤◌, length, Option, Some, None, refl, sym, ap, ◌∙◌, subst, append_assoc, append-nil, inl, inr, arith}
+use Rattle.std.proofs.KnownBytes.{Appends-nil, Appends-trans}
+use Rattle.std.specs.Io.KnownBytes.{Appends, Consumes, IsAtEnd, Keeps}
+use Rattle.sqlite.specs.State.{State as Connected}
+use Rattle.as2_agreement.specs.Agreements.{AgreedValues}
+use Rattle.as2_exchange.specs.Run.{Answered as Said, Failed, Trace, Run}
+use Rattle.as2_exchange.specs.State.{State}
+use Rattle.as2_store.specs.Stands.{Rests}
+use Rattle.as2_http.specs.HeadText.{unblank}
+use Rattle.as2_http.specs.Requests.{IsOpen}
+use Rattle.as2_http.specs.InputReads.{read_limit, ReadsNeeded}
+use Rattle.as2_http.specs.StreamReads.{NeedsMore, BetweenReads, AnswersNext, ArePostsAt, RunsPosts, Serves}
+use Rattle.as2_http.specs.Parsing.{HasTaken}
+use Rattle.as2_http.specs.Responses.{RespondsTo, Responds, Unsaid}
+use Rattle.as2_http.specs.Streams.{Exchange, AnswersAll, GoOn, EndsLast, event_by, events, event_said, AnswersPiece, PieceEnds, Ends, CutShort, in_reply, in_refusal, OutOfMemory, for_request, for_reply, may_end_piece}
+use Rattle.as2_http.specs.declared.request.Request.{Request}
+use Rattle.as2_http.specs.declared.framing.Method.{Method}
+use Rattle.as2_http.specs.declared.framing.Method.TheVariants as method
+use Rattle.as2_http.specs.declared.framing.Target.{Target}
+use Rattle.as2_http.specs.declared.framing.Target.TheVariants as target
+use Rattle.as2_http.specs.declared.parser.RequestParser.{RequestParser}
+use Rattle.as2_http.specs.declared.response.Response.{Response}
+use Rattle.as2_http.specs.declared.response.Response.TheVariants as response
+use Rattle.as2_http.specs.declared.stream.Served.{Served}
+use Rattle.as2_http.specs.declared.stream.Served.TheVariants as served
+use Rattle.as2_http.proofs.Framed.{begins_append}
+use Rattle.as2_http.proofs.InputReads.{HasArrived, piece_of, nothing_of, at_end, reads_none, read_on}
+use Rattle.as2_http.proofs.Parsing.{holds_open}
+use Rattle.as2_http.proofs.Streaming.{answers_join, go_on_join}
+
+-- ---- a run of the machine
+
+event_then : (A : AgreedValues) (moment : ℕ) (s mid t : State) (r : Request) (x : Response) (m : Method) (at : Target) (more : Trace)
+    → RespondsTo m at A moment s r x Unsaid mid → Run A mid more t → Run A s (event_by m at moment (r, x) ++ more) t
+event_then A moment s mid t r (response.Answered a) method.Post target.Station more p run = (mid, p.0, run)
+event_then A moment s mid t r (response.Failed f) method.Post target.Station more p run = (p.0, subst (λ (x : State). Run A x more t) p.1 run)
+event_then A moment s mid t r response.OnlyPost method.Post target.Station more p run = absurd p
+event_then A moment s mid t r response.NoPath method.Post target.Station more p run = absurd p
+event_then A moment s mid t r x method.Post target.Other more p run = subst (λ (x : State). Run A x more t) p.1 run
+event_then A moment s mid t r x method.Head at more p run = subst (λ (x : State). Run A x more t) p.1 run
+event_then A moment s mid t r x method.Other at more p run = subst (λ (x : State). Run A x more t) p.1 run
+
+answers_run : (A : AgreedValues) (moment : ℕ) (s t : State) (text replies rest : List ℕ) (done : List Exchange) → AnswersAll A moment s text done t replies rest → Run A s (events moment done) t
+answers_run A moment s t text replies rest [] a = a.0
+answers_run A moment s t text replies rest (x ∷ done) a =
+    event_then A moment s a.0 t x.0 x.1 x.0.method x.0.target (events moment done) a.4.responds (answers_run A moment a.0 t a.2 a.3 rest done a.6)
+
+-- .. and then more of it
+pub run_then : (A : AgreedValues) (s mid t : State) (one two : Trace) → Run A s one mid → Run A mid two t → Run A s (one ++ two) t
+run_then A s mid t [] two a b = subst (λ (x : State). Run A x two t) a b
+run_then A s mid t ((e, Said answer) ∷ one) two a b = (a.0, a.1, run_then A a.0 mid t one two a.2 b)
+run_then A s mid t ((e, Failed fault) ∷ one) two a b = (a.0, run_then A s mid t one two a.1 b)
+
+all_then : (moment : ℕ) (one two : Trace) → ArePostsAt moment one → ArePostsAt moment two → ArePostsAt moment (one ++ two)
+all_then moment [] two a b = b
+all_then moment (e ∷ one) two a b = (a.0, all_then moment one two a.1 b)
+
+said_posts : (moment : ℕ) (r : Request) (x : Response) → ArePostsAt moment (event_said r moment x)
+said_posts moment r (response.Answered a) = (refl, tt)
+said_posts moment r (response.Failed f) = (refl, tt)
+said_posts moment r response.OnlyPost = tt
+said_posts moment r response.NoPath = tt
+
+event_posts : (moment : ℕ) (r : Request) (x : Response) (m : Method) (at : Target) → ArePostsAt moment (event_by m at moment (r, x))
+event_posts moment r x method.Post target.Station = said_posts moment r x
+event_posts moment r x method.Post target.Other = tt
+event_posts moment r x method.Head at = tt
+event_posts moment r x method.Other at = tt
+
+events_posts : (moment : ℕ) (done : List Exchange) → ArePostsAt moment (events moment done)
+events_posts moment [] = tt
+events_posts moment (x ∷ done) = all_then moment (event_by x.0.method x.0.target moment x) (events moment done) (event_posts moment x.0 x.1 x.0.method x.0.target) (events_posts moment done)
+
+pub runs_join : (A : AgreedValues) (moment : ℕ) (s mid t : State) → RunsPosts A moment s mid → RunsPosts A moment mid t → RunsPosts A moment s t
+runs_join A moment s mid t a b = record { trace = a.trace ++ b.trace; posts = all_then moment a.trace b.trace a.posts b.posts; run = run_then A s mid t a.trace b.trace a.run b.run }
+
+pub runs_none : (A : AgreedValues) (moment : ℕ) (s : State) → RunsPosts A moment s s
+runs_none A moment s = record { trace = []; posts = tt; run = refl }
+
+answers_runs : (A : AgreedValues) (moment : ℕ) (s mid t : State) (text replies rest : List ℕ) (done : List Exchange) → AnswersAll A moment s text done mid replies rest → t ≡ mid → RunsPosts A moment s t
+answers_runs A moment s mid t text replies rest done a same =
+    subst (λ (x : State). RunsPosts A moment s x) (sym same) (record { trace = events moment done; posts = events_posts moment done; run = answers_run A moment s mid text replies rest done a })
+
+-- the request whose reply isn't written whole was taken, too
+one_runs : (A : AgreedValues) (moment : ℕ) (mid t : State) (r : Request) (x : Response) → Responds A moment mid r x Unsaid t → RunsPosts A moment mid t
+one_runs A moment mid t r x p = record {
+  trace = event_by r.method r.target moment (r, x) ++ [];
+  posts = all_then moment (event_by r.method r.target moment (r, x)) [] (event_posts moment r x r.method r.target) tt;
+  run = event_then A moment mid t t r x r.method r.target [] p refl;
+}
+
+cut_runs : (A : AgreedValues) (moment : ℕ) (mid : State) (replies rest : List ℕ) (before after : Option (List ℕ)) (t : State) → CutShort A moment mid replies rest before after t → RunsPosts A moment mid t
+cut_runs A moment mid replies rest before after t (in_reply r behind x text part missing b responds is cut written) = one_runs A moment mid t r x responds
+cut_runs A moment mid replies rest before after t (in_refusal refused text part missing b same is cut written) = subst (λ (x : State). RunsPosts A moment mid x) (sym same) (runs_none A moment mid)
+
+memory_runs : (A : AgreedValues) (moment : ℕ) (mid : State) (replies rest : List ℕ) (before after : Option (List ℕ)) (t : State) → OutOfMemory A moment mid replies rest before after t → RunsPosts A moment mid t
+memory_runs A moment mid replies rest before after t (for_request same written) = subst (λ (x : State). RunsPosts A moment mid x) (sym same) (runs_none A moment mid)
+memory_runs A moment mid replies rest before after t (for_reply r behind x b responds written) = one_runs A moment mid t r x responds
+
+piece_left : (A : AgreedValues) (moment : ℕ) (s mid t : State) (done : List Exchange) (text replies rest left : List ℕ) (p : RequestParser) (before after : Option (List ℕ)) (end : Option Served)
+    → AnswersAll A moment s text done mid replies rest → PieceEnds A moment done mid replies rest left p before after t end → RunsPosts A moment s t
+piece_left A moment s mid t done text replies rest left p before after None a e = answers_runs A moment s mid t text replies rest done a e.1
+piece_left A moment s mid t done text replies rest left p before after (Some served.Closed) a e = answers_runs A moment s mid t text replies rest done a e.1
+piece_left A moment s mid t done text replies rest left p before after (Some served.BadFraming) a e = answers_runs A moment s mid t text replies rest done a e.1
+piece_left A moment s mid t done text replies rest left p before after (Some served.WriteFault) a e =
+    runs_join A moment s mid t (answers_runs A moment s mid mid text replies rest done a refl) (cut_runs A moment mid replies rest before after t e.1)
+piece_left A moment s mid t done text replies rest left p before after (Some served.Memory) a e =
+    runs_join A moment s mid t (answers_runs A moment s mid mid text replies rest done a refl) (memory_runs A moment mid replies rest before after t e.1)
+piece_left A moment s mid t done text replies rest left p before after (Some served.Truncated) a e = absurd e
+piece_left A moment s mid t done text replies rest left p before after (Some served.ReadFault) a e = absurd e
+piece_left A moment s mid t done text replies rest left p before after (Some served.TooLong) a e = absurd e
+
+-- so did all that was taken of the stream so far
+abbrev pub TakenSoFar : AgreedValues → ℕ → State → Connected → Type 0
+TakenSoFar A moment s c = (t : State) × Rests c t × RunsPosts A moment s t
+
+pub taken_on : (A : AgreedValues) (moment : ℕ) (s mid : State) (text left : List ℕ) (p : RequestParser) (c : Connected) (before after : Option (List ℕ)) (end : Option Served)
+    → RunsPosts A moment s mid → AnswersPiece A moment mid text left p c before after end → TakenSoFar A moment s c
+taken_on A moment s mid text left p c before after end runs a =
+    (a.last, a.rests, runs_join A moment s mid a.last runs (piece_left A moment mid a.mid a.last a.done text a.replies a.rest left p before after end a.all a.ends))
+
+-- what is left, and how the stream came to it
+abbrev pub LeavesServed : AgreedValues → ℕ → State → List ℕ → Option (List ℕ) → Connected → Option (List ℕ) → Option (List ℕ) → ℕ → ℕ → Served → Type 0
+LeavesServed A moment s input unread c before after calls later end = (t : State) × Rests c t × Serves A moment s t input unread before after calls later end
+
+-- ---- what was read
+
+-- what was read needs more
+needs_more : (A : AgreedValues) (moment : ℕ) (s : State) (input : List ℕ) (p : RequestParser) (c : Connected) (unread before now : Option (List ℕ)) (calls later : ℕ) → (w : BetweenReads A moment s input p c unread before now calls later)
+    → NeedsMore A moment s w.reads.read
+needs_more A moment s input p c unread before now calls later w =
+    record { done = w.done; mid = w.mid; replies = w.replies; held = w.held; all = w.all; go_on = w.go_on; undecided = holds_open p w.held w.taken }
+
+-- the next call was needed
+next_read : (A : AgreedValues) (moment : ℕ) (s : State) (input : List ℕ) (p : RequestParser) (c : Connected) (unread after before now : Option (List ℕ)) (calls later next : ℕ) (piece : List ℕ)
+    → (w : BetweenReads A moment s input p c unread before now calls later) → HasArrived w.reads.left piece after → length piece ≤ read_limit → next ≡ later + 1 → ReadsNeeded (NeedsMore A moment s) input after calls next
+next_read A moment s input p c unread after before now calls later next piece w m most is =
+    read_on (NeedsMore A moment s) input unread after calls later next piece w.reads (needs_more A moment s input p c unread before now calls later w) m most is
+
+pub between_first : (A : AgreedValues) (moment : ℕ) (s : State) (input : List ℕ) (p : RequestParser) (c : Connected) (unread now : Option (List ℕ)) (calls : ℕ) → Rests c s → HasTaken p [] → unread ≡ Some input
+    → BetweenReads A moment s input p c unread now now calls calls
+unfolding reads_none
+between_first A moment s input p c unread now calls rests taken known = record {
+  reads = reads_none (NeedsMore A moment s) input unread calls known;
+  done = [];
+  mid = s;
+  replies = [];
+  held = [];
+  all = (refl, refl, refl);
+  go_on = tt;
+  rests = rests;
+  taken = taken;
+  appended = Appends-nil now;
+}
+
+-- ---- a piece more
+
+-- the same requests stand in front of what comes behind
+answers_append : (A : AgreedValues) (moment : ℕ) (s t : State) (text replies rest left : List ℕ) (done : List Exchange) → AnswersAll A moment s text done t replies rest → AnswersAll A moment s (text ++ left) done t replies (rest ++ left)
+answers_append A moment s t text replies rest left [] a = (a.0, a.1, ap (λ (x : List ℕ). x ++ left) a.2)
+answers_append A moment s t text replies rest left (x ∷ done) a = (
+  a.0,
+  a.1,
+  a.2 ++ left,
+  a.3,
+  record { begins = begins_append text left x.0 a.2 a.4.begins; responds = a.4.responds; replies = a.4.replies },
+  a.5,
+  answers_append A moment a.0 t a.2 a.3 rest left done a.6,
+)
+
+-- .. so in front of the whole input
+in_input : (A : AgreedValues) (moment : ℕ) (s : State) (input : List ℕ) (p : RequestParser) (c : Connected) (unread before now : Option (List ℕ)) (calls later : ℕ) → (w : BetweenReads A moment s input p c unread before now calls later)
+    → AnswersAll A moment s input w.done w.mid w.replies (w.held ++ w.reads.left)
+in_input A moment s input p c unread before now calls later w =
+    subst (λ (t : List ℕ). AnswersAll A moment s t w.done w.mid w.replies (w.held ++ w.reads.left)) (sym w.reads.whole)
+    (answers_append A moment s w.mid w.reads.read w.replies w.held w.reads.left w.done w.all)
+
+joined : (A : AgreedValues) (moment : ℕ) (s : State) (input : List ℕ) (p q : RequestParser) (c d : Connected) (unread after before now later : Option (List ℕ)) (i j : ℕ) (piece : List ℕ) (end : Option Served)
+    → (w : BetweenReads A moment s input p c unread before now i j) → (m : HasArrived w.reads.left piece after) → (a : AnswersPiece A moment w.mid (w.held ++ piece ++ m.left) m.left q d now later end)
+    → AnswersAll A moment s input (w.done ++ a.done) a.mid (w.replies ++ a.replies) a.rest
+joined A moment s input p q c d unread after before now later i j piece end w m a =
+    answers_join A moment s w.mid a.mid input (w.held ++ piece ++ m.left) a.rest w.replies a.replies w.done a.done
+    (subst (λ (t : List ℕ). AnswersAll A moment s input w.done w.mid w.replies t) (ap (λ (t : List ℕ). w.held ++ t) m.whole ∙ sym (append_assoc w.held piece m.left)) (in_input A moment s input p c unread before now i j w)) a.all
+
+-- no bytes behind the piece are looked at
+between_on : (A : AgreedValues) (moment : ℕ) (s : State) (input : List ℕ) (p q : RequestParser) (c d : Connected) (unread after before now later : Option (List ℕ)) (i j k : ℕ) (piece : List ℕ)
+    → (w : BetweenReads A moment s input p c unread before now i j) → HasArrived w.reads.left piece after → length piece ≤ read_limit → k ≡ j + 1 → AnswersPiece A moment w.mid (w.held ++ piece ++ []) [] q d now later None
+    → BetweenReads A moment s input q d after before later i k
+unfolding next_read read_on
+between_on A moment s input p q c d unread after before now later i j k piece w m most is a =
+    let held = a.ends.3.0 in
+    let rest_is : a.rest ≡ held = a.ends.3.1 ∙ append-nil held in
+    let there = subst (λ (x : List ℕ). AnswersAll A moment w.mid x a.done a.mid a.replies held) (append-nil (w.held ++ piece)) (subst (λ (x : List ℕ). AnswersAll A moment w.mid (w.held ++ piece ++ []) a.done a.mid a.replies x) rest_is a.all) in
+    record {
+      reads = next_read A moment s input p c unread after before now i j k piece w m most is;
+      done = w.done ++ a.done;
+      mid = a.mid;
+      replies = w.replies ++ a.replies;
+      held = held;
+      all = answers_join A moment s w.mid a.mid (w.reads.read ++ piece) (w.held ++ piece) held w.replies a.replies w.done a.done
+          (answers_append A moment s w.mid w.reads.read w.replies w.held piece w.done w.all) there;
+      go_on = go_on_join w.done a.done w.go_on a.ends.0;
+      rests = subst (λ (t : State). Rests d t) a.ends.1 a.rests;
+      taken = a.ends.3.2;
+      appended = Appends-trans before now later w.replies a.replies w.appended a.ends.2;
+    }
+
+-- the replies of the stream so far stand before those of the piece
+behind : (before now later : Option (List ℕ)) (replies more part : List ℕ) → Appends before now replies → Appends now later (more ++ part) → Appends before later (replies ++ more ++ part)
+behind before now later replies more part a b = subst (Appends before later) (sym (append_assoc replies more part)) (Appends-trans before now later replies (more ++ part) a b)
+
+cut_on : (A : AgreedValues) (moment : ℕ) (mid : State) (replies more rest : List ℕ) (before now later : Option (List ℕ)) (t : State) → Appends before now replies → CutShort A moment mid more rest now later t
+    → CutShort A moment mid (replies ++ more) rest before later t
+cut_on A moment mid replies more rest before now later t a (in_reply r next x text part missing b responds is cut written) =
+    in_reply r next x text part missing b responds is cut (behind before now later replies more part a written)
+cut_on A moment mid replies more rest before now later t a (in_refusal refused text part missing b same is cut written) =
+    in_refusal refused text part missing b same is cut (behind before now later replies more part a written)
+
+memory_on : (A : AgreedValues) (moment : ℕ) (mid : State) (replies more rest : List ℕ) (before now later : Option (List ℕ)) (t : State) → Appends before now replies → OutOfMemory A moment mid more rest now later t
+    → OutOfMemory A moment mid (replies ++ more) rest before later t
+memory_on A moment mid replies more rest before now later t a (for_request same written) = for_request same (Appends-trans before now later replies more a written)
+memory_on A moment mid replies more rest before now later t a (for_reply r next x b responds written) = for_reply r next x b responds (Appends-trans before now later replies more a written)
+
+last_on : (done later : List Exchange) → GoOn done → EndsLast later → EndsLast (done ++ later)
+last_on done later go l = (done ++ l.0, l.1, ap (λ (t : List Exchange). done ++ t) l.2 ∙ sym (append_assoc done l.0 (l.1 ∷ [])), go_on_join done l.0 go l.3, l.4)
+
+ends_on : (A : AgreedValues) (moment : ℕ) (done later : List Exchange) (mid : State) (replies more rest left : List ℕ) (q : RequestParser) (unread before now after : Option (List ℕ)) (t : State) (end : Served)
+    → GoOn done → Appends before now replies → PieceEnds A moment later mid more rest left q now after t (Some end) → Ends A moment (done ++ later) mid (replies ++ more) rest unread before after t end
+ends_on A moment done later mid replies more rest left q unread before now after t served.Closed go a e = (e.1, Appends-trans before now after replies more a e.2, inl (last_on done later go e.0))
+ends_on A moment done later mid replies more rest left q unread before now after t served.Truncated go a e = absurd e
+ends_on A moment done later mid replies more rest left q unread before now after t served.BadFraming go a e = (
+  e.1,
+  go_on_join done later go e.0,
+  record { refused = e.2.refused; refuses = e.2.refuses; text = e.2.text; is = e.2.is; written = behind before now after replies more e.2.text a e.2.written },
+)
+ends_on A moment done later mid replies more rest left q unread before now after t served.ReadFault go a e = absurd e
+ends_on A moment done later mid replies more rest left q unread before now after t served.WriteFault go a e = (go_on_join done later go e.0, cut_on A moment mid replies more rest before now after t a e.1)
+ends_on A moment done later mid replies more rest left q unread before now after t served.Memory go a e = (go_on_join done later go e.0, memory_on A moment mid replies more rest before now after t a e.1)
+ends_on A moment done later mid replies more rest left q unread before now after t served.TooLong go a e = absurd e
+
+serving_ends : (A : AgreedValues) (moment : ℕ) (s : State) (input : List ℕ) (p q : RequestParser) (c d : Connected) (unread after before now later : Option (List ℕ)) (i j k : ℕ) (piece : List ℕ) (end : Served)
+    → (w : BetweenReads A moment s input p c unread before now i j) → (m : HasArrived w.reads.left piece after) → length piece ≤ read_limit → k ≡ j + 1 → AnswersPiece A moment w.mid (w.held ++ piece ++ m.left) m.left q d now later (Some end)
+    → LeavesServed A moment s input after d before later i k end
+serving_ends A moment s input p q c d unread after before now later i j k piece end w m most is a =
+    let all = joined A moment s input p q c d unread after before now later i j piece (Some end) w m a in (
+      a.last,
+      a.rests,
+      record {
+        done = w.done ++ a.done;
+        mid = a.mid;
+        replies = w.replies ++ a.replies;
+        rest = a.rest;
+        all = all;
+        run = answers_run A moment s a.mid input (w.replies ++ a.replies) a.rest (w.done ++ a.done) all;
+        ends = ends_on A moment w.done a.done a.mid w.replies a.replies a.rest m.left q after before now later a.last end w.go_on w.appended a.ends;
+        reads = next_read A moment s input p c unread after before now i j k piece w m most is;
+      },
+    )
+
+-- the piece is answered, whatever comes behind it
+pub next_answered : (A : AgreedValues) (moment : ℕ) (s : State) (input : List ℕ) (p q : RequestParser) (c d : Connected) (unread after before now later : Option (List ℕ)) (i j k : ℕ) (piece : List ℕ) (result : Option Served)
+    → (w : BetweenReads A moment s input p c unread before now i j) → HasArrived w.reads.left piece after → length piece ≤ read_limit → k ≡ j + 1
+    → ((left : List ℕ) → AnswersPiece A moment w.mid (w.held ++ piece ++ left) left q d now later result) → AnswersNext A moment s input q d after before later i k result
+next_answered A moment s input p q c d unread after before now later i j k piece None w m most is a = between_on A moment s input p q c d unread after before now later i j k piece w m most is (a [])
+next_answered A moment s input p q c d unread after before now later i j k piece (Some end) w m most is a =
+    serving_ends A moment s input p q c d unread after before now later i j k piece end w m most is (a m.left)
+
+-- ---- the other ends
+
+-- behind the replies so far, in the state that they left
+serves_as : (A : AgreedValues) (moment : ℕ) (s : State) (input : List ℕ) (p : RequestParser) (c : Connected) (unread after before now : Option (List ℕ)) (i j k : ℕ) (end : Served)
+    → (w : BetweenReads A moment s input p c unread before now i j) → Ends A moment w.done w.mid w.replies (w.held ++ w.reads.left) after before now w.mid end → ReadsNeeded (NeedsMore A moment s) input after i k
+    → LeavesServed A moment s input after c before now i k end
+serves_as A moment s input p c unread after before now i j k end w e reads =
+    let all = in_input A moment s input p c unread before now i j w in (
+      w.mid,
+      w.rests,
+      record {
+        done = w.done;
+        mid = w.mid;
+        replies = w.replies;
+        rest = w.held ++ w.reads.left;
+        all = all;
+        run = answers_run A moment s w.mid input w.replies (w.held ++ w.reads.left) w.done all;
+        ends = e;
+        reads = reads;
+      },
+    )
+
+serves_closed : (A : AgreedValues) (moment : ℕ) (s : State) (input : List ℕ) (p : RequestParser) (c : Connected) (unread after before now : Option (List ℕ)) (i j k : ℕ) (w : BetweenReads A moment s input p c unread before now i j)
+    → Consumes unread after [] → IsAtEnd after → k ≡ j + 1 → ((text : List ℕ) → HasTaken p text → unblank text ≡ []) → LeavesServed A moment s input after c before now i k served.Closed
+serves_closed A moment s input p c unread after before now i j k w consumed done is blank =
+    let same : w.held ≡ w.held ++ w.reads.left = sym (append-nil w.held) ∙ ap (λ (t : List ℕ). w.held ++ t) (sym (at_end unread after w.reads.left consumed done w.reads.known)) in
+    serves_as A moment s input p c unread after before now i j k served.Closed w
+    (refl, w.appended, inr (w.go_on, subst IsOpen same (holds_open p w.held w.taken), subst (λ (t : List ℕ). unblank t ≡ []) same (blank w.held w.taken)))
+    (next_read A moment s input p c unread after before now i j k [] w (piece_of unread after w.reads.left [] consumed w.reads.known) (omega arith) is)
+
+serves_truncated : (A : AgreedValues) (moment : ℕ) (s : State) (input : List ℕ) (p : RequestParser) (c : Connected) (unread after before now : Option (List ℕ)) (i j k : ℕ) (w : BetweenReads A moment s input p c unread before now i j)
+    → Consumes unread after [] → IsAtEnd after → k ≡ j + 1 → ((text : List ℕ) → HasTaken p text → ¬ (unblank text ≡ [])) → LeavesServed A moment s input after c before now i k served.Truncated
+serves_truncated A moment s input p c unread after before now i j k w consumed done is some =
+    let same : w.held ≡ w.held ++ w.reads.left = sym (append-nil w.held) ∙ ap (λ (t : List ℕ). w.held ++ t) (sym (at_end unread after w.reads.left consumed done w.reads.known)) in
+    serves_as A moment s input p c unread after before now i j k served.Truncated w
+    (refl, w.appended, w.go_on, subst IsOpen same (holds_open p w.held w.taken), subst (λ (t : List ℕ). ¬ (unblank t ≡ [])) same (some w.held w.taken))
+    (next_read A moment s input p c unread after before now i j k [] w (piece_of unread after w.reads.left [] consumed w.reads.known) (omega arith) is)
+
+-- the input ended
+pub serves_ended : (A : AgreedValues) (moment : ℕ) (s : State) (input : List ℕ) (p : RequestParser) (c : Connected) (unread after before now : Option (List ℕ)) (i j k : ℕ) (end : Served) → BetweenReads A moment s input p c unread before now i j
+    → Consumes unread after [] → IsAtEnd after → k ≡ j + 1 → (end ≡ served.Closed → (text : List ℕ) → HasTaken p text → unblank text ≡ [])
+    → (end ≡ served.Truncated → (text : List ℕ) → HasTaken p text → ¬ (unblank text ≡ [])) → (end ≡ served.Closed) ⊎ (end ≡ served.Truncated) → LeavesServed A moment s input after c before now i k end
+serves_ended A moment s input p c unread after before now i j k end w consumed done is blank some one =
+    elim one [
+      | inl same ↦ subst (λ (x : Served). LeavesServed A moment s input after c before now i k x) (sym same) (serves_closed A moment s input p c unread after before now i j k w consumed done is (blank same))
+      | inr same ↦ subst (λ (x : Served). LeavesServed A moment s input after c before now i k x) (sym same) (serves_truncated A moment s input p c unread after before now i j k w consumed done is (some same))
+    ]
+
+pub serves_fault : (A : AgreedValues) (moment : ℕ) (s : State) (input : List ℕ) (p : RequestParser) (c : Connected) (unread after before now : Option (List ℕ)) (i j k : ℕ) → BetweenReads A moment s input p c unread before now i j → Keeps unread after → k ≡ j + 1
+    → LeavesServed A moment s input after c before now i k served.ReadFault
+unfolding nothing_of
+serves_fault A moment s input p c unread after before now i j k w kept is =
+    let m = nothing_of unread after w.reads.left kept w.reads.known in
+    serves_as A moment s input p c unread after before now i j k served.ReadFault w (refl, w.appended, w.go_on, (w.held, w.reads.left, refl, holds_open p w.held w.taken, m.kept))
+    (next_read A moment s input p c unread after before now i j k [] w m (omega arith) is)
+
+pub serves_long : (A : AgreedValues) (moment : ℕ) (s : State) (input : List ℕ) (p : RequestParser) (c : Connected) (unread before now : Option (List ℕ)) (i j : ℕ) → BetweenReads A moment s input p c unread before now i j
+    → LeavesServed A moment s input unread c before now i j served.TooLong
+serves_long A moment s input p c unread before now i j w =
+    serves_as A moment s input p c unread unread before now i j j served.TooLong w (refl, w.appended, w.go_on, (w.held, w.reads.left, refl, holds_open p w.held w.taken, w.reads.known)) w.reads
+
+-- memory for the reads was wanting
+pub serves_nothing : (A : AgreedValues) (moment : ℕ) (s : State) (input : List ℕ) (c : Connected) (unread now : Option (List ℕ)) (calls : ℕ) → Rests c s → unread ≡ Some input → LeavesServed A moment s input unread c now now calls calls served.Memory
+serves_nothing A moment s input c unread now calls rests known = (
+  s,
+  rests,
+  record {
+    done = [];
+    mid = s;
+    replies = [];
+    rest = input;
+    all = (refl, refl, refl);
+    run = refl;
+    ends = (tt, for_request refl (Appends-nil now));
+    reads = reads_none (NeedsMore A moment s) input unread calls known;
+  },
+)
+
+-- a piece ends no stream so
+pub not_read : (end : Served) → may_end_piece end ≡ true → end ≡ served.ReadFault → ⊥
+not_read end may is = absurd (cc (sym may ∙ ap may_end_piece is))
+
+pub not_long : (end : Served) → may_end_piece end ≡ true → end ≡ served.TooLong → ⊥
+not_long end may is = absurd (cc (sym may ∙ ap may_end_piece is))

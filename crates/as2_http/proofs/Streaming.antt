@@ -1,0 +1,240 @@
+-- What the requests of a stream get, put together from its pieces.
+use Rattle.std.proofs.Common.{◌≡◌, ℕ, true, false, List, [], ◌∷◌, ◌++◌, Option, Some, None, Result, Ok, Err, refl, sym, ap, ◌∙◌, subst, append_assoc, append-nil}
+use Rattle.std.proofs.KnownBytes.{Appends-nil, Appends-trans}
+use Rattle.std.specs.Io.KnownBytes.{Appends}
+use Rattle.sqlite.specs.State.{State as Connected}
+use Rattle.as2_agreement.specs.Agreements.{AgreedValues}
+use Rattle.as2_exchange.specs.Lines.{refusal}
+use Rattle.as2_exchange.specs.State.{State}
+use Rattle.as2_store.specs.Stands.{Rests}
+use Rattle.as2_http.specs.Parsing.{HasTaken}
+use Rattle.as2_http.specs.Replies.{IsReply, refusal_line}
+use Rattle.as2_http.specs.Requests.{Begins, IsRefused}
+use Rattle.as2_http.specs.Responses.{Responds, Unsaid, answer_of}
+use Rattle.as2_http.specs.Sending.{Sends, form_of, refusal_form}
+use Rattle.as2_http.specs.Streams.{Exchange, Answers, AnswersAll, GoOn, Replied, AnswersPiece, in_reply, in_refusal, for_request, for_reply, end_by}
+use Rattle.as2_http.specs.declared.request.Request.{Request}
+use Rattle.as2_http.specs.declared.framing.Refused.{Refused}
+use Rattle.as2_http.specs.declared.parser.RequestParser.{RequestParser}
+use Rattle.as2_http.specs.declared.response.Response.{Response}
+use Rattle.as2_http.specs.declared.sending.SendFault.{SendFault}
+use Rattle.as2_http.specs.declared.sending.SendFault.TheVariants as send_fault
+use Rattle.as2_http.specs.declared.stream.Served.TheVariants as served
+use Rattle.as2_http.proofs.Framed.{begins_append, refuses_append}
+
+-- ---- requests, one after the other
+
+pub answers_join : (A : AgreedValues) (moment : ℕ) (s mid t : State) (text rest left replies more : List ℕ) (done later : List Exchange)
+    → AnswersAll A moment s text done mid replies rest → AnswersAll A moment mid rest later t more left → AnswersAll A moment s text (done ++ later) t (replies ++ more) left
+answers_join A moment s mid t text rest left replies more [] later a b =
+    subst (λ (r : List ℕ). AnswersAll A moment s text later t (r ++ more) left) (sym a.1)
+    (subst (λ (x : List ℕ). AnswersAll A moment s x later t more left) a.2 (subst (λ (x : State). AnswersAll A moment x rest later t more left) a.0 b))
+answers_join A moment s mid t text rest left replies more (x ∷ done) later a b = (
+  a.0,
+  a.1,
+  a.2,
+  a.3 ++ more,
+  a.4,
+  ap (λ (r : List ℕ). r ++ more) a.5 ∙ append_assoc a.1 a.3 more,
+  answers_join A moment a.0 mid t a.2 rest left a.3 more done later a.6 b,
+)
+
+pub answers_one : (A : AgreedValues) (moment : ℕ) (s t : State) (text reply rest : List ℕ) (x : Exchange) → Answers A moment s text x t reply rest → AnswersAll A moment s text (x ∷ []) t reply rest
+answers_one A moment s t text reply rest x a = (t, reply, rest, [], a, sym (append-nil reply), (refl, refl, refl))
+
+pub go_on_join : (done later : List Exchange) → GoOn done → GoOn later → GoOn (done ++ later)
+go_on_join [] later a b = b
+go_on_join (x ∷ done) later a b = (a.0, go_on_join done later a.1 b)
+
+-- the requests of a piece so far were answered, and the rest of the piece is to be taken
+pub record Proceeds (A : AgreedValues) (moment : ℕ) (s : State) (text rest left : List ℕ) (p : RequestParser) (c : Connected) (before now : Option (List ℕ)) : Type 0 where
+  pub done : List Exchange
+  pub mid : State
+  pub replies : List ℕ
+  pub held : List ℕ
+  pub all : AnswersAll A moment s text done mid replies (held ++ rest ++ left)
+  pub go_on : GoOn done
+  pub rests : Rests c mid
+  pub taken : HasTaken p held
+  pub appended : Appends before now replies
+
+-- what of a reply was written, of a request that is answered in a text
+pub record IsAnswered (A : AgreedValues) (moment : ℕ) (mid : State) (r : Request) (c : Connected) (now later : Option (List ℕ)) : Type 0 where
+  pub response : Response
+  pub next : State
+  pub rests : Rests c next
+  pub responds : Responds A moment mid r response Unsaid next
+  pub text : List ℕ
+  pub is : IsReply moment (form_of r) (answer_of response) text
+  pub appended : Appends now later text
+
+pub replied_whole : {U : Type 0} (A : AgreedValues) (moment : ℕ) (mid : State) (r : Request) (c : Connected) (now later : Option (List ℕ)) (sent : Result U SendFault) (u : U)
+    → sent ≡ Ok u → Replied A moment mid r c now later sent → IsAnswered A moment mid r c now later
+replied_whole {U} A moment mid r c now later sent u is p =
+    let w : Sends {U = U} moment (form_of r) (answer_of p.response) now later (Ok u) = subst (λ (x : Result U SendFault). Sends moment (form_of r) (answer_of p.response) now later x) is p.sends in
+    record { response = p.response; next = p.left; rests = p.rests; responds = p.responds; text = w.0; is = w.1; appended = w.2 }
+
+-- the request begins the rest of the text, too, where that goes on
+answered_there : (A : AgreedValues) (moment : ℕ) (mid : State) (text next left : List ℕ) (r : Request) (c : Connected) (now later : Option (List ℕ)) → Begins text r next → (w : IsAnswered A moment mid r c now later)
+    → Answers A moment mid (text ++ left) (r, w.response) w.next w.text (next ++ left)
+answered_there A moment mid text next left r c now later b w = record { begins = begins_append text left r next b; responds = w.responds; replies = w.is }
+
+-- ---- a piece
+
+pub begins_piece : (A : AgreedValues) (moment : ℕ) (s : State) (held piece left : List ℕ) (p : RequestParser) (c : Connected) (now : Option (List ℕ)) → Rests c s → HasTaken p held
+    → Proceeds A moment s (held ++ piece ++ left) piece left p c now now
+begins_piece A moment s held piece left p c now rests taken =
+    record { done = []; mid = s; replies = []; held = held; all = (refl, refl, refl); go_on = tt; rests = rests; taken = taken; appended = Appends-nil now }
+
+pub proceeds_on : (A : AgreedValues) (moment : ℕ) (s : State) (text rest next left : List ℕ) (p q : RequestParser) (c d : Connected) (before now later : Option (List ℕ)) (r : Request)
+    → (w : Proceeds A moment s text rest left p c before now) → Begins (w.held ++ rest) r next → HasTaken q [] → IsAnswered A moment w.mid r d now later → r.last ≡ false
+    → Proceeds A moment s text next left q d before later
+proceeds_on A moment s text rest next left p q c d before now later r w b taken a go = record {
+  done = w.done ++ (r, a.response) ∷ [];
+  mid = a.next;
+  replies = w.replies ++ a.text;
+  held = [];
+  all = answers_join A moment s w.mid a.next text (w.held ++ rest ++ left) (next ++ left) w.replies a.text w.done ((r, a.response) ∷ []) w.all
+      (answers_one A moment w.mid a.next (w.held ++ rest ++ left) a.text (next ++ left) (r, a.response) (answered_there A moment w.mid (w.held ++ rest) next left r d now later b a));
+  go_on = go_on_join w.done ((r, a.response) ∷ []) w.go_on (go, tt);
+  rests = a.rests;
+  taken = taken;
+  appended = Appends-trans before now later w.replies a.text w.appended a.appended;
+}
+
+pub piece_last : (A : AgreedValues) (moment : ℕ) (s : State) (text rest next left : List ℕ) (p q : RequestParser) (c d : Connected) (before now later : Option (List ℕ)) (r : Request)
+    → (w : Proceeds A moment s text rest left p c before now) → Begins (w.held ++ rest) r next → IsAnswered A moment w.mid r d now later → r.last ≡ true
+    → AnswersPiece A moment s text left q d before later (Some served.Closed)
+piece_last A moment s text rest next left p q c d before now later r w b a ends = record {
+  done = w.done ++ (r, a.response) ∷ [];
+  mid = a.next;
+  last = a.next;
+  replies = w.replies ++ a.text;
+  rest = next ++ left;
+  all = answers_join A moment s w.mid a.next text (w.held ++ rest ++ left) (next ++ left) w.replies a.text w.done ((r, a.response) ∷ []) w.all
+      (answers_one A moment w.mid a.next (w.held ++ rest ++ left) a.text (next ++ left) (r, a.response) (answered_there A moment w.mid (w.held ++ rest) next left r d now later b a));
+  rests = a.rests;
+  ends = ((w.done, (r, a.response), refl, w.go_on, ends), refl, Appends-trans before now later w.replies a.text w.appended a.appended);
+}
+
+-- no request ends in the rest
+pub piece_open : (A : AgreedValues) (moment : ℕ) (s : State) (text rest left : List ℕ) (p q : RequestParser) (c : Connected) (before now : Option (List ℕ))
+    → (w : Proceeds A moment s text rest left p c before now) → HasTaken q (w.held ++ rest) → AnswersPiece A moment s text left q c before now None
+piece_open A moment s text rest left p q c before now w taken = record {
+  done = w.done;
+  mid = w.mid;
+  last = w.mid;
+  replies = w.replies;
+  rest = w.held ++ rest ++ left;
+  all = w.all;
+  rests = w.rests;
+  ends = (w.go_on, refl, w.appended, (w.held ++ rest, refl, taken));
+}
+
+-- nothing is left of the piece
+pub piece_taken : (A : AgreedValues) (moment : ℕ) (s : State) (text rest left : List ℕ) (p : RequestParser) (c : Connected) (before now : Option (List ℕ))
+    → Proceeds A moment s text rest left p c before now → rest ≡ [] → AnswersPiece A moment s text left p c before now None
+piece_taken A moment s text rest left p c before now w none =
+    piece_open A moment s text rest left p p c before now w (subst (HasTaken p) (sym (append-nil w.held) ∙ ap (λ (t : List ℕ). w.held ++ t) (sym none)) w.taken)
+
+-- memory for a request was wanting
+pub piece_unread : (A : AgreedValues) (moment : ℕ) (s : State) (text rest left : List ℕ) (p q : RequestParser) (c : Connected) (before now : Option (List ℕ))
+    → Proceeds A moment s text rest left p c before now → AnswersPiece A moment s text left q c before now (Some served.Memory)
+piece_unread A moment s text rest left p q c before now w = record {
+  done = w.done;
+  mid = w.mid;
+  last = w.mid;
+  replies = w.replies;
+  rest = w.held ++ rest ++ left;
+  all = w.all;
+  rests = w.rests;
+  ends = (w.go_on, for_request refl w.appended);
+}
+
+-- a reply wasn't written whole
+pub piece_cut : {U : Type 0} (A : AgreedValues) (moment : ℕ) (s : State) (text rest next left : List ℕ) (p q : RequestParser) (c d : Connected) (before now later : Option (List ℕ)) (r : Request)
+    (sent : Result U SendFault) (fault : SendFault) → (w : Proceeds A moment s text rest left p c before now) → Begins (w.held ++ rest) r next → sent ≡ Err fault
+    → Replied A moment w.mid r d now later sent → AnswersPiece A moment s text left q d before later (Some (end_by fault))
+piece_cut {U} A moment s text rest next left p q c d before now later r sent send_fault.Write w b is x =
+    let e : Sends {U = U} moment (form_of r) (answer_of x.response) now later (Err send_fault.Write) = subst (λ (y : Result U SendFault). Sends moment (form_of r) (answer_of x.response) now later y) is x.sends in
+    record {
+      done = w.done;
+      mid = w.mid;
+      last = x.left;
+      replies = w.replies;
+      rest = w.held ++ rest ++ left;
+      all = w.all;
+      rests = x.rests;
+      ends = (
+        w.go_on,
+        in_reply r (next ++ left) x.response e.0 e.2.part e.2.missing (begins_append (w.held ++ rest) left r next b) x.responds e.1 e.2.cut (Appends-trans before now later w.replies e.2.part w.appended e.2.appended),
+      );
+    }
+piece_cut {U} A moment s text rest next left p q c d before now later r sent send_fault.Memory w b is x =
+    let e : Sends {U = U} moment (form_of r) (answer_of x.response) now later (Err send_fault.Memory) = subst (λ (y : Result U SendFault). Sends moment (form_of r) (answer_of x.response) now later y) is x.sends in
+    record {
+      done = w.done;
+      mid = w.mid;
+      last = x.left;
+      replies = w.replies;
+      rest = w.held ++ rest ++ left;
+      all = w.all;
+      rests = x.rests;
+      ends = (
+        w.go_on,
+        for_reply r (next ++ left) x.response (begins_append (w.held ++ rest) left r next b) x.responds
+            (subst (Appends before later) (append-nil w.replies) (Appends-trans before now later w.replies [] w.appended e)),
+      );
+    }
+
+-- a refusal is written
+pub piece_refused : {U : Type 0} (A : AgreedValues) (moment : ℕ) (s : State) (text rest left : List ℕ) (p q : RequestParser) (c : Connected) (before now later : Option (List ℕ)) (refused : Refused)
+    (sent : Result U SendFault) (u : U) → (w : Proceeds A moment s text rest left p c before now) → IsRefused (w.held ++ rest) refused → sent ≡ Ok u
+    → Sends moment (refusal_form refused) (refusal (refusal_line refused.reason)) now later sent → AnswersPiece A moment s text left q c before later (Some served.BadFraming)
+piece_refused {U} A moment s text rest left p q c before now later refused sent u w b is x =
+    let e : Sends {U = U} moment (refusal_form refused) (refusal (refusal_line refused.reason)) now later (Ok u) = subst (λ (y : Result U SendFault). Sends moment (refusal_form refused) (refusal (refusal_line refused.reason)) now later y) is x in
+    record {
+      done = w.done;
+      mid = w.mid;
+      last = w.mid;
+      replies = w.replies;
+      rest = w.held ++ rest ++ left;
+      all = w.all;
+      rests = w.rests;
+      ends = (
+        w.go_on,
+        refl,
+        record { refused = refused; refuses = refuses_append (w.held ++ rest) left refused b; text = e.0; is = e.1; written = Appends-trans before now later w.replies e.0 w.appended e.2 },
+      );
+    }
+
+pub piece_refusal_cut : {U : Type 0} (A : AgreedValues) (moment : ℕ) (s : State) (text rest left : List ℕ) (p q : RequestParser) (c : Connected) (before now later : Option (List ℕ)) (refused : Refused)
+    (sent : Result U SendFault) (fault : SendFault) → (w : Proceeds A moment s text rest left p c before now) → IsRefused (w.held ++ rest) refused → sent ≡ Err fault
+    → Sends moment (refusal_form refused) (refusal (refusal_line refused.reason)) now later sent → AnswersPiece A moment s text left q c before later (Some (end_by fault))
+piece_refusal_cut {U} A moment s text rest left p q c before now later refused sent send_fault.Write w b is x =
+    let e : Sends {U = U} moment (refusal_form refused) (refusal (refusal_line refused.reason)) now later (Err send_fault.Write) = subst (λ (y : Result U SendFault). Sends moment (refusal_form refused) (refusal (refusal_line refused.reason)) now later y) is x in
+    record {
+      done = w.done;
+      mid = w.mid;
+      last = w.mid;
+      replies = w.replies;
+      rest = w.held ++ rest ++ left;
+      all = w.all;
+      rests = w.rests;
+      ends = (
+        w.go_on,
+        in_refusal refused e.0 e.2.part e.2.missing (refuses_append (w.held ++ rest) left refused b) refl e.1 e.2.cut (Appends-trans before now later w.replies e.2.part w.appended e.2.appended),
+      );
+    }
+piece_refusal_cut {U} A moment s text rest left p q c before now later refused sent send_fault.Memory w b is x =
+    let e : Sends {U = U} moment (refusal_form refused) (refusal (refusal_line refused.reason)) now later (Err send_fault.Memory) = subst (λ (y : Result U SendFault). Sends moment (refusal_form refused) (refusal (refusal_line refused.reason)) now later y) is x in
+    record {
+      done = w.done;
+      mid = w.mid;
+      last = w.mid;
+      replies = w.replies;
+      rest = w.held ++ rest ++ left;
+      all = w.all;
+      rests = w.rests;
+      ends = (w.go_on, for_request refl (subst (Appends before later) (append-nil w.replies) (Appends-trans before now later w.replies [] w.appended e)));
+    }

@@ -1,0 +1,6 @@
+use Rattle.std.proofs.Common.{arith}
+use Rattle.as2_http.proofs.Answered.{all_too_large}
+use Rattle.as2_http.proofs.answer_parser.take_all.Goals as goal
+
+pub returns-then-bytes-saturating_sub : goal.returns-then-bytes-saturating_sub
+returns-then-bytes-saturating_sub c = λ text awaits. all_too_large text c.args.bytes.now c.args.answer awaits (omega arith)

@@ -1,0 +1,20 @@
+use Rattle.std.proofs.Common.{Bool, false, subst}
+use Rattle.sqlite.specs.Held.{state}
+use Rattle.as2_exchange.specs.declared.answer.HttpAnswer.{HttpAnswer}
+use Rattle.as2_http.specs.Responses.{IsSafe, answer_of}
+use Rattle.as2_http.specs.Sending.{Sends}
+use Rattle.as2_http.proofs.Unsaid.{responds_unsaid}
+use Rattle.as2_http.proofs.stream.reply.Goals as goal
+
+pub returns-clause-replied : goal.returns-clause-replied
+returns-clause-replied g c = λ clean s rests.
+    let left = c.respond-response.ensures.responds clean s rests in
+    let sends = λ (to_head : Bool) (a : HttpAnswer).
+    Sends c.args.moment (record { closes = false; to_head = to_head }) a (g.W.Sink.written c.args.sink.now) (g.W.Sink.written c.send.new.sink) c.send.result in
+    record {
+      response = c.respond-response.result;
+      left = left.0;
+      rests = left.1;
+      responds = responds_unsaid c.args.agreements.now c.args.moment s c.args.request c.respond-response.result (IsSafe (state g.S.Store c.respond-response.new.station)) left.0 left.2;
+      sends = subst (λ h. sends h (answer_of c.respond-response.result)) c.is_head.ensures (subst (sends c.is_head.result) c.answer.ensures c.send.ensures.sends);
+    }

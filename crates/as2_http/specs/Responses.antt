@@ -1,0 +1,78 @@
+-- What a request gets in a state of the station, and the state that it leaves, which is Safe where the store was asked.
+use Rattle.std.specs.Prelude.{◌≡◌, ℕ, Some, IsTrue, true, ⊤}
+use Rattle.sqlite.specs.State.{State as Connected}
+use Rattle.as2_agreement.specs.Agreements.{AgreedValues}
+use Rattle.as2_exchange.specs.Lines.{refusal}
+use Rattle.as2_exchange.specs.Posts.{Refuses, reading}
+use Rattle.as2_exchange.specs.Run.{MayFail}
+use Rattle.as2_exchange.specs.State.{State}
+use Rattle.as2_exchange.specs.Step.{step}
+use Rattle.as2_exchange.specs.declared.answer.Line.{Line as TheLine}
+use Rattle.as2_station.specs.Heads.{asks_store, is_of_head}
+use Rattle.as2_store.specs.Calls.{Lasts}
+use Rattle.as2_exchange.specs.declared.event.Event.{Event}
+use Rattle.as2_exchange.specs.declared.answer.Answer.TheVariants.{Http}
+use Rattle.as2_exchange.specs.declared.answer.HttpAnswer.{HttpAnswer}
+use Rattle.as2_exchange.specs.declared.answer.Line.TheVariants as line
+use Rattle.as2_exchange.specs.declared.event.Event.TheVariants as event
+use Rattle.as2_exchange.specs.declared.fault.StoreFault.{StoreFault}
+use Rattle.as2_exchange.specs.declared.fault.StoreFault.TheVariants.{Full}
+use Rattle.as2_http.specs.declared.request.Request.{Request}
+use Rattle.as2_http.specs.declared.framing.Method.{Method}
+use Rattle.as2_http.specs.declared.framing.Method.TheVariants.{Post, Head, Other as OtherMethod}
+use Rattle.as2_http.specs.declared.framing.Target.{Target}
+use Rattle.as2_http.specs.declared.framing.Target.TheVariants.{Station, Other as OtherTarget}
+use Rattle.as2_http.specs.declared.response.Response.{Response}
+use Rattle.as2_http.specs.declared.response.Response.TheVariants.{Answered, Failed, OnlyPost, NoPath}
+
+-- ---- the answer that a response is
+
+-- the line that tells a fault of the store
+abbrev pub store_fault_line : StoreFault → TheLine
+store_fault_line Full = line.StoreFull
+store_fault_line other = line.StoreFailed
+
+abbrev pub answer_of : Response → HttpAnswer
+answer_of (Answered answer) = answer
+answer_of (Failed fault) = refusal (store_fault_line fault)
+answer_of OnlyPost = refusal line.OnlyPost
+answer_of NoPath = refusal line.NoSuchPath
+
+-- ---- what a request gets
+
+-- the head of a post doesn't decide its answer
+abbrev pub IsPastHead : AgreedValues → Request → Type 0
+IsPastHead A r = (line : TheLine) → reading A r.fields r.body ≡ Refuses line → ¬ (is_of_head line ≡ true)
+
+-- a post at this moment, as an event
+abbrev pub post_event : Request → ℕ → Event
+post_event r moment = event.Post r.fields r.body moment
+
+-- the connection is open, and whatever stops the machine now, what an open finds stands for this state
+pub record IsSafe (c : Connected) (t : State) : Type 0 where
+  pub is_open : IsTrue c.is_open
+  pub lasts : Lasts c t
+
+-- nothing is said of what a crash leaves
+abbrev pub Unsaid : State → Type 0
+Unsaid t = ⊤
+
+-- the post is a step of the machine, and where it asks the store, the state that it leaves is safe; or there is a fault, which
+-- changes nothing, and never stands in place of what the head decides
+abbrev pub Takes : AgreedValues → ℕ → State → Request → Response → (State → Type 0) → State → Type 0
+Takes A moment s r (Answered answer) Safe t =
+    (step A s (post_event r moment) ≡ Some (Http answer, t)) × (asks_store A (post_event r moment) ≡ true → Safe t)
+Takes A moment s r (Failed fault) Safe t = MayFail A s (post_event r moment) fault × (t ≡ s) × IsPastHead A r
+Takes A moment s r OnlyPost Safe t = ⊥
+Takes A moment s r NoPath Safe t = ⊥
+
+-- a post to the station's path is an event; any other request changes nothing
+abbrev pub RespondsTo : Method → Target → AgreedValues → ℕ → State → Request → Response → (State → Type 0) → State → Type 0
+RespondsTo Post Station A moment s r response Safe t = Takes A moment s r response Safe t
+RespondsTo Post OtherTarget A moment s r response Safe t = (response ≡ NoPath) × (t ≡ s)
+RespondsTo Head target A moment s r response Safe t = (response ≡ OnlyPost) × (t ≡ s)
+RespondsTo OtherMethod target A moment s r response Safe t = (response ≡ OnlyPost) × (t ≡ s)
+
+-- at this moment and in the state s the request gets this response, and leaves t
+abbrev pub Responds : AgreedValues → ℕ → State → Request → Response → (State → Type 0) → State → Type 0
+Responds A moment s r response Safe t = RespondsTo r.method r.target A moment s r response Safe t

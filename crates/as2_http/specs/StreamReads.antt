@@ -1,0 +1,77 @@
+-- What is read of a stream, each read where it is needed, and what the stream comes to.
+use Rattle.std.specs.Prelude.{◌≡◌, ℕ, List, [], ◌∷◌, Option, Some, None, ⊤}
+use Rattle.std.specs.Io.KnownBytes.{Appends}
+use Rattle.sqlite.specs.State.{State as Connected}
+use Rattle.as2_agreement.specs.Agreements.{AgreedValues}
+use Rattle.as2_exchange.specs.Run.{Trace, Run}
+use Rattle.as2_exchange.specs.State.{State}
+use Rattle.as2_exchange.specs.declared.event.Event.{Event}
+use Rattle.as2_exchange.specs.declared.event.Event.TheVariants as event
+use Rattle.as2_store.specs.Stands.{Rests}
+use Rattle.as2_http.specs.InputReads.{ReadsNeeded}
+use Rattle.as2_http.specs.Parsing.{HasTaken}
+use Rattle.as2_http.specs.Requests.{IsOpen}
+use Rattle.as2_http.specs.Streams.{Exchange, AnswersAll, Ends, GoOn, events}
+use Rattle.as2_http.specs.declared.parser.RequestParser.{RequestParser}
+use Rattle.as2_http.specs.declared.stream.Served.{Served}
+
+-- ---- what is read
+
+-- requests that go on stand in the text, and then less than a request
+pub record NeedsMore (A : AgreedValues) (moment : ℕ) (s : State) (text : List ℕ) : Type 0 where
+  pub done : List Exchange
+  pub mid : State
+  pub replies : List ℕ
+  pub held : List ℕ
+  pub all : AnswersAll A moment s text done mid replies held
+  pub go_on : GoOn done
+  pub undecided : IsOpen held
+
+-- Between two reads: the whole requests that were read are answered, their replies are written, and what is left of the bytes is less than a request.
+pub record BetweenReads (A : AgreedValues) (moment : ℕ) (s : State) (input : List ℕ) (p : RequestParser) (c : Connected) (unread before now : Option (List ℕ)) (calls later : ℕ) : Type 0 where
+  pub reads : ReadsNeeded (NeedsMore A moment s) input unread calls later
+  pub done : List Exchange
+  pub mid : State
+  pub replies : List ℕ
+  pub held : List ℕ
+  pub all : AnswersAll A moment s reads.read done mid replies held
+  pub go_on : GoOn done
+  pub rests : Rests c mid
+  pub taken : HasTaken p held
+  pub appended : Appends before now replies
+
+-- ---- the stream
+
+-- the requests that the input begins with were answered one after the other, a run of the machine; their replies were written, this end followed, and t is left
+pub record Serves (A : AgreedValues) (moment : ℕ) (s t : State) (input : List ℕ) (unread before after : Option (List ℕ)) (calls later : ℕ) (served : Served) : Type 0 where
+  pub done : List Exchange
+  pub mid : State
+  pub replies : List ℕ
+  pub rest : List ℕ
+  pub all : AnswersAll A moment s input done mid replies rest
+  pub run : Run A s (events moment done) mid
+  pub ends : Ends A moment done mid replies rest unread before after t served
+  pub reads : ReadsNeeded (NeedsMore A moment s) input unread calls later
+
+-- a read, and what it gave is answered: the stream goes on, or ends so
+abbrev pub AnswersNext : AgreedValues → ℕ → State → List ℕ → RequestParser → Connected → Option (List ℕ) → Option (List ℕ) → Option (List ℕ) → ℕ → ℕ → Option Served → Type 0
+AnswersNext A moment s input p c unread before after calls later None = BetweenReads A moment s input p c unread before after calls later
+AnswersNext A moment s input p c unread before after calls later (Some end) = (t : State) × Rests c t × Serves A moment s t input unread before after calls later end
+
+-- ---- whatever the reader tells
+
+-- the event is a post at this moment
+abbrev pub IsPostAt : ℕ → Event → Type 0
+IsPostAt moment (event.Post fields body at) = at ≡ moment
+IsPostAt moment other = ⊥
+
+-- .. and so is each of the trace
+abbrev pub ArePostsAt : ℕ → Trace → Type 0
+ArePostsAt moment [] = ⊤
+ArePostsAt moment (e ∷ more) = IsPostAt moment e.0 × ArePostsAt moment more
+
+-- posts at this moment, and nothing else, led the machine from s to t
+pub record RunsPosts (A : AgreedValues) (moment : ℕ) (s t : State) : Type 0 where
+  pub trace : Trace
+  pub posts : ArePostsAt moment trace
+  pub run : Run A s trace t

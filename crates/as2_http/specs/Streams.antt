@@ -1,0 +1,156 @@
+-- What the requests of a stream get, one after the other (RFC 9112, sections 2.1 and 9.3), and how the stream ends.
+use Rattle.std.specs.Prelude.{◌≡◌, ℕ, ◌⊎◌, Bool, true, false, List, [], ◌∷◌, ◌++◌, Option, Some, None, Result, ⊤}
+use Rattle.std.specs.Io.KnownBytes.{Appends}
+use Rattle.sqlite.specs.State.{State as Connected}
+use Rattle.as2_agreement.specs.Agreements.{AgreedValues}
+use Rattle.as2_exchange.specs.Lines.{refusal}
+use Rattle.as2_exchange.specs.Run.{Answered as Said, Failed, Trace}
+use Rattle.as2_exchange.specs.State.{State}
+use Rattle.as2_exchange.specs.declared.answer.Answer.TheVariants.{Http}
+use Rattle.as2_store.specs.Stands.{Rests}
+use Rattle.as2_http.specs.HeadText.{unblank}
+use Rattle.as2_http.specs.Parsing.{HasTaken}
+use Rattle.as2_http.specs.Replies.{IsReply, refusal_line}
+use Rattle.as2_http.specs.Requests.{Begins, IsRefused, IsOpen}
+use Rattle.as2_http.specs.Responses.{Responds, Unsaid, answer_of, post_event}
+use Rattle.as2_http.specs.Sending.{Sends, form_of, refusal_form}
+use Rattle.as2_http.specs.declared.request.Request.{Request}
+use Rattle.as2_http.specs.declared.framing.Refused.{Refused}
+use Rattle.as2_http.specs.declared.framing.Method.{Method}
+use Rattle.as2_http.specs.declared.framing.Method.TheVariants as method
+use Rattle.as2_http.specs.declared.framing.Target.{Target}
+use Rattle.as2_http.specs.declared.framing.Target.TheVariants as target
+use Rattle.as2_http.specs.declared.parser.RequestParser.{RequestParser}
+use Rattle.as2_http.specs.declared.response.Response.{Response}
+use Rattle.as2_http.specs.declared.response.Response.TheVariants as response
+use Rattle.as2_http.specs.declared.sending.SendFault.{SendFault}
+use Rattle.as2_http.specs.declared.sending.SendFault.TheVariants as send_fault
+use Rattle.as2_http.specs.declared.stream.Served.{Served}
+use Rattle.as2_http.specs.declared.stream.Served.TheVariants as served
+
+-- a request, and what it got
+abbrev pub Exchange : Type 0
+Exchange = Request × Response
+
+-- the text begins with the request, which got that in the state s, and t is left; that is its reply, and the rest follows
+pub record Answers (A : AgreedValues) (moment : ℕ) (s : State) (text : List ℕ) (x : Exchange) (t : State) (reply rest : List ℕ) : Type 0 where
+  pub begins : Begins text x.0 rest
+  pub responds : Responds A moment s x.0 x.1 Unsaid t
+  pub replies : IsReply moment (form_of x.0) (answer_of x.1) reply
+
+-- these requests stand one after the other at the front of the text, and got that one after the other; those are their replies
+abbrev pub AnswersAll : AgreedValues → ℕ → State → List ℕ → List Exchange → State → List ℕ → List ℕ → Type 0
+AnswersAll A moment s text [] t replies rest = (t ≡ s) × (replies ≡ []) × (rest ≡ text)
+AnswersAll A moment s text (x ∷ more) t replies rest =
+    (mid : State) × (reply after later : List ℕ) × Answers A moment s text x mid reply after × (replies ≡ reply ++ later) × AnswersAll A moment mid after more t later rest
+
+-- none of the requests is the last of its stream
+abbrev pub GoOn : List Exchange → Type 0
+GoOn [] = ⊤
+GoOn (x ∷ more) = (x.0.last ≡ false) × GoOn more
+
+-- the last of the requests is the last of its stream, and none before it
+abbrev pub EndsLast : List Exchange → Type 0
+EndsLast done = (before : List Exchange) × (x : Exchange) × (done ≡ before ++ x ∷ []) × GoOn before × (x.0.last ≡ true)
+
+-- ---- the events
+
+-- a post with what was said to it; what is said to any other request is no event
+abbrev pub event_said : Request → ℕ → Response → Trace
+event_said r moment (response.Answered answer) = (post_event r moment, Said (Http answer)) ∷ []
+event_said r moment (response.Failed fault) = (post_event r moment, Failed fault) ∷ []
+event_said r moment response.OnlyPost = []
+event_said r moment response.NoPath = []
+
+-- a post to the station's path is an event, and any other request is none
+abbrev pub event_by : Method → Target → ℕ → Exchange → Trace
+event_by method.Post target.Station moment x = event_said x.0 moment x.1
+event_by method.Post target.Other moment x = []
+event_by method.Head at moment x = []
+event_by method.Other at moment x = []
+
+abbrev pub events : ℕ → List Exchange → Trace
+events moment [] = []
+events moment (x ∷ more) = event_by x.0.method x.0.target moment x ++ events moment more
+
+-- ---- what is written, and what is left
+
+-- the request got that, and t is left; its reply is written, or the first bytes of it
+pub record Replied {U : Type 0} (A : AgreedValues) (moment : ℕ) (s : State) (r : Request) (c : Connected) (before after : Option (List ℕ)) (sent : Result U SendFault) : Type 0 where
+  pub response : Response
+  pub left : State
+  pub rests : Rests c left
+  pub responds : Responds A moment s r response Unsaid left
+  pub sends : Sends moment (form_of r) (answer_of response) before after sent
+
+-- a reply or a refusal was cut short: the first bytes of it were written behind the others, and t is left
+pub data CutShort (A : AgreedValues) (moment : ℕ) (mid : State) (replies rest : List ℕ) (before after : Option (List ℕ)) (t : State) : Type 0 where
+  in_reply : (r : Request) (behind : List ℕ) (response : Response) (text part missing : List ℕ) (begins : Begins rest r behind) (responds : Responds A moment mid r response Unsaid t)
+      (is : IsReply moment (form_of r) (answer_of response) text) (cut : text ≡ part ++ missing) (written : Appends before after (replies ++ part)) → CutShort A moment mid replies rest before after t
+  in_refusal : (refused : Refused) (text part missing : List ℕ) (refuses : IsRefused rest refused) (same : t ≡ mid)
+      (is : IsReply moment (refusal_form refused) (refusal (refusal_line refused.reason)) text) (cut : text ≡ part ++ missing) (written : Appends before after (replies ++ part)) → CutShort A moment mid replies rest before after t
+
+-- memory was wanting, for a request, for a reply or for a refusal, and no more than the replies before is written
+pub data OutOfMemory (A : AgreedValues) (moment : ℕ) (mid : State) (replies rest : List ℕ) (before after : Option (List ℕ)) (t : State) : Type 0 where
+  for_request : (same : t ≡ mid) (written : Appends before after replies) → OutOfMemory A moment mid replies rest before after t
+  for_reply : (r : Request) (behind : List ℕ) (response : Response) (begins : Begins rest r behind) (responds : Responds A moment mid r response Unsaid t)
+      (written : Appends before after replies) → OutOfMemory A moment mid replies rest before after t
+
+-- a refusal was written behind the replies
+pub record WritesRefusal (moment : ℕ) (replies rest : List ℕ) (before after : Option (List ℕ)) : Type 0 where
+  pub refused : Refused
+  pub refuses : IsRefused rest refused
+  pub text : List ℕ
+  pub is : IsReply moment (refusal_form refused) (refusal (refusal_line refused.reason)) text
+  pub written : Appends before after (replies ++ text)
+
+-- ---- a piece of the stream
+
+-- how a stream ends with a reply that isn't written whole
+abbrev pub end_by : SendFault → Served
+end_by send_fault.Write = served.WriteFault
+end_by send_fault.Memory = served.Memory
+
+-- how a stream ends with a piece: behind the requests that were answered
+abbrev pub PieceEnds : AgreedValues → ℕ → List Exchange → State → List ℕ → List ℕ → List ℕ → RequestParser → Option (List ℕ) → Option (List ℕ) → State → Option Served → Type 0
+PieceEnds A moment done mid replies rest left p before after t None = GoOn done × (t ≡ mid) × Appends before after replies × ((held : List ℕ) × (rest ≡ held ++ left) × HasTaken p held)
+PieceEnds A moment done mid replies rest left p before after t (Some served.Closed) = EndsLast done × (t ≡ mid) × Appends before after replies
+PieceEnds A moment done mid replies rest left p before after t (Some served.BadFraming) = GoOn done × (t ≡ mid) × WritesRefusal moment replies rest before after
+PieceEnds A moment done mid replies rest left p before after t (Some served.WriteFault) = GoOn done × CutShort A moment mid replies rest before after t
+PieceEnds A moment done mid replies rest left p before after t (Some served.Memory) = GoOn done × OutOfMemory A moment mid replies rest before after t
+PieceEnds A moment done mid replies rest left p before after t (Some served.Truncated) = ⊥
+PieceEnds A moment done mid replies rest left p before after t (Some served.ReadFault) = ⊥
+PieceEnds A moment done mid replies rest left p before after t (Some served.TooLong) = ⊥
+
+-- a stream may end so with a piece
+abbrev pub may_end_piece : Served → Bool
+may_end_piece served.Closed = true
+may_end_piece served.BadFraming = true
+may_end_piece served.WriteFault = true
+may_end_piece served.Memory = true
+may_end_piece served.Truncated = false
+may_end_piece served.ReadFault = false
+may_end_piece served.TooLong = false
+
+-- the requests that end in a piece were answered, in the text that it stands in; and how the stream ends with it, if it does
+pub record AnswersPiece (A : AgreedValues) (moment : ℕ) (s : State) (text left : List ℕ) (p : RequestParser) (c : Connected) (before after : Option (List ℕ)) (end : Option Served) : Type 0 where
+  pub done : List Exchange
+  pub mid : State
+  pub last : State
+  pub replies : List ℕ
+  pub rest : List ℕ
+  pub all : AnswersAll A moment s text done mid replies rest
+  pub rests : Rests c last
+  pub ends : PieceEnds A moment done mid replies rest left p before after last end
+
+-- ---- the stream
+
+-- how the stream ends, behind the requests that were answered; ReadFault and TooLong behind all whole ones of the bytes that were read
+abbrev pub Ends : AgreedValues → ℕ → List Exchange → State → List ℕ → List ℕ → Option (List ℕ) → Option (List ℕ) → Option (List ℕ) → State → Served → Type 0
+Ends A moment done mid replies rest unread before after t served.Closed = (t ≡ mid) × Appends before after replies × (EndsLast done ⊎ (GoOn done × IsOpen rest × (unblank rest ≡ [])))
+Ends A moment done mid replies rest unread before after t served.Truncated = (t ≡ mid) × Appends before after replies × GoOn done × IsOpen rest × ¬ (unblank rest ≡ [])
+Ends A moment done mid replies rest unread before after t served.BadFraming = (t ≡ mid) × GoOn done × WritesRefusal moment replies rest before after
+Ends A moment done mid replies rest unread before after t served.ReadFault = (t ≡ mid) × Appends before after replies × GoOn done × ((held left : List ℕ) × (rest ≡ held ++ left) × IsOpen held × (unread ≡ Some left))
+Ends A moment done mid replies rest unread before after t served.TooLong = (t ≡ mid) × Appends before after replies × GoOn done × ((held left : List ℕ) × (rest ≡ held ++ left) × IsOpen held × (unread ≡ Some left))
+Ends A moment done mid replies rest unread before after t served.WriteFault = GoOn done × CutShort A moment mid replies rest before after t
+Ends A moment done mid replies rest unread before after t served.Memory = GoOn done × OutOfMemory A moment mid replies rest before after t

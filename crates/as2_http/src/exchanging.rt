@@ -1,0 +1,87 @@
+//! A request is sent, and one answer is read.
+ghost use Rattle.std.specs.Prelude.{◌≡◌, ◌+◌, ◌≤◌, List, ℕ, Some, IsTrue};
+ghost use Rattle.std.specs.Io.KnownBytes.{Appends};
+ghost use Rattle.as2_http.specs.Answering.{Gets, IsOpenAnswer, is_answered};
+ghost use Rattle.as2_http.specs.AnswerPieces.{HasKept};
+ghost use Rattle.as2_http.specs.InputReads.{ReadsNeeded};
+ghost use Rattle.as2_http.specs.Sending.{AppendsPart};
+
+use crate::answer_parser::{AnswerParser, ParsedAnswer, ReceivedAnswer};
+use crate::device::{Sink, Source};
+use crate::reads::{READ_LIMIT, READS, pull};
+use crate::sending::push_all;
+use as2_exchange::{Job, TryAnswer};
+use std::alloc::Global;
+
+/// What a try gets with a whole answer.
+fn received(answer: ReceivedAnswer) -> TryAnswer
+    ensures { result ≡ TryAnswer.Reply answer.status answer.fields answer.body }
+{
+    TryAnswer::Reply {
+        status: answer.status,
+        head: answer.fields,
+        body: answer.body,
+    }
+}
+
+/// What a try gets where the input has ended.
+fn ended(parser: AnswerParser) -> TryAnswer
+    ensures { (text : List ℕ) → HasKept parser text → Gets text result }
+{
+    match parser.end() {
+        Some(answer) => received(answer),
+        None => TryAnswer::NoAnswer,
+    }
+}
+
+/// Reads one answer, and makes no read once it is whole.
+fn read_answer<R: Source>(alloc: Global, source: &mut R) -> TryAnswer
+    ensures answer { (input : List ℕ) → R.left source.old ≡ Some input → Gets input result }
+    ensures needed { (input : List ℕ) → R.left source.old ≡ Some input → ReadsNeeded IsOpenAnswer input (R.left source.new) (R.calls source.old) (R.calls source.new) }
+    ensures reads { R.calls source.new ≤ R.calls source.old + 100000 }
+{
+    let mut buffer = Vec::new(alloc);
+    if buffer.resize(READ_LIMIT, 0).is_err() {
+        return TryAnswer::NoAnswer;
+    }
+    let mut parser = AnswerParser::new(alloc);
+    for _ in 0..READS {
+        let Some(count) = pull(source, &mut buffer) else {
+            return TryAnswer::NoAnswer;
+        };
+        if count == 0 {
+            return ended(parser);
+        }
+        match parser.feed(&buffer[..count]) {
+            Ok(ParsedAnswer::Open) => {}
+            Ok(ParsedAnswer::Answer(answer)) => return received(answer),
+            Ok(ParsedAnswer::NoAnswer) | Err(_) => return TryAnswer::NoAnswer,
+        }
+    }
+    TryAnswer::NoAnswer
+}
+
+/// Sends the request of a job, and reads one answer (RFC 9112, sections 4 and 6). Whatever goes wrong is no answer: a write or
+/// a read that fails, memory that isn't there, an input that ends too early, a head that can't be read, a status below 200,
+/// a transfer coding, a body of more than 1,048,576 bytes. At most 100,000 reads are made.
+pub fn exchange<R: Source, W: Sink>(
+    alloc: Global,
+    job: &Job,
+    source: &mut R,
+    sink: &mut W,
+) -> TryAnswer
+    // What was written is the request of the job, or the front of it.
+    ensures written { AppendsPart (W.written sink.old) (W.written sink.new) job.now.bytes }
+    // An answer is read only behind the whole request.
+    ensures whole { IsTrue (is_answered result) → Appends (W.written sink.old) (W.written sink.new) job.now.bytes }
+    // The answer is that of the whole input: never a part of its body.
+    ensures answer { (input : List ℕ) → R.left source.old ≡ Some input → Gets input result }
+    // Each read stands behind less than an answer, or behind one whose end wasn't seen.
+    ensures needed { (input : List ℕ) → R.left source.old ≡ Some input → ReadsNeeded IsOpenAnswer input (R.left source.new) (R.calls source.old) (R.calls source.new) }
+    ensures reads { R.calls source.new ≤ R.calls source.old + 100000 }
+{
+    if push_all(sink, job.bytes.as_slice()).is_err() {
+        return TryAnswer::NoAnswer;
+    }
+    read_answer(alloc, source)
+}

@@ -1,0 +1,223 @@
+//! The requests of a stream, answered one after the other.
+ghost use Rattle.std.specs.Prelude.{◌≡◌, ◌⊎◌, ◌+◌, ◌<◌, ◌≤◌, List, ℕ, [], ◌++◌, take, vec_len, Option, Some, None, Err, IfSome, true};
+ghost use Rattle.as2_http.specs.HeadText.{unblank};
+ghost use Rattle.as2_http.specs.declared.stream.Served.TheVariants.{Closed, ReadFault, TooLong, Truncated, WriteFault};
+ghost use Rattle.as2_http.specs.declared.sending.SendFault.TheVariants.{Write};
+ghost use Rattle.sqlite.specs.Held.{state};
+ghost use Rattle.sqlite.specs.State.{HasCleanDisk};
+ghost use Rattle.as2_exchange.specs.State.{State};
+ghost use Rattle.as2_store.specs.Stands.{Rests};
+ghost use Rattle.as2_http.specs.InputReads.{read_limit};
+ghost use Rattle.as2_http.specs.Parsing.{HasTaken};
+ghost use Rattle.as2_http.specs.StreamReads.{AnswersNext, BetweenReads, RunsPosts, Serves};
+ghost use Rattle.as2_http.specs.Streams.{AnswersPiece, Replied, end_by, may_end_piece};
+
+use crate::device::{Sink, Source};
+use crate::parser::{Parsed, RequestParser};
+use crate::reads::{READ_LIMIT, READS, pull};
+use crate::reply::Form;
+use crate::request::Request;
+use crate::response::respond;
+use crate::sending::{SendFault, send, send_refusal};
+use as2_agreement::Agreements;
+use as2_station::Station;
+use as2_text::Moment;
+use sqlite::Alter;
+use std::alloc::Global;
+
+/// What a stream came to.
+#[derive(Clone, Copy, Debug, PartialEq, Eq)]
+pub enum Served {
+    /// It ended between two requests, or after the reply to its last one.
+    Closed,
+    /// It ended inside a request.
+    Truncated,
+    /// A request was refused whose end can't be told.
+    BadFraming,
+    /// A read failed.
+    ReadFault,
+    /// A write failed, or took no byte.
+    WriteFault,
+    /// Memory ran out.
+    Memory,
+    /// It took more reads than a stream may.
+    TooLong,
+}
+
+/// How a stream ends with a reply that wasn't written whole.
+fn end_by(fault: SendFault) -> Served
+    ensures end { result ≡ end_by fault }
+    ensures of_piece { may_end_piece result ≡ true }
+{
+    match fault {
+        SendFault::Write => Served::WriteFault,
+        SendFault::Memory => Served::Memory,
+    }
+}
+
+/// Has the station take a request, and writes its reply.
+fn reply<S: Alter, W: Sink>(
+    alloc: Global,
+    agreements: &Agreements,
+    moment: Moment,
+    station: &mut Station<S>,
+    request: Request,
+    sink: &mut W,
+) -> Result<(), SendFault>
+    ensures clean { HasCleanDisk (state S.Store station.new) → HasCleanDisk (state S.Store station.old) }
+    ensures replied { HasCleanDisk (state S.Store station.new) → (s : State) → Rests (state S.Store station.old) s
+        → Replied agreements.now moment s request (state S.Store station.new) (W.written sink.old) (W.written sink.new) result }
+    ensures failed { result ≡ Err Write → W.failed sink.old < W.failed sink.new }
+    ensures counted { W.failed sink.old ≤ W.failed sink.new }
+{
+    let form = Form {
+        closes: false,
+        to_head: request.method.is_head(),
+    };
+    let response = respond(alloc, agreements, moment, station, request);
+    send(alloc, moment, form, &response.answer(), sink)
+}
+
+/// Answers the requests that end in a piece, in turn, and tells how the stream ends with it, if it does.
+fn answer_piece<S: Alter, W: Sink>(
+    alloc: Global,
+    agreements: &Agreements,
+    moment: Moment,
+    station: &mut Station<S>,
+    parser: &mut RequestParser,
+    piece: &[u8],
+    sink: &mut W,
+) -> Option<Served>
+    requires held { (held : List ℕ) × HasTaken parser.old held }
+    ensures clean { HasCleanDisk (state S.Store station.new) → HasCleanDisk (state S.Store station.old) }
+    ensures answered { HasCleanDisk (state S.Store station.new) → (s : State) → Rests (state S.Store station.old) s
+        → (held left : List ℕ) → HasTaken parser.old held
+        → AnswersPiece agreements.now moment s (held ++ piece.now ++ left) left parser.new (state S.Store station.new)
+        (W.written sink.old) (W.written sink.new) result }
+    ensures failed { result ≡ Some WriteFault → W.failed sink.old < W.failed sink.new }
+    ensures counted { W.failed sink.old ≤ W.failed sink.new }
+    ensures of_piece { IfSome result (λ end. may_end_piece end ≡ true) }
+    ensures open { result ≡ None → (held : List ℕ) × HasTaken parser.new held }
+{
+    let mut rest = piece;
+    while !rest.is_empty() {
+        match parser.feed(rest) {
+            Ok(Parsed::Open) => return None,
+            Ok(Parsed::Request(request, used)) => {
+                let last = request.last;
+                if let Err(fault) = reply(alloc, agreements, moment, station, request, sink) {
+                    return Some(end_by(fault));
+                }
+                if last {
+                    return Some(Served::Closed);
+                }
+                rest = &rest[used..];
+            }
+            Ok(Parsed::Refused(refused)) => {
+                return match send_refusal(alloc, moment, refused, sink) {
+                    Ok(()) => Some(Served::BadFraming),
+                    Err(fault) => Some(end_by(fault)),
+                };
+            }
+            Err(_) => return Some(Served::Memory),
+        }
+    }
+    None
+}
+
+/// How a stream ends that has no more bytes.
+fn ended(parser: &RequestParser) -> Served
+    ensures closed { result ≡ Closed → (text : List ℕ) → HasTaken parser.now text → unblank text ≡ [] }
+    ensures truncated { result ≡ Truncated → (text : List ℕ) → HasTaken parser.now text → ¬ (unblank text ≡ []) }
+    ensures one { (result ≡ Closed) ⊎ (result ≡ Truncated) }
+{
+    if parser.is_blank() {
+        Served::Closed
+    } else {
+        Served::Truncated
+    }
+}
+
+/// Makes one read, and answers the requests that end in what it gave. Before it, every whole request that was read has its
+/// reply; and so behind it, where the stream goes on.
+fn answer_next<S: Alter, R: Source, W: Sink>(
+    alloc: Global,
+    agreements: &Agreements,
+    moment: Moment,
+    station: &mut Station<S>,
+    parser: &mut RequestParser,
+    buffer: &mut Vec<u8>,
+    source: &mut R,
+    sink: &mut W,
+) -> Option<Served>
+    requires held { (held : List ℕ) × HasTaken parser.old held }
+    requires room { vec_len buffer.old ≡ read_limit }
+    ensures clean { HasCleanDisk (state S.Store station.new) → HasCleanDisk (state S.Store station.old) }
+    ensures calls { R.calls source.new ≡ R.calls source.old + 1 }
+    ensures answered { HasCleanDisk (state S.Store station.new) → (s : State) (input : List ℕ) (before : Option (List ℕ)) (calls : ℕ)
+        → BetweenReads agreements.now moment s input parser.old (state S.Store station.old) (R.left source.old) before (W.written sink.old) calls (R.calls source.old)
+        → AnswersNext agreements.now moment s input parser.new (state S.Store station.new) (R.left source.new) before (W.written sink.new) calls (R.calls source.new) result }
+    ensures posts { HasCleanDisk (state S.Store station.new) → (s mid : State) → Rests (state S.Store station.old) mid → RunsPosts agreements.now moment s mid
+        → (t : State) × Rests (state S.Store station.new) t × RunsPosts agreements.now moment s t }
+    ensures held { result ≡ None → (held : List ℕ) × HasTaken parser.new held }
+    ensures room { vec_len buffer.new ≡ read_limit }
+    ensures read_fault { result ≡ Some ReadFault → R.failed source.old < R.failed source.new }
+    ensures write_fault { result ≡ Some WriteFault → W.failed sink.old < W.failed sink.new }
+    ensures short { ¬ (result ≡ Some TooLong) }
+    ensures failed_reads { R.failed source.old ≤ R.failed source.new }
+    ensures failed_writes { W.failed sink.old ≤ W.failed sink.new }
+{
+    let Some(count) = pull(source, buffer) else {
+        return Some(Served::ReadFault);
+    };
+    if count == 0 {
+        return Some(ended(parser));
+    }
+    let piece = &buffer[..count];
+    answer_piece(alloc, agreements, moment, station, parser, piece, sink)
+}
+
+/// Answers the requests of a stream one after the other: a post is taken by the station, over the agreements. A read is made
+/// only when every whole request that was read has its reply, and none once the stream has ended; at most 100,000 are made.
+pub fn serve_stream<S: Alter, R: Source, W: Sink>(
+    alloc: Global,
+    agreements: &Agreements,
+    moment: Moment,
+    station: &mut Station<S>,
+    source: &mut R,
+    sink: &mut W,
+) -> Served
+    ensures clean { HasCleanDisk (state S.Store station.new) → HasCleanDisk (state S.Store station.old) }
+    ensures serves { HasCleanDisk (state S.Store station.new) → (s : State) → Rests (state S.Store station.old) s
+        → (input : List ℕ) → R.left source.old ≡ Some input → (t : State) × Rests (state S.Store station.new) t
+        × Serves agreements.now moment s t input (R.left source.new) (W.written sink.old) (W.written sink.new) (R.calls source.old) (R.calls source.new) result }
+    // Whatever the reader tells, nothing but posts at this moment was taken.
+    ensures posts { HasCleanDisk (state S.Store station.new) → (s : State) → Rests (state S.Store station.old) s
+        → (t : State) × Rests (state S.Store station.new) t × RunsPosts agreements.now moment s t }
+    ensures reads { R.calls source.new ≤ R.calls source.old + 100000 }
+    ensures read_fault { result ≡ ReadFault → R.failed source.old < R.failed source.new }
+    ensures write_fault { result ≡ WriteFault → W.failed sink.old < W.failed sink.new }
+    ensures too_long { result ≡ TooLong → R.calls source.new ≡ R.calls source.old + 100000 }
+{
+    let mut buffer = Vec::new(alloc);
+    if buffer.resize(READ_LIMIT, 0).is_err() {
+        return Served::Memory;
+    }
+    let mut parser = RequestParser::new(alloc);
+    for _ in 0..READS {
+        let end = answer_next(
+            alloc,
+            agreements,
+            moment,
+            station,
+            &mut parser,
+            &mut buffer,
+            source,
+            sink,
+        );
+        if let Some(end) = end {
+            return end;
+        }
+    }
+    Served::TooLong
+}

@@ -1,0 +1,83 @@
+//! Streams that are served over one station, which has nothing recorded at first.
+ghost use Rattle.as2_http.specs.Devices.{Opens};
+
+use crate::agreements::AGREEMENTS;
+use crate::stores::new_store;
+use as2_agreement::Agreements;
+use as2_http::{Counted, Served, serve_stream};
+use as2_station::Station;
+use as2_text::Moment;
+use sqlite::MemStore;
+use std::alloc::Global;
+use std::io::{Read, Write};
+use std::marker::Brand;
+use std::sync::ledger::{Blank, Ledger};
+use std::test::Fail;
+
+/// The station, at the moment 1000.
+#[derive(Drop)]
+pub(super) struct Fixture {
+    alloc: Global,
+    agreements: Agreements,
+    moment: Moment,
+    station: Station<MemStore>,
+}
+
+impl Fixture {
+    pub(super) fn new(alloc: Global) -> Result<Fixture, Fail> {
+        let agreements = Agreements::read(alloc, AGREEMENTS)?;
+        let (Some(store), Some(moment)) = (new_store(alloc, 1), Moment::new(1000)) else {
+            return Err(Fail::new("no store or moment"));
+        };
+        Ok(Fixture {
+            alloc,
+            agreements,
+            moment,
+            station: Station::new(store),
+        })
+    }
+
+    /// How a stream ends; the writer comes back.
+    fn serve_counted<R: Read + Drop, W: Write + Drop, A: Ledger, B: Ledger, C: Ledger, D: Ledger>(
+        &mut self,
+        input: R,
+        output: W,
+        reads: Blank,
+        failed_reads: Blank,
+        writes: Blank,
+        failed_writes: Blank,
+    ) -> (Served, W)
+        requires reads { Opens reads.name reads.parts A.name A.parts }
+        requires failed_reads { Opens failed_reads.name failed_reads.parts B.name B.parts }
+        requires writes { Opens writes.name writes.parts C.name C.parts }
+        requires failed_writes { Opens failed_writes.name failed_writes.parts D.name D.parts }
+    {
+        let mut source: Counted<R, A, B> = Counted::new(input, reads, failed_reads);
+        let mut sink: Counted<W, C, D> = Counted::new(output, writes, failed_writes);
+        let end = serve_stream(
+            self.alloc,
+            &self.agreements,
+            self.moment,
+            &mut self.station,
+            &mut source,
+            &mut sink,
+        );
+        (end, sink.into_inner())
+    }
+
+    /// The same, where nobody looks at the counts.
+    pub(super) fn serve<R: Read + Drop, W: Write + Drop>(
+        &mut self,
+        input: R,
+        output: W,
+    ) -> (Served, W) {
+        self.serve_counted::<R, W, Brand, Brand, Brand, Brand>(
+            input,
+            output,
+            Blank::new(1),
+            Blank::new(1),
+            Blank::new(1),
+            Blank::new(1),
+        )
+    }
+}
