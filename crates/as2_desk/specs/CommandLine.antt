@@ -1,8 +1,8 @@
 -- The command line of the program, in the terms of the parser of words.
-use Rattle.std.specs.Prelude.{◌≡◌, ◌⊎◌, ◌-◌, ℕ, List, [], ◌∷◌, Option, Some, option_map, true, codes}
+use Rattle.std.specs.Prelude.{◌≡◌, ◌⊎◌, ◌-◌, ℕ, List, [], ◌∷◌, Option, Some, true, codes}
 use Rattle.as2_names.specs.Moments.{last_moment}
 use Rattle.as2_exchange.specs.State.{end_of_numbers}
-use Rattle.clap.specs.Words.{App, Row, Rule, Text, fault_of, matches_of, new_app, new_rule, subcommand_of, with_rule, with_subcommand}
+use Rattle.clap.specs.Words.{App, Row, Rule, Shape, Text, fault_of, matches_of, new_app, new_rule, subcommand_of, with_rule, with_subcommand}
 use Rattle.clap.specs.Simple.{new_shape, on_top}
 use Rattle.clap.specs.Kinds.{IsAmong, Kinds}
 use Rattle.clap.specs.declared.builder.value_parser.ValueParser.TheVariants.{Unsigned}
@@ -37,9 +37,19 @@ program = on_top (λ s. record s { has_version = true; subcommand_required = tru
 abbrev pub options : App
 options = with_rule (with_rule (with_rule (with_rule program (required_option (codes "agreements"))) (required_option (codes "store"))) first) moment
 
--- as2desk OPTIONS check, as2desk OPTIONS post
+-- the file of a document, which has no name before it
+abbrev pub paper : Rule
+paper = record (new_rule (codes "file")) { value_names = 1; required = true }
+
+-- submit --from NAME --to NAME FILE
+abbrev pub submit : Shape
+submit = record (new_shape (codes "submit")) {
+  rules = required_option (codes "from") ∷ required_option (codes "to") ∷ paper ∷ [];
+}
+
+-- as2desk OPTIONS, and behind it a command; all but `submit` are one word
 abbrev pub command_line : App
-command_line = with_subcommand (with_subcommand options (new_shape (codes "check"))) (new_shape (codes "post"))
+command_line = with_subcommand (with_subcommand (with_subcommand (with_subcommand options (new_shape (codes "check"))) (new_shape (codes "post"))) submit) (new_shape (codes "tick"))
 
 -- why the words are no such command line; of one that is, nothing
 abbrev pub faults : List Text → Kinds
@@ -49,9 +59,9 @@ faults words = fault_of command_line words
 abbrev pub option_values : List Text → List Row
 option_values words = matches_of command_line words
 
--- the command that the words name
-abbrev pub command_in : List Text → Option Text
-command_in words = option_map (λ p. p.0) (subcommand_of command_line words)
+-- the command that the words name, and the values that they give its own options
+abbrev pub command_in : List Text → Option (Text × List Row)
+command_in words = subcommand_of command_line words
 
 -- help or the version, and no fault
 abbrev pub IsHelp : ErrorKind → Type 0

@@ -1,9 +1,12 @@
 pub mod CommandLine
+pub mod Submissions
 pub mod Options
 pub mod Statuses
 pub mod Refusals
 pub mod FileContents
 pub mod FileAgreements
 pub mod Stores
+pub mod Endings
 pub mod Checks
+pub mod Questions
 pub mod Runs

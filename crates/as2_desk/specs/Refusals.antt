@@ -3,6 +3,8 @@ use Rattle.std.specs.Prelude.{ℕ, List, ◌++◌, Option, Some, None, codes}
 use Rattle.as2_agreement.specs.Keys.{fault_key, fault_name, key_name}
 use Rattle.as2_agreement.specs.declared.fault.AgreementFault.{AgreementFault}
 use Rattle.as2_agreement.specs.declared.key.Key.{Key}
+use Rattle.as2_exchange.specs.declared.answer.Refusal.{Refusal}
+use Rattle.as2_exchange.specs.declared.answer.Refusal.TheVariants as reason
 use Rattle.as2_exchange.specs.declared.fault.StoreFault.{StoreFault}
 use Rattle.as2_exchange.specs.declared.fault.StoreFault.TheVariants as store_fault
 use Rattle.as2_desk.specs.Statuses.{end_name, failed, refused}
@@ -16,6 +18,16 @@ use Rattle.as2_desk.specs.declared.refusal.CommandFault.TheVariants as refusal
 -- `refused: NAME`
 abbrev pub refused_line : List ℕ → List ℕ
 refused_line name = codes "refused: " ++ (name ++ codes "\n")
+
+abbrev pub refusal_name : Refusal → List ℕ
+refusal_name reason.UnknownOrganization = codes "UnknownOrganization"
+refusal_name reason.UnknownPartner = codes "UnknownPartner"
+refusal_name reason.NoSuchNumber = codes "NoSuchNumber"
+refusal_name reason.NotDue = codes "NotDue"
+refusal_name reason.AllSettled = codes "AllSettled"
+refusal_name reason.NoOpenTry = codes "NoOpenTry"
+refusal_name reason.TriesUsed = codes "TriesUsed"
+refusal_name reason.TooLarge = codes "TooLarge"
 
 -- `agreements: NAME`, and the key where there is one
 abbrev pub fault_name_line : List ℕ → Option Key → List ℕ
@@ -45,6 +57,7 @@ error_line refusal.CannotWrite = refused_line (codes "CannotWrite")
 error_line refusal.Memory = refused_line (codes "Memory")
 error_line (refusal.Agreements fault) = agreements_line fault
 error_line (refusal.Store fault) = store_lines fault
+error_line (refusal.Station reason) = refused_line (refusal_name reason)
 error_line (refusal.Stream ended) = refused_line (end_name ended)
 
 -- the exit status that goes with it

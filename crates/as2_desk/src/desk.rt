@@ -1,8 +1,8 @@
 //! A command line, run.
-ghost use Rattle.std.specs.Prelude.{◌≡◌, ◌≢◌, ◌⊎◌, ℕ, List, [], None, option_map, true, IfErr, IfOk, IfSome, IsSome};
+ghost use Rattle.std.specs.Prelude.{◌≡◌, ◌≢◌, ◌⊎◌, ℕ, List, [], None, option_map, true, ⊥, IfErr, IfOk, IfSome, IsSome};
 ghost use Rattle.std.specs.Io.KnownBytes.{Appends};
 ghost use Rattle.clap.specs.Walk.{texts};
-ghost use Rattle.clap.specs.Words.{HasKind, app_of, found_of, kind_of, rows_of, subcommand_name_of};
+ghost use Rattle.clap.specs.Words.{HasKind, app_of, found_of, kind_of, rows_of, subcommand_rows_of};
 ghost use Rattle.clap.specs.declared.error.kind.ErrorKind.TheVariants.{OutOfMemory, ValueValidation};
 ghost use Rattle.sqlite.specs.Held.{state};
 ghost use Rattle.as2_store.specs.Stands.{Rests};
@@ -17,19 +17,21 @@ ghost use Rattle.as2_desk.specs.declared.stores.OpenFault.{OpenFault as TheFault
 ghost use Rattle.as2_desk.specs.declared.refusal.CommandFault.TheVariants.{Memory, Store as Failing};
 
 use crate::agreed::agreements_in;
+use crate::asking::{ask_over, submit_over};
 use crate::check::counts;
 use crate::command::command;
 use crate::files::ReadFiles;
-use crate::options::{OptionFault, Options, Posting, Task};
+use crate::options::{Command, OptionFault, Options, RunOptions, Task};
 use crate::refusal::{CommandFault, is_said, refusal_status};
 use crate::status::{DONE, FAULTY, Ran};
 use crate::stores::{OpenFault, OpenStores, records_in, records_in_memory};
 use as2_agreement::Agreements;
+use as2_exchange::Event;
 use as2_http::{Served, Sink, Source, push_all, serve_stream};
 use as2_station::Station;
 use as2_store::Store;
 use clap::error::ErrorKind;
-use clap::{ArgMatches, Command, Error};
+use clap::{ArgMatches, Command as CommandLine, Error};
 use sqlite::{Alter, Connection};
 use std::alloc::{AllocError, Global};
 use std::io::Write;
@@ -55,9 +57,9 @@ pub fn run<'a, F: ReadFiles, O: OpenStores, R: Source, W: Sink, E: Write>(
     // memory for the words was wanting nothing is read or written.
     ensures runs { (path store : List ℕ) (task : TheTask)
         → Gives (texts words.entry.now) clock path store task
-        → Runs (F.content files.now path) (kept_at store (O.kept stores.now store)) task
+        → Runs (F.content files.now) path (kept_at store (O.kept stores.now store)) task
         (R.left input.old) (R.left input.new) (R.calls input.old) (R.calls input.new) (input.new ≡ input.old) (output.new ≡ output.old)
-        (λ t. IfSome result.1 (λ l. Rests (state O.Kind.Store l.1) t))
+        (λ t. IfSome result.1 (λ l. Rests (state O.Kind.Store l.1) t)) (HandsBack store ⊥ (option_map (λ l. l.0.now) result.1))
         (W.written output.old) (W.written output.new) (Appends (E.contents errors.old) (E.contents errors.new)) result.0
         ⊎ ((input.new ≡ input.old) × (output.new ≡ output.old)
         × EndsRefused Memory (Appends (E.contents errors.old) (E.contents errors.new)) result.0) }
@@ -78,7 +80,7 @@ pub fn run<'a, F: ReadFiles, O: OpenStores, R: Source, W: Sink, E: Write>(
     match options(alloc, words, clock) {
         Ok(options) => {
             let agreed = agreements_in(alloc, files, options.agreements);
-            carry_out(alloc, &options, agreed, stores, input, output, errors)
+            carry_out(alloc, files, options, agreed, stores, input, output, errors)
         }
         Err(error) => (tell(alloc, &error, output, errors), None),
     }
@@ -103,11 +105,11 @@ fn options<'a>(
 }
 
 /// What the parser finds in the words.
-fn parse<'a>(command: &mut Command<'a>, words: &'a [&'a str]) -> Result<ArgMatches<'a>, Error>
+fn parse<'a>(command: &mut CommandLine<'a>, words: &'a [&'a str]) -> Result<ArgMatches<'a>, Error>
     requires { app_of command.old ≡ command_line }
     ensures found { IfOk result (λ m. (faults (texts words.entry.now) ≡ [])
         × (rows_of (found_of m) ≡ option_values (texts words.entry.now))
-        × (subcommand_name_of m ≡ command_in (texts words.entry.now))) }
+        × (subcommand_rows_of m ≡ command_in (texts words.entry.now))) }
     ensures fault { IfErr result (HasKind (faults (texts words.entry.now))) }
 {
     command.try_get_matches_from_mut(words)
@@ -116,7 +118,7 @@ fn parse<'a>(command: &mut Command<'a>, words: &'a [&'a str]) -> Result<ArgMatch
 /// The fault in the form of the parser's own errors.
 fn explained(
     alloc: Global,
-    command: &mut Command<'_>,
+    command: &mut CommandLine<'_>,
     fault: OptionFault<'_>,
 ) -> Result<Error, AllocError>
     ensures { IfOk result (λ e. kind_of e ≡ ValueValidation) }
@@ -126,9 +128,10 @@ fn explained(
 }
 
 /// Does what is asked for, where there are agreements to do it over.
-fn carry_out<'a, O: OpenStores, R: Source, W: Sink, E: Write>(
+fn carry_out<'a, F: ReadFiles, O: OpenStores, R: Source, W: Sink, E: Write>(
     alloc: Global,
-    options: &Options<'a>,
+    files: &F,
+    options: Options<'a>,
     agreed: Result<Agreements, CommandFault>,
     stores: &O,
     input: &mut R,
@@ -136,33 +139,39 @@ fn carry_out<'a, O: OpenStores, R: Source, W: Sink, E: Write>(
     errors: &mut E,
 ) -> (Ran, Option<(&'a str, Connection<O::Kind>)>)
     ensures status { (result.0.status ≡ done) ⊎ ((result.0.status ≡ refused) ⊎ (result.0.status ≡ failed)) }
-    ensures comes { Comes agreed (kept_at options.now.store.now (O.kept stores.now options.now.store.now)) options.now.task
+    ensures comes { Comes agreed (F.content files.now) (kept_at options.store.now (O.kept stores.now options.store.now)) options.task
         (R.left input.old) (R.left input.new) (R.calls input.old) (R.calls input.new) (input.new ≡ input.old) (output.new ≡ output.old)
-        (λ t. IfSome result.1 (λ l. Rests (state O.Kind.Store l.1) t))
+        (λ t. IfSome result.1 (λ l. Rests (state O.Kind.Store l.1) t)) (HandsBack options.store.now ⊥ (option_map (λ l. l.0.now) result.1))
         (W.written output.old) (W.written output.new) (Appends (E.contents errors.old) (E.contents errors.new)) result.0 }
     ensures store { result.0.status ≡ failed → Stopped (input.new ≡ input.old) (output.new ≡ output.old)
         (Appends (E.contents errors.old) (E.contents errors.new)) result.0 }
-    ensures handed { HandsBack options.now.store.now (input.new ≡ input.old) (option_map (λ l. l.0.now) result.1) }
+    ensures handed { HandsBack options.store.now (input.new ≡ input.old) (option_map (λ l. l.0.now) result.1) }
 {
     let agreements = match agreed {
         Ok(agreements) => agreements,
         Err(refusal) => return (refuse(refusal, errors), None),
     };
-    match options.task {
-        Task::Check => (check(alloc, &agreements, output, errors), None),
-        Task::Post(posting) => {
-            let path = options.store;
-            post_over(
-                alloc,
-                &agreements,
-                posting,
-                path,
-                stores,
-                input,
-                output,
-                errors,
-            )
-        }
+    let path = options.store;
+    let (run, command) = match options.task {
+        Task::Check => return (check(alloc, &agreements, output, errors), None),
+        Task::Run(run, command) => (run, command),
+    };
+    let moment = run.moment;
+    match command {
+        Command::Post => post_over(alloc, &agreements, run, path, stores, input, output, errors),
+        Command::Submit(document) => submit_over(
+            alloc, &agreements, run, document, path, files, stores, output, errors,
+        ),
+        Command::Tick => ask_over(
+            alloc,
+            &agreements,
+            Event::Tick { moment },
+            path,
+            run.first,
+            stores,
+            output,
+            errors,
+        ),
     }
 }
 
@@ -170,7 +179,7 @@ fn carry_out<'a, O: OpenStores, R: Source, W: Sink, E: Write>(
 fn post_over<'a, O: OpenStores, R: Source, W: Sink, E: Write>(
     alloc: Global,
     agreements: &Agreements,
-    posting: Posting,
+    run: RunOptions,
     path: &'a str,
     stores: &O,
     input: &mut R,
@@ -180,7 +189,7 @@ fn post_over<'a, O: OpenStores, R: Source, W: Sink, E: Write>(
     ensures status { (result.0.status ≡ done) ⊎ ((result.0.status ≡ refused) ⊎ (result.0.status ≡ failed)) }
     ensures posts { ((input.new ≡ input.old) × (output.new ≡ output.old)
         × Fails (kept_at path.now (O.kept stores.now path.now)) (Appends (E.contents errors.old) (E.contents errors.new)) result.0)
-        ⊎ Posts agreements.now posting.moment (stands_for (kept_at path.now (O.kept stores.now path.now)) posting.first)
+        ⊎ Posts agreements.now run.moment (stands_for (kept_at path.now (O.kept stores.now path.now)) run.first)
         (R.left input.old) (R.left input.new) (R.calls input.old) (R.calls input.new) (λ t. IfSome result.1 (λ l. Rests (state O.Kind.Store l.1) t))
         (W.written output.old) (W.written output.new) (Appends (E.contents errors.old) (E.contents errors.new)) result.0 }
     ensures store { result.0.status ≡ failed → Stopped (input.new ≡ input.old) (output.new ≡ output.old)
@@ -188,17 +197,17 @@ fn post_over<'a, O: OpenStores, R: Source, W: Sink, E: Write>(
     ensures handed { HandsBack path.now (input.new ≡ input.old) (option_map (λ l. l.0.now) result.1) }
 {
     if path == ":memory:" {
-        let records = records_in_memory(alloc, posting.first);
-        let (ran, _) = post(alloc, agreements, posting, records, input, output, errors);
+        let records = records_in_memory(alloc, run.first);
+        let (ran, _) = post(alloc, agreements, run, records, input, output, errors);
         return (ran, None);
     }
-    let records = records_in(alloc, stores, path, posting.first);
-    let (ran, conn) = post(alloc, agreements, posting, records, input, output, errors);
+    let records = records_in(alloc, stores, path, run.first);
+    let (ran, conn) = post(alloc, agreements, run, records, input, output, errors);
     (ran, under(path, conn))
 }
 
 /// The connection with the path of its store.
-fn under<'a, S: Alter + Drop>(
+pub(crate) fn under<'a, S: Alter + Drop>(
     path: &'a str,
     conn: Option<Connection<S>>,
 ) -> Option<(&'a str, Connection<S>)>
@@ -238,17 +247,17 @@ fn check<W: Sink, E: Write>(
 fn post<S: Alter + Drop, R: Source, W: Sink, E: Write>(
     alloc: Global,
     agreements: &Agreements,
-    posting: Posting,
+    run: RunOptions,
     records: Result<Store<S>, OpenFault>,
     input: &mut R,
     output: &mut W,
     errors: &mut E,
 ) -> (Ran, Option<Connection<S>>)
     ensures status { (result.0.status ≡ done) ⊎ ((result.0.status ≡ refused) ⊎ (result.0.status ≡ failed)) }
-    ensures posts { (kept : Kept) → Holds S.Store kept posting.first records
+    ensures posts { (kept : Kept) → Holds S.Store kept run.first records
         → ((input.new ≡ input.old) × (output.new ≡ output.old)
         × Fails kept (Appends (E.contents errors.old) (E.contents errors.new)) result.0)
-        ⊎ Posts agreements.now posting.moment (stands_for kept posting.first) (R.left input.old) (R.left input.new) (R.calls input.old) (R.calls input.new)
+        ⊎ Posts agreements.now run.moment (stands_for kept run.first) (R.left input.old) (R.left input.new) (R.calls input.old) (R.calls input.new)
         (λ t. IfSome result.1 (λ conn. Rests (state S.Store conn) t))
         (W.written output.old) (W.written output.new) (Appends (E.contents errors.old) (E.contents errors.new)) result.0 }
     ensures store { result.0.status ≡ failed → Stopped (input.new ≡ input.old) (output.new ≡ output.old)
@@ -261,7 +270,7 @@ fn post<S: Alter + Drop, R: Source, W: Sink, E: Write>(
             let end = serve_stream(
                 alloc,
                 agreements,
-                posting.moment,
+                run.moment,
                 &mut station,
                 input,
                 output,
@@ -287,7 +296,7 @@ fn tell_end<E: Write>(end: Served, errors: &mut E) -> Ran
 }
 
 /// Says that something was refused.
-fn refuse<E: Write>(refusal: CommandFault, errors: &mut E) -> Ran
+pub(crate) fn refuse<E: Write>(refusal: CommandFault, errors: &mut E) -> Ran
     ensures told { EndsRefused refusal (Appends (E.contents errors.old) (E.contents errors.new)) result }
     ensures status { (result.status ≡ refused) ⊎ (result.status ≡ failed) }
     ensures store { result.status ≡ failed → (fault : TheFault) × (refusal ≡ Failing fault) }

@@ -1,6 +1,6 @@
 //! Files, as far as the program reads them.
 ghost use Rattle.std.specs.Prelude.{ℕ, List};
-ghost use Rattle.as2_desk.specs.FileContents.{Content, ReadsFile};
+ghost use Rattle.as2_desk.specs.FileContents.{Content, ReadsFile, front};
 
 use std::alloc::Global;
 
@@ -21,4 +21,8 @@ pub trait ReadFiles {
     /// All bytes of the file of that path.
     fn read_file(&self, alloc: Global, path: &str) -> Result<Vec<u8>, FileFault>
         ensures { ReadsFile (λ bytes. bytes.items) (content self.now path.now) result };
+
+    /// The first bytes of the file of that path, at most so many; no more of it need be read.
+    fn read_front(&self, alloc: Global, path: &str, most: usize) -> Result<Vec<u8>, FileFault>
+        ensures { ReadsFile (λ bytes. bytes.items) (front most (content self.now path.now)) result };
 }

@@ -3,9 +3,11 @@
 #![tactic(auto)]
 
 mod agreed;
+mod asking;
 mod check;
 mod command;
 mod desk;
+mod documents;
 mod files;
 mod first_number;
 mod options;

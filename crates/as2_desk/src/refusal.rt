@@ -1,12 +1,12 @@
 //! Why something was refused, in one line on standard error.
 ghost use Rattle.std.specs.Prelude.{◌≡◌, OnOk, true};
 ghost use Rattle.std.specs.Io.KnownBytes.{Appends};
-ghost use Rattle.as2_desk.specs.Refusals.{agreements_line, error_line, refusal_status, refused_line, store_fault_name, store_lines};
+ghost use Rattle.as2_desk.specs.Refusals.{agreements_line, error_line, refusal_name, refusal_status, refused_line, store_fault_name, store_lines};
 
 use crate::status::{FAILED, REFUSED, end_name};
 use crate::stores::OpenFault;
 use as2_agreement::AgreementFault;
-use as2_exchange::StoreFault;
+use as2_exchange::{Refusal, StoreFault};
 use as2_http::Served;
 use std::io;
 use std::io::Write;
@@ -18,12 +18,14 @@ pub(crate) enum CommandFault {
     CannotRead,
     /// Standard output can't be written.
     CannotWrite,
-    /// There was no memory for the command line.
+    /// There was no memory for the command line, or for a document.
     Memory,
     /// The agreements have a fault.
     Agreements(AgreementFault),
-    /// No store is open.
+    /// No store is open, or the open one has a fault.
     Store(OpenFault),
+    /// The station refuses what it is asked.
+    Station(Refusal),
     /// A stream came to another end than `Closed`.
     Stream(Served),
 }
@@ -49,6 +51,22 @@ fn store_fault_name(fault: StoreFault) -> &'static str
         StoreFault::Full => "Full",
         StoreFault::NotAStore => "NotAStore",
         StoreFault::OtherVersion => "OtherVersion",
+    }
+}
+
+/// The name of a refusal, as it is spelled in `Refusal`.
+fn refusal_name(refusal: Refusal) -> &'static str
+    ensures { result.now ≡ refusal_name refusal }
+{
+    match refusal {
+        Refusal::UnknownOrganization => "UnknownOrganization",
+        Refusal::UnknownPartner => "UnknownPartner",
+        Refusal::NoSuchNumber => "NoSuchNumber",
+        Refusal::NotDue => "NotDue",
+        Refusal::AllSettled => "AllSettled",
+        Refusal::NoOpenTry => "NoOpenTry",
+        Refusal::TriesUsed => "TriesUsed",
+        Refusal::TooLarge => "TooLarge",
     }
 }
 
@@ -96,6 +114,7 @@ fn say<E: Write>(refusal: CommandFault, errors: &mut E) -> io::Result<()>
         CommandFault::Memory => say_refused("Memory", errors),
         CommandFault::Agreements(fault) => say_agreements(fault, errors),
         CommandFault::Store(fault) => say_store(fault, errors),
+        CommandFault::Station(reason) => say_refused(refusal_name(reason), errors),
         CommandFault::Stream(end) => say_refused(end_name(end), errors),
     }
 }
