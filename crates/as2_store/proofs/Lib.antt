@@ -24,6 +24,7 @@ mod ChangedDocuments
 mod AddedDocument
 mod OwedTables
 mod OutboxQueries
+mod SettledRows
 mod StateQueries
 mod SettledTables
 mod DueRows

@@ -1,12 +1,12 @@
 -- Documents of a state, by the codes of their details.
-use Rattle.std.specs.Prelude.{List, [], ◌∷◌, map, filter, Bool, true, Option, Some, None}
+use Rattle.std.specs.Prelude.{ℕ, List, [], ◌∷◌, map, filter, Bool, true, Option, Some, None}
 use Rattle.sqlite.specs.Order.{Row}
 use Rattle.as2_mdn.specs.Details.{state_of}
 use Rattle.as2_mdn.specs.declared.detail.Detail.{Detail}
 use Rattle.as2_mdn.specs.declared.detail.Detail.TheVariants.{New, Sending, Awaiting, Retry, Processed, NoReceiptAsked, UnknownMic, NotProcessed, Overdue}
 use Rattle.as2_mdn.specs.declared.detail.State.{State as StateOf}
 use Rattle.as2_mdn.specs.declared.detail.State.TheVariants.{P, R, S, W, E}
-use Rattle.as2_exchange.specs.State.{State}
+use Rattle.as2_exchange.specs.State.{State, is_settled}
 use Rattle.as2_exchange.specs.Views.{is_in, same_state}
 use Rattle.as2_rows.specs.Codes.{detail_code}
 use Rattle.as2_rows.specs.Rows.{whole}
@@ -42,3 +42,7 @@ state_codes wanted = whole (detail_code (first_detail wanted)) ∷ whole (detail
 -- the documents of this state, or all, each as its row has it
 abbrev pub listed : Option StateOf → State → List OutRow
 listed wanted s = map out_summary (filter (is_in wanted) s.outbox)
+
+-- the numbers of the documents that a receipt has settled
+abbrev pub settled_numbers : State → List ℕ
+settled_numbers s = map (λ d. d.number) (filter is_settled s.outbox)

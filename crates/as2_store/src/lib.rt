@@ -20,6 +20,7 @@ mod outbox;
 mod owed;
 mod progress;
 mod reading;
+mod settled;
 mod settling;
 mod store;
 mod submitting;

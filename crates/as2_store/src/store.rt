@@ -11,7 +11,7 @@ ghost use Rattle.as2_store.specs.Adding.{added, added_document};
 ghost use Rattle.as2_store.specs.Calls.{Adopts, Commits, CommitsFirst, Creates, IsGivenBack, IsReason, Reads, Writes};
 ghost use Rattle.as2_store.specs.Expiring.{AreTicked, ticked_in};
 ghost use Rattle.as2_store.specs.Finding.{AreNext, IsPostedAs, evidence_at};
-ghost use Rattle.as2_store.specs.Listing.{listed};
+ghost use Rattle.as2_store.specs.Listing.{listed, settled_numbers};
 ghost use Rattle.as2_store.specs.Owing.{set_mdn_in};
 ghost use Rattle.as2_store.specs.Progressing.{set_in};
 ghost use Rattle.as2_store.specs.Requeuing.{requeued_in};
@@ -32,6 +32,7 @@ use crate::numbers::{fits, fits_mdn, fits_progress};
 use crate::outbox::rows_by_id;
 use crate::owed::MdnProgress;
 use crate::progress::{Progress, set};
+use crate::settled::{numbers_in, settled_rows};
 use crate::settling::{is_by_receipt, settle};
 use crate::submitting::add_document;
 use crate::{inbox, listing, outbox, owed};
@@ -325,5 +326,14 @@ impl<S: Alter> Store<S> {
     {
         meta_rows(&mut self.conn).map_err(fault_of)?;
         listing::entries(&mut self.conn, alloc)
+    }
+
+    /// The numbers of the documents that a receipt has settled, in order. Answers Memory, Disk or Refused.
+    pub fn settled(&mut self, alloc: Global) -> Result<Vec<u64>, StoreFault>
+        ensures numbers { Reads (λ s numbers. numbers.items ≡ settled_numbers s) (state S.Store self.old) (state S.Store self.new) result }
+        ensures fault { IfErr result (λ f. may_come f ≡ true) }
+    {
+        let rows = settled_rows(&mut self.conn).map_err(fault_of)?;
+        numbers_in(alloc, rows.as_slice()).map_err(fault_of)
     }
 }
