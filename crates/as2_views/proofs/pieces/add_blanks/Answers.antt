@@ -1,0 +1,6 @@
+use Rattle.std.proofs.lemmas.List.{take-replicate}
+use Rattle.as2_names.specs.Ascii.{space}
+use Rattle.as2_views.proofs.pieces.add_blanks.Goals as goal
+
+pub returns : goal.returns
+returns c = ?

@@ -1,0 +1,4 @@
+pub mod Counting
+pub mod Lists
+pub mod Pieces
+pub mod RowLines

@@ -1,0 +1,19 @@
+//! The listings of the station: lines of received and of sent documents, the counts of what is outstanding, and one document
+//! in full. They are made of rows without contents, and need no store.
+#![tactic(auto)]
+
+mod counts;
+mod document;
+mod laws;
+mod lists;
+mod pieces;
+mod rows;
+
+pub use counts::{Counts, add_counts};
+pub use document::add_document;
+pub use laws::{all_are_listed, lists_of_rows, numbers_rise, rows_give_lines};
+pub use lists::{add_in_lines, add_out_lines, keep_outstanding};
+pub use rows::{add_in_line, add_out_line};
+
+#[cfg(test)]
+mod tests;

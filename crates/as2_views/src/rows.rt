@@ -1,0 +1,82 @@
+//! Lines of rows.
+ghost use Rattle.std.specs.Prelude.{◌≡◌, ◌++◌, OnOk};
+ghost use Rattle.as2_exchange.specs.Readings.{is_processed};
+ghost use Rattle.as2_exchange.specs.Views.{kept_mark, mdn_mark, processed_mark, state_text};
+ghost use Rattle.as2_views.specs.RowLines.{in_row_line, out_row_line};
+
+use crate::pieces::{add_from_to, add_left, add_right, add_text, add_word};
+use as2_exchange::MdnState;
+use as2_mdn::{Outcome, State};
+use as2_rows::{InRow, OutRow};
+use as2_text::Memory;
+
+/// The letter of a state.
+pub fn state_letter(state: State) -> &'static [u8]
+    ensures { result.now ≡ state_text state }
+{
+    match state {
+        State::P => b"P",
+        State::R => b"R",
+        State::S => b"S",
+        State::W => b"W",
+        State::E => b"E",
+    }
+}
+
+/// The mark of a document that a receipt is kept of, or is not.
+fn receipt_mark(is_settled: bool) -> &'static [u8]
+    ensures { result.now ≡ kept_mark is_settled }
+{
+    if is_settled { b"R" } else { b"-" }
+}
+
+/// The mark of a received document: processed, or in error.
+fn outcome_mark(outcome: Outcome) -> &'static [u8]
+    ensures { result.now ≡ processed_mark (is_processed outcome) }
+{
+    if outcome == Outcome::Processed { b"S" } else { b"E" }
+}
+
+/// The mark of the receipt that is owed for a received document.
+fn owed_mark(mdn: MdnState) -> &'static [u8]
+    ensures { result.now ≡ mdn_mark mdn }
+{
+    match mdn {
+        MdnState::Unasked => b"-",
+        MdnState::Pending => b"P",
+        MdnState::Sent => b"S",
+    }
+}
+
+/// Appends the line of a received document: its number, whether it was processed, how its receipt stands, from whom and to
+/// whom it is, and its identifier. Memory where it runs out; a part of the line may be appended then.
+pub fn add_in_line(text: &mut Vec<u8>, row: &InRow) -> Result<(), Memory>
+    ensures { OnOk result (text.new.items ≡ text.old.items ++ in_row_line row.now) }
+{
+    add_right(text, 12, row.number)?;
+    add_word(text, outcome_mark(row.outcome))?;
+    add_word(text, owed_mark(row.mdn))?;
+    add_text(text, b" ")?;
+    add_from_to(text, &row.sender, &row.receiver)?;
+    add_word(text, row.id.as_received().as_bytes())?;
+    add_text(text, b"\n")?;
+    Ok(())
+}
+
+/// Appends the line of a document that is sent: its number, state and tries, whether a receipt has settled it, its detail, and
+/// from whom and to whom it is. Memory where it runs out; a part of the line may be appended then.
+pub fn add_out_line(text: &mut Vec<u8>, row: &OutRow, is_settled: bool) -> Result<(), Memory>
+    ensures { OnOk result (text.new.items ≡ text.old.items ++ out_row_line is_settled row.now) }
+{
+    add_right(text, 12, row.number)?;
+    add_word(text, state_letter(row.detail.state()))?;
+    add_text(text, b" ")?;
+    add_right(text, 2, row.tries)?;
+    add_word(text, receipt_mark(is_settled))?;
+    add_text(text, b" ")?;
+    add_left(text, 16, row.detail.name().as_bytes())?;
+    add_text(text, b" ")?;
+    add_from_to(text, &row.organization, &row.partner)?;
+    add_text(text, b"\n")?;
+    Ok(())
+}
