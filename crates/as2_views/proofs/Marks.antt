@@ -1,6 +1,6 @@
 -- Which numbers are among those of the settled documents.
-use Rattle.std.proofs.Common.{◌≡◌, ◌∙◌, ◌<◌, ◌==◌, ◌||◌, ℕ, List, [], ◌∷◌, map, Bool, true, false, cond, None, ◌++◌, ap₂, refl, sym, ap, arith}
-use Rattle.std.specs.List.{AllByRecursion, filter, flat_map, list_any}
+use Rattle.std.proofs.Common.{◌≡◌, ◌∙◌, ◌<◌, ◌==◌, ◌||◌, ℕ, List, [], ◌∷◌, map, Bool, true, false, cond, None, ◌++◌, ap₂, refl, ap, arith}
+use Rattle.std.specs.List.{AllByRecursion, filter, flat_map}
 use Rattle.std.proofs.lemmas.Bool.Decides.{nat_tests}
 use Rattle.as2_exchange.specs.State.{is_settled}
 use Rattle.as2_exchange.specs.Views.{is_in, out_line}
