@@ -1,3 +1,4 @@
-pub mod Chains
+mod Chains
+pub mod Listings
 pub mod Marks
 mod Searching

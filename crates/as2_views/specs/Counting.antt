@@ -17,14 +17,11 @@ counts_of s = record {
   to_send = count_by (λ e. is_pending e.mdn) s.inbox;
 }
 
--- a line for each count of documents
-abbrev pub document_counts : Counts → Text
-document_counts c =
+-- a line for each
+abbrev pub counts_text : Counts → Text
+counts_text c =
     count_line (codes "documents not sent:") c.not_sent
     ++ count_line (codes "documents in retry:") c.in_retry
     ++ count_line (codes "receipts awaited:") c.awaited
     ++ count_line (codes "documents in error:") c.in_error
-
--- a line for each count
-abbrev pub counts_text : Counts → Text
-counts_text c = document_counts c ++ count_line (codes "receipts to send:") c.to_send
+    ++ count_line (codes "receipts to send:") c.to_send

@@ -1,7 +1,7 @@
 //! The counts of what is outstanding.
 ghost use Rattle.std.specs.Prelude.{◌≡◌, ◌++◌, OnOk};
 ghost use Rattle.as2_exchange.specs.Views.{count_line};
-ghost use Rattle.as2_views.specs.Counting.{counts_text, document_counts};
+ghost use Rattle.as2_views.specs.Counting.{counts_text};
 
 use crate::pieces::{add_number, add_text};
 use as2_text::Memory;
@@ -32,21 +32,14 @@ fn add_count(text: &mut Vec<u8>, words: &[u8], count: u64) -> Result<(), AllocEr
     add_text(text, b"\n")
 }
 
-/// Appends a line for each count of documents.
-fn add_document_counts(text: &mut Vec<u8>, counts: Counts) -> Result<(), AllocError>
-    ensures { OnOk result (text.new.items ≡ text.old.items ++ document_counts counts) }
-{
-    add_count(text, b"documents not sent:", counts.not_sent)?;
-    add_count(text, b"documents in retry:", counts.in_retry)?;
-    add_count(text, b"receipts awaited:", counts.awaited)?;
-    add_count(text, b"documents in error:", counts.in_error)
-}
-
 /// Appends a line for each count. Memory where it runs out; a part may be appended then.
 pub fn add_counts(text: &mut Vec<u8>, counts: Counts) -> Result<(), Memory>
     ensures { OnOk result (text.new.items ≡ text.old.items ++ counts_text counts) }
 {
-    add_document_counts(text, counts)?;
+    add_count(text, b"documents not sent:", counts.not_sent)?;
+    add_count(text, b"documents in retry:", counts.in_retry)?;
+    add_count(text, b"receipts awaited:", counts.awaited)?;
+    add_count(text, b"documents in error:", counts.in_error)?;
     add_count(text, b"receipts to send:", counts.to_send)?;
     Ok(())
 }

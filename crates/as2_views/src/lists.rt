@@ -61,16 +61,9 @@ fn is_due(due: Option<u64>, moment: Moment) -> bool
     }
 }
 
-/// Whether something is still to come of the document, and its moment has come.
-fn is_outstanding(row: &OutRow, moment: Moment) -> bool
-    ensures { result ≡ is_outstanding moment row.now }
-{
-    is_under_way(row.detail) && is_due(row.due, moment)
-}
-
 /// Keeps the documents that are under way and whose moment has come, in their order.
 pub fn keep_outstanding(rows: &mut Vec<OutRow>, moment: Moment)
     ensures { rows.new.items ≡ filter (is_outstanding moment) rows.old.items }
 {
-    rows.retain(|row| is_outstanding(row, moment));
+    rows.retain(|row| is_under_way(row.detail) && is_due(row.due, moment));
 }

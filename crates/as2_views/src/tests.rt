@@ -5,146 +5,106 @@ use as2_mic::Pieces;
 use as2_rows::{InRow, OutRow};
 use as2_text::{AsName, MessageId, Moment};
 use std::alloc::Global;
-use std::process::Abort;
 
-static SHOWN: &[u8] = b"number: 1
-state: S processed
-tries: 1
-due: -
-from: Supplier
-to: Buyer
-identifier: <out-1@station.example>
-content: 3 bytes
-receipt: R at 1000, 406 bytes
-";
+const COUNTS: Counts = Counts {
+    not_sent: 0,
+    in_retry: 0,
+    awaited: 1,
+    in_error: 0,
+    to_send: 0,
+};
 
-static COUNTED: &[u8] = b"documents not sent: 0
-documents in retry: 1
-receipts awaited: 2
-documents in error: 30
-receipts to send: 999999999999
-";
-
-// The lines of a settled document, of one that waits, and of one that is given up.
-static SENT: &[u8] = b"           1 S  1 R processed        Supplier -> Buyer
-           2 R 10 - retry            Supplier -> Buyer
-999999999999 E  2 - tries-used       Supplier -> Buyer
-";
-
-static WAITING: &[u8] = b"           2 R 10 - retry            Supplier -> Buyer
-";
-
-// A document whose receipt went at once, and one that was refused and whose receipt is to be sent.
-static RECEIVED: &[u8] = b"           1 S S Buyer -> Supplier <m1@x>
-           2 E P \"A \\\"B\\\" \\\\ C\" -> Supplier <m1@x>
-";
-
-/// A document of Supplier to Buyer.
-fn sent(
-    alloc: Global,
-    number: u64,
-    tries: u64,
-    due: Option<u64>,
-    detail: Detail,
-) -> Option<OutRow> {
+/// The document of Supplier to that partner after its first try; None where memory is wanting.
+fn sent(alloc: Global, partner: &[u8], due: Option<u64>, detail: Detail) -> Option<OutRow> {
     Some(OutRow {
-        number,
+        number: 1,
         organization: AsName::plain(b"Supplier").ok()?,
-        partner: AsName::plain(b"Buyer").ok()?,
+        partner: AsName::plain(partner).ok()?,
         id: MessageId::parse(alloc, b"<out-1@station.example>").ok()?,
         length: 3,
         moment: Moment::new(1000)?,
-        tries,
+        tries: 1,
         attempt: Attempt::Idle,
         due,
         detail,
     })
 }
 
-/// A document that was posted to Supplier.
-fn received(
-    alloc: Global,
-    number: u64,
-    sender: &[u8],
-    outcome: Outcome,
-    mdn: MdnState,
-) -> Option<InRow> {
+/// The document of Buyer that was answered at once; None where memory is wanting.
+fn received(alloc: Global) -> Option<InRow> {
     Some(InRow {
-        number,
-        sender: AsName::plain(sender).ok()?,
+        number: 1,
+        sender: AsName::plain(b"Buyer").ok()?,
         receiver: AsName::plain(b"Supplier").ok()?,
         id: MessageId::parse(alloc, b"<m1@x>").ok()?,
-        content_type: Bytes::of(Vec::new(alloc)),
+        content_type: Bytes::keep(alloc, b"application/edi-x12").ok()?,
         length: 3,
         moment: Moment::new(1000)?,
-        outcome,
+        outcome: Outcome::Processed,
         how: ReceiptDelivery::Sync,
         mic: None,
-        mdn,
+        mdn: MdnState::Sent,
         tries: 0,
         attempt: Attempt::Idle,
         due: None,
     })
 }
 
-/// A settled document, one that waits until 30, and one that is given up.
-fn documents(alloc: Global) -> Option<Vec<OutRow>> {
-    let mut rows = Vec::new(alloc);
-    let row = sent(alloc, 1, 1, None, Detail::Processed)?;
-    rows.push(row).ok()?;
-    let row = sent(alloc, 2, 10, Some(30), Detail::Retry)?;
-    rows.push(row).ok()?;
-    let row = sent(alloc, 999_999_999_999, 2, None, Detail::TriesUsed)?;
-    rows.push(row).ok()?;
-    Some(rows)
-}
-
-/// The lines of these documents, of which the first is settled.
-fn lines(alloc: Global, rows: &[OutRow]) -> Option<Vec<u8>> {
-    let mut text = Vec::new(alloc);
-    add_out_lines(&mut text, rows, &[1]).ok()?;
-    Some(text)
-}
-
-/// The lines of the documents that are outstanding at this moment.
-fn outstanding(alloc: Global, moment: u64) -> Option<Vec<u8>> {
-    let mut rows = documents(alloc)?;
-    keep_outstanding(&mut rows, Moment::new(moment)?);
-    lines(alloc, rows.as_slice())
-}
-
-/// The lines of two received documents.
-fn received_lines(alloc: Global) -> Option<Vec<u8>> {
-    let mut rows = Vec::new(alloc);
-    let row = received(alloc, 1, b"Buyer", Outcome::Processed, MdnState::Sent)?;
-    rows.push(row).ok()?;
-    let row = received(
-        alloc,
-        2,
-        b"A \"B\" \\ C",
-        Outcome::UnsupportedFormat,
-        MdnState::Pending,
-    )?;
-    rows.push(row).ok()?;
-    let mut text = Vec::new(alloc);
-    add_in_lines(&mut text, rows.as_slice()).ok()?;
-    Some(text)
-}
-
-/// The document `abc`, settled by a receipt of 406 bytes.
-fn settled(alloc: Global) -> Option<OutEntry> {
+/// So many bytes.
+fn pieces(alloc: Global, bytes: &[u8]) -> Option<Pieces> {
     let mut content = Pieces::new(alloc);
-    content.append(b"abc").ok()?;
-    let mut body = Pieces::new(alloc);
-    body.append(&[b'x'; 406]).ok()?;
+    content.append(bytes).ok()?;
+    Some(content)
+}
+
+/// The document that a receipt of 406 bytes settled; None where memory is wanting.
+fn settled(alloc: Global) -> Option<OutEntry> {
+    let row = sent(alloc, b"Buyer", None, Detail::Processed)?;
     let evidence = Evidence {
         moment: Moment::new(1000)?,
-        content_type: Bytes::of(Vec::new(alloc)),
-        body,
+        content_type: Bytes::keep(alloc, b"multipart/report").ok()?,
+        body: pieces(alloc, &[b'x'; 406])?,
     };
-    Some(sent(alloc, 1, 1, None, Detail::Processed)?.with_content(content, Some(evidence)))
+    Some(row.with_content(pieces(alloc, b"abc")?, Some(evidence)))
 }
 
+/// The line of a received document, and the lines of a list of it.
+fn in_texts(alloc: Global) -> Option<(Vec<u8>, Vec<u8>)> {
+    let mut line = Vec::new(alloc);
+    let row = received(alloc)?;
+    add_in_line(&mut line, &row).ok()?;
+    let mut rows = Vec::new(alloc);
+    rows.push(row).ok()?;
+    let mut lines = Vec::new(alloc);
+    add_in_lines(&mut lines, &rows).ok()?;
+    Some((line, lines))
+}
+
+/// The line of a settled document, and the lines of a list of it.
+fn out_texts(alloc: Global) -> Option<(Vec<u8>, Vec<u8>)> {
+    let mut line = Vec::new(alloc);
+    let row = sent(alloc, b"Buyer", None, Detail::Processed)?;
+    add_out_line(&mut line, &row, true).ok()?;
+    let mut rows = Vec::new(alloc);
+    rows.push(row).ok()?;
+    let mut lines = Vec::new(alloc);
+    add_out_lines(&mut lines, &rows, &[1]).ok()?;
+    Some((line, lines))
+}
+
+/// What is outstanding at this moment, where a receipt is awaited up to 1060.
+fn outstanding(alloc: Global, moment: u64) -> Option<Vec<u8>> {
+    let mut rows = Vec::new(alloc);
+    rows.push(sent(alloc, b"Depot", Some(1060), Detail::Awaiting)?)
+        .ok()?;
+    keep_outstanding(&mut rows, Moment::new(moment)?);
+    let mut text = Vec::new(alloc);
+    add_counts(&mut text, COUNTS).ok()?;
+    add_out_lines(&mut text, &rows, &[]).ok()?;
+    Some(text)
+}
+
+/// The whole text of the settled document.
 fn shown(alloc: Global) -> Option<Vec<u8>> {
     let document = settled(alloc)?;
     let mut text = Vec::new(alloc);
@@ -152,43 +112,57 @@ fn shown(alloc: Global) -> Option<Vec<u8>> {
     Some(text)
 }
 
-fn counted(alloc: Global) -> Option<Vec<u8>> {
-    let counts = Counts {
-        not_sent: 0,
-        in_retry: 1,
-        awaited: 2,
-        in_error: 30,
-        to_send: 999_999_999_999,
-    };
-    let mut text = Vec::new(alloc);
-    add_counts(&mut text, counts).ok()?;
-    Some(text)
-}
-
-fn is(rt: &impl Abort, text: Option<Vec<u8>>, wanted: &[u8]) {
-    match text {
-        Some(text) => assert!(rt; text.as_slice() == wanted),
+// Row R8.1.
+#[test]
+fn a_received_document_is_listed(rt: HostRuntime) {
+    let expected = b"           1 S S Buyer -> Supplier <m1@x>\n".as_slice();
+    match in_texts(rt.alloc()) {
+        Some((line, lines)) => {
+            assert!(rt; line.as_slice() == expected);
+            assert!(rt; lines.as_slice() == expected);
+        }
         None => assert!(rt; false),
     }
 }
 
+// Row 18.
 #[test]
-fn documents_are_listed(rt: HostRuntime) {
-    match documents(rt.alloc()) {
-        Some(rows) => is(&rt, lines(rt.alloc(), rows.as_slice()), SENT),
+fn a_settled_document_is_listed(rt: HostRuntime) {
+    let expected = b"           1 S  1 R processed        Supplier -> Buyer\n".as_slice();
+    match out_texts(rt.alloc()) {
+        Some((line, lines)) => {
+            assert!(rt; line.as_slice() == expected);
+            assert!(rt; lines.as_slice() == expected);
+        }
         None => assert!(rt; false),
     }
-    is(&rt, received_lines(rt.alloc()), RECEIVED);
 }
 
+// Row R8.2.
 #[test]
-fn what_is_due_and_under_way_is_outstanding(rt: HostRuntime) {
-    is(&rt, outstanding(rt.alloc(), 29), b"");
-    is(&rt, outstanding(rt.alloc(), 30), WAITING);
-    is(&rt, counted(rt.alloc()), COUNTED);
+fn a_document_is_outstanding_once_it_is_due(rt: HostRuntime) {
+    let counts =
+        b"documents not sent: 0\ndocuments in retry: 0\nreceipts awaited: 1\ndocuments in error: 0\nreceipts to send: 0\n";
+    let line = b"           1 P  1 - awaiting         Supplier -> Depot\n";
+    match (outstanding(rt.alloc(), 1059), outstanding(rt.alloc(), 1060)) {
+        (Some(before), Some(due)) => {
+            assert!(rt; before.as_slice() == counts.as_slice());
+            assert!(rt; due.as_slice().strip_prefix(counts.as_slice()) == Some(line.as_slice()));
+        }
+        _ => assert!(rt; false),
+    }
 }
 
+// Section 10 of the formats.
 #[test]
 fn a_document_is_shown(rt: HostRuntime) {
-    is(&rt, shown(rt.alloc()), SHOWN);
+    let first = b"number: 1\nstate: S processed\ntries: 1\ndue: -\nfrom: Supplier\nto: Buyer\n";
+    let rest =
+        b"identifier: <out-1@station.example>\ncontent: 3 bytes\nreceipt: R at 1000, 406 bytes\n";
+    match shown(rt.alloc()) {
+        Some(text) => {
+            assert!(rt; text.as_slice().strip_prefix(first.as_slice()) == Some(rest.as_slice()));
+        }
+        None => assert!(rt; false),
+    }
 }
