@@ -1,1 +1,3 @@
-pub mod Chains
+mod Chains
+mod Marks
+mod Searching

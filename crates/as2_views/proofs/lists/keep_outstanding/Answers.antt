@@ -1,5 +1,6 @@
-use Rattle.std.proofs.lemmas.List.Elements.{filter_from_retain}
+use Rattle.std.proofs.Common.{rules}
+use Rattle.std.proofs.lemmas.Fn.{filter_same}
 use Rattle.as2_views.proofs.lists.keep_outstanding.Goals as goal
 
 pub returns : goal.returns
-returns c = filter_from_retain _ _ (λ p x b q h. ?) _ _ _ c.retain.ensures.filtered
+returns c = filter_same _ _ _ (λ row b f k. search rules) _ _ c.retain.ensures.filtered
