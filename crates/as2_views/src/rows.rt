@@ -34,7 +34,11 @@ fn receipt_mark(is_settled: bool) -> &'static [u8]
 fn outcome_mark(outcome: Outcome) -> &'static [u8]
     ensures { result.now ≡ processed_mark (is_processed outcome) }
 {
-    if outcome == Outcome::Processed { b"S" } else { b"E" }
+    if outcome == Outcome::Processed {
+        b"S"
+    } else {
+        b"E"
+    }
 }
 
 /// The mark of the receipt that is owed for a received document.
