@@ -1,11 +1,12 @@
 -- The pieces that the text of a document is put together from.
-use Rattle.std.specs.Prelude.{ℕ, ◌++◌, length, codes, decimal}
+use Rattle.std.specs.Prelude.{ℕ, Option, ◌++◌, length, codes, decimal}
 use Rattle.as2_names.specs.Names.{spelling}
 use Rattle.as2_mdn.specs.Details.{state_of, name_of}
 use Rattle.as2_mdn.specs.declared.detail.Detail.{Detail}
 use Rattle.as2_exchange.specs.Agreement.{Text}
 use Rattle.as2_exchange.specs.declared.outbox.OutEntry.{OutEntry}
-use Rattle.as2_exchange.specs.Views.{due_text, named_line, state_text}
+use Rattle.as2_exchange.specs.declared.outbox.Evidence.{Evidence}
+use Rattle.as2_exchange.specs.Views.{due_text, evidence_text, named_line, state_text}
 
 -- a name and what parts it from its value
 abbrev pub label : Text → Text
@@ -34,3 +35,7 @@ names_text d =
     ++ named_line (codes "to") (spelling d.partner)
     ++ named_line (codes "identifier") d.id
     ++ named_line (codes "content") (size_text (length d.content))
+
+-- the line of its receipt
+abbrev pub receipt_line : Option Evidence → Text
+receipt_line evidence = named_line (codes "receipt") (evidence_text evidence)

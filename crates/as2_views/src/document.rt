@@ -2,7 +2,7 @@
 ghost use Rattle.std.specs.Prelude.{◌≡◌, ◌++◌, codes, decimal, option_map, Some, OnOk};
 ghost use Rattle.as2_names.specs.Names.{spelling};
 ghost use Rattle.as2_exchange.specs.Views.{due_text, evidence_text, named_line, shown_words};
-ghost use Rattle.as2_views.specs.Pieces.{label, names_text, size_text, standing_text, tries_text};
+ghost use Rattle.as2_views.specs.Pieces.{label, names_text, receipt_line, size_text, standing_text, tries_text};
 
 use crate::pieces::{add_name, add_number, add_text, add_word};
 use crate::rows::state_letter;
@@ -112,7 +112,7 @@ fn add_evidence(text: &mut Vec<u8>, evidence: &Evidence) -> Result<(), AllocErro
 
 /// Appends the line of a document's receipt, if there is one.
 fn add_evidence_line(text: &mut Vec<u8>, evidence: Option<&Evidence>) -> Result<(), AllocError>
-    ensures { OnOk result (text.new.items ≡ text.old.items ++ named_line (codes "receipt") (evidence_text (option_map (λ e. e.now) evidence.entry))) }
+    ensures { OnOk result (text.new.items ≡ text.old.items ++ receipt_line (option_map (λ e. e.now) evidence.entry)) }
 {
     let Some(evidence) = evidence else {
         return add_text_line(text, b"receipt", b"-");

@@ -25,7 +25,8 @@ pub fn lists_of_rows()
     ensures outbox { (s : State) (wanted : Option StateOf) → Rise (document_numbers s) →
         flat_map (marked_line (settled_numbers s)) (map out_summary (filter (is_in wanted) s.outbox)) ≡ list_out s wanted }
     ensures outstanding { (s : State) (m : ℕ) → Rise (document_numbers s) →
-        counts_text (counts_of s) ++ flat_map (marked_line (settled_numbers s)) (filter (is_outstanding m) (map out_summary s.outbox)) ≡ outstanding s m }
+        counts_text (counts_of s)
+        ++ flat_map (marked_line (settled_numbers s)) (filter (is_outstanding m) (map out_summary s.outbox)) ≡ outstanding s m }
 {}
 
 /// Where the numbers of documents rise, so do those of the documents that a receipt has settled.

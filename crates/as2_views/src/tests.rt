@@ -156,10 +156,13 @@ fn a_document_is_outstanding_once_it_is_due(rt: HostRuntime) {
 // Section 10 of the formats.
 #[test]
 fn a_document_is_shown(rt: HostRuntime) {
-    let expected =
-        b"number: 1\nstate: S processed\ntries: 1\ndue: -\nfrom: Supplier\nto: Buyer\nidentifier: <out-1@station.example>\ncontent: 3 bytes\nreceipt: R at 1000, 406 bytes\n";
+    let first = b"number: 1\nstate: S processed\ntries: 1\ndue: -\nfrom: Supplier\nto: Buyer\n";
+    let rest =
+        b"identifier: <out-1@station.example>\ncontent: 3 bytes\nreceipt: R at 1000, 406 bytes\n";
     match shown(rt.alloc()) {
-        Some(text) => assert!(rt; text.as_slice() == expected.as_slice()),
+        Some(text) => {
+            assert!(rt; text.as_slice().strip_prefix(first.as_slice()) == Some(rest.as_slice()));
+        }
         None => assert!(rt; false),
     }
 }
