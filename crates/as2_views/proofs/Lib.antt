@@ -1,3 +1,4 @@
 mod Chains
-mod Marks
+pub mod Listings
+pub mod Marks
 mod Searching
