@@ -1,4 +1,4 @@
--- The lines of listings, told by rows without contents (the profile's formats, section 10).
+-- The lines of listings, told by rows without contents.
 use Rattle.std.specs.Prelude.{Bool, ◌++◌, codes, decimal}
 use Rattle.as2_mdn.specs.Details.{state_of, name_of}
 use Rattle.as2_exchange.specs.Agreement.{Text}

@@ -112,7 +112,7 @@ fn shown(alloc: Global) -> Option<Vec<u8>> {
     Some(text)
 }
 
-// Row R8.1.
+// A post that was answered at once, listed.
 #[test]
 fn a_received_document_is_listed(rt: HostRuntime) {
     let expected = b"           1 S S Buyer -> Supplier <m1@x>\n".as_slice();
@@ -138,7 +138,7 @@ fn a_settled_document_is_listed(rt: HostRuntime) {
     }
 }
 
-// Row R8.2.
+// A document whose receipt is awaited, and overdue at 1060.
 #[test]
 fn a_document_is_outstanding_once_it_is_due(rt: HostRuntime) {
     let counts =
