@@ -125,7 +125,7 @@ fn a_received_document_is_listed(rt: HostRuntime) {
     }
 }
 
-// Row 18.
+// A document that a receipt has settled, listed.
 #[test]
 fn a_settled_document_is_listed(rt: HostRuntime) {
     let expected = b"           1 S  1 R processed        Supplier -> Buyer\n".as_slice();
@@ -153,7 +153,7 @@ fn a_document_is_outstanding_once_it_is_due(rt: HostRuntime) {
     }
 }
 
-// Section 10 of the formats.
+// The same document, shown.
 #[test]
 fn a_document_is_shown(rt: HostRuntime) {
     let first = b"number: 1\nstate: S processed\ntries: 1\ndue: -\nfrom: Supplier\nto: Buyer\n";
