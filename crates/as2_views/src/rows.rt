@@ -10,6 +10,13 @@ use as2_mdn::{Outcome, State};
 use as2_rows::{InRow, OutRow};
 use as2_text::Memory;
 
+/// The places of a number, of a count of tries, and of a detail.
+const NUMBER_PLACES: usize = 12;
+
+const TRIES_PLACES: usize = 2;
+
+const DETAIL_PLACES: usize = 16;
+
 /// The letter of a state.
 pub fn state_letter(state: State) -> &'static [u8]
     ensures { result.now ≡ state_text state }
@@ -57,7 +64,7 @@ fn owed_mark(mdn: MdnState) -> &'static [u8]
 pub fn add_in_line(text: &mut Vec<u8>, row: &InRow) -> Result<(), Memory>
     ensures { OnOk result (text.new.items ≡ text.old.items ++ in_row_line row.now) }
 {
-    add_right(text, 12, row.number)?;
+    add_right(text, NUMBER_PLACES, row.number)?;
     add_word(text, outcome_mark(row.outcome))?;
     add_word(text, owed_mark(row.mdn))?;
     add_text(text, b" ")?;
@@ -72,13 +79,13 @@ pub fn add_in_line(text: &mut Vec<u8>, row: &InRow) -> Result<(), Memory>
 pub fn add_out_line(text: &mut Vec<u8>, row: &OutRow, is_settled: bool) -> Result<(), Memory>
     ensures { OnOk result (text.new.items ≡ text.old.items ++ out_row_line is_settled row.now) }
 {
-    add_right(text, 12, row.number)?;
+    add_right(text, NUMBER_PLACES, row.number)?;
     add_word(text, state_letter(row.detail.state()))?;
     add_text(text, b" ")?;
-    add_right(text, 2, row.tries)?;
+    add_right(text, TRIES_PLACES, row.tries)?;
     add_word(text, receipt_mark(is_settled))?;
     add_text(text, b" ")?;
-    add_left(text, 16, row.detail.name().as_bytes())?;
+    add_left(text, DETAIL_PLACES, row.detail.name().as_bytes())?;
     add_text(text, b" ")?;
     add_from_to(text, &row.organization, &row.partner)?;
     add_text(text, b"\n")?;

@@ -50,7 +50,7 @@ fn received(alloc: Global) -> Option<InRow> {
     })
 }
 
-/// So many bytes.
+/// A content or a body of these bytes; None where memory is wanting.
 fn pieces(alloc: Global, bytes: &[u8]) -> Option<Pieces> {
     let mut content = Pieces::new(alloc);
     content.append(bytes).ok()?;
@@ -153,7 +153,7 @@ fn a_document_is_outstanding_once_it_is_due(rt: HostRuntime) {
     }
 }
 
-// The same document, shown.
+// A settled document, shown.
 #[test]
 fn a_document_is_shown(rt: HostRuntime) {
     let first = b"number: 1\nstate: S processed\ntries: 1\ndue: -\nfrom: Supplier\nto: Buyer\n";
