@@ -24,6 +24,8 @@ mod ChangedDocuments
 mod AddedDocument
 mod OwedTables
 mod OutboxQueries
+mod SettledRows
+mod CountedRows
 mod StateQueries
 mod SettledTables
 mod DueRows

@@ -70,7 +70,7 @@ rows_of (d ∷ ds) = go d.evidence (rows_of ds)
     go None rest = rest
     go (Some e) rest = ap (λ l. evidence_row d.number e ∷ l) rest
 
-kept : (d : OutEntry) → IfSome (receipt_row d) (λ r. r.number ≡ d.number)
+pub kept : (d : OutEntry) → IfSome (receipt_row d) (λ r. r.number ≡ d.number)
 kept d = go d.evidence
   where
     go : (o : Option Evidence) → IfSome (option_map (evidence_in d.number) o) (λ r. r.number ≡ d.number)

@@ -53,6 +53,9 @@ abbrev pub piece_put_text : Mailbox → List ℕ
 piece_put_text Inbox = codes "INSERT INTO inbox_piece (number, position, bytes) VALUES (?1, ?2, ?3)"
 piece_put_text Outbox = codes "INSERT INTO outbox_piece (number, position, bytes) VALUES (?1, ?2, ?3)"
 
+abbrev pub mdn_text : List ℕ
+mdn_text = codes "SELECT mdn FROM inbox ORDER BY number"
+
 abbrev pub in_by_key_text : List ℕ
 in_by_key_text = codes "SELECT number, sender, receiver, identifier_value, identifier, content_type, length, moment, outcome, how, url, digest, mic, mdn, tries, attempt, due FROM inbox WHERE sender = ?1 AND receiver = ?2 AND identifier_value = ?3 ORDER BY number"
 
@@ -73,6 +76,9 @@ in_set_text = codes "UPDATE inbox SET mdn = ?2, tries = ?3, attempt = ?4, due = 
 abbrev pub out_put_text : List ℕ
 out_put_text = codes "INSERT INTO outbox (number, organization, partner, identifier_value, identifier, length, moment, tries, attempt, due, detail) VALUES (?1, ?2, ?3, ?4, ?5, ?6, ?7, ?8, ?9, ?10, ?11)"
 
+abbrev pub detail_text : List ℕ
+detail_text = codes "SELECT detail FROM outbox ORDER BY number"
+
 abbrev pub out_by_id_text : List ℕ
 out_by_id_text = codes "SELECT number, organization, partner, identifier_value, identifier, length, moment, tries, attempt, due, detail FROM outbox WHERE identifier_value = ?1 ORDER BY number"
 
@@ -84,6 +90,9 @@ out_by_details_text = codes "SELECT number, organization, partner, identifier_va
 
 abbrev pub out_pieces_text : List ℕ
 out_pieces_text = codes "SELECT number, position, bytes FROM outbox_piece WHERE number = ?1 ORDER BY position"
+
+abbrev pub settled_text : List ℕ
+settled_text = codes "SELECT number FROM evidence ORDER BY number"
 
 abbrev pub evidence_by_number_text : List ℕ
 evidence_by_number_text = codes "SELECT number, moment, content_type, body FROM evidence WHERE number = ?1 ORDER BY number"

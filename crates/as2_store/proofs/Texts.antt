@@ -20,7 +20,7 @@ use Rattle.sql_tables.proofs.Changing.{update_program}
 use Rattle.sql_tables.proofs.Deleting.{delete_program}
 use Rattle.as2_store.specs.declared.contents.Mailbox.TheVariants.{Inbox, Outbox}
 use Rattle.as2_store.specs.Tables.{store_schema, meta_table, meta_tree, inbox_tree, inbox_piece_tree, outbox_tree, outbox_piece_tree, evidence_tree, waiting_tree}
-use Rattle.as2_store.proofs.Statements.{meta_put_text, meta_read_text, receipt_text, document_text, in_put_text, piece_put_text, in_by_key_text, in_by_number_text, in_all_text, in_pieces_text, in_set_text, out_put_text, out_by_id_text, out_by_number_text, out_by_details_text, out_pieces_text, evidence_by_number_text, evidence_put_text, out_set_text, out_settle_text, out_pass_text, waiting_put_text, waiting_take_text, waiting_take_due_text, any_due_text, all_due_text, least_due_text}
+use Rattle.as2_store.proofs.Statements.{meta_put_text, meta_read_text, receipt_text, document_text, in_put_text, piece_put_text, in_by_key_text, in_by_number_text, in_all_text, in_pieces_text, in_set_text, out_put_text, out_by_id_text, out_by_number_text, out_by_details_text, out_pieces_text, evidence_by_number_text, settled_text, mdn_text, detail_text, evidence_put_text, out_set_text, out_settle_text, out_pass_text, waiting_put_text, waiting_take_text, waiting_take_due_text, any_due_text, all_due_text, least_due_text}
 
 -- ---- the counters
 
@@ -294,6 +294,51 @@ evidence_by_number_plain = (refl, refl)
 pub evidence_by_number_unlisted : reads_listing store_schema evidence_by_number_text ≡ false
 unfolding understood everything
 evidence_by_number_unlisted = refl
+
+abbrev pub settled_column_terms : List Term
+settled_column_terms = col 1 0 ∷ []
+
+pub settled_is : command_of (understood store_schema settled_text) ≡ Select (record { lets = []; body = over_table evidence_tree [] settled_column_terms by_number (lit (Int (negsuc 0))) }) (codes "number" ∷ [])
+unfolding understood everything
+settled_is = refl
+
+pub settled_plain : IsPlain (understood store_schema settled_text)
+unfolding understood everything
+settled_plain = (refl, refl)
+
+pub settled_unlisted : reads_listing store_schema settled_text ≡ false
+unfolding understood everything
+settled_unlisted = refl
+
+abbrev pub detail_column_terms : List Term
+detail_column_terms = col 1 11 ∷ []
+
+pub detail_is : command_of (understood store_schema detail_text) ≡ Select (record { lets = []; body = over_table outbox_tree [] detail_column_terms by_number (lit (Int (negsuc 0))) }) (codes "detail" ∷ [])
+unfolding understood everything
+detail_is = refl
+
+pub detail_plain : IsPlain (understood store_schema detail_text)
+unfolding understood everything
+detail_plain = (refl, refl)
+
+pub detail_unlisted : reads_listing store_schema detail_text ≡ false
+unfolding understood everything
+detail_unlisted = refl
+
+abbrev pub mdn_column_terms : List Term
+mdn_column_terms = col 1 14 ∷ []
+
+pub mdn_is : command_of (understood store_schema mdn_text) ≡ Select (record { lets = []; body = over_table inbox_tree [] mdn_column_terms by_number (lit (Int (negsuc 0))) }) (codes "mdn" ∷ [])
+unfolding understood everything
+mdn_is = refl
+
+pub mdn_plain : IsPlain (understood store_schema mdn_text)
+unfolding understood everything
+mdn_plain = (refl, refl)
+
+pub mdn_unlisted : reads_listing store_schema mdn_text ≡ false
+unfolding understood everything
+mdn_unlisted = refl
 
 abbrev pub evidence_put_terms : List Term
 evidence_put_terms = col 0 0 ∷ lit Null ∷ col 0 1 ∷ col 0 2 ∷ col 0 3 ∷ []

@@ -10,3 +10,4 @@ pub mod Due
 pub mod Settling
 pub mod Progressing
 pub mod Expiring
+pub mod Counting

@@ -7,6 +7,8 @@ ghost use Rattle.as2_exchange.specs.State.{State, empty, end_of_numbers, documen
 ghost use Rattle.as2_exchange.specs.Views.{due_documents, due_receipts, least};
 ghost use Rattle.as2_exchange.specs.declared.fault.StoreFault.TheVariants.{Full};
 ghost use Rattle.as2_rows.specs.Summaries.{in_summary};
+ghost use Rattle.as2_views.specs.Counting.{counts_of};
+ghost use Rattle.as2_views.specs.Lists.{settled_numbers};
 ghost use Rattle.as2_store.specs.Adding.{added, added_document};
 ghost use Rattle.as2_store.specs.Calls.{Adopts, Commits, CommitsFirst, Creates, IsGivenBack, IsReason, Reads, Writes};
 ghost use Rattle.as2_store.specs.Expiring.{AreTicked, ticked_in};
@@ -21,6 +23,7 @@ ghost use Rattle.as2_store.specs.Stands.{may_come};
 use crate::adding::add;
 use crate::adopting::check;
 use crate::counters::{NextNumbers, meta_rows, next_of};
+use crate::counting::{counted, details, mdns};
 use crate::creating::make;
 use crate::documents::{evidence_in, shown_document};
 use crate::due::least_due;
@@ -32,6 +35,7 @@ use crate::numbers::{fits, fits_mdn, fits_progress};
 use crate::outbox::rows_by_id;
 use crate::owed::MdnProgress;
 use crate::progress::{Progress, set};
+use crate::settled::{numbers_in, settled_rows};
 use crate::settling::{is_by_receipt, settle};
 use crate::submitting::add_document;
 use crate::{inbox, listing, outbox, owed};
@@ -39,6 +43,7 @@ use as2_exchange::{Attempt, END_OF_NUMBERS, Evidence, InEntry, MdnState, OutEntr
 use as2_mdn::{Detail, State};
 use as2_rows::{InRow, OutRow, Wait};
 use as2_text::{AsName, Moment};
+use as2_views::Counts;
 use sqlite::{Alter, Connection};
 use std::alloc::Global;
 use std::marker::Model;
@@ -325,5 +330,24 @@ impl<S: Alter> Store<S> {
     {
         meta_rows(&mut self.conn).map_err(fault_of)?;
         listing::entries(&mut self.conn, alloc)
+    }
+
+    /// The numbers of the documents that a receipt has settled, in order. Answers Memory, Disk or Refused.
+    pub fn settled(&mut self, alloc: Global) -> Result<Vec<u64>, StoreFault>
+        ensures numbers { Reads (λ s numbers. numbers.items ≡ settled_numbers s) (state S.Store self.old) (state S.Store self.new) result }
+        ensures fault { IfErr result (λ f. may_come f ≡ true) }
+    {
+        let rows = settled_rows(&mut self.conn).map_err(fault_of)?;
+        numbers_in(alloc, rows.as_slice()).map_err(fault_of)
+    }
+
+    /// How much is outstanding. Answers Memory, Disk or Refused.
+    pub fn counts(&mut self, alloc: Global) -> Result<Counts, StoreFault>
+        ensures counts { Reads (λ s counts. counts ≡ counts_of s) (state S.Store self.old) (state S.Store self.new) result }
+        ensures fault { IfErr result (λ f. may_come f ≡ true) }
+    {
+        let details = details(&mut self.conn, alloc)?;
+        let mdns = mdns(&mut self.conn, alloc)?;
+        Ok(counted(details.as_slice(), mdns.as_slice()))
     }
 }

@@ -21,19 +21,18 @@ pub fn add_in_lines(text: &mut Vec<u8>, rows: &[InRow]) -> Result<(), Memory>
     Ok(())
 }
 
-/// Whether the number is one of these, which rise.
+/// Whether the number is one of these, where they rise.
 fn is_one_of(numbers: &[u64], number: u64) -> bool
-    requires { Rise numbers.now }
-    ensures { result ≡ is_one_of numbers.now number }
+    ensures { Rise numbers.now → result ≡ is_one_of numbers.now number }
 {
     numbers.binary_search(&number).is_ok()
 }
 
 /// Appends the lines of documents that are sent, in their order. `settled` has the numbers of those that a receipt has
-/// settled, from the least to the greatest. Memory where it runs out; a part may be appended then.
+/// settled, from the least to the greatest; in another order some of them may not be marked. Memory where it runs out; a part may
+/// be appended then.
 pub fn add_out_lines(text: &mut Vec<u8>, rows: &[OutRow], settled: &[u64]) -> Result<(), Memory>
-    requires settled { Rise settled.now }
-    ensures { OnOk result (text.new.items ≡ text.old.items ++ flat_map (marked_line settled.now) rows.now) }
+    ensures { Rise settled.now → OnOk result (text.new.items ≡ text.old.items ++ flat_map (marked_line settled.now) rows.now) }
 {
     for row in rows {
         add_out_line(text, row, is_one_of(settled, row.number))?;

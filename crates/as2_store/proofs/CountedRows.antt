@@ -1,0 +1,36 @@
+-- What the queries of one column answer, and what is counted of it.
+use Rattle.std.proofs.Common.{◌≡◌, ◌∙◌, List, [], ◌∷◌, map, true, refl, ap, codes}
+use Rattle.std.specs.List.{filter}
+use Rattle.sqlite.specs.Order.{Row}
+use Rattle.sqlite.specs.State.{State as Connected, Shown}
+use Rattle.sql_tables.proofs.Inside.{shown_open}
+use Rattle.as2_exchange.specs.State.{State}
+use Rattle.as2_exchange.specs.declared.inbox.InEntry.{InEntry}
+use Rattle.as2_exchange.specs.declared.outbox.OutEntry.{OutEntry}
+use Rattle.as2_rows.specs.Rows.{in_row, out_row}
+use Rattle.as2_store.specs.Counting.{detail_row, details_of, mdn_row, mdns_of}
+use Rattle.as2_store.specs.Stands.{Rests}
+use Rattle.as2_store.specs.Tables.{inbox_tree, outbox_tree}
+use Rattle.as2_store.proofs.NumberedRows.{entries_rise}
+use Rattle.as2_store.proofs.QueriedRows.{reads_rows}
+use Rattle.as2_store.proofs.Statements.{detail_text, mdn_text}
+use Rattle.as2_store.proofs.Texts.{detail_column_terms, detail_is, detail_plain, detail_unlisted, mdn_column_terms, mdn_is, mdn_plain, mdn_unlisted}
+
+-- all rows, each showing one column
+each_shown : {X Y : Type 0} (column : X → Y) (row : Y → Row) (xs : List X) → map (λ x. row (column x)) (filter (λ _. true) xs) ≡ map row (map column xs)
+each_shown column row [] = refl
+each_shown column row (x ∷ xs) = ap (λ l. row (column x) ∷ l) (each_shown column row xs)
+
+pub finds_details : (old new : Connected) (rows : List Row) → Shown detail_text [] old new rows → (s : State) → Rests old s → rows ≡ map detail_row (details_of s)
+finds_details old new rows h s r =
+    let it = r.stands (shown_open detail_text [] old new rows h) in
+    reads_rows detail_text detail_plain detail_unlisted outbox_tree [] detail_column_terms (codes "detail" ∷ []) detail_is [] out_row (λ (d : OutEntry). detail_row d.detail) (λ _. refl) (λ _. true) (λ _. refl) old new rows h it.schema s.outbox it.entries.outbox
+    (entries_rise out_row (λ (d : OutEntry). d.number) (λ _. refl) s.next_out s.outbox it.documents.1)
+    ∙ each_shown (λ (d : OutEntry). d.detail) detail_row s.outbox
+
+pub finds_mdns : (old new : Connected) (rows : List Row) → Shown mdn_text [] old new rows → (s : State) → Rests old s → rows ≡ map mdn_row (mdns_of s)
+finds_mdns old new rows h s r =
+    let it = r.stands (shown_open mdn_text [] old new rows h) in
+    reads_rows mdn_text mdn_plain mdn_unlisted inbox_tree [] mdn_column_terms (codes "mdn" ∷ []) mdn_is [] in_row (λ (e : InEntry). mdn_row e.mdn) (λ _. refl) (λ _. true) (λ _. refl) old new rows h it.schema s.inbox it.entries.inbox
+    (entries_rise in_row (λ (e : InEntry). e.number) (λ _. refl) s.next_in s.inbox it.receipts.1)
+    ∙ each_shown (λ (e : InEntry). e.mdn) mdn_row s.inbox

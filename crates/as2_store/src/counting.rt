@@ -1,0 +1,154 @@
+//! How much is outstanding, counted over one column of each box.
+
+ghost use Rattle.std.specs.Prelude.{◌≡◌, false, ℕ, List, count_by, map, IfOk, IfErr, true};
+ghost use Rattle.sqlite.specs.Held.{state};
+ghost use Rattle.as2_exchange.specs.OwedReceipts.{is_pending};
+ghost use Rattle.as2_exchange.specs.State.{State};
+ghost use Rattle.as2_exchange.specs.Views.{same_state};
+ghost use Rattle.as2_mdn.specs.Details.{state_of};
+ghost use Rattle.as2_mdn.specs.declared.detail.Detail.{Detail as DetailOf};
+ghost use Rattle.as2_exchange.specs.declared.inbox.MdnState.{MdnState as MdnStateOf};
+ghost use Rattle.as2_store.specs.Calls.{Reads};
+ghost use Rattle.as2_store.specs.Counting.{detail_row, details_of, is_awaiting, is_unsent, mdn_row, mdns_of};
+ghost use Rattle.as2_store.specs.Stands.{may_come};
+ghost use Rattle.as2_views.specs.Counting.{counts_of};
+
+use crate::fault::fault_of;
+use crate::reading::query_all;
+use as2_exchange::{MdnState, StoreFault};
+use as2_mdn::{Detail, State as StateOf};
+use as2_rows::{detail_of_code, mdn_of_code};
+use as2_views::Counts;
+use sqlite::{Alter, Connection, Error, Row};
+use std::alloc::Global;
+
+/// The rows of the details of all documents, in order of number.
+fn detail_rows<S: Alter>(conn: &mut Connection<S>) -> Result<Vec<Row>, Error>
+    requires autocommit { conn.old.in_transaction ≡ false }
+    ensures autocommit { conn.new.in_transaction ≡ false }
+    ensures rows { Reads (λ s rows. rows.items ≡ map detail_row (details_of s)) (state S.Store conn.old) (state S.Store conn.new) result }
+{
+    query_all(conn, "SELECT detail FROM outbox ORDER BY number", &[])
+}
+
+/// The rows of how the receipts for all received documents stand, in order of number.
+fn mdn_rows<S: Alter>(conn: &mut Connection<S>) -> Result<Vec<Row>, Error>
+    requires autocommit { conn.old.in_transaction ≡ false }
+    ensures autocommit { conn.new.in_transaction ≡ false }
+    ensures rows { Reads (λ s rows. rows.items ≡ map mdn_row (mdns_of s)) (state S.Store conn.old) (state S.Store conn.new) result }
+{
+    query_all(conn, "SELECT mdn FROM inbox ORDER BY number", &[])
+}
+
+/// The detail that a row shows.
+fn detail_of(row: &Row) -> Result<Detail, StoreFault>
+    ensures shown { IfOk result (λ detail. (d : DetailOf) → row.now ≡ detail_row d → detail ≡ d) }
+    ensures fault { IfErr result (λ f. may_come f ≡ true) }
+{
+    let code: i64 = row.get(0).map_err(fault_of)?;
+    detail_of_code(code).ok_or(StoreFault::Refused)
+}
+
+/// How the receipt stands that a row shows.
+fn mdn_of(row: &Row) -> Result<MdnState, StoreFault>
+    ensures shown { IfOk result (λ mdn. (m : MdnStateOf) → row.now ≡ mdn_row m → mdn ≡ m) }
+    ensures fault { IfErr result (λ f. may_come f ≡ true) }
+{
+    let code: i64 = row.get(0).map_err(fault_of)?;
+    mdn_of_code(code).ok_or(StoreFault::Refused)
+}
+
+/// The details that the rows show.
+fn details_in(alloc: Global, rows: &[Row]) -> Result<Vec<Detail>, StoreFault>
+    ensures shown { IfOk result (λ details. (ds : List DetailOf) → rows.now ≡ map detail_row ds → details.items ≡ ds) }
+    ensures fault { IfErr result (λ f. may_come f ≡ true) }
+{
+    let mut details = Vec::new(alloc);
+    'rows: for row in rows {
+        let detail = detail_of(row)?;
+        match details.push(detail) {
+            Ok(()) => (),
+            Err(_) => return Err(StoreFault::Memory),
+        }
+    }
+    Ok(details)
+}
+
+/// How the receipts stand that the rows show.
+fn mdns_in(alloc: Global, rows: &[Row]) -> Result<Vec<MdnState>, StoreFault>
+    ensures shown { IfOk result (λ mdns. (ms : List MdnStateOf) → rows.now ≡ map mdn_row ms → mdns.items ≡ ms) }
+    ensures fault { IfErr result (λ f. may_come f ≡ true) }
+{
+    let mut mdns = Vec::new(alloc);
+    'rows: for row in rows {
+        let mdn = mdn_of(row)?;
+        match mdns.push(mdn) {
+            Ok(()) => (),
+            Err(_) => return Err(StoreFault::Memory),
+        }
+    }
+    Ok(mdns)
+}
+
+/// The details of all documents, in order of number.
+pub fn details<S: Alter>(conn: &mut Connection<S>, alloc: Global) -> Result<Vec<Detail>, StoreFault>
+    requires autocommit { conn.old.in_transaction ≡ false }
+    ensures autocommit { conn.new.in_transaction ≡ false }
+    ensures details { Reads (λ s details. details.items ≡ details_of s) (state S.Store conn.old) (state S.Store conn.new) result }
+    ensures fault { IfErr result (λ f. may_come f ≡ true) }
+{
+    let rows = detail_rows(conn).map_err(fault_of)?;
+    details_in(alloc, rows.as_slice())
+}
+
+/// How the receipts for all received documents stand, in order of number.
+pub fn mdns<S: Alter>(conn: &mut Connection<S>, alloc: Global) -> Result<Vec<MdnState>, StoreFault>
+    requires autocommit { conn.old.in_transaction ≡ false }
+    ensures autocommit { conn.new.in_transaction ≡ false }
+    ensures mdns { Reads (λ s mdns. mdns.items ≡ mdns_of s) (state S.Store conn.old) (state S.Store conn.new) result }
+    ensures fault { IfErr result (λ f. may_come f ≡ true) }
+{
+    let rows = mdn_rows(conn).map_err(fault_of)?;
+    mdns_in(alloc, rows.as_slice())
+}
+
+/// How many of the documents have not been tried.
+fn unsent(details: &[Detail]) -> u64
+    ensures { result ≡ count_by is_unsent details.now }
+{
+    details.iter().filter(|it| **it == Detail::New).count() as u64
+}
+
+/// For how many of the documents a receipt is awaited.
+fn awaiting(details: &[Detail]) -> u64
+    ensures { result ≡ count_by is_awaiting details.now }
+{
+    details.iter().filter(|it| **it == Detail::Awaiting).count() as u64
+}
+
+/// How many of the documents are in this state.
+fn in_state(details: &[Detail], wanted: StateOf) -> u64
+    ensures { result ≡ count_by (λ d. same_state wanted (state_of d)) details.now }
+{
+    details.iter().filter(|it| it.state() == wanted).count() as u64
+}
+
+/// How many of the receipts are to be sent.
+fn pending(mdns: &[MdnState]) -> u64
+    ensures { result ≡ count_by is_pending mdns.now }
+{
+    mdns.iter().filter(|it| **it == MdnState::Pending).count() as u64
+}
+
+/// The counts of documents of these details, and of receipts that stand so.
+pub fn counted(details: &[Detail], mdns: &[MdnState]) -> Counts
+    ensures { (s : State) → details.now ≡ details_of s → mdns.now ≡ mdns_of s → result ≡ counts_of s }
+{
+    Counts {
+        not_sent: unsent(details),
+        in_retry: in_state(details, StateOf::R),
+        awaited: awaiting(details),
+        in_error: in_state(details, StateOf::E),
+        to_send: pending(mdns),
+    }
+}
