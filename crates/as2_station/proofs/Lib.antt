@@ -11,3 +11,4 @@ mod Begun
 mod OwedTries
 mod Ticked
 mod NextDue
+mod Viewed

@@ -1,5 +1,5 @@
 -- Time passes, as a step of the machine.
-use Rattle.std.proofs.Common.{◌≡◌, ◌∙◌, ◌⊎◌, inl, inr, ℕ, Some, Ok, Err, IsTrue, true, sym, ap}
+use Rattle.std.proofs.Common.{◌≡◌, ◌∙◌, inr, ℕ, Some, Ok, Err, true, sym, ap}
 use Rattle.sqlite.specs.State.{State as Connected, HasCleanDisk, Survives}
 use Rattle.sqlite.proofs.StateLemmas.{survives_weaker}
 use Rattle.as2_exchange.specs.Documents.{tick}

@@ -10,7 +10,10 @@ mod receiving;
 mod recording;
 mod station;
 mod submitting;
+mod texts;
 mod ticking;
 mod trying;
+mod viewing;
 
+pub use as2_views::Filter;
 pub use station::Station;

@@ -1,9 +1,10 @@
 //! The station, event by event.
-ghost use Rattle.std.specs.Prelude.{◌≡◌, IfOk, IfErr, OnErr, true};
+ghost use Rattle.std.specs.Prelude.{◌≡◌, IfOk, IfErr, OnErr, option_map, string_bytes, true};
 ghost use Rattle.sqlite.specs.Held.{state};
 ghost use Rattle.as2_exchange.specs.declared.event.Event.TheVariants.{Post};
 ghost use Rattle.as2_exchange.specs.declared.answer.Answer.TheVariants.{Http};
-ghost use Rattle.as2_exchange.specs.Views.{next};
+ghost use Rattle.as2_exchange.specs.Views.{fetch, next, outstanding, show};
+ghost use Rattle.as2_views.specs.Filtering.{listing};
 ghost use Rattle.as2_store.specs.Calls.{Reads};
 ghost use Rattle.as2_store.specs.Stands.{may_come};
 ghost use Rattle.as2_posts.specs.Openings.{reading_by};
@@ -17,12 +18,14 @@ use crate::recording::record;
 use crate::submitting::submit;
 use crate::ticking::tick;
 use crate::trying::begin;
+use crate::viewing;
 use as2_agreement::Agreements;
 use as2_exchange::{Answer, Event, HttpAnswer, Next, StoreFault};
 use as2_mic::Pieces;
 use as2_posts::{Opened, document, open};
 use as2_store::Store;
 use as2_text::{Head, Memory, Moment};
+use as2_views::Filter;
 use sqlite::Alter;
 use std::alloc::Global;
 use std::marker::Model;
@@ -167,6 +170,43 @@ impl<S: Alter> Station<S> {
             Some(number) => Ok(Some(Next::Document(number))),
             None => Ok(None),
         }
+    }
+
+    /// The listing that is asked for, a line each, in order of number. Answers Memory, Disk or Refused.
+    pub fn listing(&mut self, alloc: Global, filter: Filter) -> Result<String, StoreFault>
+        ensures listing { Reads (λ s text. string_bytes text ≡ listing filter s) (state S.Store self.old) (state S.Store self.new) result }
+        ensures fault { IfErr result (λ f. may_come f ≡ true) }
+    {
+        match filter {
+            Filter::Outbox(wanted) => viewing::sent_listing(&mut self.store, alloc, wanted),
+            Filter::Inbox => viewing::received_listing(&mut self.store, alloc),
+        }
+    }
+
+    /// How much is outstanding, a line for each of five counts, and the lines of the documents that are under way and due at this
+    /// moment. Answers Memory, Disk or Refused.
+    pub fn outstanding(&mut self, alloc: Global, moment: Moment) -> Result<String, StoreFault>
+        ensures outstanding { Reads (λ s text. string_bytes text ≡ outstanding s moment) (state S.Store self.old) (state S.Store self.new) result }
+        ensures fault { IfErr result (λ f. may_come f ≡ true) }
+    {
+        viewing::outstanding(&mut self.store, alloc, moment)
+    }
+
+    /// All that is known of the document of this number, a line each; None where there is no such document. Answers Memory, Disk
+    /// or Refused.
+    pub fn show(&mut self, alloc: Global, number: u64) -> Result<Option<String>, StoreFault>
+        ensures shown { Reads (λ s text. option_map string_bytes text ≡ show s number) (state S.Store self.old) (state S.Store self.new) result }
+        ensures fault { IfErr result (λ f. may_come f ≡ true) }
+    {
+        viewing::show(&mut self.store, alloc, number)
+    }
+
+    /// The content of the received document of this number; None where there is no such entry. Answers Memory, Disk or Refused.
+    pub fn fetch(&mut self, alloc: Global, number: u64) -> Result<Option<Vec<u8>>, StoreFault>
+        ensures fetched { Reads (λ s content. option_map (λ v. v.items) content ≡ fetch s number) (state S.Store self.old) (state S.Store self.new) result }
+        ensures fault { IfErr result (λ f. may_come f ≡ true) }
+    {
+        viewing::fetch(&mut self.store, alloc, number)
     }
 
     /// Takes the events one after the other: each is answered, or is a fault of the store and changes nothing. Memory means

@@ -1,5 +1,5 @@
 -- What the query of the settled documents answers, and the numbers that its rows show.
-use Rattle.std.proofs.Common.{◌≡◌, ◌∙◌, ℕ, List, [], ◌∷◌, map, Option, Some, None, Bool, true, false, cond, refl, ap, codes, option_map}
+use Rattle.std.proofs.Common.{◌≡◌, ◌∙◌, List, [], ◌∷◌, map, Option, Some, None, true, cond, refl, ap, codes, option_map}
 use Rattle.std.specs.List.{filter, cons_option}
 use Rattle.sqlite.specs.Order.{Row}
 use Rattle.sqlite.specs.State.{State as Connected, Shown}

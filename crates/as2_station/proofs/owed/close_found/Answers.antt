@@ -1,4 +1,4 @@
-use Rattle.std.proofs.Common.{◌∙◌, Some, inr, sym, ap}
+use Rattle.std.proofs.Common.{Some, inr, sym, ap}
 use Rattle.as2_exchange.specs.Receipts.{is_delivery}
 use Rattle.as2_station.specs.OwedTries.{end_answer}
 use Rattle.as2_station.proofs.ActingIn.{leaves_in}

@@ -1,4 +1,4 @@
-use Rattle.std.proofs.Common.{◌≡◌, ◌∙◌, ◌<◌, ◌++◌, [], ◌∷◌, get_or, length, take, take_all, map, sym, ap, ap₂, arith, rules}
+use Rattle.std.proofs.Common.{◌≡◌, ◌∙◌, ◌<◌, ◌++◌, [], ◌∷◌, get_or, length, take_all, sym, ap, ap₂, arith, rules}
 use Rattle.std.proofs.lemmas.List.{get_or-map, length-map, take_more}
 use Rattle.as2_exchange.specs.declared.inbox.MdnState.TheVariants.{Unasked}
 use Rattle.as2_store.specs.Counting.{mdn_row}

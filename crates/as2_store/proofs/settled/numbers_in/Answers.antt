@@ -1,4 +1,4 @@
-use Rattle.std.proofs.Common.{◌≡◌, ◌∙◌, ◌<◌, ◌++◌, [], ◌∷◌, get_or, length, take, take_all, map, sym, ap, ap₂, arith, rules}
+use Rattle.std.proofs.Common.{◌≡◌, ◌∙◌, ◌<◌, ◌++◌, [], ◌∷◌, length, take_all, sym, ap, ap₂, arith, rules}
 use Rattle.std.proofs.lemmas.List.{length-map, take_more}
 use Rattle.sqlite.specs.Order.{column}
 use Rattle.as2_store.specs.Due.{number_row}
