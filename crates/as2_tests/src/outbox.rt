@@ -11,6 +11,7 @@ pub mod owed;
 mod refusals;
 mod replies;
 mod tries;
+mod views;
 
 use crate::agreements::AGREEMENTS;
 use crate::documents::{RECEIPT, RECEIPT_TYPE};
