@@ -4,6 +4,7 @@
 
 mod counts;
 mod document;
+mod filter;
 mod laws;
 mod lists;
 mod pieces;
@@ -11,6 +12,7 @@ mod rows;
 
 pub use counts::{Counts, add_counts};
 pub use document::add_document;
+pub use filter::Filter;
 pub use laws::{all_are_listed, lists_of_rows, numbers_rise, rows_give_lines};
 pub use lists::{add_in_lines, add_out_lines, keep_outstanding};
 pub use rows::{add_in_line, add_out_line};
