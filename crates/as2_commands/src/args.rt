@@ -77,12 +77,12 @@ fn default_option<'a>(
     name: &'a str,
     value: &'a str,
     help: &'a str,
-    default: &'a str,
+    otherwise: &'a str,
 ) -> Arg<'a>
-    ensures rule { rule_of result ≡ default default.entry.now (option name.entry.now) }
+    ensures rule { rule_of result ≡ default otherwise.entry.now (option name.entry.now) }
     ensures local { result.global ≡ false }
 {
-    option(alloc, name, value, help).default_value(default)
+    option(alloc, name, value, help).default_value(otherwise)
 }
 
 /// A value that stands by itself, and must be there.

@@ -113,7 +113,7 @@ Prints the number, the state and the detail, how many tries were begun, the mome
 seconds since 1970, from whom and to whom it goes, its identifier, the length of its content and of its
 receipt in bytes, and the moment of the receipt; '-' stands for what there isn't.
 
-A number that no document has is 'refused: UnknownNumber' on standard error, exit status 1, and a text
+A number that no document has is 'refused: NoSuchNumber' on standard error, exit status 1, and a text
 that can't be written 'refused: CannotWrite'. A fault of the store is 'store: NAME', exit status 3.
 Nothing is changed.
 
@@ -123,7 +123,7 @@ Example:
 pub(crate) const FETCH: &str = "\
 Writes the bytes of the content as they were received, and nothing else.
 
-A number that no document has is 'refused: UnknownNumber' on standard error, exit status 1, and a
+A number that no document has is 'refused: NoSuchNumber' on standard error, exit status 1, and a
 content that can't be written 'refused: CannotWrite'. A fault of the store is 'store: NAME', exit
 status 3. Nothing is changed.
 
