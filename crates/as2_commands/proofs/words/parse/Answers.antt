@@ -21,7 +21,7 @@ fails kinds (Err e) h = h
 -- what is found is what the words say
 told : (a : App) (words : List Text) (r : Result ArgMatches Error) → is_simple_and_free a ≡ true
     → FailsBy (fault_of a words) r → IfOk r (HasMatchesOf a words) → IfOk r (λ m. (fault_of a words ≡ [])
-        × (rows_of (found_of m) ≡ matches_of a words) × (subcommand_rows_of m ≡ subcommand_of a words))
+    × (rows_of (found_of m) ≡ matches_of a words) × (subcommand_rows_of m ≡ subcommand_of a words))
 told a words (Ok m) known none has = let is = has (and_parts _ _ known).0 in (none, is.0, is.1)
 told a words (Err e) known none has = tt
 
@@ -31,7 +31,7 @@ returns-clause-found c =
     let words = texts c.args.words.now in
     let is_simple = ap is_simple_and_free c.requires ∙ simple in
     subst (λ (a : App). IfOk parse.result (λ m. (fault_of a words ≡ [])
-        × (rows_of (found_of m) ≡ matches_of a words) × (subcommand_rows_of m ≡ subcommand_of a words))) c.requires
+    × (rows_of (found_of m) ≡ matches_of a words) × (subcommand_rows_of m ≡ subcommand_of a words))) c.requires
     (told (app_of c.args.command.now) words parse.result is_simple (parse.ensures.kinds is_simple) (IfOk-weaker parse.result _ _ (λ m ok. ok.2) parse.ensures.ok))
 
 pub returns-clause-fault : goal.returns-clause-fault
