@@ -108,7 +108,18 @@ fn is_task(task: &Task, first: u64, moment: u64, asked: Asked) -> bool {
     }
 }
 
-/// Reads each at the clock 1000.
+/// Whether the words are read so, at the clock 1000.
+fn is_read<'a>(alloc: Global, words: &'a [&'a str], first: u64, moment: u64, asked: Asked) -> bool {
+    match options_in(alloc, words, Some(1000)) {
+        Ok(options) => {
+            options.agreements == "a.toml"
+                && options.store == ":memory:"
+                && is_task(&options.task, first, moment, asked)
+        }
+        Err(_) => false,
+    }
+}
+
 fn reads(
     rt: &impl Abort,
     alloc: Global,
@@ -118,15 +129,7 @@ fn reads(
 ) -> Result<(), AllocError> {
     for (words, asked) in lines {
         let words = joined(alloc, BASE, *words)?;
-        let read = match options_in(alloc, words.as_slice(), Some(1000)) {
-            Ok(options) => {
-                options.agreements == "a.toml"
-                    && options.store == ":memory:"
-                    && is_task(&options.task, first, moment, *asked)
-            }
-            Err(_) => false,
-        };
-        assert!(rt; read);
+        assert!(rt; is_read(alloc, words.as_slice(), first, moment, *asked));
     }
     Ok(())
 }
