@@ -109,15 +109,17 @@ fn is_task(task: &Task, first: u64, moment: u64, asked: Asked) -> bool {
 }
 
 /// Whether the words are read so, at the clock 1000.
-fn is_read<'a>(alloc: Global, words: &'a [&'a str], first: u64, moment: u64, asked: Asked) -> bool {
-    match options_in(alloc, words, Some(1000)) {
-        Ok(options) => {
-            options.agreements == "a.toml"
-                && options.store == ":memory:"
-                && is_task(&options.task, first, moment, asked)
-        }
+fn is_read(alloc: Global, words: &[&str], first: u64, moment: u64, asked: Asked) -> bool {
+    match &options_in(alloc, words, Some(1000)) {
+        Ok(options) => is_asked(options, first, moment, asked),
         Err(_) => false,
     }
+}
+
+fn is_asked(options: &Options, first: u64, moment: u64, asked: Asked) -> bool {
+    options.agreements == "a.toml"
+        && options.store == ":memory:"
+        && is_task(&options.task, first, moment, asked)
 }
 
 fn reads(
