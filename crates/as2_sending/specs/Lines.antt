@@ -2,7 +2,10 @@
 use Rattle.std.specs.Prelude.{ℕ, [], ◌∷◌, ◌++◌, codes, decimal, Option, Some, None}
 use Rattle.as2_mdn.specs.Details.{state_of, name_of}
 use Rattle.as2_exchange.specs.Agreement.{Text}
-use Rattle.as2_exchange.specs.Events.{Event, Outcome, OutcomeMdn, Answer, Settled, Delivered, TryFailed, AlreadySettled}
+use Rattle.as2_exchange.specs.declared.event.Event.{Event}
+use Rattle.as2_exchange.specs.declared.event.Event.TheVariants.{Outcome, OutcomeMdn}
+use Rattle.as2_exchange.specs.declared.answer.Answer.{Answer}
+use Rattle.as2_exchange.specs.declared.answer.Answer.TheVariants.{Settled, Delivered, TryFailed, AlreadySettled}
 use Rattle.as2_exchange.specs.Run.{Trace, Answered, Failed}
 use Rattle.as2_exchange.specs.Views.{state_text}
 use Rattle.as2_exchange.specs.declared.next.Next.{Next}

@@ -3,12 +3,19 @@ use Rattle.std.specs.Prelude.{◌≡◌, ℕ, true, List, [], ◌∷◌, ◌++�
 use Rattle.std.specs.Io.KnownBytes.{Appends}
 use Rattle.sqlite.specs.State.{State as Connected}
 use Rattle.as2_exchange.specs.Agreement.{Agreements, Text}
-use Rattle.as2_exchange.specs.Events.{Event, Begin, Outcome, BeginMdn, OutcomeMdn, TryAnswer, Job as Handed, Refused, Refusal}
-use Rattle.as2_exchange.specs.Readings.{Job}
-use Rattle.as2_exchange.specs.Run.{Trace, Answered, Failed, Run, StoreFault}
+use Rattle.as2_exchange.specs.Run.{Trace, Answered, Failed, Run}
 use Rattle.as2_exchange.specs.State.{State}
 use Rattle.as2_exchange.specs.Step.{step}
 use Rattle.as2_exchange.specs.Views.{next}
+use Rattle.as2_exchange.specs.declared.answer.Answer.{Answer}
+use Rattle.as2_exchange.specs.declared.answer.Answer.TheVariants.{Job as Handed, Settled, Delivered, TryFailed, AlreadySettled, Refused}
+use Rattle.as2_exchange.specs.declared.answer.Job.{Job}
+use Rattle.as2_exchange.specs.declared.answer.Refusal.{Refusal}
+use Rattle.as2_exchange.specs.declared.event.Event.{Event}
+use Rattle.as2_exchange.specs.declared.event.Event.TheVariants.{Begin, Outcome, BeginMdn, OutcomeMdn}
+use Rattle.as2_exchange.specs.declared.event.TryAnswer.{TryAnswer}
+use Rattle.as2_exchange.specs.declared.fault.StoreFault.{StoreFault}
+use Rattle.as2_exchange.specs.declared.fault.StoreFault.TheVariants as fault
 use Rattle.as2_exchange.specs.declared.next.Next.{Next}
 use Rattle.as2_exchange.specs.declared.next.Next.TheVariants.{Receipt, Document}
 use Rattle.as2_store.specs.Stands.{Rests, may_come}
@@ -16,6 +23,7 @@ use Rattle.as2_sending.specs.Lines.{answer_of, line, lines}
 use Rattle.as2_sending.specs.declared.sent.Sent.{Sent}
 use Rattle.as2_sending.specs.declared.sent.Sent.TheVariants as sent
 use Rattle.as2_sending.specs.declared.telling.Became.{Became}
+use Rattle.as2_sending.specs.declared.telling.Became.TheVariants as became
 
 -- ---- a turn
 
@@ -61,17 +69,17 @@ events m (x ∷ more) = (begin_of x.what m, Answered (Handed x.job)) ∷ (outcom
 
 -- in the state s these last events came, of which the last one was refused for this reason; t is left
 pub data IsRefused (A : Agreements) (m : ℕ) (s : State) (last : Trace) (t : State) (reason : Refusal) : Type 0 where
-  at_begin : (what : Next) (is_next : next s m ≡ Some what) (refused : step A s (begin_of what m) ≡ Some (Refused reason, t))
+  at_begin_refused : (what : Next) (is_next : next s m ≡ Some what) (refused : step A s (begin_of what m) ≡ Some (Refused reason, t))
       (are : last ≡ (begin_of what m, Answered (Refused reason)) ∷ []) → IsRefused A m s last t reason
-  at_outcome : (what : Next) (job : Job) (got : TryAnswer) (mid : State) (begins : Begins A m s what job mid) (refused : step A mid (outcome_of what got m) ≡ Some (Refused reason, t))
+  at_outcome_refused : (what : Next) (job : Job) (got : TryAnswer) (mid : State) (begins : Begins A m s what job mid) (refused : step A mid (outcome_of what got m) ≡ Some (Refused reason, t))
       (are : last ≡ (begin_of what m, Answered (Handed job)) ∷ (outcome_of what got m, Answered (Refused reason)) ∷ []) → IsRefused A m s last t reason
 
 -- .. of which the last one got this fault of the store; or what is next couldn't be told, and no more events came
-pub data HasFailed (A : Agreements) (m : ℕ) (s : State) (last : Trace) (t : State) (fault : StoreFault) : Type 0 where
-  at_next : (same : t ≡ s) (none : last ≡ []) → HasFailed A m s last t fault
-  at_begin : (what : Next) (is_next : next s m ≡ Some what) (same : t ≡ s) (are : last ≡ (begin_of what m, Failed fault) ∷ []) → HasFailed A m s last t fault
-  at_outcome : (what : Next) (job : Job) (got : TryAnswer) (begins : Begins A m s what job t)
-      (are : last ≡ (begin_of what m, Answered (Handed job)) ∷ (outcome_of what got m, Failed fault) ∷ []) → HasFailed A m s last t fault
+pub data HasFailed (A : Agreements) (m : ℕ) (s : State) (last : Trace) (t : State) (why : StoreFault) : Type 0 where
+  at_next_failed : (same : t ≡ s) (none : last ≡ []) → HasFailed A m s last t why
+  at_begin_failed : (what : Next) (is_next : next s m ≡ Some what) (same : t ≡ s) (are : last ≡ (begin_of what m, Failed why) ∷ []) → HasFailed A m s last t why
+  at_outcome_failed : (what : Next) (job : Job) (got : TryAnswer) (begins : Begins A m s what job t)
+      (are : last ≡ (begin_of what m, Answered (Handed job)) ∷ (outcome_of what got m, Failed why) ∷ []) → HasFailed A m s last t why
 
 -- a whole turn, of whose line a part may be missing
 pub record IsUntold (A : Agreements) (m : ℕ) (s : State) (last : Trace) (t : State) (text : Text) : Type 0 where
@@ -85,7 +93,7 @@ pub record IsUntold (A : Agreements) (m : ℕ) (s : State) (last : Trace) (t : S
 abbrev pub Ends : Agreements → ℕ → State → Trace → State → Text → Sent → Type 0
 Ends A m s last t text sent.Done = (next s m ≡ None) × (t ≡ s) × (last ≡ []) × (text ≡ [])
 Ends A m s last t text (sent.Refused reason) = IsRefused A m s last t reason × (text ≡ [])
-Ends A m s last t text (sent.Failed fault) = HasFailed A m s last t fault × (may_come fault ≡ true) × (text ≡ [])
+Ends A m s last t text (sent.Failed why) = HasFailed A m s last t why × (may_come why ≡ true) × (text ≡ [])
 Ends A m s last t text sent.Unwritten = IsUntold A m s last t text
 
 -- ---- all of it
@@ -103,6 +111,21 @@ pub record Sends (A : Agreements) (m : ℕ) (s t : State) (before after : Option
   pub written : Appends before after (lines (events m done) ++ rest)
 
 -- ---- one turn
+
+-- the request that the answer to a begin hands out, or how sending ends with it
+abbrev pub handed : Answer → Result Job Sent
+handed (Handed job) = Ok job
+handed (Refused reason) = Err (sent.Refused reason)
+handed other = Err (sent.Failed fault.Refused)
+
+-- what became of a try by the answer to its outcome, or how sending ends with it
+abbrev pub came : Answer → Result Became Sent
+came (Settled detail) = Ok (became.Settled detail)
+came Delivered = Ok became.Delivered
+came TryFailed = Ok became.TryFailed
+came AlreadySettled = Ok became.AlreadySettled
+came (Refused reason) = Err (sent.Refused reason)
+came other = Err (sent.Failed fault.Refused)
 
 -- what is next begins, and the tables stand for the state that it leaves; or sending ends with it
 abbrev pub BeginsTo : Agreements → ℕ → State → Next → Connected → Result Job Sent → Type 0

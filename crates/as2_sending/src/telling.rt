@@ -1,5 +1,5 @@
 //! The line of a try.
-ghost use Rattle.std.specs.Prelude.{◌≡◌, ◌≤◌, ◌++◌, length};
+ghost use Rattle.std.specs.Prelude.{◌≡◌, ◌+◌, ◌≤◌, ◌++◌, length};
 ghost use Rattle.as2_exchange.specs.Views.{state_text};
 ghost use Rattle.as2_mdn.specs.Details.{name_of};
 ghost use Rattle.as2_sending.specs.Lines.{line, subject, words};

@@ -2,11 +2,11 @@
 ghost use Rattle.std.specs.Prelude.{◌≡◌, Some};
 ghost use Rattle.sqlite.specs.Held.{state};
 ghost use Rattle.sqlite.specs.State.{HasCleanDisk};
-ghost use Rattle.as2_exchange.specs.Readings.{Job};
+ghost use Rattle.as2_exchange.specs.declared.answer.Job.{Job as HandedJob};
 ghost use Rattle.as2_exchange.specs.State.{State};
 ghost use Rattle.as2_exchange.specs.Views.{next};
 ghost use Rattle.as2_store.specs.Stands.{Rests};
-ghost use Rattle.as2_sending.specs.Turns.{Begins, BeginsTo, ClosesTo, TurnsTo, begin_of, outcome_of};
+ghost use Rattle.as2_sending.specs.Turns.{Begins, BeginsTo, ClosesTo, TurnsTo, begin_of, came, handed, outcome_of};
 
 use crate::links::Links;
 use crate::sent::Sent;
@@ -47,6 +47,33 @@ fn outcome_event(what: Next, answer: TryAnswer, moment: Moment) -> Event
     }
 }
 
+/// The request of a try, as its begin is answered; or how sending ends.
+fn handed(answer: Answer) -> Result<Job, Sent>
+    ensures { result ≡ handed answer }
+{
+    match answer {
+        Answer::Job(job) => Ok(job),
+        Answer::Refused(reason) => Err(Sent::Refused(reason)),
+        // No begin is answered otherwise.
+        _ => Err(Sent::Failed(StoreFault::Refused)),
+    }
+}
+
+/// What became of a try, as its outcome is answered; or how sending ends.
+fn came(answer: Answer) -> Result<Became, Sent>
+    ensures { result ≡ came answer }
+{
+    match answer {
+        Answer::Settled(detail) => Ok(Became::Settled(detail)),
+        Answer::Delivered => Ok(Became::Delivered),
+        Answer::TryFailed => Ok(Became::TryFailed),
+        Answer::AlreadySettled => Ok(Became::AlreadySettled),
+        Answer::Refused(reason) => Err(Sent::Refused(reason)),
+        // No outcome is answered otherwise.
+        _ => Err(Sent::Failed(StoreFault::Refused)),
+    }
+}
+
 /// Begins a try of what is next, and gives its request.
 fn begin<S: Alter>(
     alloc: Global,
@@ -60,10 +87,7 @@ fn begin<S: Alter>(
         → BeginsTo agreements.now moment s what (state S.Store station.new) result }
 {
     match station.step(alloc, agreements, begin_event(what, moment)) {
-        Ok(Answer::Job(job)) => Ok(job),
-        Ok(Answer::Refused(reason)) => Err(Sent::Refused(reason)),
-        // No try is answered otherwise as it begins.
-        Ok(_) => Err(Sent::Failed(StoreFault::Refused)),
+        Ok(answer) => handed(answer),
         Err(fault) => Err(Sent::Failed(fault)),
     }
 }
@@ -78,17 +102,11 @@ fn close<S: Alter>(
     got: TryAnswer,
 ) -> Result<Became, Sent>
     ensures clean { HasCleanDisk (state S.Store station.new) → HasCleanDisk (state S.Store station.old) }
-    ensures closed { HasCleanDisk (state S.Store station.new) → (s mid : State) (job : Job) → Begins agreements.now moment s what job mid → Rests (state S.Store station.old) mid
+    ensures closed { HasCleanDisk (state S.Store station.new) → (s mid : State) (job : HandedJob) → Begins agreements.now moment s what job mid → Rests (state S.Store station.old) mid
         → ClosesTo agreements.now moment s what got mid (state S.Store station.new) result }
 {
     match station.step(alloc, agreements, outcome_event(what, got, moment)) {
-        Ok(Answer::Settled(detail)) => Ok(Became::Settled(detail)),
-        Ok(Answer::Delivered) => Ok(Became::Delivered),
-        Ok(Answer::TryFailed) => Ok(Became::TryFailed),
-        Ok(Answer::AlreadySettled) => Ok(Became::AlreadySettled),
-        Ok(Answer::Refused(reason)) => Err(Sent::Refused(reason)),
-        // No outcome is answered otherwise.
-        Ok(_) => Err(Sent::Failed(StoreFault::Refused)),
+        Ok(answer) => came(answer),
         Err(fault) => Err(Sent::Failed(fault)),
     }
 }
