@@ -1,5 +1,5 @@
 -- What is written of a try: one line, once its outcome is taken.
-use Rattle.std.specs.Prelude.{ℕ, [], ◌∷◌, ◌++◌, codes, decimal, Option, Some, None}
+use Rattle.std.specs.Prelude.{[], ◌∷◌, ◌++◌, codes, decimal, Option, Some, None}
 use Rattle.as2_mdn.specs.Details.{state_of, name_of}
 use Rattle.as2_exchange.specs.Agreement.{Text}
 use Rattle.as2_exchange.specs.declared.event.Event.{Event}

@@ -1,4 +1,4 @@
-use Rattle.std.proofs.Common.{◌≡◌, ◌∙◌, List, ℕ, rules, sym, subst}
+use Rattle.std.proofs.Common.{◌≡◌, ◌∙◌, ℕ, Err, rules, sym, subst}
 use Rattle.std.specs.Io.KnownBytes.{Appends}
 use Rattle.sqlite.specs.Held.{state}
 use Rattle.as2_http.specs.Sending.{AppendsPart}
@@ -10,7 +10,11 @@ pub returns-in_err-became-clause-turned : goal.returns-in_err-became-clause-turn
 returns-in_err-became-clause-turned g c = λ clean s rests is.
     let begun = c.in_ok-job.ensures.begun (c.close.ensures.clean clean) s rests is in
     let closed = c.in_err-became.ensures.closed clean s begun.0 c.in_ok-job.job begun.1 begun.2 in
-    ?
+    let new = state g.S.Store c.close.new.station in
+    let now = g.W.Sink.written c.args.output.now in
+    let end : c.from_residual-in_err-became.result ≡ Err c.in_err-became.field-0.0 = search rules in
+    subst (TurnsTo {U = Unit {0}} c.args.agreements.now c.args.moment s new now now) (sym end)
+    (close_ends (Unit {0}) c.args.agreements.now c.args.moment s c.args.what c.exchange-got.result begun.0 new now c.in_err-became.field-0.0 closed)
 
 pub returns-in-Ok-clause-turned : goal.returns-in-Ok-clause-turned
 returns-in-Ok-clause-turned g c = λ clean s rests is.
