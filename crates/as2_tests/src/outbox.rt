@@ -10,6 +10,7 @@ mod exchanges;
 pub mod owed;
 mod refusals;
 mod replies;
+mod sending;
 mod tries;
 mod views;
 
