@@ -5,7 +5,7 @@ use crate::authority::host_and_port;
 use crate::limits::Limits;
 use std::io;
 use std::io::{ErrorKind, Read, Write};
-use std::net::{Net, OpenStream, TcpStream, ToSocketAddrs};
+use std::net::{Net, OpenStream, Shutdown, TcpStream, ToSocketAddrs};
 use std::time::{Clock, Duration, Instant};
 
 /// Since when a connection stands, by a clock, and how long its peer is waited for.
@@ -75,6 +75,25 @@ impl<'a, S: OpenStream + Drop, C: Clock> TimedStream<'a, S, C> {
             stream: self.stream.try_clone()?,
             timer: self.timer.again(),
         })
+    }
+
+    /// Closes the connection once the peer has ended it, a wait or the whole is over: until then what it still sends is read and
+    /// thrown away. Closed at once, with bytes unread, the connection would be reset, and the peer could lose the reply that was
+    /// written last (RFC 9112, section 9.6).
+    pub fn linger(mut self)
+    where
+        S: Read,
+    {
+        if self.stream.shutdown(Shutdown::Write).is_err() {
+            return;
+        }
+        let mut thrown_away = [0; 4_096];
+        for _ in 0..u64::MAX {
+            match self.read(&mut thrown_away) {
+                Ok(0) | Err(_) => return,
+                Ok(_) => {}
+            }
+        }
     }
 }
 

@@ -120,6 +120,30 @@ fn a_peer_that_reads_nothing_is_waited_for_once(rt: HostRuntime) -> Result<(), F
 }
 
 #[test]
+fn a_peer_that_still_sends_reads_the_reply(rt: HostRuntime) -> Result<(), Fail> {
+    let mut pair = connected(&rt, Limits::of_seconds(1))?;
+    pair.far.write_all(&[0; 65_536])?;
+    pair.near.write_all(b"no")?;
+    pair.far.shutdown(std::net::Shutdown::Write)?;
+    let Pair { near, mut far } = pair;
+    near.linger();
+    let mut reply = Vec::new(rt.alloc());
+    far.read_to_end(&mut reply)?;
+    assert!(rt; reply.as_slice() == b"no".as_slice());
+    Ok(())
+}
+
+#[test]
+fn a_silent_peer_is_not_waited_for_in_closing(rt: HostRuntime) -> Result<(), Fail> {
+    let Pair { near, mut far } = connected(&rt, Limits::of_seconds(1))?;
+    let start = Instant::now(&rt)?;
+    near.linger();
+    assert!(rt; is_after(&rt, start, 1_000)?);
+    assert!(rt; far.read(&mut [0; 8])? == 0);
+    Ok(())
+}
+
+#[test]
 fn nobody_listens(rt: HostRuntime) -> Result<(), Fail> {
     let listener = TcpListener::bind(&rt, "127.0.0.1:0")?;
     let authority = listener.local_addr()?.to_string(rt.alloc())?;
