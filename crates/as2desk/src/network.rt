@@ -1,5 +1,4 @@
 //! The network: connections over TCP that are served, and links to partners.
-ghost use Rattle.std.specs.Prelude.{◌×◌};
 ghost use Rattle.as2_http.specs.Devices.{Opens};
 ghost use Rattle.as2_http.specs.StreamReads.{RunsPosts};
 ghost use Rattle.as2_exchange.specs.State.{State};
@@ -72,14 +71,7 @@ fn serve_counted<S: Alter, A: Ledger, B: Ledger, C: Ledger, D: Ledger>(
 {
     let mut source: Counted<Stream, A, B> = Counted::new(reader, reads, failed_reads);
     let mut sink: Counted<Stream, C, D> = Counted::new(writer, writes, failed_writes);
-    let end = serve_stream(
-        alloc,
-        agreements,
-        moment,
-        station,
-        &mut source,
-        &mut sink,
-    );
+    let end = serve_stream(alloc, agreements, moment, station, &mut source, &mut sink);
     if end == Served::BadFraming {
         // the peer may still be sending, and is to read why it was refused
         sink.into_inner().linger();
