@@ -159,17 +159,22 @@ impl ReadFiles for FileSystem<'_> {
     ghost content = { λ _ _. untold };
 
     fn read_file(&self, alloc: Global, path: &str) -> Result<Vec<u8>, FileFault> {
+        let bytes = self.read_front(alloc, path, AGREEMENTS_LIMIT + 1)?;
+        if bytes.len() > AGREEMENTS_LIMIT {
+            return Err(FileFault::CannotRead);
+        }
+        Ok(bytes)
+    }
+
+    fn read_front(&self, alloc: Global, path: &str, most: usize) -> Result<Vec<u8>, FileFault> {
         let Ok(file) = fs::File::open(self.rt, path) else {
             return Err(FileFault::CannotRead);
         };
         let mut bytes = Vec::new(alloc);
-        match file
-            .take(AGREEMENTS_LIMIT as u64 + 1)
-            .read_to_end(&mut bytes)
-        {
-            Ok(n) if n <= AGREEMENTS_LIMIT => Ok(bytes),
+        match file.take(most as u64).read_to_end(&mut bytes) {
+            Ok(_) => Ok(bytes),
             Err(error) if error.kind() == ErrorKind::OutOfMemory => Err(FileFault::Memory),
-            _ => Err(FileFault::CannotRead),
+            Err(_) => Err(FileFault::CannotRead),
         }
     }
 }

@@ -2,10 +2,12 @@
 #![tactic(auto)]
 
 mod file_system;
+mod network;
 
 ghost use Rattle.as2_http.specs.Devices.{Opens};
 
 use crate::file_system::FileSystem;
+use crate::network::Sockets;
 use as2_http::Counted;
 use std::io::{Stdin, Stdout};
 use std::marker::Brand;
@@ -21,7 +23,7 @@ fn clock(rt: &HostRuntime) -> Option<u64> {
     Some(since.as_secs())
 }
 
-/// Runs the command line `words` over the file system and the standard streams, with counts of the calls that are made of
+/// Runs the command line `words` over the file system, the network and the standard streams, with counts of the calls that are made of
 /// input and output. The exit status.
 fn run<A: Ledger, B: Ledger, C: Ledger, D: Ledger>(
     rt: &HostRuntime,
@@ -45,6 +47,7 @@ fn run<A: Ledger, B: Ledger, C: Ledger, D: Ledger>(
         clock(rt),
         &files,
         &files,
+        &Sockets { rt },
         &mut input,
         &mut output,
         &mut rt.stderr(),

@@ -1,0 +1,2 @@
+pub mod Authorities
+pub mod Waits
