@@ -4,6 +4,7 @@ ghost use Rattle.as2_http.specs.Devices.{Opens};
 
 mod agreements;
 mod command_lines;
+mod commands;
 mod cuts;
 mod memory;
 mod posts;
