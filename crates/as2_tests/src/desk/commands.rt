@@ -47,12 +47,18 @@ const NO_TOML: Text = Text {
 static DONE: &[Case] = &[
     Case {
         rest: SUBMIT,
-        output: Text::of("1\n"),
+        output: Text {
+            plain: "1\n",
+            ..NOTHING
+        },
         ..OVER_MEMORY
     },
     Case {
         rest: &["tick"],
-        output: Text::of("0\n"),
+        output: Text {
+            plain: "0\n",
+            ..NOTHING
+        },
         ..OVER_MEMORY
     },
     Case {
@@ -65,9 +71,10 @@ static DONE: &[Case] = &[
     },
     Case {
         rest: &["outstanding"],
-        output: Text::of(
-            "documents not sent: 0\ndocuments in retry: 0\nreceipts awaited: 0\ndocuments in error: 0\nreceipts to send: 0\n",
-        ),
+        output: Text {
+            plain: "documents not sent: 0\ndocuments in retry: 0\nreceipts awaited: 0\ndocuments in error: 0\nreceipts to send: 0\n",
+            ..NOTHING
+        },
         ..OVER_MEMORY
     },
     Case {
