@@ -1,7 +1,6 @@
 -- What a typed read of an option tells of the number that its text says.
-use Rattle.std.proofs.Common.{◌≡◌, ◌<◌, ◌≤◌, ◌^◌, ℕ, Option, Some, None, Result, Ok, Err, MatchResult, refl, subst, arith}
+use Rattle.std.proofs.Common.{◌≡◌, ◌<◌, ◌^◌, ℕ, Option, Some, None, Result, Ok, Err, MatchResult, refl, subst, arith}
 use Rattle.std.specs.Str.Parse.{ParsesUnsigned}
-use Rattle.as2_names.specs.Moments.{last_moment}
 use Rattle.clap.specs.Walk.{Text}
 use Rattle.clap.specs.Matches.{TriesOne}
 use Rattle.as2_commands.specs.Options.{NumberIs, SecondsAre, TellsMoment, TellsOption}

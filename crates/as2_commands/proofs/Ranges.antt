@@ -1,5 +1,5 @@
 -- The parser of a number in a range.
-use Rattle.std.proofs.Common.{◌≡◌, ◌∙◌, ◌==◌, ◌<◌, ◌≤◌, ◌^◌, ◌-◌, ℕ, ℤ, Bool, Some, pos, subst, ap, ap₂, min, if◌then◌else◌, Less, Equal, Greater, is_lt, nat_lt, true, false, arith, refl}
+use Rattle.std.proofs.Common.{◌≡◌, ◌∙◌, ◌==◌, ◌<◌, ◌≤◌, ◌^◌, ℕ, ℤ, Bool, Some, pos, subst, ap, ap₂, if◌then◌else◌, Less, Equal, Greater, is_lt, nat_lt, true, false, arith, refl}
 use Rattle.std.proofs.Math.Nat.{min-eq_left}
 use Rattle.std.proofs.lemmas.Bool.{le-ltb, lt-ltb}
 use Rattle.std.specs.Ordering.{nat_cmp, ord_max, ord_min}

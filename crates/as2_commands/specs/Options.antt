@@ -1,5 +1,5 @@
 -- What a command line asks for.
-use Rattle.std.specs.Prelude.{◌≡◌, ◌<◌, ◌≤◌, ◌-◌, ℕ, List, [], Option, Some, None, IfSome, option_map, codes, ⊤, ◌&&◌, nat_le, nat_lt, if◌then◌else◌}
+use Rattle.std.specs.Prelude.{◌≡◌, ◌≤◌, ◌-◌, ℕ, List, [], Option, Some, None, IfSome, option_map, codes, ⊤, ◌&&◌, nat_le, nat_lt, if◌then◌else◌}
 use Rattle.std.specs.Str.Parse.{IsNumeral, digits_value, without_leading_plus}
 use Rattle.as2_names.specs.Moments.{last_moment}
 use Rattle.as2_names.specs.Names.{Spells}
