@@ -1,0 +1,217 @@
+-- The words ask for one thing.
+use Rattle.std.proofs.Common.{◌≡◌, ◌∙◌, ◌==◌, ◌<◌, ◌+◌, ◌*◌, slice_index, lit<, arith, if◌then◌else◌, [], ◌∷◌, ℕ, List, Option, Some, None, option_map, refl, sym, ap, ap₂, subst, codes}
+use Rattle.clap.specs.Walk.{Row, Text}
+use Rattle.as2_names.specs.Names.{Spells}
+use Rattle.as2_names.proofs.Spelled.{again}
+use Rattle.as2_mdn.specs.declared.detail.State.{State}
+use Rattle.as2_mdn.specs.declared.detail.State.TheVariants as state
+use Rattle.as2_exchange.specs.Views.{state_text}
+use Rattle.as2_views.specs.declared.filter.Filter.{Filter}
+use Rattle.as2_views.specs.declared.filter.Filter.TheVariants.{Outbox, Inbox}
+use Rattle.as2_commands.specs.CommandLine.{command_in, option_values}
+use Rattle.as2_commands.specs.Options.{AsksRun, AsksServe, AsksSubmit, Gives, Lists, NameIs, NumberIs, SecondsAre, Tasks, Tell, TellsOption, word_of}
+use Rattle.as2_commands.specs.Requests.{Serving, Submission}
+use Rattle.as2_commands.specs.declared.tasks.Command.{Command}
+use Rattle.as2_commands.specs.declared.tasks.Command.TheVariants as command
+use Rattle.as2_commands.specs.declared.tasks.RunOptions.{RunOptions}
+use Rattle.as2_commands.specs.declared.tasks.Task.{Task}
+use Rattle.as2_commands.specs.declared.tasks.Task.TheVariants.{Check, Run}
+use Rattle.as2_commands.specs.declared.tasks.Waits.{Waits}
+
+number_one : (o : Option Text) (a b : ℕ) → NumberIs o a → NumberIs o b → a ≡ b
+number_one (Some text) a b x y = x.1 ∙ sym y.1
+number_one None a b x y = absurd x
+
+seconds_one : (o : Option Text) (clock : Option ℕ) (a b : ℕ) → SecondsAre o clock a → SecondsAre o clock b → a ≡ b
+seconds_one (Some text) clock a b x y = x.1 ∙ sym y.1
+seconds_one None clock a b x y = cc
+
+told_one : (o : Option Text) (a b : Option ℕ) → TellsOption o a → TellsOption o b → a ≡ b
+told_one (Some text) (Some a) (Some b) x y = ap Some (x.1 ∙ sym y.1)
+told_one (Some text) (Some a) None x y = absurd y
+told_one (Some text) None b x y = absurd x
+told_one None (Some a) b x y = absurd x
+told_one None None (Some b) x y = absurd y
+told_one None None None x y = refl
+
+spelled_one : (text a b : List ℕ) → Spells text a → Spells text b → a ≡ b
+spelled_one text a b x y = cc (again text a x, again text b y)
+
+name_one : (o : Option Text) (a b : List ℕ) → NameIs o a → NameIs o b → a ≡ b
+name_one (Some text) a b x y = spelled_one text a b x y
+name_one None a b x y = absurd x
+
+path_one : (o : Option Text) (a b : Text) → o ≡ Some a → o ≡ Some b → a ≡ b
+path_one o a b x y = cc
+
+-- ---- the same for each command
+
+submission_one : (own : List Row) (a b : Submission) → AsksSubmit own a → AsksSubmit own b → a ≡ b
+submission_one own a b x y =
+    ap (λ (n : List ℕ). record a { from = n }) (name_one _ a.from b.from x.sender y.sender)
+    ∙ ap (λ (n : List ℕ). record a { from = b.from; to = n }) (name_one _ a.to b.to x.receiver y.receiver)
+    ∙ ap (λ (p : List ℕ). record b { path = p }) (path_one _ a.path b.path x.named y.named)
+
+waits_one : (a b : Waits) → a.seconds ≡ b.seconds → a ≡ b
+waits_one a b x = ap (λ (n : ℕ). record a { seconds = n }) x
+
+serving_one : (values own : List Row) (a b : Serving) → AsksServe values own a → AsksServe values own b → a ≡ b
+serving_one values own a b x y =
+    ap (λ (t : List ℕ). record a { address = t }) (path_one _ a.address b.address x.listens y.listens)
+    ∙ ap (λ (n : ℕ). record a { address = b.address; count = n }) (number_one _ a.count b.count x.connections.number y.connections.number)
+    ∙ ap (λ (w : Waits). record b { waits = w; moment = a.moment }) (waits_one a.waits b.waits (number_one _ a.waits.seconds b.waits.seconds x.wait.number y.wait.number))
+    ∙ ap (λ (m : Option ℕ). record b { moment = m }) (told_one _ a.moment b.moment x.seconds.0 y.seconds.0)
+
+-- the state of a letter
+state_from : Text → State
+state_from [] = state.P
+state_from (c ∷ rest) =
+    if c == 80 then state.P else if c == 82 then state.R else if c == 83 then state.S else if c == 87 then state.W else state.E
+
+from_letter : (s : State) → state_from (state_text s) ≡ s
+unfolding state_from
+from_letter state.P = refl
+from_letter state.R = refl
+from_letter state.S = refl
+from_letter state.W = refl
+from_letter state.E = refl
+
+letters_one : (o p : Option State) → option_map state_text o ≡ option_map state_text p → o ≡ p
+letters_one None None x = refl
+letters_one None (Some s) x = cc
+letters_one (Some s) None x = cc
+letters_one (Some s) (Some t) x =
+    let same : state_text s ≡ state_text t = cc in
+    ap Some (sym (from_letter s) ∙ ap state_from same ∙ from_letter t)
+
+filter_one : (kind state : Option Text) (a b : Filter) → Lists kind state a → Lists kind state b → a ≡ b
+filter_one kind state Inbox Inbox x y = refl
+filter_one kind state Inbox (Outbox o) x y = let same : Some (codes "in") ≡ Some (codes "out") = sym x ∙ y.0 in cc
+filter_one kind state (Outbox o) Inbox x y = let same : Some (codes "in") ≡ Some (codes "out") = sym y ∙ x.0 in cc
+filter_one kind state (Outbox o) (Outbox p) x y = ap Outbox (letters_one o p (sym x.1 ∙ y.1))
+
+-- the words of the commands differ in their first and third letters
+mark : Text → ℕ
+mark word = slice_index word 0 * 1000 + slice_index word 2
+
+apart : (m n : ℕ) → m < n → m ≡ n → ⊥
+apart m n less is = omega (arith, less, is)
+
+command_one : (values own : List Row) (a b : Command) → word_of a ≡ word_of b → Tell values own a → Tell values own b → a ≡ b
+unfolding mark
+command_one values own command.Post command.Post is x y = refl
+command_one values own command.Post (command.Submit t) is x y = absurd (apart 112115 115098 (lit< tt) (ap mark is))
+command_one values own command.Post (command.Send t) is x y = absurd (apart 112115 115110 (lit< tt) (ap mark is))
+command_one values own command.Post command.Tick is x y = absurd (apart 112115 116099 (lit< tt) (ap mark is))
+command_one values own command.Post (command.List t) is x y = absurd (apart 108115 112115 (lit< tt) (ap mark (sym is)))
+command_one values own command.Post command.Outstanding is x y = absurd (apart 111116 112115 (lit< tt) (ap mark (sym is)))
+command_one values own command.Post (command.Show t) is x y = absurd (apart 112115 115111 (lit< tt) (ap mark is))
+command_one values own command.Post (command.Fetch t) is x y = absurd (apart 102116 112115 (lit< tt) (ap mark (sym is)))
+command_one values own command.Post (command.Serve t) is x y = absurd (apart 112115 115114 (lit< tt) (ap mark is))
+command_one values own (command.Submit s) command.Post is x y = absurd (apart 112115 115098 (lit< tt) (ap mark (sym is)))
+command_one values own (command.Submit s) (command.Submit t) is x y = ap command.Submit (submission_one own s t x y)
+command_one values own (command.Submit s) (command.Send t) is x y = absurd (apart 115098 115110 (lit< tt) (ap mark is))
+command_one values own (command.Submit s) command.Tick is x y = absurd (apart 115098 116099 (lit< tt) (ap mark is))
+command_one values own (command.Submit s) (command.List t) is x y = absurd (apart 108115 115098 (lit< tt) (ap mark (sym is)))
+command_one values own (command.Submit s) command.Outstanding is x y = absurd (apart 111116 115098 (lit< tt) (ap mark (sym is)))
+command_one values own (command.Submit s) (command.Show t) is x y = absurd (apart 115098 115111 (lit< tt) (ap mark is))
+command_one values own (command.Submit s) (command.Fetch t) is x y = absurd (apart 102116 115098 (lit< tt) (ap mark (sym is)))
+command_one values own (command.Submit s) (command.Serve t) is x y = absurd (apart 115098 115114 (lit< tt) (ap mark is))
+command_one values own (command.Send s) command.Post is x y = absurd (apart 112115 115110 (lit< tt) (ap mark (sym is)))
+command_one values own (command.Send s) (command.Submit t) is x y = absurd (apart 115098 115110 (lit< tt) (ap mark (sym is)))
+command_one values own (command.Send s) (command.Send t) is x y = ap command.Send (waits_one s t (number_one _ s.seconds t.seconds x.number y.number))
+command_one values own (command.Send s) command.Tick is x y = absurd (apart 115110 116099 (lit< tt) (ap mark is))
+command_one values own (command.Send s) (command.List t) is x y = absurd (apart 108115 115110 (lit< tt) (ap mark (sym is)))
+command_one values own (command.Send s) command.Outstanding is x y = absurd (apart 111116 115110 (lit< tt) (ap mark (sym is)))
+command_one values own (command.Send s) (command.Show t) is x y = absurd (apart 115110 115111 (lit< tt) (ap mark is))
+command_one values own (command.Send s) (command.Fetch t) is x y = absurd (apart 102116 115110 (lit< tt) (ap mark (sym is)))
+command_one values own (command.Send s) (command.Serve t) is x y = absurd (apart 115110 115114 (lit< tt) (ap mark is))
+command_one values own command.Tick command.Post is x y = absurd (apart 112115 116099 (lit< tt) (ap mark (sym is)))
+command_one values own command.Tick (command.Submit t) is x y = absurd (apart 115098 116099 (lit< tt) (ap mark (sym is)))
+command_one values own command.Tick (command.Send t) is x y = absurd (apart 115110 116099 (lit< tt) (ap mark (sym is)))
+command_one values own command.Tick command.Tick is x y = refl
+command_one values own command.Tick (command.List t) is x y = absurd (apart 108115 116099 (lit< tt) (ap mark (sym is)))
+command_one values own command.Tick command.Outstanding is x y = absurd (apart 111116 116099 (lit< tt) (ap mark (sym is)))
+command_one values own command.Tick (command.Show t) is x y = absurd (apart 115111 116099 (lit< tt) (ap mark (sym is)))
+command_one values own command.Tick (command.Fetch t) is x y = absurd (apart 102116 116099 (lit< tt) (ap mark (sym is)))
+command_one values own command.Tick (command.Serve t) is x y = absurd (apart 115114 116099 (lit< tt) (ap mark (sym is)))
+command_one values own (command.List s) command.Post is x y = absurd (apart 108115 112115 (lit< tt) (ap mark is))
+command_one values own (command.List s) (command.Submit t) is x y = absurd (apart 108115 115098 (lit< tt) (ap mark is))
+command_one values own (command.List s) (command.Send t) is x y = absurd (apart 108115 115110 (lit< tt) (ap mark is))
+command_one values own (command.List s) command.Tick is x y = absurd (apart 108115 116099 (lit< tt) (ap mark is))
+command_one values own (command.List s) (command.List t) is x y = ap command.List (filter_one _ _ s t x y)
+command_one values own (command.List s) command.Outstanding is x y = absurd (apart 108115 111116 (lit< tt) (ap mark is))
+command_one values own (command.List s) (command.Show t) is x y = absurd (apart 108115 115111 (lit< tt) (ap mark is))
+command_one values own (command.List s) (command.Fetch t) is x y = absurd (apart 102116 108115 (lit< tt) (ap mark (sym is)))
+command_one values own (command.List s) (command.Serve t) is x y = absurd (apart 108115 115114 (lit< tt) (ap mark is))
+command_one values own command.Outstanding command.Post is x y = absurd (apart 111116 112115 (lit< tt) (ap mark is))
+command_one values own command.Outstanding (command.Submit t) is x y = absurd (apart 111116 115098 (lit< tt) (ap mark is))
+command_one values own command.Outstanding (command.Send t) is x y = absurd (apart 111116 115110 (lit< tt) (ap mark is))
+command_one values own command.Outstanding command.Tick is x y = absurd (apart 111116 116099 (lit< tt) (ap mark is))
+command_one values own command.Outstanding (command.List t) is x y = absurd (apart 108115 111116 (lit< tt) (ap mark (sym is)))
+command_one values own command.Outstanding command.Outstanding is x y = refl
+command_one values own command.Outstanding (command.Show t) is x y = absurd (apart 111116 115111 (lit< tt) (ap mark is))
+command_one values own command.Outstanding (command.Fetch t) is x y = absurd (apart 102116 111116 (lit< tt) (ap mark (sym is)))
+command_one values own command.Outstanding (command.Serve t) is x y = absurd (apart 111116 115114 (lit< tt) (ap mark is))
+command_one values own (command.Show s) command.Post is x y = absurd (apart 112115 115111 (lit< tt) (ap mark (sym is)))
+command_one values own (command.Show s) (command.Submit t) is x y = absurd (apart 115098 115111 (lit< tt) (ap mark (sym is)))
+command_one values own (command.Show s) (command.Send t) is x y = absurd (apart 115110 115111 (lit< tt) (ap mark (sym is)))
+command_one values own (command.Show s) command.Tick is x y = absurd (apart 115111 116099 (lit< tt) (ap mark is))
+command_one values own (command.Show s) (command.List t) is x y = absurd (apart 108115 115111 (lit< tt) (ap mark (sym is)))
+command_one values own (command.Show s) command.Outstanding is x y = absurd (apart 111116 115111 (lit< tt) (ap mark (sym is)))
+command_one values own (command.Show s) (command.Show t) is x y = ap command.Show (number_one _ s t x.number y.number)
+command_one values own (command.Show s) (command.Fetch t) is x y = absurd (apart 102116 115111 (lit< tt) (ap mark (sym is)))
+command_one values own (command.Show s) (command.Serve t) is x y = absurd (apart 115111 115114 (lit< tt) (ap mark is))
+command_one values own (command.Fetch s) command.Post is x y = absurd (apart 102116 112115 (lit< tt) (ap mark is))
+command_one values own (command.Fetch s) (command.Submit t) is x y = absurd (apart 102116 115098 (lit< tt) (ap mark is))
+command_one values own (command.Fetch s) (command.Send t) is x y = absurd (apart 102116 115110 (lit< tt) (ap mark is))
+command_one values own (command.Fetch s) command.Tick is x y = absurd (apart 102116 116099 (lit< tt) (ap mark is))
+command_one values own (command.Fetch s) (command.List t) is x y = absurd (apart 102116 108115 (lit< tt) (ap mark is))
+command_one values own (command.Fetch s) command.Outstanding is x y = absurd (apart 102116 111116 (lit< tt) (ap mark is))
+command_one values own (command.Fetch s) (command.Show t) is x y = absurd (apart 102116 115111 (lit< tt) (ap mark is))
+command_one values own (command.Fetch s) (command.Fetch t) is x y = ap command.Fetch (number_one _ s t x.number y.number)
+command_one values own (command.Fetch s) (command.Serve t) is x y = absurd (apart 102116 115114 (lit< tt) (ap mark is))
+command_one values own (command.Serve s) command.Post is x y = absurd (apart 112115 115114 (lit< tt) (ap mark (sym is)))
+command_one values own (command.Serve s) (command.Submit t) is x y = absurd (apart 115098 115114 (lit< tt) (ap mark (sym is)))
+command_one values own (command.Serve s) (command.Send t) is x y = absurd (apart 115110 115114 (lit< tt) (ap mark (sym is)))
+command_one values own (command.Serve s) command.Tick is x y = absurd (apart 115114 116099 (lit< tt) (ap mark is))
+command_one values own (command.Serve s) (command.List t) is x y = absurd (apart 108115 115114 (lit< tt) (ap mark (sym is)))
+command_one values own (command.Serve s) command.Outstanding is x y = absurd (apart 111116 115114 (lit< tt) (ap mark (sym is)))
+command_one values own (command.Serve s) (command.Show t) is x y = absurd (apart 115111 115114 (lit< tt) (ap mark (sym is)))
+command_one values own (command.Serve s) (command.Fetch t) is x y = absurd (apart 102116 115114 (lit< tt) (ap mark (sym is)))
+command_one values own (command.Serve s) (command.Serve t) is x y = ap command.Serve (serving_one values own s t x y)
+
+run_one : (values : List Row) (clock : Option ℕ) (a b : RunOptions) → AsksRun values clock a → AsksRun values clock b → a ≡ b
+run_one values clock a b x y =
+    ap (λ (n : ℕ). record a { first = n }) (number_one _ a.first b.first x.number.number y.number.number)
+    ∙ ap (λ (m : ℕ). record b { moment = m }) (seconds_one _ clock a.moment b.moment x.seconds y.seconds)
+
+-- `check` is no command over the records
+no_check : (command : Command) → codes "check" ≡ word_of command → ⊥
+unfolding mark
+no_check command.Post is = absurd (apart 99101 112115 (lit< tt) (ap mark is))
+no_check (command.Submit s) is = absurd (apart 99101 115098 (lit< tt) (ap mark is))
+no_check (command.Send s) is = absurd (apart 99101 115110 (lit< tt) (ap mark is))
+no_check command.Tick is = absurd (apart 99101 116099 (lit< tt) (ap mark is))
+no_check (command.List s) is = absurd (apart 99101 108115 (lit< tt) (ap mark is))
+no_check command.Outstanding is = absurd (apart 99101 111116 (lit< tt) (ap mark is))
+no_check (command.Show s) is = absurd (apart 99101 115111 (lit< tt) (ap mark is))
+no_check (command.Fetch s) is = absurd (apart 99101 102116 (lit< tt) (ap mark is))
+no_check (command.Serve s) is = absurd (apart 99101 115114 (lit< tt) (ap mark is))
+
+task_one : (values : List Row) (named : Option (Text × List Row)) (clock : Option ℕ) (a b : Task) → Tasks values named clock a → Tasks values named clock b → a ≡ b
+task_one values None clock a b x y = absurd x
+task_one values (Some named) clock Check Check x y = refl
+task_one values (Some named) clock Check (Run run asked) x y = absurd (no_check asked (sym x ∙ y.0.0))
+task_one values (Some named) clock (Run run asked) Check x y = absurd (no_check asked (sym y ∙ x.0.0))
+task_one values (Some named) clock (Run run asked) (Run other later) x y =
+    ap₂ Run (run_one values clock run other x.1 y.1)
+    (command_one values named.1 asked later (sym x.0.0 ∙ y.0.0) x.0.1 y.0.1)
+
+-- so what holds of what was read holds of all that the words ask for
+pub given_one : (words : List Text) (clock : Option ℕ) (path other store base : Text) (task later : Task) (P : Text → Text → Task → Type 0)
+    → Gives words clock path store task → Gives words clock other base later → P path store task → P other base later
+given_one words clock path other store base task later P x y p =
+    subst (λ (t : Task). P other base t) (task_one (option_values words) (command_in words) clock task later x.given.asked y.given.asked)
+    (subst (λ (b : Text). P other b task) (path_one _ store base x.given.records y.given.records)
+    (subst (λ (t : Text). P t store task) (path_one _ path other x.given.agreements y.given.agreements) p))

@@ -1,0 +1,3 @@
+mod Numbers
+mod Ranges
+pub mod Given

@@ -1,0 +1,109 @@
+-- The command line of the program, in the terms of the parser of words.
+use Rattle.std.specs.Prelude.{◌≡◌, ◌⊎◌, ◌-◌, ℕ, List, [], ◌∷◌, Option, Some, true, false, codes}
+use Rattle.as2_names.specs.Moments.{last_moment}
+use Rattle.as2_exchange.specs.State.{end_of_numbers}
+use Rattle.clap.specs.Words.{App, Row, Rule, Shape, Text, fault_of, matches_of, new_app, new_rule, subcommand_of, with_rule}
+use Rattle.clap.specs.Simple.{new_shape, on_top}
+use Rattle.clap.specs.Kinds.{IsAmong, Kinds}
+use Rattle.clap.specs.declared.builder.value_parser.ValueParser.TheVariants.{Unsigned}
+use Rattle.clap.specs.declared.error.kind.ErrorKind.{ErrorKind}
+use Rattle.clap.specs.declared.error.kind.ErrorKind.TheVariants.{DisplayHelp, DisplayVersion}
+
+-- `--name VALUE`
+abbrev pub option : Text → Rule
+option name = record (new_rule name) { long = Some name; value_names = 1 }
+
+-- a value that stands by itself, and must be there
+abbrev pub value : Text → Rule
+value name = record (new_rule name) { value_names = 1; required = true }
+
+-- it must be there
+abbrev pub required : Rule → Rule
+required rule = record rule { required = true }
+
+-- it is a number from `low` to `high`
+abbrev pub number : ℕ → ℕ → Rule → Rule
+number low high rule = record rule { parser = Some (Unsigned low high) }
+
+-- it is this text where it isn't given
+abbrev pub default : Text → Rule → Rule
+default text rule = record rule { defaults = text ∷ [] }
+
+-- the first number of a store that is made
+abbrev pub first : Rule
+first = number 1 (end_of_numbers - 1) (default (codes "1") (option (codes "first")))
+
+-- a moment
+abbrev pub moment : Rule
+moment = number 0 last_moment (option (codes "moment"))
+
+-- the number of an entry
+abbrev pub entry : Rule
+entry = number 1 (end_of_numbers - 1) (value (codes "number"))
+
+-- the longest wait for a peer, in seconds
+abbrev pub timeout : Rule
+timeout = number 1 3600 (default (codes "30") (option (codes "timeout")))
+
+-- how many connections are served
+abbrev pub count : Rule
+count = number 1 1000000 (required (option (codes "count")))
+
+-- the program, before its options: it has a version, and there must be a command
+abbrev pub program : App
+program = on_top (λ s. record s { has_version = true; subcommand_required = true; disable_help_subcommand = true })
+    (new_app (codes "as2desk"))
+
+abbrev pub options : App
+options = with_rule (with_rule (with_rule (with_rule program (required (option (codes "agreements")))) (required (option (codes "store")))) first) moment
+
+-- a command and what stands behind it
+abbrev pub command : Text → List Rule → Shape
+command name rules = record (new_shape name) { rules = rules }
+
+abbrev pub submit : Shape
+submit = command (codes "submit") (required (option (codes "from")) ∷ required (option (codes "to")) ∷ value (codes "file") ∷ [])
+
+abbrev pub list : Shape
+list = command (codes "list") (value (codes "kind") ∷ option (codes "state") ∷ [])
+
+abbrev pub serve : Shape
+serve = command (codes "serve") (required (option (codes "listen")) ∷ count ∷ timeout ∷ [])
+
+abbrev pub commands : List Shape
+commands =
+    command (codes "check") []
+    ∷ command (codes "post") []
+    ∷ submit
+    ∷ command (codes "send") (timeout ∷ [])
+    ∷ command (codes "tick") []
+    ∷ list
+    ∷ command (codes "outstanding") []
+    ∷ command (codes "show") (entry ∷ [])
+    ∷ command (codes "fetch") (entry ∷ [])
+    ∷ serve
+    ∷ []
+
+-- as2desk OPTIONS, and behind that a command
+abbrev pub command_line : App
+command_line = record { top = record options.top { is_leaf = false }; subs = commands }
+
+-- why the words are no such command line; of one that is, nothing
+abbrev pub faults : List Text → Kinds
+faults words = fault_of command_line words
+
+-- the values that the words give the options before the command
+abbrev pub option_values : List Text → List Row
+option_values words = matches_of command_line words
+
+-- the command that the words name, and the values behind it
+abbrev pub command_in : List Text → Option (Text × List Row)
+command_in words = subcommand_of command_line words
+
+-- help or the version, and no fault
+abbrev pub IsHelp : ErrorKind → Type 0
+IsHelp kind = (kind ≡ DisplayHelp) ⊎ (kind ≡ DisplayVersion)
+
+-- the words ask for help or the version
+abbrev pub AsksForHelp : List Text → Type 0
+AsksForHelp words = IsAmong DisplayHelp (faults words) ⊎ IsAmong DisplayVersion (faults words)

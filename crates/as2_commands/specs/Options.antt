@@ -1,0 +1,135 @@
+-- What a command line asks for.
+use Rattle.std.specs.Prelude.{◌≡◌, ◌≤◌, ◌-◌, ℕ, List, [], Option, Some, None, IfSome, option_map, codes, ⊤, ◌&&◌, nat_le, nat_lt, if◌then◌else◌}
+use Rattle.std.specs.Str.Parse.{IsNumeral, digits_value, without_leading_plus}
+use Rattle.as2_names.specs.Moments.{last_moment}
+use Rattle.as2_names.specs.Names.{Spells}
+use Rattle.as2_exchange.specs.State.{end_of_numbers}
+use Rattle.as2_exchange.specs.Views.{state_text}
+use Rattle.as2_views.specs.declared.filter.Filter.{Filter}
+use Rattle.as2_views.specs.declared.filter.Filter.TheVariants.{Outbox, Inbox}
+use Rattle.clap.specs.Words.{Row, Text, first_of, one_of}
+use Rattle.as2_commands.specs.CommandLine.{command_in, faults, option_values}
+use Rattle.as2_commands.specs.Requests.{Serving, Submission}
+use Rattle.as2_commands.specs.declared.tasks.Command.{Command}
+use Rattle.as2_commands.specs.declared.tasks.Command.TheVariants.{Post, Submit, Send, Tick, List as Listing, Outstanding, Show, Fetch, Serve}
+use Rattle.as2_commands.specs.declared.tasks.RunOptions.{RunOptions}
+use Rattle.as2_commands.specs.declared.tasks.Task.{Task}
+use Rattle.as2_commands.specs.declared.tasks.Task.TheVariants.{Check, Run}
+
+-- the text says the number in decimal digits; a plus may stand before them
+abbrev pub Says : Text → ℕ → Type 0
+Says text n = IsNumeral 10 (without_leading_plus text) × (n ≡ digits_value 10 (without_leading_plus text))
+
+-- the value is there and says the number
+abbrev pub NumberIs : Option Text → ℕ → Type 0
+NumberIs (Some text) n = Says text n
+NumberIs None n = ⊥
+
+-- the number that the value says, where it is there
+abbrev pub TellsOption : Option Text → Option ℕ → Type 0
+TellsOption (Some text) (Some n) = Says text n
+TellsOption None None = ⊤
+TellsOption _ _ = ⊥
+
+-- the moment that the value says, where it is there
+abbrev pub TellsMoment : Option Text → Option ℕ → Type 0
+TellsMoment value moment = TellsOption value moment × IfSome moment (λ n. n ≤ last_moment)
+
+-- the value says the number of seconds, or it isn't there and the clock tells it
+abbrev pub SecondsAre : Option Text → Option ℕ → ℕ → Type 0
+SecondsAre (Some text) clock n = Says text n
+SecondsAre None clock n = clock ≡ Some n
+
+-- the value is there and says a number from `low` to `high`
+pub record NumberFrom (low high : ℕ) (value : Option Text) (n : ℕ) : Type 0 where
+  pub number : NumberIs value n
+  pub least : low ≤ n
+  pub most : n ≤ high
+
+-- the value is there and spells the AS2 name
+abbrev pub NameIs : Option Text → List ℕ → Type 0
+NameIs (Some text) name = Spells text name
+NameIs None name = ⊥
+
+-- the number, where an entry may have it
+abbrev pub first_number : ℕ → Option ℕ
+first_number n = if nat_le 1 n && nat_lt n end_of_numbers then Some n else None
+
+-- the first number of a new store and the moment that the values before the command give
+pub record AsksRun (values : List Row) (clock : Option ℕ) (options : RunOptions) : Type 0 where
+  pub number : NumberFrom 1 (end_of_numbers - 1) (one_of (codes "first") values) options.first
+  pub seconds : SecondsAre (one_of (codes "moment") values) clock options.moment
+  pub early : options.moment ≤ last_moment
+
+-- the longest wait in seconds
+abbrev pub IsWait : List Row → ℕ → Type 0
+IsWait own seconds = NumberFrom 1 3600 (one_of (codes "timeout") own) seconds
+
+-- the number of an entry
+abbrev pub IsEntry : List Row → ℕ → Type 0
+IsEntry own n = NumberFrom 1 (end_of_numbers - 1) (one_of (codes "number") own) n
+
+-- the sender, the receiver and the path of the document
+pub record AsksSubmit (own : List Row) (s : Submission) : Type 0 where
+  pub sender : NameIs (first_of (codes "from") own) s.from
+  pub receiver : NameIs (first_of (codes "to") own) s.to
+  pub named : first_of (codes "file") own ≡ Some s.path
+
+-- the listing of a kind, and of a state where one is given; the state isn't looked at for what was received
+abbrev pub Lists : Option Text → Option Text → Filter → Type 0
+Lists kind state Inbox = kind ≡ Some (codes "in")
+Lists kind state (Outbox only) = (kind ≡ Some (codes "out")) × (state ≡ option_map state_text only)
+
+-- the address, the count and the waits, and the moment where the values before the command give it
+pub record AsksServe (values own : List Row) (s : Serving) : Type 0 where
+  pub listens : first_of (codes "listen") own ≡ Some s.address
+  pub connections : NumberFrom 1 1000000 (one_of (codes "count") own) s.count
+  pub wait : IsWait own s.waits.seconds
+  pub seconds : TellsMoment (one_of (codes "moment") values) s.moment
+
+-- the word for a command
+abbrev pub word_of : Command → Text
+word_of Post = codes "post"
+word_of (Submit s) = codes "submit"
+word_of (Send w) = codes "send"
+word_of Tick = codes "tick"
+word_of (Listing f) = codes "list"
+word_of Outstanding = codes "outstanding"
+word_of (Show n) = codes "show"
+word_of (Fetch n) = codes "fetch"
+word_of (Serve s) = codes "serve"
+
+-- what the values before a command and its own say for it
+abbrev pub Tell : List Row → List Row → Command → Type 0
+Tell values own (Submit s) = AsksSubmit own s
+Tell values own (Send w) = IsWait own w.seconds
+Tell values own (Listing f) = Lists (first_of (codes "kind") own) (first_of (codes "state") own) f
+Tell values own (Show n) = IsEntry own n
+Tell values own (Fetch n) = IsEntry own n
+Tell values own (Serve s) = AsksServe values own s
+Tell values own _ = ⊤
+
+-- the command of a word, by the values
+abbrev pub Commands : List Row → Text → List Row → Command → Type 0
+Commands values word own command = (word ≡ word_of command) × Tell values own command
+
+-- what the values and the command ask for; a check needs no moment
+abbrev pub Tasks : List Row → Option (Text × List Row) → Option ℕ → Task → Type 0
+Tasks values None clock task = ⊥
+Tasks values (Some command) clock Check = command.0 ≡ codes "check"
+Tasks values (Some command) clock (Run options asked) = Commands values command.0 command.1 asked × AsksRun values clock options
+
+-- the paths of the file of agreements and of the store, and what is asked for
+pub record Give (values : List Row) (command : Option (Text × List Row)) (clock : Option ℕ) (path store : Text) (task : Task) : Type 0 where
+  pub agreements : first_of (codes "agreements") values ≡ Some path
+  pub records : first_of (codes "store") values ≡ Some store
+  pub asked : Tasks values command clock task
+
+-- the same of the words of a command line
+pub record Gives (words : List Text) (clock : Option ℕ) (path store : Text) (task : Task) : Type 0 where
+  pub read : faults words ≡ []
+  pub given : Give (option_values words) (command_in words) clock path store task
+
+-- the words ask for nothing
+abbrev pub GivesNone : List Text → Option ℕ → Type 0
+GivesNone words clock = (path store : Text) (task : Task) → ¬ Gives words clock path store task

@@ -1,0 +1,16 @@
+-- What commands are given.
+use Rattle.std.specs.Prelude.{ℕ, List, Option}
+use Rattle.as2_commands.specs.declared.tasks.Waits.{Waits}
+
+-- a document: from whom and to whom it goes, and the path of its file
+pub record Submission : Type 0 where
+  pub from : List ℕ
+  pub to : List ℕ
+  pub path : List ℕ
+
+-- what is served: the address that is listened on, how many connections, the waits for a peer, and the moment of each, if it is given
+pub record Serving : Type 0 where
+  pub address : List ℕ
+  pub count : ℕ
+  pub waits : Waits
+  pub moment : Option ℕ

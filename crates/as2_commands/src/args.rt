@@ -1,0 +1,150 @@
+//! Options and values of commands.
+ghost use Rattle.std.specs.Prelude.{◌≡◌, ◌<◌, ◌≤◌, ◌^◌, codes, false};
+ghost use Rattle.clap.specs.Words.{rule_of};
+ghost use Rattle.as2_commands.specs.CommandLine.{count, default, entry, first, moment, number, option, required, timeout, value};
+
+use as2_exchange::END_OF_NUMBERS;
+use as2_text::LAST_MOMENT;
+use clap::{Arg, value_parser};
+use std::alloc::Global;
+
+pub(crate) const AGREEMENTS: &str = "agreements";
+
+pub(crate) const STORE: &str = "store";
+
+pub(crate) const FIRST: &str = "first";
+
+pub(crate) const MOMENT: &str = "moment";
+
+pub(crate) const FROM: &str = "from";
+
+pub(crate) const TO: &str = "to";
+
+/// The document's file.
+pub(crate) const FILE: &str = "file";
+
+/// The longest wait for a peer.
+pub(crate) const TIMEOUT: &str = "timeout";
+
+/// Which of the boxes is listed.
+pub(crate) const KIND: &str = "kind";
+
+pub(crate) const STATE: &str = "state";
+
+/// The number of an entry.
+pub(crate) const NUMBER: &str = "number";
+
+pub(crate) const LISTEN: &str = "listen";
+
+/// How many connections are served.
+pub(crate) const COUNT: &str = "count";
+
+/// The least and the most seconds that a peer is waited for.
+pub(crate) const LEAST_WAIT: u64 = 1;
+
+pub(crate) const MOST_WAIT: u64 = 3600;
+
+/// The most connections that are served.
+pub(crate) const MOST_CONNECTIONS: u64 = 1_000_000;
+
+/// An option with a value.
+pub(crate) fn option<'a>(alloc: Global, name: &'a str, value: &'a str, help: &'a str) -> Arg<'a>
+    ensures rule { rule_of result ≡ option name.entry.now }
+    ensures local { result.global ≡ false }
+{
+    Arg::new(alloc, name)
+        .long(name)
+        .value_name(value)
+        .help(help)
+}
+
+/// An option that must be there.
+pub(crate) fn required_option<'a>(
+    alloc: Global,
+    name: &'a str,
+    value: &'a str,
+    help: &'a str,
+) -> Arg<'a>
+    ensures rule { rule_of result ≡ required (option name.entry.now) }
+    ensures local { result.global ≡ false }
+{
+    option(alloc, name, value, help).required(true)
+}
+
+/// An option that has that value where it isn't given.
+fn default_option<'a>(
+    alloc: Global,
+    name: &'a str,
+    value: &'a str,
+    help: &'a str,
+    otherwise: &'a str,
+) -> Arg<'a>
+    ensures rule { rule_of result ≡ default otherwise.entry.now (option name.entry.now) }
+    ensures local { result.global ≡ false }
+{
+    option(alloc, name, value, help).default_value(otherwise)
+}
+
+/// A value that stands by itself, and must be there.
+pub(crate) fn value<'a>(alloc: Global, id: &'a str, name: &'a str, help: &'a str) -> Arg<'a>
+    ensures rule { rule_of result ≡ value id.entry.now }
+    ensures local { result.global ≡ false }
+{
+    Arg::new(alloc, id)
+        .value_name(name)
+        .help(help)
+        .required(true)
+}
+
+/// The option or value, for numbers from `low` to `high` alone.
+fn numbered<'a>(arg: Arg<'a>, low: u64, high: u64) -> Arg<'a>
+    requires order { low ≤ high }
+    requires fits { high < 2 ^ 63 }
+    ensures rule { rule_of result ≡ number low high (rule_of arg.entry) }
+    ensures local { result.global ≡ arg.entry.global }
+{
+    arg.value_parser(value_parser!(u64).range(low as i64..=high as i64))
+}
+
+pub(crate) fn first<'a>(alloc: Global) -> Arg<'a>
+    ensures rule { rule_of result ≡ first }
+    ensures local { result.global ≡ false }
+{
+    let help = "First number of a store that is made: 1 to 999999999999";
+    let first = default_option(alloc, FIRST, "N", help, "1");
+    numbered(first, 1, END_OF_NUMBERS - 1)
+}
+
+pub(crate) fn moment<'a>(alloc: Global) -> Arg<'a>
+    ensures rule { rule_of result ≡ moment }
+    ensures local { result.global ≡ false }
+{
+    let help =
+        "Moment of the command, in seconds since 1970: 0 to 253402300799 [default: the clock]";
+    numbered(option(alloc, MOMENT, "SECONDS", help), 0, LAST_MOMENT)
+}
+
+pub(crate) fn entry<'a>(alloc: Global, help: &'a str) -> Arg<'a>
+    ensures rule { rule_of result ≡ entry }
+    ensures local { result.global ≡ false }
+{
+    numbered(value(alloc, NUMBER, "N", help), 1, END_OF_NUMBERS - 1)
+}
+
+pub(crate) fn timeout<'a>(alloc: Global) -> Arg<'a>
+    ensures rule { rule_of result ≡ timeout }
+    ensures local { result.global ≡ false }
+{
+    let help = "Longest wait for a peer: 1 to 3600 seconds";
+    let timeout = default_option(alloc, TIMEOUT, "SECONDS", help, "30");
+    numbered(timeout, LEAST_WAIT, MOST_WAIT)
+}
+
+pub(crate) fn count<'a>(alloc: Global) -> Arg<'a>
+    ensures rule { rule_of result ≡ count }
+    ensures local { result.global ≡ false }
+{
+    let help = "How many connections are served: 1 to 1000000";
+    let count = required_option(alloc, COUNT, "N", help);
+    numbered(count, 1, MOST_CONNECTIONS)
+}

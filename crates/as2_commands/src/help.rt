@@ -1,0 +1,148 @@
+//! What help says of the program and of each command.
+
+pub(crate) const PROGRAM: &str = "\
+Options stand before the command. '--agreements' and '--store' must be given, and have no default.
+
+Exit status: 0 done; 1 refused, and one line on standard error says why; 2 a faulty command line;
+3 the store failed, and one line on standard error says how.
+
+Examples:
+  as2desk --agreements agreements.toml --store station.db check
+  as2desk --agreements agreements.toml --store station.db post < plain-post.http
+  as2desk --agreements agreements.toml --store station.db submit --from Supplier --to Buyer order.edi
+  as2desk --agreements agreements.toml --store station.db send
+  as2desk --agreements agreements.toml --store station.db serve --listen 127.0.0.1:8080 --count 100
+  as2desk --agreements agreements.toml --store station.db list out";
+
+pub(crate) const CHECK: &str = "\
+Prints one line, 'organizations A, partners B', and reads nothing but the file of agreements: the
+store stays closed, and isn't made where it is absent.
+Where that has a fault, the first one is said on standard error, and the key where it has one:
+'agreements: WrongKind receipt'. The exit status is then 1.
+
+Example:
+  as2desk --agreements agreements.toml --store station.db check";
+
+pub(crate) const POST: &str = "\
+Standard input is HTTP requests, as a partner sends them, one behind the other: documents and receipts.
+Each is answered in turn. The reply on standard output has the receipt in it where the document asks
+for one. A reply that says no, such as 403, is a reply too: the exit status is 0. It is 1, and
+'refused: NAME' is said on standard error, where the input ends within a request, or can't be read, or
+a reply can't be written.
+
+The documents are recorded in the store, and answered the same when they are posted again. A store that
+can't be opened is told before anything is read: 'store: NAME' on standard error, exit status 3.
+
+Example:
+  as2desk --agreements agreements.toml --store station.db --moment 1000 post < plain-post.http";
+
+pub(crate) const SUBMIT: &str = "\
+The document gets the next number of the outbox, and waits there to be sent. That number is printed,
+in decimal digits on a line of its own. Standard input isn't read.
+
+NAME is spelled as in a head field: a name with a blank, a quote or a backslash stands between quotes,
+with a backslash before each quote and backslash: '\"A \\\"B\\\" C\"'. The options of the command have no
+default. FILE has at most 1048576 bytes; no more than one byte beyond is read.
+
+Refused, with 'refused: NAME' on standard error and exit status 1, are a file that can't be read
+(CannotRead), a sender that is no organization of the agreements (UnknownOrganization), a receiver
+that is no partner (UnknownPartner) and a larger document (TooLarge); nothing is recorded then. A
+number that can't be written is CannotWrite, and the document is recorded. A fault of the store, as
+'store: Full' where no number is left, is exit status 3.
+
+Example:
+  as2desk --agreements agreements.toml --store station.db submit --from Supplier --to Buyer order.edi";
+
+pub(crate) const SEND: &str = "\
+Each document and receipt that is due at the moment is sent to its partner, in turn. The moment is
+that of '--moment', in seconds since 1970, or else the clock's when the command begins. A line is
+printed for each try when it happens: 'document N: settled S processed', where the receipt came with
+the answer; 'document N: delivered', where it is to come later; 'document N: try failed', where there
+was no answer; 'receipt N: delivered' or 'receipt N: try failed'. A try that failed is no refusal.
+
+SECONDS is the longest wait for a peer's next byte, for a connection to be made, and for a write. A
+connection as a whole ends after ten times that. Looking a name up has no limit.
+
+It stops at the first refusal: 'refused: NAME' on standard error, exit status 1, as CannotWrite where a
+line can't be written. A fault of the store is 'store: NAME', exit status 3. What was done stays.
+
+Example:
+  as2desk --agreements agreements.toml --store station.db send --timeout 10";
+
+pub(crate) const TICK: &str = "\
+Documents whose receipt was awaited until the moment become overdue; those whose last try was to end
+by then have used up their tries. How many there are of both is printed, in decimal digits on a line
+of its own. The moment is that of '--moment', in seconds since 1970, or else the clock's.
+
+A count that can't be written is 'refused: CannotWrite' on standard error, exit status 1, and the
+documents are changed. A fault of the store is 'store: NAME', exit status 3, and nothing is changed.
+
+Example:
+  as2desk --agreements agreements.toml --store station.db --moment 1060 tick";
+
+pub(crate) const LIST: &str = "\
+A line of 'out' has the number, the state, how many tries were begun, 'R' where a receipt is kept, the
+detail, and 'ORGANIZATION -> PARTNER'. The states are P (not sent yet, or the receipt is awaited), R (a
+try is open, or another is due), S (success), W (delivered, with something left open) and E (error).
+Without '--state' all are listed.
+
+A line of 'in' has the number, 'S' where the document was processed, else 'E', the receipt that it asks
+for ('-' none, 'P' still to be sent, 'S' sent), 'SENDER -> RECEIVER' and the identifier. '--state' isn't
+looked at there.
+
+A listing that can't be written is 'refused: CannotWrite' on standard error, exit status 1. A fault of
+the store is 'store: NAME', exit status 3. Nothing is changed.
+
+Example:
+  as2desk --agreements agreements.toml --store station.db list out --state E";
+
+pub(crate) const OUTSTANDING: &str = "\
+Prints a line for each count: 'documents not sent: A', 'documents in retry: B', 'receipts awaited: C',
+'documents in error: D', 'receipts to send: F'. Behind them stands the line of 'list out' of each
+document that is still to be sent, or whose receipt is awaited, and that is due at the moment. The
+moment is that of '--moment', in seconds since 1970, or else the clock's.
+
+A text that can't be written is 'refused: CannotWrite' on standard error, exit status 1. A fault of
+the store is 'store: NAME', exit status 3. Nothing is changed.
+
+Example:
+  as2desk --agreements agreements.toml --store station.db --moment 1060 outstanding";
+
+pub(crate) const SHOW: &str = "\
+Prints the number, the state and the detail, how many tries were begun, the moment when it is due in
+seconds since 1970, from whom and to whom it goes, its identifier, the length of its content and of its
+receipt in bytes, and the moment of the receipt; '-' stands for what there isn't.
+
+A number that no document has is 'refused: NoSuchNumber' on standard error, exit status 1, and a text
+that can't be written 'refused: CannotWrite'. A fault of the store is 'store: NAME', exit status 3.
+Nothing is changed.
+
+Example:
+  as2desk --agreements agreements.toml --store station.db show 1";
+
+pub(crate) const FETCH: &str = "\
+Writes the bytes of the content as they were received, and nothing else.
+
+A number that no document has is 'refused: NoSuchNumber' on standard error, exit status 1, and a
+content that can't be written 'refused: CannotWrite'. A fault of the store is 'store: NAME', exit
+status 3. Nothing is changed.
+
+Example:
+  as2desk --agreements agreements.toml --store station.db fetch 1 > order.edi";
+
+pub(crate) const SERVE: &str = "\
+Writes 'listening: ADDRESS' on standard error once it does; the line tells the port that the system
+chose. Each connection is answered as 'post' answers its input, and when it has ended, 'connection: END'
+is printed: Closed in good order, else Truncated, BadFraming, ReadFault, WriteFault, Memory or TooLong.
+The next is taken then. The moment is that of '--moment', in seconds since 1970, or else the clock's at
+each connection. The exit status is 0 once all were served, however they ended.
+
+SECONDS is the longest wait for a peer's next byte, and for a write. A connection as a whole ends after
+ten times that. A wait that is over is a ReadFault or a WriteFault.
+
+An address that can't be listened on is 'refused: CannotListen' on standard error, exit status 1, and a
+line that can't be written 'refused: CannotWrite'. A store that can't be opened is 'store: NAME', exit
+status 3, and nothing is listened on then.
+
+Example:
+  as2desk --agreements agreements.toml --store station.db serve --listen 127.0.0.1:8080 --count 100";

@@ -1,0 +1,20 @@
+//! The command line of the station: from words to what they ask for.
+#![tactic(auto)]
+
+mod args;
+mod command;
+mod fault;
+mod first_number;
+mod help;
+mod own;
+mod reading;
+mod tasks;
+mod words;
+
+pub use as2_views::Filter;
+pub use first_number::FirstNumber;
+pub use tasks::{Command, Options, RunOptions, Serving, Submission, Task, Waits};
+pub use words::options_in;
+
+#[cfg(test)]
+mod tests;

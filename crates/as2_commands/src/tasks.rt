@@ -1,0 +1,104 @@
+//! What a command line can ask for.
+use crate::first_number::FirstNumber;
+use as2_text::{AsName, Moment};
+use as2_views::Filter;
+use std::marker::Model;
+
+/// What a command over the records is given besides them.
+#[derive(Clone, Copy)]
+pub struct RunOptions {
+    /// The first number of a store that is made.
+    pub first: FirstNumber,
+    /// The moment of `--moment`, or else the clock's.
+    pub moment: Moment,
+}
+
+/// A document that is to be handed in.
+#[derive(Drop)]
+pub struct Submission<'a> {
+    /// The organization that sends it.
+    pub from: AsName,
+    /// The partner that it is for.
+    pub to: AsName,
+    /// The path of its file.
+    pub path: &'a str,
+}
+
+impl<'a> Model for Submission<'a> {
+    ghost use Rattle.as2_commands.specs.Requests.{Submission};
+
+    ghost Value = { Submission };
+
+    ghost view = { λ s. record { from = s.from; to = s.to; path = s.path.now } };
+}
+
+/// How long a peer is waited for.
+#[derive(Clone, Copy, Debug, PartialEq, Eq)]
+pub struct Waits {
+    /// The longest wait for a peer's next byte, for a connection to be made, and for a write: 1 to 3600 seconds.
+    pub seconds: u64,
+}
+
+/// What is to be served.
+#[derive(Drop)]
+pub struct Serving<'a> {
+    /// The address that is listened on, as `127.0.0.1:8080`.
+    pub address: &'a str,
+    /// How many connections are served, one after the other: 1 to 1,000,000.
+    pub count: u64,
+    /// How long a peer is waited for.
+    pub waits: Waits,
+    /// The moment of each connection, where `--moment` gives it.
+    pub moment: Option<Moment>,
+}
+
+impl<'a> Model for Serving<'a> {
+    ghost use Rattle.as2_commands.specs.Requests.{Serving};
+
+    ghost Value = { Serving };
+
+    ghost view = { λ s. record { address = s.address.now; count = s.count; waits = s.waits; moment = s.moment } };
+}
+
+/// What is asked of the records.
+#[derive(Drop)]
+pub enum Command<'a> {
+    /// The requests on standard input are answered.
+    Post,
+    /// A document is handed in.
+    Submit(Submission<'a>),
+    /// What is due is sent.
+    Send(Waits),
+    /// Time has come to the moment.
+    Tick,
+    /// Entries are listed.
+    List(Filter),
+    /// What is outstanding is listed.
+    Outstanding,
+    /// The document of that number of the outbox is shown: 1 to 999,999,999,999.
+    Show(u64),
+    /// The content of the document of that number of the inbox is written: 1 to 999,999,999,999.
+    Fetch(u64),
+    /// Connections of partners are served.
+    Serve(Serving<'a>),
+}
+
+/// What is to be done with the agreements.
+#[derive(Drop)]
+pub enum Task<'a> {
+    /// Their members are counted.
+    Check,
+    /// The records are asked something.
+    Run(RunOptions, Command<'a>),
+}
+
+/// What a command line says.
+#[derive(Drop)]
+pub struct Options<'a> {
+    /// The path of the file of agreements.
+    pub agreements: &'a str,
+    /// The path of the store, or `:memory:`.
+    pub store: &'a str,
+    /// What is to be done.
+    pub task: Task<'a>,
+}
