@@ -1,0 +1,197 @@
+-- Turns, one after the other, and their lines.
+use Rattle.std.proofs.Common.{◌≡◌, ◌⊎◌, inl, inr, ℕ, true, List, [], ◌∷◌, ◌++◌, Option, Some, None, Ok, Err, refl, sym, ap, ◌∙◌, subst, append_assoc, append-nil}
+use Rattle.std.proofs.KnownBytes.{Appends-nil, Appends-trans}
+use Rattle.std.proofs.lemmas.Bool.{false≢true}
+use Rattle.std.specs.Io.KnownBytes.{Appends}
+use Rattle.sqlite.specs.State.{State as Connected}
+use Rattle.as2_exchange.specs.Agreement.{Agreements, Text}
+use Rattle.as2_exchange.specs.Run.{Trace, Run}
+use Rattle.as2_exchange.specs.State.{State}
+use Rattle.as2_exchange.specs.Step.{step}
+use Rattle.as2_exchange.specs.Views.{next}
+use Rattle.as2_exchange.specs.declared.answer.Answer.{Answer}
+use Rattle.as2_exchange.specs.declared.answer.Answer.TheVariants.{Http, Submitted, Job as Handed, Settled, Delivered, TryFailed, AlreadySettled, Ticked, Refused}
+use Rattle.as2_exchange.specs.declared.answer.Job.{Job}
+use Rattle.as2_exchange.specs.declared.event.TryAnswer.{TryAnswer}
+use Rattle.as2_exchange.specs.declared.fault.StoreFault.{StoreFault}
+use Rattle.as2_exchange.specs.declared.fault.StoreFault.TheVariants.{Full}
+use Rattle.as2_exchange.specs.declared.next.Next.{Next}
+use Rattle.as2_exchange.specs.declared.next.Next.TheVariants.{Receipt, Document}
+use Rattle.as2_store.specs.Stands.{Rests, may_come}
+use Rattle.as2_sending.specs.Lines.{answer_of, line, lines, line_of}
+use Rattle.as2_sending.specs.Turns.{Turn, Begins, Takes, TakesAll, begin_of, outcome_of, events, Ends, IsRefused, HasFailed, at_begin_refused, at_outcome_refused, at_next_failed, at_begin_failed, at_outcome_failed, Sends, BeginsTo, ClosesTo, TurnsTo, handed, came}
+use Rattle.as2_sending.specs.declared.sent.Sent.{Sent}
+use Rattle.as2_sending.specs.declared.sent.Sent.TheVariants as sent
+use Rattle.as2_sending.specs.declared.telling.Became.{Became}
+use Rattle.as2_sending.specs.declared.telling.Became.TheVariants as became
+use Rattle.as2_sending.proofs.Answering.{begin_says, outcome_says, begin_answered, outcome_answered}
+
+-- ---- a begin
+
+pub begins_to : (A : Agreements) (m : ℕ) (s : State) (what : Next) (c : Connected) (a : Answer) (t : State) → next s m ≡ Some what → step A s (begin_of what m) ≡ Some (a, t) → Rests c t → BeginsTo A m s what c (handed a)
+begins_to A m s what c (Handed job) t is h rests = (t, record { is_next = is; begun = h }, rests)
+begins_to A m s what c (Refused r) t is h rests = (_, t, (at_begin_refused what is h refl, refl), rests)
+begins_to A m s what c (Http x) t is h rests = absurd (false≢true (begin_says A m s what (Http x) t h))
+begins_to A m s what c (Submitted n) t is h rests = absurd (false≢true (begin_says A m s what (Submitted n) t h))
+begins_to A m s what c (Settled d) t is h rests = absurd (false≢true (begin_says A m s what (Settled d) t h))
+begins_to A m s what c Delivered t is h rests = absurd (false≢true (begin_says A m s what Delivered t h))
+begins_to A m s what c TryFailed t is h rests = absurd (false≢true (begin_says A m s what TryFailed t h))
+begins_to A m s what c AlreadySettled t is h rests = absurd (false≢true (begin_says A m s what AlreadySettled t h))
+begins_to A m s what c (Ticked n) t is h rests = absurd (false≢true (begin_says A m s what (Ticked n) t h))
+
+-- a fault that is not Full
+may_be : (f : StoreFault) → (f ≡ Full → ⊥) → (f ≡ Full) ⊎ (may_come f ≡ true) → may_come f ≡ true
+may_be f none either = elim either [ inl full ↦ absurd (none full) | inr may ↦ may ]
+
+pub begin_fails : (A : Agreements) (m : ℕ) (s : State) (what : Next) (c : Connected) (f : StoreFault) → next s m ≡ Some what → Rests c s × (f ≡ Full → step A s (begin_of what m) ≡ None) → (f ≡ Full) ⊎ (may_come f ≡ true)
+    → BeginsTo A m s what c (Err (sent.Failed f))
+begin_fails A m s what c f is left either = (_, s, (at_begin_failed what is refl refl, may_be f (λ full. begin_answered A m s what (left.1 full)) either, refl), left.0)
+
+-- ---- an outcome
+
+pub closes_to : (A : Agreements) (m : ℕ) (s : State) (what : Next) (got : TryAnswer) (job : Job) (mid : State) (c : Connected) (a : Answer) (t : State) → Begins A m s what job mid → step A mid (outcome_of what got m) ≡ Some (a, t) → Rests c t
+    → ClosesTo A m s what got mid c (came a)
+closes_to A m s what got job mid c (Settled d) t b h rests = (t, h, rests)
+closes_to A m s what got job mid c Delivered t b h rests = (t, h, rests)
+closes_to A m s what got job mid c TryFailed t b h rests = (t, h, rests)
+closes_to A m s what got job mid c AlreadySettled t b h rests = (t, h, rests)
+closes_to A m s what got job mid c (Refused r) t b h rests = (_, t, (at_outcome_refused what job got mid b h refl, refl), rests)
+closes_to A m s what got job mid c (Http x) t b h rests = absurd (false≢true (outcome_says A m mid what got (Http x) t h))
+closes_to A m s what got job mid c (Submitted n) t b h rests = absurd (false≢true (outcome_says A m mid what got (Submitted n) t h))
+closes_to A m s what got job mid c (Handed j) t b h rests = absurd (false≢true (outcome_says A m mid what got (Handed j) t h))
+closes_to A m s what got job mid c (Ticked n) t b h rests = absurd (false≢true (outcome_says A m mid what got (Ticked n) t h))
+
+pub outcome_fails : (A : Agreements) (m : ℕ) (s : State) (what : Next) (got : TryAnswer) (job : Job) (mid : State) (c : Connected) (f : StoreFault) → Begins A m s what job mid
+    → Rests c mid × (f ≡ Full → step A mid (outcome_of what got m) ≡ None) → (f ≡ Full) ⊎ (may_come f ≡ true) → ClosesTo A m s what got mid c (Err (sent.Failed f))
+outcome_fails A m s what got job mid c f b left either =
+    (_, mid, (at_outcome_failed what job got b refl, may_be f (λ full. outcome_answered A m mid what got (left.1 full)) either, refl), left.0)
+
+-- ---- a turn
+
+-- it ends as it begins, or with its outcome: nothing is written
+pub begin_ends : (U : Type 0) (A : Agreements) (m : ℕ) (s : State) (what : Next) (c : Connected) (now : Option (List ℕ)) (end : Sent) → BeginsTo A m s what c (Err end) → TurnsTo {U = U} A m s c now now (Err end)
+begin_ends U A m s what c now end w = (w.0, w.1, [], w.2, w.3, Appends-nil now)
+
+pub close_ends : (U : Type 0) (A : Agreements) (m : ℕ) (s : State) (what : Next) (got : TryAnswer) (mid : State) (c : Connected) (now : Option (List ℕ)) (end : Sent) → ClosesTo A m s what got mid c (Err end) → TurnsTo {U = U} A m s c now now (Err end)
+close_ends U A m s what got mid c now end w = (w.0, w.1, [], w.2, w.3, Appends-nil now)
+
+pub turn_told : (U : Type 0) (A : Agreements) (m : ℕ) (s : State) (what : Next) (got : TryAnswer) (job : Job) (mid : State) (c : Connected) (before after : Option (List ℕ)) (became : Became) (u : U)
+    → Begins A m s what job mid → ClosesTo A m s what got mid c (Ok became) → Appends before after (line what became) → TurnsTo {U = U} A m s c before after (Ok u)
+turn_told U A m s what got job mid c before after became u b w written =
+    (record { what = what; job = job; got = got; became = became }, w.0, record { mid = mid; begins = b; closes = w.1 }, w.2, written)
+
+pub turn_untold : (U : Type 0) (A : Agreements) (m : ℕ) (s : State) (what : Next) (got : TryAnswer) (job : Job) (mid : State) (c : Connected) (before after : Option (List ℕ)) (became : Became) (part missing : Text)
+    → Begins A m s what job mid → ClosesTo A m s what got mid c (Ok became) → line what became ≡ part ++ missing → Appends before after part → TurnsTo {U = U} A m s c before after (Err sent.Unwritten)
+turn_untold U A m s what got job mid c before after became part missing b w cut written = (
+  _,
+  w.0,
+  part,
+  record { turn = record { what = what; job = job; got = got; became = became }; takes = record { mid = mid; begins = b; closes = w.1 }; are = refl; missing = missing; cut = cut },
+  w.2,
+  written,
+)
+
+pub nothing_next : (U : Type 0) (A : Agreements) (m : ℕ) (s : State) (c : Connected) (now : Option (List ℕ)) → next s m ≡ None → Rests c s → TurnsTo {U = U} A m s c now now (Err sent.Done)
+nothing_next U A m s c now none rests = ([], s, [], (none, refl, refl, refl), rests, Appends-nil now)
+
+pub next_fails : (U : Type 0) (A : Agreements) (m : ℕ) (s : State) (c : Connected) (now : Option (List ℕ)) (f : StoreFault) → may_come f ≡ true → Rests c s → TurnsTo {U = U} A m s c now now (Err (sent.Failed f))
+next_fails U A m s c now f may rests = ([], s, [], (at_next_failed refl refl, may, refl), rests, Appends-nil now)
+
+-- ---- runs
+
+not_full : (f : StoreFault) → may_come f ≡ true → f ≡ Full → ⊥
+not_full f may full = false≢true (subst (λ (x : StoreFault). may_come x ≡ true) full may)
+
+all_run : (A : Agreements) (m : ℕ) (s mid t : State) (done : List Turn) (last : Trace) → TakesAll A m s done mid → Run A mid last t → Run A s (events m done ++ last) t
+all_run A m s mid t [] last all run = subst (λ (x : State). Run A x last t) all run
+all_run A m s mid t (x ∷ done) last all run = (all.1.mid, all.1.begins.begun, (all.0, all.1.closes, all_run A m all.0 mid t done last all.2 run))
+
+refused_run : (A : Agreements) (m : ℕ) (s t : State) (last : Trace) (r : _) → IsRefused A m s last t r → Run A s last t
+refused_run A m s t last r (at_begin_refused what is h are) = subst (λ (x : Trace). Run A s x t) (sym are) (t, h, refl)
+refused_run A m s t last r (at_outcome_refused what job got mid b h are) = subst (λ (x : Trace). Run A s x t) (sym are) (mid, b.begun, (t, h, refl))
+
+failed_run : (A : Agreements) (m : ℕ) (s t : State) (last : Trace) (f : StoreFault) → may_come f ≡ true → HasFailed A m s last t f → Run A s last t
+failed_run A m s t last f may (at_next_failed same none) = subst (λ (x : Trace). Run A s x t) (sym none) same
+failed_run A m s t last f may (at_begin_failed what is same are) = subst (λ (x : Trace). Run A s x t) (sym are) (λ full. absurd (not_full f may full), same)
+failed_run A m s t last f may (at_outcome_failed what job got b are) = subst (λ (x : Trace). Run A s x t) (sym are) (t, b.begun, (λ full. absurd (not_full f may full), refl))
+
+end_run : (A : Agreements) (m : ℕ) (s t : State) (last : Trace) (text : Text) (end : Sent) → Ends A m s last t text end → Run A s last t
+end_run A m s t last text sent.Done e = subst (λ (x : Trace). Run A s x t) (sym e.2) e.1
+end_run A m s t last text (sent.Refused r) e = refused_run A m s t last r e.0
+end_run A m s t last text (sent.Failed f) e = failed_run A m s t last f e.1 e.0
+end_run A m s t last text sent.Unwritten e = subst (λ (x : Trace). Run A s x t) (sym e.are) (e.takes.mid, e.takes.begins.begun, (t, e.takes.closes, refl))
+
+-- ---- all turns
+
+-- the turns so far
+pub record SentSoFar (A : Agreements) (m : ℕ) (s : State) (c : Connected) (before now : Option (List ℕ)) : Type 0 where
+  pub done : List Turn
+  pub mid : State
+  pub all : TakesAll A m s done mid
+  pub rests : Rests c mid
+  pub written : Appends before now (lines (events m done))
+
+pub sends_first : (A : Agreements) (m : ℕ) (s : State) (c : Connected) (now : Option (List ℕ)) → Rests c s → SentSoFar A m s c now now
+sends_first A m s c now rests = record { done = []; mid = s; all = refl; rests = rests; written = Appends-nil now }
+
+all_more : (A : Agreements) (m : ℕ) (s mid t : State) (done : List Turn) (x : Turn) → TakesAll A m s done mid → Takes A m mid x t → TakesAll A m s (done ++ x ∷ []) t
+all_more A m s mid t [] x all takes = (t, subst (λ (y : State). Takes A m y x t) all takes, refl)
+all_more A m s mid t (y ∷ done) x all takes = (all.0, all.1, all_more A m all.0 mid t done x all.2 takes)
+
+-- an outcome's answer says what became of its try
+told : (what : Next) (got : TryAnswer) (m : ℕ) (b : Became) → line_of (outcome_of what got m) (answer_of b) ≡ line what b
+told (Receipt n) got m (became.Settled d) = refl
+told (Receipt n) got m became.Delivered = refl
+told (Receipt n) got m became.TryFailed = refl
+told (Receipt n) got m became.AlreadySettled = refl
+told (Document n) got m (became.Settled d) = refl
+told (Document n) got m became.Delivered = refl
+told (Document n) got m became.TryFailed = refl
+told (Document n) got m became.AlreadySettled = refl
+
+untold : (what : Next) (m : ℕ) (job : Job) → line_of (begin_of what m) (Handed job) ≡ []
+untold (Receipt n) m job = refl
+untold (Document n) m job = refl
+
+first_line : (m : ℕ) (x : Turn) (more : List Turn) → lines (events m (x ∷ more)) ≡ line x.what x.became ++ lines (events m more)
+first_line m x more =
+    ap (λ (l : Text). l ++ (line_of (outcome_of x.what x.got m) (answer_of x.became) ++ lines (events m more))) (untold x.what m x.job)
+    ∙ ap (λ (l : Text). l ++ lines (events m more)) (told x.what x.got m x.became)
+
+lines_more : (m : ℕ) (done : List Turn) (x : Turn) → lines (events m (done ++ x ∷ [])) ≡ lines (events m done) ++ line x.what x.became
+lines_more m [] x = first_line m x [] ∙ append-nil (line x.what x.became)
+lines_more m (y ∷ done) x =
+    first_line m y (done ++ x ∷ [])
+    ∙ ap (λ (l : Text). line y.what y.became ++ l) (lines_more m done x)
+    ∙ sym (append_assoc (line y.what y.became) (lines (events m done)) (line x.what x.became))
+    ∙ ap (λ (l : Text). l ++ line x.what x.became) (sym (first_line m y done))
+
+pub sends_on : (U : Type 0) (A : Agreements) (m : ℕ) (s : State) (c d : Connected) (before now later : Option (List ℕ)) (u : U) → (w : SentSoFar A m s c before now) → TurnsTo {U = U} A m w.mid d now later (Ok u) → SentSoFar A m s d before later
+sends_on U A m s c d before now later u w x = record {
+  done = w.done ++ x.0 ∷ [];
+  mid = x.1;
+  all = all_more A m s w.mid x.1 w.done x.0 w.all x.2;
+  rests = x.3;
+  written = subst (Appends before later) (sym (lines_more m w.done x.0)) (Appends-trans before now later (lines (events m w.done)) (line x.0.what x.0.became) w.written x.4);
+}
+
+pub sends_ended : (U : Type 0) (A : Agreements) (m : ℕ) (s : State) (c d : Connected) (before now later : Option (List ℕ)) (end : Sent) → (w : SentSoFar A m s c before now) → TurnsTo {U = U} A m w.mid d now later (Err end)
+    → (t : State) × Rests d t × Sends A m s t before later end
+sends_ended U A m s c d before now later end w x = (
+  x.1,
+  x.4,
+  record {
+    done = w.done;
+    mid = w.mid;
+    all = w.all;
+    last = x.0;
+    rest = x.2;
+    ends = x.3;
+    run = all_run A m s w.mid x.1 w.done x.0 w.all (end_run A m w.mid x.1 x.0 x.2 end x.3);
+    written = Appends-trans before now later (lines (events m w.done)) x.2 w.written x.5;
+  },
+)
+
+-- it is given up, as if what is next couldn't be told
+pub sends_given_up : (A : Agreements) (m : ℕ) (s : State) (c : Connected) (before now : Option (List ℕ)) (f : StoreFault) → may_come f ≡ true → SentSoFar A m s c before now → (t : State) × Rests c t × Sends A m s t before now (sent.Failed f)
+sends_given_up A m s c before now f may w = sends_ended ℕ A m s c c before now now (sent.Failed f) w (next_fails ℕ A m w.mid c now f may w.rests)

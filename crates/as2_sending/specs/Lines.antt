@@ -1,0 +1,61 @@
+-- What is written of a try: one line, once its outcome is taken.
+use Rattle.std.specs.Prelude.{[], ◌∷◌, ◌++◌, codes, decimal, Option, Some, None}
+use Rattle.as2_mdn.specs.Details.{state_of, name_of}
+use Rattle.as2_exchange.specs.Agreement.{Text}
+use Rattle.as2_exchange.specs.declared.event.Event.{Event}
+use Rattle.as2_exchange.specs.declared.event.Event.TheVariants.{Outcome, OutcomeMdn}
+use Rattle.as2_exchange.specs.declared.answer.Answer.{Answer}
+use Rattle.as2_exchange.specs.declared.answer.Answer.TheVariants.{Settled, Delivered, TryFailed, AlreadySettled}
+use Rattle.as2_exchange.specs.Run.{Trace, Answered, Failed}
+use Rattle.as2_exchange.specs.Views.{state_text}
+use Rattle.as2_exchange.specs.declared.next.Next.{Next}
+use Rattle.as2_exchange.specs.declared.next.Next.TheVariants.{Receipt, Document}
+use Rattle.as2_sending.specs.declared.telling.Became.{Became}
+use Rattle.as2_sending.specs.declared.telling.Became.TheVariants as became
+
+-- what became of a try, as an outcome is answered; any other answer says of none
+abbrev pub became_by : Answer → Option Became
+became_by (Settled detail) = Some (became.Settled detail)
+became_by Delivered = Some became.Delivered
+became_by TryFailed = Some became.TryFailed
+became_by AlreadySettled = Some became.AlreadySettled
+became_by other = None
+
+-- .. and the answer that says so
+abbrev pub answer_of : Became → Answer
+answer_of (became.Settled detail) = Settled detail
+answer_of became.Delivered = Delivered
+answer_of became.TryFailed = TryFailed
+answer_of became.AlreadySettled = AlreadySettled
+
+-- in words; a receipt that settles a document says how it stands now
+abbrev pub words : Became → Text
+words (became.Settled detail) = codes "settled " ++ state_text (state_of detail) ++ codes " " ++ name_of detail
+words became.Delivered = codes "delivered"
+words became.TryFailed = codes "try failed"
+words became.AlreadySettled = codes "already settled"
+
+-- what was tried
+abbrev pub subject : Next → Text
+subject (Receipt n) = codes "receipt " ++ decimal n
+subject (Document n) = codes "document " ++ decimal n
+
+abbrev pub line : Next → Became → Text
+line what b = subject what ++ codes ": " ++ words b ++ codes "\n"
+
+-- nothing, where nothing became of it
+abbrev pub line_if : Next → Option Became → Text
+line_if what None = []
+line_if what (Some b) = line what b
+
+-- the line of an event with its answer: an outcome has one that wasn't refused
+abbrev pub line_of : Event → Answer → Text
+line_of (Outcome n got m) a = line_if (Document n) (became_by a)
+line_of (OutcomeMdn n got m) a = line_if (Receipt n) (became_by a)
+line_of other a = []
+
+-- the lines of a trace, in order; a fault has none
+abbrev pub lines : Trace → Text
+lines [] = []
+lines ((e, Answered a) ∷ more) = line_of e a ++ lines more
+lines ((e, Failed fault) ∷ more) = lines more

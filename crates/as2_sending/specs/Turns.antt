@@ -1,0 +1,143 @@
+-- What is due is sent, turn by turn, and how that ends.
+use Rattle.std.specs.Prelude.{◌≡◌, ℕ, true, List, [], ◌∷◌, ◌++◌, Option, Some, None, Result, Ok, Err}
+use Rattle.std.specs.Io.KnownBytes.{Appends}
+use Rattle.sqlite.specs.State.{State as Connected}
+use Rattle.as2_exchange.specs.Agreement.{Agreements, Text}
+use Rattle.as2_exchange.specs.Run.{Trace, Answered, Failed, Run}
+use Rattle.as2_exchange.specs.State.{State}
+use Rattle.as2_exchange.specs.Step.{step}
+use Rattle.as2_exchange.specs.Views.{next}
+use Rattle.as2_exchange.specs.declared.answer.Answer.{Answer}
+use Rattle.as2_exchange.specs.declared.answer.Answer.TheVariants.{Job as Handed, Settled, Delivered, TryFailed, AlreadySettled, Refused}
+use Rattle.as2_exchange.specs.declared.answer.Job.{Job}
+use Rattle.as2_exchange.specs.declared.answer.Refusal.{Refusal}
+use Rattle.as2_exchange.specs.declared.event.Event.{Event}
+use Rattle.as2_exchange.specs.declared.event.Event.TheVariants.{Begin, Outcome, BeginMdn, OutcomeMdn}
+use Rattle.as2_exchange.specs.declared.event.TryAnswer.{TryAnswer}
+use Rattle.as2_exchange.specs.declared.fault.StoreFault.{StoreFault}
+use Rattle.as2_exchange.specs.declared.fault.StoreFault.TheVariants as fault
+use Rattle.as2_exchange.specs.declared.next.Next.{Next}
+use Rattle.as2_exchange.specs.declared.next.Next.TheVariants.{Receipt, Document}
+use Rattle.as2_store.specs.Stands.{Rests, may_come}
+use Rattle.as2_sending.specs.Lines.{answer_of, line, lines}
+use Rattle.as2_sending.specs.declared.sent.Sent.{Sent}
+use Rattle.as2_sending.specs.declared.sent.Sent.TheVariants as sent
+use Rattle.as2_sending.specs.declared.telling.Became.{Became}
+use Rattle.as2_sending.specs.declared.telling.Became.TheVariants as became
+
+-- ---- a turn
+
+-- a try of it begins at this moment
+abbrev pub begin_of : Next → ℕ → Event
+begin_of (Receipt n) m = BeginMdn n m
+begin_of (Document n) m = Begin n m
+
+-- the try of it got that
+abbrev pub outcome_of : Next → TryAnswer → ℕ → Event
+outcome_of (Receipt n) got m = OutcomeMdn n got m
+outcome_of (Document n) got m = Outcome n got m
+
+-- what is tried, the request that is handed to the link, what the link answers, and what becomes of the try
+pub record Turn : Type 0 where
+  pub what : Next
+  pub job : Job
+  pub got : TryAnswer
+  pub became : Became
+
+-- what is next in the state s begins at this moment, and this request is to be sent; mid is left
+pub record Begins (A : Agreements) (m : ℕ) (s : State) (what : Next) (job : Job) (mid : State) : Type 0 where
+  pub is_next : next s m ≡ Some what
+  pub begun : step A s (begin_of what m) ≡ Some (Handed job, mid)
+
+-- what is next begins, and the outcome of that same try, which is what the link answered, is taken; t is left
+pub record Takes (A : Agreements) (m : ℕ) (s : State) (x : Turn) (t : State) : Type 0 where
+  pub mid : State
+  pub begins : Begins A m s x.what x.job mid
+  pub closes : step A mid (outcome_of x.what x.got m) ≡ Some (answer_of x.became, t)
+
+-- these turns, one after the other
+abbrev pub TakesAll : Agreements → ℕ → State → List Turn → State → Type 0
+TakesAll A m s [] t = t ≡ s
+TakesAll A m s (x ∷ more) t = (mid : State) × Takes A m s x mid × TakesAll A m mid more t
+
+-- the events of turns, with their answers
+abbrev pub events : ℕ → List Turn → Trace
+events m [] = []
+events m (x ∷ more) = (begin_of x.what m, Answered (Handed x.job)) ∷ (outcome_of x.what x.got m, Answered (answer_of x.became)) ∷ events m more
+
+-- ---- the end
+
+-- in the state s these last events came, of which the last one was refused for this reason; t is left
+pub data IsRefused (A : Agreements) (m : ℕ) (s : State) (last : Trace) (t : State) (reason : Refusal) : Type 0 where
+  at_begin_refused : (what : Next) (is_next : next s m ≡ Some what) (refused : step A s (begin_of what m) ≡ Some (Refused reason, t))
+      (are : last ≡ (begin_of what m, Answered (Refused reason)) ∷ []) → IsRefused A m s last t reason
+  at_outcome_refused : (what : Next) (job : Job) (got : TryAnswer) (mid : State) (begins : Begins A m s what job mid) (refused : step A mid (outcome_of what got m) ≡ Some (Refused reason, t))
+      (are : last ≡ (begin_of what m, Answered (Handed job)) ∷ (outcome_of what got m, Answered (Refused reason)) ∷ []) → IsRefused A m s last t reason
+
+-- .. of which the last one got this fault of the store; or what is next couldn't be told, and no more events came
+pub data HasFailed (A : Agreements) (m : ℕ) (s : State) (last : Trace) (t : State) (why : StoreFault) : Type 0 where
+  at_next_failed : (same : t ≡ s) (none : last ≡ []) → HasFailed A m s last t why
+  at_begin_failed : (what : Next) (is_next : next s m ≡ Some what) (same : t ≡ s) (are : last ≡ (begin_of what m, Failed why) ∷ []) → HasFailed A m s last t why
+  at_outcome_failed : (what : Next) (job : Job) (got : TryAnswer) (begins : Begins A m s what job t)
+      (are : last ≡ (begin_of what m, Answered (Handed job)) ∷ (outcome_of what got m, Failed why) ∷ []) → HasFailed A m s last t why
+
+-- a whole turn, of whose line a part may be missing
+pub record IsUntold (A : Agreements) (m : ℕ) (s : State) (last : Trace) (t : State) (text : Text) : Type 0 where
+  pub turn : Turn
+  pub takes : Takes A m s turn t
+  pub are : last ≡ events m (turn ∷ [])
+  pub missing : Text
+  pub cut : line turn.what turn.became ≡ text ++ missing
+
+-- how sending ends in the state s: with which last events, which state is left, and what is still written
+abbrev pub Ends : Agreements → ℕ → State → Trace → State → Text → Sent → Type 0
+Ends A m s last t text sent.Done = (next s m ≡ None) × (t ≡ s) × (last ≡ []) × (text ≡ [])
+Ends A m s last t text (sent.Refused reason) = IsRefused A m s last t reason × (text ≡ [])
+Ends A m s last t text (sent.Failed why) = HasFailed A m s last t why × (may_come why ≡ true) × (text ≡ [])
+Ends A m s last t text sent.Unwritten = IsUntold A m s last t text
+
+-- ---- all of it
+
+-- Turns were taken one after the other, and then sending ended so. The events are a run of the machine, and what was written
+-- is the lines of the turns.
+pub record Sends (A : Agreements) (m : ℕ) (s t : State) (before after : Option (List ℕ)) (end : Sent) : Type 0 where
+  pub done : List Turn
+  pub mid : State
+  pub all : TakesAll A m s done mid
+  pub last : Trace
+  pub rest : Text
+  pub ends : Ends A m mid last t rest end
+  pub run : Run A s (events m done ++ last) t
+  pub written : Appends before after (lines (events m done) ++ rest)
+
+-- ---- one turn
+
+-- the request that the answer to a begin hands out, or how sending ends with it
+abbrev pub handed : Answer → Result Job Sent
+handed (Handed job) = Ok job
+handed (Refused reason) = Err (sent.Refused reason)
+handed other = Err (sent.Failed fault.Refused)
+
+-- what became of a try by the answer to its outcome, or how sending ends with it
+abbrev pub came : Answer → Result Became Sent
+came (Settled detail) = Ok (became.Settled detail)
+came Delivered = Ok became.Delivered
+came TryFailed = Ok became.TryFailed
+came AlreadySettled = Ok became.AlreadySettled
+came (Refused reason) = Err (sent.Refused reason)
+came other = Err (sent.Failed fault.Refused)
+
+-- what is next begins, and the tables stand for the state that it leaves; or sending ends with it
+abbrev pub BeginsTo : Agreements → ℕ → State → Next → Connected → Result Job Sent → Type 0
+BeginsTo A m s what c (Ok job) = (mid : State) × Begins A m s what job mid × Rests c mid
+BeginsTo A m s what c (Err end) = (last : Trace) × (t : State) × Ends A m s last t [] end × Rests c t
+
+-- the outcome of what has begun is taken, which leaves mid behind; or sending ends with it
+abbrev pub ClosesTo : Agreements → ℕ → State → Next → TryAnswer → State → Connected → Result Became Sent → Type 0
+ClosesTo A m s what got mid c (Ok became) = (t : State) × (step A mid (outcome_of what got m) ≡ Some (answer_of became, t)) × Rests c t
+ClosesTo A m s what got mid c (Err end) = (last : Trace) × (t : State) × Ends A m s last t [] end × Rests c t
+
+-- a turn is taken whole, with its line; or sending ends with it
+abbrev pub TurnsTo : {U : Type 0} → Agreements → ℕ → State → Connected → Option (List ℕ) → Option (List ℕ) → Result U Sent → Type 0
+TurnsTo A m s c before after (Ok done) = (x : Turn) × (t : State) × Takes A m s x t × Rests c t × Appends before after (line x.what x.became)
+TurnsTo A m s c before after (Err end) = (last : Trace) × (t : State) × (text : Text) × Ends A m s last t text end × Rests c t × Appends before after text

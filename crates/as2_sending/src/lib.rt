@@ -1,0 +1,13 @@
+//! What is due is sent: try by try, each begun at the station, exchanged over a link and closed by its outcome, until nothing
+//! is due or something is refused.
+#![tactic(auto)]
+
+mod links;
+mod sending;
+mod sent;
+mod telling;
+mod turns;
+
+pub use links::Links;
+pub use sending::send;
+pub use sent::Sent;

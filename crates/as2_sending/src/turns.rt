@@ -1,0 +1,155 @@
+//! One turn: what is next begins, is exchanged, and its outcome is taken and told.
+ghost use Rattle.std.specs.Prelude.{◌≡◌, Some};
+ghost use Rattle.sqlite.specs.Held.{state};
+ghost use Rattle.sqlite.specs.State.{HasCleanDisk};
+ghost use Rattle.as2_exchange.specs.declared.answer.Job.{Job as HandedJob};
+ghost use Rattle.as2_exchange.specs.State.{State};
+ghost use Rattle.as2_exchange.specs.Views.{next};
+ghost use Rattle.as2_store.specs.Stands.{Rests};
+ghost use Rattle.as2_sending.specs.Turns.{Begins, BeginsTo, ClosesTo, TurnsTo, begin_of, came, handed, outcome_of};
+
+use crate::links::Links;
+use crate::sent::Sent;
+use crate::telling::{Became, line};
+use as2_agreement::Agreements;
+use as2_exchange::{Answer, Event, Job, Next, StoreFault, TryAnswer};
+use as2_http::{Sink, push_all};
+use as2_station::Station;
+use as2_text::Moment;
+use sqlite::Alter;
+use std::alloc::Global;
+
+/// A try of it begins.
+fn begin_event(what: Next, moment: Moment) -> Event
+    ensures { result ≡ begin_of what moment }
+{
+    match what {
+        Next::Receipt(number) => Event::BeginMdn { number, moment },
+        Next::Document(number) => Event::Begin { number, moment },
+    }
+}
+
+/// A try of it has ended.
+fn outcome_event(what: Next, answer: TryAnswer, moment: Moment) -> Event
+    ensures { result ≡ outcome_of what answer moment }
+{
+    match what {
+        Next::Receipt(number) => Event::OutcomeMdn {
+            number,
+            answer,
+            moment,
+        },
+        Next::Document(number) => Event::Outcome {
+            number,
+            answer,
+            moment,
+        },
+    }
+}
+
+/// The request of a try, as its begin is answered; or how sending ends.
+fn handed(answer: Answer) -> Result<Job, Sent>
+    ensures { result ≡ handed answer }
+{
+    match answer {
+        Answer::Job(job) => Ok(job),
+        Answer::Refused(reason) => Err(Sent::Refused(reason)),
+        // No begin is answered otherwise.
+        _ => Err(Sent::Failed(StoreFault::Refused)),
+    }
+}
+
+/// What became of a try, as its outcome is answered; or how sending ends.
+fn came(answer: Answer) -> Result<Became, Sent>
+    ensures { result ≡ came answer }
+{
+    match answer {
+        Answer::Settled(detail) => Ok(Became::Settled(detail)),
+        Answer::Delivered => Ok(Became::Delivered),
+        Answer::TryFailed => Ok(Became::TryFailed),
+        Answer::AlreadySettled => Ok(Became::AlreadySettled),
+        Answer::Refused(reason) => Err(Sent::Refused(reason)),
+        // No outcome is answered otherwise.
+        _ => Err(Sent::Failed(StoreFault::Refused)),
+    }
+}
+
+/// Begins a try of what is next, and gives its request.
+fn begin<S: Alter>(
+    alloc: Global,
+    agreements: &Agreements,
+    moment: Moment,
+    station: &mut Station<S>,
+    what: Next,
+) -> Result<Job, Sent>
+    ensures clean { HasCleanDisk (state S.Store station.new) → HasCleanDisk (state S.Store station.old) }
+    ensures begun { HasCleanDisk (state S.Store station.new) → (s : State) → Rests (state S.Store station.old) s → next s moment ≡ Some what
+        → BeginsTo agreements.now moment s what (state S.Store station.new) result }
+{
+    match station.step(alloc, agreements, begin_event(what, moment)) {
+        Ok(answer) => handed(answer),
+        Err(fault) => Err(Sent::Failed(fault)),
+    }
+}
+
+/// Takes the outcome of a try, and tells what became of it.
+fn close<S: Alter>(
+    alloc: Global,
+    agreements: &Agreements,
+    moment: Moment,
+    station: &mut Station<S>,
+    what: Next,
+    got: TryAnswer,
+) -> Result<Became, Sent>
+    ensures clean { HasCleanDisk (state S.Store station.new) → HasCleanDisk (state S.Store station.old) }
+    ensures closed { HasCleanDisk (state S.Store station.new) → (s mid : State) (job : HandedJob) → Begins agreements.now moment s what job mid → Rests (state S.Store station.old) mid
+        → ClosesTo agreements.now moment s what got mid (state S.Store station.new) result }
+{
+    match station.step(alloc, agreements, outcome_event(what, got, moment)) {
+        Ok(answer) => came(answer),
+        Err(fault) => Err(Sent::Failed(fault)),
+    }
+}
+
+/// Takes a turn of what is next, and writes its line. An Err says how sending ends.
+fn turn<S: Alter, L: Links, W: Sink>(
+    alloc: Global,
+    agreements: &Agreements,
+    moment: Moment,
+    station: &mut Station<S>,
+    what: Next,
+    links: &mut L,
+    output: &mut W,
+) -> Result<(), Sent>
+    ensures clean { HasCleanDisk (state S.Store station.new) → HasCleanDisk (state S.Store station.old) }
+    ensures turned { HasCleanDisk (state S.Store station.new) → (s : State) → Rests (state S.Store station.old) s → next s moment ≡ Some what
+        → TurnsTo agreements.now moment s (state S.Store station.new) (W.written output.old) (W.written output.new) result }
+{
+    let job = begin(alloc, agreements, moment, station, what)?;
+    let got = links.exchange(alloc, &job);
+    let became = close(alloc, agreements, moment, station, what, got)?;
+    match push_all(output, line(what, became).as_str().as_bytes()) {
+        Ok(()) => Ok(()),
+        Err(_) => Err(Sent::Unwritten),
+    }
+}
+
+/// Takes a turn of what is next, if something is. An Err says how sending ends.
+pub fn take_turn<S: Alter, L: Links, W: Sink>(
+    alloc: Global,
+    agreements: &Agreements,
+    moment: Moment,
+    station: &mut Station<S>,
+    links: &mut L,
+    output: &mut W,
+) -> Result<(), Sent>
+    ensures clean { HasCleanDisk (state S.Store station.new) → HasCleanDisk (state S.Store station.old) }
+    ensures turned { HasCleanDisk (state S.Store station.new) → (s : State) → Rests (state S.Store station.old) s
+        → TurnsTo agreements.now moment s (state S.Store station.new) (W.written output.old) (W.written output.new) result }
+{
+    match station.next(moment) {
+        Ok(Some(what)) => turn(alloc, agreements, moment, station, what, links, output),
+        Ok(None) => Err(Sent::Done),
+        Err(fault) => Err(Sent::Failed(fault)),
+    }
+}
