@@ -3,7 +3,8 @@ use Rattle.std.proofs.Common.{◌≡◌, ◌⊎◌, ℕ, Bool, true, false, List
 use Rattle.std.specs.Str.{bytes_eq}
 use Rattle.as2_agreement.specs.Agreements.{AgreedValues}
 use Rattle.as2_exchange.specs.State.{State}
-use Rattle.as2_desk.specs.Runs.{HandsBack, Posts}
+use Rattle.as2_desk.specs.Posting.{Posts}
+use Rattle.as2_desk.specs.Runs.{HandsBack}
 use Rattle.as2_desk.specs.Stores.{Kept, kept_at, nothing}
 use Rattle.as2_desk.specs.declared.status.Ran.{Ran}
 

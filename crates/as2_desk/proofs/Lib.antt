@@ -1,6 +1,6 @@
-mod Given
 mod Opening
 mod HandedBack
 mod StreamEnds
-mod Numbers
-mod Ranges
+mod Answering
+mod Connecting
+mod Working

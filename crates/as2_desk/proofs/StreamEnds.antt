@@ -1,7 +1,7 @@
 -- What is said of the end of a stream.
 use Rattle.std.proofs.Common.{◌≡◌, ℕ, List, refl, arith}
 use Rattle.as2_desk.specs.Refusals.{end_line, error_line}
-use Rattle.as2_desk.specs.Runs.{Ends}
+use Rattle.as2_desk.specs.Endings.{Ends}
 use Rattle.as2_desk.specs.Statuses.{done, failed, refused, exit_status}
 use Rattle.as2_http.specs.declared.stream.Served.{Served}
 use Rattle.as2_http.specs.declared.stream.Served.TheVariants.{Closed, Truncated, BadFraming, ReadFault, WriteFault, Memory, TooLong}

@@ -1,5 +1,5 @@
 -- What stands under a path, and what reading it comes to.
-use Rattle.std.specs.Prelude.{◌≡◌, ℕ, List, Result, Ok, Err, ⊤}
+use Rattle.std.specs.Prelude.{◌≡◌, ℕ, List, take, Result, Ok, Err, ⊤}
 use Rattle.as2_desk.specs.declared.files.FileFault.{FileFault}
 use Rattle.as2_desk.specs.declared.files.FileFault.TheVariants as fault
 
@@ -11,6 +11,12 @@ pub data Content : Type 0 where
   unreadable : Content
   -- a file of these bytes
   file : List ℕ → Content
+
+-- no more of it than so many bytes
+abbrev pub front : ℕ → Content → Content
+front most untold = untold
+front most unreadable = unreadable
+front most (file bytes) = file (take most bytes)
 
 -- the bytes are read, or it is told why not; memory may be wanting for the bytes of a file
 abbrev pub ReadsFile : {V : Type 0} → (V → List ℕ) → Content → Result V FileFault → Type 0

@@ -1,9 +1,14 @@
-pub mod CommandLine
-pub mod Options
 pub mod Statuses
 pub mod Refusals
+pub mod Stores
+pub mod Endings
 pub mod FileContents
 pub mod FileAgreements
-pub mod Stores
+pub mod FileDocuments
 pub mod Checks
+pub mod Posting
+pub mod Questions
+pub mod SendingDue
+pub mod Connections
+pub mod Works
 pub mod Runs

@@ -3,6 +3,8 @@ use Rattle.std.specs.Prelude.{ℕ, List, ◌++◌, Option, Some, None, codes}
 use Rattle.as2_agreement.specs.Keys.{fault_key, fault_name, key_name}
 use Rattle.as2_agreement.specs.declared.fault.AgreementFault.{AgreementFault}
 use Rattle.as2_agreement.specs.declared.key.Key.{Key}
+use Rattle.as2_exchange.specs.declared.answer.Refusal.{Refusal}
+use Rattle.as2_exchange.specs.declared.answer.Refusal.TheVariants as station
 use Rattle.as2_exchange.specs.declared.fault.StoreFault.{StoreFault}
 use Rattle.as2_exchange.specs.declared.fault.StoreFault.TheVariants as store_fault
 use Rattle.as2_desk.specs.Statuses.{end_name, failed, refused}
@@ -38,6 +40,16 @@ abbrev pub store_lines : OpenFault → List ℕ
 store_lines Held = codes "store: Refused\nhint: another process has the file open\n"
 store_lines (Store fault) = codes "store: " ++ (store_fault_name fault ++ codes "\n")
 
+abbrev pub refusal_name : Refusal → List ℕ
+refusal_name station.UnknownOrganization = codes "UnknownOrganization"
+refusal_name station.UnknownPartner = codes "UnknownPartner"
+refusal_name station.NoSuchNumber = codes "NoSuchNumber"
+refusal_name station.NotDue = codes "NotDue"
+refusal_name station.AllSettled = codes "AllSettled"
+refusal_name station.NoOpenTry = codes "NoOpenTry"
+refusal_name station.TriesUsed = codes "TriesUsed"
+refusal_name station.TooLarge = codes "TooLarge"
+
 -- the line of a refusal
 abbrev pub error_line : CommandFault → List ℕ
 error_line refusal.CannotRead = refused_line (codes "CannotRead")
@@ -46,6 +58,8 @@ error_line refusal.Memory = refused_line (codes "Memory")
 error_line (refusal.Agreements fault) = agreements_line fault
 error_line (refusal.Store fault) = store_lines fault
 error_line (refusal.Stream ended) = refused_line (end_name ended)
+error_line (refusal.Station reason) = refused_line (refusal_name reason)
+error_line refusal.CannotListen = refused_line (codes "CannotListen")
 
 -- the exit status that goes with it
 abbrev pub refusal_status : CommandFault → ℕ

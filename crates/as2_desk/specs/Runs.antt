@@ -1,77 +1,58 @@
 -- What the program comes to where the words ask for something. Of the streams these are told: what the reader had left and has
 -- left (before, after) and how many calls were made of it (calls, later), that nothing was read (Unread) or written (Unwritten), what standard output held and holds (written, now),
--- and which text was written on standard error (Said); and for which states the tables stand of a store that is handed back (Left).
-use Rattle.std.specs.Prelude.{◌≡◌, ◌⊎◌, ℕ, List, Option, Some, None, Ok, Err, true, IfSome, codes}
+-- and which text was written on standard error (Said); that a store that was opened is handed back (Back), and for which states its tables stand (Left).
+use Rattle.std.specs.Prelude.{◌≡◌, ◌⊎◌, ℕ, List, Option, Some, None, Result, Ok, Err, true, codes, ⊤}
 use Rattle.std.specs.Io.KnownBytes.{Appends}
 use Rattle.std.specs.Str.{bytes_eq}
 use Rattle.as2_agreement.specs.Agreements.{AgreedValues}
-use Rattle.as2_desk.specs.Checks.{counts_line}
+use Rattle.as2_desk.specs.Checks.{counts_line, warnings}
+use Rattle.as2_desk.specs.Endings.{Ends, EndsRefused, Fails}
 use Rattle.as2_desk.specs.FileAgreements.{Opened, Opens}
 use Rattle.as2_desk.specs.FileContents.{Content}
-use Rattle.as2_desk.specs.Refusals.{end_line, error_line, refusal_status}
-use Rattle.as2_desk.specs.Statuses.{done, exit_status}
-use Rattle.as2_desk.specs.Stores.{IsFaultOf, Kept, stands_for}
+use Rattle.as2_desk.specs.Statuses.{done}
+use Rattle.as2_desk.specs.Stores.{Kept, stands_for}
+use Rattle.as2_desk.specs.Works.{Begun, Does, IsWork}
 use Rattle.as2_exchange.specs.State.{State}
-use Rattle.as2_http.specs.StreamReads.{RunsPosts, Serves}
-use Rattle.as2_desk.specs.declared.stores.OpenFault.{OpenFault}
-use Rattle.as2_desk.specs.declared.refusal.CommandFault.{CommandFault}
-use Rattle.as2_http.specs.declared.stream.Served.{Served}
-use Rattle.as2_desk.specs.declared.options.Task.{Task}
-use Rattle.as2_desk.specs.declared.options.Task.TheVariants.{Check, Post}
-use Rattle.as2_desk.specs.declared.refusal.CommandFault.TheVariants.{CannotWrite, Memory, Store}
+use Rattle.as2_desk.specs.declared.refusal.CommandFault.TheVariants.{CannotWrite, Memory}
 use Rattle.as2_desk.specs.declared.status.Ran.{Ran}
+use Rattle.as2_commands.specs.declared.tasks.RunOptions.{RunOptions}
+use Rattle.as2_commands.specs.declared.tasks.Task.{Task}
+use Rattle.as2_commands.specs.declared.tasks.Task.TheVariants.{Check, Run}
+use Rattle.as2_commands.specs.declared.tasks.Command.TheVariants.{Send}
 
--- the exit status is that one, and the text is said on standard error, unless it couldn't be written there
-pub record Ends (status : ℕ) (text : List ℕ) (Said : List ℕ → Type 0) (ran : Ran) : Type 0 where
-  pub ended : ran.status ≡ status
-  pub said : ran.told ≡ true → Said text
-
--- that is refused: status and line say so
-abbrev pub EndsRefused : CommandFault → (List ℕ → Type 0) → Ran → Type 0
-EndsRefused refusal Said ran = Ends (refusal_status refusal) (error_line refusal) Said ran
-
--- the members were counted on standard output, or that couldn't be written, or memory for it was wanting
+-- the members were counted on standard output, and what to be warned of is said; or that couldn't be written, or memory for it was wanting
 abbrev pub Counts : AgreedValues → Option (List ℕ) → Option (List ℕ) → (List ℕ → Type 0) → Ran → Type 0
 Counts agreements written now Said ran =
-    (Appends written now (counts_line agreements) × (ran.status ≡ done)) ⊎ (EndsRefused CannotWrite Said ran ⊎ EndsRefused Memory Said ran)
+    (Appends written now (counts_line agreements) × Ends done (warnings agreements) Said ran) ⊎ (EndsRefused CannotWrite Said ran ⊎ EndsRefused Memory Said ran)
 
--- Where the state is known that the tables stood for, what is handed back stands for the one that posts at this moment led to; and
--- where the reader tells its bytes, these were the posts among the requests that it begins with, and their replies were written.
--- Status and line tell the end.
-pub record Posts (agreements : AgreedValues) (moment : ℕ) (known : Option State) (before after : Option (List ℕ)) (calls later : ℕ) (Left : State → Type 0)
-    (written now : Option (List ℕ)) (Said : List ℕ → Type 0) (ran : Ran) : Type 0 where
-  pub end : Served
-  pub posts : IfSome known (λ s. (t : State) × Left t × RunsPosts agreements moment s t)
-  pub serves : IfSome known (λ s. (input : List ℕ) → before ≡ Some input
-      → (t : State) × Left t × Serves agreements moment s t input after written now calls later end)
-  pub told : Ends (exit_status end) (end_line end) Said ran
-
--- no store could be opened, for a fault that what was kept may have
-pub record Fails (kept : Kept) (Said : List ℕ → Type 0) (ran : Ran) : Type 0 where
-  pub fault : OpenFault
-  pub known : IsFaultOf kept fault
-  pub told : EndsRefused (Store fault) Said ran
-
--- a store has a fault: that is told, and nothing is read or written
-abbrev pub Stopped : Type 0 → Type 0 → (List ℕ → Type 0) → Ran → Type 0
-Stopped Unread Unwritten Said ran = Unread × Unwritten × ((fault : OpenFault) × EndsRefused (Store fault) Said ran)
+-- without a document the refusal is told, and nothing is read or written; nor is it where no store can be opened. Else the work is done, from
+-- the state that the store stood for, as far as that is told.
+abbrev pub Goes : AgreedValues → Kept → RunOptions → Begun → Option (List ℕ) → Option (List ℕ) → ℕ → ℕ → Type 0 → Type 0 → (State → Type 0) → Type 0 → Option (List ℕ) → Option (List ℕ) → (List ℕ → Type 0) → Ran → Type 0
+Goes agreements kept options (Err refusal) before after calls later Unread Unwritten Left Back written now Said ran = Unread × Unwritten × EndsRefused refusal Said ran
+Goes agreements kept options (Ok work) before after calls later Unread Unwritten Left Back written now Said ran =
+    (Unread × Unwritten × Fails kept Said ran) ⊎ (Back × Does agreements options.moment work (stands_for kept options.first) before after calls later Unread Unwritten Left written now Said ran)
 
 -- over agreements and a store the task is done; without any of them the refusal is told, and nothing is read or written. Counting needs no store.
-abbrev pub Comes : Opened → Kept → Task → Option (List ℕ) → Option (List ℕ) → ℕ → ℕ → Type 0 → Type 0 → (State → Type 0) → Option (List ℕ) → Option (List ℕ) → (List ℕ → Type 0) → Ran → Type 0
-Comes (Err refusal) kept task before after calls later Unread Unwritten Left written now Said ran = Unread × Unwritten × EndsRefused refusal Said ran
-Comes (Ok agreements) kept Check before after calls later Unread Unwritten Left written now Said ran = Unread × Counts agreements written now Said ran
-Comes (Ok agreements) kept (Post posting) before after calls later Unread Unwritten Left written now Said ran =
-    (Unread × Unwritten × Fails kept Said ran) ⊎ Posts agreements posting.moment (stands_for kept posting.first) before after calls later Left written now Said ran
+abbrev pub Comes : (List ℕ → Content) → Opened → Kept → Task → Option (List ℕ) → Option (List ℕ) → ℕ → ℕ → Type 0 → Type 0 → (State → Type 0) → Type 0 → Option (List ℕ) → Option (List ℕ) → (List ℕ → Type 0) → Ran → Type 0
+Comes contents (Err refusal) kept task before after calls later Unread Unwritten Left Back written now Said ran = Unread × Unwritten × EndsRefused refusal Said ran
+Comes contents (Ok agreements) kept Check before after calls later Unread Unwritten Left Back written now Said ran = Unread × Counts agreements written now Said ran
+Comes contents (Ok agreements) kept (Run options command) before after calls later Unread Unwritten Left Back written now Said ran =
+    (begun : Begun) × IsWork contents command begun × Goes agreements kept options begun before after calls later Unread Unwritten Left Back written now Said ran
 
--- the file comes to agreements or to a refusal, and the task to what follows from them
-pub record Runs (content : Content) (kept : Kept) (task : Task) (before after : Option (List ℕ)) (calls later : ℕ) (Unread Unwritten : Type 0)
-    (Left : State → Type 0) (written now : Option (List ℕ)) (Said : List ℕ → Type 0) (ran : Ran) : Type 0 where
+-- the file of that path comes to agreements or to a refusal, and the task to what follows from them
+pub record Runs (contents : List ℕ → Content) (path : List ℕ) (kept : Kept) (task : Task) (before after : Option (List ℕ)) (calls later : ℕ) (Unread Unwritten : Type 0)
+    (Left : State → Type 0) (Back : Type 0) (written now : Option (List ℕ)) (Said : List ℕ → Type 0) (ran : Ran) : Type 0 where
   pub opened : Opened
-  pub opens : Opens content opened
-  pub comes : Comes opened kept task before after calls later Unread Unwritten Left written now Said ran
+  pub opens : Opens (contents path) opened
+  pub comes : Comes contents opened kept task before after calls later Unread Unwritten Left Back written now Said ran
 
 -- a store that is handed back comes with that path; one that was opened for a post that was read is handed back, unless it is
 -- in memory
 abbrev pub HandsBack : List ℕ → Type 0 → Option (List ℕ) → Type 0
 HandsBack path Unread (Some under) = under ≡ path
 HandsBack path Unread None = Unread ⊎ (bytes_eq path (codes ":memory:") ≡ true)
+
+-- the task is to send
+abbrev pub IsSending : Task → Type 0
+IsSending (Run options (Send waits)) = ⊤
+IsSending other = ⊥

@@ -1,14 +1,67 @@
-//! The command `check`: how many members agreements have.
-ghost use Rattle.std.specs.Prelude.{◌≡◌, IfOk, string_bytes};
-ghost use Rattle.as2_desk.specs.Checks.{counts_line};
+//! The command `check`: how many members agreements have, and what to be warned of.
+ghost use Rattle.std.specs.Prelude.{◌≡◌, ◌⊎◌, IfOk, string_bytes, option_map, true};
+ghost use Rattle.std.specs.Io.KnownBytes.{Appends};
+ghost use Rattle.as2_desk.specs.Checks.{counts_line, is_elsewhere, warnings};
+ghost use Rattle.as2_desk.specs.Runs.{Counts};
+ghost use Rattle.as2_desk.specs.Statuses.{done, refused};
 
+use crate::refusal::{CommandFault, refuse};
+use crate::status::{DONE, Ran};
 use as2_agreement::Agreements;
+use as2_http::{Sink, push_all};
+use as2_text::Url;
 use std::alloc::{AllocError, Global};
+use std::io::Write;
+
+const WARNING: &str = "warning: return_url has not the path /as2; receipts sent there get 404\n";
 
 /// The line that says how many organizations and partners there are.
-pub(crate) fn counts(alloc: Global, agreements: &Agreements) -> Result<String, AllocError>
+fn counts(alloc: Global, agreements: &Agreements) -> Result<String, AllocError>
     ensures { IfOk result (λ line. string_bytes line ≡ counts_line agreements.now) }
 {
     let (organizations, partners) = agreements.counts();
     format!(in alloc; "organizations {organizations}, partners {partners}\n")
+}
+
+/// Whether receipts are to be sent to another path than the station's.
+fn returns_elsewhere(agreements: &Agreements) -> bool
+    ensures { result ≡ is_elsewhere agreements.now.return_url }
+{
+    let Some(url) = agreements.return_url() else {
+        return false;
+    };
+    match Url::parse(url.as_str().as_bytes()) {
+        Some(url) => url.target() != b"/as2".as_slice(),
+        None => false,
+    }
+}
+
+/// Writes what there is to be warned of, and tells whether that could be written.
+fn are_warned<E: Write>(agreements: &Agreements, errors: &mut E) -> bool
+    ensures { result ≡ true → Appends (E.contents errors.old) (E.contents errors.new) (warnings agreements.now) }
+{
+    !returns_elsewhere(agreements) || errors.write_all(WARNING.as_bytes()).is_ok()
+}
+
+/// Tells how many organizations and partners there are.
+pub(crate) fn check<W: Sink, E: Write>(
+    alloc: Global,
+    agreements: &Agreements,
+    output: &mut W,
+    errors: &mut E,
+) -> Ran
+    ensures status { (result.status ≡ done) ⊎ (result.status ≡ refused) }
+    ensures counts { Counts agreements.now (W.written output.old) (W.written output.new)
+        (Appends (E.contents errors.old) (E.contents errors.new)) result }
+{
+    let Ok(line) = counts(alloc, agreements) else {
+        return refuse(CommandFault::Memory, errors);
+    };
+    if push_all(output, line.as_bytes()).is_err() {
+        return refuse(CommandFault::CannotWrite, errors);
+    }
+    Ran {
+        status: DONE,
+        told: are_warned(agreements, errors),
+    }
 }

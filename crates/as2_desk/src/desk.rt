@@ -1,49 +1,48 @@
 //! A command line, run.
-ghost use Rattle.std.specs.Prelude.{◌≡◌, ◌≢◌, ◌⊎◌, ℕ, List, [], None, option_map, true, IfErr, IfOk, IfSome, IsSome};
+ghost use Rattle.std.specs.Prelude.{◌≡◌, ◌≢◌, ◌⊎◌, ℕ, List, None, option_map, IfSome};
 ghost use Rattle.std.specs.Io.KnownBytes.{Appends};
 ghost use Rattle.clap.specs.Walk.{texts};
-ghost use Rattle.clap.specs.Words.{HasKind, app_of, found_of, kind_of, rows_of, subcommand_name_of};
-ghost use Rattle.clap.specs.declared.error.kind.ErrorKind.TheVariants.{OutOfMemory, ValueValidation};
+ghost use Rattle.clap.specs.Words.{kind_of};
+ghost use Rattle.clap.specs.declared.error.kind.ErrorKind.TheVariants.{OutOfMemory};
 ghost use Rattle.sqlite.specs.Held.{state};
 ghost use Rattle.as2_store.specs.Stands.{Rests};
-ghost use Rattle.as2_desk.specs.CommandLine.{AsksForHelp, IsHelp, command_in, command_line, faults, option_values};
-ghost use Rattle.as2_desk.specs.Options.{Gives, GivesNone};
-ghost use Rattle.as2_desk.specs.Refusals.{end_line};
-ghost use Rattle.as2_desk.specs.Runs.{Comes, Counts, Ends, Fails, HandsBack, Posts, EndsRefused, Runs, Stopped};
-ghost use Rattle.as2_desk.specs.Statuses.{done, failed, faulty, refused, exit_status};
-ghost use Rattle.as2_desk.specs.Stores.{Holds, Kept, kept_at, stands_for};
-ghost use Rattle.as2_desk.specs.declared.options.Task.{Task as TheTask};
-ghost use Rattle.as2_desk.specs.declared.stores.OpenFault.{OpenFault as TheFault};
-ghost use Rattle.as2_desk.specs.declared.refusal.CommandFault.TheVariants.{Memory, Store as Failing};
+ghost use Rattle.as2_commands.specs.CommandLine.{AsksForHelp, IsHelp};
+ghost use Rattle.as2_commands.specs.Options.{Gives, GivesNone};
+ghost use Rattle.as2_desk.specs.Endings.{EndsRefused, Stopped};
+ghost use Rattle.as2_desk.specs.Runs.{Comes, HandsBack, IsSending, Runs};
+ghost use Rattle.as2_desk.specs.Statuses.{done, failed, faulty, refused};
+ghost use Rattle.as2_desk.specs.Stores.{kept_at};
+ghost use Rattle.as2_commands.specs.declared.tasks.Task.{Task as TheTask};
+ghost use Rattle.as2_desk.specs.declared.refusal.CommandFault.TheVariants.{Memory};
 
 use crate::agreed::agreements_in;
-use crate::check::counts;
-use crate::command::command;
+use crate::check::check;
 use crate::files::ReadFiles;
-use crate::options::{OptionFault, Options, Posting, Task};
-use crate::refusal::{CommandFault, is_said, refusal_status};
+use crate::network::Network;
+use crate::refusal::{CommandFault, refuse};
 use crate::status::{DONE, FAULTY, Ran};
-use crate::stores::{OpenFault, OpenStores, records_in, records_in_memory};
+use crate::stores::OpenStores;
+use crate::work::{work_of, work_over};
 use as2_agreement::Agreements;
-use as2_http::{Served, Sink, Source, push_all, serve_stream};
-use as2_station::Station;
-use as2_store::Store;
+use as2_commands::{Options, Task, options_in};
+use as2_http::{Sink, Source, push_all};
+use clap::Error;
 use clap::error::ErrorKind;
-use clap::{ArgMatches, Command, Error};
-use sqlite::{Alter, Connection};
-use std::alloc::{AllocError, Global};
+use sqlite::Connection;
+use std::alloc::Global;
 use std::io::Write;
 
 /// Runs the command line `words`, which begin with the program's name. `clock` is the moment where the options give
-/// none, in seconds since 1970, if it can be told. The agreements are read from `files`; a store is opened from `stores`,
+/// none, in seconds since 1970, if it can be told. The agreements, and the document of a submission, are read from `files`; a store is opened from `stores`,
 /// or in memory where its path is `:memory:`. What the command has to say goes to `output`; why something was refused or
 /// is faulty, to `errors`. A store that was opened from `stores` is handed back with its path, for the caller to close.
-pub fn run<'a, F: ReadFiles, O: OpenStores, R: Source, W: Sink, E: Write>(
+pub fn run<'a, F: ReadFiles, O: OpenStores, N: Network, R: Source, W: Sink, E: Write>(
     alloc: Global,
     words: &'a [&'a str],
     clock: Option<u64>,
     files: &F,
     stores: &O,
+    network: &N,
     input: &mut R,
     output: &mut W,
     errors: &mut E,
@@ -55,9 +54,9 @@ pub fn run<'a, F: ReadFiles, O: OpenStores, R: Source, W: Sink, E: Write>(
     // memory for the words was wanting nothing is read or written.
     ensures runs { (path store : List ℕ) (task : TheTask)
         → Gives (texts words.entry.now) clock path store task
-        → Runs (F.content files.now path) (kept_at store (O.kept stores.now store)) task
+        → Runs (F.content files.now) path (kept_at store (O.kept stores.now store)) task
         (R.left input.old) (R.left input.new) (R.calls input.old) (R.calls input.new) (input.new ≡ input.old) (output.new ≡ output.old)
-        (λ t. IfSome result.1 (λ l. Rests (state O.Kind.Store l.1) t))
+        (λ t. IfSome result.1 (λ l. Rests (state O.Kind.Store l.1) t)) (HandsBack store ⊥ (option_map (λ l. l.0.now) result.1))
         (W.written output.old) (W.written output.new) (Appends (E.contents errors.old) (E.contents errors.new)) result.0
         ⊎ ((input.new ≡ input.old) × (output.new ≡ output.old)
         × EndsRefused Memory (Appends (E.contents errors.old) (E.contents errors.new)) result.0) }
@@ -71,230 +70,64 @@ pub fn run<'a, F: ReadFiles, O: OpenStores, R: Source, W: Sink, E: Write>(
         → ((result.0.status ≡ faulty) ⊎ (result.0.status ≡ refused)) × (output.new ≡ output.old) }
     // A faulty command line reads and writes nothing.
     ensures untouched { result.0.status ≡ faulty → (input.new ≡ input.old) × (output.new ≡ output.old) }
-    // Neither does a store with a fault, and that is told.
-    ensures store { result.0.status ≡ failed → Stopped (input.new ≡ input.old) (output.new ≡ output.old)
+    // Neither does a store with a fault, and that is told; what was sent before stands, with its lines.
+    ensures store { result.0.status ≡ failed → Stopped ((path store : List ℕ) × (task : TheTask) × Gives (texts words.entry.now) clock path store task × IsSending task) (input.new ≡ input.old) (output.new ≡ output.old)
         (Appends (E.contents errors.old) (E.contents errors.new)) result.0 }
 {
-    match options(alloc, words, clock) {
+    match options_in(alloc, words, clock) {
         Ok(options) => {
             let agreed = agreements_in(alloc, files, options.agreements);
-            carry_out(alloc, &options, agreed, stores, input, output, errors)
+            carry_out(
+                alloc, options, agreed, files, stores, network, input, output, errors,
+            )
         }
         Err(error) => (tell(alloc, &error, output, errors), None),
     }
 }
 
-/// What the words ask for, or what there is to say in place of it.
-fn options<'a>(
-    alloc: Global,
-    words: &'a [&'a str],
-    clock: Option<u64>,
-) -> Result<Options<'a>, Error>
-    ensures given { IfOk result (λ o. Gives (texts words.entry.now) clock o.agreements.now o.store.now o.task) }
-    ensures none { IfErr result (λ e. kind_of e ≢ OutOfMemory → GivesNone (texts words.entry.now) clock) }
-    ensures help { IfErr result (λ e. IsHelp (kind_of e) → AsksForHelp (texts words.entry.now)) }
-{
-    let mut command = command(alloc)?;
-    let found = parse(&mut command, words)?;
-    match Options::of(&found, clock) {
-        Ok(options) => Ok(options),
-        Err(fault) => Err(explained(alloc, &mut command, fault)?),
-    }
-}
-
-/// What the parser finds in the words.
-fn parse<'a>(command: &mut Command<'a>, words: &'a [&'a str]) -> Result<ArgMatches<'a>, Error>
-    requires { app_of command.old ≡ command_line }
-    ensures found { IfOk result (λ m. (faults (texts words.entry.now) ≡ [])
-        × (rows_of (found_of m) ≡ option_values (texts words.entry.now))
-        × (subcommand_name_of m ≡ command_in (texts words.entry.now))) }
-    ensures fault { IfErr result (HasKind (faults (texts words.entry.now))) }
-{
-    command.try_get_matches_from_mut(words)
-}
-
-/// The fault in the form of the parser's own errors.
-fn explained(
-    alloc: Global,
-    command: &mut Command<'_>,
-    fault: OptionFault<'_>,
-) -> Result<Error, AllocError>
-    ensures { IfOk result (λ e. kind_of e ≡ ValueValidation) }
-{
-    let text = fault.to_string(alloc)?;
-    command.error(ErrorKind::ValueValidation, text.as_str())
-}
-
 /// Does what is asked for, where there are agreements to do it over.
-fn carry_out<'a, O: OpenStores, R: Source, W: Sink, E: Write>(
+fn carry_out<'a, F: ReadFiles, O: OpenStores, N: Network, R: Source, W: Sink, E: Write>(
     alloc: Global,
-    options: &Options<'a>,
+    options: Options<'a>,
     agreed: Result<Agreements, CommandFault>,
+    files: &F,
     stores: &O,
+    network: &N,
     input: &mut R,
     output: &mut W,
     errors: &mut E,
 ) -> (Ran, Option<(&'a str, Connection<O::Kind>)>)
     ensures status { (result.0.status ≡ done) ⊎ ((result.0.status ≡ refused) ⊎ (result.0.status ≡ failed)) }
-    ensures comes { Comes agreed (kept_at options.now.store.now (O.kept stores.now options.now.store.now)) options.now.task
+    ensures comes { Comes (F.content files.now) agreed (kept_at options.entry.store.now (O.kept stores.now options.entry.store.now)) options.entry.task
         (R.left input.old) (R.left input.new) (R.calls input.old) (R.calls input.new) (input.new ≡ input.old) (output.new ≡ output.old)
-        (λ t. IfSome result.1 (λ l. Rests (state O.Kind.Store l.1) t))
+        (λ t. IfSome result.1 (λ l. Rests (state O.Kind.Store l.1) t)) (HandsBack options.entry.store.now ⊥ (option_map (λ l. l.0.now) result.1))
         (W.written output.old) (W.written output.new) (Appends (E.contents errors.old) (E.contents errors.new)) result.0 }
-    ensures store { result.0.status ≡ failed → Stopped (input.new ≡ input.old) (output.new ≡ output.old)
+    ensures store { result.0.status ≡ failed → Stopped (IsSending options.entry.task) (input.new ≡ input.old) (output.new ≡ output.old)
         (Appends (E.contents errors.old) (E.contents errors.new)) result.0 }
-    ensures handed { HandsBack options.now.store.now (input.new ≡ input.old) (option_map (λ l. l.0.now) result.1) }
+    ensures handed { HandsBack options.entry.store.now (input.new ≡ input.old) (option_map (λ l. l.0.now) result.1) }
 {
+    let Options { store, task, .. } = options;
     let agreements = match agreed {
         Ok(agreements) => agreements,
         Err(refusal) => return (refuse(refusal, errors), None),
     };
-    match options.task {
+    match task {
         Task::Check => (check(alloc, &agreements, output, errors), None),
-        Task::Post(posting) => {
-            let path = options.store;
-            post_over(
+        Task::Run(run, command) => match work_of(alloc, files, command) {
+            Ok(work) => work_over(
                 alloc,
                 &agreements,
-                posting,
-                path,
+                run,
+                work,
+                store,
                 stores,
+                network,
                 input,
                 output,
                 errors,
-            )
-        }
-    }
-}
-
-/// Answers the requests of the input over the store of that path, and hands the store back.
-fn post_over<'a, O: OpenStores, R: Source, W: Sink, E: Write>(
-    alloc: Global,
-    agreements: &Agreements,
-    posting: Posting,
-    path: &'a str,
-    stores: &O,
-    input: &mut R,
-    output: &mut W,
-    errors: &mut E,
-) -> (Ran, Option<(&'a str, Connection<O::Kind>)>)
-    ensures status { (result.0.status ≡ done) ⊎ ((result.0.status ≡ refused) ⊎ (result.0.status ≡ failed)) }
-    ensures posts { ((input.new ≡ input.old) × (output.new ≡ output.old)
-        × Fails (kept_at path.now (O.kept stores.now path.now)) (Appends (E.contents errors.old) (E.contents errors.new)) result.0)
-        ⊎ Posts agreements.now posting.moment (stands_for (kept_at path.now (O.kept stores.now path.now)) posting.first)
-        (R.left input.old) (R.left input.new) (R.calls input.old) (R.calls input.new) (λ t. IfSome result.1 (λ l. Rests (state O.Kind.Store l.1) t))
-        (W.written output.old) (W.written output.new) (Appends (E.contents errors.old) (E.contents errors.new)) result.0 }
-    ensures store { result.0.status ≡ failed → Stopped (input.new ≡ input.old) (output.new ≡ output.old)
-        (Appends (E.contents errors.old) (E.contents errors.new)) result.0 }
-    ensures handed { HandsBack path.now (input.new ≡ input.old) (option_map (λ l. l.0.now) result.1) }
-{
-    if path == ":memory:" {
-        let records = records_in_memory(alloc, posting.first);
-        let (ran, _) = post(alloc, agreements, posting, records, input, output, errors);
-        return (ran, None);
-    }
-    let records = records_in(alloc, stores, path, posting.first);
-    let (ran, conn) = post(alloc, agreements, posting, records, input, output, errors);
-    (ran, under(path, conn))
-}
-
-/// The connection with the path of its store.
-fn under<'a, S: Alter + Drop>(
-    path: &'a str,
-    conn: Option<Connection<S>>,
-) -> Option<(&'a str, Connection<S>)>
-    ensures path { option_map (λ l. l.0.now) result ≡ option_map (λ _. path.now) conn }
-    ensures conn { option_map (λ l. l.1) result ≡ conn }
-{
-    match conn {
-        Some(conn) => Some((path, conn)),
-        None => None,
-    }
-}
-
-/// Tells how many organizations and partners there are.
-fn check<W: Sink, E: Write>(
-    alloc: Global,
-    agreements: &Agreements,
-    output: &mut W,
-    errors: &mut E,
-) -> Ran
-    ensures status { (result.status ≡ done) ⊎ (result.status ≡ refused) }
-    ensures counts { Counts agreements.now (W.written output.old) (W.written output.new)
-        (Appends (E.contents errors.old) (E.contents errors.new)) result }
-{
-    let Ok(line) = counts(alloc, agreements) else {
-        return refuse(CommandFault::Memory, errors);
-    };
-    if push_all(output, line.as_bytes()).is_err() {
-        return refuse(CommandFault::CannotWrite, errors);
-    }
-    Ran {
-        status: DONE,
-        told: true,
-    }
-}
-
-/// Answers the requests of the input, where there are records to answer them from, and gives their connection back.
-fn post<S: Alter + Drop, R: Source, W: Sink, E: Write>(
-    alloc: Global,
-    agreements: &Agreements,
-    posting: Posting,
-    records: Result<Store<S>, OpenFault>,
-    input: &mut R,
-    output: &mut W,
-    errors: &mut E,
-) -> (Ran, Option<Connection<S>>)
-    ensures status { (result.0.status ≡ done) ⊎ ((result.0.status ≡ refused) ⊎ (result.0.status ≡ failed)) }
-    ensures posts { (kept : Kept) → Holds S.Store kept posting.first records
-        → ((input.new ≡ input.old) × (output.new ≡ output.old)
-        × Fails kept (Appends (E.contents errors.old) (E.contents errors.new)) result.0)
-        ⊎ Posts agreements.now posting.moment (stands_for kept posting.first) (R.left input.old) (R.left input.new) (R.calls input.old) (R.calls input.new)
-        (λ t. IfSome result.1 (λ conn. Rests (state S.Store conn) t))
-        (W.written output.old) (W.written output.new) (Appends (E.contents errors.old) (E.contents errors.new)) result.0 }
-    ensures store { result.0.status ≡ failed → Stopped (input.new ≡ input.old) (output.new ≡ output.old)
-        (Appends (E.contents errors.old) (E.contents errors.new)) result.0 }
-    ensures handed { (input.new ≡ input.old) ⊎ IsSome result.1 }
-{
-    match records {
-        Ok(store) => {
-            let mut station = Station::new(store);
-            let end = serve_stream(
-                alloc,
-                agreements,
-                posting.moment,
-                &mut station,
-                input,
-                output,
-            );
-            let conn = station.into_store().into_connection();
-            (tell_end(end, errors), Some(conn))
-        }
-        Err(fault) => (refuse(CommandFault::Store(fault), errors), None),
-    }
-}
-
-/// Tells the end of a stream.
-fn tell_end<E: Write>(end: Served, errors: &mut E) -> Ran
-    ensures { Ends (exit_status end) (end_line end) (Appends (E.contents errors.old) (E.contents errors.new)) result }
-{
-    match end {
-        Served::Closed => Ran {
-            status: DONE,
-            told: true,
+            ),
+            Err(refusal) => (refuse(refusal, errors), None),
         },
-        _ => refuse(CommandFault::Stream(end), errors),
-    }
-}
-
-/// Says that something was refused.
-fn refuse<E: Write>(refusal: CommandFault, errors: &mut E) -> Ran
-    ensures told { EndsRefused refusal (Appends (E.contents errors.old) (E.contents errors.new)) result }
-    ensures status { (result.status ≡ refused) ⊎ (result.status ≡ failed) }
-    ensures store { result.status ≡ failed → (fault : TheFault) × (refusal ≡ Failing fault) }
-{
-    Ran {
-        status: refusal_status(refusal),
-        told: is_said(refusal, errors),
     }
 }
 

@@ -1,6 +1,6 @@
 //! Files, as far as the program reads them.
 ghost use Rattle.std.specs.Prelude.{ℕ, List};
-ghost use Rattle.as2_desk.specs.FileContents.{Content, ReadsFile};
+ghost use Rattle.as2_desk.specs.FileContents.{Content, ReadsFile, front};
 
 use std::alloc::Global;
 
@@ -13,7 +13,7 @@ pub enum FileFault {
     Memory,
 }
 
-/// Files that are read whole. The file system is one, of which nothing is told; a table in memory another.
+/// Files that are read. The file system is one, of which nothing is told; a table in memory another.
 pub trait ReadFiles {
     // What stands under each path, as far as it is told.
     ghost content: { Self → List ℕ → Content };
@@ -21,4 +21,8 @@ pub trait ReadFiles {
     /// All bytes of the file of that path.
     fn read_file(&self, alloc: Global, path: &str) -> Result<Vec<u8>, FileFault>
         ensures { ReadsFile (λ bytes. bytes.items) (content self.now path.now) result };
+
+    /// The first `most` bytes of the file of that path, or all where there are no more.
+    fn read_front(&self, alloc: Global, path: &str, most: usize) -> Result<Vec<u8>, FileFault>
+        ensures { ReadsFile (λ bytes. bytes.items) (front most (content self.now path.now)) result };
 }

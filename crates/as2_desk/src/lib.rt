@@ -3,20 +3,26 @@
 #![tactic(auto)]
 
 mod agreed;
+mod asking;
 mod check;
-mod command;
 mod desk;
+mod documents;
 mod files;
-mod first_number;
-mod options;
+mod network;
+mod posting;
 mod refusal;
+mod sending;
+mod serving;
 mod status;
 mod stores;
+mod work;
 
+pub use as2_commands::{FirstNumber, Waits};
 pub use as2_exchange::StoreFault;
 pub use as2_http::Served;
+pub use as2_sending::Links;
 pub use desk::run;
 pub use files::{FileFault, ReadFiles};
-pub use first_number::FirstNumber;
+pub use network::{CannotListen, Listens, Network};
 pub use status::Ran;
 pub use stores::{OpenFault, OpenStores, Seen, make_tables, opening_fault};

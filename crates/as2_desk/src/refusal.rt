@@ -1,12 +1,16 @@
 //! Why something was refused, in one line on standard error.
-ghost use Rattle.std.specs.Prelude.{◌≡◌, OnOk, true};
+ghost use Rattle.std.specs.Prelude.{◌≡◌, ◌⊎◌, OnOk, true};
 ghost use Rattle.std.specs.Io.KnownBytes.{Appends};
-ghost use Rattle.as2_desk.specs.Refusals.{agreements_line, error_line, refusal_status, refused_line, store_fault_name, store_lines};
+ghost use Rattle.as2_desk.specs.Refusals.{agreements_line, error_line, refusal_name, refusal_status, refused_line, store_fault_name, store_lines};
+ghost use Rattle.as2_desk.specs.Endings.{EndsRefused};
+ghost use Rattle.as2_desk.specs.Statuses.{failed, refused};
+ghost use Rattle.as2_desk.specs.declared.refusal.CommandFault.TheVariants.{Store as Failing};
+ghost use Rattle.as2_desk.specs.declared.stores.OpenFault.{OpenFault as TheFault};
 
-use crate::status::{FAILED, REFUSED, end_name};
+use crate::status::{FAILED, REFUSED, Ran, end_name};
 use crate::stores::OpenFault;
 use as2_agreement::AgreementFault;
-use as2_exchange::StoreFault;
+use as2_exchange::{Refusal, StoreFault};
 use as2_http::Served;
 use std::io;
 use std::io::Write;
@@ -26,6 +30,10 @@ pub(crate) enum CommandFault {
     Store(OpenFault),
     /// A stream came to another end than `Closed`.
     Stream(Served),
+    /// The station refuses what it is asked.
+    Station(Refusal),
+    /// The address can't be listened on.
+    CannotListen,
 }
 
 /// The exit status that goes with a refusal.
@@ -49,6 +57,22 @@ fn store_fault_name(fault: StoreFault) -> &'static str
         StoreFault::Full => "Full",
         StoreFault::NotAStore => "NotAStore",
         StoreFault::OtherVersion => "OtherVersion",
+    }
+}
+
+/// The name of a refusal, as it is spelled in `Refusal`.
+fn refusal_name(refusal: Refusal) -> &'static str
+    ensures { result.now ≡ refusal_name refusal }
+{
+    match refusal {
+        Refusal::UnknownOrganization => "UnknownOrganization",
+        Refusal::UnknownPartner => "UnknownPartner",
+        Refusal::NoSuchNumber => "NoSuchNumber",
+        Refusal::NotDue => "NotDue",
+        Refusal::AllSettled => "AllSettled",
+        Refusal::NoOpenTry => "NoOpenTry",
+        Refusal::TriesUsed => "TriesUsed",
+        Refusal::TooLarge => "TooLarge",
     }
 }
 
@@ -97,6 +121,8 @@ fn say<E: Write>(refusal: CommandFault, errors: &mut E) -> io::Result<()>
         CommandFault::Agreements(fault) => say_agreements(fault, errors),
         CommandFault::Store(fault) => say_store(fault, errors),
         CommandFault::Stream(end) => say_refused(end_name(end), errors),
+        CommandFault::Station(reason) => say_refused(refusal_name(reason), errors),
+        CommandFault::CannotListen => say_refused("CannotListen", errors),
     }
 }
 
@@ -105,4 +131,28 @@ pub(crate) fn is_said<E: Write>(refusal: CommandFault, errors: &mut E) -> bool
     ensures { result ≡ true → Appends (E.contents errors.old) (E.contents errors.new) (error_line refusal) }
 {
     say(refusal, errors).is_ok()
+}
+
+/// Says that something was refused.
+pub(crate) fn refuse<E: Write>(refusal: CommandFault, errors: &mut E) -> Ran
+    ensures told { EndsRefused refusal (Appends (E.contents errors.old) (E.contents errors.new)) result }
+    ensures status { (result.status ≡ refused) ⊎ (result.status ≡ failed) }
+    ensures store { result.status ≡ failed → (fault : TheFault) × (refusal ≡ Failing fault) }
+{
+    Ran {
+        status: refusal_status(refusal),
+        told: is_said(refusal, errors),
+    }
+}
+
+/// Says that something was refused, behind what was said before, if that was: `told`.
+pub(crate) fn refuse_behind<E: Write>(told: bool, refusal: CommandFault, errors: &mut E) -> Ran
+    ensures status { result.status ≡ refusal_status refusal }
+    ensures told { result.told ≡ true → (told ≡ true) × Appends (E.contents errors.old) (E.contents errors.new) (error_line refusal) }
+{
+    let ran = refuse(refusal, errors);
+    Ran {
+        status: ran.status,
+        told: told && ran.told,
+    }
 }

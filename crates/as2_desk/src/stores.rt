@@ -6,7 +6,7 @@ ghost use Rattle.as2_exchange.specs.State.{State, empty};
 ghost use Rattle.as2_store.specs.Stands.{IsBlank, Rests};
 ghost use Rattle.as2_desk.specs.Stores.{Holds, IsFaithful, IsFaultOf, IsMade, IsOpened, Kept, MayBeMade, MayBeOpened, Sees, StandsOpen, nothing, opening_fault};
 
-use crate::first_number::FirstNumber;
+use as2_commands::FirstNumber;
 use as2_exchange::StoreFault;
 use as2_store::{Store, fault_of};
 use sqlite::{Alter, Connection, Error, ErrorCode, MemStore};

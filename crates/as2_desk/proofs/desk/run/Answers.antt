@@ -1,13 +1,13 @@
 use Rattle.std.proofs.Common.{◌≡◌, ◌⊎◌, None, IfSome, option_map, ◌∙◌, sym, refl, arith, inl, inr}
 use Rattle.std.specs.Io.KnownBytes.{Appends}
 use Rattle.clap.specs.Walk.{Text, texts}
-use Rattle.as2_desk.proofs.Given.{given_one}
+use Rattle.as2_commands.proofs.Given.{given_one}
 use Rattle.sqlite.specs.Held.{state}
 use Rattle.as2_store.specs.Stands.{Rests}
 use Rattle.as2_desk.specs.Runs.{HandsBack, Runs}
 use Rattle.as2_desk.specs.Stores.{kept_at}
 use Rattle.as2_desk.specs.Statuses.{faulty, refused}
-use Rattle.as2_desk.specs.declared.options.Task.{Task}
+use Rattle.as2_commands.specs.declared.tasks.Task.{Task}
 use Rattle.as2_desk.proofs.desk.run.Goals as goal
 
 -- here the words ask for something, and that is what was read
@@ -20,10 +20,10 @@ pub returns-in-Ok-clause-runs : goal.returns-in-Ok-clause-runs
 returns-in-Ok-clause-runs g c = λ path store task gives.
     let read = c.in-Ok.options in
     inl (given_one (texts c.args.words.now) c.args.clock read.agreements.now path read.store.now store read.task task
-    (λ (p b : Text) (t : Task). Runs (g.F.ReadFiles.content c.args.files.now p) (kept_at b (g.O.OpenStores.kept c.args.stores.now b)) t
+    (λ (p b : Text) (t : Task). Runs (g.F.ReadFiles.content c.args.files.now) p (kept_at b (g.O.OpenStores.kept c.args.stores.now b)) t
     (g.R.Source.left c.args.input.now) (g.R.Source.left c.carry_out.new.input) (g.R.Source.calls c.args.input.now) (g.R.Source.calls c.carry_out.new.input)
     (c.carry_out.new.input ≡ c.args.input.now) (c.carry_out.new.output ≡ c.args.output.now)
-    (λ t. IfSome c.carry_out.result.1 (λ l. Rests (state g.O.Kind.Store l.1) t))
+    (λ t. IfSome c.carry_out.result.1 (λ l. Rests (state g.O.Kind.Store l.1) t)) (HandsBack b ⊥ (option_map (λ l. l.0.now) c.carry_out.result.1))
     (g.W.Sink.written c.args.output.now) (g.W.Sink.written c.carry_out.new.output)
     (Appends (g.E.Write.contents c.args.errors.now) (g.E.Write.contents c.carry_out.new.errors)) c.carry_out.result.0)
     c.in-Ok.ensures.given gives (record { opened = c.agreements_in-agreed.result; opens = c.agreements_in-agreed.ensures; comes = c.carry_out.ensures.comes }))

@@ -1,0 +1,108 @@
+-- Connections that are served one after the other.
+use Rattle.std.proofs.Common.{◌≡◌, ◌<◌, ◌≤◌, ◌+◌, ◌∙◌, ℕ, List, [], ◌∷◌, ◌++◌, length, Option, Result, Ok, Err, IsErr, OnOk, IfSome, inl, inr, refl, sym, ap, subst, arith, append-nil, length-append}
+use Rattle.std.proofs.lemmas.Grind.{flat_map-append}
+use Rattle.std.proofs.KnownBytes.{Appends-nil, Appends-trans}
+use Rattle.std.specs.Io.KnownBytes.{Appends}
+use Rattle.sqlite.specs.State.{State as Connected, HasCleanDisk}
+use Rattle.as2_agreement.specs.Agreements.{AgreedValues}
+use Rattle.as2_exchange.specs.State.{State}
+use Rattle.as2_http.specs.declared.stream.Served.{Served}
+use Rattle.as2_store.specs.Stands.{Rests}
+use Rattle.as2_commands.specs.Requests.{Serving}
+use Rattle.as2_desk.proofs.HandedBack.{each_known}
+use Rattle.as2_desk.specs.Endings.{Ends}
+use Rattle.as2_desk.specs.Refusals.{error_line}
+use Rattle.as2_desk.specs.Statuses.{done, refused}
+use Rattle.as2_desk.specs.declared.refusal.CommandFault.TheVariants.{CannotWrite}
+use Rattle.as2_desk.specs.declared.status.Ran.{Ran}
+use Rattle.as2_desk.specs.Connections.{ServesCount, listening_line, ServesConnections, ServesEach, ServesNext, ServesOne, connection_line, connection_lines}
+
+-- n connections were served, and their lines written
+pub record HasServed (A : AgreedValues) (given : Option ℕ) (n : ℕ) (old new : Connected) (written now : Option (List ℕ)) : Type 0 where
+  pub ends : List Served
+  pub all : length ends ≡ n
+  pub serves : HasCleanDisk new → (s : State) → Rests old s → (t : State) × Rests new t × ServesEach A given ends s t
+  pub lines : Appends written now (connection_lines ends)
+
+pub none_served : (A : AgreedValues) (given : Option ℕ) (c : Connected) (written : Option (List ℕ)) → HasServed A given 0 c c written written
+none_served A given c written = record { ends = []; all = refl; serves = λ clean s rests. (s, rests, refl); lines = Appends-nil written }
+
+serves_more : (A : AgreedValues) (given : Option ℕ) (ends : List Served) (end : Served) (s mid t : State) → ServesEach A given ends s mid → ServesOne A given mid t → ServesEach A given (ends ++ end ∷ []) s t
+serves_more A given [] end s mid t same one = (t, subst (λ (x : State). ServesOne A given x t) same one, refl)
+serves_more A given (e ∷ ends) end s mid t each one = (each.0, each.1, serves_more A given ends end each.0 mid t each.2 one)
+
+lines_more : (ends : List Served) (end : Served) → connection_lines (ends ++ end ∷ []) ≡ connection_lines ends ++ connection_line end
+lines_more ends end = flat_map-append connection_line ends (end ∷ []) ∙ ap (λ (x : List ℕ). connection_lines ends ++ x) (append-nil (connection_line end))
+
+module _ (A : AgreedValues) (given : Option ℕ) (n : ℕ) (old mid new : Connected) (w x y : Option (List ℕ)) (so_far : HasServed A given n old mid w x) (clean : HasCleanDisk new → HasCleanDisk mid) where
+  with_next : {V F : Type 0} (r : Result V F) (next : ServesNext A given mid new x y r) → HasCleanDisk new → (s : State) → Rests old s
+      → (t : State) × Rests new t × ServesEach A given (so_far.ends ++ next.end ∷ []) s t
+  with_next r next is_clean s rests =
+      let before = so_far.serves (clean is_clean) s rests in
+      let after = next.serves is_clean before.0 before.1 in
+      (after.0, after.1, serves_more A given so_far.ends next.end s before.0 after.0 before.2 after.2)
+
+  more : (end : Served) → length (so_far.ends ++ end ∷ []) ≡ n + 1
+  more end = length-append so_far.ends (end ∷ []) ∙ ap (λ k. k + 1) so_far.all
+
+  pub one_more : {V F : Type 0} (v : V) → ServesNext {V = V} {F = F} A given mid new x y (Ok v) → HasServed A given (n + 1) old new w y
+  one_more v next = record {
+    ends = so_far.ends ++ next.end ∷ [];
+    all = more next.end;
+    serves = with_next (Ok v) next;
+    lines = subst (Appends w y) (sym (lines_more so_far.ends next.end)) (Appends-trans w x y (connection_lines so_far.ends) (connection_line next.end) so_far.lines next.line);
+  }
+
+  cut_at : {V F G : Type 0} (count : ℕ) (f : F) (g : G) → n < count → ServesNext {V = V} {F = F} A given mid new x y (Err f) → ServesConnections {V = V} {F = G} A given count old new w y (Err g)
+  cut_at count f g below next = record {
+    ends = so_far.ends ++ next.end ∷ [];
+    serves = with_next (Err f) next;
+    within = let is = more next.end in omega (arith, is, below);
+    all = tt;
+    lines = tt;
+  }
+
+  pub cut : {V F G : Type 0} (count : ℕ) (f : F) (r : Result V G) → IsErr r → n < count → ServesNext {V = V} {F = F} A given mid new x y (Err f) → ServesConnections {V = V} {F = G} A given count old new w y r
+  cut count f (Ok v) fails below next = absurd cc
+  cut count f (Err g) fails below next = cut_at count f g below next
+
+pub all_served : {V F : Type 0} (A : AgreedValues) (given : Option ℕ) (n count : ℕ) (old new : Connected) (w x : Option (List ℕ)) (v : V) → n ≡ count → HasServed A given n old new w x
+    → ServesConnections {V = V} {F = F} A given count old new w x (Ok v)
+all_served A given n count old new w x v is so_far = record {
+  ends = so_far.ends;
+  serves = so_far.serves;
+  within = let all = so_far.all in omega (arith, all, is);
+  all = so_far.all ∙ is;
+  lines = so_far.lines;
+}
+
+-- ---- what is said of them
+
+-- a text behind another
+pub behind_ok : {V F : Type 0} (a b d : Option (List ℕ)) (xs ys zs : List ℕ) (r : Result V F) → ys ≡ zs → Appends a b xs → OnOk r (Appends b d ys) → OnOk r (Appends a d (xs ++ zs))
+behind_ok a b d xs ys zs (Ok v) is first then = Appends-trans a b d xs zs first (subst (Appends b d) is then)
+behind_ok a b d xs ys zs (Err f) is first then = tt
+
+module _ (A : AgreedValues) (serving : Serving) (given : Option ℕ) (count : ℕ) (known : Option State) (Unwritten : Type 0) (old new : Connected)
+    (written now : Option (List ℕ)) (Said : List ℕ → Type 0) (ran : Ran) (address : List ℕ) (is_given : given ≡ serving.moment) (is_count : count ≡ serving.count)
+    (stood : IfSome known (λ s. HasCleanDisk new × Rests old s)) where
+  each : {V F : Type 0} (r : Result V F) (all : ServesConnections {V = V} {F = F} A given count old new written now r)
+      → IfSome known (λ s. (t : State) × Rests new t × ServesEach A serving.moment all.ends s t)
+  each r all = each_known _ _ known stood (λ s it.
+      subst (λ (m : Option ℕ). (t : State) × Rests new t × ServesEach A m all.ends s t) is_given (all.serves it.0 s it.1))
+
+  pub all_told : {V F : Type 0} (v : V) → ServesConnections {V = V} {F = F} A given count old new written now (Ok v) → Ends done (listening_line address) Said ran
+      → ServesCount A serving known Unwritten (λ t. Rests new t) written now Said ran
+  all_told v all told = record {
+    ends = all.ends;
+    serves = each (Ok v) all;
+    told = inr (inl (record { address = address; all = all.all ∙ is_count; lines = all.lines; told = told }));
+  }
+
+  pub cut_told : {V F : Type 0} (r : Result V F) → ServesConnections {V = V} {F = F} A given count old new written now r → Ends refused (listening_line address ++ error_line CannotWrite) Said ran
+      → ServesCount A serving known Unwritten (λ t. Rests new t) written now Said ran
+  cut_told r all told = record {
+    ends = all.ends;
+    serves = each r all;
+    told = inr (inr (record { address = address; within = subst (λ (n : ℕ). length all.ends ≤ n) is_count all.within; told = told }));
+  }

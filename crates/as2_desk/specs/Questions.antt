@@ -1,0 +1,109 @@
+-- What is asked of the station once, and what is told of its answer. Of the streams these are told: that nothing was written
+-- (Unwritten), what standard output held and holds (written, now), and which text was written on standard error (Said); of the
+-- store that it is handed back (Back), and for which states its tables stand then (Left).
+use Rattle.std.specs.Prelude.{◌≡◌, ◌⊎◌, ℕ, List, ◌++◌, Option, Some, None, Result, Ok, Err, IfSome, codes, decimal, option_map, string_bytes}
+use Rattle.std.specs.Io.KnownBytes.{Appends}
+use Rattle.as2_agreement.specs.Agreements.{AgreedValues}
+use Rattle.as2_exchange.specs.State.{State}
+use Rattle.as2_exchange.specs.Step.{step}
+use Rattle.as2_exchange.specs.Views.{fetch, outstanding, show}
+use Rattle.as2_exchange.specs.declared.answer.Answer.{Answer}
+use Rattle.as2_exchange.specs.declared.answer.Answer.TheVariants.{Submitted, Ticked, Refused}
+use Rattle.as2_exchange.specs.declared.answer.Refusal.TheVariants.{NoSuchNumber}
+use Rattle.as2_exchange.specs.declared.event.Event.TheVariants as event
+use Rattle.as2_exchange.specs.declared.fault.StoreFault.TheVariants as store_fault
+use Rattle.as2_exchange.specs.Run.{Said as Saying, Answered, Failed}
+use Rattle.as2_exchange.specs.declared.fault.StoreFault.{StoreFault}
+use Rattle.as2_views.specs.Filtering.{listing}
+use Rattle.as2_desk.specs.Endings.{Ends, EndsRefused}
+use Rattle.as2_desk.specs.Statuses.{done}
+use Rattle.as2_desk.specs.declared.asking.Printed.{Printed}
+use Rattle.as2_desk.specs.declared.asking.Printed.TheVariants.{Number, Words, Content}
+use Rattle.as2_desk.specs.declared.asking.Question.{Question}
+use Rattle.as2_desk.specs.declared.asking.Question.TheVariants.{Submit, Tick, Listing, Outstanding, Show, Fetch}
+use Rattle.as2_desk.specs.declared.refusal.CommandFault.{CommandFault}
+use Rattle.as2_desk.specs.declared.refusal.CommandFault.TheVariants.{CannotWrite, Station, Store}
+use Rattle.as2_desk.specs.declared.status.Ran.{Ran}
+use Rattle.as2_desk.specs.declared.stores.OpenFault.TheVariants as open_fault
+
+-- a number in decimal digits, and LF
+abbrev pub number_line : ℕ → List ℕ
+number_line n = decimal n ++ codes "\n"
+
+-- the bytes that are printed
+abbrev pub printed_text : Printed → List ℕ
+printed_text (Number n) = number_line n
+printed_text (Words text) = string_bytes text
+printed_text (Content bytes) = bytes.items
+
+-- what is to be printed, or why there is nothing
+abbrev pub Told : Type 0
+Told = Result (List ℕ) CommandFault
+
+-- the same of a value that the program passes on
+abbrev pub told_as : Result Printed CommandFault → Told
+told_as (Ok printed) = Ok (printed_text printed)
+told_as (Err refusal) = Err refusal
+
+-- the number of an answer, or its refusal; to what is asked here no other comes
+abbrev pub told_of : Answer → Option Told
+told_of (Submitted n) = Some (Ok (number_line n))
+told_of (Ticked n) = Some (Ok (number_line n))
+told_of (Refused reason) = Some (Err (Station reason))
+told_of other = None
+
+-- what is told of what was said to such an event
+abbrev pub number_told : Saying → Told
+number_told (Answered (Submitted n)) = Ok (number_line n)
+number_told (Answered (Ticked n)) = Ok (number_line n)
+number_told (Answered (Refused reason)) = Err (Station reason)
+number_told (Answered other) = Err (Store (open_fault.Store store_fault.Refused))
+number_told (Failed fault) = Err (Store (open_fault.Store fault))
+
+-- the text, where an entry has the number
+abbrev pub found_told : Option (List ℕ) → Told
+found_told (Some text) = Ok text
+found_told None = Err (Station NoSuchNumber)
+
+-- what is told of a text that was read, or of why it wasn't
+abbrev pub read_told : {V : Type 0} → (V → List ℕ) → Result V StoreFault → Told
+read_told text (Ok v) = Ok (text v)
+read_told text (Err fault) = Err (Store (open_fault.Store fault))
+
+-- .. of one that only some numbers have
+abbrev pub looked_up : {V : Type 0} → (V → List ℕ) → Result (Option V) StoreFault → Told
+looked_up text (Ok v) = found_told (option_map text v)
+looked_up text (Err fault) = Err (Store (open_fault.Store fault))
+
+-- the number of an answer with the state that is left; nothing where the number that is needed is used up
+abbrev pub told_by_step : Option (Answer × State) → Option (Told × State)
+told_by_step None = None
+told_by_step (Some came) = option_map (λ told. (told, came.1)) (told_of came.0)
+
+-- what the machine and the views answer in a state at this moment, and the state that they leave
+abbrev pub told_by : AgreedValues → ℕ → Question → State → Option (Told × State)
+told_by A m (Submit from to content) s = told_by_step (step A s (event.Submit from to content m))
+told_by A m Tick s = told_by_step (step A s (event.Tick m))
+told_by A m (Listing filter) s = Some (Ok (listing filter s), s)
+told_by A m Outstanding s = Some (Ok (outstanding s m), s)
+told_by A m (Show n) s = Some (found_told (show s n), s)
+told_by A m (Fetch n) s = Some (found_told (fetch s n), s)
+
+-- That is told in the state s, and t is left: what the machine and the views answer there; or a fault of the store, which
+-- changes nothing, and is Full only where no number is left.
+abbrev pub Tells : AgreedValues → ℕ → Question → State → State → Told → Type 0
+Tells A m q s t (Err (Store fault)) = (t ≡ s) × (fault ≡ open_fault.Store store_fault.Full → told_by A m q s ≡ None)
+Tells A m q s t told = told_by A m q s ≡ Some (told, t)
+
+-- the text is written, once, or that couldn't be done; or one line says why there is none, and nothing is written
+abbrev pub Prints : Told → Type 0 → Option (List ℕ) → Option (List ℕ) → (List ℕ → Type 0) → Ran → Type 0
+Prints (Ok text) Unwritten written now Said ran = (Appends written now text × Ends done (codes "") Said ran) ⊎ EndsRefused CannotWrite Said ran
+Prints (Err refusal) Unwritten written now Said ran = Unwritten × EndsRefused refusal Said ran
+
+-- Something was told. Where the state is known that the tables stood for, it is what is told there, and what is handed back
+-- stands for the state that is left.
+pub record Asks (agreements : AgreedValues) (moment : ℕ) (question : Question) (known : Option State) (Unwritten : Type 0) (Left : State → Type 0)
+    (written now : Option (List ℕ)) (Said : List ℕ → Type 0) (ran : Ran) : Type 0 where
+  pub told : Told
+  pub tells : IfSome known (λ s. (t : State) × Left t × Tells agreements moment question s t told)
+  pub prints : Prints told Unwritten written now Said ran

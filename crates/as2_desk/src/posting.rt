@@ -1,0 +1,54 @@
+//! The command `post`: the requests of standard input, answered.
+ghost use Rattle.std.specs.Prelude.{◌≡◌, ◌⊎◌, Option, IfSome};
+ghost use Rattle.std.specs.Io.KnownBytes.{Appends};
+ghost use Rattle.sqlite.specs.Held.{state};
+ghost use Rattle.sqlite.specs.State.{HasCleanDisk};
+ghost use Rattle.as2_exchange.specs.State.{State};
+ghost use Rattle.as2_store.specs.Stands.{Rests};
+ghost use Rattle.as2_desk.specs.Endings.{Ends};
+ghost use Rattle.as2_desk.specs.Posting.{Posts};
+ghost use Rattle.as2_desk.specs.Refusals.{end_line};
+ghost use Rattle.as2_desk.specs.Statuses.{done, exit_status, refused};
+
+use crate::refusal::{CommandFault, refuse};
+use crate::status::{DONE, Ran};
+use as2_agreement::Agreements;
+use as2_http::{Served, Sink, Source, serve_stream};
+use as2_station::Station;
+use as2_text::Moment;
+use sqlite::Alter;
+use std::alloc::Global;
+use std::io::Write;
+
+/// Answers the requests of the input.
+pub(crate) fn post<S: Alter, R: Source, W: Sink, E: Write>(
+    alloc: Global,
+    agreements: &Agreements,
+    moment: Moment,
+    station: &mut Station<S>,
+    input: &mut R,
+    output: &mut W,
+    errors: &mut E,
+) -> Ran
+    ensures status { (result.status ≡ done) ⊎ (result.status ≡ refused) }
+    ensures posts { (known : Option State) → IfSome known (λ s. HasCleanDisk (state S.Store station.new) × Rests (state S.Store station.old) s)
+        → Posts agreements.now moment known (R.left input.old) (R.left input.new) (R.calls input.old) (R.calls input.new)
+        (λ t. Rests (state S.Store station.new) t)
+        (W.written output.old) (W.written output.new) (Appends (E.contents errors.old) (E.contents errors.new)) result }
+{
+    let end = serve_stream(alloc, agreements, moment, station, input, output);
+    tell_end(end, errors)
+}
+
+/// Tells the end of a stream.
+fn tell_end<E: Write>(end: Served, errors: &mut E) -> Ran
+    ensures { Ends (exit_status end) (end_line end) (Appends (E.contents errors.old) (E.contents errors.new)) result }
+{
+    match end {
+        Served::Closed => Ran {
+            status: DONE,
+            told: true,
+        },
+        _ => refuse(CommandFault::Stream(end), errors),
+    }
+}

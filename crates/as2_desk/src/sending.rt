@@ -1,0 +1,66 @@
+//! The command `send`: what is due is sent.
+ghost use Rattle.std.specs.Prelude.{◌≡◌, ◌⊎◌, Option, IfSome};
+ghost use Rattle.std.specs.Io.KnownBytes.{Appends};
+ghost use Rattle.sqlite.specs.Held.{state};
+ghost use Rattle.sqlite.specs.State.{HasCleanDisk};
+ghost use Rattle.as2_exchange.specs.State.{State};
+ghost use Rattle.as2_store.specs.Stands.{Rests};
+ghost use Rattle.as2_desk.specs.Endings.{EndsRefused};
+ghost use Rattle.as2_desk.specs.SendingDue.{SendsDue, TellsSent};
+ghost use Rattle.as2_desk.specs.Statuses.{done, failed, refused};
+ghost use Rattle.as2_desk.specs.declared.refusal.CommandFault.TheVariants.{Store as Failing};
+ghost use Rattle.as2_desk.specs.declared.stores.OpenFault.{OpenFault as TheFault};
+
+use crate::refusal::{CommandFault, refuse};
+use crate::status::{DONE, Ran};
+use crate::stores::OpenFault;
+use as2_agreement::Agreements;
+use as2_http::Sink;
+use as2_sending::{Links, Sent, send};
+use as2_station::Station;
+use as2_text::Moment;
+use sqlite::Alter;
+use std::alloc::Global;
+use std::io::Write;
+
+/// Sends what is due, over these links.
+pub(crate) fn send_due<S: Alter, L: Links, W: Sink, E: Write>(
+    alloc: Global,
+    agreements: &Agreements,
+    moment: Moment,
+    station: &mut Station<S>,
+    links: &mut L,
+    output: &mut W,
+    errors: &mut E,
+) -> Ran
+    ensures status { (result.status ≡ done) ⊎ ((result.status ≡ refused) ⊎ (result.status ≡ failed)) }
+    ensures sends { (known : Option State) → IfSome known (λ s. HasCleanDisk (state S.Store station.new) × Rests (state S.Store station.old) s)
+        → SendsDue agreements.now moment known (λ t. Rests (state S.Store station.new) t)
+        (W.written output.old) (W.written output.new) (Appends (E.contents errors.old) (E.contents errors.new)) result }
+    ensures store { result.status ≡ failed
+        → (fault : TheFault) × EndsRefused (Failing fault) (Appends (E.contents errors.old) (E.contents errors.new)) result }
+{
+    let sent = send(alloc, agreements, moment, station, links, output);
+    tell_sent(sent, errors)
+}
+
+/// Tells what sending came to.
+fn tell_sent<E: Write>(sent: Sent, errors: &mut E) -> Ran
+    ensures status { (result.status ≡ done) ⊎ ((result.status ≡ refused) ⊎ (result.status ≡ failed)) }
+    ensures told { TellsSent sent (Appends (E.contents errors.old) (E.contents errors.new)) result }
+    ensures store { result.status ≡ failed
+        → (fault : TheFault) × EndsRefused (Failing fault) (Appends (E.contents errors.old) (E.contents errors.new)) result }
+{
+    let refusal = match sent {
+        Sent::Done => {
+            return Ran {
+                status: DONE,
+                told: true,
+            };
+        }
+        Sent::Refused(reason) => CommandFault::Station(reason),
+        Sent::Failed(fault) => CommandFault::Store(OpenFault::Store(fault)),
+        Sent::Unwritten => CommandFault::CannotWrite,
+    };
+    refuse(refusal, errors)
+}

@@ -1,0 +1,118 @@
+//! The command `serve`: connections, one after the other.
+ghost use Rattle.std.specs.Prelude.{◌≡◌, ◌⊎◌, ◌++◌, codes, Option, IfSome, OnOk, true};
+ghost use Rattle.std.specs.Io.KnownBytes.{Appends};
+ghost use Rattle.sqlite.specs.Held.{state};
+ghost use Rattle.sqlite.specs.State.{HasCleanDisk};
+ghost use Rattle.as2_exchange.specs.State.{State};
+ghost use Rattle.as2_store.specs.Stands.{Rests};
+ghost use Rattle.as2_desk.specs.Connections.{ServesConnections, ServesCount, ServesNext, connection_line, listening_line};
+ghost use Rattle.as2_desk.specs.Statuses.{done, refused};
+
+use crate::network::{Listens, Network};
+use crate::refusal::{CommandFault, refuse, refuse_behind};
+use crate::status::{DONE, Ran, end_name};
+use as2_agreement::Agreements;
+use as2_commands::Serving;
+use as2_http::{DeviceFault, Served, Sink, push_all};
+use as2_station::Station;
+use as2_text::Moment;
+use sqlite::Alter;
+use std::alloc::Global;
+use std::io::Write;
+
+/// Writes a name, and LF.
+fn write_name<W: Sink>(name: &str, output: &mut W) -> Result<(), DeviceFault>
+    ensures { OnOk result (Appends (W.written output.old) (W.written output.new) (name.now ++ codes "\n")) }
+{
+    push_all(output, name.as_bytes())?;
+    push_all(output, b"\n")
+}
+
+/// Writes `connection: END`.
+fn write_connection<W: Sink>(end: Served, output: &mut W) -> Result<(), DeviceFault>
+    ensures { OnOk result (Appends (W.written output.old) (W.written output.new) (connection_line end)) }
+{
+    push_all(output, b"connection: ")?;
+    write_name(end_name(end), output)
+}
+
+/// Says where connections are awaited, and whether that could be said.
+fn says_listening<E: Write>(address: &str, errors: &mut E) -> bool
+    ensures { result ≡ true → Appends (E.contents errors.old) (E.contents errors.new) (listening_line address.now) }
+{
+    write!(errors, "listening: {address}\n").is_ok()
+}
+
+/// Serves the next connection, and writes its line once it has ended.
+fn serve_next<S: Alter, L: Listens, W: Sink>(
+    alloc: Global,
+    agreements: &Agreements,
+    moment: &Option<Moment>,
+    station: &mut Station<S>,
+    listener: &mut L,
+    output: &mut W,
+) -> Result<(), DeviceFault>
+    ensures clean { HasCleanDisk (state S.Store station.new) → HasCleanDisk (state S.Store station.old) }
+    ensures serves { ServesNext agreements.now moment.now (state S.Store station.old) (state S.Store station.new)
+        (W.written output.old) (W.written output.new) result }
+{
+    let end = listener.serve(alloc, agreements, *moment, station);
+    write_connection(end, output)
+}
+
+/// Serves so many connections, one after the other, and writes a line for each as soon as it has ended.
+fn serve_connections<S: Alter, L: Listens, W: Sink>(
+    alloc: Global,
+    agreements: &Agreements,
+    count: u64,
+    moment: Option<Moment>,
+    station: &mut Station<S>,
+    listener: &mut L,
+    output: &mut W,
+) -> Result<(), DeviceFault>
+    ensures { ServesConnections agreements.now moment count (state S.Store station.old) (state S.Store station.new)
+        (W.written output.old) (W.written output.new) result }
+{
+    for served in 0..count {
+        let _ = served;
+        serve_next(alloc, agreements, &moment, station, listener, output)?;
+    }
+    Ok(())
+}
+
+/// Serves connections at an address.
+pub(crate) fn serve<S: Alter, N: Network, W: Sink, E: Write>(
+    alloc: Global,
+    agreements: &Agreements,
+    serving: Serving<'_>,
+    station: &mut Station<S>,
+    network: &N,
+    output: &mut W,
+    errors: &mut E,
+) -> Ran
+    ensures status { (result.status ≡ done) ⊎ (result.status ≡ refused) }
+    ensures serves { (known : Option State) → IfSome known (λ s. HasCleanDisk (state S.Store station.new) × Rests (state S.Store station.old) s)
+        → ServesCount agreements.now serving.entry known (output.new ≡ output.old) (λ t. Rests (state S.Store station.new) t)
+        (W.written output.old) (W.written output.new) (Appends (E.contents errors.old) (E.contents errors.new)) result }
+{
+    let Ok(mut listener) = network.listen(alloc, serving.address, serving.waits) else {
+        return refuse(CommandFault::CannotListen, errors);
+    };
+    let Ok(address) = listener.address(alloc) else {
+        return refuse(CommandFault::Memory, errors);
+    };
+    let told = says_listening(address.as_str(), errors);
+    let Serving { count, moment, .. } = serving;
+    match serve_connections(
+        alloc,
+        agreements,
+        count,
+        moment,
+        station,
+        &mut listener,
+        output,
+    ) {
+        Ok(()) => Ran { status: DONE, told },
+        Err(DeviceFault) => refuse_behind(told, CommandFault::CannotWrite, errors),
+    }
+}
