@@ -18,7 +18,7 @@ use crate::agreements::AGREED;
 use crate::texts::{Change, NOTHING, Text, joined};
 use as2_desk::{Ran, run};
 use as2_http::Counted;
-use memory::{Calls, Input, OneFile, Paper, Stores};
+use memory::{Calls, Input, NoNetwork, OneFile, Paper, Stores};
 use std::alloc::{AllocError, Global};
 use std::marker::Brand;
 use std::process::Abort;
@@ -214,6 +214,7 @@ fn outcome_counted<A: Ledger, B: Ledger, C: Ledger, D: Ledger>(
         case.clock,
         &files,
         &case.stores,
+        &NoNetwork,
         &mut input,
         &mut output,
         &mut errors,

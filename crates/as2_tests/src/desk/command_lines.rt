@@ -23,14 +23,22 @@ An AS2 station: takes documents from partners and answers with receipts
 Usage: as2desk [OPTIONS] --agreements <FILE> --store <FILE> <COMMAND>
 
 Commands:
-  check  Reads the agreements and prints how many organizations and partners they have
-  post   Answers the post on standard input with a reply on standard output
+  check        Reads the agreements and prints how many organizations and partners they have
+  post         Answers the requests on standard input with replies on standard output
+  submit       Takes a document in for a partner, and prints its number
+  send         Sends each document and receipt that is due, and prints what became of each
+  tick         Gives up what has waited until now, and prints how many documents that is
+  list         Lists the documents that were sent or received, a line each
+  outstanding  Counts what is outstanding, and lists the documents that are due
+  show         Shows a document of the outbox, a line for each thing that is known of it
+  fetch        Writes the content of a document of the inbox
+  serve        Answers connections of partners, one after the other
 
 Options:
       --agreements <FILE>  Agreements, a TOML file: the station's names, its partners and their terms
       --store <FILE>       Records, an SQLite file, made where it is absent; ':memory:' keeps none
       --first <N>          First number of a store that is made: 1 to 999999999999 [default: 1]
-      --moment <SECONDS>   Moment of 'post', in seconds since 1970: 0 to 253402300799 [default: the clock]
+      --moment <SECONDS>   Moment of the command, in seconds since 1970: 0 to 253402300799 [default: the clock]
   -h, --help               Print help
   -V, --version            Print version
 
@@ -42,6 +50,10 @@ Exit status: 0 done; 1 refused, and one line on standard error says why; 2 a fau
 Examples:
   as2desk --agreements agreements.toml --store station.db check
   as2desk --agreements agreements.toml --store station.db post < plain-post.http
+  as2desk --agreements agreements.toml --store station.db submit --from Supplier --to Buyer order.edi
+  as2desk --agreements agreements.toml --store station.db send
+  as2desk --agreements agreements.toml --store station.db serve --listen 127.0.0.1:8080 --count 100
+  as2desk --agreements agreements.toml --store station.db list out
 ";
 
 const CHECK_HELP: &str = "\
@@ -62,19 +74,20 @@ Example:
 ";
 
 const POST_HELP: &str = "\
-Answers the post on standard input with a reply on standard output
+Answers the requests on standard input with replies on standard output
 
 Usage: as2desk --agreements <FILE> --store <FILE> post
 
 Options:
   -h, --help  Print help
 
-Standard input is one HTTP request, as a partner sends it: a document or a receipt. The reply on
-standard output has the receipt in it where the document asks for one. A reply that says no, such as
-403, is a reply too: the exit status is 0. It is 1, and 'refused: NAME' is said on standard error,
-where the input is no whole request, or can't be read, or the reply can't be written.
+Standard input is HTTP requests, as a partner sends them, one behind the other: documents and receipts.
+Each is answered in turn. The reply on standard output has the receipt in it where the document asks
+for one. A reply that says no, such as 403, is a reply too: the exit status is 0. It is 1, and
+'refused: NAME' is said on standard error, where the input ends within a request, or can't be read, or
+a reply can't be written.
 
-The document is recorded in the store, and answered the same when it is posted again. A store that
+The documents are recorded in the store, and answered the same when they are posted again. A store that
 can't be opened is told before anything is read: 'store: NAME' on standard error, exit status 3.
 
 Example:

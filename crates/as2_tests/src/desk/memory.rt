@@ -1,13 +1,18 @@
-//! A file, stores and streams in memory, which may be broken.
+//! A file, stores, streams and a network in memory, which may be broken.
 ghost use Rattle.std.specs.Prelude.{◌≡◌, IfOk, false, if◌then◌else◌};
 ghost use Rattle.std.specs.Str.{bytes_eq};
 ghost use Rattle.as2_desk.specs.FileContents.{file, unreadable};
 ghost use Rattle.as2_desk.specs.Stores.{untold};
 
+use as2_agreement::Agreements;
 use as2_desk::{
-    FileFault, FirstNumber, OpenFault, OpenStores, ReadFiles, Seen, StoreFault, make_tables,
+    CannotListen, FileFault, FirstNumber, Links, Listens, Network, OpenFault, OpenStores,
+    ReadFiles, Seen, Served, StoreFault, Waits, make_tables,
 };
-use sqlite::{Connection, MemStore};
+use as2_exchange::{Job, TryAnswer};
+use as2_station::Station;
+use as2_text::{Memory, Moment};
+use sqlite::{Alter, Connection, MemStore};
 use std::alloc::Global;
 use std::cmp::min;
 use std::io::{Error, ErrorKind, Read, Result as IoResult, Write};
@@ -30,6 +35,61 @@ impl ReadFiles for OneFile<'_> {
             Ok(bytes) => Ok(bytes),
             Err(_) => Err(FileFault::Memory),
         }
+    }
+
+    fn read_front(&self, alloc: Global, path: &str, most: usize) -> Result<Vec<u8>, FileFault> {
+        if path != self.path {
+            return Err(FileFault::CannotRead);
+        }
+        match self.bytes[..min(most, self.bytes.len())].to_vec(alloc) {
+            Ok(bytes) => Ok(bytes),
+            Err(_) => Err(FileFault::Memory),
+        }
+    }
+}
+
+/// A network at which nothing can be listened to, and nobody answers.
+#[derive(Clone, Copy)]
+pub(super) struct NoNetwork;
+
+impl Listens for NoNetwork {
+    fn address(&self, _alloc: Global) -> Result<String, Memory> {
+        Err(Memory)
+    }
+
+    fn serve<S: Alter>(
+        &mut self,
+        _alloc: Global,
+        _agreements: &Agreements,
+        _moment: Option<Moment>,
+        _station: &mut Station<S>,
+    ) -> Served {
+        Served::ReadFault
+    }
+}
+
+impl Links for NoNetwork {
+    fn exchange(&mut self, _alloc: Global, _job: &Job) -> TryAnswer {
+        TryAnswer::NoAnswer
+    }
+}
+
+impl Network for NoNetwork {
+    type Listener = NoNetwork;
+
+    type Links = NoNetwork;
+
+    fn listen(
+        &self,
+        _alloc: Global,
+        _address: &str,
+        _waits: Waits,
+    ) -> Result<NoNetwork, CannotListen> {
+        Err(CannotListen)
+    }
+
+    fn links(&self, _waits: Waits) -> NoNetwork {
+        NoNetwork
     }
 }
 
