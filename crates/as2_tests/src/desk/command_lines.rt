@@ -295,7 +295,7 @@ static COMMANDS: &[Line] = &[
         status: 2,
         output: "",
         errors: &[
-            "error: 'as2desk' requires a subcommand but one was not provided\n  [subcommands: check, post]",
+            "error: 'as2desk' requires a subcommand but one was not provided\n  [subcommands: check, post, submit, send, tick, list, outstanding, show, fetch, serve]",
             USAGE,
             HINT,
         ],
