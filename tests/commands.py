@@ -3,6 +3,8 @@
 The worked texts are those of docs/PROFILE.md. `python3 tests/commands.py [PROGRAM]`; the last line says how many differ."""
 import http.server
 import os
+import resource
+import socket
 import subprocess
 import sys
 import tempfile
@@ -91,6 +93,24 @@ def tries(folder, agreements):
     same("serve, no such address", run(store, ["serve", "--listen", "192.0.2.1:1", "--count", "1"]), (1, "", "refused: CannotListen\n"))
 
 
+def accepts_none(folder):
+    """With no more files than the program needs to listen, each accept fails: so do the connections end."""
+    words = ["serve", "--listen", "127.0.0.1:0", "--count", "2"]
+    whole = [PROGRAM, "--agreements", AGREEMENTS, "--store", f"{folder}/few.db", *words]
+    for most in range(4, 40):
+        limit = lambda: resource.setrlimit(resource.RLIMIT_NOFILE, (most, most))
+        ran = subprocess.Popen(whole, stdin=subprocess.DEVNULL, stdout=subprocess.PIPE, stderr=subprocess.PIPE, text=True, preexec_fn=limit)
+        said = ran.stderr.readline()
+        if said.startswith("listening: "):
+            host, port = said.removeprefix("listening: ").strip().rsplit(":", 1)
+            with socket.create_connection((host, int(port))):
+                found = ran.communicate(timeout=60)[0]
+            same("serve, accepts that fail", (ran.returncode, found), (0, "connection: ReadFault\n" * 2))
+            return
+        ran.communicate(timeout=60)
+    same("serve, accepts that fail", "it never listens", "it listens")
+
+
 def main():
     partner = http.server.HTTPServer(("127.0.0.1", 0), Silent)
     threading.Thread(target=partner.serve_forever, daemon=True).start()
@@ -103,6 +123,7 @@ def main():
                 to.write(words)
         posts(folder)
         tries(folder, f"{folder}/named.toml")
+        accepts_none(folder)
         warning = "warning: return_url has not the path /as2; receipts sent there get 404\n"
         counted = (0, "organizations 1, partners 3\n", "")
         same("check", run(f"{folder}/no.db", ["check"]), counted)

@@ -18,7 +18,7 @@ use crate::agreements::AGREED;
 use crate::texts::{Change, NOTHING, Text, joined};
 use as2_desk::{Ran, run};
 use as2_http::Counted;
-use memory::{Calls, Input, NoNetwork, OneFile, Paper, Stores};
+use memory::{Calls, Input, OneFile, Paper, Peers, Stores};
 use std::alloc::{AllocError, Global};
 use std::marker::Brand;
 use std::process::Abort;
@@ -32,6 +32,7 @@ struct Case {
     agreements: Text,
     ending: &'static [u8],
     stores: Stores,
+    peers: Peers,
     options: &'static [&'static str],
     rest: &'static [&'static str],
     /// Standard input, and the parts behind it.
@@ -123,6 +124,7 @@ const PLAIN: Case = Case {
     agreements: AGREED,
     ending: b"",
     stores: Stores::Broken,
+    peers: Peers::NONE,
     options: FIXTURE,
     rest: AT_1000,
     input: POST,
@@ -214,7 +216,7 @@ fn outcome_counted<A: Ledger, B: Ledger, C: Ledger, D: Ledger>(
         case.clock,
         &files,
         &case.stores,
-        &NoNetwork,
+        &case.peers,
         &mut input,
         &mut output,
         &mut errors,

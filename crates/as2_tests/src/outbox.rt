@@ -8,6 +8,7 @@ mod due;
 mod evidence;
 mod exchanges;
 pub mod owed;
+mod reads;
 mod refusals;
 mod replies;
 mod sending;
@@ -34,7 +35,7 @@ use std::test::Fail;
 
 /// What answers a try, or is posted: a status, the names in its head, and a body.
 #[derive(Clone, Copy)]
-struct Reply {
+pub struct Reply {
     status: u16,
     /// Left out of the head where it is empty.
     from: &'static str,
@@ -45,7 +46,7 @@ struct Reply {
 }
 
 /// Buyer's receipt for the first document.
-const RECEIVED: Reply = Reply {
+pub const RECEIVED: Reply = Reply {
     status: 200,
     from: "Buyer",
     to: "Supplier",
@@ -82,6 +83,8 @@ enum Did {
     Posted(Reply, u64),
     /// The plain post.
     Plain(u64),
+    /// The same with another content.
+    Other(u64),
     /// The same from Depot, which asks for a receipt by a post to `127.0.0.1:8082`.
     AskedLater(u64),
     /// A try of that receipt begins.
@@ -117,6 +120,8 @@ pub enum Said {
     Reported,
     /// 404 and its line.
     NoSuchMessage,
+    /// 409 and its line.
+    UsedBefore,
     /// So many documents have passed into another detail.
     Ticked(u64),
     /// No number is left.
@@ -149,13 +154,13 @@ fn head(alloc: Global, reply: &Reply) -> Result<Head, HeadFault> {
 }
 
 /// The body of the reply.
-fn text(alloc: Global, reply: &Reply) -> Result<String, Fail> {
+fn text(alloc: Global, reply: &Reply) -> Option<String> {
     let text = Text {
-        plain: str::from_utf8(reply.plain)?,
+        plain: str::from_utf8(reply.plain).ok()?,
         changes: reply.changes,
         ..NOTHING
     };
-    Ok(text.made(alloc)?)
+    text.made(alloc).ok()
 }
 
 /// Bytes that are handed in by an organization for a partner.
@@ -174,22 +179,32 @@ fn submit(
     })
 }
 
+/// The answer to a try, where memory is there.
+pub fn try_answer(alloc: Global, reply: &Reply) -> Option<TryAnswer> {
+    let text = text(alloc, reply)?;
+    Some(TryAnswer::Reply {
+        status: reply.status,
+        head: head(alloc, reply).ok()?,
+        body: body(alloc, text.as_bytes()).ok()?,
+    })
+}
+
 /// A try is answered.
 fn outcome(alloc: Global, number: u64, reply: &Reply, seconds: u64) -> Result<Event, Fail> {
-    let text = text(alloc, reply)?;
+    let Some(answer) = try_answer(alloc, reply) else {
+        return Err(Fail::new("no answer"));
+    };
     Ok(Event::Outcome {
         number,
-        answer: TryAnswer::Reply {
-            status: reply.status,
-            head: head(alloc, reply)?,
-            body: body(alloc, text.as_bytes())?,
-        },
+        answer,
         moment: moment(seconds)?,
     })
 }
 
 fn post(alloc: Global, reply: &Reply, seconds: u64) -> Result<Event, Fail> {
-    let text = text(alloc, reply)?;
+    let Some(text) = text(alloc, reply) else {
+        return Err(Fail::new("no text"));
+    };
     Ok(Event::Post {
         head: head(alloc, reply)?,
         body: body(alloc, text.as_bytes())?,
@@ -197,11 +212,16 @@ fn post(alloc: Global, reply: &Reply, seconds: u64) -> Result<Event, Fail> {
     })
 }
 
-/// The plain post with these changes.
-fn plain_post(alloc: Global, changes: &[posts::Change], seconds: u64) -> Result<Event, Fail> {
+/// The plain post with these changes and that content.
+fn plain_post(
+    alloc: Global,
+    changes: &[posts::Change],
+    content: &[u8],
+    seconds: u64,
+) -> Result<Event, Fail> {
     Ok(Event::Post {
         head: posts::head(alloc, changes)?,
-        body: body(alloc, b"abc")?,
+        body: body(alloc, content)?,
         moment: moment(seconds)?,
     })
 }
@@ -252,8 +272,9 @@ fn event(alloc: Global, did: &Did) -> Result<Event, Fail> {
         }),
         Did::Answered(number, reply, seconds) => outcome(alloc, number, &reply, seconds),
         Did::Posted(reply, seconds) => post(alloc, &reply, seconds),
-        Did::Plain(seconds) => plain_post(alloc, &[], seconds),
-        Did::AskedLater(seconds) => plain_post(alloc, &ASKED_LATER, seconds),
+        Did::Plain(seconds) => plain_post(alloc, &[], b"abc", seconds),
+        Did::Other(seconds) => plain_post(alloc, &[], b"abd", seconds),
+        Did::AskedLater(seconds) => plain_post(alloc, &ASKED_LATER, b"abc", seconds),
         _ => later_event(alloc, did),
     }
 }
@@ -281,6 +302,9 @@ fn is_http(answer: &HttpAnswer, said: &Said) -> bool {
         }
         (HttpBody::Words(line), Said::NoSuchMessage) => {
             answer.status == 404 && line.text() == "no such message"
+        }
+        (HttpBody::Words(line), Said::UsedBefore) => {
+            answer.status == 409 && line.text() == "message identifier used before"
         }
         _ => false,
     }

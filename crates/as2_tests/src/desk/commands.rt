@@ -1,7 +1,10 @@
-//! Commands over a store that has nothing recorded yet, and the order in which their faults are told.
-use super::memory::{Calls, Stores};
-use super::{Case, FIXTURE, PLAIN, check_all};
+//! Commands over a store that has nothing recorded yet and over one with a document of each box, and the order in which their
+//! faults are told.
+use super::memory::{Calls, Peers, Stores};
+use super::{Case, FIXTURE, PLAIN, POST, RECEIPT, check_all};
+use crate::outbox::RECEIVED;
 use crate::texts::{NOTHING, Text};
+use as2_desk::Served;
 use std::test::Fail;
 
 /// A command over a new store in memory. Standard input isn't read. The one file is that of the agreements.
@@ -145,6 +148,146 @@ static REFUSED: &[Case] = &[
     },
 ];
 
+/// A command at 1000 over a store with a document of each box.
+const OVER_FILLED: Case = Case {
+    stores: Stores::Filled,
+    options: &[
+        "--agreements",
+        "agreements.toml",
+        "--store",
+        "station.db",
+        "--moment",
+        "1000",
+    ],
+    ..OVER_MEMORY
+};
+
+/// Three connections come, of which the second breaks.
+const SERVED: Case = Case {
+    peers: Peers {
+        ends: &[Served::Closed, Served::ReadFault, Served::Closed],
+        reply: None,
+    },
+    rest: &["serve", "--listen", "127.0.0.1:8080", "--count", "3"],
+    output: Text {
+        plain: "connection: Closed\nconnection: ReadFault\nconnection: Closed\n",
+        ..NOTHING
+    },
+    errors: &["listening: 127.0.0.1:8080\n"],
+    ..OVER_FILLED
+};
+
+static FILLED: &[Case] = &[
+    Case {
+        rest: &["list", "out"],
+        output: Text {
+            plain: "           1 P  0 - new              Supplier -> Buyer\n",
+            ..NOTHING
+        },
+        ..OVER_FILLED
+    },
+    Case {
+        rest: &["list", "out", "--state", "E"],
+        ..OVER_FILLED
+    },
+    Case {
+        rest: &["list", "in"],
+        output: Text {
+            plain: "           1 S S Buyer -> Supplier <m1@x>\n",
+            ..NOTHING
+        },
+        ..OVER_FILLED
+    },
+    Case {
+        rest: &["outstanding"],
+        output: Text {
+            plain: "documents not sent: 1\ndocuments in retry: 0\nreceipts awaited: 0\ndocuments in error: 0\nreceipts to send: 0\n           1 P  0 - new              Supplier -> Buyer\n",
+            ..NOTHING
+        },
+        ..OVER_FILLED
+    },
+    Case {
+        rest: &["show", "1"],
+        output: Text {
+            plain: "number: 1\nstate: P new\ntries: 0\ndue: 1000\nfrom: Supplier\nto: Buyer\nidentifier: <out-1@station.example>\ncontent: 3 bytes\nreceipt: -\n",
+            ..NOTHING
+        },
+        ..OVER_FILLED
+    },
+    Case {
+        rest: &["fetch", "1"],
+        output: Text {
+            plain: "abc",
+            ..NOTHING
+        },
+        ..OVER_FILLED
+    },
+    Case {
+        rest: SUBMIT,
+        output: Text {
+            plain: "2\n",
+            ..NOTHING
+        },
+        ..OVER_FILLED
+    },
+    Case {
+        rest: &["tick"],
+        output: Text {
+            plain: "0\n",
+            ..NOTHING
+        },
+        ..OVER_FILLED
+    },
+    // Nobody listens.
+    Case {
+        rest: &["send"],
+        output: Text {
+            plain: "document 1: try failed\n",
+            ..NOTHING
+        },
+        ..OVER_FILLED
+    },
+    // The partner's receipt is in its answer.
+    Case {
+        rest: &["send"],
+        output: Text {
+            plain: "document 1: settled S processed\n",
+            ..NOTHING
+        },
+        peers: Peers {
+            reply: Some(RECEIVED),
+            ..Peers::NONE
+        },
+        ..OVER_FILLED
+    },
+    // The post that is recorded comes again.
+    Case {
+        rest: &["post"],
+        input: POST,
+        output: RECEIPT,
+        left: (0, 0),
+        ..OVER_FILLED
+    },
+    SERVED,
+    // No more connections are served than are asked for.
+    Case {
+        rest: &["serve", "--listen", "127.0.0.1:8080", "--count", "1"],
+        output: Text {
+            plain: "connection: Closed\n",
+            ..NOTHING
+        },
+        ..SERVED
+    },
+    // None, where no line can be written of it.
+    Case {
+        writes: Calls::NONE,
+        status: 1,
+        output: NOTHING,
+        errors: &["listening: 127.0.0.1:8080\n", "refused: CannotWrite\n"],
+        ..SERVED
+    },
+];
+
 // Agreements come before a document's file, that before the store, and the store before what the command is refused for.
 static IN_ORDER: &[Case] = &[
     Case {
@@ -190,6 +333,11 @@ static IN_ORDER: &[Case] = &[
 #[test]
 fn each_command_is_carried_out(rt: HostRuntime) -> Result<(), Fail> {
     Ok(check_all(&rt, rt.alloc(), DONE)?)
+}
+
+#[test]
+fn each_command_finds_what_stands(rt: HostRuntime) -> Result<(), Fail> {
+    Ok(check_all(&rt, rt.alloc(), FILLED)?)
 }
 
 #[test]

@@ -4,14 +4,19 @@ ghost use Rattle.std.specs.Str.{bytes_eq};
 ghost use Rattle.as2_desk.specs.FileContents.{file, unreadable};
 ghost use Rattle.as2_desk.specs.Stores.{untold};
 
+use crate::agreements::AGREEMENTS;
+use crate::outbox::{Reply, try_answer};
+use crate::posts::{body, head};
+use crate::stores::new_store;
 use as2_agreement::Agreements;
 use as2_desk::{
     CannotListen, FileFault, FirstNumber, Links, Listens, Network, OpenFault, OpenStores,
     ReadFiles, Seen, Served, StoreFault, Waits, make_tables,
 };
-use as2_exchange::{Job, TryAnswer};
+use as2_exchange::{Event, Job, TryAnswer};
 use as2_station::Station;
-use as2_text::{Memory, Moment};
+use as2_store::Store;
+use as2_text::{AsName, Memory, Moment};
 use sqlite::{Alter, Connection, MemStore};
 use std::alloc::Global;
 use std::cmp::min;
@@ -48,13 +53,27 @@ impl ReadFiles for OneFile<'_> {
     }
 }
 
-/// A network at which nothing can be listened to, and nobody answers.
+/// A network in memory.
 #[derive(Clone, Copy)]
-pub(super) struct NoNetwork;
+pub(super) struct Peers {
+    /// How the connections end that come, each without a request. Where there are none, no address can be listened on.
+    pub(super) ends: &'static [Served],
+    /// What each partner answers. None: nobody listens.
+    pub(super) reply: Option<Reply>,
+}
 
-impl Listens for NoNetwork {
-    fn address(&self, _alloc: Global) -> Result<String, Memory> {
-        Err(Memory)
+impl Peers {
+    pub(super) const NONE: Peers = Peers {
+        ends: &[],
+        reply: None,
+    };
+}
+
+impl Listens for Peers {
+    fn address(&self, alloc: Global) -> Result<String, Memory> {
+        let mut text = String::new(alloc);
+        text.push_str("127.0.0.1:8080")?;
+        Ok(text)
     }
 
     fn serve<S: Alter>(
@@ -64,32 +83,37 @@ impl Listens for NoNetwork {
         _moment: Option<Moment>,
         _station: &mut Station<S>,
     ) -> Served {
-        Served::ReadFault
+        let Some((end, rest)) = self.ends.split_first() else {
+            return Served::ReadFault;
+        };
+        self.ends = rest;
+        *end
     }
 }
 
-impl Links for NoNetwork {
-    fn exchange(&mut self, _alloc: Global, _job: &Job) -> TryAnswer {
-        TryAnswer::NoAnswer
+impl Links for Peers {
+    fn exchange(&mut self, alloc: Global, _job: &Job) -> TryAnswer {
+        let Some(reply) = self.reply else {
+            return TryAnswer::NoAnswer;
+        };
+        try_answer(alloc, &reply).unwrap_or(TryAnswer::NoAnswer)
     }
 }
 
-impl Network for NoNetwork {
-    type Listener = NoNetwork;
+impl Network for Peers {
+    type Listener = Peers;
 
-    type Links = NoNetwork;
+    type Links = Peers;
 
-    fn listen(
-        &self,
-        _alloc: Global,
-        _address: &str,
-        _waits: Waits,
-    ) -> Result<NoNetwork, CannotListen> {
-        Err(CannotListen)
+    fn listen(&self, _alloc: Global, _address: &str, _waits: Waits) -> Result<Peers, CannotListen> {
+        if self.ends.is_empty() {
+            return Err(CannotListen);
+        }
+        Ok(*self)
     }
 
-    fn links(&self, _waits: Waits) -> NoNetwork {
-        NoNetwork
+    fn links(&self, _waits: Waits) -> Peers {
+        *self
     }
 }
 
@@ -104,6 +128,8 @@ pub(super) enum Stores {
     Other,
     /// A database without tables.
     Bare,
+    /// A store with a document of each box.
+    Filled,
     /// Nothing.
     Nothing,
     /// Nothing, until a store is to be made.
@@ -119,6 +145,30 @@ fn in_memory(alloc: Global) -> Result<Connection<MemStore>, OpenFault>
     }
 }
 
+/// A store with a document of each box, both of 1000: the plain post, and one for Buyer.
+fn filled(alloc: Global) -> Option<Store<MemStore>> {
+    let agreements = Agreements::read(alloc, AGREEMENTS).ok()?;
+    let moment = Moment::new(1000)?;
+    let mut station = Station::new(new_store(alloc, 1)?);
+    let events = [
+        Event::Post {
+            head: head(alloc, &[]).ok()?,
+            body: body(alloc, b"abc").ok()?,
+            moment,
+        },
+        Event::Submit {
+            organization: AsName::plain(b"Supplier").ok()?,
+            partner: AsName::plain(b"Buyer").ok()?,
+            content: body(alloc, b"abc").ok()?,
+            moment,
+        },
+    ];
+    for event in events {
+        station.step(alloc, &agreements, event).ok()?;
+    }
+    Some(station.into_store())
+}
+
 impl OpenStores for Stores {
     type Kind = MemStore;
 
@@ -127,7 +177,7 @@ impl OpenStores for Stores {
     fn look(&self, _path: &str) -> Result<Seen, OpenFault> {
         match self {
             Stores::Broken => Err(OpenFault::Store(StoreFault::Disk)),
-            Stores::Held | Stores::Bare => Ok(Seen::Database),
+            Stores::Held | Stores::Bare | Stores::Filled => Ok(Seen::Database),
             Stores::Other => Ok(Seen::Other),
             Stores::Nothing | Stores::Taken => Ok(Seen::Nothing),
         }
@@ -136,6 +186,10 @@ impl OpenStores for Stores {
     fn open_store(&self, alloc: Global, _path: &str) -> Result<Connection<MemStore>, OpenFault> {
         match self {
             Stores::Held => Err(OpenFault::Held),
+            Stores::Filled => match filled(alloc) {
+                Some(store) => Ok(store.into_connection()),
+                None => Err(OpenFault::Store(StoreFault::Memory)),
+            },
             _ => in_memory(alloc),
         }
     }

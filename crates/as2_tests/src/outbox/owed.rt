@@ -126,7 +126,8 @@ fn check(
     Ok(())
 }
 
-const JOB: &[Row] = &[
+/// A receipt that is sent by its second try, and then queued again by a repeat.
+pub(super) const JOB: &[Row] = &[
     (Did::AskedLater(1000), Said::Accepted),
     (Did::BeginMdn(1, 1000), TO_DEPOT),
     (Did::MdnUnanswered(1, 1000), Said::TryFailed),

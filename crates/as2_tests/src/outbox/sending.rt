@@ -2,11 +2,10 @@
 ghost use Rattle.as2_http.specs.Devices.{Opens};
 
 use super::{
-    AWAITING, Did, EMPTY, NEW, RECEIVED, Reply, Row, SETTLED, Said, Stand, TRIED, head, is_found,
-    moment, played, text,
+    AWAITING, Did, EMPTY, NEW, RECEIVED, Reply, Row, SETTLED, Said, Stand, TRIED, is_found, moment,
+    played, try_answer,
 };
 use crate::agreements::AGREED;
-use crate::posts::body;
 use crate::texts::Text;
 use as2_agreement::Agreements;
 use as2_exchange::{Job, Refusal, TryAnswer};
@@ -26,8 +25,6 @@ use std::test::Fail;
 #[derive(Drop)]
 struct Partners {
     reply: Option<Reply>,
-    /// The body of what they answer.
-    text: String,
     asked: Vec<u8>,
 }
 
@@ -36,12 +33,7 @@ impl Partners {
     fn answer(&mut self, alloc: Global, job: &Job) -> Option<TryAnswer> {
         self.asked.extend_from_slice(job.authority.as_slice()).ok()?;
         self.asked.extend_from_slice(b"\n").ok()?;
-        let reply = self.reply?;
-        Some(TryAnswer::Reply {
-            status: reply.status,
-            head: head(alloc, &reply).ok()?,
-            body: body(alloc, self.text.as_bytes()).ok()?,
-        })
+        try_answer(alloc, &self.reply?)
     }
 }
 
@@ -221,10 +213,6 @@ fn is_so(alloc: Global, case: &Case) -> Result<bool, Fail> {
     let mut station = Station::new(played(alloc, case.before)?);
     let mut partners = Partners {
         reply: case.reply,
-        text: match case.reply {
-            Some(reply) => text(alloc, &reply)?,
-            None => String::new(alloc),
-        },
         asked: Vec::new(alloc),
     };
     let mut paper = Paper {

@@ -7,14 +7,15 @@ use std::alloc::Global;
 use std::str;
 use std::test::Fail;
 
-/// The plain post, and its repeat.
-const REPEATED: &[Row] = &[
+/// The plain post, its repeat, and another document under its identifier.
+pub(super) const REPEATED: &[Row] = &[
     (Did::Plain(1000), Said::Receipt),
     (Did::Plain(1000), Said::Receipt),
+    (Did::Other(1000), Said::UsedBefore),
 ];
 
 /// A document that the receipt in the answer settles.
-const SETTLED: &[Row] = &[
+pub(super) const SETTLED: &[Row] = &[
     (Did::Submit("Buyer", 1000), Said::Submitted(1)),
     (Did::Begin(1, 1000), TO_BUYER),
     (
