@@ -157,7 +157,7 @@ static CASES: &[Case] = &[
 ];
 
 /// The reads of the inbox, one after the other.
-fn received(alloc: Global, store: &mut Store<MemStore>, case: &Case) -> Result<Received, Fail> {
+fn read_inbox(alloc: Global, store: &mut Store<MemStore>, case: &Case) -> Result<Received, Fail> {
     let sender = AsName::plain(case.partner.as_bytes())?;
     let receiver = AsName::plain(b"Supplier")?;
     let found = store.find_in(alloc, &sender, &receiver, "m1@x")?;
@@ -172,7 +172,7 @@ fn received(alloc: Global, store: &mut Store<MemStore>, case: &Case) -> Result<R
 }
 
 /// The reads of the outbox, one after the other.
-fn submitted(alloc: Global, store: &mut Store<MemStore>, case: &Case) -> Result<Submitted, Fail> {
+fn read_outbox(alloc: Global, store: &mut Store<MemStore>, case: &Case) -> Result<Submitted, Fail> {
     let found = store.find_out_by_id(alloc, b"out-1@station.example")?;
     let first = store.find_out(alloc, 1)?;
     let rows = store.list_out(alloc, None)?;
@@ -193,8 +193,8 @@ fn is_told(alloc: Global, case: &Case) -> Result<bool, Fail> {
     let mut store = played(alloc, case.rows)?;
     let next = store.next_numbers()?;
     let is_next = (next.receipt, next.document) == case.next;
-    let is_received = received(alloc, &mut store, case)? == case.received;
-    let is_submitted = submitted(alloc, &mut store, case)? == case.submitted;
+    let is_received = read_inbox(alloc, &mut store, case)? == case.received;
+    let is_submitted = read_outbox(alloc, &mut store, case)? == case.submitted;
     let is_counted = store.counts(alloc)? == case.counts;
     Ok(is_next && is_received && is_submitted && is_counted)
 }
