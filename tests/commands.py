@@ -4,7 +4,6 @@ The worked texts are those of docs/PROFILE.md. `python3 tests/commands.py [PROGR
 import http.server
 import os
 import resource
-import socket
 import subprocess
 import sys
 import tempfile
@@ -102,9 +101,8 @@ def accepts_none(folder):
         ran = subprocess.Popen(whole, stdin=subprocess.DEVNULL, stdout=subprocess.PIPE, stderr=subprocess.PIPE, text=True, preexec_fn=limit)
         said = ran.stderr.readline()
         if said.startswith("listening: "):
-            host, port = said.removeprefix("listening: ").strip().rsplit(":", 1)
-            with socket.create_connection((host, int(port))):
-                found = ran.communicate(timeout=60)[0]
+            # no client is waited for: the file of a connection is wanted first
+            found = ran.communicate(timeout=60)[0]
             same("serve, accepts that fail", (ran.returncode, found), (0, "connection: ReadFault\n" * 2))
             return
         ran.communicate(timeout=60)
