@@ -5,7 +5,7 @@ use Rattle.std.proofs.lemmas.List.{length-append}
 use Rattle.httparse.specs.Grammar.{RequestHead}
 use Rattle.httparse.specs.Spans.{name_and_value}
 use Rattle.httparse.proofs.GrammarLemmas.{request_unique}
-use Rattle.as2_http.specs.HeadText.{HasHeadText, HasNoHeadText}
+use Rattle.as2_framing.specs.HeadText.{HasHeadText, HasNoHeadText}
 use Rattle.as2_http.specs.Requests.{Fields, IsHead, Frames, too_long, no_head, framing, in_head, in_body, appended, method_of, target_of, body_length, is_last_request, is_head}
 use Rattle.as2_http.specs.Laws.{BeginsWithOne, RefusesInOneWay, NeverRefusesRequests, NeverOpensRequests, NeverOpensRefused}
 use Rattle.as2_http.specs.declared.framing.Method.{Method}

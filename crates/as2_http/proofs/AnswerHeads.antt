@@ -10,12 +10,12 @@ use Rattle.httparse.specs.declared.spans.HeaderSpan.{HeaderSpan}
 use Rattle.httparse.specs.declared.spans.ResponseSpans.{ResponseSpans}
 use Rattle.as2_http.specs.Answering.{IsAnswerHead, FramesAnswer, BeginsAnswer}
 use Rattle.as2_http.specs.AnswerPieces.{JudgesAnswer}
-use Rattle.as2_http.specs.HeadText.{HasHeadText}
+use Rattle.as2_framing.specs.HeadText.{HasHeadText}
 use Rattle.as2_http.specs.Requests.{Fields, appended}
 use Rattle.as2_http.specs.declared.answer_head.BodyEnd.{BodyEnd}
 use Rattle.as2_http.specs.declared.answer_head.BodyEnd.TheVariants.{After}
 use Rattle.as2_http.specs.declared.answer_head.JudgedAnswer.{JudgedAnswer}
-use Rattle.as2_http.proofs.Heads.{head_append}
+use Rattle.as2_framing.proofs.Heads.{head_append}
 use Rattle.as2_http.proofs.Judging.{appended_fits}
 
 few_fields : (buf : List ℕ) (head : ResponseHead) (fields : Fields) → IsAnswerHead buf head fields → length head.fields ≤ 64

@@ -5,8 +5,8 @@ use Rattle.httparse.specs.Grammar.{ResponseHead}
 use Rattle.as2_http.specs.Answering.{IsAnswerHead, FramesAnswer, BeginsAnswer, IsAnswerToEnd, AnswerIn, by_end, IsCutAnswer, in_head, in_body, IsOpenAnswer, IsNoAnswer, no_head, no_body, too_large}
 use Rattle.as2_http.specs.AnswerPieces.{JudgesAnswer, end_behind, MayHave, AwaitsAnswer, IsMissing, HasKeptBy, HasKept}
 use Rattle.as2_http.specs.Framing.{body_limit}
-use Rattle.as2_http.specs.HeadText.{up_to_empty_line, HasHeadText}
-use Rattle.as2_http.specs.HeadPieces.{HoldsHead}
+use Rattle.as2_framing.specs.HeadText.{up_to_empty_line, HasHeadText}
+use Rattle.as2_framing.specs.HeadPieces.{HoldsHead}
 use Rattle.as2_http.specs.Requests.{Fields}
 use Rattle.as2_http.specs.declared.answer_head.BodyEnd.{BodyEnd}
 use Rattle.as2_http.specs.declared.answer_head.BodyEnd.TheVariants.{After, WithInput}
@@ -14,8 +14,8 @@ use Rattle.as2_http.specs.declared.answer_head.JudgedAnswer.{JudgedAnswer}
 use Rattle.as2_http.specs.declared.answer_parser.AwaitedAnswer.{AwaitedAnswer}
 use Rattle.as2_http.specs.declared.answer_parser.AnswerParser.{AnswerParser}
 use Rattle.as2_http.specs.declared.answer_parser.ReceivedAnswer.{ReceivedAnswer}
-use Rattle.as2_http.specs.declared.head_bytes.HeadBytes.{HeadBytes}
-use Rattle.as2_http.proofs.Feeding.{short_window}
+use Rattle.as2_framing.specs.declared.head_bytes.HeadBytes.{HeadBytes}
+use Rattle.as2_framing.proofs.Feeding.{short_window}
 use Rattle.as2_http.proofs.AnswerHeads.{judged_frames, frames_more}
 
 -- ---- the body

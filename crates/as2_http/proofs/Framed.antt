@@ -2,12 +2,12 @@
 use Rattle.std.proofs.Common.{ℕ, ◌≤◌, List, ◌++◌, length, Result, Ok, Err, ap, ◌∙◌, append_assoc, arith}
 use Rattle.std.proofs.lemmas.List.{take-append-le, length-append}
 use Rattle.httparse.specs.Grammar.{RequestHead}
-use Rattle.as2_http.specs.HeadText.{HasNoHeadText, head_limit}
+use Rattle.as2_framing.specs.HeadText.{HasNoHeadText, head_limit}
 use Rattle.as2_http.specs.Requests.{Fields, Frames, Begins, IsRefused, too_long, no_head, framing}
 use Rattle.as2_http.specs.declared.request.Request.{Request}
 use Rattle.as2_http.specs.declared.framing.RequestFault.{RequestFault}
 use Rattle.as2_http.specs.declared.framing.Refused.{Refused}
-use Rattle.as2_http.proofs.Heads.{head_append}
+use Rattle.as2_framing.proofs.Heads.{head_append}
 
 pub frames_append : (text more : List ℕ) (head : RequestHead) (fields : Fields) (after : List ℕ) (framed : Result ℕ RequestFault)
     → Frames text head fields after framed → Frames (text ++ more) head fields (after ++ more) framed

@@ -2,23 +2,23 @@
 use Rattle.std.proofs.Common.{◌≡◌, ◌+◌, ◌<◌, ◌≤◌, ℕ, Bool, true, false, List, [], ◌∷◌, ◌++◌, length, drop, Option, Some, None, Result, Ok, Err, sym, ap, ◌∙◌, subst, append-nil, arith}
 use Rattle.std.specs.Prelude.{is_none, IfOk, IfErr}
 use Rattle.std.proofs.lemmas.List.{length-drop, drop_all, drop-drop}
-use Rattle.as2_http.specs.HeadText.{unblank, up_to_empty_line, window, HasHeadText}
-use Rattle.as2_http.specs.HeadPieces.{HoldsHead}
+use Rattle.as2_framing.specs.HeadText.{unblank, up_to_empty_line, window, HasHeadText}
+use Rattle.as2_framing.specs.HeadPieces.{HoldsHead}
 use Rattle.as2_http.specs.Parsing.{Awaits, RefusesHead, TakesBody, HasTakenBy, HasTaken, Framed, EndsRequest, TellsBlank}
 use Rattle.as2_http.specs.Reading.{Judges}
 use Rattle.as2_http.specs.Requests.{Frames, Begins, IsRefused, framing, IsOpen, in_head, in_body, body_length, is_head}
 use Rattle.as2_http.specs.declared.framing.Method.{Method}
 use Rattle.as2_http.specs.declared.framing.Refused.{Refused}
 use Rattle.as2_http.specs.declared.framing.RequestFault.{RequestFault}
-use Rattle.as2_http.specs.declared.head_bytes.HeadBytes.{HeadBytes}
+use Rattle.as2_framing.specs.declared.head_bytes.HeadBytes.{HeadBytes}
 use Rattle.as2_http.specs.declared.parser.Awaited.{Awaited}
 use Rattle.as2_http.specs.declared.parser.NotAwaited.{NotAwaited}
 use Rattle.as2_http.specs.declared.parser.NotAwaited.TheVariants as not_awaited
 use Rattle.as2_http.specs.declared.parser.RequestParser.{RequestParser}
 use Rattle.as2_http.specs.declared.request.Judged.{Judged}
 use Rattle.as2_http.proofs.Framed.{frames_append}
-use Rattle.as2_http.proofs.Heads.{line_end, cut_of}
-use Rattle.as2_http.proofs.Feeding.{short_window}
+use Rattle.as2_framing.proofs.Heads.{line_end, cut_of}
+use Rattle.as2_framing.proofs.Feeding.{short_window}
 
 -- ---- a head
 

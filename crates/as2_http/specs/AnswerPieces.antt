@@ -3,7 +3,7 @@ use Rattle.std.specs.Prelude.{◌≡◌, ℕ, ◌+◌, ◌<◌, ◌≤◌, List,
 use Rattle.httparse.specs.Grammar.{ResponseHead, status_code}
 use Rattle.as2_http.specs.Answering.{IsAnswerHead, body_end, FramesAnswer, BeginsAnswer, AnswerIn, IsCutAnswer, IsOpenAnswer, IsNoAnswer}
 use Rattle.as2_http.specs.Framing.{body_limit}
-use Rattle.as2_http.specs.HeadPieces.{HoldsHead}
+use Rattle.as2_framing.specs.HeadPieces.{HoldsHead}
 use Rattle.as2_http.specs.declared.answer_head.BodyEnd.{BodyEnd}
 use Rattle.as2_http.specs.declared.answer_head.BodyEnd.TheVariants.{After, WithInput}
 use Rattle.as2_http.specs.declared.answer_head.JudgedAnswer.{JudgedAnswer}
@@ -14,7 +14,7 @@ use Rattle.as2_http.specs.declared.answer_parser.ParsedAnswer.TheVariants as par
 use Rattle.as2_http.specs.declared.answer_parser.ReceivedAnswer.{ReceivedAnswer}
 use Rattle.as2_http.specs.declared.answer_parser.Taken.{Taken}
 use Rattle.as2_http.specs.declared.answer_parser.Taken.TheVariants as taken
-use Rattle.as2_http.specs.declared.head_bytes.HeadBytes.{HeadBytes}
+use Rattle.as2_framing.specs.declared.head_bytes.HeadBytes.{HeadBytes}
 
 -- the bytes are a head, and that is what it says
 pub record JudgesAnswer (text : List ℕ) (j : JudgedAnswer) : Type 0 where

@@ -6,7 +6,7 @@ use Rattle.as2_names.specs.Heads.{values}
 use Rattle.as2_exchange.specs.declared.event.TryAnswer.{TryAnswer}
 use Rattle.as2_exchange.specs.declared.event.TryAnswer.TheVariants.{NoAnswer, Reply}
 use Rattle.as2_http.specs.Framing.{body_limit, content_length}
-use Rattle.as2_http.specs.HeadText.{HasHeadText, HasNoHeadText, head_limit}
+use Rattle.as2_framing.specs.HeadText.{HasHeadText, HasNoHeadText, head_limit}
 use Rattle.as2_http.specs.Requests.{Fields, appended}
 use Rattle.as2_http.specs.declared.answer_head.BodyEnd.{BodyEnd}
 use Rattle.as2_http.specs.declared.answer_head.BodyEnd.TheVariants.{After, WithInput}

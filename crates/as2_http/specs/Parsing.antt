@@ -1,10 +1,10 @@
 -- What is kept of a text whose request isn't whole yet, and what a piece more tells (RFC 9112, section 2.1).
 use Rattle.std.specs.Prelude.{◌≡◌, ℕ, ◌+◌, ◌<◌, ◌≤◌, Bool, true, false, List, [], ◌++◌, length, drop, Option, Some, None, Ok, ⊤}
 use Rattle.httparse.specs.Grammar.{RequestHead}
-use Rattle.as2_http.specs.HeadText.{unblank, HasHeadText}
-use Rattle.as2_http.specs.HeadPieces.{HoldsHead}
+use Rattle.as2_framing.specs.HeadText.{unblank, HasHeadText}
+use Rattle.as2_framing.specs.HeadPieces.{HoldsHead}
 use Rattle.as2_http.specs.Requests.{Frames, Begins, IsRefused, IsOpen, method_of, target_of, is_last_request}
-use Rattle.as2_http.specs.declared.head_bytes.HeadBytes.{HeadBytes}
+use Rattle.as2_framing.specs.declared.head_bytes.HeadBytes.{HeadBytes}
 use Rattle.as2_http.specs.declared.request.Request.{Request}
 use Rattle.as2_http.specs.declared.parser.Awaited.{Awaited}
 use Rattle.as2_http.specs.declared.parser.NotAwaited.{NotAwaited}

@@ -7,7 +7,7 @@ use Rattle.httparse.specs.Spans.{name_and_value}
 use Rattle.as2_names.specs.Heads.{is_field, field_of, values}
 use Rattle.as2_names.specs.Options.{lists}
 pub use Rattle.as2_text.specs.ReceiptRequests.{Fields}
-use Rattle.as2_http.specs.HeadText.{HasHeadText, HasNoHeadText, head_limit}
+use Rattle.as2_framing.specs.HeadText.{HasHeadText, HasNoHeadText, head_limit}
 use Rattle.as2_http.specs.Framing.{content_length}
 use Rattle.as2_http.specs.declared.framing.RequestFault.{RequestFault}
 use Rattle.as2_http.specs.declared.framing.RequestFault.TheVariants.{BadHead, TransferCoding, BadLength, NoLength}

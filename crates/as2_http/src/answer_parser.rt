@@ -1,11 +1,11 @@
 //! The answer that bytes begin with which come in any pieces (RFC 9112, section 2.1). No reader is known here.
 ghost use Rattle.std.specs.Prelude.{◌≡◌, ◌≤◌, List, ℕ, [], ◌++◌, length, drop, None, IfOk};
-ghost use Rattle.as2_http.specs.HeadPieces.{EndsHead};
+ghost use Rattle.as2_framing.specs.HeadPieces.{EndsHead};
 ghost use Rattle.as2_http.specs.AnswerPieces.{AwaitsAnswer, EndsAnswer, HasKept, ParsesAnswer, Takes};
 
 use crate::answer_head::{BodyEnd, JudgedAnswer, judge_answer};
 use crate::framing::BODY_LIMIT;
-use crate::head_bytes::{HeadBytes, HeadPiece};
+use as2_framing::{HeadBytes, HeadPiece};
 use crate::request::NotJudged;
 use as2_mic::Pieces;
 use as2_text::{Head, Memory};

@@ -1,11 +1,11 @@
 //! The request that bytes begin with which come in any pieces (RFC 9112, section 2.1). No reader is known here.
 ghost use Rattle.std.specs.Prelude.{◌≡◌, ◌≤◌, List, ℕ, [], ◌++◌, length, drop, None, IfOk, IfErr};
-ghost use Rattle.as2_http.specs.HeadText.{HasHeadText};
-ghost use Rattle.as2_http.specs.HeadPieces.{EndsHead};
+ghost use Rattle.as2_framing.specs.HeadText.{HasHeadText};
+ghost use Rattle.as2_framing.specs.HeadPieces.{EndsHead};
 ghost use Rattle.as2_http.specs.Parsing.{Awaits, Framed, HasTaken, RefusesHead, TakesBody, Parses, TellsBlank};
 
 use crate::framing::{Refused, RequestFault};
-use crate::head_bytes::{HeadBytes, HeadPiece};
+use as2_framing::{HeadBytes, HeadPiece};
 use crate::request::{NotJudged, Request, judge};
 use as2_mic::Pieces;
 use as2_text::Memory;

@@ -1,6 +1,6 @@
 use Rattle.std.proofs.Common.{◌<◌, ℕ, List, ◌++◌, drop, subst, arith}
 use Rattle.as2_http.specs.Parsing.{TakesBody}
-use Rattle.as2_http.proofs.Feeding.{rest_of}
+use Rattle.as2_framing.proofs.Feeding.{rest_of}
 use Rattle.as2_http.proofs.Parsing.{awaits_on, awaits_open, ends_request}
 use Rattle.as2_http.proofs.parser.RequestParser.take_body.Goals as goal
 

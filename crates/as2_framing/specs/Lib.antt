@@ -1,0 +1,6 @@
+pub mod HeadText
+pub mod Scanning
+pub mod HeadPieces
+pub mod Chunks
+pub mod Places
+pub mod ChunkPieces

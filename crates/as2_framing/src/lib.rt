@@ -1,0 +1,15 @@
+//! Where a message ends in bytes that come in any pieces: its head, and a chunked body. No reader is known here.
+#![tactic(auto)]
+
+mod chunk_line;
+mod chunked;
+mod chunked_body;
+mod head_bytes;
+mod head_feed;
+mod head_text;
+mod place;
+mod scan;
+
+pub use chunked::Fed;
+pub use chunked_body::ChunkedBody;
+pub use head_bytes::{HeadBytes, HeadPiece};
