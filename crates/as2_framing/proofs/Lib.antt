@@ -5,3 +5,4 @@ pub mod Cuts
 pub mod ChunkLines
 pub mod Trailers
 pub mod Chunking
+pub mod OneBody

@@ -7,9 +7,14 @@ mod chunked_body;
 mod head_bytes;
 mod head_feed;
 mod head_text;
+mod laws;
 mod place;
 mod scan;
 
 pub use chunked::Fed;
 pub use chunked_body::ChunkedBody;
 pub use head_bytes::{HeadBytes, HeadPiece};
+pub use laws::one_chunked_body;
+
+#[cfg(test)]
+mod tests;
