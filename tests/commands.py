@@ -10,7 +10,9 @@ import tempfile
 import threading
 
 TOP = os.path.dirname(os.path.dirname(os.path.realpath(__file__)))
-PROGRAM = sys.argv[1] if len(sys.argv) > 1 else f"{TOP}/as2desk"
+STARTER = f"{TOP}/as2desk"
+BUILT = f"{TOP}/crates/as2desk/out/as2desk"
+PROGRAM = sys.argv[1] if len(sys.argv) > 1 else STARTER
 AGREEMENTS = f"{TOP}/examples/agreements.toml"
 POST = f"{TOP}/examples/plain-post.http"
 NOTHING = "documents not sent: 0\ndocuments in retry: 0\nreceipts awaited: 0\ndocuments in error: 0\nreceipts to send: 0\n"
@@ -95,7 +97,9 @@ def tries(folder, agreements):
 def accepts_none(folder):
     """With no more files than the program needs to listen, each accept fails: so do the connections end."""
     words = ["serve", "--listen", "127.0.0.1:0", "--count", "2"]
-    whole = [PROGRAM, "--agreements", AGREEMENTS, "--store", f"{folder}/few.db", *words]
+    # the shell that ./as2desk begins with wants more files than the program
+    program = BUILT if PROGRAM == STARTER else PROGRAM
+    whole = [program, "--agreements", AGREEMENTS, "--store", f"{folder}/few.db", *words]
     for most in range(4, 40):
         limit = lambda: resource.setrlimit(resource.RLIMIT_NOFILE, (most, most))
         ran = subprocess.Popen(whole, stdin=subprocess.DEVNULL, stdout=subprocess.PIPE, stderr=subprocess.PIPE, text=True, preexec_fn=limit)

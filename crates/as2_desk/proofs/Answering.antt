@@ -1,5 +1,5 @@
 -- What is told of what the station said.
-use Rattle.std.proofs.Common.{◌≡◌, ◌∙◌, ℕ, List, Bool, true, false, not, Option, Some, None, Result, Ok, Err, IfErr, IfSome, option_map, refl, sym, ap, subst, if◌then◌else◌, is_some, nat_le, nat_lt, length}
+use Rattle.std.proofs.Common.{◌≡◌, ◌⊎◌, inl, inr, ◌∙◌, ℕ, List, Bool, true, false, not, Option, Some, None, Result, Ok, Err, IfErr, IfSome, option_map, refl, sym, ap, subst, if◌then◌else◌, is_some, nat_le, nat_lt, length}
 use Rattle.std.specs.Bool.{⊤}
 use Rattle.sqlite.specs.State.{State as Connected, HasCleanDisk}
 use Rattle.as2_agreement.specs.Agreements.{AgreedValues}
@@ -7,6 +7,7 @@ use Rattle.as2_exchange.specs.Agreement.{is_organization, partner_of}
 use Rattle.as2_exchange.specs.declared.event.Event.{Event}
 use Rattle.as2_exchange.specs.Documents.{submit, tick}
 use Rattle.as2_exchange.specs.State.{State, content_limit, end_of_numbers}
+use Rattle.as2_exchange.specs.declared.answer.Refusal.{Refusal}
 use Rattle.as2_exchange.specs.declared.answer.Refusal.TheVariants.{UnknownOrganization, UnknownPartner, TooLarge}
 use Rattle.as2_exchange.specs.Step.{step}
 use Rattle.as2_exchange.specs.declared.answer.Answer.{Answer}
@@ -14,13 +15,15 @@ use Rattle.as2_exchange.specs.declared.answer.Answer.TheVariants as answer
 use Rattle.as2_exchange.specs.declared.event.Event.TheVariants as event
 use Rattle.as2_exchange.specs.declared.fault.StoreFault.{StoreFault}
 use Rattle.as2_exchange.specs.declared.fault.StoreFault.TheVariants.{Full}
-use Rattle.as2_station.specs.Steps.{TakesEvent}
+use Rattle.as2_station.specs.Heads.{submit_refusal}
+use Rattle.as2_station.specs.Steps.{RefusesSubmit, TakesEvent}
 use Rattle.as2_station.specs.Traces.{said}
 use Rattle.as2_store.specs.Calls.{Reads}
 use Rattle.as2_store.specs.Stands.{Rests, may_come}
-use Rattle.as2_desk.specs.Questions.{Tells, Told, found_told, looked_up, number_told, read_told, told_by, told_by_step}
+use Rattle.as2_desk.specs.Questions.{FaultMayCome, Tells, Told, found_told, is_event, looked_up, number_told, read_told, told_by, told_by_step}
 use Rattle.as2_desk.specs.declared.asking.Question.{Question}
 use Rattle.as2_desk.specs.declared.asking.Question.TheVariants as question
+use Rattle.as2_desk.specs.declared.refusal.CommandFault.TheVariants.{Station}
 use Rattle.as2_desk.specs.declared.stores.OpenFault.TheVariants as open_fault
 
 -- a number, or a refusal
@@ -33,6 +36,34 @@ IsNumber other = ⊥
 -- a fault that may come of any call isn't Full
 never_full : (f : StoreFault) → may_come f ≡ true → open_fault.Store f ≡ open_fault.Store Full → ⊥
 never_full f may is = let full : f ≡ Full = cc in let bad : may_come Full ≡ true = subst (λ g. may_come g ≡ true) full may in cc
+
+-- a fault of a text that was read, or of one that only some numbers have
+pub read_may : {V : Type 0} (q : Question) (text : V → List ℕ) (r : Result V StoreFault) → IfErr r (λ f. may_come f ≡ true) → FaultMayCome q (read_told text r)
+read_may q text (Ok v) may = tt
+read_may q text (Err f) may = inr may
+
+pub looked_may : {V : Type 0} (q : Question) (text : V → List ℕ) (r : Result (Option V) StoreFault) → IfErr r (λ f. may_come f ≡ true) → FaultMayCome q (looked_up text r)
+looked_may q text (Ok (Some v)) may = tt
+looked_may q text (Ok None) may = tt
+looked_may q text (Err f) may = inr may
+
+-- .. or of an event
+pub stepped_may : (q : Question) → is_event q ≡ true → (r : Result Answer StoreFault) → IfErr r (λ f. (f ≡ Full) ⊎ (may_come f ≡ true)) → FaultMayCome q (number_told (said r))
+stepped_may q is (Ok (answer.Submitted n)) may = tt
+stepped_may q is (Ok (answer.Ticked n)) may = tt
+stepped_may q is (Ok (answer.Refused reason)) may = tt
+stepped_may q is (Ok (answer.Http h)) may = inr refl
+stepped_may q is (Ok (answer.Job j)) may = inr refl
+stepped_may q is (Ok (answer.Settled d)) may = inr refl
+stepped_may q is (Ok answer.Delivered) may = inr refl
+stepped_may q is (Ok answer.TryFailed) may = inr refl
+stepped_may q is (Ok answer.AlreadySettled) may = inr refl
+stepped_may q is (Err f) may = elim may [ inl full ↦ inl (full, is) | inr other ↦ inr other ]
+
+-- a submission that is refused is told so
+pub submission_refused : {H : Type 0} (A : AgreedValues) (from to content : List ℕ) (m : ℕ) (old new : H) (r : Result Answer StoreFault) → RefusesSubmit A (event.Submit from to content m) old new r
+    → (reason : Refusal) → submit_refusal A from to content ≡ Some reason → number_told (said r) ≡ Err (Station reason)
+submission_refused A from to content m old new r refuses reason is = ap (λ (x : Result Answer StoreFault). number_told (said x)) (refuses.answer from to content m reason refl is)
 
 abbrev pub TellsFrom : AgreedValues → ℕ → Question → Connected → Connected → Told → Type 0
 TellsFrom A m q old new told = (s : State) → Rests old s → (t : State) × Rests new t × Tells A m q s t told

@@ -14,7 +14,7 @@ pub does_left : (A : AgreedValues) (m : ℕ) (w : Work) (known : Option State) (
 does_left A m work.Post known before after calls later_calls Unread Unwritten Left Later written now Said ran later it =
     posts_left A m known before after calls later_calls Left Later written now Said ran later it
 does_left A m (work.Ask q) known before after calls later_calls Unread Unwritten Left Later written now Said ran later it =
-    (it.0, record { told = it.1.told; tells = each_known _ _ known it.1.tells (λ s tells. (tells.0, later tells.0 tells.1, tells.2)); prints = it.1.prints })
+    (it.0, record { told = it.1.told; refused = it.1.refused; fault = it.1.fault; tells = each_known _ _ known it.1.tells (λ s tells. (tells.0, later tells.0 tells.1, tells.2)); prints = it.1.prints })
 does_left A m (work.Send waits) known before after calls later_calls Unread Unwritten Left Later written now Said ran later it =
     (it.0, record { end = it.1.end; sends = each_known _ _ known it.1.sends (λ s sends. (sends.0, later sends.0 sends.1, sends.2)); told = it.1.told })
 does_left A m (work.Serve serving) known before after calls later_calls Unread Unwritten Left Later written now Said ran later it =

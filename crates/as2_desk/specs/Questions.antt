@@ -1,7 +1,7 @@
 -- What is asked of the station once, and what is told of its answer. Of the streams these are told: that nothing was written
 -- (Unwritten), what standard output held and holds (written, now), and which text was written on standard error (Said); of the
 -- store that it is handed back (Back), and for which states its tables stand then (Left).
-use Rattle.std.specs.Prelude.{◌≡◌, ◌⊎◌, ℕ, List, ◌++◌, Option, Some, None, Result, Ok, Err, IfSome, codes, decimal, option_map, string_bytes}
+use Rattle.std.specs.Prelude.{◌≡◌, ◌⊎◌, ℕ, List, ◌++◌, Bool, true, false, Option, Some, None, Result, Ok, Err, IfSome, codes, decimal, option_map, string_bytes, ⊤}
 use Rattle.std.specs.Io.KnownBytes.{Appends}
 use Rattle.as2_agreement.specs.Agreements.{AgreedValues}
 use Rattle.as2_exchange.specs.State.{State}
@@ -9,11 +9,14 @@ use Rattle.as2_exchange.specs.Step.{step}
 use Rattle.as2_exchange.specs.Views.{fetch, outstanding, show}
 use Rattle.as2_exchange.specs.declared.answer.Answer.{Answer}
 use Rattle.as2_exchange.specs.declared.answer.Answer.TheVariants.{Submitted, Ticked, Refused}
+use Rattle.as2_exchange.specs.declared.answer.Refusal.{Refusal}
 use Rattle.as2_exchange.specs.declared.answer.Refusal.TheVariants.{NoSuchNumber}
 use Rattle.as2_exchange.specs.declared.event.Event.TheVariants as event
 use Rattle.as2_exchange.specs.declared.fault.StoreFault.TheVariants as store_fault
 use Rattle.as2_exchange.specs.Run.{Said as Saying, Answered, Failed}
 use Rattle.as2_exchange.specs.declared.fault.StoreFault.{StoreFault}
+use Rattle.as2_station.specs.Heads.{submit_refusal}
+use Rattle.as2_store.specs.Stands.{may_come}
 use Rattle.as2_views.specs.Filtering.{listing}
 use Rattle.as2_desk.specs.Endings.{Ends, EndsRefused}
 use Rattle.as2_desk.specs.Statuses.{done}
@@ -95,15 +98,35 @@ abbrev pub Tells : AgreedValues → ℕ → Question → State → State → Tol
 Tells A m q s t (Err (Store fault)) = (t ≡ s) × (fault ≡ open_fault.Store store_fault.Full → told_by A m q s ≡ None)
 Tells A m q s t told = told_by A m q s ≡ Some (told, t)
 
+-- why something is refused without the store: a submission, for its sender, its receiver or its size
+abbrev pub refusal_to : AgreedValues → Question → Option Refusal
+refusal_to A (Submit from to content) = submit_refusal A from to content
+refusal_to A other = None
+
+-- it is an event; the others read, and change nothing
+abbrev pub is_event : Question → Bool
+is_event (Submit from to content) = true
+is_event Tick = true
+is_event other = false
+
+-- a fault of the store that is told is one that may come of any call, or Full, which comes of events alone
+abbrev pub FaultMayCome : Question → Told → Type 0
+FaultMayCome q (Err (Store open_fault.Held)) = ⊥
+FaultMayCome q (Err (Store (open_fault.Store fault))) = ((fault ≡ store_fault.Full) × (is_event q ≡ true)) ⊎ (may_come fault ≡ true)
+FaultMayCome q told = ⊤
+
 -- the text is written, once, or that couldn't be done; or one line says why there is none, and nothing is written
 abbrev pub Prints : Told → Type 0 → Option (List ℕ) → Option (List ℕ) → (List ℕ → Type 0) → Ran → Type 0
 Prints (Ok text) Unwritten written now Said ran = (Appends written now text × Ends done (codes "") Said ran) ⊎ EndsRefused CannotWrite Said ran
 Prints (Err refusal) Unwritten written now Said ran = Unwritten × EndsRefused refusal Said ran
 
--- Something was told. Where the state is known that the tables stood for, it is what is told there, and what is handed back
--- stands for the state that is left.
+-- Something was told: why it is refused, where that takes no store; or a fault of the store, of those that may come; or an
+-- answer. Where the state is known that the tables stood for, it is what is told there, and what is handed back stands for the
+-- state that is left.
 pub record Asks (agreements : AgreedValues) (moment : ℕ) (question : Question) (known : Option State) (Unwritten : Type 0) (Left : State → Type 0)
     (written now : Option (List ℕ)) (Said : List ℕ → Type 0) (ran : Ran) : Type 0 where
   pub told : Told
+  pub refused : (reason : Refusal) → refusal_to agreements question ≡ Some reason → told ≡ Err (Station reason)
+  pub fault : FaultMayCome question told
   pub tells : IfSome known (λ s. (t : State) × Left t × Tells agreements moment question s t told)
   pub prints : Prints told Unwritten written now Said ran

@@ -1,15 +1,16 @@
 //! What is asked of the station once, and what is printed of its answer.
-ghost use Rattle.std.specs.Prelude.{◌≡◌, ◌⊎◌, OnOk, Option, IfSome, string_bytes};
+ghost use Rattle.std.specs.Prelude.{◌≡◌, ◌⊎◌, OnOk, Option, Some, Err, IfSome, string_bytes};
 ghost use Rattle.std.specs.Io.KnownBytes.{Appends};
 ghost use Rattle.sqlite.specs.Held.{state};
 ghost use Rattle.sqlite.specs.State.{HasCleanDisk};
 ghost use Rattle.as2_exchange.specs.State.{State};
+ghost use Rattle.as2_exchange.specs.declared.answer.Refusal.{Refusal as TheRefusal};
 ghost use Rattle.as2_store.specs.Stands.{Rests};
 ghost use Rattle.as2_station.specs.Traces.{said as saying};
 ghost use Rattle.as2_desk.specs.Endings.{EndsRefused};
-ghost use Rattle.as2_desk.specs.Questions.{Asks, Prints, Tells, looked_up, number_line, number_told, printed_text, read_told, told_as};
+ghost use Rattle.as2_desk.specs.Questions.{Asks, FaultMayCome, Prints, Tells, looked_up, number_line, number_told, printed_text, read_told, refusal_to, told_as};
 ghost use Rattle.as2_desk.specs.Statuses.{done, failed, refused};
-ghost use Rattle.as2_desk.specs.declared.refusal.CommandFault.TheVariants.{Store as Failing};
+ghost use Rattle.as2_desk.specs.declared.refusal.CommandFault.TheVariants.{Station as Refusing, Store as Failing};
 ghost use Rattle.as2_desk.specs.declared.stores.OpenFault.{OpenFault as TheFault};
 
 use crate::refusal::{CommandFault, refuse};
@@ -111,7 +112,9 @@ fn answer<S: Alter>(
     station: &mut Station<S>,
     question: Question,
 ) -> Result<Printed, CommandFault>
-    ensures { HasCleanDisk (state S.Store station.new) → (s : State) → Rests (state S.Store station.old) s
+    ensures refused { (reason : TheRefusal) → refusal_to agreements.now question ≡ Some reason → told_as result ≡ Err (Refusing reason) }
+    ensures fault { FaultMayCome question (told_as result) }
+    ensures tells { HasCleanDisk (state S.Store station.new) → (s : State) → Rests (state S.Store station.old) s
         → (t : State) × Rests (state S.Store station.new) t × Tells agreements.now moment question s t (told_as result) }
 {
     match question {

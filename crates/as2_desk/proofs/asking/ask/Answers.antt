@@ -5,6 +5,8 @@ use Rattle.as2_desk.proofs.asking.ask.Goals as goal
 pub returns-clause-asks : goal.returns-clause-asks
 returns-clause-asks g c = λ known stood. record {
   told = told_as c.answer-told.result;
-  tells = each_known _ _ known stood (λ s it. c.answer-told.ensures it.0 s it.1);
+  refused = c.answer-told.ensures.refused;
+  fault = c.answer-told.ensures.fault;
+  tells = each_known _ _ known stood (λ s it. c.answer-told.ensures.tells it.0 s it.1);
   prints = c.print.ensures.prints;
 }
