@@ -7,7 +7,7 @@ use Rattle.as2_exchange.specs.declared.answer.HttpAnswer.{HttpAnswer}
 use Rattle.as2_exchange.specs.declared.answer.HttpBody.{HttpBody}
 use Rattle.as2_exchange.specs.declared.answer.HttpBody.TheVariants.{Words}
 use Rattle.as2_exchange.specs.declared.answer.Line.{Line}
-use Rattle.as2_exchange.specs.declared.answer.Line.TheVariants.{BadNames, BadVersion, UnknownNames, BadType, UnreadableReceipt, NoSuchMessage, BadId, BadAsk, IdUsedBefore, NotProcessed, BadRequestHead, UnsupportedCoding, BadContentLength, BodyTooLarge, LengthRequired, OnlyPost, NoSuchPath, StoreFailed, StoreFull}
+use Rattle.as2_exchange.specs.declared.answer.Line.TheVariants.{BadNames, BadVersion, UnknownNames, BadType, UnreadableReceipt, NoSuchMessage, BadId, BadAsk, IdUsedBefore, NotProcessed, BadRequestHead, UnsupportedCoding, BadContentLength, BadChunkedBody, BodyTooLarge, LengthRequired, OnlyPost, NoSuchPath, StoreFailed, StoreFull}
 
 -- the status that goes with it (RFC 9110, section 15)
 abbrev pub status_of : Line → ℕ
@@ -29,6 +29,7 @@ status_of BadId = 400
 status_of BadAsk = 400
 status_of BadRequestHead = 400
 status_of BadContentLength = 400
+status_of BadChunkedBody = 400
 status_of (NotProcessed outcome) = 400
 
 -- the answer to a post
@@ -53,6 +54,7 @@ line_text (NotProcessed outcome) = outcome_text outcome
 line_text BadRequestHead = codes "bad request head"
 line_text UnsupportedCoding = codes "transfer coding not supported"
 line_text BadContentLength = codes "bad Content-Length"
+line_text BadChunkedBody = codes "bad chunk"
 line_text BodyTooLarge = codes "body too large"
 line_text LengthRequired = codes "length required"
 line_text OnlyPost = codes "only POST"

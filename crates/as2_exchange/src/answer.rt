@@ -54,6 +54,8 @@ pub enum Line {
     UnsupportedCoding,
     /// `Content-Length` is given twice or unreadable.
     BadContentLength,
+    /// The bytes of a chunked body can't become one.
+    BadChunkedBody,
     /// The body has more than 1,048,576 bytes.
     BodyTooLarge,
     /// A body comes without its length.
@@ -90,6 +92,7 @@ impl Line {
             | Line::BadAsk
             | Line::BadRequestHead
             | Line::BadContentLength
+            | Line::BadChunkedBody
             | Line::NotProcessed(_) => 400,
         }
     }
@@ -112,6 +115,7 @@ impl Line {
             Line::BadRequestHead => "bad request head",
             Line::UnsupportedCoding => "transfer coding not supported",
             Line::BadContentLength => "bad Content-Length",
+            Line::BadChunkedBody => "bad chunk",
             Line::BodyTooLarge => "body too large",
             Line::LengthRequired => "length required",
             Line::OnlyPost => "only POST",
