@@ -3,7 +3,7 @@ use Rattle.std.proofs.Common.{◌≡◌, ◌⊎◌, ℕ, true, false, List, [], 
 use Rattle.as2_agreement.specs.Agreements.{AgreedValues}
 use Rattle.as2_exchange.specs.State.{State}
 use Rattle.as2_exchange.specs.Step.{step}
-use Rattle.as2_http.specs.HeadText.{unblank}
+use Rattle.as2_framing.specs.HeadText.{unblank}
 use Rattle.as2_http.specs.Replies.{IsReply}
 use Rattle.as2_http.specs.Requests.{IsRefused, IsOpen}
 use Rattle.as2_http.specs.Responses.{RespondsTo, Responds, Takes, Unsaid, answer_of, post_event}

@@ -1,5 +1,5 @@
 -- The head of an answer: the bytes are none where the parser found none of their length, or a head doesn't take its fields.
-use Rattle.std.proofs.Common.{◌≡◌, ◌≤◌, ℕ, List, [], ◌++◌, length, map, take, Option, Some, None, Result, Ok, Err, refl, sym, ap, ◌∙◌, append-nil, append_assoc, arith}
+use Rattle.std.proofs.Common.{◌≡◌, ◌≤◌, ℕ, List, [], ◌++◌, length, map, take, Option, Some, None, Result, Ok, Err, refl, sym, ap, ◌∙◌, append-nil, arith}
 use Rattle.std.proofs.lemmas.List.{length-map}
 use Rattle.httparse.specs.Grammar.{ResponseHead, print_response}
 use Rattle.httparse.specs.Spans.{FindsResponse, header_bytes, name_and_value}
@@ -10,12 +10,13 @@ use Rattle.httparse.specs.declared.spans.HeaderSpan.{HeaderSpan}
 use Rattle.httparse.specs.declared.spans.ResponseSpans.{ResponseSpans}
 use Rattle.as2_http.specs.Answering.{IsAnswerHead, FramesAnswer, BeginsAnswer}
 use Rattle.as2_http.specs.AnswerPieces.{JudgesAnswer}
-use Rattle.as2_http.specs.HeadText.{HasHeadText}
+use Rattle.as2_framing.specs.HeadText.{HasHeadText}
 use Rattle.as2_http.specs.Requests.{Fields, appended}
 use Rattle.as2_http.specs.declared.answer_head.BodyEnd.{BodyEnd}
-use Rattle.as2_http.specs.declared.answer_head.BodyEnd.TheVariants.{After}
+use Rattle.as2_http.specs.declared.answer_head.BodyEnd.TheVariants.{Framing}
+use Rattle.as2_framing.proofs.Bodies.{body_append}
 use Rattle.as2_http.specs.declared.answer_head.JudgedAnswer.{JudgedAnswer}
-use Rattle.as2_http.proofs.Heads.{head_append}
+use Rattle.as2_framing.proofs.Heads.{head_append}
 use Rattle.as2_http.proofs.Judging.{appended_fits}
 
 few_fields : (buf : List ℕ) (head : ResponseHead) (fields : Fields) → IsAnswerHead buf head fields → length head.fields ≤ 64
@@ -61,6 +62,7 @@ frames_more text more status fields after end f =
 pub begins_more : (text more : List ℕ) (status : ℕ) (fields : Fields) (body rest : List ℕ) → BeginsAnswer text status fields body rest → BeginsAnswer (text ++ more) status fields body (rest ++ more)
 begins_more text more status fields body rest b = record {
   after = b.after ++ more;
-  frames = frames_more text more status fields b.after (Some (After (length body))) b.frames;
-  follows = ap (λ (t : List ℕ). t ++ more) b.follows ∙ append_assoc body rest more;
+  how = b.how;
+  frames = frames_more text more status fields b.after (Some (Framing b.how)) b.frames;
+  begins = body_append b.how b.after body rest more b.begins;
 }

@@ -1,6 +1,3 @@
-pub mod Heads
-pub mod Scanning
-pub mod Feeding
 pub mod Judging
 pub mod Framed
 pub mod Parsing

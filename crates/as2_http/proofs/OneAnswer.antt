@@ -3,13 +3,16 @@ use Rattle.std.proofs.Common.{◌≡◌, ℕ, ◌≤◌, List, [], length, map, 
 use Rattle.httparse.specs.Grammar.{ResponseHead, status_code}
 use Rattle.httparse.specs.Spans.{name_and_value}
 use Rattle.httparse.proofs.GrammarLemmas.{response_unique}
-use Rattle.as2_http.specs.Answering.{IsAnswerHead, body_end, FramesAnswer, BeginsAnswer, AnswerIn, by_length, by_end, too_long, no_head, no_body, too_large}
+use Rattle.as2_http.specs.Answering.{IsAnswerHead, body_end, FramesAnswer, BeginsAnswer, AnswerIn, by_length, by_end, too_long, no_head, no_body, too_large, faulty_body}
 use Rattle.as2_http.specs.AnswerLaws.{HoldsOneAnswer, NeverAnswers}
-use Rattle.as2_http.specs.Framing.{body_limit}
+use Rattle.as2_framing.specs.Bodies.{BeginsBody}
+use Rattle.as2_framing.specs.Chunks.{body_limit}
+use Rattle.as2_framing.specs.declared.body.BodyFraming.{BodyFraming}
+use Rattle.as2_framing.proofs.Bodies.{one_body}
 use Rattle.as2_http.specs.Requests.{Fields, appended}
 use Rattle.as2_http.specs.declared.answer_head.BodyEnd.{BodyEnd}
-use Rattle.as2_http.specs.declared.answer_head.BodyEnd.TheVariants.{After, WithInput}
-use Rattle.as2_http.proofs.Alone.{one_cut, one_head_text}
+use Rattle.as2_http.specs.declared.answer_head.BodyEnd.TheVariants.{Framing, WithInput}
+use Rattle.as2_http.proofs.Alone.{body_not_faulty, one_head_text, there}
 
 one_head : (bytes : List ℕ) (h k : ResponseHead) (fields others : Fields) → IsAnswerHead bytes h fields → IsAnswerHead bytes k others → (h ≡ k) × (fields ≡ others)
 one_head bytes h k fields others x y =
@@ -24,34 +27,39 @@ one_frame text s t fields others x y m n f g =
     let at = one_head_text text f.bytes g.bytes x y f.found g.found in
     let h = one_head g.bytes f.head g.head fields others (subst (λ (b : List ℕ). IsAnswerHead b f.head fields) at.0 f.reads) g.reads in
     let code : s ≡ t = f.code ∙ ap status_code h.0 ∙ sym g.code in
-    (code, h.1, at.1, sym f.ends ∙ ap (λ (c : ℕ). body_end c fields) code ∙ ap (body_end t) h.1 ∙ g.ends)
+    (code, h.1, at.1, sym f.ends ∙ ap (λ (c : ℕ). body_end c f.head.minor fields) code ∙ ap (λ (r : ResponseHead). body_end t r.minor fields) h.0 ∙ ap (body_end t g.head.minor) h.1 ∙ g.ends)
 
 -- a body that has its length
 one_begun : (input : List ℕ) (s t : ℕ) (f g : Fields) (b c rest other : List ℕ) → BeginsAnswer input s f b rest → BeginsAnswer input t g c other → (s ≡ t) × (f ≡ g) × (b ≡ c)
 one_begun input s t f g b c rest other x y =
-    let e = one_frame input s t f g x.after y.after (Some (After (length b))) (Some (After (length c))) x.frames y.frames in
-    let size : length b ≡ length c = cc e.3 in
-    (e.0, e.1, (one_cut b c rest other size (sym x.follows ∙ e.2 ∙ y.follows)).0)
+    let e = one_frame input s t f g x.after y.after (Some (Framing x.how)) (Some (Framing y.how)) x.frames y.frames in
+    let how : x.how ≡ y.how = cc e.3 in
+    (e.0, e.1, (one_body y.how y.after b rest c other (there x.how y.how x.after y.after (λ (h : BodyFraming) (t : List ℕ). BeginsBody h t b rest) how e.2 x.begins) y.begins).0)
 
 pub holds_one : HoldsOneAnswer
 holds_one input s t f g b c (by_length rest x) (by_length other y) = one_begun input s t f g b c rest other x y
 holds_one input s t f g b c (by_end x) (by_end y) =
     let e = one_frame input s t f g b c (Some WithInput) (Some WithInput) x.frames y.frames in (e.0, e.1, e.2)
 holds_one input s t f g b c (by_length rest x) (by_end y) =
-    let e = one_frame input s t f g x.after c (Some (After (length b))) (Some WithInput) x.frames y.frames in absurd (cc e.3)
+    let e = one_frame input s t f g x.after c (Some (Framing x.how)) (Some WithInput) x.frames y.frames in absurd (cc e.3)
 holds_one input s t f g b c (by_end x) (by_length rest y) =
-    let e = one_frame input s t f g b y.after (Some WithInput) (Some (After (length c))) x.frames y.frames in absurd (cc e.3)
+    let e = one_frame input s t f g b y.after (Some WithInput) (Some (Framing y.how)) x.frames y.frames in absurd (cc e.3)
+
+-- the end of a body, and what stands there of it
+abbrev HasBody : BodyEnd → List ℕ → List ℕ → Type 0
+HasBody (Framing how) after body = (rest : List ℕ) × BeginsBody how after body rest
+HasBody WithInput after body = length after ≤ body_limit
 
 -- an answer's head, and what follows it
 record HasFrame (input : List ℕ) (s : ℕ) (f : Fields) (b : List ℕ) : Type 0 where
   pub after : List ℕ
   pub end : BodyEnd
   pub frames : FramesAnswer input s f after (Some end)
-  pub few : end ≡ WithInput → length after ≤ body_limit
+  pub body : HasBody end after b
 
 frame_of : (input : List ℕ) (s : ℕ) (f : Fields) (b : List ℕ) → AnswerIn input s f b → HasFrame input s f b
-frame_of input s f b (by_length rest x) = record { after = x.after; end = After (length b); frames = x.frames; few = λ e. absurd (cc e) }
-frame_of input s f b (by_end x) = record { after = b; end = WithInput; frames = x.frames; few = λ e. x.short }
+frame_of input s f b (by_length rest x) = record { after = x.after; end = Framing x.how; frames = x.frames; body = (rest, x.begins) }
+frame_of input s f b (by_end x) = record { after = b; end = WithInput; frames = x.frames; body = x.short }
 
 pub never_answers : NeverAnswers
 never_answers input s f b (too_long none long) a =
@@ -67,4 +75,11 @@ never_answers input s f b (too_large t g after frames large) a =
     let w = frame_of input s f b a in
     let e = one_frame input s t f g w.after after (Some w.end) (Some WithInput) w.frames frames in
     let same : w.end ≡ WithInput = cc e.3 in
-    absurd (omega (arith, w.few same, large, ap length e.2))
+    let few : length w.after ≤ body_limit = subst (λ (x : BodyEnd). HasBody x w.after b) same w.body in
+    absurd (omega (arith, few, large, ap length e.2))
+never_answers input s f b (faulty_body t g after how reason frames faulty) a =
+    let w = frame_of input s f b a in
+    let e = one_frame input s t f g w.after after (Some w.end) (Some (Framing how)) w.frames frames in
+    let same : w.end ≡ Framing how = cc e.3 in
+    let at : HasBody (Framing how) after b = subst (λ (t : List ℕ). HasBody (Framing how) t b) e.2 (subst (λ (x : BodyEnd). HasBody x w.after b) same w.body) in
+    body_not_faulty how after b at.0 reason at.1 faulty

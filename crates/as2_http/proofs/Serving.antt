@@ -7,7 +7,7 @@ use Rattle.as2_agreement.specs.Agreements.{AgreedValues}
 use Rattle.as2_exchange.specs.Run.{Answered as Said, Failed, Trace, Run}
 use Rattle.as2_exchange.specs.State.{State}
 use Rattle.as2_store.specs.Stands.{Rests}
-use Rattle.as2_http.specs.HeadText.{unblank}
+use Rattle.as2_framing.specs.HeadText.{unblank}
 use Rattle.as2_http.specs.Requests.{IsOpen}
 use Rattle.as2_http.specs.InputReads.{read_limit, ReadsNeeded}
 use Rattle.as2_http.specs.StreamReads.{NeedsMore, BetweenReads, AnswersNext, ArePostsAt, RunsPosts, Serves}

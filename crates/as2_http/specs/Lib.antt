@@ -1,7 +1,4 @@
 pub mod Devices
-pub mod HeadText
-pub mod Scanning
-pub mod HeadPieces
 pub mod Framing
 pub mod Requests
 pub mod Laws

@@ -9,9 +9,9 @@ use Rattle.as2_exchange.specs.declared.answer.HttpAnswer.{HttpAnswer}
 use Rattle.as2_exchange.specs.declared.answer.HttpBody.{HttpBody}
 use Rattle.as2_exchange.specs.declared.answer.HttpBody.TheVariants.{Nothing, Words, Report}
 use Rattle.as2_exchange.specs.declared.answer.Line.{Line}
-use Rattle.as2_exchange.specs.declared.answer.Line.TheVariants.{BadRequestHead, UnsupportedCoding, BadContentLength, BodyTooLarge, LengthRequired}
+use Rattle.as2_exchange.specs.declared.answer.Line.TheVariants.{BadRequestHead, UnsupportedCoding, BadContentLength, BadChunkedBody, BodyTooLarge, LengthRequired}
 use Rattle.as2_http.specs.declared.framing.RequestFault.{RequestFault}
-use Rattle.as2_http.specs.declared.framing.RequestFault.TheVariants.{BadHead, TransferCoding, BadLength, TooLarge, NoLength}
+use Rattle.as2_http.specs.declared.framing.RequestFault.TheVariants.{BadHead, TransferCoding, BadLength, BadChunk, TooLarge, NoLength}
 use Rattle.as2_http.specs.declared.reply.Form.{Form}
 
 -- the text is the date of that moment, in seconds since 1970 (RFC 9110, section 5.6.7)
@@ -66,5 +66,6 @@ abbrev pub refusal_line : RequestFault → Line
 refusal_line BadHead = BadRequestHead
 refusal_line TransferCoding = UnsupportedCoding
 refusal_line BadLength = BadContentLength
+refusal_line BadChunk = BadChunkedBody
 refusal_line TooLarge = BodyTooLarge
 refusal_line NoLength = LengthRequired

@@ -7,8 +7,11 @@ use Rattle.httparse.specs.Spans.{name_and_value}
 use Rattle.as2_names.specs.Heads.{is_field, field_of, values}
 use Rattle.as2_names.specs.Options.{lists}
 pub use Rattle.as2_text.specs.ReceiptRequests.{Fields}
-use Rattle.as2_http.specs.HeadText.{HasHeadText, HasNoHeadText, head_limit}
-use Rattle.as2_http.specs.Framing.{content_length}
+use Rattle.as2_framing.specs.HeadText.{HasHeadText, HasNoHeadText, head_limit}
+use Rattle.as2_framing.specs.Bodies.{BeginsBody, IsOpenBody}
+use Rattle.as2_framing.specs.declared.body.BodyFraming.{BodyFraming}
+use Rattle.as2_framing.specs.declared.body.BodyFraming.TheVariants.{Length}
+use Rattle.as2_http.specs.Framing.{IsFaultyBody, coded_framing, content_length, is_chunked}
 use Rattle.as2_http.specs.declared.framing.RequestFault.{RequestFault}
 use Rattle.as2_http.specs.declared.framing.RequestFault.TheVariants.{BadHead, TransferCoding, BadLength, NoLength}
 use Rattle.as2_http.specs.declared.framing.Method.{Method}
@@ -44,18 +47,23 @@ target_of bytes = if bytes_eq bytes (codes "/as2") then target.Station else targ
 
 -- ---- the body
 
--- the number of bytes of body, by the method and the values of Transfer-Encoding and of Content-Length (RFC 9112, section 6.3)
-abbrev pub length_by : Method → List (List ℕ) → List (List ℕ) → Result ℕ RequestFault
-length_by m (coding ∷ codings) lengths = Err TransferCoding
-length_by method.Post [] [] = Err NoLength
-length_by method.Head [] [] = Ok 0
-length_by method.Other [] [] = Ok 0
-length_by m [] (value ∷ []) = content_length value
-length_by m [] (value ∷ other ∷ others) = Err BadLength
+-- how a body without a transfer coding ends, by the method and the values of Content-Length (RFC 9112, section 6.3)
+abbrev pub framing_by_lengths : Method → List (List ℕ) → Result BodyFraming RequestFault
+framing_by_lengths method.Post [] = Err NoLength
+framing_by_lengths method.Head [] = Ok (Length 0)
+framing_by_lengths method.Other [] = Ok (Length 0)
+framing_by_lengths m (value ∷ []) = content_length value
+framing_by_lengths m (value ∷ other ∷ others) = Err BadLength
 
--- how many bytes of body follow a head
-abbrev pub body_length : Method → Fields → Result ℕ RequestFault
-body_length m fields = length_by m (values (codes "transfer-encoding") fields) (values (codes "content-length") fields)
+-- .. and any body, by the version and the values of Transfer-Encoding too
+abbrev pub framing_by : ℕ → Method → List (List ℕ) → List (List ℕ) → Result BodyFraming RequestFault
+framing_by minor m [] lengths = framing_by_lengths m lengths
+framing_by minor m (coding ∷ []) lengths = coded_framing (is_chunked minor coding) lengths
+framing_by minor m (coding ∷ other ∷ others) lengths = Err TransferCoding
+
+-- how the body ends that follows a head
+abbrev pub body_framing : ℕ → Method → Fields → Result BodyFraming RequestFault
+body_framing minor m fields = framing_by minor m (values (codes "transfer-encoding") fields) (values (codes "content-length") fields)
 
 -- no further request is read behind this one: version 1.0, or a Connection field says `close` (RFC 9112, section 9.6)
 abbrev pub is_last_request : ℕ → Fields → Bool
@@ -64,18 +72,19 @@ is_last_request minor fields = minor == 0 || list_any (lists (codes "close")) (v
 -- ---- requests
 
 -- a whole head stands at the front of the text, and then what follows; the head says that of its body
-pub record Frames (text : List ℕ) (head : RequestHead) (fields : Fields) (after : List ℕ) (framing : Result ℕ RequestFault) : Type 0 where
+pub record Frames (text : List ℕ) (head : RequestHead) (fields : Fields) (after : List ℕ) (framing : Result BodyFraming RequestFault) : Type 0 where
   pub bytes : List ℕ
   pub found : HasHeadText text bytes after
   pub reads : IsHead bytes head fields
-  pub framed : body_length (method_of head.method) fields ≡ framing
+  pub framed : body_framing head.minor (method_of head.method) fields ≡ framing
 
 -- the text begins with that request, and then comes the rest
 pub record Begins (text : List ℕ) (r : Request) (rest : List ℕ) : Type 0 where
   pub head : RequestHead
   pub after : List ℕ
-  pub frames : Frames text head r.fields after (Ok (length r.body))
-  pub follows : after ≡ r.body ++ rest
+  pub how : BodyFraming
+  pub frames : Frames text head r.fields after (Ok how)
+  pub begins : BeginsBody how after r.body rest
   pub method : r.method ≡ method_of head.method
   pub target : r.target ≡ target_of head.target
   pub last : r.last ≡ is_last_request head.minor r.fields
@@ -90,13 +99,16 @@ is_head method.Head = true
 is_head method.Post = false
 is_head method.Other = false
 
--- the text begins with no request, however it goes on: no head ends within its limit, the bytes up to the first empty line are no head, or the framing is refused
+-- The text begins with no request, however it goes on: no head ends within its limit, the bytes up to the first empty line are no
+-- head, the framing is refused, or what came of the body.
 pub data IsRefused (text : List ℕ) (refused : Refused) : Type 0 where
   too_long : (none : HasNoHeadText text) (long : head_limit ≤ length text) (is : refused ≡ bad_head) → IsRefused text refused
   no_head : (bytes after : List ℕ) (found : HasHeadText text bytes after) (never : (head : RequestHead) (fields : Fields) → ¬ (IsHead bytes head fields)) (is : refused ≡ bad_head) → IsRefused text refused
   framing : (head : RequestHead) (fields : Fields) (after : List ℕ) (frames : Frames text head fields after (Err refused.reason)) (is : refused.to_head ≡ is_head (method_of head.method)) → IsRefused text refused
+  faulty_body : (head : RequestHead) (fields : Fields) (after : List ℕ) (how : BodyFraming) (frames : Frames text head fields after (Ok how)) (faulty : IsFaultyBody how after refused.reason)
+      (is : refused.to_head ≡ is_head (method_of head.method)) → IsRefused text refused
 
 -- the text ends before its first request does: before its head, or before its body
 pub data IsOpen (text : List ℕ) : Type 0 where
   in_head : (none : HasNoHeadText text) (short : length text < head_limit) → IsOpen text
-  in_body : (head : RequestHead) (fields : Fields) (after : List ℕ) (n : ℕ) (frames : Frames text head fields after (Ok n)) (short : length after < n) → IsOpen text
+  in_body : (head : RequestHead) (fields : Fields) (after : List ℕ) (how : BodyFraming) (frames : Frames text head fields after (Ok how)) (undecided : IsOpenBody how after) → IsOpen text

@@ -8,7 +8,7 @@ use Rattle.as2_exchange.specs.Run.{Answered as Said, Failed, Trace}
 use Rattle.as2_exchange.specs.State.{State}
 use Rattle.as2_exchange.specs.declared.answer.Answer.TheVariants.{Http}
 use Rattle.as2_store.specs.Stands.{Rests}
-use Rattle.as2_http.specs.HeadText.{unblank}
+use Rattle.as2_framing.specs.HeadText.{unblank}
 use Rattle.as2_http.specs.Parsing.{HasTaken}
 use Rattle.as2_http.specs.Replies.{IsReply, refusal_line}
 use Rattle.as2_http.specs.Requests.{Begins, IsRefused, IsOpen}

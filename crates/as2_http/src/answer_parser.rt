@@ -1,12 +1,11 @@
 //! The answer that bytes begin with which come in any pieces (RFC 9112, section 2.1). No reader is known here.
 ghost use Rattle.std.specs.Prelude.{◌≡◌, ◌≤◌, List, ℕ, [], ◌++◌, length, drop, None, IfOk};
-ghost use Rattle.as2_http.specs.HeadPieces.{EndsHead};
-ghost use Rattle.as2_http.specs.AnswerPieces.{AwaitsAnswer, EndsAnswer, HasKept, ParsesAnswer, Takes};
+ghost use Rattle.as2_framing.specs.HeadPieces.{EndsHead};
+ghost use Rattle.as2_http.specs.AnswerPieces.{AwaitsAnswer, EndsAnswer, HasKept, HoldsEnd, ParsesAnswer, Takes};
 
 use crate::answer_head::{BodyEnd, JudgedAnswer, judge_answer};
-use crate::framing::BODY_LIMIT;
-use crate::head_bytes::{HeadBytes, HeadPiece};
 use crate::request::NotJudged;
+use as2_framing::{BODY_LIMIT, Fed, HeadBytes, HeadPiece, MissingBody};
 use as2_mic::Pieces;
 use as2_text::{Head, Memory};
 use std::alloc::Global;
@@ -22,13 +21,34 @@ pub struct ReceivedAnswer {
     pub body: Pieces,
 }
 
+/// What is missing of an answer.
+#[derive(Drop)]
+pub enum MissingEnd {
+    /// The rest of its body.
+    Body(MissingBody),
+    /// The end of the input.
+    Input,
+}
+
+impl MissingEnd {
+    /// No byte of the body came yet.
+    fn new(alloc: Global, end: BodyEnd) -> MissingEnd
+        ensures { (text : List ℕ) → HoldsEnd result end [] text text }
+    {
+        match end {
+            BodyEnd::Framing(framing) => MissingEnd::Body(MissingBody::new(alloc, framing)),
+            BodyEnd::WithInput => MissingEnd::Input,
+        }
+    }
+}
+
 /// An answer whose head is there.
 #[derive(Drop)]
 pub struct AwaitedAnswer {
     /// The answer, with its body as far as it came.
     pub answer: ReceivedAnswer,
-    /// Where what is missing of the body ends.
-    pub end: BodyEnd,
+    /// What is missing of it.
+    pub missing: MissingEnd,
 }
 
 /// What an awaited answer is with more bytes.
@@ -38,8 +58,8 @@ pub enum Taken {
     Open(AwaitedAnswer),
     /// Whole.
     Whole(ReceivedAnswer),
-    /// Its body has more than 1,048,576 bytes.
-    TooLarge,
+    /// None: its body has more than 1,048,576 bytes, or a chunk of it is none.
+    NoAnswer,
 }
 
 /// What the bytes so far begin with.
@@ -53,34 +73,34 @@ pub enum ParsedAnswer {
     NoAnswer,
 }
 
-/// Takes what is there of a body that ends behind so many bytes.
-fn take_counted(answer: ReceivedAnswer, missing: usize, bytes: &[u8]) -> Result<Taken, Memory>
-    ensures { IfOk result (λ t. (text : List ℕ) → AwaitsAnswer (record { answer = answer; end = BodyEnd.After missing }) text bytes.now → Takes text t) }
+/// Takes what is there of a body whose end the head tells.
+fn take_framed(answer: ReceivedAnswer, missing: MissingBody, bytes: &[u8]) -> Result<Taken, Memory>
+    ensures { IfOk result (λ t. (text : List ℕ) → AwaitsAnswer (record { answer = answer; missing = MissingEnd.Body missing }) text bytes.now → Takes text t) }
 {
     let mut answer = answer;
-    if bytes.len() < missing {
-        answer.body.append(bytes)?;
-        return Ok(Taken::Open(AwaitedAnswer {
+    let mut missing = missing;
+    match missing.feed(bytes, &mut answer.body)? {
+        Fed::Open => Ok(Taken::Open(AwaitedAnswer {
             answer,
-            end: BodyEnd::After(missing - bytes.len()),
-        }));
+            missing: MissingEnd::Body(missing),
+        })),
+        Fed::Whole(_) => Ok(Taken::Whole(answer)),
+        Fed::Bad | Fed::TooLarge => Ok(Taken::NoAnswer),
     }
-    answer.body.append(&bytes[..missing])?;
-    Ok(Taken::Whole(answer))
 }
 
 /// Takes more of a body that ends with the input.
 fn take_all(answer: ReceivedAnswer, bytes: &[u8]) -> Result<Taken, Memory>
-    ensures { IfOk result (λ t. (text : List ℕ) → AwaitsAnswer (record { answer = answer; end = BodyEnd.WithInput }) text bytes.now → Takes text t) }
+    ensures { IfOk result (λ t. (text : List ℕ) → AwaitsAnswer (record { answer = answer; missing = MissingEnd.Input }) text bytes.now → Takes text t) }
 {
     let mut answer = answer;
     if bytes.len() > BODY_LIMIT.saturating_sub(answer.body.len()) {
-        return Ok(Taken::TooLarge);
+        return Ok(Taken::NoAnswer);
     }
     answer.body.append(bytes)?;
     Ok(Taken::Open(AwaitedAnswer {
         answer,
-        end: BodyEnd::WithInput,
+        missing: MissingEnd::Input,
     }))
 }
 
@@ -88,10 +108,10 @@ fn take_all(answer: ReceivedAnswer, bytes: &[u8]) -> Result<Taken, Memory>
 fn take(awaited: AwaitedAnswer, bytes: &[u8]) -> Result<Taken, Memory>
     ensures { IfOk result (λ t. (text : List ℕ) → AwaitsAnswer awaited text bytes.now → Takes text t) }
 {
-    let AwaitedAnswer { answer, end } = awaited;
-    match end {
-        BodyEnd::After(missing) => take_counted(answer, missing, bytes),
-        BodyEnd::WithInput => take_all(answer, bytes),
+    let AwaitedAnswer { answer, missing } = awaited;
+    match missing {
+        MissingEnd::Body(missing) => take_framed(answer, missing, bytes),
+        MissingEnd::Input => take_all(answer, bytes),
     }
 }
 
@@ -125,7 +145,7 @@ impl AnswerParser {
                 Ok(ParsedAnswer::Open)
             }
             Taken::Whole(answer) => Ok(ParsedAnswer::Answer(answer)),
-            Taken::TooLarge => Ok(ParsedAnswer::NoAnswer),
+            Taken::NoAnswer => Ok(ParsedAnswer::NoAnswer),
         }
     }
 
@@ -151,7 +171,8 @@ impl AnswerParser {
             fields,
             body: Pieces::new(self.alloc),
         };
-        self.take_body(AwaitedAnswer { answer, end }, &bytes[from..])
+        let missing = MissingEnd::new(self.alloc, end);
+        self.take_body(AwaitedAnswer { answer, missing }, &bytes[from..])
     }
 
     /// Takes the next piece. Each byte of a head is looked at once to find its end, and each of a body copied once. Behind a
@@ -174,12 +195,12 @@ impl AnswerParser {
         ensures { (text : List ℕ) → HasKept self text → EndsAnswer text result }
     {
         let AnswerParser { awaited, .. } = self;
-        let Some(AwaitedAnswer { answer, end }) = awaited else {
+        let Some(AwaitedAnswer { answer, missing }) = awaited else {
             return None;
         };
-        match end {
-            BodyEnd::After(_) => None,
-            BodyEnd::WithInput => Some(answer),
+        match missing {
+            MissingEnd::Body(_) => None,
+            MissingEnd::Input => Some(answer),
         }
     }
 }

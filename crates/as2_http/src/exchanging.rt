@@ -63,7 +63,7 @@ fn read_answer<R: Source>(alloc: Global, source: &mut R) -> TryAnswer
 
 /// Sends the request of a job, and reads one answer (RFC 9112, sections 4 and 6). Whatever goes wrong is no answer: a write or
 /// a read that fails, memory that isn't there, an input that ends too early, a head that can't be read, a status below 200,
-/// a transfer coding, a body of more than 1,048,576 bytes. At most 100,000 reads are made.
+/// a transfer coding other than `chunked`, a bad chunk, a body of more than 1,048,576 bytes. At most 100,000 reads are made.
 pub fn exchange<R: Source, W: Sink>(
     alloc: Global,
     job: &Job,

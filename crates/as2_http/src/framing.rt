@@ -1,12 +1,11 @@
 //! What the fields of a head say of the bytes behind it (RFC 9112, sections 6 and 9.6).
-ghost use Rattle.std.specs.Prelude.{◌≡◌, ◌≤◌, IfOk};
+ghost use Rattle.std.specs.Prelude.{◌≡◌, codes};
+ghost use Rattle.as2_names.specs.Heads.{values};
 ghost use Rattle.as2_http.specs.Requests.{is_head};
-ghost use Rattle.as2_http.specs.Framing.{body_limit, content_length};
+ghost use Rattle.as2_http.specs.Framing.{coded_framing, content_length, is_chunked};
 
-use as2_text::{decimal_value, is_number};
-
-/// The most bytes that the body of a request may have.
-pub const BODY_LIMIT: usize = 1_048_576;
+use as2_framing::{BODY_LIMIT, BodyFraming};
+use as2_text::{Head, Once, decimal_value, is_number};
 
 /// The method of a request, of those that an answer depends on (RFC 9110, section 9.3).
 #[derive(Clone, Copy, Debug, PartialEq, Eq)]
@@ -42,17 +41,19 @@ pub enum Target {
 pub enum RequestFault {
     /// The bytes are no head of a request, or it is too long.
     BadHead,
-    /// The body has a transfer coding.
+    /// The body has a transfer coding other than `chunked`.
     TransferCoding,
-    /// `Content-Length` stands there twice or is no number.
+    /// `Content-Length` stands there twice, beside a transfer coding, or is no number.
     BadLength,
+    /// What came of a chunked body can't become one.
+    BadChunk,
     /// The body has more than 1,048,576 bytes.
     TooLarge,
     /// A POST says nothing of its body's length.
     NoLength,
 }
 
-/// A refused head: no request can be read from here on.
+/// A refused request: none can be read from here on.
 #[derive(Clone, Copy, Debug, PartialEq, Eq)]
 pub struct Refused {
     /// Why it is refused.
@@ -61,16 +62,35 @@ pub struct Refused {
     pub to_head: bool,
 }
 
-/// The number of bytes that one `Content-Length` says.
-pub fn content_length(value: &[u8]) -> Result<usize, RequestFault>
-    ensures exact { result ≡ content_length value.now }
-    ensures bound { IfOk result (λ length. length ≤ body_limit) }
+/// How a body ends whose one `Content-Length` has this value (RFC 9110, section 8.6).
+pub fn content_length(value: &[u8]) -> Result<BodyFraming, RequestFault>
+    ensures { result ≡ content_length value.now }
 {
     if !is_number(value) {
         return Err(RequestFault::BadLength);
     }
     match decimal_value(value) {
-        Some(length) if length <= BODY_LIMIT as u64 => Ok(length as usize),
+        Some(length) if length <= BODY_LIMIT as u64 => Ok(BodyFraming::Length(length as usize)),
         _ => Err(RequestFault::TooLarge),
     }
+}
+
+/// The body is chunked, in this version 1.x, whose one transfer coding has this value (RFC 9112, sections 6.1 and 7.1).
+fn is_chunked(minor: u8, coding: &[u8]) -> bool
+    ensures { result ≡ is_chunked minor coding.now }
+{
+    minor == 1 && coding.eq_ignore_ascii_case(b"chunked")
+}
+
+/// How a body ends that has this one transfer coding, in version 1.x.
+pub fn coded_framing(minor: u8, coding: &[u8], fields: &Head) -> Result<BodyFraming, RequestFault>
+    ensures { result ≡ coded_framing (is_chunked minor coding.now) (values (codes "content-length") fields.now) }
+{
+    if !is_chunked(minor, coding) {
+        return Err(RequestFault::TransferCoding);
+    }
+    if fields.value(b"content-length") != Once::Absent {
+        return Err(RequestFault::BadLength);
+    }
+    Ok(BodyFraming::Chunked)
 }

@@ -7,16 +7,12 @@ mod answer_parser;
 mod device;
 mod exchanging;
 mod framing;
-mod head_bytes;
-mod head_feed;
-mod head_text;
 mod laws;
 mod parser;
 mod reads;
 mod reply;
 mod request;
 mod response;
-mod scan;
 mod sending;
 mod stream;
 

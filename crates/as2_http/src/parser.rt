@@ -1,24 +1,24 @@
 //! The request that bytes begin with which come in any pieces (RFC 9112, section 2.1). No reader is known here.
 ghost use Rattle.std.specs.Prelude.{◌≡◌, ◌≤◌, List, ℕ, [], ◌++◌, length, drop, None, IfOk, IfErr};
-ghost use Rattle.as2_http.specs.HeadText.{HasHeadText};
-ghost use Rattle.as2_http.specs.HeadPieces.{EndsHead};
-ghost use Rattle.as2_http.specs.Parsing.{Awaits, Framed, HasTaken, RefusesHead, TakesBody, Parses, TellsBlank};
+ghost use Rattle.as2_framing.specs.HeadText.{HasHeadText};
+ghost use Rattle.as2_framing.specs.ChunkPieces.{FedWithin};
+ghost use Rattle.as2_framing.specs.HeadPieces.{EndsHead};
+ghost use Rattle.as2_http.specs.Parsing.{Awaits, FeedsRequest, Framed, HasTaken, RefusesHead, Parses, TellsBlank, refused_for};
 
 use crate::framing::{Refused, RequestFault};
-use crate::head_bytes::{HeadBytes, HeadPiece};
 use crate::request::{NotJudged, Request, judge};
+use as2_framing::{Fed, HeadBytes, HeadPiece, MissingBody};
 use as2_mic::Pieces;
 use as2_text::Memory;
 use std::alloc::Global;
-use std::cmp::min;
 
 /// A request whose head is there.
 #[derive(Drop)]
 pub struct Awaited {
     /// The request, with its body as far as it came.
     pub request: Request,
-    /// How many bytes of the body are missing.
-    pub missing: usize,
+    /// What is missing of the body.
+    pub missing: MissingBody,
 }
 
 /// Why no body is awaited.
@@ -56,8 +56,8 @@ fn read_head(alloc: Global, head: &[u8]) -> Result<Awaited, NotAwaited>
         Err(NotJudged::BadHead) => return Err(NotAwaited::Refused(BAD_HEAD)),
         Err(NotJudged::Memory) => return Err(NotAwaited::Memory),
     };
-    match judged.length {
-        Ok(missing) => Ok(Awaited {
+    match judged.framing {
+        Ok(framing) => Ok(Awaited {
             request: Request {
                 method: judged.method,
                 target: judged.target,
@@ -65,7 +65,7 @@ fn read_head(alloc: Global, head: &[u8]) -> Result<Awaited, NotAwaited>
                 body: Pieces::new(alloc),
                 last: judged.last,
             },
-            missing,
+            missing: MissingBody::new(alloc, framing),
         }),
         Err(reason) => Err(NotAwaited::Refused(Refused {
             reason,
@@ -75,14 +75,22 @@ fn read_head(alloc: Global, head: &[u8]) -> Result<Awaited, NotAwaited>
 }
 
 impl Awaited {
-    /// Takes what is there of the body, and tells how many bytes that is.
-    fn take(&mut self, rest: &[u8]) -> Result<usize, Memory>
-        ensures taken { IfOk result (TakesBody self.old self.new rest.now) }
+    /// Takes what is there of the body.
+    fn feed(&mut self, rest: &[u8]) -> Result<Fed, Memory>
+        ensures within { IfOk result (FedWithin (length rest.now)) }
+        ensures fed { IfOk result (λ f. (text : List ℕ) → Awaits self.old text rest.now → FeedsRequest self.old self.new text rest.now f) }
     {
-        let used = min(self.missing, rest.len());
-        self.request.body.append(&rest[..used])?;
-        self.missing -= used;
-        Ok(used)
+        self.missing.feed(rest, &mut self.request.body)
+    }
+
+    /// The request is refused for that.
+    fn refused(&self, reason: RequestFault) -> Refused
+        ensures { result ≡ refused_for reason self.now }
+    {
+        Refused {
+            reason,
+            to_head: self.request.method.is_head(),
+        }
     }
 }
 
@@ -113,12 +121,15 @@ impl RequestParser {
         ensures { IfOk result (λ p. (text : List ℕ) → Framed self.old.head awaited text bytes.now from → Parses self.new text bytes.now p) }
     {
         let mut awaited = awaited;
-        let used = awaited.take(&bytes[from..])?;
-        if awaited.missing == 0 {
-            return Ok(Parsed::Request(awaited.request, from + used));
+        match awaited.feed(&bytes[from..])? {
+            Fed::Open => {
+                self.awaited = Some(awaited);
+                Ok(Parsed::Open)
+            }
+            Fed::Whole(used) => Ok(Parsed::Request(awaited.request, from + used)),
+            Fed::Bad => Ok(Parsed::Refused(awaited.refused(RequestFault::BadChunk))),
+            Fed::TooLarge => Ok(Parsed::Refused(awaited.refused(RequestFault::TooLarge))),
         }
-        self.awaited = Some(awaited);
-        Ok(Parsed::Open)
     }
 
     /// Takes a whole head, which ends with the first bytes of the piece, and what is there of the body behind it.

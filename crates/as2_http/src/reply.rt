@@ -142,6 +142,7 @@ pub fn refusal(reason: RequestFault) -> HttpAnswer
         RequestFault::BadHead => Line::BadRequestHead,
         RequestFault::TransferCoding => Line::UnsupportedCoding,
         RequestFault::BadLength => Line::BadContentLength,
+        RequestFault::BadChunk => Line::BadChunkedBody,
         RequestFault::TooLarge => Line::BodyTooLarge,
         RequestFault::NoLength => Line::LengthRequired,
     };

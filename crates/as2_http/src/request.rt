@@ -1,12 +1,13 @@
 //! The request that a text begins with.
-ghost use Rattle.std.specs.Prelude.{◌≡◌, ◌≤◌, List, ℕ, length, map, All, IfOk, Some, None, Ok, Err, []};
+ghost use Rattle.std.specs.Prelude.{◌≡◌, ◌≤◌, List, ℕ, length, map, codes, All, IfOk, Some, None, Ok, Err, []};
 ghost use Rattle.httparse.specs.Grammar.{RequestHead};
 ghost use Rattle.httparse.specs.Spans.{IsHeaderWithin, header_bytes};
-ghost use Rattle.as2_http.specs.Requests.{Fields, IsHead, appended, method_of, target_of, body_length, is_last_request};
-ghost use Rattle.as2_http.specs.Framing.{body_limit};
+ghost use Rattle.as2_http.specs.Requests.{Fields, IsHead, appended, method_of, target_of, body_framing, framing_by_lengths, is_last_request};
+ghost use Rattle.as2_names.specs.Heads.{values};
 ghost use Rattle.as2_http.specs.Reading.{Judges};
 
-use crate::framing::{BODY_LIMIT, Method, RequestFault, Target, content_length};
+use crate::framing::{Method, RequestFault, Target, coded_framing, content_length};
+use as2_framing::BodyFraming;
 use as2_mic::Pieces;
 use as2_text::{Head, HeadFault, Once};
 use httparse::Status;
@@ -22,7 +23,7 @@ pub struct Request {
     pub target: Target,
     /// The fields of its head.
     pub fields: Head,
-    /// As many bytes as its head says.
+    /// Its body, without what chunks it.
     pub body: Pieces,
     /// No further request is read behind this one.
     pub last: bool,
@@ -37,8 +38,8 @@ pub struct Judged {
     pub target: Target,
     /// The fields of the head.
     pub fields: Head,
-    /// How many bytes of body follow, or why none can be read.
-    pub length: Result<usize, RequestFault>,
+    /// How the body ends that follows, or why none can be read.
+    pub framing: Result<BodyFraming, RequestFault>,
     /// No further request is read behind this one.
     pub last: bool,
 }
@@ -72,19 +73,26 @@ fn target_of(bytes: &[u8]) -> Target
     }
 }
 
-/// How many bytes of body follow a head.
-fn body_length(method: Method, fields: &Head) -> Result<usize, RequestFault>
-    ensures exact { result ≡ body_length method fields.now }
-    ensures bound { IfOk result (λ length. length ≤ body_limit) }
+/// How a body ends that has no transfer coding.
+fn framing_by_length(method: Method, fields: &Head) -> Result<BodyFraming, RequestFault>
+    ensures { result ≡ framing_by_lengths method (values (codes "content-length") fields.now) }
 {
-    if fields.value(b"transfer-encoding") != Once::Absent {
-        return Err(RequestFault::TransferCoding);
-    }
     match fields.value(b"content-length") {
         Once::Absent if method == Method::Post => Err(RequestFault::NoLength),
-        Once::Absent => Ok(0),
+        Once::Absent => Ok(BodyFraming::Length(0)),
         Once::One(value) => content_length(value),
         Once::Twice => Err(RequestFault::BadLength),
+    }
+}
+
+/// How the body ends that follows a head of version 1.x.
+fn body_framing(minor: u8, method: Method, fields: &Head) -> Result<BodyFraming, RequestFault>
+    ensures { result ≡ body_framing minor method fields.now }
+{
+    match fields.value(b"transfer-encoding") {
+        Once::Absent => framing_by_length(method, fields),
+        Once::One(coding) => coded_framing(minor, coding, fields),
+        Once::Twice => Err(RequestFault::TransferCoding),
     }
 }
 
@@ -129,7 +137,7 @@ pub fn judge(alloc: Global, text: &[u8]) -> Result<Judged, NotJudged>
     Ok(Judged {
         method,
         target: target_of(head.path.of(text)),
-        length: body_length(method, &fields),
+        framing: body_framing(head.version, method, &fields),
         last: is_last(head.version, &fields),
         fields,
     })

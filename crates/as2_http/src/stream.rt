@@ -1,6 +1,6 @@
 //! The requests of a stream, answered one after the other.
 ghost use Rattle.std.specs.Prelude.{◌≡◌, ◌⊎◌, ◌+◌, ◌<◌, ◌≤◌, List, ℕ, [], ◌++◌, take, vec_len, Option, Some, None, Err, IfSome, true};
-ghost use Rattle.as2_http.specs.HeadText.{unblank};
+ghost use Rattle.as2_framing.specs.HeadText.{unblank};
 ghost use Rattle.as2_http.specs.declared.stream.Served.TheVariants.{Closed, ReadFault, TooLong, Truncated, WriteFault};
 ghost use Rattle.as2_http.specs.declared.sending.SendFault.TheVariants.{Write};
 ghost use Rattle.sqlite.specs.Held.{state};

@@ -132,7 +132,7 @@ fn said_in(
 const CHUNKED: &str = "HTTP/1.1 200 OK\r\nTransfer-Encoding: chunked\r\n\r\n3\r\nabc\r\n0\r\n\r\n";
 
 // A text, what it says, and how many reads of one byte that takes.
-static CASES: [(&str, Said, usize); 27] = [
+static CASES: [(&str, Said, usize); 35] = [
     (
         "HTTP/1.1 200 OK\r\nContent-Length: 3\r\n\r\nabc",
         Some((200, 1, 3)),
@@ -187,7 +187,50 @@ static CASES: [(&str, Said, usize); 27] = [
         None,
         57,
     ),
-    (CHUNKED, None, 47),
+    // Chunks, by the same rules as those of a request; nothing is read behind the trailer.
+    (CHUNKED, Some((200, 1, 3)), 60),
+    (
+        "HTTP/1.1 200 OK\r\nTransfer-Encoding: CHUNKED\r\n\r\n0;x\r\nA: b\r\n\r\nabc",
+        Some((200, 1, 0)),
+        60,
+    ),
+    // With these the body is empty.
+    (
+        "HTTP/1.1 204 No Content\r\nTransfer-Encoding: chunked\r\n\r\n3\r\nabc",
+        Some((204, 1, 0)),
+        55,
+    ),
+    // Version 1.0, a length beside it, another coding, a bad chunk, too much, an input that ends too early.
+    (
+        "HTTP/1.0 200 OK\r\nTransfer-Encoding: chunked\r\n\r\n0\r\n\r\n",
+        None,
+        47,
+    ),
+    (
+        "HTTP/1.1 204 No Content\r\nTransfer-Encoding: chunked\r\nContent-Length: 0\r\n\r\n",
+        None,
+        74,
+    ),
+    (
+        "HTTP/1.1 200 OK\r\nTransfer-Encoding: chunked\r\nTransfer-Encoding: chunked\r\n\r\n",
+        None,
+        75,
+    ),
+    (
+        "HTTP/1.1 200 OK\r\nTransfer-Encoding: chunked\r\n\r\n2\r\nabc",
+        None,
+        53,
+    ),
+    (
+        "HTTP/1.1 200 OK\r\nTransfer-Encoding: chunked\r\n\r\n100001\r\n",
+        None,
+        55,
+    ),
+    (
+        "HTTP/1.1 200 OK\r\nTransfer-Encoding: chunked\r\n\r\n2\r\nab\r\n0\r\n",
+        None,
+        58,
+    ),
     (
         "HTTP/1.1 204 No Content\r\nTransfer-Encoding: identity\r\n\r\n",
         None,
@@ -228,8 +271,9 @@ fn answers(rt: HostRuntime) {
     }
 }
 
-// A text that says something, whose body has a length or ends with the input, and how many reads of one byte it takes.
-static READ: [(&str, usize); 2] = [
+// A text that says something, whose body has a length, is chunked or ends with the input, and how many reads of one byte it takes.
+static READ: [(&str, usize); 3] = [
+    (CHUNKED, 60),
     ("HTTP/1.1 200 OK\r\nContent-Length: 3\r\n\r\nabc", 41),
     ("HTTP/1.1 200 OK\r\n\r\nabc", 23),
 ];

@@ -1,13 +1,14 @@
 use super::*;
 
-// Four requests: CR and LF stand before the first, the second has lines that end in LF alone, the third an empty body, and
-// the last is refused.
+// Five requests: CR and LF stand before the first, the second has lines that end in LF alone, the third an empty body, the
+// fourth is chunked, and the last is refused.
 const STREAM: &str = "\r\n\nPOST /as2 HTTP/1.1\r\nContent-Length: 3\r\n\r\na\n\n\
 GET /x HTTP/1.1\nA: b\n\n\
 POST /as2 HTTP/1.1\r\nContent-Length: 0\r\n\r\n\
+POST /as2 HTTP/1.1\r\nTransfer-Encoding: Chunked\r\n\r\n2\r\na\n\r\n1;x\r\nb\r\n0\r\nA: b\r\n\r\n\
 HEAD / HTTP/1.1\r\nTransfer-Encoding: x\r\n\r\nabc";
 
-static WANT: [Seen; 4] = [
+static WANT: [Seen; 5] = [
     POSTED,
     Seen::Request {
         method: Method::Other,
@@ -21,6 +22,7 @@ static WANT: [Seen; 4] = [
         body: 0,
         last: false,
     },
+    POSTED,
     Seen::Refused(Refused {
         reason: RequestFault::TransferCoding,
         to_head: true,
@@ -51,7 +53,7 @@ fn fed(parser: &mut RequestParser, piece: &[u8], before: usize) -> Option<usize>
     Some(count)
 }
 
-/// The four requests come, whatever the pieces.
+/// The five requests come, whatever the pieces.
 fn all_come(alloc: Global, pieces: [&[u8]; 3]) -> bool {
     let mut parser = RequestParser::new(alloc);
     let mut count = 0;

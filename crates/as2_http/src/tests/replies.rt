@@ -105,7 +105,7 @@ fn replies(rt: HostRuntime) {
 const CLOSES: &str = "\r\nConnection: close\r\nContent-Type: text/plain\r\nContent-Length: ";
 
 // The second, the form and what is said, and how the reply begins, what it has and how it ends.
-static PARTS: [(u64, Form, Said, &str, &str, &str); 17] = [
+static PARTS: [(u64, Form, Said, &str, &str, &str); 18] = [
     // Refusals close.
     (
         1000,
@@ -130,6 +130,14 @@ static PARTS: [(u64, Form, Said, &str, &str, &str); 17] = [
         "HTTP/1.1 400 Bad Request\r\n",
         CLOSES,
         "19\r\n\r\nbad Content-Length\n",
+    ),
+    (
+        1000,
+        CLOSING,
+        Said::RequestFault(RequestFault::BadChunk),
+        "HTTP/1.1 400 Bad Request\r\n",
+        CLOSES,
+        "10\r\n\r\nbad chunk\n",
     ),
     (
         1000,

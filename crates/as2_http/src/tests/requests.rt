@@ -3,7 +3,7 @@ use as2_text::Once;
 use std::process::Abort;
 
 // A text, and what it is.
-static CASES: [(&str, Seen); 24] = [
+static CASES: [(&str, Seen); 30] = [
     (POST, POSTED),
     // CR and LF bytes before a request are skipped.
     (
@@ -25,6 +25,37 @@ static CASES: [(&str, Seen); 24] = [
     (
         "POST /as2 HTTP/1.1\r\nContent-Length: 3\r\nConnection: closed, keep-alive\r\n\r\nabc",
         POSTED,
+    ),
+    // A chunked body: the bytes of its chunks, whatever the trailer says.
+    (
+        "POST /as2 HTTP/1.1\r\nTransfer-Encoding: chunked\r\n\r\n2\r\nab\r\n1\r\nc\r\n0\r\n\r\nPOST",
+        POSTED,
+    ),
+    (
+        "POST /as2 HTTP/1.1\ntransfer-encoding:\tChunKed \n\n03 ;a=b\r\nabc\r\n0\r\nContent-Length: 9\n\n",
+        POSTED,
+    ),
+    (
+        "GET / HTTP/1.1\r\nTransfer-Encoding: chunked\r\n\r\n0\r\n\r\n",
+        Seen::Request {
+            method: Method::Other,
+            target: Target::Other,
+            body: 0,
+            last: false,
+        },
+    ),
+    // One that goes on.
+    (
+        "POST /as2 HTTP/1.1\r\nTransfer-Encoding: chunked\r\n\r\n",
+        Seen::Open,
+    ),
+    (
+        "POST /as2 HTTP/1.1\r\nTransfer-Encoding: chunked\r\n\r\n3\r\nabc\r\n0\r\nA: b",
+        Seen::Open,
+    ),
+    (
+        "POST /as2 HTTP/1.1\r\nTransfer-Encoding: chunked\r\n\r\n100000\r\n",
+        Seen::Open,
     ),
     // The last request of a stream.
     (

@@ -1,5 +1,5 @@
 use Rattle.std.proofs.Common.{List, ℕ, subst, sym, arith}
-use Rattle.as2_http.proofs.Feeding.{rest_of}
+use Rattle.as2_framing.proofs.Feeding.{rest_of}
 use Rattle.as2_http.proofs.Pushing.{Pushed, pushed_more}
 use Rattle.as2_http.proofs.sending.push_all.Goals as goal
 

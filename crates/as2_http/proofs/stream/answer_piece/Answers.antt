@@ -6,7 +6,7 @@ use Rattle.as2_http.specs.Requests.{IsRefused}
 use Rattle.as2_http.specs.Streams.{AnswersPiece}
 use Rattle.as2_http.specs.declared.parser.Parsed.{Parsed}
 use Rattle.as2_http.specs.declared.stream.Served.{Served}
-use Rattle.as2_http.proofs.Feeding.{rest_of}
+use Rattle.as2_framing.proofs.Feeding.{rest_of}
 use Rattle.as2_http.proofs.Streaming.{Proceeds, begins_piece, proceeds_on, piece_open, piece_taken, piece_last, piece_cut, piece_refused, piece_refusal_cut, piece_unread, replied_whole}
 use Rattle.as2_http.proofs.stream.answer_piece.Goals as goal
 

@@ -1,7 +1,7 @@
 use Rattle.std.proofs.Common.{ℕ, List, ◌++◌, Option, rules, subst, sym, ◌∙◌, inl}
-use Rattle.as2_http.specs.HeadPieces.{HoldsHead, FeedsHead}
+use Rattle.as2_framing.specs.HeadPieces.{HoldsHead, FeedsHead}
 use Rattle.as2_http.specs.AnswerPieces.{AwaitsAnswer, HasKeptBy, HasKept, ParsesAnswer}
-use Rattle.as2_http.specs.declared.head_bytes.HeadPiece.{HeadPiece}
+use Rattle.as2_framing.specs.declared.head_bytes.HeadPiece.{HeadPiece}
 use Rattle.as2_http.specs.declared.answer_parser.AwaitedAnswer.{AwaitedAnswer}
 use Rattle.as2_http.specs.declared.answer_parser.ParsedAnswer.{ParsedAnswer}
 use Rattle.as2_http.proofs.Answered.{awaits_again, head_cut, kept_head}

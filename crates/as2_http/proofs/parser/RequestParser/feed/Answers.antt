@@ -1,7 +1,7 @@
 use Rattle.std.proofs.Common.{ℕ, List, ◌++◌, Option, rules, subst, sym, ◌∙◌}
-use Rattle.as2_http.specs.HeadPieces.{HoldsHead, FeedsHead}
+use Rattle.as2_framing.specs.HeadPieces.{HoldsHead, FeedsHead}
 use Rattle.as2_http.specs.Parsing.{HasTakenBy, Framed, HasTaken, Parses}
-use Rattle.as2_http.specs.declared.head_bytes.HeadPiece.{HeadPiece}
+use Rattle.as2_framing.specs.declared.head_bytes.HeadPiece.{HeadPiece}
 use Rattle.as2_http.specs.declared.parser.Awaited.{Awaited}
 use Rattle.as2_http.specs.declared.parser.Parsed.{Parsed}
 use Rattle.as2_http.proofs.Parsing.{framed_again, head_open, held_head, when_ok}

@@ -1,17 +1,25 @@
-use Rattle.std.proofs.Common.{◌<◌, ℕ, List, ◌++◌, drop, subst, arith}
-use Rattle.as2_http.specs.Parsing.{TakesBody}
-use Rattle.as2_http.proofs.Feeding.{rest_of}
-use Rattle.as2_http.proofs.Parsing.{awaits_on, awaits_open, ends_request}
+use Rattle.std.proofs.Common.{◌++◌, subst, sym}
+use Rattle.as2_http.specs.Requests.{IsRefused}
+use Rattle.as2_http.specs.declared.framing.Refused.{Refused}
+use Rattle.as2_http.proofs.Parsing.{ends_request, fed_as}
 use Rattle.as2_http.proofs.parser.RequestParser.take_body.Goals as goal
 
-pub returns-then-awaited-eq0 : goal.returns-then-awaited-eq0
-returns-then-awaited-eq0 c = λ text framed.
-    ends_request c.args.self.now c.args.awaited c.take.new.self text c.args.bytes.now c.args.from c.in_ok-used.used c.requires.none c.requires.within framed
-    (subst (λ (rest : List ℕ). TakesBody c.args.awaited c.take.new.self rest c.in_ok-used.used) (rest_of c.args.from c.args.bytes.now) c.in_ok-used.ensures.taken) (omega arith)
+pub returns-in-Open : goal.returns-in-Open
+returns-in-Open c = λ text framed.
+    let k = fed_as c.args.awaited c.feed.new.self c.args.bytes.now c.args.from c.in_ok-feed.field-0 _ c.in-Open.is c.in_ok-feed.ensures.fed (text ++ c.args.bytes.now) framed.awaits in
+    (k.1, (framed.empty, k.0, k.2))
 
-pub returns : goal.returns
-returns c = λ text framed.
-    let taken = subst (λ (rest : List ℕ). TakesBody c.args.awaited c.take.new.self rest c.in_ok-used.used) (rest_of c.args.from c.args.bytes.now) c.in_ok-used.ensures.taken in
-    let some : 0 < c.take.new.self.missing = omega arith in
-    let on = awaits_on c.args.awaited c.take.new.self (text ++ c.args.bytes.now) (drop c.args.from c.args.bytes.now) c.in_ok-used.used framed.awaits taken some in
-    (awaits_open c.take.new.self (text ++ c.args.bytes.now) on some, (framed.empty, some, on))
+pub returns-in-Whole : goal.returns-in-Whole
+returns-in-Whole c = λ text framed.
+    ends_request c.args.self.now c.args.awaited c.feed.new.self text c.args.bytes.now c.args.from c.in-Whole.used c.requires.none c.requires.within framed
+    (fed_as c.args.awaited c.feed.new.self c.args.bytes.now c.args.from c.in_ok-feed.field-0 _ c.in-Whole.is c.in_ok-feed.ensures.fed (text ++ c.args.bytes.now) framed.awaits)
+
+pub returns-in-Bad : goal.returns-in-Bad
+returns-in-Bad c = λ text framed.
+    subst (λ (r : Refused). IsRefused (text ++ c.args.bytes.now) r) (sym c.refused.ensures)
+    (fed_as c.args.awaited c.feed.new.self c.args.bytes.now c.args.from c.in_ok-feed.field-0 _ c.in-Bad.is c.in_ok-feed.ensures.fed (text ++ c.args.bytes.now) framed.awaits)
+
+pub returns-in-TooLarge : goal.returns-in-TooLarge
+returns-in-TooLarge c = λ text framed.
+    subst (λ (r : Refused). IsRefused (text ++ c.args.bytes.now) r) (sym c.refused-in-TooLarge.ensures)
+    (fed_as c.args.awaited c.feed.new.self c.args.bytes.now c.args.from c.in_ok-feed.field-0 _ c.in-TooLarge.is c.in_ok-feed.ensures.fed (text ++ c.args.bytes.now) framed.awaits)

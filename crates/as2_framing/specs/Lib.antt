@@ -1,0 +1,9 @@
+pub mod HeadText
+pub mod Scanning
+pub mod HeadPieces
+pub mod Chunks
+pub mod ChunkLaws
+pub mod Places
+pub mod ChunkPieces
+pub mod Bodies
+pub mod BodyPieces

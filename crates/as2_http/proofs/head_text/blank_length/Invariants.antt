@@ -1,6 +1,0 @@
-use Rattle.std.proofs.Common.{◌≡◌, drop}
-use Rattle.as2_http.specs.HeadText.{unblank}
-use Rattle.as2_http.proofs.head_text.blank_length.Given as goal
-
-abbrev pub invariant-loop-i : goal.invariant-loop-i
-invariant-loop-i l = unblank l.text ≡ unblank (drop l.i l.text)
