@@ -81,7 +81,18 @@ Content-Length: 19\r
 bad Content-Length
 ";
 
-/// A transfer coding.
+/// A chunked body that is none.
+const BAD_CHUNK: &str = "\
+HTTP/1.1 400 Bad Request\r
+Date: Thu, 01 Jan 1970 00:16:40 GMT\r
+Connection: close\r
+Content-Type: text/plain\r
+Content-Length: 10\r
+\r
+bad chunk
+";
+
+/// Another transfer coding.
 const CODING: &str = "\
 HTTP/1.1 501 Not Implemented\r
 Date: Thu, 01 Jan 1970 00:16:40 GMT\r
@@ -155,10 +166,52 @@ static STREAMS: &[(&str, u8, &str, &[&str])] = &[
         &["refused: BadFraming\n"],
     ),
     (
-        "POST /as2 HTTP/1.1\r\nTransfer-Encoding: chunked\r\n\r\n0\r\n\r\n",
+        "POST /as2 HTTP/1.1\r\nTransfer-Encoding: gzip\r\n\r\n",
         1,
         CODING,
         &["refused: BadFraming\n"],
+    ),
+    (
+        "POST /as2 HTTP/1.0\r\nTransfer-Encoding: chunked\r\n\r\n0\r\n\r\n",
+        1,
+        CODING,
+        &["refused: BadFraming\n"],
+    ),
+    (
+        "POST /as2 HTTP/1.1\r\nTransfer-Encoding: chunked\r\nContent-Length: 3\r\n\r\n",
+        1,
+        BAD_LENGTH,
+        &["refused: BadFraming\n"],
+    ),
+    (
+        "POST /as2 HTTP/1.1\r\nTransfer-Encoding: chunked\r\n\r\ng\r\n",
+        1,
+        BAD_CHUNK,
+        &["refused: BadFraming\n"],
+    ),
+    (
+        "POST /as2 HTTP/1.1\r\nTransfer-Encoding: chunked\r\n\r\n2\r\nabc\r\n0\r\n\r\n",
+        1,
+        BAD_CHUNK,
+        &["refused: BadFraming\n"],
+    ),
+    (
+        "POST /as2 HTTP/1.1\r\nTransfer-Encoding: chunked\r\n\r\n100001\r\n",
+        1,
+        TOO_LARGE,
+        &["refused: BadFraming\n"],
+    ),
+    (
+        "POST /as2 HTTP/1.1\r\nTransfer-Encoding: chunked\r\n\r\n2\r\na",
+        1,
+        "",
+        &["refused: Truncated\n"],
+    ),
+    (
+        "GET /x HTTP/1.1\r\nTransfer-Encoding: chunked\r\n\r\n3\r\nabc\r\n0\r\nA: b\r\n\r\n",
+        0,
+        ONLY_POST,
+        &[],
     ),
 ];
 
@@ -409,6 +462,116 @@ static CASES: &[Case] = &[
 #[test]
 fn each_read_is_needed(rt: HostRuntime) -> Result<(), Fail> {
     Ok(check_all(&rt, rt.alloc(), CASES)?)
+}
+
+/// The plain post, its content in two chunks.
+const CHUNKED_POST: Text = Text {
+    changes: &[(
+        "Content-Length: 3\r\n\r\nabc",
+        "Transfer-Encoding: chunked\r\n\r\n2\r\nab\r\n1\r\nc\r\n0\r\n\r\n",
+    )],
+    ..POST
+};
+
+static CHUNKED: &[Case] = &[
+    Case {
+        input: CHUNKED_POST,
+        ..PLAIN
+    },
+    // The stream goes on behind its trailer, with the same post by length.
+    Case {
+        input: CHUNKED_POST,
+        behind: &[POST],
+        output: Text {
+            entries: (RECEIPT_TEXT, 2),
+            ..TWICE
+        },
+        ..PLAIN
+    },
+    // The largest body, in one chunk.
+    Case {
+        input: Text {
+            changes: &[
+                ("Disposition-Notification-To: a@x\r\n", ""),
+                (
+                    "Content-Length: 3\r\n\r\nabc",
+                    "Transfer-Encoding: chunked\r\n\r\n100000\r\n*\r\n0\r\n\r\n",
+                ),
+            ],
+            entries: ("abcdefghijklmnop", 65_536),
+            ..POST
+        },
+        output: ANSWERED,
+        ..PLAIN
+    },
+    // A byte more, whose line alone is read.
+    Case {
+        input: Text {
+            changes: &[(
+                "Content-Length: 3\r\n\r\nabc",
+                "Transfer-Encoding: chunked\r\n\r\n100000\r\n*\r\n1\r\n",
+            )],
+            entries: ("abcdefghijklmnop", 65_536),
+            ..POST
+        },
+        status: 1,
+        output: Text {
+            plain: TOO_LARGE,
+            ..NOTHING
+        },
+        errors: &["refused: BadFraming\n"],
+        ..PLAIN
+    },
+    // 65,536 chunks of one byte.
+    Case {
+        input: Text {
+            changes: &[
+                ("Disposition-Notification-To: a@x\r\n", ""),
+                (
+                    "Content-Length: 3\r\n\r\nabc",
+                    "Transfer-Encoding: chunked\r\n\r\n*0\r\n\r\n",
+                ),
+            ],
+            entries: ("1\r\na\r\n", 65_536),
+            ..POST
+        },
+        output: ANSWERED,
+        ..PLAIN
+    },
+    // A chunk line of 1,024 bytes, and one of 1,025.
+    Case {
+        input: Text {
+            changes: &[(
+                "Content-Length: 3\r\n\r\nabc",
+                "Transfer-Encoding: chunked\r\n\r\n3;*\r\nabc\r\n0\r\n\r\n",
+            )],
+            entries: ("x", 1_020),
+            ..POST
+        },
+        ..PLAIN
+    },
+    Case {
+        input: Text {
+            changes: &[(
+                "Content-Length: 3\r\n\r\nabc",
+                "Transfer-Encoding: chunked\r\n\r\n3;*\r\nabc\r\n0\r\n\r\n",
+            )],
+            entries: ("x", 1_021),
+            ..POST
+        },
+        status: 1,
+        output: Text {
+            plain: BAD_CHUNK,
+            ..NOTHING
+        },
+        errors: &["refused: BadFraming\n"],
+        ..PLAIN
+    },
+];
+
+#[test]
+fn chunked_bodies_are_answered(rt: HostRuntime) -> Result<(), Fail> {
+    Ok(check_all(&rt, rt.alloc(), CHUNKED)?)
 }
 
 /// A request, what it gets in place of `!`, and then a post's receipt: the stream goes on.

@@ -74,14 +74,34 @@ impl Begun {
     }
 }
 
+/// What tells the end of the receipt: the end of the head before it, and what stands behind it.
+#[derive(Clone, Copy)]
+struct Framing {
+    before: &'static [u8],
+    behind: &'static [u8],
+}
+
+/// By its length, and in one chunk.
+static FRAMINGS: [Framing; 2] = [
+    Framing {
+        before: b"\r\nContent-Length: 406\r\n\r\n",
+        behind: b"",
+    },
+    Framing {
+        before: b"\r\nTransfer-Encoding: chunked\r\n\r\n196\r\n",
+        behind: b"\r\n0\r\n\r\n",
+    },
+];
+
 /// Buyer's receipt as an answer over HTTP.
-fn answer_text(alloc: Global) -> Result<Vec<u8>, AllocError> {
+fn answer_text(alloc: Global, framing: Framing) -> Result<Vec<u8>, AllocError> {
     let mut text = Vec::new(alloc);
     for part in [
         b"HTTP/1.1 200 OK\r\nAS2-From: Buyer\r\nAS2-To: Supplier\r\nContent-Type: ".as_slice(),
         RECEIPT_TYPE.as_bytes(),
-        b"\r\nContent-Length: 406\r\n\r\n",
+        framing.before,
         RECEIPT,
+        framing.behind,
     ] {
         text.extend_from_slice(part)?;
     }
@@ -129,12 +149,14 @@ fn exchanged<R: Read, W: Write>(
 
 #[test]
 fn a_receipt_settles_what_was_sent(rt: HostRuntime) -> Result<(), Fail> {
-    let begun = Begun::new(rt.alloc())?;
-    let text = answer_text(rt.alloc())?;
-    let mut sent = Vec::new(rt.alloc());
-    let answer = exchanged(rt.alloc(), &begun.job, &mut text.as_slice(), &mut sent);
-    assert!(rt; sent.as_slice() == begun.job.bytes.as_slice());
-    assert!(rt; begun.is_settled(answer)?);
+    for framing in &FRAMINGS {
+        let begun = Begun::new(rt.alloc())?;
+        let text = answer_text(rt.alloc(), *framing)?;
+        let mut sent = Vec::new(rt.alloc());
+        let answer = exchanged(rt.alloc(), &begun.job, &mut text.as_slice(), &mut sent);
+        assert!(rt; sent.as_slice() == begun.job.bytes.as_slice());
+        assert!(rt; begun.is_settled(answer)?);
+    }
     Ok(())
 }
 
@@ -159,7 +181,7 @@ fn sent_over_the_loopback(
 #[test]
 fn a_document_is_sent_over_the_loopback(rt: HostRuntime) -> Result<(), Fail> {
     let begun = Begun::new(rt.alloc())?;
-    let text = answer_text(rt.alloc())?;
+    let text = answer_text(rt.alloc(), FRAMINGS[0])?;
     let mut sent = Vec::new(rt.alloc());
     let Ok(answer) = sent_over_the_loopback(&rt, &begun.job, text.as_slice(), &mut sent) else {
         return Err(Fail::new("the sockets failed"));
