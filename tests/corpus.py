@@ -11,6 +11,8 @@ import base64
 import email
 import email.policy
 import hashlib
+import http.client
+import io
 import pathlib
 import subprocess
 import sys
@@ -26,9 +28,26 @@ def expect(what, found, wanted):
         raise AssertionError("%s: found %r, wanted %r" % (what, found, wanted))
 
 
+class Bytes:
+    """A socket to http.client, which gives these bytes."""
+
+    def __init__(self, data):
+        self.data = data
+
+    def makefile(self, mode):
+        return io.BytesIO(self.data)
+
+
+def content_of(request):
+    """Returns the content that a request carries, by its length or chunked, as http.client reads it of an answer."""
+    answer = http.client.HTTPResponse(Bytes(b"HTTP/1.1 200 OK\r\n" + request.split(b"\r\n", 1)[1]))
+    answer.begin()
+    return answer.read()
+
+
 def check_report(rest, request, outcome, digest):
     """Compares the fields of a report with the request that it answers."""
-    head, content = request.split(b"\r\n\r\n", 1)
+    head, content = request.split(b"\r\n\r\n", 1)[0], content_of(request)
     asked = email.message_from_bytes(head.split(b"\r\n", 1)[1], policy=email.policy.compat32)
     reply = email.message_from_bytes(rest, policy=email.policy.HTTP)
     expect("defects", reply.defects, [])

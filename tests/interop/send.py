@@ -1,6 +1,6 @@
 #!/usr/bin/env python3
 """Has `as2desk send` post to Python's own `http.server`, which answers with receipts that Python's `email` writes, and compares what
-arrived and what the station makes of the answers: receipts with the right digest, under MD5, with another digest, without one, of
+arrived and what the station makes of the answers: receipts with the right digest, in chunks, under MD5, with another digest, without one, of
 an error, an answer of another status, one without a receipt, one that is cut short, and a partner who isn't there. Then it has the
 station post a receipt of its own, and reads it with `email`. Prints a line for each; the status is 1 where one differs. The program
 is ./as2desk, or the file that the argument names."""
@@ -60,6 +60,7 @@ def receipt(identifier, disposition, digest):
 ANSWERS = [
     ("processed", "HTTP/1.1", 200, PROCESSED, mic(), "settled S processed"),
     ("processed, over HTTP/1.0", "HTTP/1.0", 200, PROCESSED, mic(), "settled S processed"),
+    ("processed, in chunks", "HTTP/1.1", 200, PROCESSED, mic(), "settled S processed"),
     ("processed, under MD5", "HTTP/1.1", 200, PROCESSED, mic("md5"), "settled S processed"),
     ("another digest", "HTTP/1.1", 200, PROCESSED, mic(content=b"other"), "settled E mic-differs"),
     ("no digest", "HTTP/1.1", 200, PROCESSED, None, "settled W no-mic"),
@@ -71,6 +72,12 @@ ANSWERS = [
     ("no receipt", "HTTP/1.1", 200, None, None, "try failed"),
     ("an answer that is cut short", "HTTP/1.1", 200, PROCESSED, mic(), "try failed"),
 ]
+
+
+def chunked(content, size=100):
+    """The content in chunks of so many bytes."""
+    pieces = [content[at : at + size] for at in range(0, len(content), size)]
+    return b"".join(b"%x\r\n%s\r\n" % (len(piece), piece) for piece in [*pieces, b""])
 
 
 class Partner(http.server.BaseHTTPRequestHandler):
@@ -95,7 +102,10 @@ class Partner(http.server.BaseHTTPRequestHandler):
         self.send_header("AS2-To", "Supplier")
         self.send_header("Message-ID", "<receipt-%d@partner.example>" % number)
         self.send_header("Content-Type", content_type)
-        if version == "HTTP/1.1":
+        if "chunks" in name:
+            self.send_header("Transfer-Encoding", "chunked")
+            answer = chunked(answer)
+        elif version == "HTTP/1.1":
             self.send_header("Content-Length", str(len(answer) + ("cut" in name)))
         self.end_headers()
         self.wfile.write(answer)

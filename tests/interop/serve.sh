@@ -1,7 +1,8 @@
 #!/bin/sh
 # Posts to `as2desk serve` with real `curl`, and reads the receipts out of its answers: documents small, empty and of the greatest
-# length, two on one connection, one repeated, requests that are refused. Their digests are compared with Python's. Prints a line for
-# each comparison; the status is 1 where one fails. The program is ./as2desk, or the file that the argument names.
+# length, by their length and chunked, two on one connection, one repeated, requests that are refused; and one with Python's
+# `http.client`, which chunks what comes of an iterator. Their digests are compared with Python's. Prints a line for each comparison;
+# the status is 1 where one fails. The program is ./as2desk, or the file that the argument names.
 set -eu
 top=$(cd "$(dirname "$0")/../.." && pwd)
 program=$(realpath "${1:-$top/as2desk}")
@@ -10,7 +11,7 @@ serving=
 trap '[ -z "$serving" ] || kill "$serving" 2>/dev/null; rm -rf "$work"' EXIT
 cd "$work"
 status=0
-count=9
+count=13
 from=Buyer
 
 # What, wanted, found.
@@ -70,6 +71,28 @@ head -c 3000000 /dev/urandom >greater
 compare "a greater one" 413 "$(post greater m4)"
 compare "a greater one, all of it sent before the answer is read" 413 "$(post greater m4 -H 'Expect:')"
 
+compare "a document in chunks" 200 "$(post order m6 -H 'Transfer-Encoding: chunked')"
+compare "a document in chunks: its digest" "$(mic order)" "$(field Received-content-MIC)"
+compare "the greatest document in chunks" 200 "$(post greatest m7 -H 'Transfer-Encoding: chunked')"
+compare "the greatest document in chunks: its digest" "$(mic greatest)" "$(field Received-content-MIC)"
+compare "a greater one in chunks" 413 "$(post greater m8 -H 'Transfer-Encoding: chunked' -H 'Expect:')"
+compare "a document by http.client, line by line" 200 "$(python3 - "$address" order m9 <<'END'
+import http.client
+import sys
+
+address, content, identifier = sys.argv[1:]
+connection = http.client.HTTPConnection(address, timeout=20)
+head = {"AS2-Version": "1.0", "AS2-From": "Buyer", "AS2-To": "Supplier", "Message-ID": f"<{identifier}@x>"}
+head |= {"Content-Type": "application/edi-x12", "Disposition-Notification-To": "a@x"}
+connection.request("POST", "/as2", iter(open(content, "rb")), head)
+answer = connection.getresponse()
+with open("answer", "wb") as file:
+    file.write(answer.read())
+print(answer.status)
+END
+)"
+compare "a document by http.client: its digest" "$(mic order)" "$(field Received-content-MIC)"
+
 compare "two requests on one connection" "405 404" "$(curl --silent --output /dev/null --write-out '%{http_code} ' "http://$address/as2" \
     --next --silent --output /dev/null --write-out '%{http_code}' --data-binary @order "http://$address/other")"
 from=Nobody
@@ -78,6 +101,6 @@ compare "a partner of another name" 403 "$(post order m5)"
 wait "$serving" && ended=0 || ended=$?
 serving=
 compare "the program's status" 0 "$ended"
-compare "how the connections ended" "     7 connection: Closed
-     2 connection: BadFraming" "$(sort -r ends | uniq -c | sed 's/^ *\([0-9]\)/     \1/')"
+compare "how the connections ended" "     10 connection: Closed
+     3 connection: BadFraming" "$(sort -r ends | uniq -c | sed 's/^ *\([0-9]\)/     \1/')"
 exit $status
