@@ -120,15 +120,20 @@ fn lines_and_trailers_are_kept_within_their_limits(rt: HostRuntime) -> Result<()
     Ok(())
 }
 
+/// The first bytes of a text, so many.
+fn front(text: &[u8], length: usize) -> &[u8] {
+    text.get(..length).unwrap_or(text)
+}
+
 #[test]
 fn no_line_that_is_too_long_is_awaited(rt: HostRuntime) -> Result<(), Fail> {
     let alloc = rt.alloc();
     let line = long_line(alloc, 1_021)?;
     // 1,022 bytes without CR, and 1,023
-    assert!(rt; outcome(alloc, &[&line[..1_022]])? == Comes::Open(0));
-    assert!(rt; outcome(alloc, &[&line[..1_023]])? == Comes::Bad);
+    assert!(rt; outcome(alloc, &[front(&line, 1_022)])? == Comes::Open(0));
+    assert!(rt; outcome(alloc, &[front(&line, 1_023)])? == Comes::Bad);
     let last = long_line(alloc, 1_020)?;
-    assert!(rt; outcome(alloc, &[&last[..1_023]])? == Comes::Open(0));
+    assert!(rt; outcome(alloc, &[front(&last, 1_023)])? == Comes::Open(0));
     Ok(())
 }
 
