@@ -84,7 +84,7 @@ address, content, identifier = sys.argv[1:]
 connection = http.client.HTTPConnection(address, timeout=20)
 head = {"AS2-Version": "1.0", "AS2-From": "Buyer", "AS2-To": "Supplier", "Message-ID": f"<{identifier}@x>"}
 head |= {"Content-Type": "application/edi-x12", "Disposition-Notification-To": "a@x"}
-connection.request("POST", "/as2", iter(open(content, "rb")), head)
+connection.request("POST", "/as2", (line for line in open(content, "rb")), head)
 answer = connection.getresponse()
 with open("answer", "wb") as file:
     file.write(answer.read())

@@ -3,13 +3,13 @@ use Rattle.std.proofs.Common.{◌≡◌, ◌∙◌, ℕ, List, [], ◌++◌, len
 use Rattle.std.specs.Prelude.{IfOk}
 use Rattle.as2_framing.specs.Bodies.{BeginsBody, IsOpenBody, IsBadBody, IsTooLargeBody}
 use Rattle.as2_framing.specs.BodyPieces.{HoldsBody, IsMissing, FeedsBody}
-use Rattle.as2_framing.specs.ChunkPieces.{Holds, Feeds}
+use Rattle.as2_framing.specs.ChunkPieces.{HoldsChunked, Feeds}
 use Rattle.as2_framing.specs.declared.body.BodyFraming.{BodyFraming}
 use Rattle.as2_framing.specs.declared.body.BodyFraming.TheVariants as framing
 use Rattle.as2_framing.specs.declared.body.MissingBody.{MissingBody}
 use Rattle.as2_framing.specs.declared.body.MissingBody.TheVariants as missing
-use Rattle.as2_framing.specs.declared.chunked.Fed.{Fed}
-use Rattle.as2_framing.specs.declared.chunked.Fed.TheVariants as fed
+use Rattle.as2_framing.specs.declared.chunked.BodyPiece.{BodyPiece}
+use Rattle.as2_framing.specs.declared.chunked.BodyPiece.TheVariants as fed
 use Rattle.as2_framing.specs.declared.chunked_body.ChunkedBody.{ChunkedBody}
 use Rattle.as2_framing.proofs.Chunking.{holds_more, holds_open}
 use Rattle.as2_framing.proofs.Lasting.{bad_append, begins_append as begins_more, large_append}
@@ -17,7 +17,7 @@ use Rattle.as2_framing.proofs.OneBody.{begins_one, front_once, never_faulty, nev
 
 -- ---- a piece
 
-chunked_feeds : (old new : ChunkedBody) (how : BodyFraming) (body next text rest : List ℕ) (f : Fed) → (Holds old body text rest → Feeds new next text rest f)
+chunked_feeds : (old new : ChunkedBody) (how : BodyFraming) (body next text rest : List ℕ) (f : BodyPiece) → (HoldsChunked old body text rest → Feeds new next text rest f)
     → HoldsBody (missing.Chunked old) how body text rest → FeedsBody (missing.Chunked old) (missing.Chunked new) how next text rest f
 chunked_feeds old new (framing.Length n) body next text rest f feeds h = absurd h
 chunked_feeds old new framing.Chunked body next text rest fed.Open feeds h = let k = feeds h in (tt, k.0, k.1)
@@ -25,7 +25,7 @@ chunked_feeds old new framing.Chunked body next text rest (fed.Whole n) feeds h 
 chunked_feeds old new framing.Chunked body next text rest fed.Bad feeds h = feeds h
 chunked_feeds old new framing.Chunked body next text rest fed.TooLarge feeds h = feeds h
 
-pub chunked_fed : {E : Type 0} (old new : ChunkedBody) (body next bytes : List ℕ) (r : Result Fed E) → IfOk r (λ f. (text : List ℕ) → Holds old body text bytes → Feeds new next text bytes f)
+pub chunked_fed : {E : Type 0} (old new : ChunkedBody) (body next bytes : List ℕ) (r : Result BodyPiece E) → IfOk r (λ f. (text : List ℕ) → HoldsChunked old body text bytes → Feeds new next text bytes f)
     → IfOk r (λ f. (how : BodyFraming) (text : List ℕ) → HoldsBody (missing.Chunked old) how body text bytes → FeedsBody (missing.Chunked old) (missing.Chunked new) how next text bytes f)
 chunked_fed old new body next bytes (Ok f) feeds = λ how text h. chunked_feeds old new how body next text bytes f (feeds text) h
 chunked_fed old new body next bytes (Err e) feeds = tt

@@ -6,15 +6,15 @@ use Rattle.std.proofs.lemmas.List.{take_all, take-append-drop, length-take-le, d
 use Rattle.std.proofs.Math.Seq.{drop-append-add}
 use Rattle.std.proofs.lemmas.Bool.{cases_lt}
 use Rattle.as2_framing.specs.Chunks.{HasLine, HasChunk, HasChunks, IsBehind, HasTrailer, BeginsChunked, HasNoLine, MayHaveLine, NeverHasLine, HasNoTrailer, MayHaveTrailer, NeverHasTrailer, NeverEndsLine, IsTooLarge, IsBadChunk, bad_line, bad_end, bad_trailer, IsOpenChunked, in_line, in_bytes, in_end, in_trailer}
-use Rattle.as2_framing.specs.ChunkPieces.{ReadsLine, FindsLine, HoldsLine, HoldsBytes, HoldsChunk, HoldsTrailer, HoldsAt, Holds, StepsTo}
+use Rattle.as2_framing.specs.ChunkPieces.{ReadsLine, FindsLine, HoldsLine, HoldsBytes, HoldsChunk, HoldsTrailer, HoldsAt, HoldsChunked, StepsTo}
 use Rattle.as2_framing.specs.Places.{GoesOn}
 use Rattle.as2_framing.specs.declared.chunk_line.LineRead.{LineRead}
 use Rattle.as2_framing.specs.declared.chunk_line.LineRead.TheVariants as read
-use Rattle.as2_framing.specs.declared.chunked.Step.{Step}
+use Rattle.as2_framing.specs.declared.chunked.ChunkStep.{ChunkStep}
 use Rattle.as2_framing.specs.Scanning.{missing_of, scanned}
 use Rattle.as2_framing.specs.declared.chunked_body.ChunkedBody.{ChunkedBody}
-use Rattle.as2_framing.specs.declared.place.Place.{Place}
-use Rattle.as2_framing.specs.declared.place.Place.TheVariants as place
+use Rattle.as2_framing.specs.declared.place.ChunkPlace.{ChunkPlace}
+use Rattle.as2_framing.specs.declared.place.ChunkPlace.TheVariants as place
 use Rattle.as2_framing.specs.declared.scan.LineSoFar.{LineSoFar}
 use Rattle.as2_framing.specs.declared.scan.LineSoFar.TheVariants.{Nothing, Return, Text}
 use Rattle.as2_framing.specs.declared.scan.Scanned.TheVariants.{Ended, Open}
@@ -106,14 +106,14 @@ trailer_more count line body text more h = record {
   short = h.short;
 }
 
-at_more : (p : Place) (kept body text more : List ℕ) → HoldsAt p kept body text [] → HoldsAt p kept body (text ++ more) more
+at_more : (p : ChunkPlace) (kept body text more : List ℕ) → HoldsAt p kept body text [] → HoldsAt p kept body (text ++ more) more
 at_more place.Line kept body text more h = line_more kept body text more h
 at_more (place.Bytes missing) kept body text more h = (h.0, bytes_more missing body text more h.1)
 at_more place.Behind kept body text more h = (h.0, chunk_more [] body text more h.1)
 at_more place.Return kept body text more h = (h.0, chunk_more (13 ∷ []) body text more h.1)
 at_more (place.Trailer count line) kept body text more h = (h.0, trailer_more count line body text more h.1)
 
-pub holds_more : (c : ChunkedBody) (body text more : List ℕ) → Holds c body text [] → Holds c body (text ++ more) more
+pub holds_more : (c : ChunkedBody) (body text more : List ℕ) → HoldsChunked c body text [] → HoldsChunked c body (text ++ more) more
 holds_more c body text more h = at_more c.place c.line.items body text more h
 
 -- ---- a text of which all is kept is open
@@ -121,7 +121,7 @@ holds_more c body text more h = at_more c.place c.line.items body text more h
 few_of : (line : LineSoFar) (came : List ℕ) → length came + missing_of line ≤ 16384 → length came ≤ 16384
 few_of line came short = omega (arith, short)
 
-at_open : (p : Place) (kept body text : List ℕ) → HoldsAt p kept body text [] → IsOpenChunked text
+at_open : (p : ChunkPlace) (kept body text : List ℕ) → HoldsAt p kept body text [] → IsOpenChunked text
 at_open place.Line kept body text h =
     let same : kept ≡ h.at = sym (h.follows ∙ append-nil kept) in
     in_line h.at body h.behind (subst HasNoLine same h.none) (subst MayHaveLine same h.may)
@@ -136,7 +136,7 @@ at_open (place.Trailer count line) kept body text h =
     (subst HasNoTrailer same (trailer_not_yet h.1.came h.1.none (few_of line h.1.came (subst (λ (n : ℕ). n + missing_of line ≤ 16384) h.1.counted short))))
     (subst MayHaveTrailer same (trailer_may h.1.came line h.1.none h.1.last (subst (λ (n : ℕ). n + missing_of line ≤ 16384) h.1.counted short)))
 
-pub holds_open : (c : ChunkedBody) (body text : List ℕ) → Holds c body text [] → IsOpenChunked text
+pub holds_open : (c : ChunkedBody) (body text : List ℕ) → HoldsChunked c body text [] → IsOpenChunked text
 holds_open c body text h = at_open c.place c.line.items body text h
 
 -- ---- chunk lines
@@ -388,25 +388,25 @@ read_as t r q is h = subst (ReadsLine t) is h
 pub found_as : (kept body text rest : List ℕ) (r q : LineRead) → r ≡ q → FindsLine kept body text rest r → FindsLine kept body text rest q
 found_as kept body text rest r q is h = subst (FindsLine kept body text rest) is h
 
-pub stepped_as : (c : ChunkedBody) (body text rest : List ℕ) (s q : Step) → s ≡ q → StepsTo c body text rest s → StepsTo c body text rest q
+pub stepped_as : (c : ChunkedBody) (body text rest : List ℕ) (s q : ChunkStep) → s ≡ q → StepsTo c body text rest s → StepsTo c body text rest q
 stepped_as c body text rest s q is h = subst (StepsTo c body text rest) is h
 
-pub stays_in_line : (c : ChunkedBody) (body text rest : List ℕ) → c.place ≡ place.Line → HoldsLine c.line.items body text [] → Holds c body text (drop (length rest) rest)
+pub stays_in_line : (c : ChunkedBody) (body text rest : List ℕ) → c.place ≡ place.Line → HoldsLine c.line.items body text [] → HoldsChunked c body text (drop (length rest) rest)
 stays_in_line c body text rest is h =
-    subst (λ (p : Place). HoldsAt p c.line.items body text (drop (length rest) rest)) (sym is)
+    subst (λ (p : ChunkPlace). HoldsAt p c.line.items body text (drop (length rest) rest)) (sym is)
     (subst (HoldsLine c.line.items body text) (sym (drop_all (length rest) rest (omega arith))) h)
 
-pub goes_on : (p : Place) (kept body text rest : List ℕ) (n size came : ℕ) → length body ≡ came → FindsLine kept body text rest (read.Line n size) → GoesOn size came (Some p)
+pub goes_on : (p : ChunkPlace) (kept body text rest : List ℕ) (n size came : ℕ) → length body ≡ came → FindsLine kept body text rest (read.Line n size) → GoesOn size came (Some p)
     → HoldsAt p kept body text (drop n rest)
 goes_on p kept body text rest n size came many found (inl ends) =
-    subst (λ (q : Place). HoldsAt q kept body text (drop n rest)) (sym ends.1)
+    subst (λ (q : ChunkPlace). HoldsAt q kept body text (drop n rest)) (sym ends.1)
     (found.0, begins_trailer body text rest n (found.1.0, found.1.1, subst (λ (k : ℕ). HasLine found.1.0 k (drop n rest)) ends.0 found.1.2))
 goes_on p kept body text rest n size came many found (inr more) =
-    subst (λ (q : Place). HoldsAt q kept body text (drop n rest)) (sym more.2)
+    subst (λ (q : ChunkPlace). HoldsAt q kept body text (drop n rest)) (sym more.2)
     (found.0, begins_bytes body text rest n size more.0 (omega (arith, more.1, many)) found.1)
 
 pub goes_nowhere : (kept body text rest : List ℕ) (n size came : ℕ) → length body ≡ came → FindsLine kept body text rest (read.Line n size) → 1048576 < came + size → IsTooLarge text
 goes_nowhere kept body text rest n size came many found large = too_large body text rest n size (omega (arith, large, many)) found.1
 
-pub all_taken : (c : ChunkedBody) (body text rest : List ℕ) → rest ≡ [] → Holds c body text rest → IsOpenChunked text × Holds c body text []
-all_taken c body text rest none h = let held = subst (Holds c body text) none h in (holds_open c body text held, held)
+pub all_taken : (c : ChunkedBody) (body text rest : List ℕ) → rest ≡ [] → HoldsChunked c body text rest → IsOpenChunked text × HoldsChunked c body text []
+all_taken c body text rest none h = let held = subst (HoldsChunked c body text) none h in (holds_open c body text held, held)

@@ -8,12 +8,12 @@ use Rattle.as2_framing.specs.declared.scan.LineSoFar.{LineSoFar}
 use Rattle.as2_framing.specs.declared.scan.LineSoFar.TheVariants.{Nothing}
 use Rattle.as2_framing.specs.declared.chunk_line.LineRead.{LineRead}
 use Rattle.as2_framing.specs.declared.chunk_line.LineRead.TheVariants as read
-use Rattle.as2_framing.specs.declared.place.Place.{Place}
-use Rattle.as2_framing.specs.declared.place.Place.TheVariants as place
-use Rattle.as2_framing.specs.declared.chunked.Step.{Step}
-use Rattle.as2_framing.specs.declared.chunked.Step.TheVariants as step
-use Rattle.as2_framing.specs.declared.chunked.Fed.{Fed}
-use Rattle.as2_framing.specs.declared.chunked.Fed.TheVariants as fed
+use Rattle.as2_framing.specs.declared.place.ChunkPlace.{ChunkPlace}
+use Rattle.as2_framing.specs.declared.place.ChunkPlace.TheVariants as place
+use Rattle.as2_framing.specs.declared.chunked.ChunkStep.{ChunkStep}
+use Rattle.as2_framing.specs.declared.chunked.ChunkStep.TheVariants as step
+use Rattle.as2_framing.specs.declared.chunked.BodyPiece.{BodyPiece}
+use Rattle.as2_framing.specs.declared.chunked.BodyPiece.TheVariants as fed
 use Rattle.as2_framing.specs.declared.chunked_body.ChunkedBody.{ChunkedBody}
 
 -- what the text is at the front of a chunk
@@ -89,7 +89,7 @@ FindsLine kept body text rest (read.Line n size) = (kept ≡ []) × ((at : List 
 FindsLine kept body text rest read.Bad = IsBadChunk text
 
 -- .. at that place
-abbrev pub HoldsAt : Place → List ℕ → List ℕ → List ℕ → List ℕ → Type 0
+abbrev pub HoldsAt : ChunkPlace → List ℕ → List ℕ → List ℕ → List ℕ → Type 0
 HoldsAt place.Line kept body text rest = HoldsLine kept body text rest
 HoldsAt (place.Bytes missing) kept body text rest = (kept ≡ []) × HoldsBytes missing body text rest
 HoldsAt place.Behind kept body text rest = (kept ≡ []) × HoldsChunk [] body text rest
@@ -97,8 +97,8 @@ HoldsAt place.Return kept body text rest = (kept ≡ []) × HoldsChunk (carriage
 HoldsAt (place.Trailer count line) kept body text rest = (kept ≡ []) × HoldsTrailer count line body text rest
 
 -- a front of the text was taken, with these bytes of body; then comes the rest
-abbrev pub Holds : ChunkedBody → List ℕ → List ℕ → List ℕ → Type 0
-Holds c body text rest = HoldsAt c.place c.line.items body text rest
+abbrev pub HoldsChunked : ChunkedBody → List ℕ → List ℕ → List ℕ → Type 0
+HoldsChunked c body text rest = HoldsAt c.place c.line.items body text rest
 
 -- one byte of so many is taken at least
 abbrev pub LineWithin : ℕ → LineRead → Type 0
@@ -106,29 +106,29 @@ LineWithin most read.Open = ⊤
 LineWithin most (read.Line n size) = (0 < n) × (n ≤ most)
 LineWithin most read.Bad = ⊤
 
-abbrev pub StepWithin : ℕ → Step → Type 0
+abbrev pub StepWithin : ℕ → ChunkStep → Type 0
 StepWithin most (step.On n) = (0 < n) × (n ≤ most)
 StepWithin most (step.Whole n) = (0 < n) × (n ≤ most)
 StepWithin most step.Bad = ⊤
 StepWithin most step.TooLarge = ⊤
 
 -- what some of the rest tells
-abbrev pub StepsTo : ChunkedBody → List ℕ → List ℕ → List ℕ → Step → Type 0
-StepsTo c body text rest (step.On n) = Holds c body text (drop n rest)
+abbrev pub StepsTo : ChunkedBody → List ℕ → List ℕ → List ℕ → ChunkStep → Type 0
+StepsTo c body text rest (step.On n) = HoldsChunked c body text (drop n rest)
 StepsTo c body text rest (step.Whole n) = BeginsChunked text body (drop n rest)
 StepsTo c body text rest step.Bad = IsBadChunk text
 StepsTo c body text rest step.TooLarge = IsTooLarge text
 
 -- a body ends within so many bytes
-abbrev pub FedWithin : ℕ → Fed → Type 0
-FedWithin most fed.Open = ⊤
-FedWithin most (fed.Whole n) = n ≤ most
-FedWithin most fed.Bad = ⊤
-FedWithin most fed.TooLarge = ⊤
+abbrev pub BodyWithin : ℕ → BodyPiece → Type 0
+BodyWithin most fed.Open = ⊤
+BodyWithin most (fed.Whole n) = n ≤ most
+BodyWithin most fed.Bad = ⊤
+BodyWithin most fed.TooLarge = ⊤
 
 -- what all of the rest tells
-abbrev pub Feeds : ChunkedBody → List ℕ → List ℕ → List ℕ → Fed → Type 0
-Feeds c body text rest fed.Open = IsOpenChunked text × Holds c body text []
+abbrev pub Feeds : ChunkedBody → List ℕ → List ℕ → List ℕ → BodyPiece → Type 0
+Feeds c body text rest fed.Open = IsOpenChunked text × HoldsChunked c body text []
 Feeds c body text rest (fed.Whole n) = (0 < n) × (n ≤ length rest) × BeginsChunked text body (drop n rest)
 Feeds c body text rest fed.Bad = IsBadChunk text
 Feeds c body text rest fed.TooLarge = IsTooLarge text

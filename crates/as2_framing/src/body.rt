@@ -1,12 +1,12 @@
 //! A body whose bytes come in any pieces: of a length, or in chunks (RFC 9112, section 6.3).
 ghost use Rattle.std.specs.Prelude.{◌≡◌, List, ℕ, [], length, IfOk};
 ghost use Rattle.as2_framing.specs.BodyPieces.{FeedsBody, HoldsBody};
-ghost use Rattle.as2_framing.specs.ChunkPieces.{FedWithin};
+ghost use Rattle.as2_framing.specs.ChunkPieces.{BodyWithin};
 ghost use Rattle.as2_framing.specs.declared.body.BodyFraming.{BodyFraming as Framing};
 ghost use Rattle.as2_framing.specs.declared.body.BodyFraming.TheVariants as framing;
 ghost use Rattle.as2_framing.specs.declared.body.MissingBody.TheVariants as missing_body;
 
-use crate::chunked::Fed;
+use crate::chunked::BodyPiece;
 use crate::chunked_body::ChunkedBody;
 use as2_mic::Pieces;
 use as2_text::Memory;
@@ -32,8 +32,8 @@ pub enum MissingBody {
 }
 
 /// Takes what is there of so many bytes that are missing.
-fn feed_length(missing: &mut usize, bytes: &[u8], body: &mut Pieces) -> Result<Fed, Memory>
-    ensures within { IfOk result (FedWithin (length bytes.now)) }
+fn feed_length(missing: &mut usize, bytes: &[u8], body: &mut Pieces) -> Result<BodyPiece, Memory>
+    ensures within { IfOk result (BodyWithin (length bytes.now)) }
     ensures fed { IfOk result (λ f. (size : ℕ) (text : List ℕ) → HoldsBody (missing_body.Length missing.old) (framing.Length size) body.old text bytes.now
         → FeedsBody (missing_body.Length missing.old) (missing_body.Length missing.new) (framing.Length size) body.new text bytes.now f) }
 {
@@ -41,9 +41,9 @@ fn feed_length(missing: &mut usize, bytes: &[u8], body: &mut Pieces) -> Result<F
     body.append(&bytes[..used])?;
     *missing -= used;
     if *missing == 0 {
-        Ok(Fed::Whole(used))
+        Ok(BodyPiece::Whole(used))
     } else {
-        Ok(Fed::Open)
+        Ok(BodyPiece::Open)
     }
 }
 
@@ -58,10 +58,10 @@ impl MissingBody {
         }
     }
 
-    /// Takes the next piece, and appends what is of the body: each of its bytes is copied once. Behind the end of the body nothing
-    /// is taken. Memory means that memory for the body wasn't there.
-    pub fn feed(&mut self, bytes: &[u8], body: &mut Pieces) -> Result<Fed, Memory>
-        ensures within { IfOk result (FedWithin (length bytes.now)) }
+    /// Takes the next piece, and appends what is of the body: each of its bytes is appended once. Behind the end of the body nothing
+    /// is taken; behind a fault or Memory nothing more is to be given. Memory means that memory for the body wasn't there.
+    pub fn feed(&mut self, bytes: &[u8], body: &mut Pieces) -> Result<BodyPiece, Memory>
+        ensures within { IfOk result (BodyWithin (length bytes.now)) }
         ensures fed { IfOk result (λ f. (framing : Framing) (text : List ℕ) → HoldsBody self.old framing body.old text bytes.now
             → FeedsBody self.old self.new framing body.new text bytes.now f) }
     {

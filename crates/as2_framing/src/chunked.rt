@@ -1,13 +1,13 @@
 //! A chunked body whose bytes come in any pieces (RFC 9112, section 7.1).
 ghost use Rattle.std.specs.Prelude.{◌≡◌, ◌≤◌, ◌<◌, List, ℕ, [], ◌++◌, length, Ok, IfOk};
 ghost use Rattle.as2_framing.specs.Chunks.{line_limit};
-ghost use Rattle.as2_framing.specs.ChunkPieces.{FedWithin, Feeds, FindsLine, Holds, HoldsAt, HoldsLine, LineWithin, ReadsLine, StepsTo, StepWithin};
+ghost use Rattle.as2_framing.specs.ChunkPieces.{BodyWithin, Feeds, FindsLine, HoldsChunked, HoldsAt, HoldsLine, LineWithin, ReadsLine, StepsTo, StepWithin};
 ghost use Rattle.as2_framing.specs.Places.{GoesOn};
 
 use crate::chunk_line::{LINE_LIMIT, LineRead, read_line};
 use crate::chunked_body::ChunkedBody;
 use crate::head_feed::first;
-use crate::place::Place;
+use crate::place::ChunkPlace;
 use crate::scan::{LineSoFar, Scanned, scan};
 use as2_mic::Pieces;
 use as2_text::Memory;
@@ -23,7 +23,7 @@ pub const BODY_LIMIT: usize = 1_048_576;
 
 /// What some bytes of a piece do.
 #[derive(Clone, Copy, Debug, PartialEq, Eq)]
-pub enum Step {
+pub enum ChunkStep {
     /// So many were taken.
     On(usize),
     /// The body ends with so many.
@@ -36,7 +36,7 @@ pub enum Step {
 
 /// What a piece does to a chunked body.
 #[derive(Clone, Copy, Debug, PartialEq, Eq)]
-pub enum Fed {
+pub enum BodyPiece {
     /// It doesn't end it.
     Open,
     /// So many of its bytes end it.
@@ -66,25 +66,25 @@ fn read_behind(text: &mut Vec<u8>, front: &[u8]) -> Result<LineRead, AllocError>
 }
 
 /// Where a body goes on behind a line that says this size, where so many bytes came before. None where that is too much.
-fn behind_line(size: u64, came: usize) -> Option<Place>
+fn behind_line(size: u64, came: usize) -> Option<ChunkPlace>
     ensures { GoesOn size came result }
 {
     if size == 0 {
-        return Some(Place::Trailer(0, LineSoFar::Nothing));
+        return Some(ChunkPlace::Trailer(0, LineSoFar::Nothing));
     }
     if size > BODY_LIMIT.saturating_sub(came) as u64 {
         return None;
     }
-    Some(Place::Bytes(size as usize))
+    Some(ChunkPlace::Bytes(size as usize))
 }
 
 impl ChunkedBody {
     /// No byte came yet.
     pub fn new(alloc: Global) -> ChunkedBody
-        ensures { (text : List ℕ) → Holds result [] text text }
+        ensures { (text : List ℕ) → HoldsChunked result [] text text }
     {
         ChunkedBody {
-            place: Place::Line,
+            place: ChunkPlace::Line,
             line: Vec::new(alloc),
             alloc,
         }
@@ -109,119 +109,126 @@ impl ChunkedBody {
     }
 
     /// Takes what is there of a chunk line. So many bytes of body came before.
-    fn take_line(&mut self, rest: &[u8], came: usize) -> Result<Step, AllocError>
-        requires place { self.old.place ≡ Place.Line }
+    fn take_line(&mut self, rest: &[u8], came: usize) -> Result<ChunkStep, AllocError>
+        requires place { self.old.place ≡ ChunkPlace.Line }
         requires some { 0 < length rest.now }
         ensures within { IfOk result (StepWithin (length rest.now)) }
         ensures taken { IfOk result (λ s. (body text : List ℕ) → length body ≡ came → HoldsLine self.old.line.items body text rest.now → StepsTo self.new body text rest.now s) }
     {
         match self.find_line(rest)? {
-            LineRead::Open => Ok(Step::On(rest.len())),
-            LineRead::Bad => Ok(Step::Bad),
+            LineRead::Open => Ok(ChunkStep::On(rest.len())),
+            LineRead::Bad => Ok(ChunkStep::Bad),
             LineRead::Line(used, size) => match behind_line(size, came) {
                 Some(place) => {
                     self.place = place;
-                    Ok(Step::On(used))
+                    Ok(ChunkStep::On(used))
                 }
-                None => Ok(Step::TooLarge),
+                None => Ok(ChunkStep::TooLarge),
             },
         }
     }
 
     /// Takes what is there of the bytes of a chunk, of which so many are missing.
-    fn take_bytes(&mut self, missing: usize, rest: &[u8], body: &mut Pieces) -> Result<Step, Memory>
+    fn take_bytes(
+        &mut self,
+        missing: usize,
+        rest: &[u8],
+        body: &mut Pieces,
+    ) -> Result<ChunkStep, Memory>
         requires missing { 0 < missing }
         requires some { 0 < length rest.now }
         ensures within { IfOk result (StepWithin (length rest.now)) }
-        ensures taken { IfOk result (λ s. (text : List ℕ) → HoldsAt (Place.Bytes missing) self.old.line.items body.old text rest.now → StepsTo self.new body.new text rest.now s) }
+        ensures taken { IfOk result (λ s. (text : List ℕ) → HoldsAt (ChunkPlace.Bytes missing) self.old.line.items body.old text rest.now → StepsTo self.new body.new text rest.now s) }
     {
         let used = min(missing, rest.len());
         body.append(&rest[..used])?;
         self.place = if used == missing {
-            Place::Behind
+            ChunkPlace::Behind
         } else {
-            Place::Bytes(missing - used)
+            ChunkPlace::Bytes(missing - used)
         };
-        Ok(Step::On(used))
+        Ok(ChunkStep::On(used))
     }
 
     /// Takes the CR behind a chunk.
-    fn take_return(&mut self, rest: &[u8]) -> Step
+    fn take_return(&mut self, rest: &[u8]) -> ChunkStep
         requires some { 0 < length rest.now }
         ensures within { StepWithin (length rest.now) result }
-        ensures taken { (body text : List ℕ) → HoldsAt Place.Behind self.old.line.items body text rest.now → StepsTo self.new body text rest.now result }
+        ensures taken { (body text : List ℕ) → HoldsAt ChunkPlace.Behind self.old.line.items body text rest.now → StepsTo self.new body text rest.now result }
     {
         if rest[0] != b'\r' {
-            return Step::Bad;
+            return ChunkStep::Bad;
         }
-        self.place = Place::Return;
-        Step::On(1)
+        self.place = ChunkPlace::Return;
+        ChunkStep::On(1)
     }
 
     /// Takes the LF behind that.
-    fn take_feed(&mut self, rest: &[u8]) -> Step
+    fn take_feed(&mut self, rest: &[u8]) -> ChunkStep
         requires some { 0 < length rest.now }
         ensures within { StepWithin (length rest.now) result }
-        ensures taken { (body text : List ℕ) → HoldsAt Place.Return self.old.line.items body text rest.now → StepsTo self.new body text rest.now result }
+        ensures taken { (body text : List ℕ) → HoldsAt ChunkPlace.Return self.old.line.items body text rest.now → StepsTo self.new body text rest.now result }
     {
         if rest[0] != b'\n' {
-            return Step::Bad;
+            return ChunkStep::Bad;
         }
-        self.place = Place::Line;
-        Step::On(1)
+        self.place = ChunkPlace::Line;
+        ChunkStep::On(1)
     }
 
     /// Takes what is there of the trailer.
-    fn take_trailer(&mut self, count: usize, line: LineSoFar, rest: &[u8]) -> Step
+    fn take_trailer(&mut self, count: usize, line: LineSoFar, rest: &[u8]) -> ChunkStep
         requires some { 0 < length rest.now }
         ensures within { StepWithin (length rest.now) result }
-        ensures taken { (body text : List ℕ) → HoldsAt (Place.Trailer count line) self.old.line.items body text rest.now → StepsTo self.new body text rest.now result }
+        ensures taken { (body text : List ℕ) → HoldsAt (ChunkPlace.Trailer count line) self.old.line.items body text rest.now → StepsTo self.new body text rest.now result }
     {
         let room = TRAILER_LIMIT.saturating_sub(count);
         let front = first(rest, room);
         match scan(line, front) {
-            Scanned::Ended(length) => Step::Whole(length),
+            Scanned::Ended(length) => ChunkStep::Whole(length),
             Scanned::Open(line) => {
                 if front.len() + line.missing() > room {
-                    return Step::Bad;
+                    return ChunkStep::Bad;
                 }
-                self.place = Place::Trailer(TRAILER_LIMIT - (room - front.len()), line);
-                Step::On(front.len())
+                self.place = ChunkPlace::Trailer(TRAILER_LIMIT - (room - front.len()), line);
+                ChunkStep::On(front.len())
             }
         }
     }
 
     /// Takes some bytes, one at least.
-    fn step(&mut self, rest: &[u8], body: &mut Pieces) -> Result<Step, Memory>
+    fn step(&mut self, rest: &[u8], body: &mut Pieces) -> Result<ChunkStep, Memory>
         requires some { 0 < length rest.now }
         ensures within { IfOk result (StepWithin (length rest.now)) }
-        ensures taken { IfOk result (λ s. (text : List ℕ) → Holds self.old body.old text rest.now → StepsTo self.new body.new text rest.now s) }
+        ensures taken { IfOk result (λ s. (text : List ℕ) → HoldsChunked self.old body.old text rest.now → StepsTo self.new body.new text rest.now s) }
     {
         match self.place {
-            Place::Line => Ok(self.take_line(rest, body.len())?),
-            Place::Bytes(missing) => self.take_bytes(missing, rest, body),
-            Place::Behind => Ok(self.take_return(rest)),
-            Place::Return => Ok(self.take_feed(rest)),
-            Place::Trailer(count, line) => Ok(self.take_trailer(count, line, rest)),
+            ChunkPlace::Line => Ok(self.take_line(rest, body.len())?),
+            ChunkPlace::Bytes(missing) => self.take_bytes(missing, rest, body),
+            ChunkPlace::Behind => Ok(self.take_return(rest)),
+            ChunkPlace::Return => Ok(self.take_feed(rest)),
+            ChunkPlace::Trailer(count, line) => Ok(self.take_trailer(count, line, rest)),
         }
     }
 
-    /// Takes the next piece, and appends what is of a chunk to the body: each of these bytes is copied once, and no line costs more
-    /// than its bytes while it comes whole. Behind the end of the body nothing is taken. Memory means that memory for the body
-    /// wasn't there.
-    pub fn feed(&mut self, bytes: &[u8], body: &mut Pieces) -> Result<Fed, Memory>
-        ensures within { IfOk result (FedWithin (length bytes.now)) }
-        ensures fed { IfOk result (λ f. (text : List ℕ) → Holds self.old body.old text bytes.now → Feeds self.new body.new text bytes.now f) }
+    /// Takes the next piece, and appends what is of a chunk to the body: each of these bytes is appended once, and no line costs more
+    /// than its bytes while it comes whole. Behind the end of the body nothing is taken; behind a fault or Memory nothing more is to be
+    /// given. Memory means that memory for the body wasn't there.
+    pub fn feed(&mut self, bytes: &[u8], body: &mut Pieces) -> Result<BodyPiece, Memory>
+        ensures within { IfOk result (BodyWithin (length bytes.now)) }
+        ensures fed { IfOk result (λ f. (text : List ℕ) → HoldsChunked self.old body.old text bytes.now → Feeds self.new body.new text bytes.now f) }
     {
         let mut rest = bytes;
         while !rest.is_empty() {
             match self.step(rest, body)? {
-                Step::On(used) => rest = &rest[used..],
-                Step::Whole(used) => return Ok(Fed::Whole(bytes.len() - rest.len() + used)),
-                Step::Bad => return Ok(Fed::Bad),
-                Step::TooLarge => return Ok(Fed::TooLarge),
+                ChunkStep::On(used) => rest = &rest[used..],
+                ChunkStep::Whole(used) => return Ok(BodyPiece::Whole(
+                    bytes.len() - rest.len() + used,
+                )),
+                ChunkStep::Bad => return Ok(BodyPiece::Bad),
+                ChunkStep::TooLarge => return Ok(BodyPiece::TooLarge),
             }
         }
-        Ok(Fed::Open)
+        Ok(BodyPiece::Open)
     }
 }

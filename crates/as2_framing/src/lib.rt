@@ -13,7 +13,7 @@ mod place;
 mod scan;
 
 pub use body::{BodyFraming, MissingBody};
-pub use chunked::{BODY_LIMIT, Fed};
+pub use chunked::{BODY_LIMIT, BodyPiece};
 pub use chunked_body::ChunkedBody;
 pub use head_bytes::{HeadBytes, HeadPiece};
 pub use laws::one_chunked_body;

@@ -3,7 +3,7 @@ use crate::scan::LineSoFar;
 
 /// Where in a chunked body the bytes so far end.
 #[derive(Clone, Copy, Debug, PartialEq, Eq)]
-pub enum Place {
+pub enum ChunkPlace {
     /// In a chunk line, of which all bytes are kept.
     Line,
     /// In the bytes of a chunk, of which so many are missing.

@@ -58,10 +58,13 @@ fn outcome(alloc: Global, pieces: &[&[u8]]) -> Result<Comes, Fail> {
     let mut came = 0usize;
     for piece in pieces {
         match chunked.feed(piece, &mut body)? {
-            Fed::Open => came = came.saturating_add(piece.len()),
-            Fed::Whole(used) => return Ok(Comes::Whole(body.len(), came.saturating_add(used))),
-            Fed::Bad => return Ok(Comes::Bad),
-            Fed::TooLarge => return Ok(Comes::TooLarge),
+            BodyPiece::Open => came = came.saturating_add(piece.len()),
+            BodyPiece::Whole(used) => return Ok(Comes::Whole(
+                body.len(),
+                came.saturating_add(used),
+            )),
+            BodyPiece::Bad => return Ok(Comes::Bad),
+            BodyPiece::TooLarge => return Ok(Comes::TooLarge),
         }
     }
     Ok(Comes::Open(body.len()))
@@ -142,7 +145,9 @@ fn the_bytes_of_all_chunks_are_the_body(rt: HostRuntime) -> Result<(), Fail> {
     let alloc = rt.alloc();
     let mut chunked = ChunkedBody::new(alloc);
     let mut body = Pieces::new(alloc);
-    assert!(rt; chunked.feed(b"3\r\nabc\r\n2\r\nde\r\n0\r\n\r\n", &mut body)? == Fed::Whole(20));
+    assert!(rt;
+        chunked.feed(b"3\r\nabc\r\n2\r\nde\r\n0\r\n\r\n", &mut body)? == BodyPiece::Whole(20)
+    );
     assert!(rt; body.piece(0) == Some(b"abcde".as_slice()));
     assert!(rt; body.piece(1).is_none());
     Ok(())
@@ -154,15 +159,15 @@ fn a_body_of_the_greatest_length(rt: HostRuntime) -> Result<(), Fail> {
     let content = Vec::from_elem(alloc, b'a', 1_048_576)?;
     let mut chunked = ChunkedBody::new(alloc);
     let mut body = Pieces::new(alloc);
-    assert!(rt; chunked.feed(b"100000\r\n", &mut body)? == Fed::Open);
-    assert!(rt; chunked.feed(content.as_slice(), &mut body)? == Fed::Open);
+    assert!(rt; chunked.feed(b"100000\r\n", &mut body)? == BodyPiece::Open);
+    assert!(rt; chunked.feed(content.as_slice(), &mut body)? == BodyPiece::Open);
     assert!(rt; body.len() == 1_048_576);
-    assert!(rt; chunked.feed(b"\r\n0\r\n\r\n", &mut body)? == Fed::Whole(7));
+    assert!(rt; chunked.feed(b"\r\n0\r\n\r\n", &mut body)? == BodyPiece::Whole(7));
     // one byte more
     let mut chunked = ChunkedBody::new(alloc);
     let mut body = Pieces::new(alloc);
-    assert!(rt; chunked.feed(b"100000\r\n", &mut body)? == Fed::Open);
-    assert!(rt; chunked.feed(content.as_slice(), &mut body)? == Fed::Open);
-    assert!(rt; chunked.feed(b"\r\n1\r\n", &mut body)? == Fed::TooLarge);
+    assert!(rt; chunked.feed(b"100000\r\n", &mut body)? == BodyPiece::Open);
+    assert!(rt; chunked.feed(content.as_slice(), &mut body)? == BodyPiece::Open);
+    assert!(rt; chunked.feed(b"\r\n1\r\n", &mut body)? == BodyPiece::TooLarge);
     Ok(())
 }

@@ -85,7 +85,7 @@ body_not_faulty how text body rest TransferCoding b f = f
 body_not_faulty how text body rest BadLength b f = f
 body_not_faulty how text body rest NoLength b f = f
 
-faulty_not_open : (how : BodyFraming) (text : List ℕ) (reason : RequestFault) → IsFaultyBody how text reason → IsOpenBody how text → ⊥
+pub faulty_not_open : (how : BodyFraming) (text : List ℕ) (reason : RequestFault) → IsFaultyBody how text reason → IsOpenBody how text → ⊥
 faulty_not_open how text BadChunk f undecided = open_not_bad how text undecided f
 faulty_not_open how text TooLarge f undecided = open_not_large how text undecided f
 faulty_not_open how text BadHead f undecided = f

@@ -7,8 +7,8 @@ use Rattle.as2_framing.specs.BodyPieces.{FeedsBody, HoldsBody, IsMissing}
 use Rattle.as2_framing.specs.Chunks.{body_limit}
 use Rattle.as2_framing.specs.declared.body.BodyFraming.{BodyFraming}
 use Rattle.as2_framing.specs.declared.body.MissingBody.{MissingBody}
-use Rattle.as2_framing.specs.declared.chunked.Fed.{Fed}
-use Rattle.as2_framing.specs.declared.chunked.Fed.TheVariants as fed
+use Rattle.as2_framing.specs.declared.chunked.BodyPiece.{BodyPiece}
+use Rattle.as2_framing.specs.declared.chunked.BodyPiece.TheVariants as fed
 use Rattle.as2_framing.proofs.Bodies.{body_more, body_open}
 use Rattle.as2_http.specs.AnswerPieces.{JudgesAnswer, AwaitsAnswer, HoldsEnd, IsMissingEnd, HasKeptBy, HasKept}
 use Rattle.as2_http.specs.declared.framing.RequestFault.TheVariants.{BadChunk, TooLarge}
@@ -115,29 +115,29 @@ ends_whole p a text some is h = by_end (to_end a text is (kept_body p a text som
 
 -- ---- a piece more
 
-abbrev Feeding : ReceivedAnswer → ReceivedAnswer → MissingBody → MissingBody → List ℕ → Fed → Type 0
+abbrev Feeding : ReceivedAnswer → ReceivedAnswer → MissingBody → MissingBody → List ℕ → BodyPiece → Type 0
 Feeding old new m n bytes f = (how : BodyFraming) (t : List ℕ) → HoldsBody m how old.body t bytes → FeedsBody m n how new.body t bytes f
 
 -- the answer with the rest of a piece
-abbrev pub FeedsAnswer : ReceivedAnswer → MissingBody → List ℕ → Fed → Type 0
+abbrev pub FeedsAnswer : ReceivedAnswer → MissingBody → List ℕ → BodyPiece → Type 0
 FeedsAnswer r n text fed.Open = IsMissing n × AwaitsAnswer (record { answer = r; missing = missing.Body n }) text []
 FeedsAnswer r n text (fed.Whole used) = (rest : List ℕ) × BeginsAnswer text r.status r.fields r.body rest
 FeedsAnswer r n text fed.Bad = IsNoAnswer text
 FeedsAnswer r n text fed.TooLarge = IsNoAnswer text
 
-feeds_framed : (old new : ReceivedAnswer) (m n : MissingBody) (text after bytes : List ℕ) (how : BodyFraming) (f : Fed) → FramesAnswer text new.status new.fields after (Some (Framing how)) → FeedsBody m n how new.body after bytes f
+feeds_framed : (old new : ReceivedAnswer) (m n : MissingBody) (text after bytes : List ℕ) (how : BodyFraming) (f : BodyPiece) → FramesAnswer text new.status new.fields after (Some (Framing how)) → FeedsBody m n how new.body after bytes f
     → FeedsAnswer new n text f
 feeds_framed old new m n text after bytes how fed.Open frames k = (k.0, record { after = after; end = Framing how; frames = frames; holds = k.2 })
 feeds_framed old new m n text after bytes how (fed.Whole used) frames k = (drop used bytes, record { after = after; how = how; frames = frames; begins = k.2 })
 feeds_framed old new m n text after bytes how fed.Bad frames k = faulty_body new.status new.fields after how BadChunk frames k
 feeds_framed old new m n text after bytes how fed.TooLarge frames k = faulty_body new.status new.fields after how TooLarge frames k
 
-feeds_end : (old new : ReceivedAnswer) (m n : MissingBody) (text after bytes : List ℕ) (end : BodyEnd) (f : Fed) → Feeding old new m n bytes f → FramesAnswer text new.status new.fields after (Some end)
+feeds_end : (old new : ReceivedAnswer) (m n : MissingBody) (text after bytes : List ℕ) (end : BodyEnd) (f : BodyPiece) → Feeding old new m n bytes f → FramesAnswer text new.status new.fields after (Some end)
     → HoldsEnd (missing.Body m) end old.body after bytes → FeedsAnswer new n text f
 feeds_end old new m n text after bytes (Framing how) f feeds frames h = feeds_framed old new m n text after bytes how f frames (feeds how after h)
 feeds_end old new m n text after bytes WithInput f feeds frames h = absurd h
 
-pub feeds_answer : (old new : ReceivedAnswer) (m n : MissingBody) (text bytes : List ℕ) (f g : Fed) → f ≡ g → new.status ≡ old.status → new.fields ≡ old.fields → Feeding old new m n bytes f
+pub feeds_answer : (old new : ReceivedAnswer) (m n : MissingBody) (text bytes : List ℕ) (f g : BodyPiece) → f ≡ g → new.status ≡ old.status → new.fields ≡ old.fields → Feeding old new m n bytes f
     → AwaitsAnswer (record { answer = old; missing = missing.Body m }) text bytes → FeedsAnswer new n text g
 feeds_answer old new m n text bytes f g is status fields feeds w =
     subst (FeedsAnswer new n text) is

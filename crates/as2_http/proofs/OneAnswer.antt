@@ -1,18 +1,20 @@
 -- An input holds one answer at most.
-use Rattle.std.proofs.Common.{◌≡◌, ℕ, ◌≤◌, List, [], length, map, Option, Some, None, sym, ap, ◌∙◌, subst, arith}
+use Rattle.std.proofs.Common.{◌≡◌, ℕ, ◌≤◌, List, [], length, map, Option, Some, None, sym, ap, ◌∙◌, subst, arith, inl, inr}
 use Rattle.httparse.specs.Grammar.{ResponseHead, status_code}
 use Rattle.httparse.specs.Spans.{name_and_value}
 use Rattle.httparse.proofs.GrammarLemmas.{response_unique}
-use Rattle.as2_http.specs.Answering.{IsAnswerHead, body_end, FramesAnswer, BeginsAnswer, AnswerIn, by_length, by_end, too_long, no_head, no_body, too_large, faulty_body}
-use Rattle.as2_http.specs.AnswerLaws.{HoldsOneAnswer, NeverAnswers}
+use Rattle.as2_http.specs.Answering.{IsAnswerHead, body_end, FramesAnswer, BeginsAnswer, AnswerIn, by_length, by_end, in_head, in_body, too_long, no_head, no_body, too_large, faulty_body}
+use Rattle.as2_http.specs.AnswerLaws.{HoldsOneAnswer, NeverAnswers, NeverOpensAnswers, NeverOpensNone}
 use Rattle.as2_framing.specs.Bodies.{BeginsBody}
 use Rattle.as2_framing.specs.Chunks.{body_limit}
 use Rattle.as2_framing.specs.declared.body.BodyFraming.{BodyFraming}
-use Rattle.as2_framing.proofs.Bodies.{one_body}
+use Rattle.as2_framing.proofs.Bodies.{body_not_open, one_body}
+use Rattle.as2_framing.specs.HeadText.{HasHeadText, HasNoHeadText}
+use Rattle.as2_http.specs.Framing.{IsFaultyBody}
 use Rattle.as2_http.specs.Requests.{Fields, appended}
 use Rattle.as2_http.specs.declared.answer_head.BodyEnd.{BodyEnd}
 use Rattle.as2_http.specs.declared.answer_head.BodyEnd.TheVariants.{Framing, WithInput}
-use Rattle.as2_http.proofs.Alone.{body_not_faulty, one_head_text, there}
+use Rattle.as2_http.proofs.Alone.{body_not_faulty, faulty_not_open, one_head_text, there}
 
 one_head : (bytes : List ℕ) (h k : ResponseHead) (fields others : Fields) → IsAnswerHead bytes h fields → IsAnswerHead bytes k others → (h ≡ k) × (fields ≡ others)
 one_head bytes h k fields others x y =
@@ -83,3 +85,44 @@ never_answers input s f b (faulty_body t g after how reason frames faulty) a =
     let same : w.end ≡ Framing how = cc e.3 in
     let at : HasBody (Framing how) after b = subst (λ (t : List ℕ). HasBody (Framing how) t b) e.2 (subst (λ (x : BodyEnd). HasBody x w.after b) same w.body) in
     body_not_faulty how after b at.0 reason at.1 faulty
+
+-- ---- what is awaited
+
+unframed : (text : List ℕ) (s : ℕ) (f : Fields) (after : List ℕ) (end : Option BodyEnd) → FramesAnswer text s f after end → HasNoHeadText text → ⊥
+unframed text s f after end w none = absurd (cc (sym w.found.0 ∙ none))
+
+-- bytes that are no head are the bytes of no frame
+no_frame : (text bytes after : List ℕ) → HasHeadText text bytes after → ((head : ResponseHead) (fields : Fields) → ¬ (IsAnswerHead bytes head fields)) → (s : ℕ) (f : Fields) (x : List ℕ) (end : Option BodyEnd) → FramesAnswer text s f x end → ⊥
+no_frame text bytes after found never s f x end w =
+    let at = one_head_text text w.bytes bytes x after w.found found in never w.head f (subst (λ (t : List ℕ). IsAnswerHead t w.head f) at.0 w.reads)
+
+pub never_opens_answers : NeverOpensAnswers
+never_opens_answers text s f body rest b (inl (in_head none short)) = unframed text s f b.after (Some (Framing b.how)) b.frames none
+never_opens_answers text s f body rest b (inl (in_body t g after how frames undecided)) =
+    let e = one_frame text s t f g b.after after (Some (Framing b.how)) (Some (Framing how)) b.frames frames in
+    body_not_open how after body rest (there b.how how b.after after (λ (h : BodyFraming) (u : List ℕ). BeginsBody h u body rest) (cc e.3) e.2 b.begins) undecided
+never_opens_answers text s f body rest b (inr w) =
+    let e = one_frame text s w.0 f w.1 b.after w.2 (Some (Framing b.how)) (Some WithInput) b.frames w.3.frames in absurd (cc e.3)
+
+pub never_opens_none : NeverOpensNone
+never_opens_none text (too_long none long) (inl (in_head other short)) = absurd (omega (arith, long, short))
+never_opens_none text (too_long none long) (inl (in_body t g after how frames undecided)) = unframed text t g after (Some (Framing how)) frames none
+never_opens_none text (too_long none long) (inr w) = unframed text w.0 w.1 w.2 (Some WithInput) w.3.frames none
+never_opens_none text (no_head bytes after found never) (inl (in_head none short)) = absurd (cc (sym found.0 ∙ none))
+never_opens_none text (no_head bytes after found never) (inl (in_body t g x how frames undecided)) = no_frame text bytes after found never t g x (Some (Framing how)) frames
+never_opens_none text (no_head bytes after found never) (inr w) = no_frame text bytes after found never w.0 w.1 w.2 (Some WithInput) w.3.frames
+never_opens_none text (no_body s f after frames) (inl (in_head none short)) = unframed text s f after None frames none
+never_opens_none text (no_body s f after frames) (inl (in_body t g x how others undecided)) =
+    let e = one_frame text s t f g after x None (Some (Framing how)) frames others in absurd (cc e.3)
+never_opens_none text (no_body s f after frames) (inr w) = let e = one_frame text s w.0 f w.1 after w.2 None (Some WithInput) frames w.3.frames in absurd (cc e.3)
+never_opens_none text (too_large s f after frames large) (inl (in_head none short)) = unframed text s f after (Some WithInput) frames none
+never_opens_none text (too_large s f after frames large) (inl (in_body t g x how others undecided)) =
+    let e = one_frame text s t f g after x (Some WithInput) (Some (Framing how)) frames others in absurd (cc e.3)
+never_opens_none text (too_large s f after frames large) (inr w) =
+    let e = one_frame text s w.0 f w.1 after w.2 (Some WithInput) (Some WithInput) frames w.3.frames in absurd (omega (arith, large, w.3.short, ap length e.2))
+never_opens_none text (faulty_body s f after how reason frames faulty) (inl (in_head none short)) = unframed text s f after (Some (Framing how)) frames none
+never_opens_none text (faulty_body s f after how reason frames faulty) (inl (in_body t g x other others undecided)) =
+    let e = one_frame text s t f g after x (Some (Framing how)) (Some (Framing other)) frames others in
+    faulty_not_open other x reason (there how other after x (λ (h : BodyFraming) (u : List ℕ). IsFaultyBody h u reason) (cc e.3) e.2 faulty) undecided
+never_opens_none text (faulty_body s f after how reason frames faulty) (inr w) =
+    let e = one_frame text s w.0 f w.1 after w.2 (Some (Framing how)) (Some WithInput) frames w.3.frames in absurd (cc e.3)

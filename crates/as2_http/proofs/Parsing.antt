@@ -6,8 +6,8 @@ use Rattle.as2_framing.specs.HeadText.{unblank, up_to_empty_line, window, HasHea
 use Rattle.as2_framing.specs.HeadPieces.{HoldsHead}
 use Rattle.as2_framing.specs.declared.body.BodyFraming.{BodyFraming}
 use Rattle.as2_framing.specs.BodyPieces.{FeedsBody, HoldsBody, IsMissing}
-use Rattle.as2_framing.specs.declared.chunked.Fed.{Fed}
-use Rattle.as2_framing.specs.declared.chunked.Fed.TheVariants as fed
+use Rattle.as2_framing.specs.declared.chunked.BodyPiece.{BodyPiece}
+use Rattle.as2_framing.specs.declared.chunked.BodyPiece.TheVariants as fed
 use Rattle.as2_framing.proofs.Bodies.{body_more, body_open}
 use Rattle.as2_framing.specs.declared.body.MissingBody.{MissingBody}
 use Rattle.as2_http.specs.Parsing.{Awaits, FeedsRequest, RefusesHead, HasTakenBy, HasTaken, Framed, EndsRequest, TellsBlank}
@@ -88,7 +88,7 @@ awaits_more a text more w = record {
 }
 
 -- the rest of a piece
-pub feeds_request : (old new : Awaited) (text rest : List ℕ) (f : Fed) → new.request.fields ≡ old.request.fields → new.request.method ≡ old.request.method → new.request.target ≡ old.request.target → new.request.last ≡ old.request.last
+pub feeds_request : (old new : Awaited) (text rest : List ℕ) (f : BodyPiece) → new.request.fields ≡ old.request.fields → new.request.method ≡ old.request.method → new.request.target ≡ old.request.target → new.request.last ≡ old.request.last
     → ((how : BodyFraming) (t : List ℕ) → HoldsBody old.missing how old.request.body t rest → FeedsBody old.missing new.missing how new.request.body t rest f) → Awaits old text rest → FeedsRequest old new text rest f
 feeds_request old new text rest fed.Open fields method target last feeds w =
     let k = feeds w.how w.after w.holds in (
@@ -126,12 +126,12 @@ feeds_request old new text rest fed.TooLarge fields method target last feeds w =
     faulty_body w.head old.request.fields w.after w.how w.frames (feeds w.how w.after w.holds) (ap is_head (method ∙ w.method))
 
 -- the same of a piece behind its front
-pub fed_as : (old new : Awaited) (bytes : List ℕ) (from : ℕ) (f g : Fed) → f ≡ g → ((text : List ℕ) → Awaits old text (take (length bytes - from) (drop from bytes)) → FeedsRequest old new text (take (length bytes - from) (drop from bytes)) f)
+pub fed_as : (old new : Awaited) (bytes : List ℕ) (from : ℕ) (f g : BodyPiece) → f ≡ g → ((text : List ℕ) → Awaits old text (take (length bytes - from) (drop from bytes)) → FeedsRequest old new text (take (length bytes - from) (drop from bytes)) f)
     → (text : List ℕ) → Awaits old text (drop from bytes) → FeedsRequest old new text (drop from bytes) g
 fed_as old new bytes from f g is feeds text w =
-    subst (λ (x : Fed). FeedsRequest old new text (drop from bytes) x) is (subst (λ (rest : List ℕ). (t : List ℕ) → Awaits old t rest → FeedsRequest old new t rest f) (rest_of from bytes) feeds text w)
+    subst (λ (x : BodyPiece). FeedsRequest old new text (drop from bytes) x) is (subst (λ (rest : List ℕ). (t : List ℕ) → Awaits old t rest → FeedsRequest old new t rest f) (rest_of from bytes) feeds text w)
 
-pub awaited_fed : {E : Type 0} (old new : Awaited) (rest : List ℕ) (r : Result Fed E) → new.request.fields ≡ old.request.fields → new.request.method ≡ old.request.method → new.request.target ≡ old.request.target → new.request.last ≡ old.request.last
+pub awaited_fed : {E : Type 0} (old new : Awaited) (rest : List ℕ) (r : Result BodyPiece E) → new.request.fields ≡ old.request.fields → new.request.method ≡ old.request.method → new.request.target ≡ old.request.target → new.request.last ≡ old.request.last
     → IfOk r (λ f. (how : BodyFraming) (t : List ℕ) → HoldsBody old.missing how old.request.body t rest → FeedsBody old.missing new.missing how new.request.body t rest f)
     → IfOk r (λ f. (text : List ℕ) → Awaits old text rest → FeedsRequest old new text rest f)
 awaited_fed old new rest (Ok f) fields method target last feeds = λ text w. feeds_request old new text rest f fields method target last feeds w

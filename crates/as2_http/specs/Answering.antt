@@ -24,12 +24,12 @@ IsAnswerHead bytes head fields = ReadsResponse bytes head [] × (appended [] (ma
 
 -- ---- where the body ends (RFC 9112, section 6.3)
 
--- where the head says, if that can be read
+-- where a body ends: where the head says, if that can be read
 abbrev pub end_framed : Result BodyFraming RequestFault → Option BodyEnd
 end_framed (Ok how) = Some (Framing how)
 end_framed (Err fault) = None
 
--- by the values of Content-Length; without one, with the input
+-- where a body ends, by the values of Content-Length; without one, with the input
 abbrev pub end_by_lengths : List (List ℕ) → Option BodyEnd
 end_by_lengths [] = Some WithInput
 end_by_lengths (value ∷ []) = end_framed (content_length value)
@@ -39,12 +39,12 @@ end_by_lengths (value ∷ other ∷ others) = None
 abbrev pub has_no_body : ℕ → Bool
 has_no_body status = status == 204 || status == 304
 
--- by the framing that one transfer coding gives, unless the status says that there is none
+-- where a body ends, by the framing that one transfer coding gives, unless the status says that there is none
 abbrev pub end_by_coding : ℕ → Result BodyFraming RequestFault → Option BodyEnd
 end_by_coding status (Ok how) = if has_no_body status then Some (Framing (Length 0)) else Some (Framing how)
 end_by_coding status (Err fault) = None
 
--- by the status, the version and the values of Transfer-Encoding and of Content-Length
+-- where a body ends, by the status, the version and the values of Transfer-Encoding and of Content-Length
 abbrev pub end_by_status : ℕ → ℕ → List (List ℕ) → List (List ℕ) → Option BodyEnd
 end_by_status status minor [] lengths = if has_no_body status then Some (Framing (Length 0)) else end_by_lengths lengths
 end_by_status status minor (coding ∷ []) lengths = end_by_coding status (coded_framing (is_chunked minor coding) lengths)

@@ -10,7 +10,7 @@ use Rattle.as2_framing.specs.declared.body.BodyFraming.TheVariants.{Length, Chun
 use Rattle.as2_http.specs.declared.framing.RequestFault.{RequestFault}
 use Rattle.as2_http.specs.declared.framing.RequestFault.TheVariants.{BadLength, TooLarge, TransferCoding, BadChunk}
 
--- by the number of bytes that one Content-Length says (RFC 9110, section 8.6)
+-- how a body ends, by the number of bytes that one Content-Length says (RFC 9110, section 8.6)
 abbrev pub content_length : List ℕ → Result BodyFraming RequestFault
 content_length value =
     if is_number value then (if nat_le (digits_value 10 value) body_limit then Ok (Length (digits_value 10 value)) else Err TooLarge)
@@ -20,7 +20,7 @@ content_length value =
 abbrev pub is_chunked : ℕ → List ℕ → Bool
 is_chunked minor coding = minor == 1 && is_word coding (codes "chunked")
 
--- by that, and by the values of Content-Length, which may not stand beside it (RFC 9112, section 6.3)
+-- how a body ends, by whether that is so, and by the values of Content-Length, which may not stand beside it (RFC 9112, section 6.3)
 abbrev pub coded_framing : Bool → List (List ℕ) → Result BodyFraming RequestFault
 coded_framing false lengths = Err TransferCoding
 coded_framing true [] = Ok Chunked

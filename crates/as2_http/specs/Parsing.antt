@@ -2,8 +2,8 @@
 use Rattle.std.specs.Prelude.{◌≡◌, ℕ, ◌<◌, ◌≤◌, Bool, true, false, List, [], ◌++◌, length, drop, Option, Some, None, Ok, ⊤}
 use Rattle.as2_framing.specs.BodyPieces.{HoldsBody, IsMissing}
 use Rattle.as2_framing.specs.declared.body.BodyFraming.{BodyFraming}
-use Rattle.as2_framing.specs.declared.chunked.Fed.{Fed}
-use Rattle.as2_framing.specs.declared.chunked.Fed.TheVariants as fed
+use Rattle.as2_framing.specs.declared.chunked.BodyPiece.{BodyPiece}
+use Rattle.as2_framing.specs.declared.chunked.BodyPiece.TheVariants as fed
 use Rattle.httparse.specs.Grammar.{RequestHead}
 use Rattle.as2_framing.specs.HeadText.{unblank, HasHeadText}
 use Rattle.as2_framing.specs.HeadPieces.{HoldsHead}
@@ -41,7 +41,7 @@ abbrev pub refused_for : RequestFault → Awaited → Refused
 refused_for reason a = record { reason = reason; to_head = is_head a.request.method }
 
 -- what all of the rest tells of a request that is awaited
-abbrev pub FeedsRequest : Awaited → Awaited → List ℕ → List ℕ → Fed → Type 0
+abbrev pub FeedsRequest : Awaited → Awaited → List ℕ → List ℕ → BodyPiece → Type 0
 FeedsRequest old new text rest fed.Open = IsMissing new.missing × IsOpen text × Awaits new text []
 FeedsRequest old new text rest (fed.Whole n) = (IsMissing old.missing → 0 < n) × (n ≤ length rest) × Begins text new.request (drop n rest)
 FeedsRequest old new text rest fed.Bad = IsRefused text (refused_for BadChunk new)

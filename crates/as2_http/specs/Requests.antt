@@ -55,7 +55,7 @@ framing_by_lengths method.Other [] = Ok (Length 0)
 framing_by_lengths m (value ∷ []) = content_length value
 framing_by_lengths m (value ∷ other ∷ others) = Err BadLength
 
--- .. and any body, by the version and the values of Transfer-Encoding too
+-- how any body ends, by the version and the values of Transfer-Encoding too
 abbrev pub framing_by : ℕ → Method → List (List ℕ) → List (List ℕ) → Result BodyFraming RequestFault
 framing_by minor m [] lengths = framing_by_lengths m lengths
 framing_by minor m (coding ∷ []) lengths = coded_framing (is_chunked minor coding) lengths

@@ -5,7 +5,7 @@ ghost use Rattle.as2_http.specs.AnswerPieces.{AwaitsAnswer, EndsAnswer, HasKept,
 
 use crate::answer_head::{BodyEnd, JudgedAnswer, judge_answer};
 use crate::request::NotJudged;
-use as2_framing::{BODY_LIMIT, Fed, HeadBytes, HeadPiece, MissingBody};
+use as2_framing::{BODY_LIMIT, BodyPiece, HeadBytes, HeadPiece, MissingBody};
 use as2_mic::Pieces;
 use as2_text::{Head, Memory};
 use std::alloc::Global;
@@ -80,12 +80,12 @@ fn take_framed(answer: ReceivedAnswer, missing: MissingBody, bytes: &[u8]) -> Re
     let mut answer = answer;
     let mut missing = missing;
     match missing.feed(bytes, &mut answer.body)? {
-        Fed::Open => Ok(Taken::Open(AwaitedAnswer {
+        BodyPiece::Open => Ok(Taken::Open(AwaitedAnswer {
             answer,
             missing: MissingEnd::Body(missing),
         })),
-        Fed::Whole(_) => Ok(Taken::Whole(answer)),
-        Fed::Bad | Fed::TooLarge => Ok(Taken::NoAnswer),
+        BodyPiece::Whole(_) => Ok(Taken::Whole(answer)),
+        BodyPiece::Bad | BodyPiece::TooLarge => Ok(Taken::NoAnswer),
     }
 }
 

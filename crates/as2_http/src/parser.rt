@@ -1,13 +1,13 @@
 //! The request that bytes begin with which come in any pieces (RFC 9112, section 2.1). No reader is known here.
 ghost use Rattle.std.specs.Prelude.{◌≡◌, ◌≤◌, List, ℕ, [], ◌++◌, length, drop, None, IfOk, IfErr};
 ghost use Rattle.as2_framing.specs.HeadText.{HasHeadText};
-ghost use Rattle.as2_framing.specs.ChunkPieces.{FedWithin};
+ghost use Rattle.as2_framing.specs.ChunkPieces.{BodyWithin};
 ghost use Rattle.as2_framing.specs.HeadPieces.{EndsHead};
 ghost use Rattle.as2_http.specs.Parsing.{Awaits, FeedsRequest, Framed, HasTaken, RefusesHead, Parses, TellsBlank, refused_for};
 
 use crate::framing::{Refused, RequestFault};
 use crate::request::{NotJudged, Request, judge};
-use as2_framing::{Fed, HeadBytes, HeadPiece, MissingBody};
+use as2_framing::{BodyPiece, HeadBytes, HeadPiece, MissingBody};
 use as2_mic::Pieces;
 use as2_text::Memory;
 use std::alloc::Global;
@@ -76,8 +76,8 @@ fn read_head(alloc: Global, head: &[u8]) -> Result<Awaited, NotAwaited>
 
 impl Awaited {
     /// Takes what is there of the body.
-    fn feed(&mut self, rest: &[u8]) -> Result<Fed, Memory>
-        ensures within { IfOk result (FedWithin (length rest.now)) }
+    fn feed(&mut self, rest: &[u8]) -> Result<BodyPiece, Memory>
+        ensures within { IfOk result (BodyWithin (length rest.now)) }
         ensures fed { IfOk result (λ f. (text : List ℕ) → Awaits self.old text rest.now → FeedsRequest self.old self.new text rest.now f) }
     {
         self.missing.feed(rest, &mut self.request.body)
@@ -122,13 +122,13 @@ impl RequestParser {
     {
         let mut awaited = awaited;
         match awaited.feed(&bytes[from..])? {
-            Fed::Open => {
+            BodyPiece::Open => {
                 self.awaited = Some(awaited);
                 Ok(Parsed::Open)
             }
-            Fed::Whole(used) => Ok(Parsed::Request(awaited.request, from + used)),
-            Fed::Bad => Ok(Parsed::Refused(awaited.refused(RequestFault::BadChunk))),
-            Fed::TooLarge => Ok(Parsed::Refused(awaited.refused(RequestFault::TooLarge))),
+            BodyPiece::Whole(used) => Ok(Parsed::Request(awaited.request, from + used)),
+            BodyPiece::Bad => Ok(Parsed::Refused(awaited.refused(RequestFault::BadChunk))),
+            BodyPiece::TooLarge => Ok(Parsed::Refused(awaited.refused(RequestFault::TooLarge))),
         }
     }
 

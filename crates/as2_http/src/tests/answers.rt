@@ -132,7 +132,7 @@ fn said_in(
 const CHUNKED: &str = "HTTP/1.1 200 OK\r\nTransfer-Encoding: chunked\r\n\r\n3\r\nabc\r\n0\r\n\r\n";
 
 // A text, what it says, and how many reads of one byte that takes.
-static CASES: [(&str, Said, usize); 35] = [
+static CASES: [(&str, Said, usize); 36] = [
     (
         "HTTP/1.1 200 OK\r\nContent-Length: 3\r\n\r\nabc",
         Some((200, 1, 3)),
@@ -215,6 +215,11 @@ static CASES: [(&str, Said, usize); 35] = [
         "HTTP/1.1 200 OK\r\nTransfer-Encoding: chunked\r\nTransfer-Encoding: chunked\r\n\r\n",
         None,
         75,
+    ),
+    (
+        "HTTP/1.1 200 OK\r\nTransfer-Encoding: chunked\r\n\r\ng\r\n",
+        None,
+        48,
     ),
     (
         "HTTP/1.1 200 OK\r\nTransfer-Encoding: chunked\r\n\r\n2\r\nabc",
@@ -334,6 +339,8 @@ const TO_END: &str = "HTTP/1.1 200 OK\r\n\r\n";
 
 const OF_LENGTH: &str = "HTTP/1.1 200 OK\r\nContent-Length: 1048576\r\n\r\n";
 
+const IN_CHUNKS: &str = "HTTP/1.1 200 OK\r\nTransfer-Encoding: chunked\r\n\r\n3;";
+
 const FIELD: &str = "HTTP/1.1 204 \r\nA: ";
 
 const OF_ALL_READS: &str = "HTTP/1.1 200 OK\r\nContent-Length: 99958\r\n\r\n";
@@ -341,7 +348,7 @@ const OF_ALL_READS: &str = "HTTP/1.1 200 OK\r\nContent-Length: 99958\r\n\r\n";
 const OF_MORE_READS: &str = "HTTP/1.1 200 OK\r\nContent-Length: 99959\r\n\r\n";
 
 // A start, how many bytes it is filled up to, an end, in which steps, what all that says, and how many reads it takes.
-static LIMITS: [(&str, usize, &str, usize, Said, usize); 8] = [
+static LIMITS: [(&str, usize, &str, usize, Said, usize); 10] = [
     // Bodies of 1,048,576 bytes, and of one more.
     (TO_END, 1_048_595, "", 65_536, Some((200, 0, 1_048_576)), 18),
     (TO_END, 1_048_596, "", 65_536, None, 17),
@@ -357,6 +364,16 @@ static LIMITS: [(&str, usize, &str, usize, Said, usize); 8] = [
     // Heads of 16,384 bytes, and of one more.
     (FIELD, 16_380, "\r\n\r\n", 65_536, Some((204, 1, 0)), 1),
     (FIELD, 16_381, "\r\n\r\n", 65_536, None, 1),
+    // Chunk lines of 1,024 bytes, and of one more.
+    (
+        IN_CHUNKS,
+        1_069,
+        "\r\nabc\r\n0\r\n\r\n",
+        65_536,
+        Some((200, 1, 3)),
+        1,
+    ),
+    (IN_CHUNKS, 1_070, "\r\n", 65_536, None, 1),
     // Bodies that end with the 100,000th read of one byte, and with the one behind it.
     (
         OF_ALL_READS,

@@ -1,8 +1,9 @@
 //! Streams that are cut or broken at each place.
 use super::memory::{Calls, Fault, Input, Paper};
 use super::served::Fixture;
-use super::{POST_TEXT, RECEIPT_TEXT};
-use crate::texts::joined;
+use super::streams::{BAD_CHUNK, TOO_LARGE};
+use super::{POST, POST_TEXT, RECEIPT_TEXT};
+use crate::texts::{Change, joined};
 use as2_http::Served;
 use std::alloc::{AllocError, Global};
 use std::test::Fail;
@@ -149,5 +150,58 @@ fn each_write_fails(rt: HostRuntime) -> Result<(), Fail> {
             )
         );
     }
+    Ok(())
+}
+
+/// The plain post in chunks of which one is bad, or too large, and what it gets.
+static FAULTY: &[(&[Change], &str)] = &[
+    (
+        &[(
+            "Content-Length: 3\r\n\r\nabc",
+            "Transfer-Encoding: chunked\r\n\r\n2\r\nabc\r\n0\r\n\r\n",
+        )],
+        BAD_CHUNK,
+    ),
+    (
+        &[(
+            "Content-Length: 3\r\n\r\nabc",
+            "Transfer-Encoding: chunked\r\n\r\n1\r\na\r\n100000\r\n",
+        )],
+        TOO_LARGE,
+    ),
+];
+
+/// The post by its length, behind them, is the first of its identifier.
+#[test]
+fn a_faulty_body_adds_no_entry(rt: HostRuntime) -> Result<(), Fail> {
+    let mut fixture = Fixture::new(rt.alloc())?;
+    let calls = (Calls::ALL, Calls::ALL);
+    for (changes, reply) in FAULTY {
+        let text = POST.with(changes).made(rt.alloc())?;
+        let parts = cut_at(rt.alloc(), text.as_str(), text.len())?;
+        let output = reply.as_bytes();
+        assert!(rt;
+            comes_to(
+                rt.alloc(),
+                &mut fixture,
+                &parts,
+                calls,
+                Served::BadFraming,
+                output
+            )
+        );
+    }
+    let parts = cut_at(rt.alloc(), POST_TEXT, POST_TEXT.len())?;
+    let output = RECEIPT_TEXT.as_bytes();
+    assert!(rt;
+        comes_to(
+            rt.alloc(),
+            &mut fixture,
+            &parts,
+            calls,
+            Served::Closed,
+            output
+        )
+    );
     Ok(())
 }

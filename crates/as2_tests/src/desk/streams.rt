@@ -60,7 +60,7 @@ length required
 ";
 
 /// A body over its limit.
-const TOO_LARGE: &str = "\
+pub(super) const TOO_LARGE: &str = "\
 HTTP/1.1 413 Payload Too Large\r
 Date: Thu, 01 Jan 1970 00:16:40 GMT\r
 Connection: close\r
@@ -82,7 +82,7 @@ bad Content-Length
 ";
 
 /// A chunked body that is none.
-const BAD_CHUNK: &str = "\
+pub(super) const BAD_CHUNK: &str = "\
 HTTP/1.1 400 Bad Request\r
 Date: Thu, 01 Jan 1970 00:16:40 GMT\r
 Connection: close\r

@@ -1,5 +1,5 @@
 use Rattle.std.proofs.Common.{rules}
-use Rattle.as2_framing.specs.declared.chunked.Step.TheVariants.{Bad}
+use Rattle.as2_framing.specs.declared.chunked.ChunkStep.TheVariants.{Bad}
 use Rattle.as2_framing.proofs.ChunkLines.{nil_of}
 use Rattle.as2_framing.proofs.Chunking.{all_taken, stepped_as}
 use Rattle.as2_framing.proofs.chunked_body.ChunkedBody.feed.Goals as goal
