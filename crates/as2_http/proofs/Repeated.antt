@@ -1,16 +1,15 @@
 -- What a run of the machine says, of streams.
-use Rattle.std.proofs.Common.{◌≡◌, ℕ, List, ◌++◌, Option, Some, map, sym, ap, ◌∙◌, subst}
+use Rattle.std.proofs.Common.{◌≡◌, ℕ, List, Option, Some, map, sym, ap, ◌∙◌, subst}
 use Rattle.as2_agreement.specs.Agreements.{AgreedValues}
 use Rattle.as2_exchange.proofs.Repeats.{repeat_law}
-use Rattle.as2_exchange.proofs.Runs.{law}
-use Rattle.as2_exchange.specs.State.{State, empty, lasting}
+use Rattle.as2_exchange.specs.State.{State, lasting}
 use Rattle.as2_exchange.specs.Step.{step}
 use Rattle.as2_exchange.specs.declared.answer.Answer.{Answer}
 use Rattle.as2_exchange.specs.declared.answer.Answer.TheVariants.{Http}
 use Rattle.as2_exchange.specs.declared.answer.HttpAnswer.{HttpAnswer}
 use Rattle.as2_exchange.specs.declared.event.Event.TheVariants as event
 use Rattle.as2_http.specs.Responses.{RespondsTo, Responds, Takes, Unsaid, post_event}
-use Rattle.as2_http.specs.StreamLaws.{IsSound, RepeatsGetTheSame, StreamsKeepHistory}
+use Rattle.as2_http.specs.StreamLaws.{IsSound, RepeatsGetTheSame}
 use Rattle.as2_http.specs.declared.framing.Method.{Method}
 use Rattle.as2_http.specs.declared.framing.Method.TheVariants.{Post}
 use Rattle.as2_http.specs.declared.framing.Target.{Target}
@@ -18,7 +17,6 @@ use Rattle.as2_http.specs.declared.framing.Target.TheVariants.{Station}
 use Rattle.as2_http.specs.declared.request.Request.{Request}
 use Rattle.as2_http.specs.declared.response.Response.{Response}
 use Rattle.as2_http.specs.declared.response.Response.TheVariants.{Answered, Failed, OnlyPost, NoPath}
-use Rattle.as2_http.proofs.Serving.{run_then}
 
 -- ---- one answer
 
@@ -30,11 +28,6 @@ answers_once a b e = cc
 
 pub steps_once : (came : Option (Answer × State)) (a b : HttpAnswer) (t u : State) → came ≡ Some (Http a, t) → came ≡ Some (Http b, u) → (Answered a ≡ Answered b) × (t ≡ u)
 steps_once came a b t u x y = let both = some_once (Http a, t) (Http b, u) (sym x ∙ y) in (answers_once a b (ap (λ p. p.0) both), ap (λ p. p.1) both)
-
--- ---- the history
-
-pub streams_keep_history : StreamsKeepHistory
-streams_keep_history A first moment earlier s t run ran k = law A first (earlier ++ ran.trace) t (run_then A (empty first) s t earlier ran.trace run ran.run) k
 
 -- ---- repeats
 

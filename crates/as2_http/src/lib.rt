@@ -24,7 +24,6 @@ pub use exchanging::exchange;
 pub use framing::{Method, Refused, RequestFault, Target};
 pub use laws::{
     one_beginning, one_refusal, one_reply_text, one_request, one_stream, repeats_get_the_same,
-    streams_keep_history,
 };
 pub use parser::{Parsed, RequestParser};
 pub use reply::{Form, refusal, write_reply};
