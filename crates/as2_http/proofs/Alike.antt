@@ -1,8 +1,11 @@
 -- A stream is served in one way.
-use Rattle.std.proofs.Common.{◌≡◌, ◌⊎◌, ℕ, true, false, List, [], ◌∷◌, ◌++◌, Option, refl, sym, ap, ◌∙◌, subst, inl, inr}
+use Rattle.std.proofs.Common.{◌≡◌, ◌⊎◌, ℕ, true, false, List, [], ◌∷◌, ◌++◌, Option, Some, refl, sym, ap, ◌∙◌, subst, inl, inr}
 use Rattle.as2_agreement.specs.Agreements.{AgreedValues}
 use Rattle.as2_exchange.specs.State.{State}
 use Rattle.as2_exchange.specs.Step.{step}
+use Rattle.as2_exchange.specs.declared.answer.Answer.{Answer}
+use Rattle.as2_exchange.specs.declared.answer.Answer.TheVariants.{Http}
+use Rattle.as2_exchange.specs.declared.answer.HttpAnswer.{HttpAnswer}
 use Rattle.as2_framing.specs.HeadText.{unblank}
 use Rattle.as2_http.specs.Replies.{IsReply}
 use Rattle.as2_http.specs.Requests.{IsRefused, IsOpen}
@@ -22,9 +25,17 @@ use Rattle.as2_http.specs.declared.stream.Served.{Served}
 use Rattle.as2_http.specs.declared.stream.Served.TheVariants.{Closed, Truncated, BadFraming, ReadFault, WriteFault, Memory, TooLong}
 use Rattle.as2_http.proofs.Alone.{begins_with_one, never_refuses_requests, never_opens_requests, never_opens_refused}
 use Rattle.as2_http.proofs.Dated.{replies_in_one_way}
-use Rattle.as2_http.proofs.Repeated.{steps_once}
 
 -- ---- one request
+
+some_once : {X : Type 0} → (a b : X) → Some a ≡ Some b → a ≡ b
+some_once a b e = cc
+
+answers_once : (a b : HttpAnswer) → Http a ≡ Http b → Answered a ≡ Answered b
+answers_once a b e = cc
+
+steps_once : (came : Option (Answer × State)) (a b : HttpAnswer) (t u : State) → came ≡ Some (Http a, t) → came ≡ Some (Http b, u) → (Answered a ≡ Answered b) × (t ≡ u)
+steps_once came a b t u x y = let both = some_once (Http a, t) (Http b, u) (sym x ∙ y) in (answers_once a b (ap (λ p. p.0) both), ap (λ p. p.1) both)
 
 takes_once : (A : AgreedValues) (moment : ℕ) (s : State) (r : Request) (x y : Response) (t u : State) → Takes A moment s r x Unsaid t → Takes A moment s r y Unsaid u → IsSound x → IsSound y → (x ≡ y) × (t ≡ u)
 takes_once A moment s r (Answered a) (Answered b) t u x y _ _ = steps_once (step A s (post_event r moment)) a b t u x.0 y.0

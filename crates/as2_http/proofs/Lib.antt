@@ -10,7 +10,6 @@ pub mod InputReads
 pub mod Serving
 pub mod Dated
 pub mod Phrases
-pub mod Repeated
 pub mod Alike
 pub mod AnswerHeads
 pub mod Answered

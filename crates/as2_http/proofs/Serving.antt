@@ -4,12 +4,13 @@ use Rattle.std.proofs.KnownBytes.{Appends-nil, Appends-trans}
 use Rattle.std.specs.Io.KnownBytes.{Appends, Consumes, IsAtEnd, Keeps}
 use Rattle.sqlite.specs.State.{State as Connected}
 use Rattle.as2_agreement.specs.Agreements.{AgreedValues}
-use Rattle.as2_exchange.specs.Run.{Answered as Said, Failed, Trace, Run}
+use Rattle.as2_exchange.specs.Run.{Trace, Run}
 use Rattle.as2_exchange.specs.State.{State}
 use Rattle.as2_store.specs.Stands.{Rests}
 use Rattle.as2_framing.specs.HeadText.{unblank}
 use Rattle.as2_http.specs.Requests.{IsOpen}
 use Rattle.as2_http.specs.InputReads.{read_limit, ReadsNeeded}
+use Rattle.as2_station.proofs.ByHistory.{ends_by_history, run_then}
 use Rattle.as2_http.specs.StreamReads.{NeedsMore, BetweenReads, AnswersNext, ArePostsAt, RunsPosts, Serves}
 use Rattle.as2_http.specs.Parsing.{HasTaken}
 use Rattle.as2_http.specs.Responses.{RespondsTo, Responds, Unsaid}
@@ -47,11 +48,6 @@ answers_run A moment s t text replies rest (x ∷ done) a =
     event_then A moment s a.0 t x.0 x.1 x.0.method x.0.target (events moment done) a.4.responds (answers_run A moment a.0 t a.2 a.3 rest done a.6)
 
 -- .. and then more of it
-pub run_then : (A : AgreedValues) (s mid t : State) (one two : Trace) → Run A s one mid → Run A mid two t → Run A s (one ++ two) t
-run_then A s mid t [] two a b = subst (λ (x : State). Run A x two t) a b
-run_then A s mid t ((e, Said answer) ∷ one) two a b = (a.0, a.1, run_then A a.0 mid t one two a.2 b)
-run_then A s mid t ((e, Failed fault) ∷ one) two a b = (a.0, run_then A s mid t one two a.1 b)
-
 all_then : (moment : ℕ) (one two : Trace) → ArePostsAt moment one → ArePostsAt moment two → ArePostsAt moment (one ++ two)
 all_then moment [] two a b = b
 all_then moment (e ∷ one) two a b = (a.0, all_then moment one two a.1 b)
@@ -72,23 +68,24 @@ events_posts : (moment : ℕ) (done : List Exchange) → ArePostsAt moment (even
 events_posts moment [] = tt
 events_posts moment (x ∷ done) = all_then moment (event_by x.0.method x.0.target moment x) (events moment done) (event_posts moment x.0 x.1 x.0.method x.0.target) (events_posts moment done)
 
+posts_run : (A : AgreedValues) (moment : ℕ) (s t : State) (trace : Trace) → ArePostsAt moment trace → Run A s trace t → RunsPosts A moment s t
+posts_run A moment s t trace posts run = record { trace = trace; posts = posts; run = run; by_history = ends_by_history A s trace t run }
+
 pub runs_join : (A : AgreedValues) (moment : ℕ) (s mid t : State) → RunsPosts A moment s mid → RunsPosts A moment mid t → RunsPosts A moment s t
-runs_join A moment s mid t a b = record { trace = a.trace ++ b.trace; posts = all_then moment a.trace b.trace a.posts b.posts; run = run_then A s mid t a.trace b.trace a.run b.run }
+runs_join A moment s mid t a b = posts_run A moment s t (a.trace ++ b.trace) (all_then moment a.trace b.trace a.posts b.posts) (run_then A s mid t a.trace b.trace a.run b.run)
 
 pub runs_none : (A : AgreedValues) (moment : ℕ) (s : State) → RunsPosts A moment s s
-runs_none A moment s = record { trace = []; posts = tt; run = refl }
+runs_none A moment s = posts_run A moment s s [] tt refl
 
 answers_runs : (A : AgreedValues) (moment : ℕ) (s mid t : State) (text replies rest : List ℕ) (done : List Exchange) → AnswersAll A moment s text done mid replies rest → t ≡ mid → RunsPosts A moment s t
 answers_runs A moment s mid t text replies rest done a same =
-    subst (λ (x : State). RunsPosts A moment s x) (sym same) (record { trace = events moment done; posts = events_posts moment done; run = answers_run A moment s mid text replies rest done a })
+    subst (λ (x : State). RunsPosts A moment s x) (sym same) (posts_run A moment s mid (events moment done) (events_posts moment done) (answers_run A moment s mid text replies rest done a))
 
 -- the request whose reply isn't written whole was taken, too
 one_runs : (A : AgreedValues) (moment : ℕ) (mid t : State) (r : Request) (x : Response) → Responds A moment mid r x Unsaid t → RunsPosts A moment mid t
-one_runs A moment mid t r x p = record {
-  trace = event_by r.method r.target moment (r, x) ++ [];
-  posts = all_then moment (event_by r.method r.target moment (r, x)) [] (event_posts moment r x r.method r.target) tt;
-  run = event_then A moment mid t t r x r.method r.target [] p refl;
-}
+one_runs A moment mid t r x p =
+    posts_run A moment mid t (event_by r.method r.target moment (r, x) ++ []) (all_then moment (event_by r.method r.target moment (r, x)) [] (event_posts moment r x r.method r.target) tt)
+    (event_then A moment mid t t r x r.method r.target [] p refl)
 
 cut_runs : (A : AgreedValues) (moment : ℕ) (mid : State) (replies rest : List ℕ) (before after : Option (List ℕ)) (t : State) → CutShort A moment mid replies rest before after t → RunsPosts A moment mid t
 cut_runs A moment mid replies rest before after t (in_reply r behind x text part missing b responds is cut written) = one_runs A moment mid t r x responds

@@ -1,16 +1,9 @@
 -- What holds of every stream that is served.
-use Rattle.std.specs.Prelude.{◌≡◌, ℕ, ◌<◌, List, [], ◌∷◌, ◌++◌, Option, option_map, map, ⊤}
+use Rattle.std.specs.Prelude.{◌≡◌, ℕ, List, [], ◌∷◌, Option, ⊤}
 use Rattle.as2_agreement.specs.Agreements.{AgreedValues}
-use Rattle.as2_exchange.specs.History.{history, told}
-use Rattle.as2_exchange.specs.Run.{Trace, Run, accepted}
-use Rattle.as2_exchange.specs.State.{State, document, empty, lasting}
-use Rattle.as2_exchange.specs.declared.answer.HttpAnswer.{HttpAnswer}
-use Rattle.as2_http.specs.Responses.{Responds, Unsaid}
-use Rattle.as2_http.specs.StreamReads.{RunsPosts, Serves}
+use Rattle.as2_exchange.specs.State.{State}
+use Rattle.as2_http.specs.StreamReads.{Serves}
 use Rattle.as2_http.specs.Streams.{Exchange}
-use Rattle.as2_http.specs.declared.framing.Method.TheVariants.{Post}
-use Rattle.as2_http.specs.declared.framing.Target.TheVariants.{Station}
-use Rattle.as2_http.specs.declared.request.Request.{Request}
 use Rattle.as2_http.specs.declared.response.Response.{Response}
 use Rattle.as2_http.specs.declared.response.Response.TheVariants.{Answered, Failed, OnlyPost, NoPath}
 use Rattle.as2_http.specs.declared.stream.Served.{Served}
@@ -50,19 +43,3 @@ ServesInOneWay = (A : AgreedValues) (moment : ℕ) (s t u : State) (input : List
     → (one : Serves A moment s t input unread before after i j end) → (two : Serves A moment s u input later base now k l other)
     → AreSound one.done → AreSound two.done
     → AtJudged end (AtJudged other (ServesAlike A moment s t u input unread before after later base now i j k l end other one two))
-
--- After any run from an empty store and a stream behind it, what stands of each document is its history over both.
-abbrev pub StreamsKeepHistory : Type 0
-StreamsKeepHistory = (A : AgreedValues) (first moment : ℕ) (earlier : Trace) (s t : State) → Run A (empty first) earlier s
-    → (ran : RunsPosts A moment s t) → (k : ℕ) → option_map told (document t k) ≡ history A (accepted (earlier ++ ran.trace)) k
-
--- two requests are the same post to the station
-abbrev pub IsSamePost : Request → Request → Type 0
-IsSamePost r q = (r.method ≡ Post) × (r.target ≡ Station) × (q.method ≡ Post) × (q.target ≡ Station) × (q.fields ≡ r.fields) × (q.body ≡ r.body)
-
--- A post that was recorded and comes again in any later stream, where the store has no fault, gets the same; no entry is added and no number taken.
-abbrev pub RepeatsGetTheSame : Type 0
-RepeatsGetTheSame = (A : AgreedValues) (m n : ℕ) (old recorded later end : State) (r q : Request) (trace : Trace) (answer : HttpAnswer) (response : Response)
-    → Responds A m old r (Answered answer) Unsaid recorded → old.next_in < recorded.next_in → Run A recorded trace later
-    → IsSamePost r q → Responds A n later q response Unsaid end → IsSound response
-    → (response ≡ Answered answer) × (map lasting end.inbox ≡ map lasting later.inbox) × (end.next_in ≡ later.next_in) × (end.outbox ≡ later.outbox)

@@ -8,6 +8,7 @@ use Rattle.as2_exchange.specs.State.{State}
 use Rattle.as2_exchange.specs.declared.event.Event.{Event}
 use Rattle.as2_exchange.specs.declared.event.Event.TheVariants as event
 use Rattle.as2_store.specs.Stands.{Rests}
+use Rattle.as2_station.specs.Theorem.{EndsByHistory}
 use Rattle.as2_http.specs.InputReads.{ReadsNeeded}
 use Rattle.as2_http.specs.Parsing.{HasTaken}
 use Rattle.as2_http.specs.Requests.{IsOpen}
@@ -70,8 +71,9 @@ abbrev pub ArePostsAt : ℕ → Trace → Type 0
 ArePostsAt moment [] = ⊤
 ArePostsAt moment (e ∷ more) = IsPostAt moment e.0 × ArePostsAt moment more
 
--- posts at this moment, and nothing else, led the machine from s to t
+-- posts at this moment, and nothing else, led the machine from s to t, and what stands of each document is its history
 pub record RunsPosts (A : AgreedValues) (moment : ℕ) (s t : State) : Type 0 where
   pub trace : Trace
   pub posts : ArePostsAt moment trace
   pub run : Run A s trace t
+  pub by_history : EndsByHistory A s trace t

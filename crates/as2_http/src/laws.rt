@@ -1,6 +1,6 @@
 //! What holds of every text, whoever reads it.
 ghost use Rattle.as2_http.specs.Laws.{BeginsWithOne, RefusesInOneWay, NeverRefusesRequests, NeverOpensRequests, NeverOpensRefused, RepliesInOneWay};
-ghost use Rattle.as2_http.specs.StreamLaws.{RepeatsGetTheSame, ServesInOneWay, StreamsKeepHistory};
+ghost use Rattle.as2_http.specs.StreamLaws.{ServesInOneWay};
 
 /// A text begins with one request at most, and one thing follows it.
 pub fn one_request()
@@ -28,15 +28,4 @@ pub fn one_reply_text()
 /// requests get the same, their replies and the end are the same, and so is what is left.
 pub fn one_stream()
     ensures { ServesInOneWay }
-{}
-
-/// After any run from an empty store and a stream behind it, the detail, the evidence and the tries of each document are
-/// told by the answered events of both alone.
-pub fn streams_keep_history()
-    ensures { StreamsKeepHistory }
-{}
-
-/// A post that was recorded and comes again in any later stream gets the same answer.
-pub fn repeats_get_the_same()
-    ensures { RepeatsGetTheSame }
 {}

@@ -22,10 +22,7 @@ pub use answer_parser::{AnswerParser, ParsedAnswer, ReceivedAnswer};
 pub use device::{Count, Counted, DeviceFault, Sink, Source};
 pub use exchanging::exchange;
 pub use framing::{Method, Refused, RequestFault, Target};
-pub use laws::{
-    one_beginning, one_refusal, one_reply_text, one_request, one_stream, repeats_get_the_same,
-    streams_keep_history,
-};
+pub use laws::{one_beginning, one_refusal, one_reply_text, one_request, one_stream};
 pub use parser::{Parsed, RequestParser};
 pub use reply::{Form, refusal, write_reply};
 pub use request::Request;

@@ -1,5 +1,5 @@
 //! Whether a post repeats an earlier one, and whether that is still the one that came.
-ghost use Rattle.std.specs.Prelude.{◌≡◌};
+ghost use Rattle.std.specs.Prelude.{◌≡◌, ◌↔◌, IsTrue};
 ghost use Rattle.as2_exchange.specs.Posts.{how_eq, mic_eq, repeats};
 ghost use Rattle.as2_posts.specs.Answers.{has_kept_mic};
 
@@ -30,10 +30,11 @@ fn mic_eq(one: &Option<ReportMic>, other: &Option<ReportMic>) -> bool
     }
 }
 
-/// Whether all of the documents is the same, their identifiers' spelling too (RFC 4130, section 5.5; `Date` isn't looked
-/// at).
+/// Whether the documents are equal: all of them is the same, their identifiers' spelling too (RFC 4130, section 5.5; `Date`
+/// isn't looked at).
 pub fn repeats(one: &Posted, other: &Posted) -> bool
-    ensures { result ≡ repeats one.now other.now }
+    ensures repeats { result ≡ repeats one.now other.now }
+    ensures equal { IsTrue result ↔ (one.now ≡ other.now) }
 {
     one.sender.bytes() == other.sender.bytes()
         && one.receiver.bytes() == other.receiver.bytes()

@@ -19,6 +19,7 @@ use Rattle.as2_exchange.specs.declared.next.Next.{Next}
 use Rattle.as2_exchange.specs.declared.next.Next.TheVariants.{Receipt, Document}
 use Rattle.as2_store.specs.Stands.{Rests, may_come}
 use Rattle.as2_sending.specs.Lines.{answer_of, line, lines, line_of}
+use Rattle.as2_station.proofs.ByHistory.{ends_by_history}
 use Rattle.as2_sending.specs.Turns.{Turn, Begins, Takes, TakesAll, begin_of, outcome_of, events, Ends, IsRefused, HasFailed, at_begin_refused, at_outcome_refused, at_next_failed, at_begin_failed, at_outcome_failed, Sends, BeginsTo, ClosesTo, TurnsTo, handed, came}
 use Rattle.as2_sending.specs.declared.sent.Sent.{Sent}
 use Rattle.as2_sending.specs.declared.sent.Sent.TheVariants as sent
@@ -188,6 +189,7 @@ sends_ended U A m s c d before now later end w x = (
     rest = x.2;
     ends = x.3;
     run = all_run A m s w.mid x.1 w.done x.0 w.all (end_run A m w.mid x.1 x.0 x.2 end x.3);
+    by_history = ends_by_history A s (events m w.done ++ x.0) x.1 (all_run A m s w.mid x.1 w.done x.0 w.all (end_run A m w.mid x.1 x.0 x.2 end x.3));
     written = Appends-trans before now later (lines (events m w.done)) x.2 w.written x.5;
   },
 )

@@ -19,6 +19,7 @@ use Rattle.as2_exchange.specs.declared.fault.StoreFault.TheVariants as fault
 use Rattle.as2_exchange.specs.declared.next.Next.{Next}
 use Rattle.as2_exchange.specs.declared.next.Next.TheVariants.{Receipt, Document}
 use Rattle.as2_store.specs.Stands.{Rests, may_come}
+use Rattle.as2_station.specs.Theorem.{EndsByHistory}
 use Rattle.as2_sending.specs.Lines.{answer_of, line, lines}
 use Rattle.as2_sending.specs.declared.sent.Sent.{Sent}
 use Rattle.as2_sending.specs.declared.sent.Sent.TheVariants as sent
@@ -98,8 +99,8 @@ Ends A m s last t text sent.Unwritten = IsUntold A m s last t text
 
 -- ---- all of it
 
--- Turns were taken one after the other, and then sending ended so. The events are a run of the machine, and what was written
--- is the lines of the turns.
+-- Turns were taken one after the other, and then sending ended so. The events are a run of the machine, what stands of each document
+-- then is its history, and what was written is the lines of the turns.
 pub record Sends (A : Agreements) (m : ℕ) (s t : State) (before after : Option (List ℕ)) (end : Sent) : Type 0 where
   pub done : List Turn
   pub mid : State
@@ -108,6 +109,7 @@ pub record Sends (A : Agreements) (m : ℕ) (s t : State) (before after : Option
   pub rest : Text
   pub ends : Ends A m mid last t rest end
   pub run : Run A s (events m done ++ last) t
+  pub by_history : EndsByHistory A s (events m done ++ last) t
   pub written : Appends before after (lines (events m done) ++ rest)
 
 -- ---- one turn

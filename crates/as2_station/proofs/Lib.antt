@@ -4,6 +4,7 @@ mod Clashing
 mod Closed
 mod Doing
 mod Numbers
+pub mod ByHistory
 mod Playing
 mod Reaching
 mod HandedIn

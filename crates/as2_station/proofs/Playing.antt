@@ -11,7 +11,9 @@ use Rattle.as2_exchange.specs.declared.answer.HttpAnswer.{HttpAnswer}
 use Rattle.as2_exchange.specs.declared.fault.StoreFault.{StoreFault}
 use Rattle.as2_store.specs.Stands.{Rests}
 use Rattle.as2_station.specs.Steps.{RefusesSubmit, TakesEvent, TakesHead}
-use Rattle.as2_station.specs.Traces.{Plays, Taken}
+use Rattle.as2_station.specs.Traces.{Plays, Taken, trace}
+use Rattle.as2_exchange.specs.Run.{Run}
+use Rattle.as2_station.proofs.ByHistory.{ends_by_history}
 
 module _ {S : Type 0} (g : Ghosts S) (A : Agreements) where
   pub taken_more : (es : List Event) (rs : List (Result Answer StoreFault)) (e : Event) (r : Result Answer StoreFault) (old mid new : Held S) → Taken g A es rs old mid → TakesEvent A e (λ a. a) (state g mid) (state g new) r
@@ -28,22 +30,33 @@ module _ {S : Type 0} (g : Ghosts S) (A : Agreements) where
   taken_clean (x ∷ es) (q ∷ rs) old new it clean = it.1.does.clean (taken_clean es rs it.0 new it.4 clean)
 
   pub taken_plays : (es : List Event) (rs : List (Result Answer StoreFault)) (old new : Held S) → Taken g A es rs old new → Plays g A es rs old new
-  taken_plays [] [] old new same clean s rests = record { end = s; run = refl; rests = subst (λ h. Rests (state g h) s) (sym same) rests }
+  taken_plays [] [] old new same clean s rests = record { end = s; run = refl; by_history = ends_by_history A s [] s refl; rests = subst (λ h. Rests (state g h) s) (sym same) rests }
   taken_plays [] (q ∷ rs) old new none clean s rests = absurd none
   taken_plays (x ∷ es) [] old new none clean s rests = absurd none
   taken_plays (x ∷ es) (Ok a ∷ rs) old new it clean s rests =
       let now = it.1.does.answered (taken_clean es rs it.0 new it.4 clean) s rests tt in
       let later = taken_plays es rs it.0 new it.4 clean now.next now.rests in
-      record { end = later.end; run = (now.next, now.step, later.run); rests = later.rests }
+      let run : Run A s (trace (x ∷ es) (Ok a ∷ rs)) later.end = (now.next, now.step, later.run) in
+      record { end = later.end; run = run; by_history = ends_by_history A s (trace (x ∷ es) (Ok a ∷ rs)) later.end run; rests = later.rests }
   taken_plays (x ∷ es) (Err f ∷ rs) old new it clean s rests =
       let now = it.1.does.failed (taken_clean es rs it.0 new it.4 clean) s rests tt in
       let later = taken_plays es rs it.0 new it.4 clean s now.0 in
-      record { end = later.end; run = (now.1, later.run); rests = later.rests }
+      let run : Run A s (trace (x ∷ es) (Err f ∷ rs)) later.end = (now.1, later.run) in
+      record { end = later.end; run = run; by_history = ends_by_history A s (trace (x ∷ es) (Err f ∷ rs)) later.end run; rests = later.rests }
 
 -- what takes a post takes the event
 pub as_event : (A : Agreements) (e : Event) (old new : Connected) (a : HttpAnswer) → TakesEvent A e Http old new (Ok a) → TakesEvent A e (λ a. a) old new (Ok (Http a))
 as_event A e old new a it = record {
   does = record { clean = it.does.clean; is_open = it.does.is_open; answered = it.does.answered; failed = it.does.failed; fault = it.does.fault; crash = it.does.crash };
+  by_history = it.by_history;
+  lasts = it.lasts;
+  whole = it.whole;
+}
+
+pub as_failed : (A : Agreements) (e : Event) (old new : Connected) (f : StoreFault) → TakesEvent A e Http old new (Err f) → TakesEvent A e (λ a. a) old new (Err f)
+as_failed A e old new f it = record {
+  does = record { clean = it.does.clean; is_open = it.does.is_open; answered = it.does.answered; failed = it.does.failed; fault = it.does.fault; crash = it.does.crash };
+  by_history = it.by_history;
   lasts = it.lasts;
   whole = it.whole;
 }

@@ -1,6 +1,7 @@
 pub mod Closing
 pub mod Heads
 pub mod OwedTries
+pub mod Theorem
 pub mod Steps
 pub mod Traces
 pub mod Trying

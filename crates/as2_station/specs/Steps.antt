@@ -25,6 +25,7 @@ use Rattle.as2_exchange.specs.declared.fault.StoreFault.{StoreFault}
 use Rattle.as2_exchange.specs.declared.fault.StoreFault.TheVariants.{Full}
 use Rattle.as2_store.specs.Stands.{Rests, may_come}
 use Rattle.as2_store.specs.Calls.{Keeps, KeepsNext, Lasts}
+use Rattle.as2_station.specs.Theorem.{TakesByHistory}
 use Rattle.as2_station.specs.Heads.{is_of_head, asks_store, submit_refusal, takes_store}
 
 -- what the machine answers in a state, and the state that it leaves; nothing where the number that it needs is used up
@@ -70,10 +71,11 @@ abbrev pub ClashesWhole : {A : Type 0} → (A → Answer) → Reading → Connec
 ClashesWhole told reads old new r = HasCleanDisk new
     → IfOk r (λ a. told a ≡ Http (refusal IdUsedBefore) → (p : Posted) → reads ≡ IsDocument p → (s : State) → Rests old s → IsKeptWhole p s)
 
--- a call that takes an event; what the tables stand for then lasts, whatever stops the machine; and what is damaged is not
--- taken for another document
+-- a call that takes an event; what stands then of each document is its history; what the tables stand for lasts, whatever stops
+-- the machine; and what is damaged is not taken for another document
 pub record TakesEvent {A : Type 0} (agreed : Agreements) (event : Event) (told : A → Answer) (old new : Connected) (r : Result A StoreFault) : Type 0 where
   pub does : Does (λ s. step agreed s event) always (asks_store agreed event ≡ true) told old new r
+  pub by_history : TakesByHistory agreed event told old new r
   pub lasts : IsTrue new.is_open → (s : State) → Rests new s → Lasts new s
   pub whole : (head : Head) (body : List ℕ) (moment : ℕ) → event ≡ Post head body moment → ClashesWhole told (reading agreed head body) old new r
 

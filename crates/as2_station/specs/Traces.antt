@@ -12,6 +12,7 @@ use Rattle.as2_exchange.specs.declared.answer.Answer.TheVariants.{Http}
 use Rattle.as2_exchange.specs.declared.fault.StoreFault.{StoreFault}
 use Rattle.as2_store.specs.Stands.{Rests}
 use Rattle.as2_station.specs.Steps.{RefusesSubmit, TakesEvent, TakesHead}
+use Rattle.as2_station.specs.Theorem.{EndsByHistory}
 
 -- an answer, or the fault that stands in its place
 abbrev pub said : Result Answer StoreFault → Said
@@ -22,10 +23,12 @@ said (Err fault) = Failed fault
 abbrev pub trace : List Event → List (Result Answer StoreFault) → Trace
 trace events answers = zip events (map said answers)
 
--- the trace is a run of the machine, from the state that the tables stood for to the one that they stand for
+-- the trace is a run of the machine, from the state that the tables stood for to the one that they stand for, in which what stands of
+-- each document is its history
 pub record Played (A : Agreements) (told : Trace) (s : State) (c : Connected) : Type 0 where
   pub end : State
   pub run : Run A s told end
+  pub by_history : EndsByHistory A s told end
   pub rests : Rests c end
 
 -- what was said is a run of the machine, from each state that the tables stood for

@@ -3,7 +3,7 @@ ghost use Rattle.std.specs.Prelude.{◌≡◌, IfOk, IfErr, OnErr, option_map, s
 ghost use Rattle.sqlite.specs.Held.{state};
 ghost use Rattle.as2_exchange.specs.declared.event.Event.TheVariants.{Post};
 ghost use Rattle.as2_exchange.specs.declared.answer.Answer.TheVariants.{Http};
-ghost use Rattle.as2_exchange.specs.Views.{fetch, next, outstanding, show};
+ghost use Rattle.as2_exchange.specs.Views.{IsNext, fetch, next, outstanding, show};
 ghost use Rattle.as2_views.specs.Filtering.{listing};
 ghost use Rattle.as2_store.specs.Calls.{Reads};
 ghost use Rattle.as2_store.specs.Stands.{may_come};
@@ -161,6 +161,7 @@ impl<S: Alter> Station<S> {
     /// the least number, or nothing. Answers Memory, Disk or Refused.
     pub fn next(&mut self, moment: Moment) -> Result<Option<Next>, StoreFault>
         ensures next { Reads (λ s found. found ≡ next s moment) (state S.Store self.old) (state S.Store self.new) result }
+        ensures least { Reads (λ s found. IsNext s moment found) (state S.Store self.old) (state S.Store self.new) result }
         ensures fault { IfErr result (λ f. may_come f ≡ true) }
     {
         if let Some(number) = self.store.due_mdn(moment)? {

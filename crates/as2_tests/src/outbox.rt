@@ -7,6 +7,7 @@ ghost use Rattle.as2_exchange.specs.State.{end_of_numbers};
 mod due;
 mod evidence;
 mod exchanges;
+mod histories;
 pub mod owed;
 mod reads;
 mod refusals;

@@ -1,0 +1,111 @@
+-- The theorem that the station stands on:
+--
+--     After any list of posts, desk commands, sending outcomes and clock moments, the tables and answers are those of the exchange
+--     machine over the accepted ones, and a document stands as successful exactly where the first receipt after its first try that
+--     bears its partner's AS2 names and its message identifier says processed without modifier and carries the integrity check of
+--     the content sent.
+--
+-- Its words, and where each is defined; a file without a crate is one of as2_exchange's specs:
+--   any list                         Trace, Run.antt: events in any order, each with what was said to it; moments may run backwards
+--   posts .. clock moments           Event, as2_exchange/src/event.rt
+--   the tables .. are those of       Rests, as2_store/specs/Stands.antt: the tables of the connection stand for the state
+--   .. answers are those of          Run, Run.antt: an answered event is a step of the machine, and one that failed changes nothing
+--   the exchange machine             step, Step.antt, over State, State.antt; empty: a store without entries
+--   the accepted ones                accepted, Run.antt: those that were answered, by a refusal too; no fault of the store is an answer
+--   a document                       document, State.antt, by its number
+--   stands as successful             IsSuccessful, below: state_of, as2_mdn/specs/Details.antt, is S
+--   the first receipt after its      first_receipt, History.antt, among the facts of the document, which concerns picks from the
+--     first try                      accepted events without any state
+--   that bears its partner's AS2     bears, Receipts.antt
+--     names and its identifier
+--   says processed without modifier  Confirms, as2_mdn/specs/Verdicts.antt
+--     and carries the integrity check of the content sent
+use Rattle.std.specs.Prelude.{◌≡◌, ◌↔◌, ℕ, ◌+◌, ◌<◌, true, false, List, [], ◌∷◌, ◌++◌, Some, None, Result, Ok, Err, IsSomeAnd, map, option_map}
+use Rattle.sqlite.specs.State.{State as Connected, HasCleanDisk}
+use Rattle.as2_mdn.specs.Details.{state_of}
+use Rattle.as2_mdn.specs.Verdicts.{Confirms}
+use Rattle.as2_mdn.specs.declared.detail.State.TheVariants.{S}
+use Rattle.as2_exchange.specs.Agreement.{Agreements, Text, partner_of}
+use Rattle.as2_exchange.specs.Detail.{Pending}
+use Rattle.as2_exchange.specs.Events.{Done, Post, Begin, BeginMdn, Tick, Job as AJob, Ticked}
+use Rattle.as2_exchange.specs.History.{concerns, first_receipt, history, submitted, submitted_as, told}
+use Rattle.as2_exchange.specs.Invariants.{IsCounter, IsWellFormed}
+use Rattle.as2_exchange.specs.ReceiptHistory.{receipt_history, receipt_told}
+use Rattle.as2_exchange.specs.Readings.{Head, Job}
+use Rattle.as2_exchange.specs.Run.{Said, Answered, Failed, IsOutOfNumbers, Trace, Run, accepted}
+use Rattle.as2_exchange.specs.State.{State, document, empty, is_settled, lasting, received}
+use Rattle.as2_exchange.specs.Step.{is_refusal, step}
+use Rattle.as2_exchange.specs.Views.{given_up}
+use Rattle.as2_exchange.specs.declared.inbox.InEntry.{InEntry}
+use Rattle.as2_exchange.specs.declared.outbox.OutEntry.{OutEntry}
+use Rattle.as2_exchange.specs.Waiting.{waiting, waiting_history}
+use Rattle.as2_exchange.specs.declared.answer.Answer.{Answer}
+use Rattle.as2_exchange.specs.declared.event.Event.{Event}
+use Rattle.as2_exchange.specs.declared.fault.StoreFault.{StoreFault}
+use Rattle.as2_store.specs.Stands.{Rests}
+
+-- the document stands as successful
+abbrev pub IsSuccessful : State → ℕ → Type 0
+IsSuccessful s k = IsSomeAnd (document s k) (λ d. state_of d.detail ≡ S)
+
+-- the first receipt for it after its first try says processed without modifier and carries the integrity check of the content sent
+abbrev pub IsConfirmed : Agreements → List Done → ℕ → Type 0
+IsConfirmed A done k = IsSomeAnd (concerns A done k) (λ it. IsSomeAnd (first_receipt A k it.0 it.1) (λ r. Confirms r.1.receipt it.0.content))
+
+-- the document stands as it stood, by its detail and its evidence
+abbrev pub StandsAs : OutEntry → State → ℕ → Type 0
+StandsAs d s k = IsSomeAnd (document s k) (λ e. (e.detail ≡ d.detail) × (e.evidence ≡ d.evidence))
+
+-- What a further event does.
+pub record StepsOn (A : Agreements) (s : State) : Type 0 where
+  -- a post that was recorded before and comes again gets the same answer, without a new entry or number
+  pub repeats : (old recorded : State) (head : Head) (body : Text) (m n : ℕ) (first : Answer) (between : Trace)
+      → step A old (Post head body m) ≡ Some (first, recorded) → old.next_in < recorded.next_in → Run A recorded between s
+      → (t : State) × (step A s (Post head body n) ≡ Some (first, t)) × (map lasting t.inbox ≡ map lasting s.inbox) × (t.next_in ≡ s.next_in) × (t.outbox ≡ s.outbox)
+  -- a request is handed out for a document that no receipt has settled, and not more often than is agreed
+  pub sends : (n m : ℕ) (job : Job) (t : State) → step A s (Begin n m) ≡ Some (AJob job, t)
+      → (d : OutEntry) × (document s n ≡ Some d) × (is_settled d ≡ false) × IsSomeAnd (partner_of A d.partner) (λ p. d.tries < p.max_tries)
+  -- and for a receipt that is still owed
+  pub sends_receipts : (n m : ℕ) (job : Job) (t : State) → step A s (BeginMdn n m) ≡ Some (AJob job, t)
+      → (e : InEntry) × (received s n ≡ Some e) × (e.mdn ≡ Pending) × IsSomeAnd (partner_of A e.posted.sender) (λ p. e.tries < p.max_tries)
+  -- a refusal changes nothing, nor does the outcome of a document that is settled
+  pub refuses : (e : Event) (a : Answer) (t : State) → step A s e ≡ Some (a, t) → is_refusal a ≡ true → t ≡ s
+  -- a moment is answered by the number of documents that it gives up
+  pub counts : (m : ℕ) (a : Answer) (t : State) → step A s (Tick m) ≡ Some (a, t) → (n : ℕ) × (a ≡ Ticked n) × (given_up t ≡ given_up s + n)
+  -- and no event is without an answer while there are numbers
+  pub answers : (e : Event) → step A s e ≡ None → IsOutOfNumbers s e
+
+-- What stands after a trace from a store without entries is what its accepted events tell.
+pub record StandsByHistory (A : Agreements) (trace : Trace) (s : State) : Type 0 where
+  -- each document is one that was submitted, with the names, the content and the moment of its submission
+  pub documents : (k : ℕ) → option_map submitted (document s k) ≡ submitted_as (accepted trace) k
+  -- its detail, its evidence and the number of its tries are its history's
+  pub stands : (k : ℕ) → option_map told (document s k) ≡ history A (accepted trace) k
+  -- it stands as successful exactly where the first receipt confirms it
+  pub success : (k : ℕ) → IsSuccessful s k ↔ IsConfirmed A (accepted trace) k
+  -- what is settled stays so under every further list
+  pub settled : (k : ℕ) (d : OutEntry) → document s k ≡ Some d → is_settled d ≡ true → (more : Trace) (t : State) → Run A s more t → StandsAs d t k
+  -- its own events tell: another list that has them in the same order gives it the same, whatever else it has
+  pub alone : (k first : ℕ) (other : Trace) (t : State) → Run A (empty first) other t → concerns A (accepted trace) k ≡ concerns A (accepted other) k
+      → option_map told (document s k) ≡ option_map told (document t k)
+  -- whether a try is open, and what is due when, are its history's too
+  pub waits : (k : ℕ) → option_map waiting (document s k) ≡ waiting_history A (accepted trace) k
+  -- and so is what stands of the receipt that is owed for a document that came
+  pub owed : (n : ℕ) (e : InEntry) → received s n ≡ Some e → receipt_history A (accepted trace) n e.posted ≡ Some (receipt_told e)
+  -- numbers, keys and identifiers are distinct, and evidence stands exactly by what a receipt settled
+  pub formed : IsWellFormed A s
+  -- and a further event does nothing else
+  pub further : StepsOn A s
+
+-- the trace leads from s to t; and where an earlier one led from a store without entries to s, what stands is by both
+abbrev pub EndsByHistory : Agreements → State → Trace → State → Type 0
+EndsByHistory A s trace t = (first : ℕ) (before : Trace) → IsCounter first → Run A (empty first) before s → StandsByHistory A (before ++ trace) t
+
+-- what is said to an event, where a call tells so much of it
+abbrev pub said_as : {A : Type 0} → (A → Answer) → Result A StoreFault → Said
+said_as told (Ok a) = Answered (told a)
+said_as told (Err fault) = Failed fault
+
+-- a call takes an event, in each state that the tables stood for
+abbrev pub TakesByHistory : {A : Type 0} → Agreements → Event → (A → Answer) → Connected → Connected → Result A StoreFault → Type 0
+TakesByHistory A event told old new r = HasCleanDisk new → (s : State) → Rests old s → (t : State) × Rests new t × EndsByHistory A s ((event, said_as told r) ∷ []) t
