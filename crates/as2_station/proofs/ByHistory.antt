@@ -34,6 +34,7 @@ use Rattle.as2_exchange.specs.Posts.{reading}
 use Rattle.as2_exchange.specs.declared.event.Event.TheVariants.{Post}
 use Rattle.as2_station.specs.Heads.{asks_store}
 use Rattle.as2_station.specs.Steps.{ClashesWhole, Does, TakesEvent, always}
+use Rattle.as2_station.proofs.Bearing.{bears_exactly}
 use Rattle.as2_station.specs.Theorem.{EndsByHistory, StandsAs, StandsByHistory, StepsOn, TakesByHistory}
 
 pub run_then : (A : Agreements) (s mid t : State) (one two : Trace) → Run A s one mid → Run A mid two t → Run A s (one ++ two) t
@@ -80,6 +81,7 @@ stands_by_history A first trace s counter run = record {
   documents = as_submitted A first trace s run;
   stands = law A first trace s run;
   success = λ k. success_by A first trace s run k (document s k) (concerns A (accepted trace) k) refl refl;
+  names = bears_exactly;
   settled = λ k d is settled more t on. stays d t k (settled_stays_law A first trace more s t run on k d is settled);
   alone = λ k other two t on same. same_facts A first other trace two s t k run on same;
   waits = waiting_law A first trace s run;

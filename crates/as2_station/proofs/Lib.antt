@@ -4,10 +4,11 @@ mod Clashing
 mod Closed
 mod Doing
 mod Numbers
+mod Bearing
 pub mod ByHistory
-mod Playing
+pub mod Playing
 mod Reaching
-mod HandedIn
+pub mod HandedIn
 mod Begun
 mod OwedTries
 mod Ticked

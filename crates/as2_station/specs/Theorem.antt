@@ -20,27 +20,32 @@
 --     names and its identifier
 --   says processed without modifier  Confirms, as2_mdn/specs/Verdicts.antt
 --     and carries the integrity check of the content sent
-use Rattle.std.specs.Prelude.{◌≡◌, ◌↔◌, ℕ, ◌+◌, ◌<◌, true, false, List, [], ◌∷◌, ◌++◌, Some, None, Result, Ok, Err, IsSomeAnd, map, option_map}
+use Rattle.std.specs.Prelude.{◌≡◌, ◌↔◌, ℕ, ◌+◌, ◌<◌, true, false, List, [], ◌∷◌, ◌++◌, Some, None, Result, Ok, Err, IsSomeAnd, IsTrue, map, option_map}
 use Rattle.sqlite.specs.State.{State as Connected, HasCleanDisk}
 use Rattle.as2_mdn.specs.Details.{state_of}
 use Rattle.as2_mdn.specs.Verdicts.{Confirms}
 use Rattle.as2_mdn.specs.declared.detail.State.TheVariants.{S}
 use Rattle.as2_exchange.specs.Agreement.{Agreements, Text, partner_of}
-use Rattle.as2_exchange.specs.Detail.{Pending}
-use Rattle.as2_exchange.specs.Events.{Done, Post, Begin, BeginMdn, Tick, Job as AJob, Ticked}
+use Rattle.as2_exchange.specs.Events.{Done}
 use Rattle.as2_exchange.specs.History.{concerns, first_receipt, history, submitted, submitted_as, told}
 use Rattle.as2_exchange.specs.Invariants.{IsCounter, IsWellFormed}
+use Rattle.as2_exchange.specs.Posts.{ReceivedReceipt}
+use Rattle.as2_exchange.specs.Receipts.{bears}
 use Rattle.as2_exchange.specs.ReceiptHistory.{receipt_history, receipt_told}
-use Rattle.as2_exchange.specs.Readings.{Head, Job}
+use Rattle.as2_exchange.specs.Readings.{Head, named_by, value_of}
 use Rattle.as2_exchange.specs.Run.{Said, Answered, Failed, IsOutOfNumbers, Trace, Run, accepted}
 use Rattle.as2_exchange.specs.State.{State, document, empty, is_settled, lasting, received}
 use Rattle.as2_exchange.specs.Step.{is_refusal, step}
 use Rattle.as2_exchange.specs.Views.{given_up}
 use Rattle.as2_exchange.specs.declared.inbox.InEntry.{InEntry}
+use Rattle.as2_exchange.specs.declared.inbox.MdnState.TheVariants.{Pending}
 use Rattle.as2_exchange.specs.declared.outbox.OutEntry.{OutEntry}
 use Rattle.as2_exchange.specs.Waiting.{waiting, waiting_history}
 use Rattle.as2_exchange.specs.declared.answer.Answer.{Answer}
+use Rattle.as2_exchange.specs.declared.answer.Answer.TheVariants.{Job as AJob, Ticked}
+use Rattle.as2_exchange.specs.declared.answer.Job.{Job}
 use Rattle.as2_exchange.specs.declared.event.Event.{Event}
+use Rattle.as2_exchange.specs.declared.event.Event.TheVariants.{Post, Begin, BeginMdn, Tick}
 use Rattle.as2_exchange.specs.declared.fault.StoreFault.{StoreFault}
 use Rattle.as2_store.specs.Stands.{Rests}
 
@@ -83,6 +88,8 @@ pub record StandsByHistory (A : Agreements) (trace : Trace) (s : State) : Type 0
   pub stands : (k : ℕ) → option_map told (document s k) ≡ history A (accepted trace) k
   -- it stands as successful exactly where the first receipt confirms it
   pub success : (k : ℕ) → IsSuccessful s k ↔ IsConfirmed A (accepted trace) k
+  -- a receipt is for a document exactly where it came from its partner to its organization and names its identifier
+  pub names : (r : ReceivedReceipt) (organization partner id : Text) → IsTrue (bears r organization partner id) ↔ ((organization ≡ r.to) × (partner ≡ r.from) × (value_of id ≡ named_by r.receipt))
   -- what is settled stays so under every further list
   pub settled : (k : ℕ) (d : OutEntry) → document s k ≡ Some d → is_settled d ≡ true → (more : Trace) (t : State) → Run A s more t → StandsAs d t k
   -- its own events tell: another list that has them in the same order gives it the same, whatever else it has

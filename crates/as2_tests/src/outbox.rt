@@ -13,6 +13,7 @@ mod reads;
 mod refusals;
 mod replies;
 mod sending;
+mod stopped;
 mod tries;
 mod views;
 

@@ -57,7 +57,7 @@ fn retries_used(rt: HostRuntime) -> Result<(), Fail> {
     check_all(rt.alloc(), RETRIES, &STANDS)
 }
 
-const AWAITED: &[Row] = &[
+pub(super) const AWAITED: &[Row] = &[
     (Did::Submit("Depot", 1000), Said::Submitted(1)),
     (Did::Begin(1, 1000), TO_DEPOT),
     (Did::Answered(1, EMPTY, 1000), Said::Delivered),

@@ -6,7 +6,7 @@ use Rattle.as2_exchange.specs.declared.next.Next.TheVariants.{Document}
 use Rattle.as2_exchange.specs.declared.fault.StoreFault.{StoreFault}
 use Rattle.as2_store.specs.Calls.{Reads}
 use Rattle.as2_store.proofs.Querying.{read_of}
-use Rattle.as2_station.proofs.NextDue.{asked, not_asked}
+use Rattle.as2_station.proofs.NextDue.{asked, is_least, not_asked, receipt_is_least}
 use Rattle.as2_station.proofs.station.Station.next.Goals.{in-Some-2, in-None}
 use Rattle.as2_station.proofs.station.Station.next.Goals as goal
 
@@ -25,3 +25,12 @@ returns-clause-next g c =
       | in-Some-2 w ↦ subst (Reads {A = Option Next} {E = StoreFault} (λ s found. found ≡ next s m) old new) (ap (λ (o : Option _). Ok (option_map Document o)) w.in-Some-2.is ∙ sym w.result-is) found
       | in-None w ↦ subst (Reads {A = Option Next} {E = StoreFault} (λ s found. found ≡ next s m) old new) (ap (λ (o : Option _). Ok (option_map Document o)) w.in-None.is ∙ sym w.result-is) found
     ]
+
+pub returns-in_err-number-2-clause-least : goal.returns-in_err-number-2-clause-least
+returns-in_err-number-2-clause-least g c = is_least c.args.moment _ _ _ (returns-in_err-number-2-clause-next g c)
+
+pub returns-clause-least : goal.returns-clause-least
+returns-clause-least g c = is_least c.args.moment _ _ _ (returns-clause-next g c)
+
+pub returns-in-Some-clause-least : goal.returns-in-Some-clause-least
+returns-in-Some-clause-least g c = read_of _ _ _ _ _ (ap (state g.S.Store) c.self.view_is) (receipt_is_least c.args.moment _ _ c.in_ok-number.field-0 c.in-Some.number c.in-Some.is c.in_ok-number.ensures.due)
