@@ -1,26 +1,25 @@
 -- What was done before a stop, and after it.
-use Rattle.std.proofs.Common.{◌≡◌, ◌∙◌, ℕ, true, List, ◌++◌, Option, Some, None, refl, sym, ap, subst}
-use Rattle.std.specs.Prelude.{IsSomeAnd, map}
-use Rattle.std.specs.List.{AllByRecursion}
-use Rattle.sqlite.specs.State.{State as Connected}
+use Rattle.std.proofs.Common.{◌≡◌, ◌∙◌, ℕ, true, ◌++◌, Option, Some, None, refl, ap}
+use Rattle.std.specs.Prelude.{IsSomeAnd}
 use Rattle.as2_mdn.specs.Details.{state_of}
 use Rattle.as2_mdn.specs.declared.detail.State.TheVariants.{S}
 use Rattle.as2_exchange.specs.Agreement.{Agreements}
 use Rattle.as2_exchange.specs.Invariants.{IsCounter, IsEntry, IsWellFormed, is_by_receipt}
 use Rattle.as2_exchange.specs.Run.{Trace, Run}
-use Rattle.as2_exchange.specs.State.{State, OutEntry, document, empty, is_settled}
+use Rattle.as2_exchange.specs.State.{State, document, empty, is_settled}
+use Rattle.as2_exchange.specs.declared.outbox.OutEntry.{OutEntry}
 use Rattle.as2_exchange.proofs.Finds.{all_found}
 use Rattle.as2_exchange.proofs.Lists.{all_map}
 use Rattle.as2_exchange.proofs.Success.{state_of_success}
-use Rattle.as2_station.specs.Theorem.{IsSuccessful, StandsAs}
-use Rattle.as2_station.specs.Traces.{Played}
+use Rattle.as2_station.specs.Theorem.{EndsByHistory, IsSuccessful}
 use Rattle.as2_station.proofs.ByHistory.{ends_by_history, run_then, stands_by_history}
-use Rattle.as2_restart.specs.Restarts.{Comes}
+use Rattle.as2_restart.specs.Restarts.{ComesTo}
 
-pub one : (A : Agreements) (told more : Trace) (s : State) (c d : Connected) → (before : Comes A told s c) → (after : Comes A more before.played.end d) → Played A (before.events ++ after.events) s d
-one A told more s c d before after =
-    let run = run_then A s before.played.end after.played.end before.events after.events before.played.run after.played.run in
-    record { end = after.played.end; run = run; by_history = ends_by_history A s (before.events ++ after.events) after.played.end run; rests = after.played.rests }
+pub one : (A : Agreements) (told more : Trace) (s t u : State) → (before : ComesTo A told s t) → (after : ComesTo A more t u) → Run A s (before.events ++ after.events) u
+one A told more s t u before after = run_then A s t u before.events after.events before.run after.run
+
+pub one_by_history : (A : Agreements) (told more : Trace) (s t u : State) → (before : ComesTo A told s t) → (after : ComesTo A more t u) → EndsByHistory A s (before.events ++ after.events) u
+one_by_history A told more s t u before after = ends_by_history A s (before.events ++ after.events) u (one A told more s t u before after)
 
 -- a receipt settled what is successful
 settled : (A : Agreements) (s : State) (k : ℕ) (d : OutEntry) → IsWellFormed A s → document s k ≡ Some d → state_of d.detail ≡ S → is_settled d ≡ true
@@ -39,5 +38,5 @@ stays A first before more s t k (Some d) is counter run on successful =
     let stood = stands_by_history A first before s counter run in
     as_it_stood d (document t k) successful (stood.settled k d is (settled A s k d stood.formed is successful) more t on)
 
-pub success_stays : (A : Agreements) (first : ℕ) (before told : Trace) (s : State) (c : Connected) (k : ℕ) → IsCounter first → Run A (empty first) before s → IsSuccessful s k → (it : Comes A told s c) → IsSuccessful it.played.end k
-success_stays A first before told s c k counter run successful it = stays A first before it.events s it.played.end k (document s k) refl counter run it.played.run successful
+pub successful : (A : Agreements) (first : ℕ) (before told : Trace) (s t : State) (k : ℕ) → IsCounter first → Run A (empty first) before s → ComesTo A told s t → IsSuccessful s k → IsSuccessful t k
+successful A first before told s t k counter run it = stays A first before it.events s t k (document s k) refl counter run it.run

@@ -1,5 +1,5 @@
 -- What the files of a store stand for once they are opened again.
-use Rattle.std.proofs.Common.{◌≡◌, Option, Some, IsTrue, refl, sym, ap, ap₂, subst, ◌∙◌}
+use Rattle.std.proofs.Common.{◌≡◌, Option, Some, None, IfSome, IsTrue, sym, ap, ap₂, subst, ◌∙◌}
 use Rattle.std.proofs.Math.Logic.{∥∥₁_map}
 use Rattle.sqlite_disk.specs.declared.Disk as disk
 use Rattle.sqlite_disk.specs.declared.Files.{Files}
@@ -80,3 +80,9 @@ some_is s t e = cc
 
 pub holds : (c : Connected) (s : State) → Reaches c (Some s) → IsHeld c s
 holds c s it = subst (IsHeld c) (sym (some_is s it.state it.is)) (record { rests = it.rests; lasts = it.lasts })
+
+-- ---- what is found, if anything is
+
+pub of_both : {X : Type 0} {P Q R : X → Type 0} → ((x : X) → P x → Q x → R x) → (o : Option X) → IfSome o P → IfSome o Q → IfSome o R
+of_both f None p q = tt
+of_both f (Some x) p q = f x p q

@@ -1,6 +1,6 @@
 -- What a list of events leaves to a crash.
-use Rattle.std.proofs.Common.{◌≡◌, ◌⊎◌, ◌∙◌, ℕ, Bool, true, false, List, [], ◌∷◌, Option, Some, None, IsTrue, Result, Ok, Err, refl, sym, ap, subst, inl, inr}
-use Rattle.std.specs.Prelude.{option_map}
+use Rattle.std.proofs.Common.{◌≡◌, ◌⊎◌, ◌∙◌, ℕ, Bool, true, false, List, [], ◌∷◌, Option, Some, None, Result, Ok, Err, refl, sym, ap, subst, inl, inr}
+use Rattle.std.specs.Prelude.{option_map, is_none}
 use Rattle.sqlite_trees.specs.Tree.{Trees}
 use Rattle.sqlite.specs.Store.{Ghosts}
 use Rattle.sqlite.specs.Held.{Held, state}
@@ -11,7 +11,9 @@ use Rattle.as2_exchange.specs.Run.{Said, Answered, Failed, Trace, Run, MayFail}
 use Rattle.as2_exchange.specs.State.{State}
 use Rattle.as2_exchange.specs.Step.{post, step}
 use Rattle.as2_exchange.specs.Documents.{submit}
+use Rattle.as2_exchange.specs.Lines.{refusal}
 use Rattle.as2_exchange.specs.declared.answer.Answer.{Answer}
+use Rattle.as2_exchange.specs.declared.answer.Answer.TheVariants.{Http, Refused}
 use Rattle.as2_exchange.specs.declared.answer.Refusal.{Refusal}
 use Rattle.as2_exchange.specs.declared.event.Event.{Event}
 use Rattle.as2_exchange.specs.declared.event.Event.TheVariants.{Post, Submit, Begin, Outcome, BeginMdn, OutcomeMdn, Tick}
@@ -19,26 +21,30 @@ use Rattle.as2_exchange.specs.declared.fault.StoreFault.{StoreFault}
 use Rattle.as2_store.specs.Calls.{Keeps, Lasts}
 use Rattle.as2_store.specs.Stands.{Rests}
 use Rattle.as2_station.specs.Heads.{asks_store, submit_refusal, takes_store}
-use Rattle.as2_station.specs.Steps.{TakesEvent}
+use Rattle.as2_station.specs.Steps.{Left, TakesEvent}
 use Rattle.as2_station.specs.Traces.{Taken, said, trace}
+use Rattle.as2_station.proofs.ByHistory.{ends_by_history}
 use Rattle.as2_station.proofs.HandedIn.{refuses}
 use Rattle.as2_station.proofs.Playing.{taken_clean}
-use Rattle.as2_restart.specs.Restarts.{Counts, HasOneDone, IsHeld, LeavesOne, this_one, later_one}
+use Rattle.as2_restart.specs.Restarts.{Counts, IsHeld, MayLeave, this_one, later_one}
 
 -- ---- what isn't asked of the store leaves the state
 
-left_of : {X Y : Type 0} (a b : X) (s t : Y) → Some (a, s) ≡ Some (b, t) → t ≡ s
-left_of a b s t e = cc
+some_once : {X : Type 0} → (a b : X) → Some a ≡ Some b → a ≡ b
+some_once a b e = cc
+
+left_of : (x y : Answer × State) → Some x ≡ Some y → y.1 ≡ x.1
+left_of x y e = sym (ap (λ (p : Answer × State). p.1) (some_once x y e))
 
 unread_post : (A : Agreements) (s t : State) (m : ℕ) (a : Answer) (r : Reading) → takes_store r ≡ false → post A s m r ≡ Some (a, t) → t ≡ s
-unread_post A s t m a (Refuses line) none is = left_of _ a s t is
+unread_post A s t m a (Refuses line) none is = left_of (Http (refusal line), s) (a, t) is
 unread_post A s t m a (IsReceipt r) none is = absurd cc
 unread_post A s t m a (IsDocument p) none is = absurd cc
 
 not_handed_in : (A : Agreements) (s t : State) (organization partner content : Text) (m : ℕ) (a : Answer) (o : Option Refusal) → submit_refusal A organization partner content ≡ o → asks_store A (Submit organization partner content m) ≡ false
     → submit A s organization partner content m ≡ Some (a, t) → t ≡ s
-not_handed_in A s t organization partner content m a None refused none is = absurd (let two : true ≡ false = rw refused none in cc)
-not_handed_in A s t organization partner content m a (Some reason) refused none is = left_of _ a s t (sym (refuses A s organization partner content m reason refused) ∙ is)
+not_handed_in A s t organization partner content m a None refused none is = absurd (let two : true ≡ false = ap is_none (sym refused) ∙ none in cc)
+not_handed_in A s t organization partner content m a (Some reason) refused none is = left_of (Refused reason, s) (a, t) (sym (refuses A s organization partner content m reason refused) ∙ is)
 
 unasked : (A : Agreements) (s t : State) (e : Event) (a : Answer) → asks_store A e ≡ false → step A s e ≡ Some (a, t) → t ≡ s
 unasked A s t (Post head body m) a none is = unread_post A s t m a (reading A head body) none is
@@ -75,7 +81,7 @@ module _ (A : Agreements) (e : Event) (old new : Connected) (clean : HasCleanDis
 -- ---- all of them
 
 -- what is told leads from s to t, perhaps with the event that was under way
-abbrev pub Fits : Agreements → Trace → State → State → Type 0
+abbrev Fits : Agreements → Trace → State → State → Type 0
 Fits A told s t = (events : Trace) × Counts told events × Run A s events t
 
 -- a state that what is told leads to is kept, from s or, where that may have been committed last, from u
@@ -137,7 +143,7 @@ module _ (A : Agreements) (x : Event) (told : Trace) (old mid : Connected) (clea
       by false opened None is = whole (record { each = λ d may. elim (shut_at A x f old mid s None is clean it rests lasts d may) [ inl k ↦ k | inr n ↦ absurd (let none : None ≡ Some (n.1, n.0) = n.2 in cc) ] })
       by false opened (Some y) is =
           let rested : Rests mid y.1 = record { autocommit = now.0.autocommit; stands = λ yes. absurd (let two : true ≡ false = sym yes ∙ opened in cc); committed = λ yes. absurd (let two : true ≡ false = sym yes ∙ opened in cc) } in
-          let at : At s (Some y.1) mid = (opened, now.0, rested, λ d may. elim (shut_at A x f old mid s (Some y) is clean it rests lasts d may) [ inl k ↦ inl k | inr n ↦ inr (subst (Keeps d) (left_of y.0 n.1 y.1 n.0 n.2) n.3) ]) in
+          let at : At s (Some y.1) mid = (opened, now.0, rested, λ d may. elim (shut_at A x f old mid s (Some y) is clean it rests lasts d may) [ inl k ↦ inl k | inr n ↦ inr (subst (Keeps d) (left_of y (n.1, n.0) n.2) n.3) ]) in
           elim (go (Some y.1) at) [
             | inl k ↦ (k.0, failed_first A x f told s k.0 now.1 k.1, k.2)
             | inr k ↦ (k.0, done_first A x f y.0 told s y.1 k.0 is k.1, k.2)
@@ -147,7 +153,10 @@ module _ (A : Agreements) (x : Event) (told : Trace) (old mid : Connected) (clea
   answered_shut : (a : Answer) → TakesEvent A x (λ a. a) old mid (Ok a) → (s u : State) → At s (Some u) old → ((t : State) (o : Option State) → At t o mid → Goes A told t o db) → Goes A ((x, Answered a) ∷ told) s (Some u) db
   answered_shut a it s u at go = by mid.is_open refl (asks_store A x) refl
     where
+      now : Left mid (step A s x) a
       now = it.does.answered clean s at.1 tt
+
+      other : Left mid (step A u x) a
       other = it.does.answered clean u at.2 tt
 
       by : (opened : Bool) → mid.is_open ≡ opened → (asks : Bool) → asks_store A x ≡ asks → Goes A ((x, Answered a) ∷ told) s (Some u) db
@@ -206,6 +215,8 @@ module _ {S : Type 0} (g : Ghosts S) (A : Agreements) where
   goes_on (x ∷ es) (Err f ∷ rs) old new it clean s (Some u) at db may =
       failed_shut A x (trace es rs) (state g old) (state g it.0) (taken_clean g A es rs it.0 new it.4 clean) db f it.1 s u at (λ o there. goes_on es rs it.0 new it.4 clean s o there db may)
 
-  -- whatever stops the machine after these events, what is found is what they lead to, perhaps with the one that was under way
-  pub leaves_one : (es : List Event) (rs : List (Result Answer StoreFault)) (old new : Held S) → Taken g A es rs old new → HasCleanDisk (state g new) → (s : State) → IsHeld (state g old) s → LeavesOne (Fits A (trace es rs) s) (state g new)
-  leaves_one es rs old new taken clean s held db may = goes_on es rs old new taken clean s None (held.rests, held.lasts) db may
+  -- whatever stops the machine after these events, they lead to what is found, perhaps with the one that was under way
+  pub leaves : (es : List Event) (rs : List (Result Answer StoreFault)) (old new : Held S) → Taken g A es rs old new → HasCleanDisk (state g new) → (s : State) → IsHeld (state g old) s → MayLeave A (trace es rs) s (state g new)
+  leaves es rs old new taken clean s held db may =
+      let it = goes_on es rs old new taken clean s None (held.rests, held.lasts) db may in
+      (it.0, record { events = it.1.0; counts = it.1.1; run = it.1.2; by_history = ends_by_history A s it.1.0 it.0 it.1.2 }, it.2)

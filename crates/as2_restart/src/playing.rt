@@ -1,11 +1,10 @@
 //! Events, a stop, and events again.
-ghost use Rattle.std.specs.Prelude.{IfSome, ◌++◌};
+ghost use Rattle.std.specs.Prelude.{IfOk, IfSome};
 ghost use Rattle.sqlite.specs.State.{HasCleanDisk};
 ghost use Rattle.sqlite.specs.Files.{file_state};
 ghost use Rattle.as2_exchange.specs.State.{State};
-ghost use Rattle.as2_exchange.specs.Run.{Trace};
-ghost use Rattle.as2_station.specs.Traces.{Played, trace};
-ghost use Rattle.as2_restart.specs.Restarts.{Comes, Counts, IsHeld};
+ghost use Rattle.as2_station.specs.Traces.{trace};
+ghost use Rattle.as2_restart.specs.Restarts.{Comes, IsHeld};
 
 use crate::reopening::stop_and_open;
 use as2_agreement::Agreements;

@@ -2,9 +2,11 @@
 ghost use Rattle.std.specs.Prelude.{IfSome};
 ghost use Rattle.sqlite.specs.State.{HasCleanDisk};
 ghost use Rattle.sqlite.specs.Files.{file_state};
+ghost use Rattle.as2_exchange.specs.Agreement.{Agreements};
+ghost use Rattle.as2_exchange.specs.Run.{Trace};
 ghost use Rattle.as2_exchange.specs.State.{State};
 ghost use Rattle.as2_store.specs.Stands.{Rests};
-ghost use Rattle.as2_restart.specs.Restarts.{HoldsOne, IsHeld, LeavesOne};
+ghost use Rattle.as2_restart.specs.Restarts.{Comes, IsHeld, MayLeave};
 
 use as2_station::Station;
 use as2_store::Store;
@@ -46,7 +48,8 @@ pub fn stop_and_open<D: Crash + Drop>(
     options: Options,
 ) -> Option<Station<FileStore<D>>>
     ensures clean { IfSome result (λ again. HasCleanDisk (file_state again) → HasCleanDisk (file_state station)) }
-    ensures found { IfSome result (λ again. HasCleanDisk (file_state again) → (fits : State → Type 0) → LeavesOne fits (file_state station) → ∥ HoldsOne fits (file_state again) ∥₁) }
+    ensures found { IfSome result (λ again. HasCleanDisk (file_state again) → (A : Agreements) (told : Trace) (s : State) → MayLeave A told s (file_state station)
+        → ∥ Comes A told s (file_state again) ∥₁) }
 {
     let mut files = station.into_store().into_connection().into_store().close();
     files.log.crash();
