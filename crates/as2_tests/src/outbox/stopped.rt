@@ -37,7 +37,9 @@ fn station(alloc: Global, stop: Stop) -> Option<Station<FileStore<Fuse<Memory>>>
         log: Fuse::new(Memory::new(alloc), stop.log),
         db: Fuse::new(Memory::new(alloc), stop.database),
     };
-    let conn = Connection::open_files(alloc, files, Options::new(1)).ok()?;
+    let Ok(conn) = Connection::open_files(alloc, files, Options::new(1)) else {
+        return None;
+    };
     Some(Station::new(Store::create(conn, 1).ok()?))
 }
 
