@@ -1,4 +1,4 @@
-"""What as2desk leaves of files: kills, foreign files, damage. tests/files.sh runs it; docs/FILES.md has what it found.
+"""What as2desk leaves of files: kills, foreign files, damage. tests/files.sh runs it; docs/OPERATING.md has what it found.
 
 Each section prints a line for what it counted; the status is 1 where one of them isn't as wanted. The program is ./as2desk, or
 the file that --program names; --kills and --flips set how many there are (300).
