@@ -121,8 +121,8 @@ def kill_posts(station, _partner, wait, number, counts):
     except BrokenPipeError:
         pass
     output, ended = end(run, wait)
-    counts["ended before"] += ended
     check_posts(station, numbers, whole_replies(output), counts)
+    return not ended
 
 
 def exchange(port, text, seconds):
@@ -154,8 +154,8 @@ def kill_server(station, _partner, wait, number, counts):
         replies += got
     killer.wait()
     _, ended = end(run, 0)
-    counts["ended before"] += ended
     check_posts(station, numbers, replies, counts)
+    return not ended
 
 
 def shown(station, number):
@@ -211,7 +211,6 @@ def kill_sender(station, partner, wait, number, counts):
     run = station.start(moment, "send")
     run.stdin.close()
     output, ended = end(run, wait)
-    counts["ended before"] += ended
     came, now = name in partner.came, shown(station, document)
     counts[f"documents {now[1]}"] += 1
     if b"document %d: settled S processed\n" % document in output:
@@ -223,20 +222,22 @@ def kill_sender(station, partner, wait, number, counts):
     station.run(moment + RETRY, "send")
     if shown(station, document)[:2] != ("S", "processed"):
         raise Wrong(f"document {document} isn't settled once it is sent again: {shown(station, document)}")
+    return not ended
 
 
 def section(what, kill, station, partner, kills, most):
-    """So many kills, each at some moment of so many seconds; whether nothing is wrong."""
-    counts, wrong = collections.Counter(), 0
-    for at in range(kills):
+    """So many kills, each at some moment of so many seconds; a run that had ended by then is none. Whether nothing is wrong."""
+    counts, wrong, killed, at = collections.Counter(), 0, 0, 0
+    while killed < kills:
         if at % STORE_LIMIT == 0:
             station.clear()
         try:
-            kill(station, partner, random.random() * most, POSTS * at + 1, counts)
+            killed += kill(station, partner, random.random() * most, POSTS * at + 1, counts)
         except Wrong as found:
-            wrong += 1
+            wrong, killed = wrong + 1, killed + 1
             print(f"      {found}")
             station.clear()
+        at += 1
     print(f"{'WRONG' if wrong else 'ok   '} {kills} kills of {what}: {', '.join(f'{n} {name}' for name, n in sorted(counts.items()))}, {wrong} excluded", flush=True)
     return wrong == 0
 
