@@ -112,12 +112,14 @@ def check_posts(station, numbers, replies, counts):
 
 
 def kill_posts(station, _partner, wait, number, counts):
-    """A stream of posts is killed."""
+    """A stream of posts is killed: at its end, or while the next post is awaited."""
     numbers = list(range(number, number + POSTS))
     run = station.start(1000, "post")
     try:
         run.stdin.write(b"".join(map(post_of, numbers)))
-        run.stdin.close()
+        run.stdin.flush()
+        if random.random() < 0.5:
+            run.stdin.close()
     except BrokenPipeError:
         pass
     output, ended = end(run, wait)
@@ -216,7 +218,7 @@ def kill_sender(station, partner, wait, number, counts):
     if b"document %d: settled S processed\n" % document in output:
         wanted = [("S", "processed", 1)]
     else:
-        wanted = [("P", "sending", 1), ("S", "processed", 1) if came else ("P", "new", 0)]
+        wanted = [("R", "sending", 1), ("S", "processed", 1) if came else ("P", "new", 0)]
     if now not in wanted:
         raise Wrong(f"document {document}: {now}, which had come: {came}, told: {output}")
     station.run(moment + RETRY, "send")
@@ -226,18 +228,18 @@ def kill_sender(station, partner, wait, number, counts):
 
 
 def section(what, kill, station, partner, kills, most):
-    """So many kills, each at some moment of so many seconds; a run that had ended by then is none. Whether nothing is wrong."""
+    """So many kills, each at some moment; a run that had ended by then is none, and the next ones are killed sooner. Whether nothing is wrong."""
     counts, wrong, killed, at = collections.Counter(), 0, 0, 0
     while killed < kills:
         if at % STORE_LIMIT == 0:
             station.clear()
         try:
-            killed += kill(station, partner, random.random() * most, POSTS * at + 1, counts)
+            is_hit = kill(station, partner, random.random() * most, POSTS * at + 1, counts)
         except Wrong as found:
-            wrong, killed = wrong + 1, killed + 1
+            is_hit, wrong = True, wrong + 1
             print(f"      {found}")
             station.clear()
-        at += 1
+        killed, at, most = killed + is_hit, at + 1, most * (1.03 if is_hit else 0.96)
     print(f"{'WRONG' if wrong else 'ok   '} {kills} kills of {what}: {', '.join(f'{n} {name}' for name, n in sorted(counts.items()))}, {wrong} excluded", flush=True)
     return wrong == 0
 
