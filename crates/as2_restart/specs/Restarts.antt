@@ -1,6 +1,10 @@
 -- What stands once the files of a store are opened again, after a close or a crash.
-use Rattle.std.specs.Prelude.{◌≡◌, ◌⊎◌, ◌∷◌}
+use Rattle.std.specs.Prelude.{◌≡◌, ◌⊎◌, List, [], ◌∷◌, ◌++◌, Result}
+use Rattle.sqlite_disk.specs.declared.Disk as disk
+use Rattle.sqlite_store.specs.declared.store.FileStore.{FileStore}
 use Rattle.sqlite_trees.specs.Tree.{Trees}
+use Rattle.sqlite.specs.Files.{over_files}
+use Rattle.sqlite.specs.Held.{Held}
 use Rattle.sqlite.specs.State.{State as Connected}
 use Rattle.as2_exchange.specs.Agreement.{Agreements}
 use Rattle.as2_exchange.specs.Run.{Said, Answered, Failed, Trace, Run}
@@ -11,6 +15,7 @@ use Rattle.as2_exchange.specs.declared.fault.StoreFault.{StoreFault}
 use Rattle.as2_store.specs.Calls.{Keeps, Lasts}
 use Rattle.as2_store.specs.Stands.{Rests}
 use Rattle.as2_station.specs.Theorem.{EndsByHistory}
+use Rattle.as2_station.specs.Traces.{Taken}
 
 -- the tables stand for this state, and so they do for whoever opens the files next, whatever stops the machine
 pub record IsHeld (c : Connected) (s : State) : Type 0 where
@@ -41,3 +46,12 @@ MayLeave A told s c = (db : Trees) → c.may_leave db → (t : State) × ComesTo
 -- what was told leads to the state that is held
 abbrev pub Comes : Agreements → Trace → State → Connected → Type 0
 Comes A told s c = (t : State) × ComesTo A told s t × IsHeld c t
+
+-- one list after the other, each from the state that the one before it came to: what was told of each, and the events that count
+abbrev pub ComesInTurn : Agreements → List Trace → Trace → State → State → Type 0
+ComesInTurn A [] events s t = (events ≡ []) × (t ≡ s)
+ComesInTurn A (told ∷ rest) events s u = (t : State) × (it : ComesTo A told s t) × (later : Trace) × (events ≡ it.events ++ later) × ComesInTurn A rest later t u
+
+-- each event was taken in turn by the station, and nothing was done between
+abbrev pub WasPlayed : {D : Type 0} {g : disk.Ghosts D} → Agreements → List Event → List (Result Answer StoreFault) → Held (FileStore D g) → Type 0
+WasPlayed {D} {g} A events answers station = (left : Held (FileStore D g)) × Taken over_files A events answers station left

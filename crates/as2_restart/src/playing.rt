@@ -4,7 +4,7 @@ ghost use Rattle.sqlite.specs.State.{HasCleanDisk};
 ghost use Rattle.sqlite.specs.Files.{file_state};
 ghost use Rattle.as2_exchange.specs.State.{State};
 ghost use Rattle.as2_station.specs.Traces.{trace};
-ghost use Rattle.as2_restart.specs.Restarts.{Comes, IsHeld};
+ghost use Rattle.as2_restart.specs.Restarts.{Comes, IsHeld, WasPlayed};
 
 use crate::reopening::stop_and_open;
 use as2_agreement::Agreements;
@@ -30,6 +30,7 @@ pub fn play_then_stop<D: Crash + Drop>(
     ),
     Memory,
 >
+    ensures played { IfOk result (λ r. WasPlayed agreements.now events.items r.0.items station) }
     ensures comes { IfOk result (λ r. IfSome r.1 (λ again. HasCleanDisk (file_state again) → (s : State) → IsHeld (file_state station) s
         → ∥ Comes agreements.now (trace events.items r.0.items) s (file_state again) ∥₁)) }
 {
