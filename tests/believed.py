@@ -1,8 +1,7 @@
 #!/usr/bin/env python3
-"""Lists the files that a reader has to believe in order to believe the theorem, with their lines: the statement, and what it imports,
-definitions in specs/ and the types that they
-name in src/, and so on. Compares that with the list in docs/THEOREM.md; the
-status is 1 where it differs. With `--write` it puts the list there."""
+"""Lists the files that a reader has to believe in order to believe what `play`, `step` and `post` say, with their lines: the statement,
+and what it imports, definitions in specs/ and the types that they name in src/, and so on. Compares that with the list in
+docs/THEOREM.md; the status is 1 where it differs. With `--write` it puts the list there."""
 
 import pathlib
 import re
