@@ -108,7 +108,7 @@ repeats_exactly p q = (repeat_is p q, λ same. subst (λ (x : Posted). repeats p
 text_turned : (a b : Text) → bytes_eq a b ≡ true → bytes_eq b a ≡ true
 text_turned a b h = (bytes_eq-Decides b a).1 (sym (text_is a b h))
 
-and_all : (a b c : Bool) → a ≡ true → b ≡ true → c ≡ true → (a && (b && c)) ≡ true
+pub and_all : (a b c : Bool) → a ≡ true → b ≡ true → c ≡ true → (a && (b && c)) ≡ true
 and_all a b c h g f = rw (h, g, f) refl
 
 pub key_turned : (p q : Posted) → same_key p q ≡ true → same_key q p ≡ true

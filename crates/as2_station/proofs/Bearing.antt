@@ -8,15 +8,13 @@ use Rattle.as2_exchange.specs.Agreement.{Text}
 use Rattle.as2_exchange.specs.Readings.{named_by, value_of}
 use Rattle.as2_exchange.specs.Posts.{ReceivedReceipt}
 use Rattle.as2_exchange.specs.Receipts.{bears}
+use Rattle.as2_exchange.proofs.Equal.{and_all}
 
 all_three : (a b c : Bool) → (a && (b && c)) ≡ true → (a ≡ true) × (b ≡ true) × (c ≡ true)
 all_three true true true h = (refl, refl, refl)
 all_three true true false h = absurd (false≢true h)
 all_three true false c h = absurd (false≢true h)
 all_three false b c h = absurd (false≢true h)
-
-and_all : (a b c : Bool) → a ≡ true → b ≡ true → c ≡ true → (a && (b && c)) ≡ true
-and_all a b c h g f = rw (h, g, f) refl
 
 pub bears_exactly : (r : ReceivedReceipt) (organization partner id : Text) → IsTrue (bears r organization partner id) ↔ ((organization ≡ r.to) × (partner ≡ r.from) × (value_of id ≡ named_by r.receipt))
 bears_exactly r organization partner id = (there, back)

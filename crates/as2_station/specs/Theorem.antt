@@ -70,7 +70,7 @@ pub record StepsOn (A : Agreements) (s : State) : Type 0 where
   -- a request is handed out for a document that no receipt has settled, and not more often than is agreed
   pub sends : (n m : ℕ) (job : Job) (t : State) → step A s (Begin n m) ≡ Some (AJob job, t)
       → (d : OutEntry) × (document s n ≡ Some d) × (is_settled d ≡ false) × IsSomeAnd (partner_of A d.partner) (λ p. d.tries < p.max_tries)
-  -- and for a receipt that is still owed
+  -- and for a receipt that is still owed, not more often than is agreed since it was queued last
   pub sends_receipts : (n m : ℕ) (job : Job) (t : State) → step A s (BeginMdn n m) ≡ Some (AJob job, t)
       → (e : InEntry) × (received s n ≡ Some e) × (e.mdn ≡ Pending) × IsSomeAnd (partner_of A e.posted.sender) (λ p. e.tries < p.max_tries)
   -- a refusal changes nothing, nor does the outcome of a document that is settled
@@ -101,10 +101,10 @@ pub record StandsByHistory (A : Agreements) (trace : Trace) (s : State) : Type 0
   pub owed : (n : ℕ) (e : InEntry) → received s n ≡ Some e → receipt_history A (accepted trace) n e.posted ≡ Some (receipt_told e)
   -- numbers, keys and identifiers are distinct, and evidence stands exactly by what a receipt settled
   pub formed : IsWellFormed A s
-  -- and a further event does nothing else
+  -- and a further event does what StepsOn says
   pub further : StepsOn A s
 
--- the trace leads from s to t; and where an earlier one led from a store without entries to s, what stands is by both
+-- where an earlier trace led from a store without entries to s, what stands in t is by that trace and this one behind it
 abbrev pub EndsByHistory : Agreements → State → Trace → State → Type 0
 EndsByHistory A s trace t = (first : ℕ) (before : Trace) → IsCounter first → Run A (empty first) before s → StandsByHistory A (before ++ trace) t
 
@@ -113,6 +113,6 @@ abbrev pub said_as : {A : Type 0} → (A → Answer) → Result A StoreFault →
 said_as told (Ok a) = Answered (told a)
 said_as told (Err fault) = Failed fault
 
--- a call takes an event, in each state that the tables stood for
+-- what stands after a call that took an event is by that event, behind what led to the state that the tables stood for
 abbrev pub TakesByHistory : {A : Type 0} → Agreements → Event → (A → Answer) → Connected → Connected → Result A StoreFault → Type 0
 TakesByHistory A event told old new r = HasCleanDisk new → (s : State) → Rests old s → (t : State) × Rests new t × EndsByHistory A s ((event, said_as told r) ∷ []) t
