@@ -11,3 +11,4 @@ pub mod Settling
 pub mod Progressing
 pub mod Expiring
 pub mod Counting
+pub mod Files
