@@ -19,13 +19,14 @@ use Rattle.as2_desk.specs.Connections.{ServesCount, listening_line, ServesConnec
 
 -- n connections were served, and their lines written
 pub record HasServed (A : AgreedValues) (given : Option ℕ) (n : ℕ) (old new : Connected) (written now : Option (List ℕ)) : Type 0 where
+  pub clean : HasCleanDisk new → HasCleanDisk old
   pub ends : List Served
   pub all : length ends ≡ n
   pub serves : HasCleanDisk new → (s : State) → Rests old s → (t : State) × Rests new t × ServesEach A given ends s t
   pub lines : Appends written now (connection_lines ends)
 
 pub none_served : (A : AgreedValues) (given : Option ℕ) (c : Connected) (written : Option (List ℕ)) → HasServed A given 0 c c written written
-none_served A given c written = record { ends = []; all = refl; serves = λ clean s rests. (s, rests, refl); lines = Appends-nil written }
+none_served A given c written = record { clean = λ h. h; ends = []; all = refl; serves = λ clean s rests. (s, rests, refl); lines = Appends-nil written }
 
 serves_more : (A : AgreedValues) (given : Option ℕ) (ends : List Served) (end : Served) (s mid t : State) → ServesEach A given ends s mid → ServesOne A given mid t → ServesEach A given (ends ++ end ∷ []) s t
 serves_more A given [] end s mid t same one = (t, subst (λ (x : State). ServesOne A given x t) same one, refl)
@@ -47,6 +48,7 @@ module _ (A : AgreedValues) (given : Option ℕ) (n : ℕ) (old mid new : Connec
 
   pub one_more : {V F : Type 0} (v : V) → ServesNext {V = V} {F = F} A given mid new x y (Ok v) → HasServed A given (n + 1) old new w y
   one_more v next = record {
+    clean = λ h. so_far.clean (clean h);
     ends = so_far.ends ++ next.end ∷ [];
     all = more next.end;
     serves = with_next (Ok v) next;
@@ -55,6 +57,7 @@ module _ (A : AgreedValues) (given : Option ℕ) (n : ℕ) (old mid new : Connec
 
   cut_at : {V F G : Type 0} (count : ℕ) (f : F) (g : G) → n < count → ServesNext {V = V} {F = F} A given mid new x y (Err f) → ServesConnections {V = V} {F = G} A given count old new w y (Err g)
   cut_at count f g below next = record {
+    clean = λ h. so_far.clean (clean h);
     ends = so_far.ends ++ next.end ∷ [];
     serves = with_next (Err f) next;
     within = let is = more next.end in omega (arith, is, below);
@@ -69,6 +72,7 @@ module _ (A : AgreedValues) (given : Option ℕ) (n : ℕ) (old mid new : Connec
 pub all_served : {V F : Type 0} (A : AgreedValues) (given : Option ℕ) (n count : ℕ) (old new : Connected) (w x : Option (List ℕ)) (v : V) → n ≡ count → HasServed A given n old new w x
     → ServesConnections {V = V} {F = F} A given count old new w x (Ok v)
 all_served A given n count old new w x v is so_far = record {
+  clean = so_far.clean;
   ends = so_far.ends;
   serves = so_far.serves;
   within = let all = so_far.all in omega (arith, all, is);

@@ -1,5 +1,5 @@
 -- What is said of a store that is handed back.
-use Rattle.std.proofs.Common.{◌≡◌, ◌⊎◌, ℕ, Bool, true, false, List, Option, Some, None, IfSome, IsSome, option_map, inl, inr, refl, sym, subst, ap, codes, if◌then◌else◌}
+use Rattle.std.proofs.Common.{◌≡◌, ◌⊎◌, ◌∙◌, ℕ, Bool, true, false, List, Option, Some, None, IfSome, IsSome, option_map, inl, inr, refl, sym, subst, ap, codes, if◌then◌else◌}
 use Rattle.std.specs.Str.{bytes_eq}
 use Rattle.as2_agreement.specs.Agreements.{AgreedValues}
 use Rattle.as2_exchange.specs.State.{State}
@@ -33,6 +33,16 @@ elsewhere path kept is = ap (λ (b : Bool). if b then nothing else kept) is
 pub of_second : {A B : Type 0} (P : B → Type 0) (pair : Option (A × B)) (second : Option B) → option_map (λ p. p.1) pair ≡ second → IfSome second P → IfSome pair (λ p. P p.1)
 of_second P None second is holds = tt
 of_second P (Some p) second is holds = subst (λ o. IfSome o P) (sym is) holds
+
+-- .. and the other way
+pub to_second : {A B : Type 0} (P : B → Type 0) (pair : Option (A × B)) (second : Option B) → option_map (λ p. p.1) pair ≡ second → IfSome pair (λ p. P p.1) → IfSome second P
+to_second P None second is holds = subst (λ o. IfSome o P) is tt
+to_second P (Some p) second is holds = subst (λ o. IfSome o P) is holds
+
+-- nothing is under a path that has nothing
+pub none_under : {A B : Type 0} (conn : Option B) (pair : Option (A × B)) → option_map (λ p. p.1) pair ≡ conn → conn ≡ None → pair ≡ None
+none_under conn None is none = refl
+none_under conn (Some p) is none = absurd (let two : Some p.1 ≡ None = is ∙ none in cc)
 
 -- what is handed back comes with the path
 pub handed_under : {A : Type 0} (path : List ℕ) (Unread : Type 0) (paths : Option (List ℕ)) (conn : Option A) → paths ≡ option_map (λ _. path) conn → Unread ⊎ IsSome conn → HandsBack path Unread paths

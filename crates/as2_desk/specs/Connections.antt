@@ -48,6 +48,7 @@ pub record ServesNext {V F : Type 0} (A : AgreedValues) (given : Option ℕ) (ol
 -- Connections with these ends were served, one after the other: as many as that, and a line written for each, or fewer where a line
 -- couldn't be written.
 pub record ServesConnections {V F : Type 0} (A : AgreedValues) (given : Option ℕ) (count : ℕ) (old new : Connected) (written now : Option (List ℕ)) (r : Result V F) : Type 0 where
+  pub clean : HasCleanDisk new → HasCleanDisk old
   pub ends : List Served
   pub serves : HasCleanDisk new → (s : State) → Rests old s → (t : State) × Rests new t × ServesEach A given ends s t
   pub within : length ends ≤ count

@@ -114,6 +114,7 @@ fn answer<S: Alter>(
 ) -> Result<Printed, CommandFault>
     ensures refused { (reason : TheRefusal) → refusal_to agreements.now question ≡ Some reason → told_as result ≡ Err (Refusing reason) }
     ensures fault { FaultMayCome question (told_as result) }
+    ensures clean { HasCleanDisk (state S.Store station.new) → HasCleanDisk (state S.Store station.old) }
     ensures tells { HasCleanDisk (state S.Store station.new) → (s : State) → Rests (state S.Store station.old) s
         → (t : State) × Rests (state S.Store station.new) t × Tells agreements.now moment question s t (told_as result) }
 {
@@ -146,6 +147,7 @@ pub(crate) fn ask<S: Alter, W: Sink, E: Write>(
     errors: &mut E,
 ) -> Ran
     ensures status { (result.status ≡ done) ⊎ ((result.status ≡ refused) ⊎ (result.status ≡ failed)) }
+    ensures clean { HasCleanDisk (state S.Store station.new) → HasCleanDisk (state S.Store station.old) }
     ensures asks { (known : Option State) → IfSome known (λ s. HasCleanDisk (state S.Store station.new) × Rests (state S.Store station.old) s)
         → Asks agreements.now moment question known (output.new ≡ output.old) (λ t. Rests (state S.Store station.new) t)
         (W.written output.old) (W.written output.new) (Appends (E.contents errors.old) (E.contents errors.new)) result }

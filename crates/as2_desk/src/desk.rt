@@ -5,6 +5,7 @@ ghost use Rattle.clap.specs.Walk.{texts};
 ghost use Rattle.clap.specs.Words.{kind_of};
 ghost use Rattle.clap.specs.declared.error.kind.ErrorKind.TheVariants.{OutOfMemory};
 ghost use Rattle.sqlite.specs.Held.{state};
+ghost use Rattle.sqlite.specs.State.{HasCleanDisk};
 ghost use Rattle.as2_store.specs.Stands.{Rests};
 ghost use Rattle.as2_commands.specs.CommandLine.{AsksForHelp, IsHelp};
 ghost use Rattle.as2_commands.specs.Options.{Gives, GivesNone};
@@ -41,7 +42,7 @@ pub fn run<'a, F: ReadFiles, O: OpenStores, N: Network, R: Source, W: Sink, E: W
     words: &'a [&'a str],
     clock: Option<u64>,
     files: &F,
-    stores: &O,
+    stores: &mut O,
     network: &N,
     input: &mut R,
     output: &mut W,
@@ -54,9 +55,9 @@ pub fn run<'a, F: ReadFiles, O: OpenStores, N: Network, R: Source, W: Sink, E: W
     // memory for the words was wanting nothing is read or written.
     ensures runs { (path store : List ℕ) (task : TheTask)
         → Gives (texts words.entry.now) clock path store task
-        → Runs (F.content files.now) path (kept_at store (O.kept stores.now store)) task
+        → Runs (F.content files.now) path (kept_at store (O.kept stores.old store)) task
         (R.left input.old) (R.left input.new) (R.calls input.old) (R.calls input.new) (input.new ≡ input.old) (output.new ≡ output.old)
-        (λ t. IfSome result.1 (λ l. Rests (state O.Kind.Store l.1) t)) (HandsBack store ⊥ (option_map (λ l. l.0.now) result.1))
+        (λ t. IfSome result.1 (λ l. Rests (state O.Kind.Store l.1) t)) (IfSome result.1 (λ l. HasCleanDisk (state O.Kind.Store l.1))) (result.1 ≡ None) (HandsBack store ⊥ (option_map (λ l. l.0.now) result.1))
         (W.written output.old) (W.written output.new) (Appends (E.contents errors.old) (E.contents errors.new)) result.0
         ⊎ ((input.new ≡ input.old) × (output.new ≡ output.old)
         × EndsRefused Memory (Appends (E.contents errors.old) (E.contents errors.new)) result.0) }
@@ -91,16 +92,16 @@ fn carry_out<'a, F: ReadFiles, O: OpenStores, N: Network, R: Source, W: Sink, E:
     options: Options<'a>,
     agreed: Result<Agreements, CommandFault>,
     files: &F,
-    stores: &O,
+    stores: &mut O,
     network: &N,
     input: &mut R,
     output: &mut W,
     errors: &mut E,
 ) -> (Ran, Option<(&'a str, Connection<O::Kind>)>)
     ensures status { (result.0.status ≡ done) ⊎ ((result.0.status ≡ refused) ⊎ (result.0.status ≡ failed)) }
-    ensures comes { Comes (F.content files.now) agreed (kept_at options.entry.store.now (O.kept stores.now options.entry.store.now)) options.entry.task
+    ensures comes { Comes (F.content files.now) agreed (kept_at options.entry.store.now (O.kept stores.old options.entry.store.now)) options.entry.task
         (R.left input.old) (R.left input.new) (R.calls input.old) (R.calls input.new) (input.new ≡ input.old) (output.new ≡ output.old)
-        (λ t. IfSome result.1 (λ l. Rests (state O.Kind.Store l.1) t)) (HandsBack options.entry.store.now ⊥ (option_map (λ l. l.0.now) result.1))
+        (λ t. IfSome result.1 (λ l. Rests (state O.Kind.Store l.1) t)) (IfSome result.1 (λ l. HasCleanDisk (state O.Kind.Store l.1))) (result.1 ≡ None) (HandsBack options.entry.store.now ⊥ (option_map (λ l. l.0.now) result.1))
         (W.written output.old) (W.written output.new) (Appends (E.contents errors.old) (E.contents errors.new)) result.0 }
     ensures store { result.0.status ≡ failed → Stopped (IsSending options.entry.task) (input.new ≡ input.old) (output.new ≡ output.old)
         (Appends (E.contents errors.old) (E.contents errors.new)) result.0 }

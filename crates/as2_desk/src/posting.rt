@@ -31,6 +31,7 @@ pub(crate) fn post<S: Alter, R: Source, W: Sink, E: Write>(
     errors: &mut E,
 ) -> Ran
     ensures status { (result.status ≡ done) ⊎ (result.status ≡ refused) }
+    ensures clean { HasCleanDisk (state S.Store station.new) → HasCleanDisk (state S.Store station.old) }
     ensures posts { (known : Option State) → IfSome known (λ s. HasCleanDisk (state S.Store station.new) × Rests (state S.Store station.old) s)
         → Posts agreements.now moment known (R.left input.old) (R.left input.new) (R.calls input.old) (R.calls input.new)
         (λ t. Rests (state S.Store station.new) t)

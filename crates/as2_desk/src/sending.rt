@@ -34,6 +34,7 @@ pub(crate) fn send_due<S: Alter, L: Links, W: Sink, E: Write>(
     errors: &mut E,
 ) -> Ran
     ensures status { (result.status ≡ done) ⊎ ((result.status ≡ refused) ⊎ (result.status ≡ failed)) }
+    ensures clean { HasCleanDisk (state S.Store station.new) → HasCleanDisk (state S.Store station.old) }
     ensures sends { (known : Option State) → IfSome known (λ s. HasCleanDisk (state S.Store station.new) × Rests (state S.Store station.old) s)
         → SendsDue agreements.now moment known (λ t. Rests (state S.Store station.new) t)
         (W.written output.old) (W.written output.new) (Appends (E.contents errors.old) (E.contents errors.new)) result }

@@ -91,6 +91,7 @@ pub(crate) fn serve<S: Alter, N: Network, W: Sink, E: Write>(
     errors: &mut E,
 ) -> Ran
     ensures status { (result.status ≡ done) ⊎ (result.status ≡ refused) }
+    ensures clean { HasCleanDisk (state S.Store station.new) → HasCleanDisk (state S.Store station.old) }
     ensures serves { (known : Option State) → IfSome known (λ s. HasCleanDisk (state S.Store station.new) × Rests (state S.Store station.old) s)
         → ServesCount agreements.now serving.entry known (output.new ≡ output.old) (λ t. Rests (state S.Store station.new) t)
         (W.written output.old) (W.written output.new) (Appends (E.contents errors.old) (E.contents errors.new)) result }

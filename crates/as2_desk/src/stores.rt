@@ -1,6 +1,7 @@
 //! The stores of records, as far as the program opens them.
-ghost use Rattle.std.specs.Prelude.{◌≡◌, ℕ, List, false, Ok, IfOk, IfErr, IfSome};
+ghost use Rattle.std.specs.Prelude.{◌≡◌, ℕ, List, false, Ok, None, IfOk, IfErr, IfSome};
 ghost use Rattle.sqlite.specs.Held.{state};
+ghost use Rattle.sqlite.specs.State.{HasCleanDisk};
 ghost use Rattle.sqlite.specs.Steps.{over_memory};
 ghost use Rattle.as2_exchange.specs.State.{State, empty};
 ghost use Rattle.as2_store.specs.Stands.{IsBlank, Rests};
@@ -32,7 +33,7 @@ pub enum OpenFault {
     Store(StoreFault),
 }
 
-/// Stores that are opened by a path. The file system is one, of which nothing is told.
+/// Stores that are opened by a path, one of them and once.
 pub trait OpenStores {
     /// What the records lie on.
     type Kind: Alter + Drop;
@@ -45,22 +46,23 @@ pub trait OpenStores {
         ensures { Sees (kept self.now path.now) result };
 
     /// Opens the database that stands under that path.
-    fn open_store(&self, alloc: Global, path: &str) -> Result<Connection<Self::Kind>, OpenFault>
-        requires database { MayBeOpened (kept self.now path.now) }
+    fn open_store(&mut self, alloc: Global, path: &str) -> Result<Connection<Self::Kind>, OpenFault>
+        requires database { MayBeOpened (kept self.old path.now) }
         ensures autocommit { IfOk result (λ c. c.in_transaction ≡ false) }
-        ensures opened { IsOpened Self.Kind.Store (kept self.now path.now) result };
+        ensures opened { IsOpened Self.Kind.Store (kept self.old path.now) result };
 
     /// Makes a store whose first numbers are `first`, whole, and opens it under that path; None where something stands there by
     /// now.
     fn make_store(
-        &self,
+        &mut self,
         alloc: Global,
         path: &str,
         first: FirstNumber,
     ) -> Result<Option<Connection<Self::Kind>>, OpenFault>
-        requires free { MayBeMade (kept self.now path.now) }
+        requires free { MayBeMade (kept self.old path.now) }
         ensures autocommit { IfOk result (λ o. IfSome o (λ c. c.in_transaction ≡ false)) }
-        ensures made { IsMade Self.Kind.Store (kept self.now path.now) first result };
+        ensures made { IsMade Self.Kind.Store (kept self.old path.now) first result }
+        ensures taken { IfOk result (λ o. o ≡ None → kept self.new path.now ≡ kept self.old path.now) };
 }
 
 /// The fault that an error in opening a file is: a file that is no database is no store.
@@ -77,7 +79,8 @@ pub fn opening_fault(error: Error) -> OpenFault
 /// The records of a connection, where its tables are those of a store.
 fn adopted<S: Alter + Drop>(conn: Connection<S>) -> Result<Store<S>, OpenFault>
     requires autocommit { conn.in_transaction ≡ false }
-    ensures { (s : State) → IsFaithful S.Store → Rests (state S.Store conn) s → StandsOpen S.Store s result }
+    ensures faithful { (s : State) → IsFaithful S.Store → Rests (state S.Store conn) s → StandsOpen S.Store s result }
+    ensures same { IfOk result (λ store. HasCleanDisk (state S.Store store) → HasCleanDisk (state S.Store conn) × ((s : State) → Rests (state S.Store conn) s → Rests (state S.Store store) s)) }
 {
     match Store::adopt(conn) {
         Ok(store) => Ok(store),
@@ -88,7 +91,8 @@ fn adopted<S: Alter + Drop>(conn: Connection<S>) -> Result<Store<S>, OpenFault>
 /// New records, which begin with `first`, where the connection has no tables.
 fn created<S: Alter + Drop>(conn: Connection<S>, first: FirstNumber) -> Result<Store<S>, OpenFault>
     requires autocommit { conn.in_transaction ≡ false }
-    ensures { IsFaithful S.Store → IsBlank (state S.Store conn) → StandsOpen S.Store (empty first) result }
+    ensures faithful { IsFaithful S.Store → IsBlank (state S.Store conn) → StandsOpen S.Store (empty first) result }
+    ensures fresh { IfOk result (λ store. HasCleanDisk (state S.Store store) → IsBlank (state S.Store conn) → Rests (state S.Store store) (empty first)) }
 {
     match Store::create(conn, first.get()) {
         Ok(store) => Ok(store),
@@ -104,6 +108,7 @@ pub fn make_tables<S: Alter + Drop>(
     requires autocommit { conn.in_transaction ≡ false }
     ensures autocommit { IfOk result (λ c. c.in_transaction ≡ false) }
     ensures made { IsFaithful S.Store → IsBlank (state S.Store conn) → StandsOpen S.Store (empty first) result }
+    ensures fresh { IfOk result (λ c. HasCleanDisk (state S.Store c) → IsBlank (state S.Store conn) → Rests (state S.Store c) (empty first)) }
 {
     Ok(created(conn, first)?.into_connection())
 }
@@ -111,11 +116,11 @@ pub fn make_tables<S: Alter + Drop>(
 /// The records of the store that stands under that path.
 fn records_found<O: OpenStores>(
     alloc: Global,
-    stores: &O,
+    stores: &mut O,
     path: &str,
 ) -> Result<Store<O::Kind>, OpenFault>
-    ensures found { IfOk result (λ store. (first : ℕ) → MayBeOpened (O.kept stores.now path.now) × Holds O.Kind.Store (O.kept stores.now path.now) first (Ok store)) }
-    ensures fault { IfErr result (IsFaultOf (O.kept stores.now path.now)) }
+    ensures found { IfOk result (λ store. (first : ℕ) → MayBeOpened (O.kept stores.old path.now) × Holds O.Kind.Store (O.kept stores.old path.now) first (Ok store)) }
+    ensures fault { IfErr result (IsFaultOf (O.kept stores.old path.now)) }
 {
     match stores.look(path)? {
         Seen::Database => adopted(stores.open_store(alloc, path)?),
@@ -127,11 +132,11 @@ fn records_found<O: OpenStores>(
 /// The records of the store of that path; those of a new one begin with `first`.
 pub(crate) fn records_in<O: OpenStores>(
     alloc: Global,
-    stores: &O,
+    stores: &mut O,
     path: &str,
     first: FirstNumber,
 ) -> Result<Store<O::Kind>, OpenFault>
-    ensures { Holds O.Kind.Store (O.kept stores.now path.now) first result }
+    ensures { Holds O.Kind.Store (O.kept stores.old path.now) first result }
 {
     if let Seen::Nothing = stores.look(path)?
         && let Some(conn) = stores.make_store(alloc, path, first)?

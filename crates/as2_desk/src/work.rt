@@ -1,5 +1,5 @@
 //! What a command does over the store.
-ghost use Rattle.std.specs.Prelude.{◌≡◌, ◌⊎◌, ℕ, Option, option_map, IfSome, IsSome};
+ghost use Rattle.std.specs.Prelude.{◌≡◌, ◌⊎◌, ℕ, Option, None, option_map, IfSome, IsErr, IsSome};
 ghost use Rattle.std.specs.Io.KnownBytes.{Appends};
 ghost use Rattle.sqlite.specs.Held.{state};
 ghost use Rattle.sqlite.specs.State.{HasCleanDisk};
@@ -8,7 +8,7 @@ ghost use Rattle.as2_store.specs.Stands.{Rests};
 ghost use Rattle.as2_desk.specs.Endings.{Fails, Stopped};
 ghost use Rattle.as2_desk.specs.Runs.{HandsBack};
 ghost use Rattle.as2_desk.specs.Statuses.{done, failed, refused};
-ghost use Rattle.as2_desk.specs.Stores.{Holds, Kept, kept_at, stands_for};
+ghost use Rattle.as2_desk.specs.Stores.{Holds, IsKnown, Kept, kept_at};
 ghost use Rattle.as2_desk.specs.Works.{Does, IsWork, SendsWork};
 
 use crate::asking::{Question, ask};
@@ -85,6 +85,7 @@ fn do_at<S: Alter, N: Network, R: Source, W: Sink, E: Write>(
     errors: &mut E,
 ) -> Ran
     ensures status { (result.status ≡ done) ⊎ ((result.status ≡ refused) ⊎ (result.status ≡ failed)) }
+    ensures clean { HasCleanDisk (state S.Store station.new) → HasCleanDisk (state S.Store station.old) }
     ensures does { (known : Option State) → IfSome known (λ s. HasCleanDisk (state S.Store station.new) × Rests (state S.Store station.old) s)
         → Does agreements.now moment work.entry known (R.left input.old) (R.left input.new) (R.calls input.old) (R.calls input.new)
         (input.new ≡ input.old) (output.new ≡ output.old) (λ t. Rests (state S.Store station.new) t)
@@ -119,11 +120,12 @@ fn do_over<S: Alter + Drop, N: Network, R: Source, W: Sink, E: Write>(
 ) -> (Ran, Option<Connection<S>>)
     ensures status { (result.0.status ≡ done) ⊎ ((result.0.status ≡ refused) ⊎ (result.0.status ≡ failed)) }
     ensures does { (kept : Kept) (first : ℕ) → Holds S.Store kept first records
-        → ((input.new ≡ input.old) × (output.new ≡ output.old)
+        → (IsErr records × (result.1 ≡ None) × (input.new ≡ input.old) × (output.new ≡ output.old)
         × Fails kept (Appends (E.contents errors.old) (E.contents errors.new)) result.0)
-        ⊎ (IsSome result.1 × Does agreements.now moment work.entry (stands_for kept first) (R.left input.old) (R.left input.new) (R.calls input.old) (R.calls input.new)
+        ⊎ (IsSome result.1 × ((known : Option State) → IsKnown kept first (IfSome result.1 (λ conn. HasCleanDisk (state S.Store conn))) known
+        → Does agreements.now moment work.entry known (R.left input.old) (R.left input.new) (R.calls input.old) (R.calls input.new)
         (input.new ≡ input.old) (output.new ≡ output.old) (λ t. IfSome result.1 (λ conn. Rests (state S.Store conn) t))
-        (W.written output.old) (W.written output.new) (Appends (E.contents errors.old) (E.contents errors.new)) result.0) }
+        (W.written output.old) (W.written output.new) (Appends (E.contents errors.old) (E.contents errors.new)) result.0)) }
     ensures store { result.0.status ≡ failed → Stopped (SendsWork work.entry) (input.new ≡ input.old) (output.new ≡ output.old)
         (Appends (E.contents errors.old) (E.contents errors.new)) result.0 }
     ensures handed { (input.new ≡ input.old) ⊎ IsSome result.1 }
@@ -156,20 +158,21 @@ pub(crate) fn work_over<'a, O: OpenStores, N: Network, R: Source, W: Sink, E: Wr
     options: RunOptions,
     work: Work<'_>,
     path: &'a str,
-    stores: &O,
+    stores: &mut O,
     network: &N,
     input: &mut R,
     output: &mut W,
     errors: &mut E,
 ) -> (Ran, Option<(&'a str, Connection<O::Kind>)>)
     ensures status { (result.0.status ≡ done) ⊎ ((result.0.status ≡ refused) ⊎ (result.0.status ≡ failed)) }
-    ensures does { ((input.new ≡ input.old) × (output.new ≡ output.old)
-        × Fails (kept_at path.now (O.kept stores.now path.now)) (Appends (E.contents errors.old) (E.contents errors.new)) result.0)
+    ensures does { ((result.1 ≡ None) × (input.new ≡ input.old) × (output.new ≡ output.old)
+        × Fails (kept_at path.now (O.kept stores.old path.now)) (Appends (E.contents errors.old) (E.contents errors.new)) result.0)
         ⊎ (HandsBack path.now ⊥ (option_map (λ l. l.0.now) result.1)
-        × Does agreements.now options.moment work.entry (stands_for (kept_at path.now (O.kept stores.now path.now)) options.first)
+        × ((known : Option State) → IsKnown (kept_at path.now (O.kept stores.old path.now)) options.first (IfSome result.1 (λ l. HasCleanDisk (state O.Kind.Store l.1))) known
+        → Does agreements.now options.moment work.entry known
         (R.left input.old) (R.left input.new) (R.calls input.old) (R.calls input.new) (input.new ≡ input.old) (output.new ≡ output.old)
         (λ t. IfSome result.1 (λ l. Rests (state O.Kind.Store l.1) t))
-        (W.written output.old) (W.written output.new) (Appends (E.contents errors.old) (E.contents errors.new)) result.0) }
+        (W.written output.old) (W.written output.new) (Appends (E.contents errors.old) (E.contents errors.new)) result.0)) }
     ensures store { result.0.status ≡ failed → Stopped (SendsWork work.entry) (input.new ≡ input.old) (output.new ≡ output.old)
         (Appends (E.contents errors.old) (E.contents errors.new)) result.0 }
     ensures handed { HandsBack path.now (input.new ≡ input.old) (option_map (λ l. l.0.now) result.1) }

@@ -1,3 +1,4 @@
 pub mod Opening
 pub mod Stopping
 pub mod Lives
+pub mod Closing

@@ -1,5 +1,5 @@
 -- What was done before a stop, and after it.
-use Rattle.std.proofs.Common.{◌≡◌, ◌∙◌, ℕ, true, ◌++◌, Option, Some, None, refl, ap}
+use Rattle.std.proofs.Common.{◌≡◌, ◌∙◌, ℕ, true, List, [], ◌∷◌, Option, Some, None, refl, sym, ap, subst}
 use Rattle.std.specs.Prelude.{IsSomeAnd}
 use Rattle.as2_mdn.specs.Details.{state_of}
 use Rattle.as2_mdn.specs.declared.detail.State.TheVariants.{S}
@@ -13,13 +13,14 @@ use Rattle.as2_exchange.proofs.Lists.{all_map}
 use Rattle.as2_exchange.proofs.Success.{state_of_success}
 use Rattle.as2_station.specs.Theorem.{EndsByHistory, IsSuccessful}
 use Rattle.as2_station.proofs.ByHistory.{ends_by_history, run_then, stands_by_history}
-use Rattle.as2_restart.specs.Restarts.{ComesTo}
+use Rattle.as2_restart.specs.Restarts.{ComesInTurn}
 
-pub one : (A : Agreements) (told more : Trace) (s t u : State) → (before : ComesTo A told s t) → (after : ComesTo A more t u) → Run A s (before.events ++ after.events) u
-one A told more s t u before after = run_then A s t u before.events after.events before.run after.run
+pub one : (A : Agreements) (lists : List Trace) (events : Trace) (s t : State) → ComesInTurn A lists events s t → Run A s events t
+one A [] events s t it = subst (λ (l : Trace). Run A s l t) (sym it.0) it.1
+one A (told ∷ rest) events s u it = subst (λ (l : Trace). Run A s l u) (sym it.3) (run_then A s it.0 u it.1.events it.2 it.1.run (one A rest it.2 it.0 u it.4))
 
-pub one_by_history : (A : Agreements) (told more : Trace) (s t u : State) → (before : ComesTo A told s t) → (after : ComesTo A more t u) → EndsByHistory A s (before.events ++ after.events) u
-one_by_history A told more s t u before after = ends_by_history A s (before.events ++ after.events) u (one A told more s t u before after)
+pub one_by_history : (A : Agreements) (lists : List Trace) (events : Trace) (s t : State) → ComesInTurn A lists events s t → EndsByHistory A s events t
+one_by_history A lists events s t it = ends_by_history A s events t (one A lists events s t it)
 
 -- a receipt settled what is successful
 settled : (A : Agreements) (s : State) (k : ℕ) (d : OutEntry) → IsWellFormed A s → document s k ≡ Some d → state_of d.detail ≡ S → is_settled d ≡ true
@@ -38,5 +39,5 @@ stays A first before more s t k (Some d) is counter run on successful =
     let stood = stands_by_history A first before s counter run in
     as_it_stood d (document t k) successful (stood.settled k d is (settled A s k d stood.formed is successful) more t on)
 
-pub successful : (A : Agreements) (first : ℕ) (before told : Trace) (s t : State) (k : ℕ) → IsCounter first → Run A (empty first) before s → ComesTo A told s t → IsSuccessful s k → IsSuccessful t k
-successful A first before told s t k counter run it = stays A first before it.events s t k (document s k) refl counter run it.run
+pub successful : (A : Agreements) (first : ℕ) (before : Trace) (lists : List Trace) (events : Trace) (s t : State) (k : ℕ) → IsCounter first → Run A (empty first) before s → ComesInTurn A lists events s t → IsSuccessful s k → IsSuccessful t k
+successful A first before lists events s t k counter run it = stays A first before events s t k (document s k) refl counter run (one A lists events s t it)

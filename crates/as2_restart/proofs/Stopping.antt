@@ -26,7 +26,7 @@ use Rattle.as2_station.specs.Traces.{Taken, said, trace}
 use Rattle.as2_station.proofs.ByHistory.{ends_by_history}
 use Rattle.as2_station.proofs.HandedIn.{refuses}
 use Rattle.as2_station.proofs.Playing.{taken_clean}
-use Rattle.as2_restart.specs.Restarts.{Counts, IsHeld, MayLeave, this_one, later_one}
+use Rattle.as2_restart.specs.Restarts.{Counts, IsUnanswered, IsHeld, MayLeave, this_one, later_one}
 
 -- ---- what isn't asked of the store leaves the state
 
@@ -80,14 +80,14 @@ module _ (A : Agreements) (e : Event) (old new : Connected) (clean : HasCleanDis
 
 -- ---- all of them
 
--- what is told leads from s to t, perhaps with the event that was under way
+-- what is told leads from s to t, perhaps with one more done
 abbrev Fits : Agreements → Trace → State → State → Type 0
-Fits A told s t = (events : Trace) × Counts told events × Run A s events t
+Fits A told s t = (events : Trace) × Counts A told events × Run A s events t
 
 -- a state that what is told leads to is kept, from s or, where that may have been committed last, from u
 abbrev Goes : Agreements → Trace → State → Option State → Trees → Type 0
 Goes A told s None db = (t : State) × Fits A told s t × Keeps db t
-Goes A told s (Some u) db = ((t : State) × Fits A told s t × Keeps db t) ⊎ ((t : State) × Run A u told t × Keeps db t)
+Goes A told s (Some u) db = ((t : State) × Fits A told s t × Keeps db t) ⊎ ((t : State) × Run A u told t × IsUnanswered A told × Keeps db t)
 
 -- the connection holds s; or it was shut as u was being committed
 abbrev At : State → Option State → Connected → Type 0
@@ -99,18 +99,18 @@ at_rest s None c it = it.0
 at_rest s (Some u) c it = it.1
 
 -- with one event before
-counts_too : (e : Event) (said : Said) (told events : Trace) → Counts told events → Counts ((e, said) ∷ told) ((e, said) ∷ events)
-counts_too e said told events (inl same) = inl (ap (λ (l : Trace). (e, said) ∷ l) same)
-counts_too e said told events (inr one) = inr (later_one e said told events one)
+counts_too : (A : Agreements) (e : Event) (said : Said) (told events : Trace) → Counts A told events → Counts A ((e, said) ∷ told) ((e, said) ∷ events)
+counts_too A e said told events (inl same) = inl (ap (λ (l : Trace). (e, said) ∷ l) same)
+counts_too A e said told events (inr one) = inr (later_one e said told events one)
 
 answered_first : (A : Agreements) (e : Event) (a : Answer) (told : Trace) (s next t : State) → step A s e ≡ Some (a, next) → Fits A told next t → Fits A ((e, Answered a) ∷ told) s t
-answered_first A e a told s next t is it = ((e, Answered a) ∷ it.0, counts_too e (Answered a) told it.0 it.1, (next, is, it.2))
+answered_first A e a told s next t is it = ((e, Answered a) ∷ it.0, counts_too A e (Answered a) told it.0 it.1, (next, is, it.2))
 
 failed_first : (A : Agreements) (e : Event) (f : StoreFault) (told : Trace) (s t : State) → MayFail A s e f → Fits A told s t → Fits A ((e, Failed f) ∷ told) s t
-failed_first A e f told s t may it = ((e, Failed f) ∷ it.0, counts_too e (Failed f) told it.0 it.1, (may, it.2))
+failed_first A e f told s t may it = ((e, Failed f) ∷ it.0, counts_too A e (Failed f) told it.0 it.1, (may, it.2))
 
-done_first : (A : Agreements) (e : Event) (f : StoreFault) (a : Answer) (told : Trace) (s u t : State) → step A s e ≡ Some (a, u) → Run A u told t → Fits A ((e, Failed f) ∷ told) s t
-done_first A e f a told s u t is run = ((e, Answered a) ∷ told, inr (this_one e f a told), (u, is, run))
+done_first : (A : Agreements) (e : Event) (f : StoreFault) (a : Answer) (told : Trace) (s u t : State) → step A s e ≡ Some (a, u) → Run A u told t → IsUnanswered A told → Fits A ((e, Failed f) ∷ told) s t
+done_first A e f a told s u t is run out = ((e, Answered a) ∷ told, inr (this_one e f a told out), (u, is, run))
 
 -- where a fault shut the connection, the state that was being committed may stand
 shut_at : (A : Agreements) (e : Event) (f : StoreFault) (old new : Connected) (s : State) (came : Option (Answer × State)) → step A s e ≡ came → HasCleanDisk new → TakesEvent A e (λ a. a) old new (Err f) → Rests old s → Lasts old s
@@ -146,7 +146,7 @@ module _ (A : Agreements) (x : Event) (told : Trace) (old mid : Connected) (clea
           let at : At s (Some y.1) mid = (opened, now.0, rested, λ d may. elim (shut_at A x f old mid s (Some y) is clean it rests lasts d may) [ inl k ↦ inl k | inr n ↦ inr (subst (Keeps d) (left_of y (n.1, n.0) n.2) n.3) ]) in
           elim (go (Some y.1) at) [
             | inl k ↦ (k.0, failed_first A x f told s k.0 now.1 k.1, k.2)
-            | inr k ↦ (k.0, done_first A x f y.0 told s y.1 k.0 is k.1, k.2)
+            | inr k ↦ (k.0, done_first A x f y.0 told s y.1 k.0 is k.1 k.2, k.3)
           ]
 
   -- after an answer, over a connection that was shut as u was being committed
@@ -176,7 +176,7 @@ module _ (A : Agreements) (x : Event) (told : Trace) (old mid : Connected) (clea
           ) in
           elim (go now.next (Some other.next) next) [
             | inl k ↦ inl (k.0, answered_first A x a told s now.next k.0 now.step k.1, k.2)
-            | inr k ↦ inr (k.0, (other.next, other.step, k.1), k.2)
+            | inr k ↦ inr (k.0, (other.next, other.step, k.1), (asked, k.2), k.3)
           ]
 
   -- after a fault, over such a connection
@@ -193,13 +193,13 @@ module _ (A : Agreements) (x : Event) (told : Trace) (old mid : Connected) (clea
       by true opened = let later = go None (now.0, it.lasts opened s now.0) in inl (later.0, failed_first A x f told s later.0 now.1 later.1, later.2)
       by false opened =
           let next : At s (Some u) mid = (opened, now.0, other.0, λ d may. elim (it.does.crash.crash clean d may) [ inl before ↦ at.3 d before | inr more ↦ absurd (let two : true ≡ false = sym more.was_open ∙ at.0 in cc) ]) in
-          elim (go (Some u) next) [ inl k ↦ inl (k.0, failed_first A x f told s k.0 now.1 k.1, k.2) | inr k ↦ inr (k.0, (other.1, k.1), k.2) ]
+          elim (go (Some u) next) [ inl k ↦ inl (k.0, failed_first A x f told s k.0 now.1 k.1, k.2) | inr k ↦ inr (k.0, (other.1, k.1), k.2, k.3) ]
 
 module _ {S : Type 0} (g : Ghosts S) (A : Agreements) where
   goes_on : (es : List Event) (rs : List (Result Answer StoreFault)) (old new : Held S) → Taken g A es rs old new → HasCleanDisk (state g new) → (s : State) (o : Option State) → At s o (state g old)
       → (db : Trees) → (state g new).may_leave db → Goes A (trace es rs) s o db
   goes_on [] [] old new same clean s None at db may = (s, ([], inl refl, refl), at.1.each db (subst (λ (h : Held S). (state g h).may_leave db) same may))
-  goes_on [] [] old new same clean s (Some u) at db may = elim (at.3 db (subst (λ (h : Held S). (state g h).may_leave db) same may)) [ inl k ↦ inl (s, ([], inl refl, refl), k) | inr k ↦ inr (u, refl, k) ]
+  goes_on [] [] old new same clean s (Some u) at db may = elim (at.3 db (subst (λ (h : Held S). (state g h).may_leave db) same may)) [ inl k ↦ inl (s, ([], inl refl, refl), k) | inr k ↦ inr (u, refl, tt, k) ]
   goes_on [] (q ∷ rs) old new none clean s o at db may = absurd none
   goes_on (x ∷ es) [] old new none clean s o at db may = absurd none
   goes_on (x ∷ es) (Ok a ∷ rs) old new it clean s None at db may =
@@ -215,7 +215,7 @@ module _ {S : Type 0} (g : Ghosts S) (A : Agreements) where
   goes_on (x ∷ es) (Err f ∷ rs) old new it clean s (Some u) at db may =
       failed_shut A x (trace es rs) (state g old) (state g it.0) (taken_clean g A es rs it.0 new it.4 clean) db f it.1 s u at (λ o there. goes_on es rs it.0 new it.4 clean s o there db may)
 
-  -- whatever stops the machine after these events, they lead to what is found, perhaps with the one that was under way
+  -- whatever stops the computer after these events, they lead to what is found, perhaps with one more done
   pub leaves : (es : List Event) (rs : List (Result Answer StoreFault)) (old new : Held S) → Taken g A es rs old new → HasCleanDisk (state g new) → (s : State) → IsHeld (state g old) s → MayLeave A (trace es rs) s (state g new)
   leaves es rs old new taken clean s held db may =
       let it = goes_on es rs old new taken clean s None (held.rests, held.lasts) db may in

@@ -1,6 +1,10 @@
 -- What stands once the files of a store are opened again, after a close or a crash.
-use Rattle.std.specs.Prelude.{◌≡◌, ◌⊎◌, ◌∷◌}
+use Rattle.std.specs.Prelude.{◌≡◌, ◌⊎◌, false, List, [], ◌∷◌, ◌++◌, Result, ⊤}
+use Rattle.sqlite_disk.specs.declared.Disk as disk
+use Rattle.sqlite_store.specs.declared.store.FileStore.{FileStore}
 use Rattle.sqlite_trees.specs.Tree.{Trees}
+use Rattle.sqlite.specs.Files.{over_files}
+use Rattle.sqlite.specs.Held.{Held}
 use Rattle.sqlite.specs.State.{State as Connected}
 use Rattle.as2_exchange.specs.Agreement.{Agreements}
 use Rattle.as2_exchange.specs.Run.{Said, Answered, Failed, Trace, Run}
@@ -10,34 +14,51 @@ use Rattle.as2_exchange.specs.declared.event.Event.{Event}
 use Rattle.as2_exchange.specs.declared.fault.StoreFault.{StoreFault}
 use Rattle.as2_store.specs.Calls.{Keeps, Lasts}
 use Rattle.as2_store.specs.Stands.{Rests}
+use Rattle.as2_station.specs.Heads.{asks_store}
 use Rattle.as2_station.specs.Theorem.{EndsByHistory}
+use Rattle.as2_station.specs.Traces.{Taken}
 
--- the tables stand for this state, and so they do for whoever opens the files next, whatever stops the machine
+-- the tables stand for this state, and so they do for whoever opens the files next, whatever stops the computer
 pub record IsHeld (c : Connected) (s : State) : Type 0 where
   pub rests : Rests c s
   pub lasts : Lasts c s
 
--- the same events, one of which, to which no answer came, has one
-pub data HasOneDone : Trace → Trace → Type 0 where
-  this_one : (event : Event) (fault : StoreFault) (answer : Answer) (rest : Trace) → HasOneDone ((event, Failed fault) ∷ rest) ((event, Answered answer) ∷ rest)
-  later_one : (event : Event) (said : Said) (rest events : Trace) → HasOneDone rest events → HasOneDone ((event, said) ∷ rest) ((event, said) ∷ events)
+-- nothing that asks the store was answered
+abbrev pub IsUnanswered : Agreements → Trace → Type 0
+IsUnanswered A [] = ⊤
+IsUnanswered A ((event, Answered answer) ∷ rest) = (asks_store A event ≡ false) × IsUnanswered A rest
+IsUnanswered A ((event, Failed fault) ∷ rest) = IsUnanswered A rest
 
--- the events count as they were answered, but for one at most: the one that was under way, which may count as done
-abbrev pub Counts : Trace → Trace → Type 0
-Counts told events = (events ≡ told) ⊎ HasOneDone told events
+-- the same events, but that one to which no answer came, and behind which nothing that asks the store was answered, has one
+pub data HasOneDone (A : Agreements) : Trace → Trace → Type 0 where
+  this_one : (event : Event) (fault : StoreFault) (answer : Answer) (rest : Trace) → IsUnanswered A rest → HasOneDone A ((event, Failed fault) ∷ rest) ((event, Answered answer) ∷ rest)
+  later_one : (event : Event) (said : Said) (rest events : Trace) → HasOneDone A rest events → HasOneDone A ((event, said) ∷ rest) ((event, said) ∷ events)
 
--- what was told leads from s to t, perhaps with the event that was under way: a run of the machine, in which what stands of each
--- document is its history
+-- the events count as they were answered, but for one such at most, which may count as done
+abbrev pub Counts : Agreements → Trace → Trace → Type 0
+Counts A told events = (events ≡ told) ⊎ HasOneDone A told events
+
+-- what was told leads from s to t, perhaps with one such event done: a run of the machine, in which what stands of each document is
+-- its history
 pub record ComesTo (A : Agreements) (told : Trace) (s t : State) : Type 0 where
   pub events : Trace
-  pub counts : Counts told events
+  pub counts : Counts A told events
   pub run : Run A s events t
   pub by_history : EndsByHistory A s events t
 
--- whatever stops the machine now, what was told leads to what the tables stand for that are found
+-- whatever stops the computer now, what was told leads to what the tables stand for that are found
 abbrev pub MayLeave : Agreements → Trace → State → Connected → Type 0
 MayLeave A told s c = (db : Trees) → c.may_leave db → (t : State) × ComesTo A told s t × Keeps db t
 
 -- what was told leads to the state that is held
 abbrev pub Comes : Agreements → Trace → State → Connected → Type 0
 Comes A told s c = (t : State) × ComesTo A told s t × IsHeld c t
+
+-- one list after the other, each from the state that the one before it came to: what was told of each, and the events that count
+abbrev pub ComesInTurn : Agreements → List Trace → Trace → State → State → Type 0
+ComesInTurn A [] events s t = (events ≡ []) × (t ≡ s)
+ComesInTurn A (told ∷ rest) events s u = (t : State) × (it : ComesTo A told s t) × (later : Trace) × (events ≡ it.events ++ later) × ComesInTurn A rest later t u
+
+-- each event was taken in turn by the station, and nothing was done between
+abbrev pub WasPlayed : {D : Type 0} {g : disk.Ghosts D} → Agreements → List Event → List (Result Answer StoreFault) → Held (FileStore D g) → Type 0
+WasPlayed {D} {g} A events answers station = (left : Held (FileStore D g)) × Taken over_files A events answers station left

@@ -1,36 +1,33 @@
 //! Files that are left, opened again.
-ghost use Rattle.std.specs.Prelude.{IfSome};
+ghost use Rattle.std.specs.Prelude.{IfSome, IsTrue};
 ghost use Rattle.sqlite.specs.State.{HasCleanDisk};
-ghost use Rattle.sqlite.specs.Files.{file_state};
+ghost use Rattle.sqlite.specs.Files.{file_state, image_of};
+ghost use Rattle.sqlite_wal.specs.Reads.{AreClean};
 ghost use Rattle.as2_exchange.specs.Agreement.{Agreements};
 ghost use Rattle.as2_exchange.specs.Run.{Trace};
 ghost use Rattle.as2_exchange.specs.State.{State};
+ghost use Rattle.as2_store.specs.Files.{HoldsState};
 ghost use Rattle.as2_store.specs.Stands.{Rests};
 ghost use Rattle.as2_restart.specs.Restarts.{Comes, IsHeld, MayLeave};
 
+use crate::files::{close, leave};
 use as2_station::Station;
 use as2_store::Store;
 use sqlite::{Connection, FileStore, Options};
 use sqlite_disk::{Crash, Disk, Files};
 use std::alloc::Global;
 
-/// Closes a station's store and opens its files again: they stand for the same state. None where a close or an open failed.
-pub fn reopen<D: Disk + Drop>(
+/// The station over the store that these files hold; None where there is none, or it can't be opened.
+fn station_over<D: Disk + Drop>(
     alloc: Global,
-    station: Station<FileStore<D>>,
+    files: Files<D>,
     options: Options,
 ) -> Option<Station<FileStore<D>>>
-    ensures same { IfSome result (λ again. HasCleanDisk (file_state again) → (s : State) → Rests (file_state station) s → IsHeld (file_state again) s) }
+    requires log { IsTrue (D.Disk.is_usable files.log) }
+    requires db { IsTrue (D.Disk.is_usable files.db) }
+    ensures clean { IfSome result (λ again. HasCleanDisk (file_state again) → AreClean D.Disk files.log files.db) }
+    ensures found { IfSome result (λ again. HasCleanDisk (file_state again) → (s : State) → HoldsState (image_of D.Disk files) s → IsHeld (file_state again) s) }
 {
-    let conn = station.into_store().into_connection();
-    let _ = conn.schema();
-    let files = match conn.close_files() {
-        Ok(files) => files,
-        Err((_, store)) => {
-            drop(store.close());
-            return None;
-        }
-    };
     let Ok(again) = Connection::open_files(alloc, files, options) else {
         return None;
     };
@@ -40,7 +37,21 @@ pub fn reopen<D: Disk + Drop>(
     }
 }
 
-/// Stops the machine, wherever its disk stands, and opens the files that are left: they stand for one of the states that a
+/// Closes a station's store and opens its files again: they stand for the same state. None where a close or an open failed.
+pub fn reopen<D: Disk + Drop>(
+    alloc: Global,
+    station: Station<FileStore<D>>,
+    options: Options,
+) -> Option<Station<FileStore<D>>>
+    ensures same { IfSome result (λ again. HasCleanDisk (file_state again) → (s : State) → Rests (file_state station) s → IsHeld (file_state again) s) }
+{
+    match close(station.into_store().into_connection()) {
+        Ok(files) => station_over(alloc, files, options),
+        Err(_) => None,
+    }
+}
+
+/// Stops the computer, wherever its disk stands, and opens the files that are left: they stand for one of the states that a
 /// crash may leave. None where the open failed.
 pub fn stop_and_open<D: Crash + Drop>(
     alloc: Global,
@@ -51,14 +62,8 @@ pub fn stop_and_open<D: Crash + Drop>(
     ensures found { IfSome result (λ again. HasCleanDisk (file_state again) → (A : Agreements) (told : Trace) (s : State) → MayLeave A told s (file_state station)
         → ∥ Comes A told s (file_state again) ∥₁) }
 {
-    let mut files = station.into_store().into_connection().into_store().close();
+    let mut files = leave(station);
     files.log.crash();
     files.db.crash();
-    let Ok(again) = Connection::open_files(alloc, files, options) else {
-        return None;
-    };
-    match Store::adopt(again) {
-        Ok(store) => Some(Station::new(store)),
-        Err(_) => None,
-    }
+    station_over(alloc, files, options)
 }

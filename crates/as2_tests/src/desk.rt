@@ -210,12 +210,13 @@ fn outcome_counted<A: Ledger, B: Ledger, C: Ledger, D: Ledger>(
     let output = Paper::new(alloc, case.writes);
     let mut output: Counted<Paper, C, D> = Counted::new(output, writes, failed_writes);
     let mut errors = Paper::new(alloc, case.says);
+    let mut stores = case.stores;
     let (ran, _) = run(
         alloc,
         words,
         case.clock,
         &files,
-        &case.stores,
+        &mut stores,
         &case.peers,
         &mut input,
         &mut output,

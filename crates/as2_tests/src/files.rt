@@ -1,10 +1,16 @@
 //! Stores in files, closed and opened again.
 ghost use Rattle.std.specs.Prelude.{◌≡◌, false};
 
+use crate::agreements::AGREEMENTS;
+use crate::posts::{body, head};
 use crate::stores::{add, is_found, next};
-use as2_exchange::StoreFault;
+use as2_agreement::Agreements;
+use as2_exchange::{Event, StoreFault};
+use as2_restart::{close, leave, open_at, play_then_close};
+use as2_station::Station;
 use as2_store::Store;
-use sqlite::{Alter, Connection};
+use as2_text::Moment;
+use sqlite::{Alter, Connection, Unknown};
 use std::alloc::Global;
 use std::fs;
 use std::test::Fail;
@@ -22,7 +28,7 @@ enum Step {
 
 /// Opens the file and does the step; whether it goes as it is to.
 fn goes(rt: &HostRuntime, file: &str, step: Step) -> Result<bool, Fail> {
-    let conn = Connection::open(rt, file)?;
+    let conn = open_at(rt, file, Unknown)?;
     Ok(is_done(rt.alloc(), conn, step))
 }
 
@@ -89,5 +95,52 @@ fn a_file_is_adopted_again_and_not_made_anew(rt: HostRuntime) -> Result<(), Fail
         assert!(rt; goes(&rt, "kept.db", step)?);
     }
     clear(&rt, "kept.db", "kept.db-wal");
+    Ok(())
+}
+
+/// Makes a store in the file, has it record a post, and closes it; how many events were answered.
+fn posted(rt: &HostRuntime, file: &str) -> Result<usize, Fail> {
+    let alloc = rt.alloc();
+    let Some(moment) = Moment::new(1000) else {
+        return Err(Fail::new("no moment"));
+    };
+    let agreements = Agreements::read(alloc, AGREEMENTS)?;
+    let Ok(store) = Store::create(open_at(rt, file, Unknown)?, 1) else {
+        return Err(Fail::new("no store"));
+    };
+    let mut events = Vec::new(alloc);
+    events.push(Event::Post {
+        head: head(alloc, &[])?,
+        body: body(alloc, b"abc")?,
+        moment,
+    })?;
+    let Ok(closed) = play_then_close(alloc, Station::new(store), &agreements, events) else {
+        return Err(Fail::new("no memory"));
+    };
+    if closed.files.is_none() {
+        return Err(Fail::new("not closed"));
+    }
+    Ok(closed.said.iter().filter(|it| it.is_ok()).count())
+}
+
+/// The next numbers of the store in the file.
+fn next_in(rt: &HostRuntime, file: &str) -> Result<Option<(u64, u64)>, Fail> {
+    let Ok(mut store) = Store::adopt(open_at(rt, file, Unknown)?) else {
+        return Err(Fail::new("no store"));
+    };
+    let found = next(&mut store);
+    drop(leave(Station::new(store)));
+    Ok(found)
+}
+
+#[test]
+fn what_is_closed_is_found_by_the_next_open(rt: HostRuntime) -> Result<(), Fail> {
+    clear(&rt, "closed.db", "closed.db-wal");
+    assert_eq!(rt; posted(&rt, "closed.db")?, 1);
+    clear(&rt, "closed.db-wal", "closed.db-shm");
+    assert!(rt; next_in(&rt, "closed.db")? == Some((2, 1)));
+    assert!(rt; close(open_at(&rt, "closed.db", Unknown)?).is_ok());
+    assert!(rt; next_in(&rt, "closed.db")? == Some((2, 1)));
+    clear(&rt, "closed.db", "closed.db-wal");
     Ok(())
 }

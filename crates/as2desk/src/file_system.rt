@@ -1,16 +1,19 @@
 //! The file system: files are read up to a limit, stores are looked at before they are opened, made under another name and
-//! then given their own, and closed into their one file.
-ghost use Rattle.std.specs.Prelude.{◌≡◌, IfOk, false};
+//! then given their own, and closed into their one file. What the files of a store hold as they are opened no code can read:
+//! a type of `Start` stands for it.
+ghost use Rattle.std.specs.Prelude.{◌≡◌, false};
 ghost use Rattle.as2_desk.specs.FileContents.{untold};
-ghost use Rattle.as2_desk.specs.Stores.{untold as not_told};
+ghost use Rattle.as2_desk.specs.Stores.{files as in_files};
+ghost use Rattle.sqlite_wal.specs.Files.{image_at};
 
 use as2_desk::{
     FileFault, FirstNumber, OpenFault, OpenStores, ReadFiles, Seen, StoreFault, make_tables,
     opening_fault,
 };
+use as2_restart::{close, open_at};
 use sqlite::{Connection, File, FileStore, Files, Options, Unknown};
-use sqlite_disk::Disk;
-use sqlite_std_file::OpenError;
+use sqlite_disk::{Disk, Start};
+use sqlite_std_file::{FileFrom, OpenError};
 use std::alloc::{AllocError, Global};
 use std::hash::{BuildHasher, RandomState};
 use std::io::{ErrorKind, Read};
@@ -65,14 +68,7 @@ fn with_tables(
 ) -> Result<Files<File>, OpenFault>
     requires autocommit { conn.in_transaction ≡ false }
 {
-    let made = make_tables(conn, first)?;
-    match made.close_files() {
-        Ok(files) => Ok(files),
-        Err((error, store)) => {
-            drop(store);
-            Err(opening_fault(error))
-        }
-    }
+    close(make_tables(conn, first)?).map_err(opening_fault)
 }
 
 /// Why files can't be had.
@@ -130,11 +126,11 @@ impl FileSystem<'_> {
 
     /// Closes a store into the file of that path, and takes its log away while the file is locked. Where that fails all stands
     /// as it stood, in the log.
-    pub fn close(&self, path: &str, store: Connection<FileStore<File>>) {
+    pub fn close<D: Disk + Drop>(&self, path: &str, store: Connection<FileStore<D>>) {
         let Ok(log) = self.log_of(path) else {
             return;
         };
-        if let Ok(files) = store.close_files() {
+        if let Ok(files) = close(store) {
             self.remove(&log);
             drop(files);
         }
@@ -145,12 +141,71 @@ impl FileSystem<'_> {
         Ok(RandomState::new(self.rt).map_err(fault_of)?.hash_one(&0u8))
     }
 
-    fn open_named(&self, name: &str) -> Result<Connection<FileStore<File>>, OpenFault>
-        ensures autocommit { IfOk result (λ c. c.in_transaction ≡ false) }
-    {
-        match Connection::open_with_sums(self.rt, name) {
-            Ok(conn) => Ok(conn),
-            Err(error) => Err(opening_fault(error)),
+    /// What stands under that path: a database where the file begins with SQLite's mark, and may be a store.
+    fn look(&self, path: &str) -> Result<Seen, OpenFault> {
+        let file = match fs::File::open(self.rt, &self.name(path, "")?) {
+            Ok(file) => file,
+            Err(error) if error.kind() == ErrorKind::NotFound => return Ok(Seen::Nothing),
+            Err(error) => return Err(fault_of(error)),
+        };
+        let mut front = Vec::new(self.rt.alloc());
+        file.take(PAGE as u64)
+            .read_to_end(&mut front)
+            .map_err(fault_of)?;
+        if !front.starts_with(MARK) {
+            return Ok(Seen::Other);
+        }
+        if lists_no_meta(&front) && !self.is_there(&self.log_of(path)?)? {
+            return Ok(Seen::Other);
+        }
+        Ok(Seen::Database)
+    }
+
+    /// Makes a store whole under that path, and closes it; whether it was made, and nothing stood there by now.
+    fn make_closed(
+        &self,
+        alloc: Global,
+        path: &str,
+        first: FirstNumber,
+    ) -> Result<bool, OpenFault> {
+        let name = self.name(path, "")?;
+        let draft = self.name(path, ".new")?;
+        let draft_log = self.name(path, ".new-wal")?;
+        let mut files = match sqlite_std_file::open(self.rt, &draft, Unknown) {
+            Ok(files) => files,
+            Err(error) => return Err(unlocked(error)),
+        };
+        if self.is_there(&name)? {
+            self.remove(&draft_log);
+            self.remove(&draft);
+            return Ok(false);
+        }
+        files.log.set_len(0).map_err(|_| DISK)?;
+        files.db.set_len(0).map_err(|_| DISK)?;
+        let options = Options::new(self.seed()?);
+        let files = match Connection::open_files_with(alloc, files, options, true) {
+            Ok(conn) => with_tables(conn, first)?,
+            Err((error, _)) => return Err(opening_fault(error)),
+        };
+        self.remove(&draft_log);
+        fs::rename(self.rt, &draft, &name).map_err(fault_of)?;
+        drop(files);
+        Ok(true)
+    }
+}
+
+/// The files of one store, which are opened once. `start` stands for what they hold then.
+#[derive(Drop)]
+pub struct StoreFiles<'a, S: Start> {
+    files: FileSystem<'a>,
+    start: Option<S>,
+}
+
+impl<'a, S: Start> StoreFiles<'a, S> {
+    pub fn new(files: FileSystem<'a>, start: S) -> StoreFiles<'a, S> {
+        StoreFiles {
+            files,
+            start: Some(start),
         }
     }
 }
@@ -179,66 +234,39 @@ impl ReadFiles for FileSystem<'_> {
     }
 }
 
-impl OpenStores for FileSystem<'_> {
-    type Kind = FileStore<File>;
+impl<S: Start> OpenStores for StoreFiles<'_, S> {
+    type Kind = FileStore<FileFrom<S>>;
 
-    ghost kept = { λ _ _. not_told };
+    ghost kept = { λ _ _. in_files (image_at S.Start) };
 
     fn look(&self, path: &str) -> Result<Seen, OpenFault> {
-        let file = match fs::File::open(self.rt, &self.name(path, "")?) {
-            Ok(file) => file,
-            Err(error) if error.kind() == ErrorKind::NotFound => return Ok(Seen::Nothing),
-            Err(error) => return Err(fault_of(error)),
-        };
-        let mut front = Vec::new(self.rt.alloc());
-        file.take(PAGE as u64)
-            .read_to_end(&mut front)
-            .map_err(fault_of)?;
-        if !front.starts_with(MARK) {
-            return Ok(Seen::Other);
-        }
-        if lists_no_meta(&front) && !self.is_there(&self.log_of(path)?)? {
-            return Ok(Seen::Other);
-        }
-        Ok(Seen::Database)
+        self.files.look(path)
     }
 
     fn open_store(
-        &self,
+        &mut self,
         _alloc: Global,
         path: &str,
-    ) -> Result<Connection<FileStore<File>>, OpenFault> {
-        self.open_named(&self.name(path, "")?)
+    ) -> Result<Connection<FileStore<FileFrom<S>>>, OpenFault> {
+        let name = self.files.name(path, "")?;
+        let Some(start) = self.start.take() else {
+            return Err(OpenFault::Held);
+        };
+        match open_at(self.files.rt, &name, start) {
+            Ok(conn) => Ok(conn),
+            Err(error) => Err(opening_fault(error)),
+        }
     }
 
     fn make_store(
-        &self,
+        &mut self,
         alloc: Global,
         path: &str,
         first: FirstNumber,
-    ) -> Result<Option<Connection<FileStore<File>>>, OpenFault> {
-        let name = self.name(path, "")?;
-        let draft = self.name(path, ".new")?;
-        let draft_log = self.name(path, ".new-wal")?;
-        let mut files = match sqlite_std_file::open(self.rt, &draft, Unknown) {
-            Ok(files) => files,
-            Err(error) => return Err(unlocked(error)),
-        };
-        if self.is_there(&name)? {
-            self.remove(&draft_log);
-            self.remove(&draft);
-            return Ok(None);
+    ) -> Result<Option<Connection<FileStore<FileFrom<S>>>>, OpenFault> {
+        if self.files.make_closed(alloc, path, first)? {
+            return Ok(Some(self.open_store(alloc, path)?));
         }
-        files.log.set_len(0).map_err(|_| DISK)?;
-        files.db.set_len(0).map_err(|_| DISK)?;
-        let options = Options::new(self.seed()?);
-        let files = match Connection::open_files_with(alloc, files, options, true) {
-            Ok(conn) => with_tables(conn, first)?,
-            Err((error, _)) => return Err(opening_fault(error)),
-        };
-        self.remove(&draft_log);
-        fs::rename(self.rt, &draft, &name).map_err(fault_of)?;
-        drop(files);
-        Ok(Some(self.open_named(&name)?))
+        Ok(None)
     }
 }

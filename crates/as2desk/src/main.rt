@@ -6,9 +6,11 @@ mod network;
 
 ghost use Rattle.as2_http.specs.Devices.{Opens};
 
-use crate::file_system::FileSystem;
+use crate::file_system::{FileSystem, StoreFiles};
 use crate::network::Sockets;
 use as2_http::Counted;
+use sqlite_disk::Start;
+use sqlite_std_file::Unknown;
 use std::io::{Stdin, Stdout};
 use std::marker::Brand;
 use std::process::ExitCode;
@@ -24,10 +26,11 @@ fn clock(rt: &HostRuntime) -> Option<u64> {
 }
 
 /// Runs the command line `words` over the file system, the network and the standard streams, with counts of the calls that are made of
-/// input and output. The exit status.
-fn run<A: Ledger, B: Ledger, C: Ledger, D: Ledger>(
+/// input and output. `start` stands for what the files of its store hold as they are opened. The exit status.
+fn run<S: Start, A: Ledger, B: Ledger, C: Ledger, D: Ledger>(
     rt: &HostRuntime,
     words: &[&str],
+    start: S,
     reads: Blank,
     failed_reads: Blank,
     writes: Blank,
@@ -46,7 +49,7 @@ fn run<A: Ledger, B: Ledger, C: Ledger, D: Ledger>(
         words,
         clock(rt),
         &files,
-        &files,
+        &mut StoreFiles::new(files, start),
         &Sockets { rt },
         &mut input,
         &mut output,
@@ -71,9 +74,10 @@ fn main(rt: HostRuntime) -> io::Result<ExitCode> {
     for word in &words {
         texts.push(word.as_str())?;
     }
-    let status = run::<Brand, Brand, Brand, Brand>(
+    let status = run::<Unknown, Brand, Brand, Brand, Brand>(
         &rt,
         texts.as_slice(),
+        Unknown,
         Blank::new(1),
         Blank::new(1),
         Blank::new(1),

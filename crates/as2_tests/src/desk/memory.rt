@@ -183,7 +183,11 @@ impl OpenStores for Stores {
         }
     }
 
-    fn open_store(&self, alloc: Global, _path: &str) -> Result<Connection<MemStore>, OpenFault> {
+    fn open_store(
+        &mut self,
+        alloc: Global,
+        _path: &str,
+    ) -> Result<Connection<MemStore>, OpenFault> {
         match self {
             Stores::Held => Err(OpenFault::Held),
             Stores::Filled => match filled(alloc) {
@@ -195,7 +199,7 @@ impl OpenStores for Stores {
     }
 
     fn make_store(
-        &self,
+        &mut self,
         alloc: Global,
         _path: &str,
         first: FirstNumber,

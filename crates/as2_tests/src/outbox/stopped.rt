@@ -6,7 +6,7 @@ use super::views::{REPEATED, SETTLED};
 use super::{Row, event, is_said};
 use crate::agreements::AGREEMENTS;
 use as2_agreement::Agreements;
-use as2_restart::stop_and_open;
+use as2_restart::{Stopped, play_then_stop, reopen, stop_and_open};
 use as2_station::{Filter, Station};
 use as2_store::Store;
 use as2_text::Moment;
@@ -152,6 +152,40 @@ fn check_stops(alloc: Global, rows: &[Row], of_log: bool) -> Result<(), Fail> {
     Err(Fail::new("no end"))
 }
 
+/// Plays all rows at once, stops, opens what is left, closes it and opens it again: each time all that was answered is seen.
+fn check_whole(alloc: Global, rows: &[Row]) -> Result<(), Fail> {
+    let agreements = Agreements::read(alloc, AGREEMENTS)?;
+    let sights = sights(alloc, &agreements, rows)?;
+    let mut events = Vec::new(alloc);
+    for (did, _) in rows {
+        events.push(event(alloc, did)?)?;
+    }
+    let Some(played) = station(alloc, NEVER) else {
+        return Err(Fail::new("no station"));
+    };
+    let Ok(Stopped { said, again }) = play_then_stop(
+        alloc,
+        played,
+        &agreements,
+        events,
+        Options::new(2),
+    ) else {
+        return Err(Fail::new("no memory"));
+    };
+    let Some(mut found) = again else {
+        return Err(Fail::new("no store is found"));
+    };
+    let before = sight(alloc, &mut found)?;
+    let Some(mut opened) = reopen(alloc, found, Options::new(3)) else {
+        return Err(Fail::new("no store is opened"));
+    };
+    let after = sight(alloc, &mut opened)?;
+    if said.len() != rows.len() || sights.last() != Some(&before) || before != after {
+        return Err(Fail::new("another end"));
+    }
+    Ok(())
+}
+
 static LISTS: [&[Row]; 4] = [REPEATED, SETTLED, AWAITED, JOB];
 
 #[test]
@@ -159,6 +193,7 @@ fn what_was_answered_stands(rt: HostRuntime) -> Result<(), Fail> {
     for rows in LISTS {
         check_stops(rt.alloc(), rows, true)?;
         check_stops(rt.alloc(), rows, false)?;
+        check_whole(rt.alloc(), rows)?;
     }
     Ok(())
 }

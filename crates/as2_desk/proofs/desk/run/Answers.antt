@@ -3,6 +3,7 @@ use Rattle.std.specs.Io.KnownBytes.{Appends}
 use Rattle.clap.specs.Walk.{Text, texts}
 use Rattle.as2_commands.proofs.Given.{given_one}
 use Rattle.sqlite.specs.Held.{state}
+use Rattle.sqlite.specs.State.{HasCleanDisk}
 use Rattle.as2_store.specs.Stands.{Rests}
 use Rattle.as2_desk.specs.Runs.{HandsBack, Runs}
 use Rattle.as2_desk.specs.Stores.{kept_at}
@@ -23,7 +24,7 @@ returns-in-Ok-clause-runs g c = λ path store task gives.
     (λ (p b : Text) (t : Task). Runs (g.F.ReadFiles.content c.args.files.now) p (kept_at b (g.O.OpenStores.kept c.args.stores.now b)) t
     (g.R.Source.left c.args.input.now) (g.R.Source.left c.carry_out.new.input) (g.R.Source.calls c.args.input.now) (g.R.Source.calls c.carry_out.new.input)
     (c.carry_out.new.input ≡ c.args.input.now) (c.carry_out.new.output ≡ c.args.output.now)
-    (λ t. IfSome c.carry_out.result.1 (λ l. Rests (state g.O.Kind.Store l.1) t)) (HandsBack b ⊥ (option_map (λ l. l.0.now) c.carry_out.result.1))
+    (λ t. IfSome c.carry_out.result.1 (λ l. Rests (state g.O.Kind.Store l.1) t)) (IfSome c.carry_out.result.1 (λ l. HasCleanDisk (state g.O.Kind.Store l.1))) (c.carry_out.result.1 ≡ None) (HandsBack b ⊥ (option_map (λ l. l.0.now) c.carry_out.result.1))
     (g.W.Sink.written c.args.output.now) (g.W.Sink.written c.carry_out.new.output)
     (Appends (g.E.Write.contents c.args.errors.now) (g.E.Write.contents c.carry_out.new.errors)) c.carry_out.result.0)
     c.in-Ok.ensures.given gives (record { opened = c.agreements_in-agreed.result; opens = c.agreements_in-agreed.ensures; comes = c.carry_out.ensures.comes }))

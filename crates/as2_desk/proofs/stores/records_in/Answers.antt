@@ -9,4 +9,4 @@ returns g c =
     let kept = g.O.OpenStores.kept c.args.stores.now c.args.path.now in
     made_holds g.O.Kind.Store kept c.args.first c.in-Some.conn c.adopted.result
     (seen_nothing kept (subst (λ s. Sees kept (Ok s)) c.in-Nothing.is c.in_ok-look.ensures))
-    (subst (λ o. IsMade g.O.Kind.Store kept c.args.first (Ok o)) c.in-Some.is c.in_ok-conn.ensures.made) c.adopted.ensures
+    (subst (λ o. IsMade g.O.Kind.Store kept c.args.first (Ok o)) c.in-Some.is c.in_ok-conn.ensures.made) c.adopted.ensures.faithful c.adopted.ensures.same

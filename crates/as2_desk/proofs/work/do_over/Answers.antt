@@ -1,20 +1,27 @@
-use Rattle.std.proofs.Common.{◌∙◌, inr, refl, sym, subst}
+use Rattle.std.proofs.Common.{◌≡◌, ◌∙◌, inr, refl, sym, subst}
 use Rattle.sqlite.specs.Held.{Held, state}
+use Rattle.sqlite.specs.State.{HasCleanDisk}
 use Rattle.as2_store.specs.Stands.{Rests}
-use Rattle.as2_desk.proofs.HandedBack.{each_known}
+use Rattle.as2_desk.proofs.Opening.{known_by, stood}
 use Rattle.as2_desk.proofs.Working.{does_left}
-use Rattle.as2_desk.specs.Stores.{Holds, stands_for}
+use Rattle.as2_desk.specs.Stores.{Holds}
 use Rattle.as2_desk.proofs.work.do_over.Goals as goal
 
 -- the store is open
 pub returns-in-Ok-clause-does : goal.returns-in-Ok-clause-does
 returns-in-Ok-clause-does g c = λ kept first holds.
-    let known = subst (Holds g.S.Store kept first) c.in-Ok.is holds in
-    let stood = each_known _ _ (stands_for kept first) known (λ s stands.
-    (stands.0 c.do_at-ran.new.station, subst (λ (h : Held g.row.S.Denot). Rests (state g.S.Store h) s) (sym c.new-station.ensures) stands.1)) in
+    let conn = c.into_connection-conn.result in
+    let station = c.do_at-ran.new.station in
+    let same : conn ≡ station = c.into_connection-conn.ensures ∙ c.into_store.ensures in
+    let held = subst (Holds g.S.Store kept first) c.in-Ok.is holds in
+    let back = λ clean. subst (λ (h : Held g.row.S.Denot). HasCleanDisk (state g.S.Store h)) c.new-station.ensures (c.do_at-ran.ensures.clean clean) in
     inr (
       refl,
-      does_left _ _ c.args.work (stands_for kept first) _ _ _ _ _ _ _ _ _ _ _ _
-          (λ t rests. subst (λ (h : Held g.row.S.Denot). Rests (state g.S.Store h) t) (sym (c.into_connection-conn.ensures ∙ c.into_store.ensures)) rests)
-          (c.do_at-ran.ensures.does (stands_for kept first) stood),
+      λ known is.
+          does_left _ _ c.args.work known _ _ _ _ _ _ _ _ _ _ _ _
+          (λ t rests. subst (λ (h : Held g.row.S.Denot). Rests (state g.S.Store h) t) (sym same) rests)
+          (c.do_at-ran.ensures.does known
+          (subst (λ (h : Held g.row.S.Denot). IfSome known (λ s. HasCleanDisk (state g.S.Store station) × Rests (state g.S.Store h) s)) (sym c.new-station.ensures)
+          (stood g.S.Store kept first c.in-Ok.store station held back known
+          (known_by kept first _ _ known (λ clean. subst (λ (h : Held g.row.S.Denot). HasCleanDisk (state g.S.Store h)) same clean) is)))),
     )

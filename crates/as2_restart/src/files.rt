@@ -1,0 +1,69 @@
+//! The files of a store: closed, left by a stop, and opened at their path.
+ghost use Rattle.std.specs.Prelude.{◌≡◌, true, false, IfOk, IsTrue};
+ghost use Rattle.sqlite.specs.Closing.{IsCopied};
+ghost use Rattle.sqlite.specs.Files.{IsBlankAs, IsOpened, file_state};
+ghost use Rattle.sqlite.specs.Start.{FindsIn};
+ghost use Rattle.sqlite.specs.State.{HasCleanDisk};
+ghost use Rattle.sqlite_store.specs.FileStore.{view};
+ghost use Rattle.sqlite_wal.specs.Files.{image_at, outcomes};
+ghost use Rattle.sqlite_wal.specs.Recovery.{Image};
+ghost use Rattle.sqlite_wal.specs.Reads.{AreClean};
+ghost use Rattle.as2_exchange.specs.Agreement.{Agreements};
+ghost use Rattle.as2_exchange.specs.Run.{Trace};
+ghost use Rattle.as2_exchange.specs.State.{State};
+ghost use Rattle.as2_store.specs.Files.{HoldsState};
+ghost use Rattle.as2_store.specs.Stands.{Rests};
+ghost use Rattle.as2_restart.specs.Files.{AreClosed, AreLeft, AreShielded};
+ghost use Rattle.as2_restart.specs.Restarts.{MayLeave};
+
+use as2_station::Station;
+use sqlite::{Connection, Error, FileFrom, FileStore, Start};
+use sqlite_disk::{Disk, Files};
+
+/// Opens the two files at a path, and makes those that are missing, whose pages have sums then. `start` stands for what they hold as
+/// they are opened, which no code can read: where that is a state of a store, the connection stands for it. That the path leads to
+/// them no clause says.
+pub fn open_at<S: Start>(
+    rt: &HostRuntime,
+    path: &str,
+    start: S,
+) -> Result<Connection<FileStore<FileFrom<S>>>, Error>
+    ensures autocommit { IfOk result (λ c. c.in_transaction ≡ false) }
+    ensures opened { IfOk result (λ c. HasCleanDisk (file_state c) → IsOpened c) }
+    ensures finds { IfOk result (λ c. HasCleanDisk (file_state c) → FindsIn (image_at S.Start) (file_state c)) }
+    ensures sums { IfOk result (λ c. HasCleanDisk (file_state c) → IsBlankAs true (image_at S.Start) → (view c.store).has_sums ≡ true) }
+    ensures found { IfOk result (λ c. HasCleanDisk (file_state c) → (s : State) → HoldsState (image_at S.Start) s → Rests (file_state c) s) }
+    ensures guarded { IfOk result (λ c. HasCleanDisk (file_state c) → (file_state c).IsShielded) }
+{
+    match Connection::open_from(rt, path, true, start) {
+        Ok(conn) => Ok(conn),
+        Err((error, _)) => Err(error),
+    }
+}
+
+/// Closes a store into its two files, which hold then what its tables stood for. Where that fails the store is dropped, and what is
+/// left then no clause says.
+pub fn close<D: Disk + Drop>(conn: Connection<FileStore<D>>) -> Result<Files<D>, Error>
+    ensures usable { IfOk result (λ files. IsTrue (D.Disk.is_usable files.log) × IsTrue (D.Disk.is_usable files.db)) }
+    ensures copied { IfOk result (λ files. AreClean D.Disk files.log files.db → IsCopied conn files) }
+    ensures closed { IfOk result (λ files. AreClean D.Disk files.log files.db → (s : State) → Rests (file_state conn) s → AreClosed D.Disk files s) }
+    ensures shield { IfOk result (λ files. (file_state conn).IsShielded → AreShielded D.Disk files) }
+{
+    match conn.close_files() {
+        Ok(files) => Ok(files),
+        Err((error, store)) => {
+            drop(store.close());
+            Err(error)
+        }
+    }
+}
+
+/// The two files of a station, as a stop of the computer would find them: they hold what its store would leave to a crash.
+pub fn leave<D: Disk + Drop>(station: Station<FileStore<D>>) -> Files<D>
+    ensures clean { AreClean D.Disk result.log result.db → HasCleanDisk (file_state station) }
+    ensures left { AreClean D.Disk result.log result.db → (A : Agreements) (told : Trace) (s : State) → MayLeave A told s (file_state station) → AreLeft D.Disk result A told s }
+    ensures kept { AreClean D.Disk result.log result.db → (s : State) → Rests (file_state station) s → IsTrue (file_state station).is_open
+        → (image : Image) → outcomes D.Disk result.log result.db image → ∥ HoldsState image s ∥₁ }
+{
+    station.into_store().into_connection().into_store().close()
+}
