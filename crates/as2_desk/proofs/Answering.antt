@@ -22,7 +22,6 @@ use Rattle.as2_store.specs.Calls.{Reads}
 use Rattle.as2_store.specs.Stands.{Rests, may_come}
 use Rattle.as2_desk.specs.Questions.{FaultMayCome, Tells, Told, found_told, is_event, looked_up, number_told, read_told, told_by, told_by_step}
 use Rattle.as2_desk.specs.declared.asking.Question.{Question}
-use Rattle.as2_desk.specs.declared.asking.Question.TheVariants as question
 use Rattle.as2_desk.specs.declared.refusal.CommandFault.TheVariants.{Station}
 use Rattle.as2_desk.specs.declared.stores.OpenFault.TheVariants as open_fault
 

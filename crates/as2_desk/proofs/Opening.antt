@@ -11,7 +11,7 @@ use Rattle.as2_store.specs.Stands.{Rests, may_come}
 use Rattle.as2_desk.specs.declared.stores.OpenFault.{OpenFault}
 use Rattle.as2_desk.specs.declared.stores.OpenFault.TheVariants as open_fault
 use Rattle.as2_desk.specs.declared.stores.Seen.TheVariants as saw
-use Rattle.as2_desk.specs.Stores.{Holds, IsFaithful, IsFaultOf, IsKnown, IsMade, IsOpened, Kept, MayBeMade, MayBeOpened, Sees, StandsFor, StandsOpen, fault_in, files, foreign, nothing, records, untold}
+use Rattle.as2_desk.specs.Stores.{Holds, IsFaithful, IsFaultOf, IsKnown, IsMade, IsOpened, Kept, MayBeMade, MayBeOpened, Sees, StandsOpen, fault_in, files, foreign, nothing, records, untold}
 
 -- a fault that may come of any call
 pub any_fault : (kept : Kept) (f : OpenFault) → may_come (fault_in f) ≡ true → IsFaultOf kept f
@@ -72,7 +72,7 @@ module _ {S : Type 0} (g : Ghosts S) where
 
   -- what the files held, once it was adopted
   files_hold : (image : Image) (first : ℕ) (c : Held S) (r : Result (Held S) OpenFault) → (HasCleanDisk (state g c) → (s : State) → HoldsState image s → Rests (state g c) s) → IfOk r (IsSame c) → Holds g (files image) first r
-  files_hold image first c (Ok store) opened same clean s held = let back = same clean in back.1 s (opened back.0 s held)
+  files_hold image first c (Ok store) opened same = λ clean s held. let back = same clean in back.1 s (opened back.0 s held)
   files_hold image first c (Err f) opened same = tt
 
   pub opened_holds : (kept : Kept) (first : ℕ) (c : Held S) (r : Result (Held S) OpenFault) → MayBeOpened kept → IsOpened g kept (Ok c)
@@ -85,6 +85,11 @@ module _ {S : Type 0} (g : Ghosts S) where
   opened_holds (records s) first c (Err f) may opened stands same = stands s opened.0 opened.1
   opened_holds (files image) first c r may opened stands same = files_hold image first c r opened same
 
+  pub found_open : (kept : Kept) (c : Held S) (r : Result (Held S) OpenFault) → MayBeOpened kept → IsOpened g kept (Ok c)
+      → ((s : State) → IsFaithful g → Rests (state g c) s → StandsOpen g s r) → IfOk r (IsSame c) → IfOk r (λ store. (first : ℕ) → MayBeOpened kept × Holds g kept first (Ok store))
+  found_open kept c (Ok store) may opened stands same = λ first. (may, opened_holds kept first c (Ok store) may opened stands same)
+  found_open kept c (Err f) may opened stands same = tt
+
   -- ---- a store that is made
 
   pub not_made : (kept : Kept) (first : ℕ) (f : OpenFault) → MayBeMade kept → IsMade g kept first (Err f) → IsFaultOf kept f
@@ -94,12 +99,16 @@ module _ {S : Type 0} (g : Ghosts S) where
   not_made (records s) first f may made = absurd may
   not_made (files image) first f may made = tt
 
+  -- a store that was made stands for a state without entries
+  pub new_holds : (first : ℕ) (r : Result (Held S) OpenFault) → StandsOpen g (empty first) r → Holds g nothing first r
+  new_holds first (Ok store) stands = λ s is. subst (λ x. IsFaithful g × Rests (state g store) x) (sym is) stands
+  new_holds first (Err f) stands = stands
+
   pub made_holds : (kept : Kept) (first : ℕ) (c : Held S) (r : Result (Held S) OpenFault) → MayBeMade kept → IsMade g kept first (Ok (Some c))
       → ((s : State) → IsFaithful g → Rests (state g c) s → StandsOpen g s r) → IfOk r (IsSame c) → Holds g kept first r
   made_holds untold first c (Ok store) may made stands same = λ s is. absurd is
   made_holds untold first c (Err f) may made stands same = tt
-  made_holds nothing first c (Ok store) may made stands same = λ t is. subst (λ x. IsFaithful g × Rests (state g store) x) (sym is) (stands (empty first) made.0 made.1)
-  made_holds nothing first c (Err f) may made stands same = stands (empty first) made.0 made.1
+  made_holds nothing first c r may made stands same = new_holds first r (stands (empty first) made.0 made.1)
   made_holds foreign first c r may made stands same = absurd may
   made_holds (records s) first c r may made stands same = absurd may
   made_holds (files image) first c r may made stands same = files_hold image first c r made same
@@ -129,7 +138,10 @@ known_by nothing first Clean Cleaner (Some s) f is = is
 known_by (records t) first Clean Cleaner (Some s) f is = is
 known_by (files image) first Clean Cleaner (Some s) f is = (is.0, f is.1)
 
--- nothing depends on a medium that returns what was written
-pub known_in_memory : (first : ℕ) (Clean Cleaner : Type 0) (known : Option State) → IsKnown nothing first Clean known → IsKnown nothing first Cleaner known
-known_in_memory first Clean Cleaner None is = tt
-known_in_memory first Clean Cleaner (Some s) is = is
+-- of a new store nothing depends on a medium that returns what was written
+known_new : (first : ℕ) (Clean Cleaner : Type 0) (known : Option State) → IsKnown nothing first Clean known → IsKnown nothing first Cleaner known
+known_new first Clean Cleaner None is = tt
+known_new first Clean Cleaner (Some s) is = is
+
+pub known_in_memory : (kept : Kept) (first : ℕ) (Clean Cleaner : Type 0) (known : Option State) → kept ≡ nothing → IsKnown kept first Clean known → IsKnown kept first Cleaner known
+known_in_memory kept first Clean Cleaner known is now = subst (λ (k : Kept). IsKnown k first Cleaner known) (sym is) (known_new first Clean Cleaner known (subst (λ (k : Kept). IsKnown k first Clean known) is now))

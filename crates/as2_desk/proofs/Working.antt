@@ -1,5 +1,5 @@
 -- What is done over a store, said of the store that is handed back.
-use Rattle.std.proofs.Common.{◌≡◌, ℕ, List, Option}
+use Rattle.std.proofs.Common.{ℕ, List, Option}
 use Rattle.as2_agreement.specs.Agreements.{AgreedValues}
 use Rattle.as2_exchange.specs.State.{State}
 use Rattle.as2_desk.proofs.HandedBack.{each_known, posts_left}

@@ -1,5 +1,5 @@
 -- What `check` tells of agreements.
-use Rattle.std.specs.Prelude.{ℕ, List, ◌++◌, length, codes, decimal, Bool, true, false, not, Option, Some, None, if◌then◌else◌}
+use Rattle.std.specs.Prelude.{ℕ, List, ◌++◌, length, codes, decimal, Bool, false, not, Option, Some, None, if◌then◌else◌}
 use Rattle.as2_agreement.specs.Agreements.{AgreedValues}
 use Rattle.std.specs.Str.{bytes_eq}
 use Rattle.as2_text.specs.Addresses.{address_target, url_of}

@@ -2,7 +2,7 @@
 -- left (before, after) and how many calls were made of it (calls, later), that nothing was read (Unread) or written (Unwritten), what standard output held and holds (written, now),
 -- and which text was written on standard error (Said); that a store that was opened is handed back (Back), for which states its tables
 -- stand (Left), and that its medium returned what was written until then (Clean), or that none was opened (Unopened).
-use Rattle.std.specs.Prelude.{◌≡◌, ◌⊎◌, ℕ, List, Option, Some, None, Result, Ok, Err, true, codes, ⊤}
+use Rattle.std.specs.Prelude.{◌≡◌, ◌⊎◌, ℕ, List, Option, Some, None, Ok, Err, true, codes, ⊤}
 use Rattle.std.specs.Io.KnownBytes.{Appends}
 use Rattle.std.specs.Str.{bytes_eq}
 use Rattle.as2_agreement.specs.Agreements.{AgreedValues}

@@ -12,7 +12,7 @@ use Rattle.sqlite.specs.declared.error.Error.{Error}
 use Rattle.sqlite.specs.declared.error.Error.TheVariants.{SqliteFailure}
 use Rattle.sqlite.specs.declared.error.ErrorCode.TheVariants as code
 use Rattle.as2_store.specs.Files.{HoldsState}
-use Rattle.as2_store.specs.Stands.{Rests, IsBlank, fault_by, may_come}
+use Rattle.as2_store.specs.Stands.{Rests, fault_by, may_come}
 use Rattle.as2_desk.specs.declared.stores.OpenFault.{OpenFault}
 use Rattle.as2_desk.specs.declared.stores.OpenFault.TheVariants as open_fault
 use Rattle.as2_desk.specs.declared.stores.Seen.{Seen}

@@ -1,7 +1,7 @@
 -- What a command does over a store. Of the streams these are told: what the reader had left and has
 -- left (before, after) and how many calls were made of it (calls, later), that nothing was read (Unread) or written (Unwritten), what standard output held and holds (written, now),
 -- and which text was written on standard error (Said); and for which states the tables stand of the store then (Left).
-use Rattle.std.specs.Prelude.{◌≡◌, ◌⊎◌, ◌+◌, ℕ, List, Option, Result, Ok, Err, ⊤}
+use Rattle.std.specs.Prelude.{◌≡◌, ◌+◌, ℕ, List, Option, Result, Ok, Err, ⊤}
 use Rattle.as2_agreement.specs.Agreements.{AgreedValues}
 use Rattle.as2_exchange.specs.State.{State, content_limit}
 use Rattle.as2_desk.specs.Connections.{ServesCount}

@@ -1,6 +1,5 @@
-use Rattle.std.proofs.Common.{◌≡◌, ◌∙◌, List, ℕ, Option, Some, refl, sym, subst, ap, string_bytes, Global, String}
+use Rattle.std.proofs.Common.{◌≡◌, ◌∙◌, Some, sym, subst, ap, string_bytes}
 use Rattle.sqlite.specs.Held.{state}
-use Rattle.as2_exchange.specs.State.{State}
 use Rattle.as2_exchange.specs.Views.{fetch, outstanding, show}
 use Rattle.as2_exchange.specs.declared.event.Event.TheVariants as event
 use Rattle.as2_views.specs.Filtering.{listing}

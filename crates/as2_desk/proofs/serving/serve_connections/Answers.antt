@@ -1,4 +1,4 @@
-use Rattle.std.proofs.Common.{◌≡◌, ◌≤◌, arith}
+use Rattle.std.proofs.Common.{◌≤◌, arith}
 use Rattle.as2_desk.proofs.Connecting.{all_served, cut, none_served, one_more}
 use Rattle.as2_desk.proofs.serving.serve_connections.Goals as goal
 

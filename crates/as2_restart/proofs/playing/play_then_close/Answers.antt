@@ -22,14 +22,14 @@ returns-clause-closed g c =
     let last = shield (subst (λ h. (file_state h).IsShielded) (sym same) kept) in
     elim (ends_well (start_of g.S.Start) (λ f. g.C.Calls.history f.calls) (λ _. refl) (λ _. refl) last.0 files.log files.db last.1 last.2) [
       | inl honest ↦
-        let clean = and_from _ _ honest.0 honest.1 in
-        let was : HasCleanDisk (file_state c.play.new.self) = subst (λ h. HasCleanDisk (file_state h)) same (copied clean).was_clean in
-        let played = c.in_ok-answers.ensures.played was s rests in
-        inl (record {
-          state = played.end;
-          run = played.run;
-          by_history = played.by_history;
-          closed = closed clean played.end (subst (λ h. Rests (file_state h) played.end) (sym same) played.rests);
-        })
+          let clean = and_from _ _ honest.0 honest.1 in
+          let was : HasCleanDisk (file_state c.play.new.self) = subst (λ h. HasCleanDisk (file_state h)) same (copied clean).was_clean in
+          let played = c.in_ok-answers.ensures.played was s rests in
+          inl (record {
+            state = played.end;
+            run = played.run;
+            by_history = played.by_history;
+            closed = closed clean played.end (subst (λ h. Rests (file_state h) played.end) (sym same) played.rests);
+          })
       | inr collided ↦ inr collided
     ]) c.close.result c.close.ensures.copied c.close.ensures.closed c.close.ensures.shield)
