@@ -6,11 +6,11 @@ use crate::posts::{body, head};
 use crate::stores::{add, is_found, next};
 use as2_agreement::Agreements;
 use as2_exchange::{Event, StoreFault};
-use as2_restart::{close, leave, open_at, play_then_close};
+use as2_restart::{close, open_at, play_then_close};
 use as2_station::Station;
 use as2_store::Store;
 use as2_text::Moment;
-use sqlite::{Alter, Connection, Unknown};
+use sqlite::{Alter, Connection, File, FileStore, Unknown};
 use std::alloc::Global;
 use std::fs;
 use std::test::Fail;
@@ -98,15 +98,10 @@ fn a_file_is_adopted_again_and_not_made_anew(rt: HostRuntime) -> Result<(), Fail
     Ok(())
 }
 
-/// Makes a store in the file, has it record a post, and closes it; how many events were answered.
-fn posted(rt: &HostRuntime, file: &str) -> Result<usize, Fail> {
-    let alloc = rt.alloc();
+/// One post.
+fn one_post(alloc: Global) -> Result<Vec<Event>, Fail> {
     let Some(moment) = Moment::new(1000) else {
         return Err(Fail::new("no moment"));
-    };
-    let agreements = Agreements::read(alloc, AGREEMENTS)?;
-    let Ok(store) = Store::create(open_at(rt, file, Unknown)?, 1) else {
-        return Err(Fail::new("no store"));
     };
     let mut events = Vec::new(alloc);
     events.push(Event::Post {
@@ -114,33 +109,41 @@ fn posted(rt: &HostRuntime, file: &str) -> Result<usize, Fail> {
         body: body(alloc, b"abc")?,
         moment,
     })?;
-    let Ok(closed) = play_then_close(alloc, Station::new(store), &agreements, events) else {
-        return Err(Fail::new("no memory"));
-    };
-    if closed.files.is_none() {
-        return Err(Fail::new("not closed"));
-    }
-    Ok(closed.said.iter().filter(|it| it.is_ok()).count())
+    Ok(events)
 }
 
-/// The next numbers of the store in the file.
-fn next_in(rt: &HostRuntime, file: &str) -> Result<Option<(u64, u64)>, Fail> {
-    let Ok(mut store) = Store::adopt(open_at(rt, file, Unknown)?) else {
-        return Err(Fail::new("no store"));
-    };
-    let found = next(&mut store);
-    drop(leave(Station::new(store)));
-    Ok(found)
+/// A station over a new store in the file.
+fn station_in(rt: &HostRuntime, file: &str) -> Result<Station<FileStore<File>>, Fail> {
+    match Store::create(open_at(rt, file, Unknown)?, 1) {
+        Ok(store) => Ok(Station::new(store)),
+        Err(_) => Err(Fail::new("no store")),
+    }
+}
+
+/// Makes a store in the file, has it take a post, and closes it; whether the post was answered.
+fn is_posted(rt: &HostRuntime, file: &str) -> Result<bool, Fail> {
+    let agreements = Agreements::read(rt.alloc(), AGREEMENTS)?;
+    let station = station_in(rt, file)?;
+    match play_then_close(rt.alloc(), station, &agreements, one_post(rt.alloc())?) {
+        Ok(closed) => Ok(closed.files.is_some() && matches!(closed.said.as_slice(), [Ok(_)])),
+        Err(_) => Err(Fail::new("no memory")),
+    }
+}
+
+/// Opens the store in the file, and closes it.
+fn is_closed(rt: &HostRuntime, file: &str) -> Result<bool, Fail> {
+    Ok(close(open_at(rt, file, Unknown)?).is_ok())
 }
 
 #[test]
 fn what_is_closed_is_found_by_the_next_open(rt: HostRuntime) -> Result<(), Fail> {
     clear(&rt, "closed.db", "closed.db-wal");
-    assert_eq!(rt; posted(&rt, "closed.db")?, 1);
+    assert!(rt; is_posted(&rt, "closed.db")?);
+    // The database file does without its log.
     clear(&rt, "closed.db-wal", "closed.db-shm");
-    assert!(rt; next_in(&rt, "closed.db")? == Some((2, 1)));
-    assert!(rt; close(open_at(&rt, "closed.db", Unknown)?).is_ok());
-    assert!(rt; next_in(&rt, "closed.db")? == Some((2, 1)));
+    assert!(rt; goes(&rt, "closed.db", Step::MakeAnew)?);
+    assert!(rt; is_closed(&rt, "closed.db")?);
+    assert!(rt; goes(&rt, "closed.db", Step::MakeAnew)?);
     clear(&rt, "closed.db", "closed.db-wal");
     Ok(())
 }

@@ -68,7 +68,10 @@ fn with_tables(
 ) -> Result<Files<File>, OpenFault>
     requires autocommit { conn.in_transaction ≡ false }
 {
-    close(make_tables(conn, first)?).map_err(opening_fault)
+    match close(make_tables(conn, first)?) {
+        Ok(files) => Ok(files),
+        Err(error) => Err(opening_fault(error)),
+    }
 }
 
 /// Why files can't be had.

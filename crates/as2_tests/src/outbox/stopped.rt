@@ -6,6 +6,7 @@ use super::views::{REPEATED, SETTLED};
 use super::{Row, event, is_said};
 use crate::agreements::AGREEMENTS;
 use as2_agreement::Agreements;
+use as2_exchange::Event;
 use as2_restart::{Stopped, play_then_stop, reopen, stop_and_open};
 use as2_station::{Filter, Station};
 use as2_store::Store;
@@ -152,38 +153,61 @@ fn check_stops(alloc: Global, rows: &[Row], of_log: bool) -> Result<(), Fail> {
     Err(Fail::new("no end"))
 }
 
-/// Plays all rows at once, stops, opens what is left, closes it and opens it again: each time all that was answered is seen.
-fn check_whole(alloc: Global, rows: &[Row]) -> Result<(), Fail> {
-    let agreements = Agreements::read(alloc, AGREEMENTS)?;
-    let sights = sights(alloc, &agreements, rows)?;
+/// The events of the rows.
+fn events_of(alloc: Global, rows: &[Row]) -> Result<Vec<Event>, Fail> {
     let mut events = Vec::new(alloc);
     for (did, _) in rows {
         events.push(event(alloc, did)?)?;
     }
-    let Some(played) = station(alloc, NEVER) else {
+    Ok(events)
+}
+
+/// The station that is found behind all events and a stop.
+fn stopped_behind(
+    alloc: Global,
+    agreements: &Agreements,
+    events: Vec<Event>,
+) -> Result<Station<FileStore<Fuse<Memory>>>, Fail> {
+    let Some(station) = station(alloc, NEVER) else {
         return Err(Fail::new("no station"));
     };
-    let Ok(Stopped { said, again }) = play_then_stop(
+    let Ok(Stopped { said: _, again }) = play_then_stop(
         alloc,
-        played,
-        &agreements,
+        station,
+        agreements,
         events,
         Options::new(2),
     ) else {
         return Err(Fail::new("no memory"));
     };
-    let Some(mut found) = again else {
-        return Err(Fail::new("no store is found"));
-    };
-    let before = sight(alloc, &mut found)?;
-    let Some(mut opened) = reopen(alloc, found, Options::new(3)) else {
-        return Err(Fail::new("no store is opened"));
-    };
-    let after = sight(alloc, &mut opened)?;
-    if said.len() != rows.len() || sights.last() != Some(&before) || before != after {
+    match again {
+        Some(found) => Ok(found),
+        None => Err(Fail::new("no store is found")),
+    }
+}
+
+/// What is seen is the last of these sights.
+fn check_last<S: Alter>(
+    alloc: Global,
+    station: &mut Station<S>,
+    sights: &[String],
+) -> Result<(), Fail> {
+    if sights.last() != Some(&sight(alloc, station)?) {
         return Err(Fail::new("another end"));
     }
     Ok(())
+}
+
+/// Plays all rows at once, stops, opens what is left, closes it and opens it again: each time all that was answered is seen.
+fn check_whole(alloc: Global, rows: &[Row]) -> Result<(), Fail> {
+    let agreements = Agreements::read(alloc, AGREEMENTS)?;
+    let sights = sights(alloc, &agreements, rows)?;
+    let mut found = stopped_behind(alloc, &agreements, events_of(alloc, rows)?)?;
+    check_last(alloc, &mut found, &sights)?;
+    let Some(mut opened) = reopen(alloc, found, Options::new(3)) else {
+        return Err(Fail::new("no store is opened"));
+    };
+    check_last(alloc, &mut opened, &sights)
 }
 
 static LISTS: [&[Row]; 4] = [REPEATED, SETTLED, AWAITED, JOB];
