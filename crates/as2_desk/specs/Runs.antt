@@ -1,7 +1,7 @@
 -- What the program comes to where the words ask for something. Of the streams these are told: what the reader had left and has
 -- left (before, after) and how many calls were made of it (calls, later), that nothing was read (Unread) or written (Unwritten), what standard output held and holds (written, now),
 -- and which text was written on standard error (Said); that a store that was opened is handed back (Back), for which states its tables
--- stand (Left), and that its medium returned what was written until then (Clean), or that none was opened (Unopened).
+-- stand (Left), and that its medium returned what was written until then (Clean), or that none is handed back (Unopened).
 use Rattle.std.specs.Prelude.{◌≡◌, ◌⊎◌, ℕ, List, Option, Some, None, Ok, Err, true, codes, ⊤}
 use Rattle.std.specs.Io.KnownBytes.{Appends}
 use Rattle.std.specs.Str.{bytes_eq}

@@ -33,7 +33,7 @@ pub enum OpenFault {
     Store(StoreFault),
 }
 
-/// Stores that are opened by a path, one of them and once.
+/// Stores that are opened by a path.
 pub trait OpenStores {
     /// What the records lie on.
     type Kind: Alter + Drop;

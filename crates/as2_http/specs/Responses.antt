@@ -48,7 +48,7 @@ IsPastHead A r = (line : TheLine) → reading A r.fields r.body ≡ Refuses line
 abbrev pub post_event : Request → ℕ → Event
 post_event r moment = event.Post r.fields r.body moment
 
--- the connection is open, and whatever stops the machine now, what an open finds stands for this state
+-- the connection is open, and whatever stops the computer now, what an open finds stands for this state
 pub record IsSafe (c : Connected) (t : State) : Type 0 where
   pub is_open : IsTrue c.is_open
   pub lasts : Lasts c t

@@ -62,7 +62,7 @@ stays A s db m p e stands found same left =
     let apart = stands.receipts.1.distinct in
     rw same (ap (λ (x : State). Some (answer_to A e.number e.posted, x)) (left_alone s m e apart (found_number (λ (x : InEntry). x.number) _ s.inbox e apart found) left))
 
--- whatever stops the machine, what the tables stand for over an open connection lasts
+-- whatever stops the computer, what the tables stand for over an open connection lasts
 pub rests_lasts : (c : Connected) → ((db : Trees) → IsTrue c.is_open → c.may_leave db → db ≡ c.committed.trees) → IsTrue c.is_open → (s : State) → Rests c s → Lasts c s
 rests_lasts c settled opened s r = record {
   each = λ db may. subst (λ (t : Trees). Keeps t s) (sym (settled db opened may ∙ ap (λ (d : Database). d.trees) (r.committed opened))) (keeps_of c.now s (r.stands opened));

@@ -20,7 +20,7 @@ pub record IsInside (old new : Connected) : Type 0 where
 abbrev pub Keeps : Trees → State → Type 0
 Keeps db s = Stands (record { schema = store_schema; trees = db }) s
 
--- whatever stops the machine now, what an open finds stands for this state
+-- whatever stops the computer now, what an open finds stands for this state
 pub record Lasts (c : Connected) (s : State) : Type 0 where
   pub each : (db : Trees) → c.may_leave db → Keeps db s
 
