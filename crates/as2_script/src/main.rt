@@ -1,0 +1,40 @@
+//! Plays scripts: lines of events, commands and texts, each with what is answered to it. `docs/SCRIPTS.md` tells how they are
+//! written.
+#![tactic(auto)]
+
+mod answer;
+mod lines;
+mod lists;
+mod player;
+mod settings;
+mod texts;
+mod trouble;
+mod verbs;
+
+use crate::player::Player;
+use std::process::ExitCode;
+use std::{env, fs, io};
+
+/// Plays the scripts of a word: files, joined by commas, whose texts the later ones know. How many lines were answered otherwise.
+fn play(rt: &HostRuntime, word: &str) -> io::Result<u64> {
+    let mut player = Player::new(rt);
+    for path in word.split(",") {
+        let text = fs::read_to_string(rt, path)?;
+        player.play(path, text.as_str())?;
+    }
+    let (rows, differ) = player.counts();
+    if differ == 0 {
+        println!(rt; "{word}: {rows} rows")?;
+    } else {
+        println!(rt; "{word}: {rows} rows, {differ} differ")?;
+    }
+    Ok(differ)
+}
+
+fn main(rt: HostRuntime) -> io::Result<ExitCode> {
+    let mut differ = 0u64;
+    for word in env::args(&rt)?.skip(1) {
+        differ = differ.saturating_add(play(&rt, word.as_str())?);
+    }
+    Ok(ExitCode::from(if differ == 0 { 0 } else { 1 }))
+}
