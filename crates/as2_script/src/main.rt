@@ -3,11 +3,14 @@
 #![tactic(auto)]
 
 mod answer;
+mod events;
 mod lines;
 mod lists;
+mod played;
 mod player;
 mod settings;
 mod texts;
+mod told;
 mod trouble;
 mod verbs;
 

@@ -2,6 +2,7 @@
 use crate::answer::{Answer, spelled};
 use crate::lines::{Line, lines_of};
 use crate::lists::{before_other, before_title, behind_or};
+use crate::played::Played;
 use crate::settings::Settings;
 use crate::texts::{bytes_of, expanded};
 use crate::trouble::Trouble;
@@ -15,6 +16,7 @@ pub struct Player<'a> {
     pub alloc: Global,
     rt: &'a HostRuntime,
     pub settings: Settings,
+    pub played: Played,
     rows: u64,
     differ: u64,
 }
@@ -25,6 +27,7 @@ impl<'a> Player<'a> {
             alloc: rt.alloc(),
             rt,
             settings: Settings::new(rt.alloc()),
+            played: Played::new(),
             rows: 0,
             differ: 0,
         }
@@ -139,6 +142,7 @@ impl<'a> Player<'a> {
         self.play_lines(path, other)?;
         self.play_lines(path, more)?;
         self.settings.keep(known);
+        self.played = Played::new();
         Ok(())
     }
 

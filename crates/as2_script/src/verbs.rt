@@ -1,5 +1,9 @@
 //! What a line can ask for, by its verb.
 mod names;
+mod records;
+mod station;
+mod store;
+mod writes;
 
 use crate::answer::Answer;
 use crate::player::Player;
@@ -14,6 +18,13 @@ pub fn answer(
 ) -> Result<(), Trouble> {
     let alloc = player.alloc;
     if names::answer(alloc, verb, rest, answer)? {
+        return Ok(());
+    }
+    if station::answer(player, verb, rest, answer)?
+        || records::answer(player, verb, rest, answer)?
+        || store::answer(player, verb, rest, answer)?
+        || writes::answer(player, verb, rest, answer)?
+    {
         return Ok(());
     }
     Err(Trouble::Unreadable("no such verb"))
