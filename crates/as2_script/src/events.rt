@@ -256,3 +256,17 @@ pub fn event<'a>(alloc: Global, settings: &'a Settings, line: &'a str) -> Result
         _ => try_event(&brought, &words),
     }
 }
+
+/// The answer to a try that a line tells: a status, and behind it what is brought; nothing, where the line is empty.
+pub fn try_answer<'a>(
+    alloc: Global,
+    settings: &'a Settings,
+    line: &'a str,
+) -> Result<TryAnswer, Trouble> {
+    let brought = Brought {
+        alloc,
+        settings,
+        arguments: arguments_of(alloc, line)?,
+    };
+    brought.answer(brought.word(0))
+}

@@ -7,6 +7,8 @@ pub struct Line {
     /// Its number in the file, from 1.
     pub number: usize,
     pub text: String,
+    /// Whether lines of a text stand behind it.
+    has_text: bool,
 }
 
 /// What a line adds to a text, and the line end behind it, as they are spelled in a script: `> ` begins a line that ends in CR LF,
@@ -32,8 +34,9 @@ fn is_played(line: &str) -> bool {
 
 /// Adds a piece of a text to the line that it stands behind.
 fn add_piece(line: &mut Line, piece: &str, end: &str) -> Result<(), AllocError> {
-    if line.text.as_str().ends_with("=>") {
+    if !line.has_text {
         line.text.push_str(" ")?;
+        line.has_text = true;
     }
     line.text.push_str(piece)?;
     line.text.push_str(end)
@@ -48,6 +51,7 @@ pub fn lines_of(alloc: Global, text: &str) -> Result<Vec<Line>, AllocError> {
             _ if is_played(line) => lines.push(Line {
                 number: at.saturating_add(1),
                 text: String::from_str(alloc, line)?,
+                has_text: false,
             })?,
             _ => {}
         }

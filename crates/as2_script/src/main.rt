@@ -8,6 +8,7 @@ mod lines;
 mod lists;
 mod played;
 mod player;
+mod sending;
 mod settings;
 mod texts;
 mod told;

@@ -1,14 +1,13 @@
 //! The station that the events of a list go to, over a store in memory.
 ghost use Rattle.std.specs.Prelude.{◌≡◌, false, IfOk};
 
-use crate::answer::Answer;
 use crate::events::event;
 use crate::settings::Settings;
 use crate::texts::{bytes_of, expanded, number_in};
-use crate::told::{say, text_of};
+use crate::told::text_of;
 use crate::trouble::Trouble;
 use as2_agreement::Agreements;
-use as2_exchange::{END_OF_NUMBERS, Event};
+use as2_exchange::{Answer, END_OF_NUMBERS, Event, StoreFault};
 use as2_station::Station;
 use as2_store::Store;
 use sqlite::{Connection, MemStore};
@@ -133,24 +132,30 @@ impl Played {
         }
     }
 
-    /// Has the station take the event of a line, and answers what it says.
+    /// What the station says to the event of a line.
     pub fn take(
         &mut self,
         alloc: Global,
         settings: &Settings,
         line: &str,
-        answer: &mut Answer,
-    ) -> Result<(), Trouble> {
+    ) -> Result<Result<Answer, StoreFault>, Trouble> {
         let event = event(alloc, settings, line)?;
+        let (station, agreements) = self.ready(alloc, settings)?;
+        Ok(station.step(alloc, agreements, event))
+    }
+
+    /// The station and its agreements, each of which begins where there is none yet.
+    pub fn ready(
+        &mut self,
+        alloc: Global,
+        settings: &Settings,
+    ) -> Result<(&mut Station<MemStore>, &Agreements), Trouble> {
         if self.agreements.is_none() {
             self.agree(alloc, settings.text("agreements").unwrap_or(""))?;
         }
         self.station(alloc, settings)?;
         match (&mut self.station, &self.agreements) {
-            (Some(station), Some(agreements)) => {
-                let said = station.step(alloc, agreements, event);
-                say(alloc, settings, answer, &said)
-            }
+            (Some(station), Some(agreements)) => Ok((station, agreements)),
             _ => Err(Trouble::Unreadable("no agreements")),
         }
     }

@@ -156,3 +156,21 @@ pub fn say(
         Ok(said) => say_words(alloc, answer, said),
     }
 }
+
+/// Answers with the bytes of the report that is said to a post.
+pub fn say_report_bytes(
+    answer: &mut Answer,
+    said: &Result<Said, StoreFault>,
+) -> Result<(), Trouble> {
+    match said {
+        Ok(
+            Said::Http(
+                HttpAnswer {
+                    body: HttpBody::Report { bytes, .. },
+                    ..
+                },
+            ),
+        ) => Ok(answer.say_bytes(bytes.as_slice())?),
+        _ => Err(Trouble::Unreadable("no report")),
+    }
+}

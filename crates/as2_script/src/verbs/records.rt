@@ -1,12 +1,13 @@
 //! How documents, receipts and what waits stand in the records.
 use crate::answer::Answer;
 use crate::player::Player;
-use crate::texts::{bytes_of, number_in};
+use crate::texts::number_in;
 use crate::told::say_fault;
 use crate::trouble::Trouble;
 use crate::verbs::station::state_in;
 use as2_exchange::{Evidence, InEntry, OutEntry, StoreFault};
 use as2_mic::Pieces;
+use as2_rows::{InRow, OutRow};
 use as2_store::Store;
 use sqlite::MemStore;
 use std::alloc::Global;
@@ -184,6 +185,92 @@ fn say_outbox(
     Ok(())
 }
 
+/// Answers with whom an entry is from and to, its identifier, its length, and when it came.
+fn say_row(
+    alloc: Global,
+    answer: &mut Answer,
+    names: [&[u8]; 2],
+    id: &str,
+    row: [u64; 3],
+) -> Result<(), Trouble> {
+    let [from, to] = names;
+    let [number, length, moment] = row;
+    answer.say_number(alloc, number)?;
+    answer.say(" ")?;
+    answer.say_bytes(from)?;
+    answer.say(" -> ")?;
+    answer.say_bytes(to)?;
+    let text = format!(in alloc; " {id}, {length} bytes at {moment}, ")?;
+    answer.say(text.as_str())?;
+    Ok(())
+}
+
+/// Answers with the row of each received document, without its content.
+fn say_inbox_rows(
+    alloc: Global,
+    answer: &mut Answer,
+    store: &mut Store<MemStore>,
+) -> Result<(), Trouble> {
+    let rows = match store.list_in(alloc) {
+        Ok(rows) => rows,
+        Err(fault) => return say_fault(alloc, answer, fault),
+    };
+    for (at, row) in rows.iter().enumerate() {
+        answer.say(if at == 0 { "" } else { "; " })?;
+        say_in_row(alloc, answer, row)?;
+    }
+    Ok(())
+}
+
+fn say_in_row(alloc: Global, answer: &mut Answer, row: &InRow) -> Result<(), Trouble> {
+    say_row(
+        alloc,
+        answer,
+        [row.sender.bytes(), row.receiver.bytes()],
+        row.id.as_received(),
+        [row.number, row.length, row.moment.seconds()],
+    )?;
+    say_small(alloc, answer, &row.outcome)?;
+    answer.say(", ")?;
+    say_small(alloc, answer, &row.mdn)?;
+    say_tries(alloc, answer, row.tries)?;
+    say_small(alloc, answer, &row.attempt)?;
+    say_due(alloc, answer, row.due)
+}
+
+/// Answers with the row of each document to a partner, without its content.
+fn say_outbox_rows(
+    alloc: Global,
+    answer: &mut Answer,
+    store: &mut Store<MemStore>,
+) -> Result<(), Trouble> {
+    let rows = match store.list_out(alloc, None) {
+        Ok(rows) => rows,
+        Err(fault) => return say_fault(alloc, answer, fault),
+    };
+    for (at, row) in rows.iter().enumerate() {
+        answer.say(if at == 0 { "" } else { "; " })?;
+        say_out_row(alloc, answer, row)?;
+    }
+    Ok(())
+}
+
+fn say_out_row(alloc: Global, answer: &mut Answer, row: &OutRow) -> Result<(), Trouble> {
+    say_row(
+        alloc,
+        answer,
+        [row.organization.bytes(), row.partner.bytes()],
+        row.id.as_received(),
+        [row.number, row.length, row.moment.seconds()],
+    )?;
+    answer.say(row.detail.name())?;
+    answer.say(" ")?;
+    answer.say(format!(in alloc; "{:?}", row.detail.state())?.as_str())?;
+    say_tries(alloc, answer, row.tries)?;
+    say_small(alloc, answer, &row.attempt)?;
+    say_due(alloc, answer, row.due)
+}
+
 /// Answers with the next number of a receipt and that of a document.
 fn say_numbers(
     alloc: Global,
@@ -254,10 +341,13 @@ fn look(
         "settled" => say_settled(alloc, answer, store),
         "inbox" => say_inbox(alloc, answer, store),
         "outbox" => say_outbox(alloc, answer, store, rest),
+        "inbox-rows" => say_inbox_rows(alloc, answer, store),
+        "outbox-rows" => say_outbox_rows(alloc, answer, store),
         "identified" => {
-            let id = bytes_of(alloc, rest)?;
-            let found = store.find_out_by_id(alloc, id.as_slice());
-            say_found_document(alloc, answer, found)
+            say_found_document(alloc, answer, store.find_out_by_id(alloc, rest.as_bytes()))
+        }
+        "identified-whole" => {
+            say_submitted(alloc, answer, store.find_out_by_id(alloc, rest.as_bytes()))
         }
         _ => look_at(alloc, store, verb, number_in(rest)?, answer),
     }
@@ -293,7 +383,10 @@ pub fn answer(
             | "settled"
             | "inbox"
             | "outbox"
+            | "inbox-rows"
+            | "outbox-rows"
             | "identified"
+            | "identified-whole"
             | "document"
             | "submitted"
             | "evidence"

@@ -2,8 +2,9 @@
 use crate::answer::Answer;
 use crate::events::{NO_MOMENT, moment_in};
 use crate::player::Player;
+use crate::sending::say_sent;
 use crate::texts::number_in;
-use crate::told::say_fault;
+use crate::told::{say, say_fault, say_report_bytes};
 use crate::trouble::Trouble;
 use as2_exchange::{Next, StoreFault};
 use as2_mdn::State;
@@ -124,9 +125,20 @@ pub fn answer(
     let alloc = player.alloc;
     if verb.parse::<u64>().is_ok() {
         let line = format!(in alloc; "{verb} {rest}")?;
-        player
-            .played
-            .take(alloc, &player.settings, line.as_str(), answer)?;
+        let said = player.played.take(alloc, &player.settings, line.as_str())?;
+        say(alloc, &player.settings, answer, &said)?;
+        return Ok(true);
+    }
+    if verb == "report-bytes" {
+        let said = player.played.take(alloc, &player.settings, rest)?;
+        say_report_bytes(answer, &said)?;
+        return Ok(true);
+    }
+    if verb == "send" {
+        let Some(moment) = moment_in(rest) else {
+            return Err(NO_MOMENT);
+        };
+        say_sent(player, moment, answer)?;
         return Ok(true);
     }
     if verb == "under" {
