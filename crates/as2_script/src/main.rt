@@ -3,6 +3,7 @@
 #![tactic(auto)]
 
 mod answer;
+mod desk;
 mod events;
 mod lines;
 mod lists;

@@ -1,5 +1,6 @@
 //! Plays the lines of scripts.
 use crate::answer::{Answer, spelled};
+use crate::desk::Desk;
 use crate::lines::{Line, lines_of};
 use crate::lists::{before_other, before_title, behind_or};
 use crate::played::Played;
@@ -17,6 +18,7 @@ pub struct Player<'a> {
     rt: &'a HostRuntime,
     pub settings: Settings,
     pub played: Played,
+    pub desk: Desk,
     rows: u64,
     differ: u64,
 }
@@ -28,6 +30,7 @@ impl<'a> Player<'a> {
             rt,
             settings: Settings::new(rt.alloc()),
             played: Played::new(),
+            desk: Desk::new(),
             rows: 0,
             differ: 0,
         }
@@ -143,6 +146,7 @@ impl<'a> Player<'a> {
         self.play_lines(path, more)?;
         self.settings.keep(known);
         self.played = Played::new();
+        self.desk = Desk::new();
         Ok(())
     }
 

@@ -25,7 +25,7 @@ fn add_times(alloc: Global, out: &mut String, text: &str, count: u64) -> Result<
 }
 
 /// Adds what a sign stands for: a text by its name, `NAME WORD` for the text with the word in place of each `%`, or `TEXT*COUNT` for
-/// a text so many times.
+/// a text, or the one of that name, so many times.
 fn add_sign(
     alloc: Global,
     out: &mut String,
@@ -43,7 +43,10 @@ fn add_sign(
         return Ok(());
     }
     match sign.rsplit_once("*") {
-        Some((text, count)) => add_times(alloc, out, text, number_in(count)?),
+        Some((text, count)) => {
+            let text = settings.text(text).unwrap_or(text);
+            add_times(alloc, out, text, number_in(count)?)
+        }
         None => Err(Trouble::Unreadable("no text of that name")),
     }
 }

@@ -1,4 +1,6 @@
 //! What a line can ask for, by its verb.
+mod agreements;
+mod desk;
 mod names;
 mod records;
 mod station;
@@ -17,7 +19,17 @@ pub fn answer(
     answer: &mut Answer,
 ) -> Result<(), Trouble> {
     let alloc = player.alloc;
-    if names::answer(alloc, verb, rest, answer)? {
+    if names::answer(alloc, verb, rest, answer)? || agreements::answer(alloc, verb, rest, answer)? {
+        return Ok(());
+    }
+    if desk::answer(
+        alloc,
+        &player.settings,
+        &mut player.desk,
+        verb,
+        rest,
+        answer,
+    )? {
         return Ok(());
     }
     if station::answer(player, verb, rest, answer)?

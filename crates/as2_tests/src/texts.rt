@@ -73,11 +73,3 @@ fn numbered(alloc: Global, entry: &str, number: u64) -> Result<String, AllocErro
     let digits = number.to_string(alloc)?;
     entry.replace(alloc, "#", digits.as_str())
 }
-
-pub fn joined(alloc: Global, parts: &[&str]) -> Result<String, AllocError> {
-    let mut text = String::new(alloc);
-    for part in parts {
-        text.push_str(part)?;
-    }
-    Ok(text)
-}

@@ -1,4 +1,4 @@
-use Rattle.as2_tests.proofs.desk.outcome_over.Given as goal
+use Rattle.as2_script.proofs.desk.outcome_over.Given as goal
 
 abbrev pub ghosts-outcome_counted-A-Ledger : goal.ghosts-outcome_counted-A-Ledger
 ghosts-outcome_counted-A-Ledger a = record { name = a.reads.name; parts = a.reads.parts }

@@ -1,0 +1,137 @@
+//! A network in memory, by the texts `connections` and `partner-reply`.
+use crate::settings::Settings;
+use crate::texts::{bytes_of, number_in};
+use crate::trouble::Trouble;
+use as2_agreement::Agreements;
+use as2_desk::{CannotListen, Links, Listens, Network, Served, Waits};
+use as2_exchange::{Job, TryAnswer};
+use as2_mic::Pieces;
+use as2_station::Station;
+use as2_text::{Head, Memory, Moment};
+use sqlite::Alter;
+use std::alloc::Global;
+use std::str;
+
+/// A network in memory.
+#[derive(Clone, Copy)]
+pub struct Peers<'a> {
+    settings: &'a Settings,
+    /// How the connections end that come, each without a request. Where there are none, no address can be listened on.
+    ends: &'a str,
+}
+
+impl<'a> Peers<'a> {
+    pub fn new(settings: &'a Settings) -> Peers<'a> {
+        Peers {
+            settings,
+            ends: settings.text("connections").unwrap_or(""),
+        }
+    }
+}
+
+fn end_named(word: &str) -> Served {
+    match word {
+        "Closed" => Served::Closed,
+        _ => Served::ReadFault,
+    }
+}
+
+impl Listens for Peers<'_> {
+    fn address(&self, alloc: Global) -> Result<String, Memory> {
+        let mut text = String::new(alloc);
+        text.push_str("127.0.0.1:8080")?;
+        Ok(text)
+    }
+
+    fn serve<S: Alter>(
+        &mut self,
+        _alloc: Global,
+        _agreements: &Agreements,
+        _moment: Option<Moment>,
+        _station: &mut Station<S>,
+    ) -> Served {
+        let (word, rest) = self.ends.split_once(" ").unwrap_or((self.ends, ""));
+        self.ends = rest;
+        end_named(word)
+    }
+}
+
+/// A head of the lines `NAME: VALUE`.
+fn head_of(alloc: Global, lines: &str) -> Result<Head, Trouble> {
+    let mut head = Head::new(alloc);
+    for line in lines.split("\r\n") {
+        let Some((name, value)) = line.split_once(": ") else {
+            return Err(Trouble::Unreadable("no field"));
+        };
+        if head.append(name.as_bytes(), value.as_bytes()).is_err() {
+            return Err(Trouble::Unreadable("no field"));
+        }
+    }
+    Ok(head)
+}
+
+fn body_of(alloc: Global, text: &str) -> Result<Pieces, Trouble> {
+    let mut body = Pieces::new(alloc);
+    body.append(text.as_bytes())?;
+    Ok(body)
+}
+
+fn status_in(word: &str) -> Result<u16, Trouble> {
+    match u16::try_from(number_in(word)?) {
+        Ok(status) => Ok(status),
+        Err(_) => Err(Trouble::Unreadable("no status")),
+    }
+}
+
+/// The answer of a front, which has a status and fields, and a body.
+fn answer_of(alloc: Global, front: &str, body: &str) -> Result<TryAnswer, Trouble> {
+    let (status, fields) = front.split_once("\r\n").unwrap_or((front, ""));
+    Ok(TryAnswer::Reply {
+        status: status_in(status)?,
+        head: head_of(alloc, fields)?,
+        body: body_of(alloc, body)?,
+    })
+}
+
+/// The answer that a text spells: a line with a status, lines of fields, an empty line, and a body.
+fn reply_of(alloc: Global, text: &str) -> Result<TryAnswer, Trouble> {
+    let bytes = bytes_of(alloc, text)?;
+    let Ok(text) = str::from_utf8(bytes.as_slice()) else {
+        return Err(Trouble::Unreadable("no UTF-8"));
+    };
+    match text.split_once("\r\n\r\n") {
+        Some((front, body)) => answer_of(alloc, front, body),
+        None => Err(Trouble::Unreadable("no reply")),
+    }
+}
+
+impl Links for Peers<'_> {
+    fn exchange(&mut self, alloc: Global, _job: &Job) -> TryAnswer {
+        match self.settings.text("partner-reply") {
+            Some(text) => reply_of(alloc, text).unwrap_or(TryAnswer::NoAnswer),
+            None => TryAnswer::NoAnswer,
+        }
+    }
+}
+
+impl<'a> Network for Peers<'a> {
+    type Listener = Peers<'a>;
+
+    type Links = Peers<'a>;
+
+    fn listen(
+        &self,
+        _alloc: Global,
+        _address: &str,
+        _waits: Waits,
+    ) -> Result<Peers<'a>, CannotListen> {
+        if self.ends.is_empty() {
+            return Err(CannotListen);
+        }
+        Ok(*self)
+    }
+
+    fn links(&self, _waits: Waits) -> Peers<'a> {
+        *self
+    }
+}

@@ -1,0 +1,174 @@
+//! Command lines of the station: what they come to, also where standard input is cut, or calls of the streams fail, at each place.
+use crate::answer::Answer;
+use crate::desk::{Desk, Given, given, say};
+use crate::settings::Settings;
+use crate::texts::{bytes_of, number_in};
+use crate::trouble::Trouble;
+use std::alloc::{AllocError, Global};
+
+/// How many runs there were, and how many came to what the first one did.
+#[derive(Drop)]
+struct Tally {
+    first: Option<Answer>,
+    same: u64,
+    runs: u64,
+}
+
+impl Tally {
+    fn new() -> Tally {
+        Tally {
+            first: None,
+            same: 0,
+            runs: 0,
+        }
+    }
+
+    /// Counts a run.
+    fn add(&mut self, told: Answer) {
+        self.runs = self.runs.saturating_add(1);
+        match &self.first {
+            None => {
+                self.first = Some(told);
+                self.same = 1;
+            }
+            Some(first) if first.bytes.as_slice() == told.bytes.as_slice() => {
+                self.same = self.same.saturating_add(1);
+            }
+            Some(_) => {}
+        }
+    }
+
+    /// Answers with the counts, and with what the first run came to.
+    fn say(&self, alloc: Global, answer: &mut Answer) -> Result<(), AllocError> {
+        answer.say(format!(in alloc; "{} of {}: ", self.same, self.runs)?.as_str())?;
+        match &self.first {
+            Some(first) => answer.say_bytes(first.bytes.as_slice()),
+            None => Ok(()),
+        }
+    }
+}
+
+/// Runs a command line, and answers with what it came to.
+fn run(alloc: Global, desk: &mut Desk, given: &Given<'_>) -> Result<Answer, AllocError> {
+    let outcome = desk.run(alloc, given);
+    let mut answer = Answer::new(alloc);
+    say(alloc, &outcome, &mut answer)?;
+    Ok(answer)
+}
+
+/// The bytes in two parts.
+fn cut_at(alloc: Global, bytes: &[u8], at: usize) -> Result<Vec<Vec<u8>>, AllocError> {
+    let mut parts = Vec::new(alloc);
+    for part in [bytes.get(..at), bytes.get(at..)] {
+        parts.push(part.unwrap_or(&[]).to_vec(alloc)?)?;
+    }
+    Ok(parts)
+}
+
+/// The bytes of a text.
+fn text_bytes(alloc: Global, settings: &Settings, name: &str) -> Result<Vec<u8>, Trouble> {
+    bytes_of(alloc, settings.text(name).unwrap_or(""))
+}
+
+/// Runs a command line once for each place in standard input, which is cut there into two parts.
+fn cut_each(
+    alloc: Global,
+    settings: &Settings,
+    desk: &mut Desk,
+    words: &str,
+) -> Result<Tally, Trouble> {
+    let mut given = given(alloc, settings, words)?;
+    let input = text_bytes(alloc, settings, "input")?;
+    let mut tally = Tally::new();
+    for at in 1..=input.len() {
+        given.parts = cut_at(alloc, input.as_slice(), at)?;
+        tally.add(run(alloc, desk, &given)?);
+    }
+    Ok(tally)
+}
+
+/// Runs a command line of which so many calls succeed. The bytes that were written are left aside if they are the wanted ones, and so
+/// is whether something was read.
+fn run_cut_off(
+    alloc: Global,
+    desk: &mut Desk,
+    given: &Given<'_>,
+    wanted: &[u8],
+) -> Result<Answer, AllocError> {
+    let mut outcome = desk.run(alloc, given);
+    if outcome.output.as_slice() == wanted {
+        outcome.output.clear();
+    }
+    outcome.is_unread = false;
+    let mut answer = Answer::new(alloc);
+    say(alloc, &outcome, &mut answer)?;
+    Ok(answer)
+}
+
+/// Runs a command line once for each byte of standard input: so many reads, of a byte each, succeed before it, and nothing is written.
+fn fail_each_read(
+    alloc: Global,
+    settings: &Settings,
+    desk: &mut Desk,
+    words: &str,
+) -> Result<Tally, Trouble> {
+    let mut given = given(alloc, settings, words)?;
+    let input = text_bytes(alloc, settings, "input")?;
+    given.reads.most = 1;
+    let mut tally = Tally::new();
+    for count in 0..input.len() {
+        given.reads.sound = count;
+        tally.add(run_cut_off(alloc, desk, &given, b"")?);
+    }
+    Ok(tally)
+}
+
+/// Runs a command line once for each byte of the text `output`: so many writes, of a byte each, succeed before it, and the bytes before
+/// it are written.
+fn fail_each_write(
+    alloc: Global,
+    settings: &Settings,
+    desk: &mut Desk,
+    words: &str,
+) -> Result<Tally, Trouble> {
+    let mut given = given(alloc, settings, words)?;
+    let output = text_bytes(alloc, settings, "output")?;
+    given.writes.most = 1;
+    let mut tally = Tally::new();
+    for count in 0..output.len() {
+        given.writes.sound = count;
+        let wanted = output.as_slice().get(..count).unwrap_or(b"");
+        tally.add(run_cut_off(alloc, desk, &given, wanted)?);
+    }
+    Ok(tally)
+}
+
+/// Whether the last command line left so many bytes of the part that it read last, and so many parts behind it, or more.
+fn is_left(desk: &Desk, words: &str) -> Result<bool, Trouble> {
+    let (bytes, parts) = words.split_once(" ").unwrap_or((words, ""));
+    let (left, behind) = desk.unread;
+    Ok(left as u64 >= number_in(bytes)? && behind as u64 >= number_in(parts)?)
+}
+
+/// Answers to the verbs of command lines; whether it is one.
+pub fn answer(
+    alloc: Global,
+    settings: &Settings,
+    desk: &mut Desk,
+    verb: &str,
+    rest: &str,
+    answer: &mut Answer,
+) -> Result<bool, Trouble> {
+    match verb {
+        "run" => {
+            let given = given(alloc, settings, rest)?;
+            answer.say_bytes(run(alloc, desk, &given)?.bytes.as_slice())?;
+        }
+        "unread-at-least" => answer.say_whether(is_left(desk, rest)?)?,
+        "cut-each" => cut_each(alloc, settings, desk, rest)?.say(alloc, answer)?,
+        "fail-each-read" => fail_each_read(alloc, settings, desk, rest)?.say(alloc, answer)?,
+        "fail-each-write" => fail_each_write(alloc, settings, desk, rest)?.say(alloc, answer)?,
+        _ => return Ok(false),
+    }
+    Ok(true)
+}
