@@ -35,6 +35,12 @@ pub struct Given<'a> {
     clock: Option<u64>,
     /// Standard input, in parts.
     pub parts: Vec<Vec<u8>>,
+    pub calls: StreamCalls,
+}
+
+/// How the calls of standard input, output and error go.
+#[derive(Clone, Copy)]
+pub struct StreamCalls {
     pub reads: Calls,
     pub writes: Calls,
     errors: Calls,
@@ -84,6 +90,14 @@ fn clock(settings: &Settings) -> Result<Option<u64>, Trouble> {
     }
 }
 
+fn stream_calls(settings: &Settings) -> Result<StreamCalls, Trouble> {
+    Ok(StreamCalls {
+        reads: calls(settings, "bytes-a-read", "sound-reads")?,
+        writes: calls(settings, "bytes-a-write", "sound-writes")?,
+        errors: calls(settings, "", "sound-error-writes")?,
+    })
+}
+
 /// What the texts set for a command line of these words.
 pub fn given<'a>(
     alloc: Global,
@@ -95,9 +109,7 @@ pub fn given<'a>(
         words: words_of(alloc, words)?,
         clock: clock(settings)?,
         parts: parts_of(alloc, settings.text("input").unwrap_or(""))?,
-        reads: calls(settings, "bytes-a-read", "sound-reads")?,
-        writes: calls(settings, "bytes-a-write", "sound-writes")?,
-        errors: calls(settings, "", "sound-error-writes")?,
+        calls: stream_calls(settings)?,
     })
 }
 
@@ -139,11 +151,11 @@ fn outcome_counted<A: Ledger, B: Ledger, C: Ledger, D: Ledger>(
         settings: given.settings,
     };
     let peers = Peers::new(given.settings);
-    let input = Input::new(given.parts.as_slice(), given.reads);
+    let input = Input::new(given.parts.as_slice(), given.calls.reads);
     let mut input: Counted<Input<'_>, A, B> = Counted::new(input, reads, failed_reads);
-    let output = Paper::new(alloc, given.writes);
+    let output = Paper::new(alloc, given.calls.writes);
     let mut output: Counted<Paper, C, D> = Counted::new(output, writes, failed_writes);
-    let mut errors = Paper::new(alloc, given.errors);
+    let mut errors = Paper::new(alloc, given.calls.errors);
     let (ran, handed) = run(
         alloc,
         given.words.as_slice(),

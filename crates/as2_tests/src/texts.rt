@@ -24,15 +24,6 @@ pub const NOTHING: Text = Text {
 };
 
 impl Text {
-    pub fn of(plain: &'static str) -> Text {
-        Text { plain, ..NOTHING }
-    }
-
-    /// The text with these changes.
-    pub fn with(self, changes: &'static [Change]) -> Text {
-        Text { changes, ..self }
-    }
-
     pub fn made(&self, alloc: Global) -> Result<String, AllocError> {
         let text = replaced(alloc, self.plain, self.changes, self.places)?;
         let (entry, count) = self.entries;

@@ -114,10 +114,10 @@ fn fail_each_read(
 ) -> Result<Tally, Trouble> {
     let mut given = given(alloc, settings, words)?;
     let input = text_bytes(alloc, settings, "input")?;
-    given.reads.most = 1;
+    given.calls.reads.most = 1;
     let mut tally = Tally::new();
     for count in 0..input.len() {
-        given.reads.sound = count;
+        given.calls.reads.sound = count;
         tally.add(run_cut_off(alloc, desk, &given, b"")?);
     }
     Ok(tally)
@@ -133,10 +133,10 @@ fn fail_each_write(
 ) -> Result<Tally, Trouble> {
     let mut given = given(alloc, settings, words)?;
     let output = text_bytes(alloc, settings, "output")?;
-    given.writes.most = 1;
+    given.calls.writes.most = 1;
     let mut tally = Tally::new();
     for count in 0..output.len() {
-        given.writes.sound = count;
+        given.calls.writes.sound = count;
         let wanted = output.as_slice().get(..count).unwrap_or(b"");
         tally.add(run_cut_off(alloc, desk, &given, wanted)?);
     }
