@@ -25,7 +25,7 @@ use std::alloc::{AllocError, Global};
 use std::marker::Brand;
 use std::sync::ledger::{Blank, Ledger};
 use stores::Stores;
-use streams::{Calls, Input, Paper, calls};
+use streams::{Calls, Input, Paper, calls_by};
 
 /// What a command line is run over.
 #[derive(Drop)]
@@ -92,14 +92,14 @@ fn clock(settings: &Settings) -> Result<Option<u64>, Trouble> {
 
 fn stream_calls(settings: &Settings) -> Result<StreamCalls, Trouble> {
     Ok(StreamCalls {
-        reads: calls(settings, "bytes-a-read", "sound-reads")?,
-        writes: calls(settings, "bytes-a-write", "sound-writes")?,
-        errors: calls(settings, "", "sound-error-writes")?,
+        reads: calls_by(settings, "bytes-a-read", "sound-reads")?,
+        writes: calls_by(settings, "bytes-a-write", "sound-writes")?,
+        errors: calls_by(settings, "", "sound-error-writes")?,
     })
 }
 
 /// What the texts set for a command line of these words.
-pub fn given<'a>(
+pub fn given_by<'a>(
     alloc: Global,
     settings: &'a Settings,
     words: &'a str,

@@ -45,7 +45,7 @@ fn limit(settings: &Settings, name: &str) -> Result<usize, Trouble> {
 }
 
 /// How calls go, by the texts that tell how many bytes one gives or takes, and how many succeed.
-pub fn calls(settings: &Settings, most: &str, sound: &str) -> Result<Calls, Trouble> {
+pub fn calls_by(settings: &Settings, most: &str, sound: &str) -> Result<Calls, Trouble> {
     Ok(Calls {
         most: limit(settings, most)?,
         sound: limit(settings, sound)?,

@@ -1,6 +1,6 @@
 //! Command lines of the station: what they come to, also where standard input is cut, or calls of the streams fail, at each place.
 use crate::answer::Answer;
-use crate::desk::{Desk, Given, given, say};
+use crate::desk::{Desk, Given, given_by, say};
 use crate::settings::Settings;
 use crate::texts::{bytes_of, number_in};
 use crate::trouble::Trouble;
@@ -77,7 +77,7 @@ fn cut_each(
     desk: &mut Desk,
     words: &str,
 ) -> Result<Tally, Trouble> {
-    let mut given = given(alloc, settings, words)?;
+    let mut given = given_by(alloc, settings, words)?;
     let input = text_bytes(alloc, settings, "input")?;
     let mut tally = Tally::new();
     for at in 1..=input.len() {
@@ -112,7 +112,7 @@ fn fail_each_read(
     desk: &mut Desk,
     words: &str,
 ) -> Result<Tally, Trouble> {
-    let mut given = given(alloc, settings, words)?;
+    let mut given = given_by(alloc, settings, words)?;
     let input = text_bytes(alloc, settings, "input")?;
     given.calls.reads.most = 1;
     let mut tally = Tally::new();
@@ -131,7 +131,7 @@ fn fail_each_write(
     desk: &mut Desk,
     words: &str,
 ) -> Result<Tally, Trouble> {
-    let mut given = given(alloc, settings, words)?;
+    let mut given = given_by(alloc, settings, words)?;
     let output = text_bytes(alloc, settings, "output")?;
     given.calls.writes.most = 1;
     let mut tally = Tally::new();
@@ -161,7 +161,7 @@ pub fn answer(
 ) -> Result<bool, Trouble> {
     match verb {
         "run" => {
-            let given = given(alloc, settings, rest)?;
+            let given = given_by(alloc, settings, rest)?;
             answer.say_bytes(run(alloc, desk, &given)?.bytes.as_slice())?;
         }
         "unread-at-least" => answer.say_whether(is_left(desk, rest)?)?,
