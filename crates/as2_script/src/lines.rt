@@ -7,8 +7,6 @@ pub struct Line {
     /// Its number in the file, from 1.
     pub number: usize,
     pub text: String,
-    /// Whether lines of a text stand behind it.
-    has_text: bool,
 }
 
 /// What a line adds to a text, and the line end behind it, as they are spelled in a script: `> ` begins a line that ends in CR LF,
@@ -32,11 +30,18 @@ fn is_played(line: &str) -> bool {
     !line.is_empty() && !line.starts_with("#")
 }
 
+/// Whether the text behind a line has to be kept apart from it: behind `=>`, and behind the name of a text.
+fn needs_blank(line: &str) -> bool {
+    match line.strip_prefix("text ") {
+        Some(name) => !name.contains(" "),
+        None => line.ends_with("=>"),
+    }
+}
+
 /// Adds a piece of a text to the line that it stands behind.
 fn add_piece(line: &mut Line, piece: &str, end: &str) -> Result<(), AllocError> {
-    if !line.has_text {
+    if needs_blank(line.text.as_str()) {
         line.text.push_str(" ")?;
-        line.has_text = true;
     }
     line.text.push_str(piece)?;
     line.text.push_str(end)
@@ -51,7 +56,6 @@ pub fn lines_of(alloc: Global, text: &str) -> Result<Vec<Line>, AllocError> {
             _ if is_played(line) => lines.push(Line {
                 number: at.saturating_add(1),
                 text: String::from_str(alloc, line)?,
-                has_text: false,
             })?,
             _ => {}
         }

@@ -1,6 +1,10 @@
 //! What a line can ask for, by its verb.
 mod agreements;
 mod desk;
+mod http_devices;
+mod http_exchanges;
+mod http_replies;
+mod http_requests;
 mod names;
 mod records;
 mod station;
@@ -19,7 +23,12 @@ pub fn answer(
     answer: &mut Answer,
 ) -> Result<(), Trouble> {
     let alloc = player.alloc;
-    if names::answer(alloc, verb, rest, answer)? || agreements::answer(alloc, verb, rest, answer)? {
+    if names::answer(alloc, verb, rest, answer)?
+        || agreements::answer(alloc, verb, rest, answer)?
+        || http_replies::answer(alloc, verb, rest, answer)?
+        || http_exchanges::answer(alloc, verb, rest, answer)?
+        || http_requests::answer(alloc, verb, rest, answer)?
+    {
         return Ok(());
     }
     if desk::answer(
