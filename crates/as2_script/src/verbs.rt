@@ -1,5 +1,11 @@
 //! What a line can ask for, by its verb.
+mod arguments;
 mod names;
+mod outcomes;
+mod posts;
+mod receipts;
+mod reports;
+mod told;
 
 use crate::answer::Answer;
 use crate::player::Player;
@@ -14,6 +20,13 @@ pub fn answer(
 ) -> Result<(), Trouble> {
     let alloc = player.alloc;
     if names::answer(alloc, verb, rest, answer)? {
+        return Ok(());
+    }
+    if outcomes::answer(verb, rest, answer)?
+        || receipts::answer(alloc, verb, rest, answer)?
+        || reports::answer(alloc, verb, rest, answer)?
+        || posts::answer(alloc, verb, rest, answer)?
+    {
         return Ok(());
     }
     Err(Trouble::Unreadable("no such verb"))
