@@ -1,11 +1,14 @@
 //! What a line can ask for, by its verb.
 mod arguments;
+mod commands;
 mod names;
 mod outcomes;
 mod posts;
 mod receipts;
 mod reports;
+mod rows;
 mod told;
+mod views;
 
 use crate::answer::Answer;
 use crate::player::Player;
@@ -26,6 +29,9 @@ pub fn answer(
         || receipts::answer(alloc, verb, rest, answer)?
         || reports::answer(alloc, verb, rest, answer)?
         || posts::answer(alloc, verb, rest, answer)?
+        || rows::answer(alloc, verb, rest, answer)?
+        || views::answer(alloc, verb, rest, answer)?
+        || commands::answer(alloc, verb, rest, answer)?
     {
         return Ok(());
     }
