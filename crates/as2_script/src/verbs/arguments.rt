@@ -45,11 +45,8 @@ impl<'a> Arguments<'a> {
     }
 
     /// The moment of so many seconds, as the next one says.
-    pub fn moment(&mut self) -> Result<Moment, Trouble> {
-        match Moment::new(self.number()?) {
-            Some(moment) => Ok(moment),
-            None => Err(Trouble::Unreadable("no moment")),
-        }
+    pub fn moment(&mut self) -> Option<Moment> {
+        Moment::new(self.number().ok()?)
     }
 
     /// The name that the next one spells, as a field of a head does.

@@ -153,7 +153,9 @@ fn say_first_entry(alloc: Global, rest: &str, answer: &mut Answer) -> Result<(),
     };
     let mut arguments = Arguments::of(alloc, first);
     let number = arguments.number()?;
-    let moment = arguments.moment()?;
+    let Some(moment) = arguments.moment() else {
+        return Err(Trouble::Unreadable("no moment"));
+    };
     let entry = first_entry(number, moment, post_in(alloc, text)?);
     say_entry(alloc, answer, &entry)
 }

@@ -138,15 +138,22 @@ fn domain_in(word: &str) -> Result<Domain, Trouble> {
 
 /// The report that `NUMBER | DOMAIN | FROM | TO | IDENTIFIER | OUTCOME | MIC` describes.
 fn report_in(alloc: Global, arguments: &mut Arguments<'_>) -> Result<ReportOut, Trouble> {
-    Ok(ReportOut {
+    let mut out = ReportOut {
         number: arguments.number()?,
         domain: domain_in(arguments.word())?,
         from: arguments.name()?,
         to: arguments.name()?,
         original_id: arguments.identifier()?,
         outcome: outcome_in(arguments.word())?,
-        mic: mic_for(alloc, arguments.word())?,
-    })
+        mic: None,
+    };
+    match mic_for(alloc, arguments.word()) {
+        Ok(mic) => {
+            out.mic = mic;
+            Ok(out)
+        }
+        Err(trouble) => Err(trouble),
+    }
 }
 
 /// `write-report NUMBER | DOMAIN | FROM | TO | IDENTIFIER | OUTCOME | MIC`: the body of the report.

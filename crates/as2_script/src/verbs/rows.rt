@@ -7,9 +7,11 @@ use crate::verbs::told::{attempt_word, mdn_word, say_due};
 use as2_exchange::{Address, ReceiptDelivery};
 use as2_mdn::ReportMic;
 use as2_mic::{Alg, MicText, Pieces};
-use as2_rows::{EvidenceRow, InRow, OutRow, RowFault};
-use as2_rows::{attempt_code, attempt_of_code, detail_code, detail_of_code, mdn_code, mdn_of_code};
-use as2_rows::{content_in, digest_of, how_code, mic_of, outcome_code, outcome_of_code, url_of};
+use as2_rows::{
+    EvidenceRow, InRow, OutRow, RowFault, attempt_code, attempt_of_code, content_in, detail_code,
+    detail_of_code, digest_of, how_code, mdn_code, mdn_of_code, mic_of, outcome_code,
+    outcome_of_code, url_of,
+};
 use as2_text::{AsName, MessageId, Moment, Url};
 use sqlite::Row;
 use sqlite::types::ValueRef;
@@ -154,7 +156,14 @@ fn say_tries(
 
 /// Answers with a row of the inbox.
 fn say_in_row(alloc: Global, answer: &mut Answer, row: &InRow) -> Result<(), Trouble> {
-    say_names(alloc, answer, row.number, &row.sender, &row.receiver, &row.id)?;
+    say_names(
+        alloc,
+        answer,
+        row.number,
+        &row.sender,
+        &row.receiver,
+        &row.id,
+    )?;
     answer.say(", ")?;
     answer.say_bytes(row.content_type.as_slice())?;
     say_size(alloc, answer, row.length, row.moment)?;
@@ -180,7 +189,14 @@ fn read_received(alloc: Global, rest: &str, answer: &mut Answer) -> Result<(), T
 
 /// Answers with a row of the outbox.
 fn say_out_row(alloc: Global, answer: &mut Answer, row: &OutRow) -> Result<(), Trouble> {
-    say_names(alloc, answer, row.number, &row.organization, &row.partner, &row.id)?;
+    say_names(
+        alloc,
+        answer,
+        row.number,
+        &row.organization,
+        &row.partner,
+        &row.id,
+    )?;
     say_size(alloc, answer, row.length, row.moment)?;
     answer.say("\n")?;
     let (state, attempt) = (row.detail.name(), attempt_word(row.attempt));
@@ -339,6 +355,14 @@ fn mic_in(word: &str) -> Result<Option<ReportMic>, Trouble> {
     }
 }
 
+/// `mic-values DIGEST TEXT` or `mic-values nothing`: the name of the digest, and the text.
+fn say_mic_values(rest: &str, answer: &mut Answer) -> Result<(), Trouble> {
+    match mic_in(rest) {
+        Ok(mic) => say_mic(answer, &mic),
+        Err(trouble) => Err(trouble),
+    }
+}
+
 /// Answers to the verbs of values; whether it is one.
 fn answer_values(
     alloc: Global,
@@ -350,8 +374,7 @@ fn answer_values(
         "code" => say_code(alloc, rest, answer)?,
         // How a receipt is asked for, `no receipt`, `at once` or an address: its code and its address.
         "receipt-values" => say_how(alloc, answer, &how_in(alloc, rest)?)?,
-        // `DIGEST TEXT` or `nothing`: the name of the digest, and the text.
-        "mic-values" => say_mic(answer, &mic_in(rest)?)?,
+        "mic-values" => say_mic_values(rest, answer)?,
         _ => return Ok(false),
     }
     Ok(true)

@@ -6,8 +6,10 @@ use crate::verbs::arguments::Arguments;
 use crate::verbs::rows::{evidence_row, in_row, out_row};
 use as2_mic::Pieces;
 use as2_rows::{InRow, OutRow};
-use as2_views::{Counts, add_counts, add_document, keep_outstanding};
-use as2_views::{add_in_line, add_in_lines, add_out_line, add_out_lines};
+use as2_views::{
+    Counts, add_counts, add_document, add_in_line, add_in_lines, add_out_line, add_out_lines,
+    keep_outstanding,
+};
 use std::alloc::Global;
 
 /// `received-line ROW`: the line of a received document.
@@ -64,7 +66,9 @@ fn list_sent(alloc: Global, rest: &str, answer: &mut Answer) -> Result<(), Troub
 /// `list-outstanding MOMENT || ROW || ..`: the lines of the documents that are outstanding at that moment, none of them settled.
 fn list_outstanding(alloc: Global, rest: &str, answer: &mut Answer) -> Result<(), Trouble> {
     let (moment, rows) = rest.split_once(" || ").unwrap_or((rest, ""));
-    let moment = Arguments::of(alloc, moment).moment()?;
+    let Some(moment) = Arguments::of(alloc, moment).moment() else {
+        return Err(Trouble::Unreadable("no moment"));
+    };
     let mut rows = out_rows(alloc, rows)?;
     keep_outstanding(&mut rows, moment);
     add_out_lines(&mut answer.bytes, rows.as_slice(), &[])?;
