@@ -15,6 +15,3 @@ pub use as2_views::Filter;
 pub use first_number::FirstNumber;
 pub use tasks::{Command, Options, RunOptions, Serving, Submission, Task, Waits};
 pub use words::options_in;
-
-#[cfg(test)]
-mod tests;

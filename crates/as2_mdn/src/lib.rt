@@ -19,6 +19,3 @@ pub use receipt::{MicPart, Receipt};
 pub use report::{ReportMic, ReportOut, add_line, write_head_fields, write_report};
 pub use report_reader::{ReportFault, is_plain_encoding, read_report};
 pub use verdicts::{verdict, verdict_pieces};
-
-#[cfg(test)]
-mod tests;

@@ -21,6 +21,3 @@ pub use owed::receipt_job;
 pub use repeating::{has_kept_mic, repeats};
 pub use replies::open_answer;
 pub use sending::{document_job, out_id};
-
-#[cfg(test)]
-mod tests;

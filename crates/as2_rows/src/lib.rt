@@ -33,6 +33,3 @@ pub fn entries_come_back()
     ensures inbox { (e : InEntry) → in_entry (in_summary e) e.posted.content ≡ e }
     ensures outbox { (d : OutEntry) → out_entry (out_summary d) d.content d.evidence ≡ d }
 {}
-
-#[cfg(test)]
-mod tests;

@@ -1,14 +1,23 @@
 //! What a line can ask for, by its verb.
 mod agreements;
+mod arguments;
+mod commands;
 mod desk;
 mod http_devices;
 mod http_exchanges;
 mod http_replies;
 mod http_requests;
 mod names;
+mod outcomes;
+mod posts;
+mod receipts;
 mod records;
+mod reports;
+mod rows;
 mod station;
 mod store;
+mod told;
+mod views;
 mod writes;
 
 use crate::answer::Answer;
@@ -45,6 +54,16 @@ pub fn answer(
         || records::answer(player, verb, rest, answer)?
         || store::answer(player, verb, rest, answer)?
         || writes::answer(player, verb, rest, answer)?
+    {
+        return Ok(());
+    }
+    if outcomes::answer(verb, rest, answer)?
+        || receipts::answer(alloc, verb, rest, answer)?
+        || reports::answer(alloc, verb, rest, answer)?
+        || posts::answer(alloc, verb, rest, answer)?
+        || rows::answer(alloc, verb, rest, answer)?
+        || views::answer(alloc, verb, rest, answer)?
+        || commands::answer(alloc, verb, rest, answer)?
     {
         return Ok(());
     }

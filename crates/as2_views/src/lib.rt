@@ -16,6 +16,3 @@ pub use filter::Filter;
 pub use laws::{all_are_listed, lists_of_rows, numbers_rise, rows_give_lines};
 pub use lists::{add_in_lines, add_out_lines, keep_outstanding};
 pub use rows::{add_in_line, add_out_line};
-
-#[cfg(test)]
-mod tests;
