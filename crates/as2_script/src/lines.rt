@@ -30,9 +30,17 @@ fn is_played(line: &str) -> bool {
     !line.is_empty() && !line.starts_with("#")
 }
 
+/// Whether the text behind a line has to be kept apart from it: behind `=>`, and behind the name of a text.
+fn needs_blank(line: &str) -> bool {
+    match line.strip_prefix("text ") {
+        Some(name) => !name.contains(" "),
+        None => line.ends_with("=>"),
+    }
+}
+
 /// Adds a piece of a text to the line that it stands behind.
 fn add_piece(line: &mut Line, piece: &str, end: &str) -> Result<(), AllocError> {
-    if line.text.as_str().ends_with("=>") {
+    if needs_blank(line.text.as_str()) {
         line.text.push_str(" ")?;
     }
     line.text.push_str(piece)?;
