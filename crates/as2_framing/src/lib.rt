@@ -17,6 +17,3 @@ pub use chunked::{BODY_LIMIT, BodyPiece};
 pub use chunked_body::ChunkedBody;
 pub use head_bytes::{HeadBytes, HeadPiece};
 pub use laws::one_chunked_body;
-
-#[cfg(test)]
-mod tests;

@@ -12,6 +12,3 @@ pub use digester::{Digester, mic_of};
 pub use field::{Compared, MicField};
 pub use mic_text::MicText;
 pub use pieces::{PIECE, Pieces, mic_of_pieces};
-
-#[cfg(test)]
-mod tests;

@@ -26,6 +26,3 @@ pub use name::{AsName, NameFault};
 pub use number::{decimal_value, is_number};
 pub use options::lists;
 pub use trim::without_blanks_and_line_ends;
-
-#[cfg(test)]
-mod tests;

@@ -11,6 +11,3 @@ mod parts;
 
 pub use fields::{Field, Fields, Twice, find_once};
 pub use parts::{Part, PartFault, part_in, two_parts};
-
-#[cfg(test)]
-mod tests;

@@ -15,6 +15,3 @@ pub use as2_names::{
 pub use as2_parts::{Field, Fields, Part, PartFault, Twice, find_once, part_in, two_parts};
 pub use receipt_ask::{AskFault, How, ReceiptAsk};
 pub use url::Url;
-
-#[cfg(test)]
-mod tests;

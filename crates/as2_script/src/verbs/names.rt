@@ -1,44 +1,69 @@
-//! Names as they are read and spelled.
+//! Names and domains as they are read and spelled.
 use crate::answer::Answer;
 use crate::texts::bytes_of;
 use crate::trouble::Trouble;
-use as2_names::{AsName, NameFault};
+use crate::verbs::words::{say_fault, say_or_nothing};
+use as2_names::{AsName, Domain};
 use std::alloc::Global;
 
-/// Answers with a name, or why it is none.
-fn say_name(
-    alloc: Global,
-    answer: &mut Answer,
-    name: Result<AsName, NameFault>,
-) -> Result<(), Trouble> {
-    match name {
+/// `read-name TEXT`: the name that a field spells, or why it spells none.
+fn read_name(alloc: Global, rest: &str, answer: &mut Answer) -> Result<(), Trouble> {
+    let text = bytes_of(alloc, rest)?;
+    match AsName::parse(text.as_slice()) {
         Ok(name) => answer.say_bytes(name.bytes())?,
-        Err(fault) => answer.say(format!(in alloc; "fault {fault:?}")?.as_str())?,
+        Err(fault) => say_fault(alloc, answer, &fault)?,
     }
     Ok(())
 }
 
-/// The spelling of a name.
-fn say_spelling(alloc: Global, answer: &mut Answer, name: &[u8]) -> Result<(), Trouble> {
-    match AsName::plain(name) {
+/// `spell-name NAME`: how the name is written, or why it is none.
+fn spell_name(alloc: Global, rest: &str, answer: &mut Answer) -> Result<(), Trouble> {
+    let text = bytes_of(alloc, rest)?;
+    match AsName::plain(text.as_slice()) {
         Ok(name) => answer.say(name.spelling().as_str())?,
-        Err(fault) => answer.say(format!(in alloc; "fault {fault:?}")?.as_str())?,
+        Err(fault) => say_fault(alloc, answer, &fault)?,
     }
     Ok(())
 }
 
-/// Answers to the verbs of names; whether it is one.
-pub fn answer(alloc: Global, verb: &str, rest: &str, answer: &mut Answer) -> Result<bool, Trouble> {
-    match verb {
-        "read-name" => {
-            let text = bytes_of(alloc, rest)?;
-            say_name(alloc, answer, AsName::parse(text.as_slice()))?;
-        }
-        "spell-name" => {
-            let text = bytes_of(alloc, rest)?;
-            say_spelling(alloc, answer, text.as_slice())?;
-        }
-        _ => return Ok(false),
+/// `copy-name NAME`: the copy of a name.
+fn copy_name(alloc: Global, rest: &str, answer: &mut Answer) -> Result<(), Trouble> {
+    let text = bytes_of(alloc, rest)?;
+    match AsName::plain(text.as_slice()) {
+        Ok(name) => answer.say_bytes(name.clone()?.bytes())?,
+        Err(fault) => say_fault(alloc, answer, &fault)?,
     }
+    Ok(())
+}
+
+/// `read-domain TEXT`: the domain that a text is.
+fn read_domain(alloc: Global, rest: &str, answer: &mut Answer) -> Result<(), Trouble> {
+    let text = bytes_of(alloc, rest)?;
+    let domain = Domain::of(text.as_slice());
+    say_or_nothing(answer, domain.as_ref().map(|domain| domain.bytes()))?;
+    Ok(())
+}
+
+/// `copy-domain TEXT`: the copy of a domain.
+fn copy_domain(alloc: Global, rest: &str, answer: &mut Answer) -> Result<(), Trouble> {
+    let text = bytes_of(alloc, rest)?;
+    match Domain::of(text.as_slice()) {
+        Some(domain) => answer.say_bytes(domain.clone()?.bytes())?,
+        None => answer.say("nothing")?,
+    }
+    Ok(())
+}
+
+/// Answers to the verbs of names and domains; whether it is one.
+pub fn answer(alloc: Global, verb: &str, rest: &str, answer: &mut Answer) -> Result<bool, Trouble> {
+    let done = match verb {
+        "read-name" => read_name(alloc, rest, answer),
+        "spell-name" => spell_name(alloc, rest, answer),
+        "copy-name" => copy_name(alloc, rest, answer),
+        "read-domain" => read_domain(alloc, rest, answer),
+        "copy-domain" => copy_domain(alloc, rest, answer),
+        _ => return Ok(false),
+    };
+    done?;
     Ok(true)
 }

@@ -1,5 +1,0 @@
-// Expected values are the worked ones of the project's profile, and the standards' own.
-mod boundaries;
-mod faults;
-mod kinds;
-mod values;
