@@ -9,7 +9,8 @@ It works in a copy of the repository. Each crate is proved there first, the lowe
 once, at most one a function, and one check tells of each: `not proved` or `no proof: expected answers in ..` where a clause of
 the edited function is not met, and `no proof: it calls ..` where the function calls one that another edit has spoiled. Such an
 edit waits for the next batch. Where a check stops before it tells of functions, its batch is tried in halves. An edit is tried
-alone where its function is proved in a batch, and where it changes a constant. A proof that fails only since a name is gone tells nothing of a clause.
+alone where its function is proved in a batch, and where it changes a constant. A proof that fails only because it names what the
+edit took away tells nothing of a clause, so that such an edit doesn't count as refused.
 
 Each crate has a control: an edit that means the same as before has to be found out as proved, or else nothing here is believed.
 
@@ -33,6 +34,7 @@ REFUSED, WAITS, PROVED, NAME, BAD = "refused", "NOT REFUSED BY A CLAUSE", "NOT R
 CONTROL = "(control)"
 FUNCTION = re.compile(r"( *)(?:pub(?:\([^)]*\))? )?(?:(?:const|unsafe|final) )*fn (\w+)")
 BLOCK = re.compile(r"(?:pub(?:\([^)]*\))? )?(?:unsafe )?(impl|trait)\b")
+BODY = re.compile(r"^( *)\{\n", re.M)
 HEADER = re.compile(r".*?\b(?:impl|trait)\s+(?:[\w:]*?(\w+)\s+for\s+)?[&\s]*[\w:]*?(\w+)\b", re.S)
 VERDICT = re.compile(r"([a-z]+) (\S+): ((?:proved|not proved|no proof|not stated).*)")
 ERROR = re.compile(r"(?:\./)?proofs/(\S+)/\w+\.antt:\d+:\d+: error: (.*)")
@@ -89,7 +91,7 @@ def owner_of(header):
 
 
 def names_of(crate, file, owner, name):
-    """Returns a pattern of how the check prints a function, and the closures in it: a method stands in the module of its type."""
+    """Returns a pattern of how the check prints a function and the closures in it; a method stands in the module of its type."""
     path = [it for it in file[len("src/"):-len(".rt")].split("/") if it not in ("lib", "main", "mod")]
     module = rf"{crate}::(?:\w+::)*" if owner else "".join(f"{it}::" for it in [crate, *path])
     return rf"{module}(?:{owner}{name}|(?:fn::{owner}|{owner}fn::){name}::.*)"
@@ -106,7 +108,8 @@ def functions_of(crate, file, text):
         begins = FUNCTION.match(line)
         if begins:
             last = re.compile(begins[1] + r"(?:\}|\{\}|\{.*\}$|[^ ].*;$)")
-            end = next((it for it in range(at, len(lines)) if last.match(lines[it]) or it == at and lines[it].rstrip().endswith(("}", ";"))), at)
+            is_whole = line.rstrip().endswith(("}", ";"))
+            end = at if is_whole else next((it for it in range(at, len(lines)) if last.match(lines[it])), at)
             names = names_of(crate, file, owner if begins[1] else "", begins[2])
             found.append(Function(place, place + sum(map(len, lines[at:end + 1])), names))
         place += len(line)
@@ -130,7 +133,7 @@ class Said:
         for it in filter(None, map(ERROR.match, whole)):
             self.errors[it[1]].append(it[2])
         logic = [it for it in self.lines if it.startswith("logic=")]
-        self.told = bool(logic) and status in (0, 1)
+        self.told = bool(logic and self.verdicts) and status in (0, 1)
         self.is_proved = self.told and status == 0 and logic[-1].startswith("logic=proved")
 
     def of(self, name):
@@ -148,8 +151,8 @@ class Said:
 
     def of_any(self, names):
         """Returns what it says of the first of these functions that is refused, or else of one that waits, and so on."""
-        all_said = [(*self.of(it), it) for it in sorted(names)]
-        return next((it for wanted in (REFUSED, NAME, WAITS, PROVED) for it in all_said if it[0] == wanted), (PROVED, "", ""))
+        said = [(*self.of(it), it) for it in sorted(names)]
+        return next((it for kind in (REFUSED, NAME, WAITS, PROVED) for it in said if it[0] == kind), (PROVED, "", ""))
 
     def why(self):
         """Returns the first lines that tell why a check stopped."""
@@ -161,14 +164,15 @@ class Crate:
 
     def __init__(self, name, copy):
         self.name, self.folder, self.kept = name, copy / "crates" / name, copy / "kept"
-        files = [it for part in ("src", "specs", "proofs") for it in sorted((self.folder / part).rglob("*.*")) if it.is_file()]
+        files = [it for part in ("src", "specs", "proofs") for it in (self.folder / part).rglob("*.*") if it.is_file()]
         self.texts = {str(it.relative_to(self.folder)): it.read_text(encoding="utf-8") for it in files}
         self.standing, self.checks, self.proved = self.texts, 0, set()
 
     def check(self):
         """Checks the crate as its files stand; once more where that was killed, most likely for memory."""
+        how = {"stdin": subprocess.DEVNULL, "stdout": subprocess.PIPE, "stderr": subprocess.STDOUT, "errors": "replace"}
         for _ in range(2):
-            ran = subprocess.run(["rt", "check"], cwd=self.folder, stdin=subprocess.DEVNULL, stdout=subprocess.PIPE, stderr=subprocess.STDOUT, errors="replace", check=False)
+            ran = subprocess.run(["rt", "check"], cwd=self.folder, check=False, **how)
             if ran.returncode not in (-signal.SIGKILL, 128 + signal.SIGKILL):
                 break
         return Said(ran.returncode, ran.stdout)
@@ -189,7 +193,7 @@ class Crate:
         self.standing = texts
 
     def tried(self, edits):
-        """Returns what a check says of the crate with these edits, which can be applied together, and puts back all that was there."""
+        """Returns what a check says of the crate with these edits, and puts back what was there."""
         texts = self.texts
         for edit in edits:
             texts = edit.applied(texts)
@@ -205,8 +209,8 @@ class Crate:
         """Returns the functions that an edit changes, as the check prints them; none where it changes something else."""
         names, texts = set(), self.texts
         for file, old, new in edit.changes:
-            text = texts.get(file, "")
-            found = around(functions_of(self.name, file, text), text.find(old)) if file.endswith(".rt") and old in text else None
+            text = texts[file]
+            found = around(functions_of(self.name, file, text), text.find(old)) if file.endswith(".rt") else None
             named = [it for it in self.proved if found and found.names.fullmatch(it)]
             if not named:
                 return frozenset()
@@ -215,18 +219,19 @@ class Crate:
         return frozenset(names)
 
     def control(self, edits):
-        """Returns an edit that means the same as before, of a short function with a clause that no other edit changes; None where there is none."""
+        """Returns an edit that means the same as before, of the shortest function with a clause that no other edit changes; None
+        where there is none."""
         taken, found = set().union(*(it.functions for it in edits)), []
         for file, source in self.texts.items():
             for it in functions_of(self.name, file, source) if file.endswith(".rt") else ():
                 text = source[it.begin:it.end]
                 names = {name for name in self.proved if it.names.fullmatch(name)}
-                if names and not names & taken and "ensures" in text and re.search(r"^ *\{\n", text, re.M):
+                if names and not names & taken and "ensures" in text and BODY.search(text):
                     found.append((len(text), file, text))
         if not found:
             return None
         _, file, text = min(found)
-        made = Edit(self.name, CONTROL, [(file, text, re.sub(r"^( *)\{\n", r"\g<0>\1    let _ = ();\n", text, count=1, flags=re.M))])
+        made = Edit(self.name, CONTROL, [(file, text, BODY.sub(r"\g<0>\1    let _ = ();\n", text, count=1))])
         made.functions = self.functions_in(made)
         return made
 
@@ -249,14 +254,13 @@ def alone(crate, edit):
         return PROVED, "the crate is still proved"
     if not said.told:
         return BAD, f"the check ended with status {said.status}: {said.why()}"
-    own = said.of_any(edit.functions)
-    if own[0] == REFUSED:
-        return REFUSED, f"{own[2]}: {own[1]}"
-    other = said.of_any(crate.proved)
-    if other[0] == REFUSED:
-        return REFUSED, f"{other[2]}: {other[1]}" + (" (and not in the function that the edit changes)" if edit.functions else "")
-    gone = next((it for it in (own, other) if it[0] == NAME), None)
-    return (NAME, f"{gone[2]}: {gone[1]}") if gone else (WAITS, said.why())
+    # (what refuses a constant is a clause of any function)
+    for kind in (REFUSED, NAME):
+        for names in (edit.functions, crate.proved):
+            found, words, name = said.of_any(names)
+            if found == kind:
+                return kind, f"{name}: {words}"
+    return WAITS, said.why()
 
 
 class Came(dict):
@@ -311,8 +315,9 @@ def copied(names, to):
     for file in ("crates.txt", "HANDLES"):
         shutil.copy(TOP / file, to / file)
     for name in names:
-        for part in (it for it in (TOP / "crates" / name).iterdir() if it.is_dir() and it.name not in ("out", "must-fail")):
-            shutil.copytree(part, to / "crates" / name / part.name)
+        for part in (TOP / "crates" / name).iterdir():
+            if part.is_dir() and part.name not in ("out", "must-fail"):
+                shutil.copytree(part, to / "crates" / name / part.name)
 
 
 def try_crate(crate, edits, count, says_each, is_first):
@@ -324,8 +329,9 @@ def try_crate(crate, edits, count, says_each, is_first):
     came = Came(crate.name, says_each)
     fit = [it for it in edits if it.applied(crate.texts) is not None]
     for it in edits:
-        it.functions = crate.functions_in(it)
-        if it not in fit:
+        if it in fit:
+            it.functions = crate.functions_in(it)
+        else:
             came.tell(it.name, BAD, "an old text of it doesn't stand in its file once, or nothing is changed")
     control = crate.control(fit)
     together(crate, fit + ([control] if control else []), came)
@@ -339,21 +345,21 @@ def try_crate(crate, edits, count, says_each, is_first):
     return found_out and refused == len(came)
 
 
-def summary(name, count, began):
-    """Prints the last line of a crate or of all: what was counted, and the time since it began."""
-    spent = resource.getrusage(resource.RUSAGE_CHILDREN)
-    wall, processor = time.monotonic() - began[0], spent.ru_utime + spent.ru_stime - began[1]
-    print(f"{name}: {count['tried']} tried, {count['refused']} refused, {count['checks']} checks, {wall:.0f} s, {processor:.0f} s of processors", flush=True)
-
-
 def now():
     """Returns the time of the clock, and that of the processors."""
     spent = resource.getrusage(resource.RUSAGE_CHILDREN)
     return time.monotonic(), spent.ru_utime + spent.ru_stime
 
 
+def summary(name, count, began):
+    """Prints the last line of a crate or of all: what was counted, and the time since it began."""
+    wall, processors = (int(after - before) for before, after in zip(began, now()))
+    said = f"{count['tried']} tried, {count['refused']} refused, {count['checks']} checks"
+    print(f"{name}: {said}, {wall} s, {processors} s of processors", flush=True)
+
+
 def main():
-    words = argparse.ArgumentParser(description=__doc__.splitlines()[0])
+    words = argparse.ArgumentParser(description="Tries the outer ring of must-fail edits.")
     words.add_argument("names", nargs="*", metavar="CRATE", help="a crate, or CRATE/EDIT; none: every crate")
     words.add_argument("--all-rings", action="store_true", help="try the edits of must-fail/ too")
     words.add_argument("--each", action="store_true", help="print what refused each edit")
