@@ -15,3 +15,6 @@ pub use fault::TypeFault;
 pub use kind::Kind;
 pub use media_type::MediaType;
 pub use token::is_token;
+
+#[cfg(test)]
+mod tests;

@@ -1,7 +1,7 @@
 // Media types.
 ghost use Rattle.std.specs.Prelude.{◌≡◌, ℕ, IfOk, Ok, Option, option_map};
 ghost use Rattle.as2_media.specs.MediaTypes.{Media, IsMediaType, reading, essence, media_of, media_is_type};
-ghost use Rattle.as2_media.specs.Parameters.{parameters, first_value};
+ghost use Rattle.as2_media.specs.Parameters.{parameters};
 ghost use Rattle.as2_media.specs.Cuts.{segments_of};
 ghost use Rattle.as2_media.specs.Kinds.{kind_of, secured, says, boundary_of, is_boundary_byte, is_boundary};
 ghost use Rattle.std.specs.List.{list_all};
@@ -87,18 +87,11 @@ impl<'a> MediaType<'a> {
         self.essence.is_type(type_name, subtype)
     }
 
-    /// The value of the first parameter of that name, whatever the case of its letters, as it stands between quotes where it has them.
-    pub fn parameter(&self, name: &[u8]) -> Option<&'a [u8]>
-        ensures { option_map (λ v. v.now) result ≡ first_value name.now self.now.parameters }
-    {
-        self.parameters.first_value(name)
-    }
-
     /// Whether the first parameter of that name has that value, whatever the case of their letters.
     fn says(&self, name: &[u8], value: &[u8]) -> bool
         ensures { result ≡ says name.now value.now self.now }
     {
-        match self.parameter(name) {
+        match self.parameters.first_value(name) {
             None => false,
             Some(given) => given.eq_ignore_ascii_case(value),
         }
@@ -141,7 +134,7 @@ impl<'a> MediaType<'a> {
     pub fn boundary(&self) -> Option<&'a [u8]>
         ensures { option_map (λ b. b.now) result ≡ boundary_of self.now }
     {
-        match self.parameter(b"boundary") {
+        match self.parameters.first_value(b"boundary") {
             None => None,
             Some(value) => {
                 if is_boundary(value) {

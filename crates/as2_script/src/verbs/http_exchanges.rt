@@ -246,8 +246,8 @@ pub fn answer(alloc: Global, verb: &str, rest: &str, answer: &mut Answer) -> Res
     match verb {
         "exchange" => say_exchange(alloc, answer, rest)?,
         "exchange-in-memory" => say_in_memory(alloc, answer, rest)?,
-        "fail-each-read" => say_failing_reads(alloc, answer, rest)?,
-        "fail-each-write" => say_failing_writes(alloc, answer, rest)?,
+        "exchange-fail-each-read" => say_failing_reads(alloc, answer, rest)?,
+        "exchange-fail-each-write" => say_failing_writes(alloc, answer, rest)?,
         _ => return Ok(false),
     }
     Ok(true)

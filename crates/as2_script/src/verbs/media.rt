@@ -39,23 +39,11 @@ fn is_type(alloc: Global, rest: &str, answer: &mut Answer) -> Result<(), Trouble
     Ok(())
 }
 
-/// `read-parameter NAME | TEXT`: the value of a media type's first parameter of that name.
-fn read_parameter(alloc: Global, rest: &str, answer: &mut Answer) -> Result<(), Trouble> {
-    let (name, text) = two_words(rest)?;
-    let text = bytes_of(alloc, text)?;
-    match MediaType::parse(text.as_slice()) {
-        Ok(media_type) => say_or_nothing(answer, media_type.parameter(name.as_bytes()))?,
-        Err(fault) => say_fault(alloc, answer, &fault)?,
-    }
-    Ok(())
-}
-
 /// Answers to the verbs of media types; whether it is one.
 pub fn answer(alloc: Global, verb: &str, rest: &str, answer: &mut Answer) -> Result<bool, Trouble> {
     let done = match verb {
         "read-type" => read_type(alloc, rest, answer),
         "is-type" => is_type(alloc, rest, answer),
-        "read-parameter" => read_parameter(alloc, rest, answer),
         _ => return Ok(false),
     };
     done?;

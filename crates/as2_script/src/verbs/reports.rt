@@ -176,13 +176,6 @@ fn say_fields(alloc: Global, rest: &str, answer: &mut Answer) -> Result<(), Trou
     Ok(())
 }
 
-/// `count-bytes TEXT`: how many bytes a text has.
-fn count_bytes(alloc: Global, rest: &str, answer: &mut Answer) -> Result<(), Trouble> {
-    let text = bytes_of(alloc, rest)?;
-    answer.say_number(alloc, text.len() as u64)?;
-    Ok(())
-}
-
 /// Answers to the verbs of reports; whether it is one.
 pub fn answer(alloc: Global, verb: &str, rest: &str, answer: &mut Answer) -> Result<bool, Trouble> {
     match verb {
@@ -190,7 +183,6 @@ pub fn answer(alloc: Global, verb: &str, rest: &str, answer: &mut Answer) -> Res
         "read-cut-report" => say_each_reading(alloc, rest, answer)?,
         "write-report" => say_report(alloc, rest, answer)?,
         "write-fields" => say_fields(alloc, rest, answer)?,
-        "count-bytes" => count_bytes(alloc, rest, answer)?,
         _ => return Ok(false),
     }
     Ok(true)

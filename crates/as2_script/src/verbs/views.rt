@@ -75,7 +75,7 @@ fn list_outstanding(alloc: Global, rest: &str, answer: &mut Answer) -> Result<()
     Ok(())
 }
 
-/// `counts NOT-SENT | IN-RETRY | AWAITED | IN-ERROR | TO-SEND`: the lines of how much is outstanding.
+/// `write-counts NOT-SENT | IN-RETRY | AWAITED | IN-ERROR | TO-SEND`: the lines of how much is outstanding.
 fn say_counts(alloc: Global, rest: &str, answer: &mut Answer) -> Result<(), Trouble> {
     let mut arguments = Arguments::of(alloc, rest);
     let counts = Counts {
@@ -89,7 +89,7 @@ fn say_counts(alloc: Global, rest: &str, answer: &mut Answer) -> Result<(), Trou
     Ok(())
 }
 
-/// `show ROW || EVIDENCE || CONTENT`: the document of that row and content, which that receipt has settled, in full.
+/// `write-document ROW || EVIDENCE || CONTENT`: the document of that row and content, which that receipt has settled, in full.
 fn show(alloc: Global, rest: &str, answer: &mut Answer) -> Result<(), Trouble> {
     let mut parts = rest.split(" || ");
     let row = out_row(alloc, parts.next().unwrap_or(""))?;
@@ -108,8 +108,8 @@ pub fn answer(alloc: Global, verb: &str, rest: &str, answer: &mut Answer) -> Res
         "settled-line" => settled_line(alloc, rest, answer)?,
         "list-sent" => list_sent(alloc, rest, answer)?,
         "list-outstanding" => list_outstanding(alloc, rest, answer)?,
-        "counts" => say_counts(alloc, rest, answer)?,
-        "show" => show(alloc, rest, answer)?,
+        "write-counts" => say_counts(alloc, rest, answer)?,
+        "write-document" => show(alloc, rest, answer)?,
         _ => return Ok(false),
     }
     Ok(true)
