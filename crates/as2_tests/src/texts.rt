@@ -24,6 +24,11 @@ pub const NOTHING: Text = Text {
 };
 
 impl Text {
+    /// The text with these changes.
+    pub fn with(self, changes: &'static [Change]) -> Text {
+        Text { changes, ..self }
+    }
+
     pub fn made(&self, alloc: Global) -> Result<String, AllocError> {
         let text = replaced(alloc, self.plain, self.changes, self.places)?;
         let (entry, count) = self.entries;
