@@ -29,6 +29,3 @@ pub use request::Request;
 pub use response::Response;
 pub use sending::push_all;
 pub use stream::{Served, serve_stream};
-
-#[cfg(test)]
-mod tests;
