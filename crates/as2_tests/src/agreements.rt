@@ -1,5 +1,4 @@
-//! Agreements that other tests are over.
-use crate::texts::{NOTHING, Text};
+//! Agreements that the tests are over.
 
 /// The agreements of `examples/agreements.toml`, without its comments.
 pub const AGREEMENTS: &str = r#"
@@ -39,10 +38,3 @@ max_tries = 2
 retry_seconds = 30
 overdue_seconds = 60
 "#;
-
-/// The same, where the first place of each change is changed.
-pub const AGREED: Text = Text {
-    plain: AGREEMENTS,
-    places: 1,
-    ..NOTHING
-};
