@@ -75,20 +75,6 @@ pub fn found<S: Alter>(
     }
 }
 
-/// Whether the entry of that number is the one that was added under it.
-pub fn found_by_number<S: Alter>(
-    alloc: Global,
-    store: &mut Store<S>,
-    number: u64,
-    id: &'static str,
-    bytes: &[u8],
-) -> Result<bool, StoreFault> {
-    match store.find_in_number(alloc, number)? {
-        Some(entry) => Ok(is_entry(alloc, &entry, number, id, bytes)),
-        None => Ok(false),
-    }
-}
-
 /// The entry that has the value of that identifier is the one that was added under the number.
 pub fn is_found<S: Alter>(
     alloc: Global,
@@ -98,12 +84,6 @@ pub fn is_found<S: Alter>(
     bytes: &[u8],
 ) -> bool {
     found(alloc, store, number, id, bytes) == Ok(true)
-}
-
-/// How many rows that query shows.
-pub fn count<S: Alter>(conn: &mut Connection<S>, query: &str) -> Option<usize> {
-    let rows = conn.query_all(query, &[]).ok()?;
-    Some(rows.len())
 }
 
 /// The entry is the one that was added under that number, with these bytes.

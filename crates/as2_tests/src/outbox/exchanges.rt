@@ -1,12 +1,11 @@
 //! A document is sent by `exchange`, and the receipt in its answer settles it.
 ghost use Rattle.as2_http.specs.Devices.{Opens};
 
-use super::{SETTLED, is_found, moment, submit};
+use super::{RECEIPT, RECEIPT_TYPE, moment, submit};
 use crate::agreements::AGREEMENTS;
-use crate::documents::{RECEIPT, RECEIPT_TYPE};
 use crate::stores::new_store;
 use as2_agreement::Agreements;
-use as2_exchange::{Answer, Event, Job, TryAnswer};
+use as2_exchange::{Answer, Attempt, Event, Job, OutEntry, TryAnswer};
 use as2_http::{Counted, exchange};
 use as2_mdn::Detail;
 use as2_station::Station;
@@ -66,12 +65,22 @@ impl Begun {
             moment: moment(1000)?,
         };
         let said = station.step(alloc, &agreements, outcome)?;
-        let mut store = station.into_store();
-        Ok(
-            matches!(said, Answer::Settled(Detail::Processed))
-                && is_found(alloc, &mut store, 1, &SETTLED)?,
-        )
+        let stands = match station.into_store().find_out(alloc, 1)? {
+            Some(document) => is_settled(&document),
+            None => false,
+        };
+        Ok(matches!(said, Answer::Settled(Detail::Processed)) && stands)
     }
+}
+
+/// It is the first document, settled by a receipt after one try.
+fn is_settled(document: &OutEntry) -> bool {
+    document.number == 1
+        && document.detail == Detail::Processed
+        && document.tries == 1
+        && document.attempt == Attempt::Idle
+        && document.due.is_none()
+        && document.evidence.is_some()
 }
 
 /// What tells the end of the receipt: the end of the head before it, and what stands behind it.

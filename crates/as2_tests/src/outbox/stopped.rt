@@ -1,8 +1,6 @@
 //! Lists of events that a stop breaks off, at each call of the disk in turn: what is found is what was answered, perhaps with the
 //! event that was under way, and the list goes on from there to the same end.
-use super::owed::JOB;
-use super::tries::AWAITED;
-use super::views::{REPEATED, SETTLED};
+use super::lists::LISTS;
 use super::{Row, event, is_said};
 use crate::agreements::AGREEMENTS;
 use as2_agreement::Agreements;
@@ -209,8 +207,6 @@ fn check_whole(alloc: Global, rows: &[Row]) -> Result<(), Fail> {
     };
     check_last(alloc, &mut opened, &sights)
 }
-
-static LISTS: [&[Row]; 4] = [REPEATED, SETTLED, AWAITED, JOB];
 
 #[test]
 fn what_was_answered_stands(rt: HostRuntime) -> Result<(), Fail> {
