@@ -26,14 +26,6 @@ impl Calls {
         self.sound -= 1;
         false
     }
-
-    /// What comes of a call that doesn't succeed.
-    fn failure(&self) -> IoResult<usize> {
-        if self.is_stuck {
-            return Ok(0);
-        }
-        Err(Error::from(ErrorKind::BrokenPipe))
-    }
 }
 
 /// The number of that text, or no limit.
@@ -81,7 +73,10 @@ impl Input<'_> {
 impl Read for Input<'_> {
     fn read(&mut self, buf: &mut [u8]) -> IoResult<usize> {
         if self.calls.is_out() {
-            return self.calls.failure();
+            return match self.calls.is_stuck {
+                true => Ok(0),
+                false => Err(Error::from(ErrorKind::BrokenPipe)),
+            };
         }
         if self.part.is_empty()
             && let Some((first, rest)) = self.next.split_first()
@@ -113,7 +108,10 @@ impl Paper {
 impl Write for Paper {
     fn write(&mut self, buf: &[u8]) -> IoResult<usize> {
         if self.calls.is_out() {
-            return self.calls.failure();
+            return match self.calls.is_stuck {
+                true => Ok(0),
+                false => Err(Error::from(ErrorKind::BrokenPipe)),
+            };
         }
         let most = min(buf.len(), self.calls.most);
         self.bytes.write(&buf[..most])
