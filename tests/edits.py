@@ -5,7 +5,8 @@ A must-fail edit turns a body, and the check has to refuse it by a clause of its
 crates/CRATE/must-fail/, and `rt ci` tries each of them alone. All others stand in tests/edits/CRATE/, and this tries them. With
 --all-rings it tries both rings, with --each it says what refused each edit.
 
-It works in a copy of the repository. Each crate is proved there first, the lowest crate first. Then many edits are applied at
+It works in a copy of the repository, with what `rt` keeps there in the folders `out/`. Each crate is proved there first, the
+lowest crate first, as far as `rt` doesn't find it proved. Then many edits are applied at
 once, at most one a function, and one check tells of each: `not proved` or `no proof: expected answers in ..` where a clause of
 the edited function is not met, and `no proof: it calls ..` where the function calls one that another edit has spoiled. Such an
 edit waits for the next batch. Where a check stops before it tells of functions, its batch is tried in halves. An edit is tried
@@ -311,13 +312,13 @@ def edits_for(name, wanted, all_rings):
 
 
 def copied(names, to):
-    """Copies what a check of these crates reads."""
+    """Copies what a check of these crates reads, and what earlier checks kept."""
     for file in ("crates.txt", "HANDLES"):
         shutil.copy(TOP / file, to / file)
     for name in names:
         for part in (TOP / "crates" / name).iterdir():
-            if part.is_dir() and part.name not in ("out", "must-fail"):
-                shutil.copytree(part, to / "crates" / name / part.name)
+            if part.is_dir() and part.name != "must-fail":
+                shutil.copytree(part, to / "crates" / name / part.name, symlinks=True)
 
 
 def try_crate(crate, edits, count, says_each, is_first):

@@ -1,3 +1,4 @@
+mod Arguments
 mod Numbers
 mod Ranges
 pub mod Given

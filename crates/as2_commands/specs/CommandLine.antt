@@ -49,10 +49,13 @@ timeout = number 1 3600 (default (codes "30") (option (codes "timeout")))
 abbrev pub count : Rule
 count = number 1 1000000 (required (option (codes "count")))
 
--- the program, before its options: it has a version, and there must be a command
+-- the program by its name alone: it has a version
+abbrev pub titled : App
+titled = on_top (λ s. record s { has_version = true }) (new_app (codes "as2desk"))
+
+-- the program, before its options: there must be a command
 abbrev pub program : App
-program = on_top (λ s. record s { has_version = true; subcommand_required = true; disable_help_subcommand = true })
-    (new_app (codes "as2desk"))
+program = on_top (λ s. record s { subcommand_required = true; disable_help_subcommand = true }) titled
 
 abbrev pub options : App
 options = with_rule (with_rule (with_rule (with_rule program (required (option (codes "agreements")))) (required (option (codes "store")))) first) moment

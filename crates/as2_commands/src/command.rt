@@ -1,7 +1,7 @@
 //! The command line that the program reads.
 ghost use Rattle.std.specs.Prelude.{◌≡◌, IfOk};
 ghost use Rattle.clap.specs.Words.{app_of};
-ghost use Rattle.as2_commands.specs.CommandLine.{command_line, options, program};
+ghost use Rattle.as2_commands.specs.CommandLine.{command_line, options, program, titled};
 
 use crate::args::{AGREEMENTS, STORE, first, moment, required_option};
 use crate::{help, own};
@@ -48,14 +48,21 @@ fn with_options<'a>(alloc: Global) -> Result<Command<'a>, AllocError>
         .arg(moment(alloc))
 }
 
-/// The program, before its options and commands.
-fn program<'a>(alloc: Global) -> Command<'a>
-    ensures { app_of result ≡ program }
+/// The program's name and what it says of itself.
+fn titled<'a>(alloc: Global) -> Command<'a>
+    ensures { app_of result ≡ titled }
 {
     Command::new(alloc, "as2desk")
         .version("0.1.0")
         .about("An AS2 station: takes documents from partners and answers with receipts")
         .after_help(help::PROGRAM)
+}
+
+/// The program, before its options and commands.
+fn program<'a>(alloc: Global) -> Command<'a>
+    ensures { app_of result ≡ program }
+{
+    titled(alloc)
         .subcommand_required(true)
         .subcommand_value_name("COMMAND")
         .disable_help_subcommand(true)

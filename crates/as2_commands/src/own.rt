@@ -60,18 +60,13 @@ pub(crate) fn submit<'a>(alloc: Global) -> Result<Command<'a>, AllocError>
     ensures local { IfOk result (λ c. (fields_of c).has_globals ≡ false) }
 {
     let about = "Takes a document in for a partner, and prints its number";
-    let from = required_option(alloc, FROM, "NAME", "The organization that sends it");
-    let to = required_option(alloc, TO, "NAME", "The partner that it is for");
-    let file = value(
-        alloc,
-        FILE,
-        "FILE",
-        "The document, of at most 1048576 bytes",
-    );
+    let from = "The organization that sends it";
+    let to = "The partner that it is for";
+    let file = "The document, of at most 1048576 bytes";
     named(alloc, SUBMIT, about, help::SUBMIT)
-        .arg(from)?
-        .arg(to)?
-        .arg(file)
+        .arg(required_option(alloc, FROM, "NAME", from))?
+        .arg(required_option(alloc, TO, "NAME", to))?
+        .arg(value(alloc, FILE, "FILE", file))
 }
 
 pub(crate) fn send<'a>(alloc: Global) -> Result<Command<'a>, AllocError>
@@ -95,19 +90,11 @@ pub(crate) fn list<'a>(alloc: Global) -> Result<Command<'a>, AllocError>
     ensures local { IfOk result (λ c. (fields_of c).has_globals ≡ false) }
 {
     let about = "Lists the documents that were sent or received, a line each";
-    let kind = value(
-        alloc,
-        KIND,
-        "KIND",
-        "'out' for those that were handed in to be sent, 'in' for those received",
-    );
-    let state = option(
-        alloc,
-        STATE,
-        "S",
-        "Only those in this state, of 'out': P, R, S, W or E",
-    );
-    named(alloc, LIST, about, help::LIST).arg(kind)?.arg(state)
+    let kind = "'out' for those that were handed in to be sent, 'in' for those received";
+    let state = "Only those in this state, of 'out': P, R, S, W or E";
+    named(alloc, LIST, about, help::LIST)
+        .arg(value(alloc, KIND, "KIND", kind))?
+        .arg(option(alloc, STATE, "S", state))
 }
 
 pub(crate) fn outstanding<'a>(alloc: Global) -> Command<'a>
@@ -148,9 +135,8 @@ pub(crate) fn serve<'a>(alloc: Global) -> Result<Command<'a>, AllocError>
 {
     let about = "Answers connections of partners, one after the other";
     let help = "Where it listens, as 127.0.0.1:8080; with port 0 the system chooses one";
-    let address = required_option(alloc, LISTEN, "ADDRESS", help);
     named(alloc, SERVE, about, help::SERVE)
-        .arg(address)?
+        .arg(required_option(alloc, LISTEN, "ADDRESS", help))?
         .arg(count(alloc))?
         .arg(timeout(alloc))
 }

@@ -12,14 +12,11 @@ mod network;
 mod stores;
 mod streams;
 
-use crate::answer::Answer;
-use crate::settings::Settings;
-use crate::texts::{bytes_of, number_in};
-use crate::trouble::Trouble;
 use as2_desk::{Ran, run};
 use as2_http::Counted;
 use files::Files;
 use network::Peers;
+use script_lines::{Answer, Settings, Trouble, bytes_of, number_in};
 use sqlite::{Connection, MemStore};
 use std::alloc::{AllocError, Global};
 use std::marker::Brand;
@@ -212,37 +209,35 @@ impl Desk {
 }
 
 /// Adds the lines of standard error, each behind `! `.
-fn say_errors(answer: &mut Answer, errors: &[u8]) -> Result<(), AllocError> {
+fn say_errors(answer: &mut Answer, errors: &[u8]) {
     let mut begins = true;
     for byte in errors {
         if begins {
-            answer.say(if *byte == b'\n' { "!" } else { "! " })?;
+            answer.say(if *byte == b'\n' { "!" } else { "! " });
         }
-        answer.bytes.push(*byte)?;
+        answer.say_bytes(&[*byte]);
         begins = *byte == b'\n';
     }
-    Ok(())
 }
 
 /// The exit status, `untold` where something could not be said on standard error, and `unread` where standard input is so.
-fn say_status(alloc: Global, outcome: &Outcome, answer: &mut Answer) -> Result<(), AllocError> {
-    answer.say_number(alloc, u64::from(outcome.ran.status))?;
+fn say_status(outcome: &Outcome, answer: &mut Answer) {
+    answer.say_number(u64::from(outcome.ran.status));
     if !outcome.ran.told {
-        answer.say(" untold")?;
+        answer.say(" untold");
     }
     if outcome.is_unread {
-        answer.say(" unread")?;
+        answer.say(" unread");
     }
-    Ok(())
 }
 
 /// Answers with what a command line came to: a line of its status, then standard output, and the lines of standard error.
-pub fn say(alloc: Global, outcome: &Outcome, answer: &mut Answer) -> Result<(), AllocError> {
-    say_status(alloc, outcome, answer)?;
+pub fn say(outcome: &Outcome, answer: &mut Answer) {
+    say_status(outcome, answer);
     if outcome.output.is_empty() && outcome.errors.is_empty() {
-        return Ok(());
+        return;
     }
-    answer.say("\n")?;
-    answer.say_bytes(outcome.output.as_slice())?;
-    say_errors(answer, outcome.errors.as_slice())
+    answer.say("\n");
+    answer.say_bytes(outcome.output.as_slice());
+    say_errors(answer, outcome.errors.as_slice());
 }

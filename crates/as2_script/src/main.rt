@@ -2,19 +2,9 @@
 //! written.
 #![tactic(auto)]
 
-mod answer;
+mod commands;
 mod desk;
-mod events;
-mod lines;
-mod lists;
-mod played;
 mod player;
-mod sending;
-mod settings;
-mod texts;
-mod told;
-mod trouble;
-mod verbs;
 
 use crate::player::Player;
 use std::process::ExitCode;

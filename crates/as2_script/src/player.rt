@@ -1,24 +1,19 @@
 //! Plays the lines of scripts.
-use crate::answer::{Answer, spelled};
+use crate::commands;
 use crate::desk::Desk;
-use crate::lines::{Line, lines_of};
-use crate::lists::{before_other, before_title, behind_or};
-use crate::played::Played;
-use crate::settings::Settings;
-use crate::texts::{bytes_of, expanded};
-use crate::trouble::Trouble;
-use crate::verbs;
-use std::alloc::Global;
+use script_lines::{
+    Answer, Line, Trouble, before_other, before_title, behind_or, bytes_of, expanded, lines_of,
+    spelled,
+};
+use script_station::{Played, Stage};
 use std::{io, slice};
 
 /// What scripts are played with, and how many lines were.
 #[derive(Drop)]
 pub struct Player<'a> {
-    pub alloc: Global,
     rt: &'a HostRuntime,
-    pub settings: Settings,
-    pub played: Played,
-    pub desk: Desk,
+    stage: Stage,
+    desk: Desk,
     rows: u64,
     differ: u64,
 }
@@ -26,10 +21,8 @@ pub struct Player<'a> {
 impl<'a> Player<'a> {
     pub fn new(rt: &'a HostRuntime) -> Player<'a> {
         Player {
-            alloc: rt.alloc(),
             rt,
-            settings: Settings::new(rt.alloc()),
-            played: Played::new(),
+            stage: Stage::new(rt.alloc()),
             desk: Desk::new(),
             rows: 0,
             differ: 0,
@@ -47,54 +40,45 @@ impl<'a> Player<'a> {
         println!(self.rt; "{path}:{line}: {what}")
     }
 
+    /// Answers to a line that asks for something; whether there is such a verb.
+    fn says(&mut self, verb: &str, rest: &str, answer: &mut Answer) -> Result<bool, Trouble> {
+        let alloc = self.stage.alloc;
+        Ok(
+            script_texts::answer(alloc, verb, rest, answer)?
+                || script_values::answer(alloc, verb, rest, answer)?
+                || script_http::answer(alloc, verb, rest, answer)?
+                || script_station::answer(&mut self.stage, verb, rest, answer)?
+                || commands::answer(&self.stage, &mut self.desk, verb, rest, answer)?,
+        )
+    }
+
     /// What is answered to the line `text`.
     fn answer(&mut self, text: &str) -> Result<Answer, Trouble> {
-        let text = expanded(self.alloc, text, &self.settings)?;
+        let alloc = self.stage.alloc;
+        let text = expanded(alloc, text, &self.stage.settings)?;
         let (verb, rest) = text.as_str().split_once(" ").unwrap_or((text.as_str(), ""));
-        let mut answer = Answer::new(self.alloc);
+        let mut answer = Answer::new(alloc);
         match verb {
-            "text" => self.name_text(rest)?,
-            "change" => self.change_text(rest)?,
-            _ => verbs::answer(self, verb, rest, &mut answer)?,
+            "text" => self.stage.settings.name_text(alloc, rest)?,
+            "change" => self.stage.settings.change_text(alloc, rest)?,
+            _ => {
+                if !self.says(verb, rest, &mut answer)? {
+                    return Err(Trouble::Unreadable("no such verb"));
+                }
+            }
         }
         Ok(answer)
     }
 
-    /// `text NAME TEXT` gives a text a name.
-    fn name_text(&mut self, rest: &str) -> Result<(), Trouble> {
-        let (name, text) = rest.split_once(" ").unwrap_or((rest, ""));
-        self.settings.set(self.alloc, name, text)?;
-        Ok(())
-    }
-
-    /// `change NAME OTHER | OLD -> NEW ..` gives the text of the other name, so changed, a name.
-    fn change_text(&mut self, rest: &str) -> Result<(), Trouble> {
-        let mut parts = rest.split(" | ");
-        let Some((name, other)) = parts.next().unwrap_or("").split_once(" ") else {
-            return Err(Trouble::Unreadable("no two names"));
-        };
-        let Some(text) = self.settings.text(other) else {
-            return Err(Trouble::Unreadable("no text of that name"));
-        };
-        let mut text = String::from_str(self.alloc, text)?;
-        for part in parts {
-            let Some((old, new)) = part.split_once(" -> ") else {
-                return Err(Trouble::Unreadable("no change"));
-            };
-            text = text.replace(self.alloc, old, new)?;
-        }
-        self.settings.set(self.alloc, name, text.as_str())?;
-        Ok(())
-    }
-
     /// Whether the answer is the one that the line says. What it says, else, and what was answered.
     fn compare(&self, answer: &Answer, wanted: &str) -> Result<Option<String>, Trouble> {
-        let wanted = expanded(self.alloc, wanted, &self.settings)?;
-        if bytes_of(self.alloc, wanted.as_str())?.as_slice() == answer.bytes.as_slice() {
+        let wanted = expanded(self.stage.alloc, wanted, &self.stage.settings)?;
+        let answered = answer.whole()?;
+        if bytes_of(self.stage.alloc, wanted.as_str())?.as_slice() == answered {
             return Ok(None);
         }
-        let answered = spelled(self.alloc, answer.bytes.as_slice())?;
-        Ok(Some(format!(in self.alloc; "wanted {wanted}, answered {answered}")?))
+        let answered = spelled(self.stage.alloc, answered)?;
+        Ok(Some(format!(in self.stage.alloc; "wanted {wanted}, answered {answered}")?))
     }
 
     /// Plays a line; how it was answered otherwise, if it was.
@@ -140,12 +124,12 @@ impl<'a> Player<'a> {
         other: &[Line],
         more: &[Line],
     ) -> io::Result<()> {
-        let known = self.settings.count();
+        let known = self.stage.settings.count();
         self.play_lines(path, lines)?;
         self.play_lines(path, other)?;
         self.play_lines(path, more)?;
-        self.settings.keep(known);
-        self.played = Played::new();
+        self.stage.settings.keep(known);
+        self.stage.played = Played::new();
         self.desk = Desk::new();
         Ok(())
     }
@@ -169,7 +153,7 @@ impl<'a> Player<'a> {
 
     /// Plays a script: the lines before its first list, which hold for all of it, and then its lists.
     pub fn play(&mut self, path: &str, text: &str) -> io::Result<()> {
-        let lines = lines_of(self.alloc, text)?;
+        let lines = lines_of(self.stage.alloc, text)?;
         let (first, mut rest) = before_title(lines.as_slice());
         self.play_lines(path, first)?;
         for _ in 0..lines.len() {

@@ -1,6 +1,6 @@
 //! Agreements that the tests are over.
 
-/// The agreements of `examples/agreements.toml`, without its comments.
+/// Those of `examples/agreements.toml`, without its comments and its last partner.
 pub const AGREEMENTS: &str = r#"
 domain = "station.example"
 return_url = "http://127.0.0.1:8080/as2"
@@ -22,16 +22,6 @@ overdue_seconds = 60
 name = "Depot"
 url = "http://127.0.0.1:8082/as2"
 receipt = "async"
-digest = "sha1"
-content_type = "application/edi-x12"
-max_tries = 2
-retry_seconds = 30
-overdue_seconds = 60
-
-[[partner]]
-name = 'A "B" \ C'
-url = "http://127.0.0.1:8083/as2"
-receipt = "none"
 digest = "sha1"
 content_type = "application/edi-x12"
 max_tries = 2

@@ -2,14 +2,13 @@
 ghost use Rattle.std.specs.Prelude.{◌≡◌, false};
 
 use crate::agreements::AGREEMENTS;
-use crate::posts::{body, head};
-use crate::stores::{add, is_found, next};
+use crate::texts::{PLAIN, RECEIVED, is_said, texts};
 use as2_agreement::Agreements;
 use as2_exchange::{Event, StoreFault};
 use as2_restart::{close, open_at, play_then_close};
-use as2_station::Station;
+use as2_station::{Filter, Station};
 use as2_store::Store;
-use as2_text::Moment;
+use script_station::event;
 use sqlite::{Alter, Connection, File, FileStore, Unknown};
 use std::alloc::Global;
 use std::fs;
@@ -29,46 +28,51 @@ enum Step {
 /// Opens the file and does the step; whether it goes as it is to.
 fn goes(rt: &HostRuntime, file: &str, step: Step) -> Result<bool, Fail> {
     let conn = open_at(rt, file, Unknown)?;
-    Ok(is_done(rt.alloc(), conn, step))
+    is_done(rt.alloc(), conn, step)
 }
 
 /// The step goes as it is to.
-fn is_done<S: Alter + Drop>(alloc: Global, conn: Connection<S>, step: Step) -> bool
+fn is_done<S: Alter + Drop>(alloc: Global, conn: Connection<S>, step: Step) -> Result<bool, Fail>
     requires { conn.in_transaction ≡ false }
 {
     match step {
-        Step::Make => fill(alloc, conn).is_ok(),
-        Step::Look => is_filled(alloc, conn),
-        Step::MakeAnew => refusal(conn) == Some(StoreFault::Refused),
+        Step::Make => is_filled(alloc, conn),
+        Step::Look => has_one_entry(alloc, conn),
+        Step::MakeAnew => Ok(refusal(conn) == Some(StoreFault::Refused)),
     }
 }
 
-/// Makes a store of one entry.
-fn fill<S: Alter + Drop>(alloc: Global, conn: Connection<S>) -> Result<(), StoreFault>
+/// Makes a store, and has it take the plain post.
+fn is_filled<S: Alter + Drop>(alloc: Global, conn: Connection<S>) -> Result<bool, Fail>
     requires { conn.in_transaction ≡ false }
 {
     match Store::create(conn, 1) {
-        Ok(mut store) => add(alloc, &mut store, 1, "<m1@x>", b"abc"),
-        Err((_, fault)) => Err(fault),
+        Ok(store) => takes_post(alloc, &mut Station::new(store)),
+        Err(_) => Ok(false),
     }
 }
 
-/// The tables are those of a store with one entry.
-fn is_filled<S: Alter + Drop>(alloc: Global, conn: Connection<S>) -> bool
+/// Whether the plain post gets its receipt.
+fn takes_post<S: Alter>(alloc: Global, station: &mut Station<S>) -> Result<bool, Fail> {
+    let settings = texts(alloc)?;
+    let agreements = Agreements::read(alloc, AGREEMENTS)?;
+    let said = station.step(alloc, &agreements, event(alloc, &settings, PLAIN)?);
+    Ok(is_said(alloc, &settings, &said, RECEIVED)?)
+}
+
+/// Whether the tables are those of a store that took the plain post, which is a repeat then, and nothing else.
+fn has_one_entry<S: Alter + Drop>(alloc: Global, conn: Connection<S>) -> Result<bool, Fail>
     requires { conn.in_transaction ≡ false }
 {
-    match Store::adopt(conn) {
-        Ok(mut store) => has_one_entry(alloc, &mut store),
-        Err(_) => false,
-    }
-}
-
-/// The store has the entry that `fill` gave it, no other, and the next numbers.
-fn has_one_entry<S: Alter>(alloc: Global, store: &mut Store<S>) -> bool {
-    let Ok(listed) = store.list_in(alloc) else {
-        return false;
+    let Ok(store) = Store::adopt(conn) else {
+        return Ok(false);
     };
-    listed.len() == 1 && next(store) == Some((2, 1)) && is_found(alloc, store, 1, "<m1@x>", b"abc")
+    let mut station = Station::new(store);
+    let is_repeat = takes_post(alloc, &mut station)?;
+    let listed = station.listing(alloc, Filter::Inbox)?;
+    let next = station.into_store().next_numbers()?;
+    let is_one = listed.as_str() == "           1 S S Buyer -> Supplier <m1@x>\n";
+    Ok(is_repeat && is_one && next.receipt == 2 && next.document == 1)
 }
 
 /// Why no store is made where there is one.
@@ -98,17 +102,11 @@ fn a_file_is_adopted_again_and_not_made_anew(rt: HostRuntime) -> Result<(), Fail
     Ok(())
 }
 
-/// One post.
+/// The plain post.
 fn one_post(alloc: Global) -> Result<Vec<Event>, Fail> {
-    let Some(moment) = Moment::new(1000) else {
-        return Err(Fail::new("no moment"));
-    };
+    let settings = texts(alloc)?;
     let mut events = Vec::new(alloc);
-    events.push(Event::Post {
-        head: head(alloc, &[])?,
-        body: body(alloc, b"abc")?,
-        moment,
-    })?;
+    events.push(event(alloc, &settings, PLAIN)?)?;
     Ok(events)
 }
 

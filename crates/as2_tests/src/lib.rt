@@ -10,6 +10,4 @@ mod files;
 #[cfg(test)]
 mod outbox;
 #[cfg(test)]
-mod posts;
-#[cfg(test)]
-mod stores;
+mod texts;

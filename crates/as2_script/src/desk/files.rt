@@ -1,10 +1,8 @@
 //! Files in memory: the texts whose names are their paths.
 ghost use Rattle.as2_desk.specs.FileContents.{untold};
 
-use crate::settings::Settings;
-use crate::texts::bytes_of;
-use crate::trouble::Trouble;
 use as2_desk::{FileFault, ReadFiles};
+use script_lines::{Settings, Trouble, bytes_of};
 use std::alloc::Global;
 
 /// The texts of a script, as files.

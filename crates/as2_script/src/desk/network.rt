@@ -1,13 +1,11 @@
 //! A network in memory, by the texts `connections` and `partner-reply`.
-use crate::settings::Settings;
-use crate::texts::{bytes_of, number_in};
-use crate::trouble::Trouble;
 use as2_agreement::Agreements;
 use as2_desk::{CannotListen, Links, Listens, Network, Served, Waits};
 use as2_exchange::{Job, TryAnswer};
 use as2_mic::Pieces;
 use as2_station::Station;
 use as2_text::{Head, Memory, Moment};
+use script_lines::{Settings, Trouble, bytes_of, number_in};
 use sqlite::Alter;
 use std::alloc::Global;
 use std::str;

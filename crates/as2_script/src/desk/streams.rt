@@ -1,7 +1,5 @@
 //! Standard input, output and error in memory, which may be broken.
-use crate::settings::Settings;
-use crate::texts::number_in;
-use crate::trouble::Trouble;
+use script_lines::{Settings, Trouble, number_in};
 use std::alloc::Global;
 use std::cmp::min;
 use std::io::{Error, ErrorKind, Read, Result as IoResult, Write};

@@ -1,13 +1,11 @@
 //! Streams that are served over one station, which has nothing recorded at first.
 ghost use Rattle.as2_http.specs.Devices.{Opens};
 
-use crate::agreements::AGREEMENTS;
-use crate::stores::new_store;
-use as2_agreement::Agreements;
+use crate::texts::stage;
 use as2_http::{Counted, Served, serve_stream};
-use as2_station::Station;
 use as2_text::Moment;
-use sqlite::MemStore;
+use script_lines::Trouble;
+use script_station::Stage;
 use std::alloc::Global;
 use std::io::{Read, Write};
 use std::marker::Brand;
@@ -17,23 +15,18 @@ use std::test::Fail;
 /// The station, at the moment 1000.
 #[derive(Drop)]
 pub(super) struct Fixture {
-    alloc: Global,
-    agreements: Agreements,
     moment: Moment,
-    station: Station<MemStore>,
+    stage: Stage,
 }
 
 impl Fixture {
     pub(super) fn new(alloc: Global) -> Result<Fixture, Fail> {
-        let agreements = Agreements::read(alloc, AGREEMENTS)?;
-        let (Some(store), Some(moment)) = (new_store(alloc, 1), Moment::new(1000)) else {
-            return Err(Fail::new("no store or moment"));
+        let Some(moment) = Moment::new(1000) else {
+            return Err(Fail::new("no moment"));
         };
         Ok(Fixture {
-            alloc,
-            agreements,
             moment,
-            station: Station::new(store),
+            stage: stage(alloc)?,
         })
     }
 
@@ -46,7 +39,7 @@ impl Fixture {
         failed_reads: Blank,
         writes: Blank,
         failed_writes: Blank,
-    ) -> (Served, W)
+    ) -> Result<(Served, W), Trouble>
         requires reads { Opens reads.name reads.parts A.name A.parts }
         requires failed_reads { Opens failed_reads.name failed_reads.parts B.name B.parts }
         requires writes { Opens writes.name writes.parts C.name C.parts }
@@ -54,15 +47,17 @@ impl Fixture {
     {
         let mut source: Counted<R, A, B> = Counted::new(input, reads, failed_reads);
         let mut sink: Counted<W, C, D> = Counted::new(output, writes, failed_writes);
+        let alloc = self.stage.alloc;
+        let (station, agreements) = self.stage.played.ready(alloc, &self.stage.settings)?;
         let end = serve_stream(
-            self.alloc,
-            &self.agreements,
+            alloc,
+            agreements,
             self.moment,
-            &mut self.station,
+            station,
             &mut source,
             &mut sink,
         );
-        (end, sink.into_inner())
+        Ok((end, sink.into_inner()))
     }
 
     /// The same, where nobody looks at the counts.
@@ -70,7 +65,7 @@ impl Fixture {
         &mut self,
         input: R,
         output: W,
-    ) -> (Served, W) {
+    ) -> Result<(Served, W), Trouble> {
         self.serve_counted::<R, W, Brand, Brand, Brand, Brand>(
             input,
             output,

@@ -15,7 +15,9 @@ fn posted(rt: &HostRuntime, fixture: &mut Fixture, reply: &mut Vec<u8>) -> io::R
     client.shutdown(Shutdown::Write)?;
     let (stream, _) = listener.accept()?;
     let output = stream.try_clone()?;
-    let (end, output) = fixture.serve(stream, output);
+    let Ok((end, output)) = fixture.serve(stream, output) else {
+        return Ok(Served::Memory);
+    };
     drop(output);
     client.read_to_end(reply)?;
     Ok(end)

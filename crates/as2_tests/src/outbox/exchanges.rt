@@ -1,15 +1,13 @@
 //! A document is sent by `exchange`, and the receipt in its answer settles it.
 ghost use Rattle.as2_http.specs.Devices.{Opens};
 
-use super::{RECEIPT, RECEIPT_TYPE, moment, submit};
-use crate::agreements::AGREEMENTS;
-use crate::stores::new_store;
-use as2_agreement::Agreements;
-use as2_exchange::{Answer, Attempt, Event, Job, OutEntry, TryAnswer};
+use crate::texts::{RECEIPT, RECEIPT_TYPE, stage};
+use as2_exchange::{Answer, Event, Job, TryAnswer};
 use as2_http::{Counted, exchange};
 use as2_mdn::Detail;
-use as2_station::Station;
-use sqlite::MemStore;
+use as2_text::Moment;
+use script_lines::Answer as Told;
+use script_station::Stage;
 use std::alloc::{AllocError, Global};
 use std::io;
 use std::io::{Read, Write};
@@ -21,66 +19,43 @@ use std::test::Fail;
 /// A station where the first try of a document for Buyer has begun.
 #[derive(Drop)]
 struct Begun {
-    alloc: Global,
-    agreements: Agreements,
-    station: Station<MemStore>,
+    stage: Stage,
     job: Job,
 }
 
 impl Begun {
     fn new(alloc: Global) -> Result<Begun, Fail> {
-        let agreements = Agreements::read(alloc, AGREEMENTS)?;
-        let Some(store) = new_store(alloc, 1) else {
-            return Err(Fail::new("no store"));
-        };
-        let mut station = Station::new(store);
-        let document = submit(alloc, "Supplier", "Buyer", b"abc", 1000)?;
-        station.step(alloc, &agreements, document)?;
-        let begins = Event::Begin {
-            number: 1,
-            moment: moment(1000)?,
-        };
-        match station.step(alloc, &agreements, begins)? {
-            Answer::Job(job) => Ok(Begun {
-                alloc,
-                agreements,
-                station,
-                job,
-            }),
+        let mut stage = stage(alloc)?;
+        let document = "1000 submit | Supplier | Buyer | abc";
+        stage.played.take(alloc, &stage.settings, document)??;
+        match stage.played.take(alloc, &stage.settings, "1000 begin 1")? {
+            Ok(Answer::Job(job)) => Ok(Begun { stage, job }),
             _ => Err(Fail::new("no job")),
         }
     }
 
     /// Whether the answer settles the document as processed.
     fn is_settled(self, answer: TryAnswer) -> Result<bool, Fail> {
-        let Begun {
-            alloc,
-            agreements,
-            mut station,
-            ..
-        } = self;
+        let Begun { mut stage, .. } = self;
+        let Some(moment) = Moment::new(1000) else {
+            return Err(Fail::new("no moment"));
+        };
         let outcome = Event::Outcome {
             number: 1,
             answer,
-            moment: moment(1000)?,
+            moment,
         };
-        let said = station.step(alloc, &agreements, outcome)?;
-        let stands = match station.into_store().find_out(alloc, 1)? {
-            Some(document) => is_settled(&document),
-            None => false,
-        };
-        Ok(matches!(said, Answer::Settled(Detail::Processed)) && stands)
+        let (station, agreements) = stage.played.ready(stage.alloc, &stage.settings)?;
+        let said = station.step(stage.alloc, agreements, outcome)?;
+        Ok(matches!(said, Answer::Settled(Detail::Processed)) && stands_settled(&mut stage)?)
     }
 }
 
-/// It is the first document, settled by a receipt after one try.
-fn is_settled(document: &OutEntry) -> bool {
-    document.number == 1
-        && document.detail == Detail::Processed
-        && document.tries == 1
-        && document.attempt == Attempt::Idle
-        && document.due.is_none()
-        && document.evidence.is_some()
+/// It stands as settled by a receipt after one try.
+fn stands_settled(stage: &mut Stage) -> Result<bool, Fail> {
+    let mut told = Told::new(stage.alloc);
+    let is_told = script_station::answer(stage, "document", "1", &mut told)?;
+    Ok(is_told && told.whole()? == b"processed S, tries 1, idle, due -, receipt".as_slice())
 }
 
 /// What tells the end of the receipt: the end of the head before it, and what stands behind it.
@@ -109,7 +84,7 @@ fn answer_text(alloc: Global, framing: Framing) -> Result<Vec<u8>, AllocError> {
         b"HTTP/1.1 200 OK\r\nAS2-From: Buyer\r\nAS2-To: Supplier\r\nContent-Type: ".as_slice(),
         RECEIPT_TYPE.as_bytes(),
         framing.before,
-        RECEIPT,
+        RECEIPT.as_bytes(),
         framing.behind,
     ] {
         text.extend_from_slice(part)?;

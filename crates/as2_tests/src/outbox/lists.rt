@@ -1,58 +1,98 @@
-//! Lists of events, with what is answered to each.
-use super::{Did, EMPTY, RECEIVED, Row, Said, TO_BUYER, TO_DEPOT};
-use as2_exchange::Refusal;
-use as2_mdn::Detail;
+//! Lists of events, each with what is answered to it, as scripts spell them.
+use crate::texts::{PLAIN, RECEIVED};
+
+/// An event, and its answer.
+pub(super) type Row = (&'static str, &'static str);
 
 /// Each list.
 pub(super) static LISTS: [&[Row]; 4] = [REPEATED, SETTLED, AWAITED, JOB];
 
 /// The plain post, its repeat, and another document under its identifier.
 const REPEATED: &[Row] = &[
-    (Did::Plain(1000), Said::Receipt),
-    (Did::Plain(1000), Said::Receipt),
-    (Did::Other(1000), Said::UsedBefore),
+    (PLAIN, RECEIVED),
+    (PLAIN, RECEIVED),
+    ("1000 post | abd", "409 message identifier used before"),
 ];
 
 /// A document that the receipt in the answer settles.
 const SETTLED: &[Row] = &[
-    (Did::Submit("Buyer", 1000), Said::Submitted(1)),
-    (Did::Begin(1, 1000), TO_BUYER),
-    (
-        Did::Answered(1, RECEIVED, 1000),
-        Said::Settled(Detail::Processed),
-    ),
+    ("1000 submit | Supplier | Buyer | abc", "submitted 1"),
+    ("1000 begin 1", TO_BUYER),
+    ("1000 reply 1 200 | receipt", "settled processed"),
 ];
 
 /// A document whose receipt is awaited, and then overdue.
 const AWAITED: &[Row] = &[
-    (Did::Submit("Depot", 1000), Said::Submitted(1)),
-    (Did::Begin(1, 1000), TO_DEPOT),
-    (Did::Answered(1, EMPTY, 1000), Said::Delivered),
-    (Did::Begin(1, 2000), Said::Refused(Refusal::NotDue)),
-    (Did::NoAnswer(1, 2000), Said::Refused(Refusal::NoOpenTry)),
-    (Did::Tick(1059), Said::Ticked(0)),
-    (Did::Tick(1060), Said::Ticked(1)),
-    (Did::Tick(1060), Said::Ticked(0)),
-    (Did::Begin(1, 2000), Said::Refused(Refusal::NotDue)),
+    ("1000 submit | Supplier | Depot | abc", "submitted 1"),
+    ("1000 begin 1", TO_DEPOT),
+    ("1000 reply 1 200 | empty", "delivered"),
+    ("2000 begin 1", "refused NotDue"),
+    ("2000 unanswered 1", "refused NoOpenTry"),
+    ("1059 tick", "ticked 0"),
+    ("1060 tick", "ticked 1"),
+    ("1060 tick", "ticked 0"),
+    ("2000 begin 1", "refused NotDue"),
 ];
 
 /// A receipt that is sent by its second try, and then queued again by a repeat.
 const JOB: &[Row] = &[
-    (Did::AskedLater(1000), Said::Accepted),
-    (Did::BeginMdn(1, 1000), RECEIPT_TO_DEPOT),
-    (Did::MdnUnanswered(1, 1000), Said::TryFailed),
-    (Did::BeginMdn(1, 1029), Said::Refused(Refusal::NotDue)),
-    (Did::BeginMdn(1, 1030), RECEIPT_TO_DEPOT),
-    (Did::MdnAnswered(1, 200, 1030), Said::Delivered),
-    (Did::BeginMdn(1, 2000), Said::Refused(Refusal::AllSettled)),
-    (Did::MdnAnswered(1, 200, 2000), Said::AlreadySettled),
-    (Did::AskedLater(2000), Said::Accepted),
+    (ASKED_LATER, "202"),
+    ("1000 begin-mdn 1", RECEIPT_TO_DEPOT),
+    ("1000 unanswered-mdn 1", "try failed"),
+    ("1029 begin-mdn 1", "refused NotDue"),
+    ("1030 begin-mdn 1", RECEIPT_TO_DEPOT),
+    ("1030 reply-mdn 1 200 | bare", "delivered"),
+    ("2000 begin-mdn 1", "refused AllSettled"),
+    ("2000 reply-mdn 1 200 | bare", "already settled"),
+    (ASKED_AGAIN, "202"),
 ];
 
+/// A post from Depot that asks for a receipt by a post to it.
+const ASKED_LATER: &str =
+    "1000 post | abc | AS2-From: Depot | Receipt-Delivery-Option: http://127.0.0.1:8082/mdn";
+
+/// The same, later.
+const ASKED_AGAIN: &str =
+    "2000 post | abc | AS2-From: Depot | Receipt-Delivery-Option: http://127.0.0.1:8082/mdn";
+
+/// The request of the first document to Buyer.
+const TO_BUYER: &str = "job 127.0.0.1:8081\r\n\
+POST /as2 HTTP/1.1\r\n\
+Host: 127.0.0.1:8081\r\n\
+Connection: close\r\n\
+AS2-Version: 1.0\r\n\
+AS2-From: Supplier\r\n\
+AS2-To: Buyer\r\n\
+Message-ID: <out-1@station.example>\r\n\
+Content-Type: application/edi-x12\r\n\
+Content-Transfer-Encoding: binary\r\n\
+Disposition-Notification-To: as2@station.example\r\n\
+Disposition-Notification-Options: signed-receipt-micalg=optional, sha1\r\n\
+Content-Length: 3\r\n\
+\r\n\
+abc";
+
+/// The request to Depot, whose receipt comes later.
+const TO_DEPOT: &str = "job 127.0.0.1:8082\r\n\
+POST /as2 HTTP/1.1\r\n\
+Host: 127.0.0.1:8082\r\n\
+Connection: close\r\n\
+AS2-Version: 1.0\r\n\
+AS2-From: Supplier\r\n\
+AS2-To: Depot\r\n\
+Message-ID: <out-1@station.example>\r\n\
+Content-Type: application/edi-x12\r\n\
+Content-Transfer-Encoding: binary\r\n\
+Disposition-Notification-To: as2@station.example\r\n\
+Disposition-Notification-Options: signed-receipt-micalg=optional, sha1\r\n\
+Receipt-Delivery-Option: http://127.0.0.1:8080/as2\r\n\
+Content-Length: 3\r\n\
+\r\n\
+abc";
+
 /// The request of the first receipt to Depot.
-const RECEIPT_TO_DEPOT: Said = Said::Job(
-    "127.0.0.1:8082",
-    "POST /mdn HTTP/1.1\r\n\
+const RECEIPT_TO_DEPOT: &str = "job 127.0.0.1:8082\r\n\
+POST /mdn HTTP/1.1\r\n\
 Host: 127.0.0.1:8082\r\n\
 Connection: close\r\n\
 AS2-Version: 1.0\r\n\
@@ -77,5 +117,4 @@ Original-Message-ID: <m1@x>\r\n\
 Disposition: automatic-action/MDN-sent-automatically; processed\r\n\
 Received-content-MIC: qZk+NkcGgWq6PiVxeFDCbJzQ2J0=, sha1\r\n\
 \r\n\
---as2-mdn-1--\r\n",
-);
+--as2-mdn-1--\r\n";

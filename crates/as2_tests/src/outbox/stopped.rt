@@ -1,14 +1,16 @@
 //! Lists of events that a stop breaks off, at each call of the disk in turn: what is found is what was answered, perhaps with the
 //! event that was under way, and the list goes on from there to the same end.
-use super::lists::LISTS;
-use super::{Row, event, is_said};
+use super::lists::{LISTS, Row};
 use crate::agreements::AGREEMENTS;
+use crate::texts::{is_said, texts};
 use as2_agreement::Agreements;
 use as2_exchange::Event;
 use as2_restart::{Stopped, play_then_stop, reopen, stop_and_open};
 use as2_station::{Filter, Station};
 use as2_store::Store;
 use as2_text::Moment;
+use script_lines::Settings;
+use script_station::event;
 use sqlite::{Alter, Connection, FileStore, Options};
 use sqlite_disk::{Files, Fuse, Memory};
 use std::alloc::Global;
@@ -56,35 +58,60 @@ fn sight<S: Alter>(alloc: Global, station: &mut Station<S>) -> Result<String, Fa
     Ok(seen)
 }
 
-/// Plays the rows, each answered as it says, until one has a fault; how many were answered.
-fn played_until<S: Alter>(
+/// What the rows are played with.
+#[derive(Drop)]
+struct Play {
     alloc: Global,
-    station: &mut Station<S>,
-    agreements: &Agreements,
-    rows: &[Row],
-) -> Result<usize, Fail> {
-    for (at, (did, said)) in rows.iter().enumerate() {
-        match station.step(alloc, agreements, event(alloc, did)?) {
-            Ok(answer) if is_said(&answer, said) => {}
-            Ok(_) => return Err(Fail::new(at)),
-            Err(_) => return Ok(at),
-        }
+    agreements: Agreements,
+    settings: Settings,
+}
+
+impl Play {
+    fn new(alloc: Global) -> Result<Play, Fail> {
+        Ok(Play {
+            alloc,
+            agreements: Agreements::read(alloc, AGREEMENTS)?,
+            settings: texts(alloc)?,
+        })
     }
-    Ok(rows.len())
+
+    /// Plays the rows, each answered as it says, until one has a fault; how many were answered.
+    fn until_fault<S: Alter>(&self, station: &mut Station<S>, rows: &[Row]) -> Result<usize, Fail> {
+        for (at, (line, wanted)) in rows.iter().enumerate() {
+            let event = event(self.alloc, &self.settings, line)?;
+            let said = station.step(self.alloc, &self.agreements, event);
+            if said.is_err() {
+                return Ok(at);
+            }
+            if !is_said(self.alloc, &self.settings, &said, wanted)? {
+                return Err(Fail::new(at));
+            }
+        }
+        Ok(rows.len())
+    }
+
+    /// The events of the rows.
+    fn events(&self, rows: &[Row]) -> Result<Vec<Event>, Fail> {
+        let mut events = Vec::new(self.alloc);
+        for (line, _) in rows {
+            events.push(event(self.alloc, &self.settings, line)?)?;
+        }
+        Ok(events)
+    }
 }
 
 /// What is seen before the first row and after each.
-fn sights(alloc: Global, agreements: &Agreements, rows: &[Row]) -> Result<Vec<String>, Fail> {
-    let Some(mut station) = station(alloc, NEVER) else {
+fn sights(play: &Play, rows: &[Row]) -> Result<Vec<String>, Fail> {
+    let Some(mut station) = station(play.alloc, NEVER) else {
         return Err(Fail::new("no station"));
     };
-    let mut seen = Vec::new(alloc);
-    seen.push(sight(alloc, &mut station)?)?;
+    let mut seen = Vec::new(play.alloc);
+    seen.push(sight(play.alloc, &mut station)?)?;
     for row in rows.chunks(1) {
-        if played_until(alloc, &mut station, agreements, row)? != 1 {
+        if play.until_fault(&mut station, row)? != 1 {
             return Err(Fail::new("a fault"));
         }
-        seen.push(sight(alloc, &mut station)?)?;
+        seen.push(sight(play.alloc, &mut station)?)?;
     }
     Ok(seen)
 }
@@ -101,37 +128,28 @@ fn done_by(seen: &String, sights: &[String], answered: usize) -> Result<usize, F
 }
 
 /// Plays the rows with that stop, opens what is left, and plays the rest; whether the stop came before the end.
-fn is_stopped(
-    alloc: Global,
-    agreements: &Agreements,
-    rows: &[Row],
-    sights: &[String],
-    stop: Stop,
-) -> Result<bool, Fail> {
-    let Some(mut station) = station(alloc, stop) else {
+fn is_stopped(play: &Play, rows: &[Row], sights: &[String], stop: Stop) -> Result<bool, Fail> {
+    let Some(mut station) = station(play.alloc, stop) else {
         return Ok(true);
     };
-    let answered = played_until(alloc, &mut station, agreements, rows)?;
-    let Some(mut again) = stop_and_open(alloc, station, Options::new(2)) else {
+    let answered = play.until_fault(&mut station, rows)?;
+    let Some(mut again) = stop_and_open(play.alloc, station, Options::new(2)) else {
         return Err(Fail::new("no store is found"));
     };
-    let done = done_by(&sight(alloc, &mut again)?, sights, answered)?;
+    let done = done_by(&sight(play.alloc, &mut again)?, sights, answered)?;
     let Some(rest) = rows.get(done..) else {
         return Err(Fail::new("no such row"));
     };
-    if played_until(alloc, &mut again, agreements, rest)? != rest.len() {
+    if play.until_fault(&mut again, rest)? != rest.len() {
         return Err(Fail::new("a fault after the stop"));
     }
-    if sights.last() != Some(&sight(alloc, &mut again)?) {
-        return Err(Fail::new("another end"));
-    }
+    check_last(play.alloc, &mut again, sights)?;
     Ok(answered < rows.len())
 }
 
 /// Stops the rows after no call, one, two and so on of the log, or else of the database.
-fn check_stops(alloc: Global, rows: &[Row], of_log: bool) -> Result<(), Fail> {
-    let agreements = Agreements::read(alloc, AGREEMENTS)?;
-    let sights = sights(alloc, &agreements, rows)?;
+fn check_stops(play: &Play, rows: &[Row], of_log: bool) -> Result<(), Fail> {
+    let sights = sights(play, rows)?;
     for calls in 0..MOST_CALLS {
         let stop = if of_log {
             Stop {
@@ -144,37 +162,26 @@ fn check_stops(alloc: Global, rows: &[Row], of_log: bool) -> Result<(), Fail> {
                 ..NEVER
             }
         };
-        if !is_stopped(alloc, &agreements, rows, &sights, stop)? {
+        if !is_stopped(play, rows, &sights, stop)? {
             return Ok(());
         }
     }
     Err(Fail::new("no end"))
 }
 
-/// The events of the rows.
-fn events_of(alloc: Global, rows: &[Row]) -> Result<Vec<Event>, Fail> {
-    let mut events = Vec::new(alloc);
-    for (did, _) in rows {
-        events.push(event(alloc, did)?)?;
-    }
-    Ok(events)
-}
-
-/// The station that is found behind all events and a stop.
-fn stopped_behind(
-    alloc: Global,
-    agreements: &Agreements,
-    events: Vec<Event>,
-) -> Result<Station<FileStore<Fuse<Memory>>>, Fail> {
-    let Some(station) = station(alloc, NEVER) else {
+/// The station that is found behind all rows and a stop.
+fn stopped_behind(play: &Play, rows: &[Row]) -> Result<Station<FileStore<Fuse<Memory>>>, Fail> {
+    let Some(station) = station(play.alloc, NEVER) else {
         return Err(Fail::new("no station"));
     };
+    let events = play.events(rows)?;
+    let options = Options::new(2);
     let Ok(Stopped { said: _, again }) = play_then_stop(
-        alloc,
+        play.alloc,
         station,
-        agreements,
+        &play.agreements,
         events,
-        Options::new(2),
+        options,
     ) else {
         return Err(Fail::new("no memory"));
     };
@@ -197,23 +204,23 @@ fn check_last<S: Alter>(
 }
 
 /// Plays all rows at once, stops, opens what is left, closes it and opens it again: each time all that was answered is seen.
-fn check_whole(alloc: Global, rows: &[Row]) -> Result<(), Fail> {
-    let agreements = Agreements::read(alloc, AGREEMENTS)?;
-    let sights = sights(alloc, &agreements, rows)?;
-    let mut found = stopped_behind(alloc, &agreements, events_of(alloc, rows)?)?;
-    check_last(alloc, &mut found, &sights)?;
-    let Some(mut opened) = reopen(alloc, found, Options::new(3)) else {
+fn check_whole(play: &Play, rows: &[Row]) -> Result<(), Fail> {
+    let sights = sights(play, rows)?;
+    let mut found = stopped_behind(play, rows)?;
+    check_last(play.alloc, &mut found, &sights)?;
+    let Some(mut opened) = reopen(play.alloc, found, Options::new(3)) else {
         return Err(Fail::new("no store is opened"));
     };
-    check_last(alloc, &mut opened, &sights)
+    check_last(play.alloc, &mut opened, &sights)
 }
 
 #[test]
 fn what_was_answered_stands(rt: HostRuntime) -> Result<(), Fail> {
+    let play = Play::new(rt.alloc())?;
     for rows in LISTS {
-        check_stops(rt.alloc(), rows, true)?;
-        check_stops(rt.alloc(), rows, false)?;
-        check_whole(rt.alloc(), rows)?;
+        check_stops(&play, rows, true)?;
+        check_stops(&play, rows, false)?;
+        check_whole(&play, rows)?;
     }
     Ok(())
 }

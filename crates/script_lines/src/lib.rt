@@ -1,0 +1,19 @@
+//! The lines and the lists of a script, what its texts spell, and what is answered to a line. `docs/SCRIPTS.md` tells how they are
+//! written.
+#![tactic(auto)]
+
+mod answer;
+mod lines;
+mod lists;
+mod settings;
+mod texts;
+mod trouble;
+mod words;
+
+pub use answer::{Answer, spelled};
+pub use lines::{Line, lines_of};
+pub use lists::{before_other, before_title, behind_or};
+pub use settings::Settings;
+pub use texts::{bytes_of, expanded, number_in, text_of};
+pub use trouble::Trouble;
+pub use words::{length_in, step_in, two_words};
