@@ -2,28 +2,22 @@
 //! written.
 #![tactic(auto)]
 
-mod commands;
 mod desk;
-mod player;
+mod verbs;
 
-use crate::player::Player;
+use script_player::Player;
 use std::process::ExitCode;
 use std::{env, fs, io};
+use verbs::Verbs;
 
 /// Plays the scripts of a word: files, joined by commas, whose texts the later ones know. How many lines were answered otherwise.
 fn play(rt: &HostRuntime, word: &str) -> io::Result<u64> {
-    let mut player = Player::new(rt);
+    let mut player = Player::new(rt, Verbs::new(rt.alloc()));
     for path in word.split(",") {
         let text = fs::read_to_string(rt, path)?;
         player.play(path, text.as_str())?;
     }
-    let (rows, differ) = player.counts();
-    if differ == 0 {
-        println!(rt; "{word}: {rows} rows")?;
-    } else {
-        println!(rt; "{word}: {rows} rows, {differ} differ")?;
-    }
-    Ok(differ)
+    player.tell_counts(word)
 }
 
 fn main(rt: HostRuntime) -> io::Result<ExitCode> {

@@ -1,37 +1,42 @@
 //! Plays the lines of scripts.
-use crate::commands;
-use crate::desk::Desk;
+use crate::scene::Scene;
 use script_lines::{
     Answer, Line, Trouble, before_other, before_title, behind_or, bytes_of, expanded, lines_of,
     spelled,
 };
-use script_station::{Played, Stage};
+use std::alloc::Global;
 use std::{io, slice};
 
-/// What scripts are played with, and how many lines were.
+/// A scene that scripts are played over, and how many lines were.
 #[derive(Drop)]
-pub struct Player<'a> {
+pub struct Player<'a, S> {
     rt: &'a HostRuntime,
-    stage: Stage,
-    desk: Desk,
+    alloc: Global,
+    scene: S,
     rows: u64,
     differ: u64,
 }
 
-impl<'a> Player<'a> {
-    pub fn new(rt: &'a HostRuntime) -> Player<'a> {
+impl<'a, S: Scene> Player<'a, S> {
+    pub fn new(rt: &'a HostRuntime, scene: S) -> Player<'a, S> {
         Player {
             rt,
-            stage: Stage::new(rt.alloc()),
-            desk: Desk::new(),
+            alloc: rt.alloc(),
+            scene,
             rows: 0,
             differ: 0,
         }
     }
 
-    /// How many lines were played, and how many of these were answered otherwise.
-    pub fn counts(&self) -> (u64, u64) {
-        (self.rows, self.differ)
+    /// Tells how many lines were played, and how many of these were answered otherwise, which it gives back.
+    pub fn tell_counts(&self, word: &str) -> io::Result<u64> {
+        let (rows, differ) = (self.rows, self.differ);
+        if differ == 0 {
+            println!(self.rt; "{word}: {rows} rows")?;
+        } else {
+            println!(self.rt; "{word}: {rows} rows, {differ} differ")?;
+        }
+        Ok(differ)
     }
 
     /// Tells of a line that it was answered otherwise, or why it can't be played.
@@ -40,45 +45,26 @@ impl<'a> Player<'a> {
         println!(self.rt; "{path}:{line}: {what}")
     }
 
-    /// Answers to a line that asks for something; whether there is such a verb.
-    fn says(&mut self, verb: &str, rest: &str, answer: &mut Answer) -> Result<bool, Trouble> {
-        let alloc = self.stage.alloc;
-        Ok(
-            script_texts::answer(alloc, verb, rest, answer)?
-                || script_values::answer(alloc, verb, rest, answer)?
-                || script_http::answer(alloc, verb, rest, answer)?
-                || script_station::answer(&mut self.stage, verb, rest, answer)?
-                || commands::answer(&self.stage, &mut self.desk, verb, rest, answer)?,
-        )
-    }
-
     /// What is answered to the line `text`.
     fn answer(&mut self, text: &str) -> Result<Answer, Trouble> {
-        let alloc = self.stage.alloc;
-        let text = expanded(alloc, text, &self.stage.settings)?;
+        let text = expanded(self.alloc, text, self.scene.settings())?;
         let (verb, rest) = text.as_str().split_once(" ").unwrap_or((text.as_str(), ""));
-        let mut answer = Answer::new(alloc);
-        match verb {
-            "text" => self.stage.settings.name_text(alloc, rest)?,
-            "change" => self.stage.settings.change_text(alloc, rest)?,
-            _ => {
-                if !self.says(verb, rest, &mut answer)? {
-                    return Err(Trouble::Unreadable("no such verb"));
-                }
-            }
+        let mut answer = Answer::new(self.alloc);
+        match self.scene.play(verb, rest, &mut answer)? {
+            true => Ok(answer),
+            false => Err(Trouble::Unreadable("no such verb")),
         }
-        Ok(answer)
     }
 
     /// Whether the answer is the one that the line says. What it says, else, and what was answered.
     fn compare(&self, answer: &Answer, wanted: &str) -> Result<Option<String>, Trouble> {
-        let wanted = expanded(self.stage.alloc, wanted, &self.stage.settings)?;
+        let wanted = expanded(self.alloc, wanted, self.scene.settings())?;
         let answered = answer.whole()?;
-        if bytes_of(self.stage.alloc, wanted.as_str())?.as_slice() == answered {
+        if bytes_of(self.alloc, wanted.as_str())?.as_slice() == answered {
             return Ok(None);
         }
-        let answered = spelled(self.stage.alloc, answered)?;
-        Ok(Some(format!(in self.stage.alloc; "wanted {wanted}, answered {answered}")?))
+        let answered = spelled(self.alloc, answered)?;
+        Ok(Some(format!(in self.alloc; "wanted {wanted}, answered {answered}")?))
     }
 
     /// Plays a line; how it was answered otherwise, if it was.
@@ -124,13 +110,11 @@ impl<'a> Player<'a> {
         other: &[Line],
         more: &[Line],
     ) -> io::Result<()> {
-        let known = self.stage.settings.count();
+        let known = self.scene.settings().count();
         self.play_lines(path, lines)?;
         self.play_lines(path, other)?;
         self.play_lines(path, more)?;
-        self.stage.settings.keep(known);
-        self.stage.played = Played::new();
-        self.desk = Desk::new();
+        self.scene.end_list(known);
         Ok(())
     }
 
@@ -153,7 +137,7 @@ impl<'a> Player<'a> {
 
     /// Plays a script: the lines before its first list, which hold for all of it, and then its lists.
     pub fn play(&mut self, path: &str, text: &str) -> io::Result<()> {
-        let lines = lines_of(self.stage.alloc, text)?;
+        let lines = lines_of(self.alloc, text)?;
         let (first, mut rest) = before_title(lines.as_slice());
         self.play_lines(path, first)?;
         for _ in 0..lines.len() {
