@@ -1,18 +1,10 @@
 -- A command gets one option more.
-use Rattle.std.proofs.Common.{◌≡◌, ◌∙◌, ◌++◌, ◌||◌, [], ◌∷◌, Bool, false, ap, ap₂}
-use Rattle.clap.specs.Words.{AddsArg, Rule, Shape, rule_of, shape_of}
+use Rattle.std.proofs.Common.{◌≡◌, ◌∙◌, ◌||◌, Bool, false, ap, ap₂}
+use Rattle.clap.specs.Words.{AddsArg, Rule, Shape, rule_of}
 use Rattle.clap.specs.Simple.{App}
 use Rattle.clap.specs.declared.builder.arg.Arg.{Arg}
 use Rattle.clap.specs.declared.builder.command.Command.{Command}
-use Rattle.clap.specs.declared.builder.command.Command.TheViews.{out-Command as fields_of}
-
--- a command's shape, and that none of its options is one of its commands' too
-pub record Looks (s : Shape) (c : Command) : Type 0 where
-  pub shape : shape_of c ≡ s
-  pub local : (fields_of c).has_globals ≡ false
-
-abbrev pub and_rule : Shape → Rule → Shape
-and_rule s r = record s { rules = s.rules ++ r ∷ [] }
+use Rattle.as2_commands.specs.Building.{Looks, and_rule}
 
 pub one_more : {old new : Command} {a : Arg} {s : Shape} {r : Rule} → AddsArg old a new → Looks s old → rule_of a ≡ r → a.global ≡ false
     → Looks (and_rule s r) new

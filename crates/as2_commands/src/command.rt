@@ -4,48 +4,37 @@ ghost use Rattle.clap.specs.Words.{app_of};
 ghost use Rattle.as2_commands.specs.CommandLine.{command_line, options, program, titled};
 
 use crate::args::{AGREEMENTS, STORE, first, moment, required_option};
+use crate::building::{Made, with_command, with_option};
 use crate::{help, own};
 use clap::Command;
-use std::alloc::{AllocError, Global};
+use std::alloc::Global;
 
 /// The command line that the program reads.
-pub(crate) fn command<'a>(alloc: Global) -> Result<Command<'a>, AllocError>
+pub(crate) fn command<'a>(alloc: Global) -> Made<'a>
     ensures { IfOk result (λ c. app_of c ≡ command_line) }
 {
-    with_options(alloc)?
-        .subcommand(own::check(alloc))?
-        .subcommand(own::post(alloc))?
-        .subcommand(own::submit(alloc)?)?
-        .subcommand(own::send(alloc)?)?
-        .subcommand(own::tick(alloc))?
-        .subcommand(own::list(alloc)?)?
-        .subcommand(own::outstanding(alloc))?
-        .subcommand(own::show(alloc)?)?
-        .subcommand(own::fetch(alloc)?)?
-        .subcommand(own::serve(alloc)?)
+    let line = with_command(with_options(alloc), own::check(alloc));
+    let line = with_command(line, own::post(alloc));
+    let line = with_command(line, own::submit(alloc));
+    let line = with_command(line, own::send(alloc));
+    let line = with_command(line, own::tick(alloc));
+    let line = with_command(line, own::list(alloc));
+    let line = with_command(line, own::outstanding(alloc));
+    let line = with_command(line, own::show(alloc));
+    let line = with_command(line, own::fetch(alloc));
+    with_command(line, own::serve(alloc))
 }
 
 /// The program with the options before its command.
-fn with_options<'a>(alloc: Global) -> Result<Command<'a>, AllocError>
+fn with_options<'a>(alloc: Global) -> Made<'a>
     ensures { IfOk result (λ c. app_of c ≡ options) }
 {
-    let agreements = required_option(
-        alloc,
-        AGREEMENTS,
-        "FILE",
-        "Agreements, a TOML file: the station's names, its partners and their terms",
-    );
-    let store = required_option(
-        alloc,
-        STORE,
-        "FILE",
-        "Records, an SQLite file, made where it is absent; ':memory:' keeps none",
-    );
-    program(alloc)
-        .arg(agreements)?
-        .arg(store)?
-        .arg(first(alloc))?
-        .arg(moment(alloc))
+    let agreements = "Agreements, a TOML file: the station's names, its partners and their terms";
+    let store = "Records, an SQLite file, made where it is absent; ':memory:' keeps none";
+    let line = Ok(program(alloc));
+    let line = with_option(line, required_option(alloc, AGREEMENTS, "FILE", agreements));
+    let line = with_option(line, required_option(alloc, STORE, "FILE", store));
+    with_option(with_option(line, first(alloc)), moment(alloc))
 }
 
 /// The program's name and what it says of itself.

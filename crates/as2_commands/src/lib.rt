@@ -2,6 +2,7 @@
 #![tactic(auto)]
 
 mod args;
+mod building;
 mod command;
 mod fault;
 mod first_number;

@@ -28,11 +28,25 @@ pub fn options_in<'a>(
     // The help and the version are for those who ask for them.
     ensures help { IfErr result (λ e. IsHelp (kind_of e) → AsksForHelp (texts words.entry.now)) }
 {
-    let mut command = command(alloc)?;
-    let found = parse(&mut command, words)?;
+    asked_by(alloc, &mut command(alloc)?, words, clock)
+}
+
+/// The same, of a command line that is made.
+fn asked_by<'a>(
+    alloc: Global,
+    command: &mut Command<'a>,
+    words: &'a [&'a str],
+    clock: Option<u64>,
+) -> Result<Options<'a>, Error>
+    requires { app_of command.old ≡ command_line }
+    ensures given { IfOk result (λ o. Gives (texts words.entry.now) clock o.agreements.now o.store.now o.task) }
+    ensures none { IfErr result (λ e. kind_of e ≢ OutOfMemory → GivesNone (texts words.entry.now) clock) }
+    ensures help { IfErr result (λ e. IsHelp (kind_of e) → AsksForHelp (texts words.entry.now)) }
+{
+    let found = parse(command, words)?;
     match Options::of(&found, clock) {
         Ok(options) => Ok(options),
-        Err(fault) => Err(explained(alloc, &mut command, fault)?),
+        Err(fault) => Err(explained(alloc, command, fault)?),
     }
 }
 

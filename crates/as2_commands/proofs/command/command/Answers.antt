@@ -1,19 +1,15 @@
-use Rattle.std.proofs.Common.{◌∙◌, ap₂}
-use Rattle.std.proofs.lemmas.Result.{IfOk-weaker}
-use Rattle.clap.specs.Words.{with_subcommand}
 use Rattle.as2_commands.proofs.command.command.Goals as goal
 
 -- a command is added at a time
 pub returns : goal.returns
 returns c =
-    let a1 = c.in_ok-subcommand.ensures.shape c.check.ensures.local ∙ ap₂ with_subcommand c.in_ok-with_options.ensures c.check.ensures.shape in
-    let a2 = c.in_ok-subcommand-2.ensures.shape c.post.ensures.local ∙ ap₂ with_subcommand a1 c.post.ensures.shape in
-    let a3 = c.in_ok-subcommand-3.ensures.shape c.in_ok-submit.ensures.local ∙ ap₂ with_subcommand a2 c.in_ok-submit.ensures.shape in
-    let a4 = c.in_ok-subcommand-4.ensures.shape c.in_ok-send.ensures.local ∙ ap₂ with_subcommand a3 c.in_ok-send.ensures.shape in
-    let a5 = c.in_ok-subcommand-5.ensures.shape c.tick.ensures.local ∙ ap₂ with_subcommand a4 c.tick.ensures.shape in
-    let a6 = c.in_ok-subcommand-6.ensures.shape c.in_ok-list.ensures.local ∙ ap₂ with_subcommand a5 c.in_ok-list.ensures.shape in
-    let a7 = c.in_ok-subcommand-7.ensures.shape c.outstanding.ensures.local ∙ ap₂ with_subcommand a6 c.outstanding.ensures.shape in
-    let a8 = c.in_ok-subcommand-8.ensures.shape c.in_ok-show.ensures.local ∙ ap₂ with_subcommand a7 c.in_ok-show.ensures.shape in
-    let a9 = c.in_ok-subcommand-9.ensures.shape c.in_ok-fetch.ensures.local ∙ ap₂ with_subcommand a8 c.in_ok-fetch.ensures.shape in
-    IfOk-weaker c.subcommand-10.result _ _
-    (λ r adds. adds.shape c.in_ok-serve.ensures.local ∙ ap₂ with_subcommand a9 c.in_ok-serve.ensures.shape) c.subcommand-10.ensures
+    let a1 = c.with_command-line.ensures _ _ c.with_options.ensures c.check.ensures in
+    let a2 = c.with_command-line-2.ensures _ _ a1 c.post.ensures in
+    let a3 = c.with_command-line-3.ensures _ _ a2 c.submit.ensures in
+    let a4 = c.with_command-line-4.ensures _ _ a3 c.send.ensures in
+    let a5 = c.with_command-line-5.ensures _ _ a4 c.tick.ensures in
+    let a6 = c.with_command-line-6.ensures _ _ a5 c.list.ensures in
+    let a7 = c.with_command-line-7.ensures _ _ a6 c.outstanding.ensures in
+    let a8 = c.with_command-line-8.ensures _ _ a7 c.show.ensures in
+    let a9 = c.with_command-line-9.ensures _ _ a8 c.fetch.ensures in
+    c.with_command.ensures _ _ a9 c.serve.ensures

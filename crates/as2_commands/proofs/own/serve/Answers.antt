@@ -1,16 +1,8 @@
-use Rattle.std.proofs.lemmas.Result.{IfOk-weaker}
-use Rattle.as2_commands.proofs.Arguments.{one_more}
 use Rattle.as2_commands.proofs.own.serve.Goals as goal
 
 -- an option is added at a time
-pub returns-clause-shape : goal.returns-clause-shape
-returns-clause-shape c =
-    let a1 = one_more c.in_ok-arg.ensures (record { shape = c.named.ensures.shape; local = c.named.ensures.local }) c.required_option.ensures.rule c.required_option.ensures.local in
-    let a2 = one_more c.in_ok-arg-2.ensures a1 c.count.ensures.rule c.count.ensures.local in
-    IfOk-weaker c.arg-3.result _ _ (λ r adds. (one_more adds a2 c.timeout.ensures.rule c.timeout.ensures.local).shape) c.arg-3.ensures
-
-pub returns-clause-local : goal.returns-clause-local
-returns-clause-local c =
-    let a1 = one_more c.in_ok-arg.ensures (record { shape = c.named.ensures.shape; local = c.named.ensures.local }) c.required_option.ensures.rule c.required_option.ensures.local in
-    let a2 = one_more c.in_ok-arg-2.ensures a1 c.count.ensures.rule c.count.ensures.local in
-    IfOk-weaker c.arg-3.result _ _ (λ r adds. (one_more adds a2 c.timeout.ensures.rule c.timeout.ensures.local).local) c.arg-3.ensures
+pub returns : goal.returns
+returns c =
+    let a1 = c.and-serve.ensures _ _ c.named-serve.ensures c.required_option.ensures.rule c.required_option.ensures.local in
+    let a2 = c.and.ensures _ _ a1 c.count.ensures.rule c.count.ensures.local in
+    c.and-2.ensures _ _ a2 c.timeout.ensures.rule c.timeout.ensures.local

@@ -3,7 +3,7 @@ use Rattle.clap.specs.Walk.{Row, Text, texts}
 use Rattle.clap.specs.Words.{subcommand_rows_of}
 use Rattle.as2_commands.specs.CommandLine.{option_values}
 use Rattle.as2_commands.specs.Options.{Give}
-use Rattle.as2_commands.proofs.words.options_in.Goals as goal
+use Rattle.as2_commands.proofs.words.asked_by.Goals as goal
 
 -- what the words give is what was found
 pub returns-clause-none : goal.returns-clause-none
