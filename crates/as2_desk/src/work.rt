@@ -144,7 +144,7 @@ fn do_over<S: Alter + Drop, N: Network, R: Source, W: Sink, E: Write>(
                 output,
                 errors,
             );
-            let conn = station.into_store().into_connection();
+            let conn = station.into_connection();
             (ran, Some(conn))
         }
         Err(fault) => (refuse(CommandFault::Store(fault), errors), None),

@@ -1,5 +1,5 @@
 //! Documents that are posted: each is recorded once.
-ghost use Rattle.std.specs.Prelude.{◌≡◌, Ok, Some, IsTrue, true};
+ghost use Rattle.std.specs.Prelude.{◌≡◌, Ok, Some, None, IsTrue, true};
 ghost use Rattle.sqlite.specs.Held.{state};
 ghost use Rattle.sqlite.specs.State.{HasCleanDisk};
 ghost use Rattle.as2_exchange.specs.State.{received_as};
@@ -47,8 +47,26 @@ fn record_again<S: Alter>(
     Ok(answer)
 }
 
-/// Takes a document: it repeats one, clashes with one, or is new and gets the next number.
+/// Takes a document whose key no entry has: it gets the next number.
 #[tactic(auto, unfolding(as2_exchange::specs::Recording::record_post, as2_exchange::specs::Readings::value_of))]
+fn record_first<S: Alter>(
+    store: &mut Store<S>,
+    alloc: Global,
+    agreements: &Agreements,
+    posted: Posted,
+    moment: Moment,
+) -> Result<HttpAnswer, StoreFault>
+    ensures taken { TakesPost S.Store agreements.now moment (IsDocument posted) (λ s. received_as s posted ≡ None) store.old store.new result }
+    ensures own { ¬ (result ≡ Ok (refusal IdUsedBefore)) }
+{
+    let number = store.next_numbers()?.receipt;
+    let answer = answer_to(alloc, agreements, number, &posted)?;
+    store.add_in(&first_entry(number, moment, posted))?;
+    Ok(answer)
+}
+
+/// Takes a document: it repeats one, clashes with one, or is new and gets the next number.
+#[tactic(auto, unfolding(as2_exchange::specs::Readings::value_of))]
 pub fn record<S: Alter>(
     store: &mut Store<S>,
     alloc: Global,
@@ -60,11 +78,8 @@ pub fn record<S: Alter>(
     ensures whole { ClashesWhole Http (IsDocument posted) (state S.Store store.old) (state S.Store store.new) result }
 {
     let found = store.find_in(alloc, &posted.sender, &posted.receiver, posted.id.value())?;
-    if let Some(entry) = &found {
-        return record_again(store, alloc, agreements, entry, &posted, moment);
+    match &found {
+        Some(entry) => record_again(store, alloc, agreements, entry, &posted, moment),
+        None => record_first(store, alloc, agreements, posted, moment),
     }
-    let number = store.next_numbers()?.receipt;
-    let answer = answer_to(alloc, agreements, number, &posted)?;
-    store.add_in(&first_entry(number, moment, posted))?;
-    Ok(answer)
 }

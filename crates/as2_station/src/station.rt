@@ -26,7 +26,7 @@ use as2_posts::{Opened, document, open};
 use as2_store::Store;
 use as2_text::{Head, Memory, Moment};
 use as2_views::Filter;
-use sqlite::Alter;
+use sqlite::{Alter, Connection};
 use std::alloc::Global;
 use std::marker::Model;
 
@@ -60,6 +60,13 @@ impl<S: Alter> Station<S> {
     {
         let Station { store } = self;
         store
+    }
+
+    /// Gives the records back as the connection that they are in.
+    pub fn into_connection(self) -> Connection<S>
+        ensures { result ≡ self }
+    {
+        self.into_store().into_connection()
     }
 
     /// Takes a post whose head is in order as far as its content type.

@@ -12,7 +12,7 @@ pub returns-in-Ok-clause-does : goal.returns-in-Ok-clause-does
 returns-in-Ok-clause-does g c = λ kept first holds.
     let conn = c.into_connection-conn.result in
     let station = c.do_at-ran.new.station in
-    let same : conn ≡ station = c.into_connection-conn.ensures ∙ c.into_store.ensures in
+    let same : conn ≡ station = c.into_connection-conn.ensures in
     let held = subst (Holds g.S.Store kept first) c.in-Ok.is holds in
     let back : HasCleanDisk (state g.S.Store station) → HasCleanDisk (state g.S.Store c.in-Ok.store) = λ clean. subst (λ (h : Held g.row.S.Denot). HasCleanDisk (state g.S.Store h)) c.new-station.ensures (c.do_at-ran.ensures.clean clean) in
     let clear : HasCleanDisk (state g.S.Store conn) → HasCleanDisk (state g.S.Store station) = λ clean. subst (λ (h : Held g.row.S.Denot). HasCleanDisk (state g.S.Store h)) same clean in
