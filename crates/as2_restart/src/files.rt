@@ -58,6 +58,16 @@ pub fn close<D: Disk + Drop>(conn: Connection<FileStore<D>>) -> Result<Files<D>,
     }
 }
 
+/// Closes a station's store into its two files.
+pub(crate) fn shut<D: Disk + Drop>(station: Station<FileStore<D>>) -> Result<Files<D>, Error>
+    ensures usable { IfOk result (λ files. IsTrue (D.Disk.is_usable files.log) × IsTrue (D.Disk.is_usable files.db)) }
+    ensures clean { IfOk result (λ files. AreClean D.Disk files.log files.db → HasCleanDisk (file_state station)) }
+    ensures closed { IfOk result (λ files. AreClean D.Disk files.log files.db → (s : State) → Rests (file_state station) s → AreClosed D.Disk files s) }
+    ensures shield { IfOk result (λ files. (file_state station).IsShielded → AreShielded D.Disk files) }
+{
+    close(station.into_connection())
+}
+
 /// The two files of a station, as a stop of the computer would find them: they hold what its store would leave to a crash.
 pub fn leave<D: Disk + Drop>(station: Station<FileStore<D>>) -> Files<D>
     ensures clean { AreClean D.Disk result.log result.db → HasCleanDisk (file_state station) }
@@ -65,5 +75,5 @@ pub fn leave<D: Disk + Drop>(station: Station<FileStore<D>>) -> Files<D>
     ensures kept { AreClean D.Disk result.log result.db → (s : State) → Rests (file_state station) s → IsTrue (file_state station).is_open
         → (image : Image) → outcomes D.Disk result.log result.db image → ∥ HoldsState image s ∥₁ }
 {
-    station.into_store().into_connection().into_store().close()
+    station.into_connection().into_store().close()
 }

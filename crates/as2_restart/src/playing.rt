@@ -9,7 +9,7 @@ ghost use Rattle.as2_station.specs.Traces.{trace};
 ghost use Rattle.as2_restart.specs.Files.{EndsInFiles, HasCollided};
 ghost use Rattle.as2_restart.specs.Restarts.{Comes, IsHeld, WasPlayed};
 
-use crate::files::close;
+use crate::files::shut;
 use crate::reopening::stop_and_open;
 use as2_agreement::Agreements;
 use as2_exchange::{Answer, Event, StoreFault};
@@ -70,7 +70,7 @@ pub fn play_then_close<C: Calls + Drop, S: Start>(
         ⊎ HasCollided (start_of S.Start files.log) (start_of S.Start files.db) (C.Calls.history (calls_of files.log)) (C.Calls.history (calls_of files.db)))) }
 {
     let answers = station.play(alloc, agreements, events)?;
-    let files = close(station.into_store().into_connection()).ok();
+    let files = shut(station).ok();
     Ok(Closed {
         said: answers,
         files,

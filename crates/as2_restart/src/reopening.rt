@@ -10,7 +10,7 @@ ghost use Rattle.as2_store.specs.Files.{HoldsState};
 ghost use Rattle.as2_store.specs.Stands.{Rests};
 ghost use Rattle.as2_restart.specs.Restarts.{Comes, IsHeld, MayLeave};
 
-use crate::files::{close, leave};
+use crate::files::{leave, shut};
 use as2_station::Station;
 use as2_store::Store;
 use sqlite::{Connection, FileStore, Options};
@@ -45,7 +45,7 @@ pub fn reopen<D: Disk + Drop>(
 ) -> Option<Station<FileStore<D>>>
     ensures same { IfSome result (λ again. HasCleanDisk (file_state again) → (s : State) → Rests (file_state station) s → IsHeld (file_state again) s) }
 {
-    match close(station.into_store().into_connection()) {
+    match shut(station) {
         Ok(files) => station_over(alloc, files, options),
         Err(_) => None,
     }
