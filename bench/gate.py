@@ -1,6 +1,7 @@
 #!/usr/bin/env python3
 """What the gate costs: runs `rt ci`, prints each of its own lines with the seconds since its start, and then the
-processor minutes (user and system time) of proofs, tests, edits and runs, crate by crate.
+processor minutes (user and system time) of proofs, tests, edits and runs, crate by crate. Words behind the log's file are
+handed to `rt ci`: crates, which are then all that is proved with those below them, or `--anew`.
 
 A process is known by its words: an edit's check works in a folder rt-edit-*, a check or build of tests has --test, and
 what neither proves nor tries anything (linking, programs, rt itself) counts as runs. Times are read from /proc a few
@@ -86,7 +87,7 @@ def main(words):
     with open(words[0] if words else os.devnull, "w", encoding="utf-8") as log:
         start = time.time()
         gate = subprocess.Popen(
-            ["rt", "ci"], stdout=subprocess.PIPE, stderr=subprocess.STDOUT, errors="replace", start_new_session=True
+            ["rt", "ci", *words[1:]], stdout=subprocess.PIPE, stderr=subprocess.STDOUT, errors="replace", start_new_session=True
         )
         watch = Watch(gate.pid)
         watch.start()
