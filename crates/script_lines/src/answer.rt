@@ -1,16 +1,18 @@
-//! What is answered to a line.
+//! What is answered to a line, and how its words are read.
+use crate::settings::Settings;
+use crate::texts;
 use crate::trouble::Trouble;
 use std::alloc::{AllocError, Global};
 use std::fmt::Debug;
 
-/// The bytes that are answered. Where memory runs out, what is said is left out from then on, and `whole` tells it.
+/// The bytes that are answered, or the first trouble that came: why the line can't be played. Nothing is said behind it, and a word
+/// that can't be read is read as something all the same, so that verbs go straight on.
 #[derive(Drop)]
 pub struct Answer {
     alloc: Global,
     /// What was said; a writer may add to it.
     pub bytes: Vec<u8>,
-    /// Whether something that was said is left out.
-    is_cut: bool,
+    trouble: Option<Trouble>,
 }
 
 impl Answer {
@@ -18,16 +20,21 @@ impl Answer {
         Answer {
             alloc,
             bytes: Vec::new(alloc),
-            is_cut: false,
+            trouble: None,
         }
     }
 
-    /// All that was said; Memory where some of it is left out.
+    /// What all that is said and read is made with.
+    pub fn alloc(&self) -> Global {
+        self.alloc
+    }
+
+    /// All that was said, unless there was trouble.
     pub fn whole(&self) -> Result<&[u8], Trouble> {
-        if self.is_cut {
-            return Err(Trouble::Memory);
+        match self.trouble {
+            Some(trouble) => Err(trouble),
+            None => Ok(self.bytes.as_slice()),
         }
-        Ok(self.bytes.as_slice())
     }
 
     /// Whether nothing was said.
@@ -35,10 +42,114 @@ impl Answer {
         self.bytes.is_empty()
     }
 
+    /// The line can't be played. The first trouble counts.
+    pub fn fail(&mut self, trouble: Trouble) {
+        if self.trouble.is_none() {
+            self.trouble = Some(trouble);
+        }
+    }
+
+    /// The line can't be read: what it lacks.
+    pub fn lack(&mut self, lacks: &'static str) {
+        self.fail(Trouble::Unreadable(lacks));
+    }
+
+    /// What was read or made, unless there is trouble.
+    pub fn unless_trouble<T: Drop>(&mut self, made: Result<T, Trouble>) -> Option<T> {
+        match made {
+            Ok(value) => Some(value),
+            Err(trouble) => {
+                self.fail(trouble);
+                None
+            }
+        }
+    }
+
+    /// What was made, unless memory runs out.
+    pub fn unless_memory<T: Drop>(&mut self, made: Result<T, AllocError>) -> Option<T> {
+        match made {
+            Ok(value) => Some(value),
+            Err(_) => {
+                self.fail(Trouble::Memory);
+                None
+            }
+        }
+    }
+
+    /// The bytes that a text spells; none where there is trouble.
+    pub fn bytes_of(&mut self, text: &str) -> Vec<u8> {
+        match texts::bytes_of(self.alloc, text) {
+            Ok(bytes) => bytes,
+            Err(trouble) => {
+                self.fail(trouble);
+                Vec::new(self.alloc)
+            }
+        }
+    }
+
+    /// The text with what its signs stand for; an empty one where there is trouble.
+    pub fn expanded(&mut self, text: &str, settings: &Settings) -> String {
+        match texts::expanded(self.alloc, text, settings) {
+            Ok(text) => text,
+            Err(trouble) => {
+                self.fail(trouble);
+                String::new(self.alloc)
+            }
+        }
+    }
+
+    /// The number that a word spells, or else 0.
+    pub fn number_in(&mut self, word: &str) -> u64 {
+        match word.parse::<u64>() {
+            Ok(number) => number,
+            Err(_) => {
+                self.lack("no number");
+                0
+            }
+        }
+    }
+
+    /// The length that a word spells, or else 0.
+    pub fn length_in(&mut self, word: &str) -> usize {
+        let length = self.number_in(word);
+        usize::try_from(length).unwrap_or(usize::MAX)
+    }
+
+    /// The length that a word spells, which isn't 0, or else 1.
+    pub fn step_in(&mut self, word: &str) -> usize {
+        let step = self.length_in(word);
+        if step == 0 {
+            self.lack("no step");
+            return 1;
+        }
+        step
+    }
+
+    /// The first word, and what stands behind ` | `.
+    pub fn two_words<'a>(&mut self, rest: &'a str) -> (&'a str, &'a str) {
+        self.cut(rest, " | ", "no two words")
+    }
+
+    /// What stands before a mark and behind it, or else all before it.
+    pub fn cut<'a>(
+        &mut self,
+        rest: &'a str,
+        mark: &str,
+        lacks: &'static str,
+    ) -> (&'a str, &'a str) {
+        match rest.split_once(mark) {
+            Some(words) => words,
+            None => {
+                self.lack(lacks);
+                (rest, "")
+            }
+        }
+    }
+
     /// Answers with those bytes, behind what is answered already.
     pub fn say_bytes(&mut self, bytes: &[u8]) {
-        if self.is_cut || self.bytes.extend_from_slice(bytes).is_err() {
-            self.is_cut = true;
+        if self.trouble.is_none() && self.bytes.extend_from_slice(bytes).is_err() {
+            self.trouble = Some(Trouble::Memory);
         }
     }
 
@@ -50,7 +161,7 @@ impl Answer {
     pub fn say_made(&mut self, text: Result<String, AllocError>) {
         match text {
             Ok(text) => self.say(text.as_str()),
-            Err(_) => self.is_cut = true,
+            Err(_) => self.fail(Trouble::Memory),
         }
     }
 
