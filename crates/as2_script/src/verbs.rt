@@ -1,6 +1,6 @@
 //! All verbs of scripts, over a station and a desk.
 use crate::desk::Desk;
-use script_lines::{Answer, Settings, Trouble};
+use script_lines::{Answer, Settings};
 use script_player::{Asked, Scene};
 use script_station::{Played, Stage};
 use std::alloc::Global;
@@ -13,15 +13,10 @@ pub struct Verbs {
 }
 
 /// Answers to the verbs of texts, values and HTTP, which leave nothing; whether it is one.
-fn answer_to_values(
-    alloc: Global,
-    verb: &str,
-    rest: &str,
-    answer: &mut Answer,
-) -> Result<bool, Trouble> {
-    Ok(script_texts::answer(alloc, verb, rest, answer)?
-        || script_values::answer(alloc, verb, rest, answer)?
-        || script_http::answer(alloc, verb, rest, answer)?)
+fn answer_to_values(verb: &str, rest: &str, answer: &mut Answer) -> bool {
+    script_texts::answer(verb, rest, answer)
+        || script_values::answer(verb, rest, answer)
+        || script_http::answer(verb, rest, answer)
 }
 
 impl Verbs {
@@ -32,15 +27,26 @@ impl Verbs {
         }
     }
 
-    /// Answers to the verbs of command lines; whether it is one.
-    fn answer_at_desk(
-        &mut self,
-        verb: &str,
-        words: &str,
-        answer: &mut Answer,
-    ) -> Result<bool, Trouble> {
+    /// Names a text, or does what the verbs of the station or of command lines ask for; whether it is one.
+    fn act(&mut self, verb: &str, words: &str, answer: &mut Answer) -> bool {
+        let settings = &mut self.stage.settings;
+        let named = match verb {
+            "text" => settings.name_text(answer.alloc(), words),
+            "change" => settings.change_text(answer.alloc(), words),
+            _ => return self.answer(verb, words, answer),
+        };
+        if let Err(trouble) = named {
+            answer.fail(trouble);
+        }
+        true
+    }
+
+    /// Answers to the verbs of the station and of command lines; whether it is one.
+    fn answer(&mut self, verb: &str, words: &str, answer: &mut Answer) -> bool {
+        if script_station::answer(&mut self.stage, verb, words, answer) {
+            return true;
+        }
         let asked = Asked {
-            alloc: self.stage.alloc,
             settings: &self.stage.settings,
             verb,
             words,
@@ -54,18 +60,8 @@ impl Scene for Verbs {
         &self.stage.settings
     }
 
-    fn play(&mut self, verb: &str, rest: &str, answer: &mut Answer) -> Result<bool, Trouble> {
-        let alloc = self.stage.alloc;
-        match verb {
-            "text" => self.stage.settings.name_text(alloc, rest)?,
-            "change" => self.stage.settings.change_text(alloc, rest)?,
-            _ => {
-                return Ok(answer_to_values(alloc, verb, rest, answer)?
-                    || script_station::answer(&mut self.stage, verb, rest, answer)?
-                    || self.answer_at_desk(verb, rest, answer)?);
-            }
-        }
-        Ok(true)
+    fn play(&mut self, verb: &str, rest: &str, answer: &mut Answer) -> bool {
+        answer_to_values(verb, rest, answer) || self.act(verb, rest, answer)
     }
 
     fn end_list(&mut self, known: usize) {

@@ -2,13 +2,12 @@
 ghost use Rattle.std.specs.Prelude.{◌≡◌, false};
 
 use crate::agreements::AGREEMENTS;
-use crate::texts::{PLAIN, RECEIVED, is_said, texts};
+use crate::texts::{PLAIN, RECEIVED, event_of, is_said, texts};
 use as2_agreement::Agreements;
 use as2_exchange::{Event, StoreFault};
 use as2_restart::{close, open_at, play_then_close};
 use as2_station::{Filter, Station};
 use as2_store::Store;
-use script_station::event;
 use sqlite::{Alter, Connection, File, FileStore, Unknown};
 use std::alloc::Global;
 use std::fs;
@@ -56,7 +55,7 @@ fn is_filled<S: Alter + Drop>(alloc: Global, conn: Connection<S>) -> Result<bool
 fn takes_post<S: Alter>(alloc: Global, station: &mut Station<S>) -> Result<bool, Fail> {
     let settings = texts(alloc)?;
     let agreements = Agreements::read(alloc, AGREEMENTS)?;
-    let said = station.step(alloc, &agreements, event(alloc, &settings, PLAIN)?);
+    let said = station.step(alloc, &agreements, event_of(alloc, &settings, PLAIN)?);
     Ok(is_said(alloc, &settings, &said, RECEIVED)?)
 }
 
@@ -106,7 +105,7 @@ fn a_file_is_adopted_again_and_not_made_anew(rt: HostRuntime) -> Result<(), Fail
 fn one_post(alloc: Global) -> Result<Vec<Event>, Fail> {
     let settings = texts(alloc)?;
     let mut events = Vec::new(alloc);
-    events.push(event(alloc, &settings, PLAIN)?)?;
+    events.push(event_of(alloc, &settings, PLAIN)?)?;
     Ok(events)
 }
 

@@ -1,10 +1,11 @@
 //! The texts that events and answers name, as in scripts.
 // Expected values are the worked ones of the project's profile, and follow from its formats.
 use crate::agreements::AGREEMENTS;
-use as2_exchange::{Answer as Said, StoreFault};
+use as2_exchange::{Answer as Said, Event, StoreFault};
 use script_lines::{Answer, Settings, Trouble};
-use script_station::{Stage, say};
+use script_station::{Stage, event, say};
 use std::alloc::Global;
+use std::test::Fail;
 
 /// The plain post.
 pub const PLAIN: &str = "1000 post | abc";
@@ -91,6 +92,15 @@ pub fn stage(alloc: Global) -> Result<Stage, Trouble> {
     Ok(stage)
 }
 
+/// The event that a line spells.
+pub fn event_of(alloc: Global, settings: &Settings, line: &str) -> Result<Event, Fail> {
+    let mut answer = Answer::new(alloc);
+    match event(settings, line, &mut answer) {
+        Some(event) if answer.whole().is_ok() => Ok(event),
+        _ => Err(Fail::new("no event")),
+    }
+}
+
 /// Whether that is what is said.
 pub fn is_said(
     alloc: Global,
@@ -99,6 +109,6 @@ pub fn is_said(
     wanted: &str,
 ) -> Result<bool, Trouble> {
     let mut answer = Answer::new(alloc);
-    say(alloc, settings, &mut answer, said)?;
+    say(settings, &mut answer, said);
     Ok(answer.whole()? == wanted.as_bytes())
 }

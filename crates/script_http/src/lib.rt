@@ -6,14 +6,12 @@ mod exchanges;
 mod replies;
 mod requests;
 
-use script_lines::{Answer, Trouble};
-use std::alloc::Global;
+pub use exchanges::exchanged;
+use script_lines::Answer;
 
 /// Answers to a line; whether its verb is one of these.
-pub fn answer(alloc: Global, verb: &str, rest: &str, answer: &mut Answer) -> Result<bool, Trouble> {
-    Ok(
-        replies::answer(alloc, verb, rest, answer)?
-            || exchanges::answer(alloc, verb, rest, answer)?
-            || requests::answer(alloc, verb, rest, answer)?,
-    )
+pub fn answer(verb: &str, rest: &str, answer: &mut Answer) -> bool {
+    replies::answer(verb, rest, answer)
+        || exchanges::answer(verb, rest, answer)
+        || requests::answer(verb, rest, answer)
 }

@@ -3,122 +3,161 @@ use as2_exchange::{Bytes, HttpAnswer, HttpBody, Line};
 use as2_http::{Form, RequestFault, refusal, write_reply};
 use as2_mdn::{Outcome, ReportOut, write_report};
 use as2_text::{AsName, Domain, MessageId, Moment};
-use script_lines::{Answer, Trouble, number_in};
-use std::alloc::Global;
+use script_lines::{Answer, Trouble};
 
-/// The form of a reply that a word names.
-fn form_in(word: &str) -> Result<Form, Trouble> {
+/// The form of a reply that a word names, or else the plain one.
+fn form_in(word: &str, answer: &mut Answer) -> Form {
     let (closes, to_head) = match word {
         "plain" => (false, false),
         "closing" => (true, false),
         "to-head" => (false, true),
         "closing-to-head" => (true, true),
-        _ => return Err(Trouble::Unreadable("no such form")),
+        _ => {
+            answer.lack("no such form");
+            (false, false)
+        }
     };
-    Ok(Form { closes, to_head })
+    Form { closes, to_head }
 }
 
 /// The fault of a request that a word names.
-fn fault_in(word: &str) -> Result<RequestFault, Trouble> {
+fn fault_in(word: &str) -> Option<RequestFault> {
     match word {
-        "BadHead" => Ok(RequestFault::BadHead),
-        "TransferCoding" => Ok(RequestFault::TransferCoding),
-        "BadLength" => Ok(RequestFault::BadLength),
-        "BadChunk" => Ok(RequestFault::BadChunk),
-        "TooLarge" => Ok(RequestFault::TooLarge),
-        "NoLength" => Ok(RequestFault::NoLength),
-        _ => Err(Trouble::Unreadable("no such fault")),
+        "BadHead" => Some(RequestFault::BadHead),
+        "TransferCoding" => Some(RequestFault::TransferCoding),
+        "BadLength" => Some(RequestFault::BadLength),
+        "BadChunk" => Some(RequestFault::BadChunk),
+        "TooLarge" => Some(RequestFault::TooLarge),
+        "NoLength" => Some(RequestFault::NoLength),
+        _ => None,
     }
 }
 
-/// The line that a word names.
-fn line_in(word: &str) -> Result<Line, Trouble> {
-    match word {
-        "NoSuchPath" => Ok(Line::NoSuchPath),
-        "OnlyPost" => Ok(Line::OnlyPost),
-        _ => Err(Trouble::Unreadable("no such line")),
-    }
+/// The refusal of a request with the fault that a word names.
+fn refusal_for(word: &str, answer: &mut Answer) -> Option<HttpAnswer> {
+    let Some(fault) = fault_in(word) else {
+        answer.lack("no such fault");
+        return None;
+    };
+    Some(refusal(fault))
+}
+
+/// The answer that is the line which a word names.
+fn line_answer(word: &str, answer: &mut Answer) -> Option<HttpAnswer> {
+    let line = match word {
+        "NoSuchPath" => Line::NoSuchPath,
+        "OnlyPost" => Line::OnlyPost,
+        _ => {
+            answer.lack("no such line");
+            return None;
+        }
+    };
+    Some(line.answer())
 }
 
 /// An answer of that status without a body.
-fn empty_answer(word: &str) -> Result<HttpAnswer, Trouble> {
+fn empty_answer(word: &str, answer: &mut Answer) -> Option<HttpAnswer> {
     let Ok(status) = word.parse::<u16>() else {
-        return Err(Trouble::Unreadable("no status"));
+        answer.lack("no status");
+        return None;
     };
-    Ok(HttpAnswer {
+    Some(HttpAnswer {
         status,
         body: HttpBody::Nothing,
     })
 }
 
-/// The names of a report: `FROM TO`.
-fn names_in(words: &str) -> Option<(AsName, AsName)> {
-    let (from, to) = words.split_once(" ")?;
-    let from = AsName::parse(from.as_bytes()).ok()?;
-    let to = AsName::parse(to.as_bytes()).ok()?;
-    Some((from, to))
-}
-
 /// The report that `DOMAIN ID FROM TO` tells: the first one of the domain, of a document that couldn't be decompressed.
-fn report_in(alloc: Global, words: &str) -> Option<ReportOut> {
-    let (domain, words) = words.split_once(" ")?;
-    let (original_id, words) = words.split_once(" ")?;
-    let (from, to) = names_in(words)?;
+fn report_in(words: &str, answer: &mut Answer) -> Option<ReportOut> {
+    let (domain, words) = answer.cut(words, " ", "no report");
+    let (original_id, words) = answer.cut(words, " ", "no report");
+    let (from, to) = answer.cut(words, " ", "no report");
+    let Some(domain) = Domain::of(domain.as_bytes()) else {
+        return None;
+    };
+    let Ok(from) = AsName::parse(from.as_bytes()) else {
+        return None;
+    };
+    let Ok(to) = AsName::parse(to.as_bytes()) else {
+        return None;
+    };
+    let Ok(original_id) = MessageId::parse(answer.alloc(), original_id.as_bytes()) else {
+        return None;
+    };
     Some(ReportOut {
         number: 1,
-        domain: Domain::of(domain.as_bytes())?,
+        domain,
         from,
         to,
-        original_id: MessageId::parse(alloc, original_id.as_bytes()).ok()?,
+        original_id,
         outcome: Outcome::DecompressionFailed,
         mic: None,
     })
 }
 
 /// An answer whose body is a report.
-fn report_answer(alloc: Global, words: &str) -> Result<HttpAnswer, Trouble> {
-    let Some(out) = report_in(alloc, words) else {
-        return Err(Trouble::Unreadable("no report"));
+fn report_answer(words: &str, answer: &mut Answer) -> Option<HttpAnswer> {
+    let Some(out) = report_in(words, answer) else {
+        answer.lack("no report");
+        return None;
     };
-    let bytes = Bytes::of(write_report(alloc, &out)?);
-    Ok(HttpAnswer {
-        status: 200,
-        body: HttpBody::Report { out, bytes },
-    })
+    match write_report(answer.alloc(), &out) {
+        Ok(text) => Some(HttpAnswer {
+            status: 200,
+            body: HttpBody::Report {
+                out,
+                bytes: Bytes::of(text),
+            },
+        }),
+        Err(_) => {
+            answer.fail(Trouble::Memory);
+            None
+        }
+    }
 }
 
 /// What is to be replied: `status NUMBER`, `line NAME`, `fault NAME` or `report DOMAIN ID FROM TO`.
-fn answer_in(alloc: Global, words: &str) -> Result<HttpAnswer, Trouble> {
-    match words.split_once(" ") {
-        Some(("status", number)) => empty_answer(number),
-        Some(("line", name)) => Ok(line_in(name)?.answer()),
-        Some(("fault", name)) => Ok(refusal(fault_in(name)?)),
-        Some(("report", words)) => report_answer(alloc, words),
-        _ => Err(Trouble::Unreadable("nothing to reply")),
+fn answer_in(words: &str, answer: &mut Answer) -> Option<HttpAnswer> {
+    let (kind, words) = answer.cut(words, " ", "nothing to reply");
+    match kind {
+        "status" => empty_answer(words, answer),
+        "line" => line_answer(words, answer),
+        "fault" => refusal_for(words, answer),
+        "report" => report_answer(words, answer),
+        _ => {
+            answer.lack("nothing to reply");
+            None
+        }
+    }
+}
+
+/// Answers with the reply of that form at a moment.
+fn say_written(moment: Moment, form: Form, reply: &HttpAnswer, answer: &mut Answer) {
+    match write_reply(answer.alloc(), moment, form, reply) {
+        Ok(text) => answer.say_bytes(text.as_slice()),
+        Err(_) => answer.fail(Trouble::Memory),
     }
 }
 
 /// `SECOND | FORM | WHAT`: answers with the reply.
-fn say_reply(alloc: Global, answer: &mut Answer, row: &str) -> Result<(), Trouble> {
-    let Some((second, row)) = row.split_once(" | ") else {
-        return Err(Trouble::Unreadable("no second"));
+fn say_reply(rest: &str, answer: &mut Answer) {
+    let (second, rest) = answer.cut(rest, " | ", "no second");
+    let (form, words) = answer.cut(rest, " | ", "no form");
+    let Some(moment) = Moment::new(answer.number_in(second)) else {
+        answer.lack("no such second");
+        return;
     };
-    let Some((form, words)) = row.split_once(" | ") else {
-        return Err(Trouble::Unreadable("no form"));
-    };
-    let Some(moment) = Moment::new(number_in(second)?) else {
-        return Err(Trouble::Unreadable("no such second"));
-    };
-    let reply = write_reply(alloc, moment, form_in(form)?, &answer_in(alloc, words)?)?;
-    answer.say_bytes(reply.as_slice());
-    Ok(())
+    let form = form_in(form, answer);
+    if let Some(reply) = answer_in(words, answer) {
+        say_written(moment, form, &reply, answer);
+    }
 }
 
 /// Answers to the verb of replies over HTTP; whether it is that.
-pub fn answer(alloc: Global, verb: &str, rest: &str, answer: &mut Answer) -> Result<bool, Trouble> {
-    if verb != "write-reply" {
-        return Ok(false);
+pub fn answer(verb: &str, rest: &str, answer: &mut Answer) -> bool {
+    match verb {
+        "write-reply" => say_reply(rest, answer),
+        _ => return false,
     }
-    say_reply(alloc, answer, rest)?;
-    Ok(true)
+    true
 }

@@ -4,6 +4,7 @@ use crate::texts;
 use crate::trouble::Trouble;
 use std::alloc::{AllocError, Global};
 use std::fmt::Debug;
+use std::str;
 
 /// The bytes that are answered, or the first trouble that came: why the line can't be played. Nothing is said behind it, and a word
 /// that can't be read is read as something all the same, so that verbs go straight on.
@@ -65,8 +66,8 @@ impl Answer {
         }
     }
 
-    /// What was made, unless memory runs out.
-    pub fn unless_memory<T: Drop>(&mut self, made: Result<T, AllocError>) -> Option<T> {
+    /// What was made, unless memory runs out, which is all that can fail there.
+    pub fn unless_memory<T: Drop, F: Drop>(&mut self, made: Result<T, F>) -> Option<T> {
         match made {
             Ok(value) => Some(value),
             Err(_) => {
@@ -94,6 +95,17 @@ impl Answer {
             Err(trouble) => {
                 self.fail(trouble);
                 String::new(self.alloc)
+            }
+        }
+    }
+
+    /// The bytes as a text; an empty one where there is trouble.
+    pub fn text_of<'a>(&mut self, bytes: &'a [u8]) -> &'a str {
+        match str::from_utf8(bytes) {
+            Ok(text) => text,
+            Err(_) => {
+                self.lack("no UTF-8");
+                ""
             }
         }
     }

@@ -8,12 +8,10 @@ mod lists;
 mod settings;
 mod texts;
 mod trouble;
-mod words;
 
 pub use answer::{Answer, spelled};
 pub use lines::{Line, lines_of};
 pub use lists::{before_other, before_title, behind_or};
 pub use settings::Settings;
-pub use texts::{bytes_of, expanded, number_in, text_of};
+pub use texts::{bytes_of, expanded, number_in};
 pub use trouble::Trouble;
-pub use words::{length_in, step_in, two_words};

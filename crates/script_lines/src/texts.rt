@@ -2,7 +2,6 @@
 use crate::settings::Settings;
 use crate::trouble::Trouble;
 use std::alloc::Global;
-use std::str;
 
 /// The number that a word spells.
 pub fn number_in(word: &str) -> Result<u64, Trouble> {
@@ -130,12 +129,4 @@ pub fn bytes_of(alloc: Global, text: &str) -> Result<Vec<u8>, Trouble> {
         is_escaped = true;
     }
     Ok(bytes)
-}
-
-/// The bytes as a text.
-pub fn text_of(bytes: &[u8]) -> Result<&str, Trouble> {
-    match str::from_utf8(bytes) {
-        Ok(text) => Ok(text),
-        Err(_) => Err(Trouble::Unreadable("no UTF-8")),
-    }
 }

@@ -6,8 +6,7 @@
 //! succeed takes no byte in place of failing.
 use crate::scene::Asked;
 use crate::streams::{Calls, calls_by};
-use script_lines::{Settings, Trouble, bytes_of, number_in};
-use std::alloc::{AllocError, Global};
+use script_lines::{Answer, Settings, Trouble};
 
 /// What a command line is run over.
 #[derive(Drop)]
@@ -30,46 +29,54 @@ pub struct StreamCalls {
     pub errors: Calls,
 }
 
-fn words_of(alloc: Global, text: &str) -> Result<Vec<&str>, AllocError> {
-    let mut words = Vec::new(alloc);
-    words.push("as2desk")?;
+/// Adds an item, unless memory runs out.
+pub fn add<T: Drop>(items: &mut Vec<T>, item: T, answer: &mut Answer) {
+    if items.push(item).is_err() {
+        answer.fail(Trouble::Memory);
+    }
+}
+
+fn words_of<'a>(text: &'a str, answer: &mut Answer) -> Vec<&'a str> {
+    let mut words = Vec::new(answer.alloc());
+    add(&mut words, "as2desk", answer);
     for word in text.split_whitespace() {
-        words.push(word)?;
+        add(&mut words, word, answer);
     }
-    Ok(words)
+    words
 }
 
-fn parts_of(alloc: Global, text: &str) -> Result<Vec<Vec<u8>>, Trouble> {
-    let mut parts = Vec::new(alloc);
+fn parts_of(text: &str, answer: &mut Answer) -> Vec<Vec<u8>> {
+    let mut parts = Vec::new(answer.alloc());
     for part in text.split("||") {
-        parts.push(bytes_of(alloc, part)?)?;
+        let bytes = answer.bytes_of(part);
+        add(&mut parts, bytes, answer);
     }
-    Ok(parts)
+    parts
 }
 
-fn clock(settings: &Settings) -> Result<Option<u64>, Trouble> {
+fn clock(settings: &Settings, answer: &mut Answer) -> Option<u64> {
     match settings.text("clock") {
-        None | Some("none") => Ok(None),
-        Some(text) => Ok(Some(number_in(text)?)),
+        None | Some("none") => None,
+        Some(text) => Some(answer.number_in(text)),
     }
 }
 
-fn stream_calls(settings: &Settings) -> Result<StreamCalls, Trouble> {
-    Ok(StreamCalls {
-        reads: calls_by(settings, "bytes-a-read", "sound-reads")?,
-        writes: calls_by(settings, "bytes-a-write", "sound-writes")?,
-        errors: calls_by(settings, "", "sound-error-writes")?,
-    })
+fn stream_calls(settings: &Settings, answer: &mut Answer) -> StreamCalls {
+    StreamCalls {
+        reads: calls_by(settings, "bytes-a-read", "sound-reads", answer),
+        writes: calls_by(settings, "bytes-a-write", "sound-writes", answer),
+        errors: calls_by(settings, "", "sound-error-writes", answer),
+    }
 }
 
 /// What the texts set for the command line of these words.
-pub fn given_by<'a>(asked: &Asked<'a>) -> Result<Given<'a>, Trouble> {
+pub fn given_by<'a>(asked: &Asked<'a>, answer: &mut Answer) -> Given<'a> {
     let settings = asked.settings;
-    Ok(Given {
+    Given {
         settings,
-        words: words_of(asked.alloc, asked.words)?,
-        clock: clock(settings)?,
-        parts: parts_of(asked.alloc, settings.text("input").unwrap_or(""))?,
-        calls: stream_calls(settings)?,
-    })
+        words: words_of(asked.words, answer),
+        clock: clock(settings, answer),
+        parts: parts_of(settings.text("input").unwrap_or(""), answer),
+        calls: stream_calls(settings, answer),
+    }
 }

@@ -1,9 +1,6 @@
 //! Plays the lines of scripts.
 use crate::scene::Scene;
-use script_lines::{
-    Answer, Line, Trouble, before_other, before_title, behind_or, bytes_of, expanded, lines_of,
-    spelled,
-};
+use script_lines::{Answer, Line, before_other, before_title, behind_or, lines_of, spelled};
 use std::alloc::Global;
 use std::{io, slice};
 
@@ -46,48 +43,66 @@ impl<'a, S: Scene> Player<'a, S> {
     }
 
     /// What is answered to the line `text`.
-    fn answer(&mut self, text: &str) -> Result<Answer, Trouble> {
-        let text = expanded(self.alloc, text, self.scene.settings())?;
-        let (verb, rest) = text.as_str().split_once(" ").unwrap_or((text.as_str(), ""));
+    fn answer(&mut self, text: &str) -> Answer {
         let mut answer = Answer::new(self.alloc);
-        match self.scene.play(verb, rest, &mut answer)? {
-            true => Ok(answer),
-            false => Err(Trouble::Unreadable("no such verb")),
+        let text = answer.expanded(text, self.scene.settings());
+        let (verb, rest) = text.as_str().split_once(" ").unwrap_or((text.as_str(), ""));
+        if !self.scene.play(verb, rest, &mut answer) {
+            answer.lack("no such verb");
         }
+        answer
     }
 
-    /// Whether the answer is the one that the line says. What it says, else, and what was answered.
-    fn compare(&self, answer: &Answer, wanted: &str) -> Result<Option<String>, Trouble> {
-        let wanted = expanded(self.alloc, wanted, self.scene.settings())?;
-        let answered = answer.whole()?;
-        if bytes_of(self.alloc, wanted.as_str())?.as_slice() == answered {
-            return Ok(None);
-        }
+    /// The answer that a line says.
+    fn wanted(&self, text: &str) -> Answer {
+        let mut wanted = Answer::new(self.alloc);
+        let text = wanted.expanded(text, self.scene.settings());
+        let bytes = wanted.bytes_of(text.as_str());
+        wanted.say_bytes(bytes.as_slice());
+        wanted
+    }
+
+    /// Tells of a line that it was answered otherwise, and how.
+    fn tell_difference(
+        &mut self,
+        path: &str,
+        line: usize,
+        wanted: &[u8],
+        answered: &[u8],
+    ) -> io::Result<()> {
+        let wanted = spelled(self.alloc, wanted)?;
         let answered = spelled(self.alloc, answered)?;
-        Ok(Some(format!(in self.alloc; "wanted {wanted}, answered {answered}")?))
+        self.differ = self.differ.saturating_add(1);
+        println!(self.rt; "{path}:{line}: wanted {wanted}, answered {answered}")
     }
 
-    /// Plays a line; how it was answered otherwise, if it was.
-    fn differs(&mut self, text: &str) -> Result<Option<String>, Trouble> {
-        let (text, wanted) = match text.split_once(" => ") {
-            Some((text, wanted)) => (text, wanted),
-            None => (text.strip_suffix(" =>").unwrap_or(text), ""),
-        };
-        let answer = self.answer(text)?;
-        self.compare(&answer, wanted)
+    /// Compares what was answered with what the line says.
+    fn compare(
+        &mut self,
+        path: &str,
+        line: usize,
+        wanted: &Answer,
+        answer: &Answer,
+    ) -> io::Result<()> {
+        match (answer.whole(), wanted.whole()) {
+            (Err(trouble), _) | (_, Err(trouble)) => self.tell(path, line, trouble.text()),
+            (Ok(answered), Ok(wanted)) if answered == wanted => Ok(()),
+            (Ok(answered), Ok(wanted)) => self.tell_difference(path, line, wanted, answered),
+        }
     }
 
     /// Plays the line `text`.
     fn play_line(&mut self, path: &str, number: usize, text: &str) -> io::Result<()> {
-        match self.differs(text) {
-            Ok(None) => {}
-            Ok(Some(what)) => self.tell(path, number, what.as_str())?,
-            Err(trouble) => self.tell(path, number, trouble.text())?,
-        }
+        let (asked, wanted) = match text.split_once(" => ") {
+            Some((asked, wanted)) => (asked, wanted),
+            None => (text.strip_suffix(" =>").unwrap_or(text), ""),
+        };
         if text.contains(" =>") {
             self.rows = self.rows.saturating_add(1);
         }
-        Ok(())
+        let answer = self.answer(asked);
+        let wanted = self.wanted(wanted);
+        self.compare(path, number, &wanted, &answer)
     }
 
     /// Plays lines in turn, each without the `or` that it may begin with.

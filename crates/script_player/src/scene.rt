@@ -1,13 +1,12 @@
 //! What scripts are played over.
 use crate::ended::Ended;
 use crate::given::Given;
-use script_lines::{Answer, Settings, Trouble};
+use script_lines::{Answer, Settings};
 use std::alloc::Global;
 
-/// A line that is played: its verb, the words behind that, and what they are read with.
+/// A line that is played: its verb, the words behind that, and the texts that have names.
 #[derive(Clone, Copy)]
 pub struct Asked<'a> {
-    pub alloc: Global,
     pub settings: &'a Settings,
     pub verb: &'a str,
     pub words: &'a str,
@@ -19,7 +18,7 @@ pub trait Scene {
     fn settings(&self) -> &Settings;
 
     /// Does what a line asks for, and answers to it; whether there is such a verb.
-    fn play(&mut self, verb: &str, rest: &str, answer: &mut Answer) -> Result<bool, Trouble>;
+    fn play(&mut self, verb: &str, rest: &str, answer: &mut Answer) -> bool;
 
     /// Ends a list: only the first `known` texts keep their names, and the next list begins anew.
     fn end_list(&mut self, known: usize);

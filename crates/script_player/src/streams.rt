@@ -1,5 +1,5 @@
 //! Standard input, output and error in memory, which may be broken.
-use script_lines::{Settings, Trouble, number_in};
+use script_lines::{Answer, Settings};
 use std::alloc::Global;
 use std::cmp::min;
 use std::io::{Error, ErrorKind, Read, Result as IoResult, Write};
@@ -27,20 +27,20 @@ impl Calls {
 }
 
 /// The number of that text, or no limit.
-fn limit(settings: &Settings, name: &str) -> Result<usize, Trouble> {
-    let Some(text) = settings.text(name) else {
-        return Ok(usize::MAX);
-    };
-    Ok(usize::try_from(number_in(text)?).unwrap_or(usize::MAX))
+fn limit(settings: &Settings, name: &str, answer: &mut Answer) -> usize {
+    match settings.text(name) {
+        Some(text) => answer.length_in(text),
+        None => usize::MAX,
+    }
 }
 
 /// How calls go, by the texts that tell how many bytes one gives or takes, and how many succeed.
-pub fn calls_by(settings: &Settings, most: &str, sound: &str) -> Result<Calls, Trouble> {
-    Ok(Calls {
-        most: limit(settings, most)?,
-        sound: limit(settings, sound)?,
+pub fn calls_by(settings: &Settings, most: &str, sound: &str, answer: &mut Answer) -> Calls {
+    Calls {
+        most: limit(settings, most, answer),
+        sound: limit(settings, sound, answer),
         is_stuck: settings.text("stuck").is_some(),
-    })
+    }
 }
 
 /// A stream in parts: no read gives bytes of two of them.

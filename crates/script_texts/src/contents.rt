@@ -1,40 +1,43 @@
 //! Contents that are kept in pieces.
+use crate::told::say_told;
 use as2_mic::{Alg, Pieces, mic_of_pieces};
-use script_lines::{Answer, Trouble, bytes_of, length_in, step_in, two_words};
-use std::alloc::Global;
+use script_lines::{Answer, Trouble};
 
 /// Bytes that repeat after 251: 0, 1, .. 250, 0, ..
-fn sample(alloc: Global, length: usize) -> Result<Vec<u8>, Trouble> {
-    let mut bytes = Vec::new(alloc);
+fn sample(length: usize, answer: &mut Answer) -> Vec<u8> {
+    let mut bytes = Vec::new(answer.alloc());
     let mut next = 0u8;
     for _ in 0..length {
-        bytes.push(next)?;
+        if bytes.push(next).is_err() {
+            answer.fail(Trouble::Memory);
+            break;
+        }
         next = if next >= 250 {
             0
         } else {
             next.saturating_add(1)
         };
     }
-    Ok(bytes)
+    bytes
 }
 
 /// The content that a line spells: `sample LENGTH`, or the bytes themselves.
-pub fn content_of(alloc: Global, text: &str) -> Result<Vec<u8>, Trouble> {
+pub fn content_of(text: &str, answer: &mut Answer) -> Vec<u8> {
     match text.strip_prefix("sample ") {
-        Some(length) => sample(alloc, length_in(length)?),
-        None => bytes_of(alloc, text),
+        Some(length) => sample(answer.length_in(length), answer),
+        None => answer.bytes_of(text),
     }
 }
 
 /// The content, appended in steps of that many bytes.
-pub fn in_steps(alloc: Global, content: &[u8], step: usize) -> Result<Pieces, Trouble> {
-    let mut pieces = Pieces::new(alloc);
+pub fn in_steps(content: &[u8], step: usize, answer: &mut Answer) -> Pieces {
+    let mut pieces = Pieces::new(answer.alloc());
     if step > 0 {
         for part in content.chunks(step) {
-            pieces.append(part)?;
+            answer.unless_memory(pieces.append(part));
         }
     }
-    Ok(pieces)
+    pieces
 }
 
 /// How many bytes the last piece has: none where there is no piece.
@@ -45,78 +48,87 @@ fn length_of_last(pieces: &Pieces) -> usize {
     }
 }
 
-/// What is kept of a content in pieces.
-fn kept_told(alloc: Global, pieces: &Pieces) -> Result<String, Trouble> {
+/// Answers with what is kept of a content in pieces.
+fn say_kept(pieces: &Pieces, answer: &mut Answer) {
+    let alloc = answer.alloc();
     let (length, count, last) = (pieces.len(), pieces.count(), length_of_last(pieces));
-    let sha1 = mic_of_pieces(Alg::Sha1, pieces);
-    let md5 = mic_of_pieces(Alg::Md5, pieces);
-    let mut told = format!(in alloc; "bytes {length}, pieces {count}, last {last}, ")?;
-    told.push_str(str::from_utf8(sha1.bytes()).unwrap_or("no text"))?;
-    told.push_str(", ")?;
-    told.push_str(str::from_utf8(md5.bytes()).unwrap_or("no text"))?;
+    answer.say_made(format!(in alloc; "bytes {length}, pieces {count}, last {last}, "));
+    answer.say_bytes(mic_of_pieces(Alg::Sha1, pieces).bytes());
+    answer.say(", ");
+    answer.say_bytes(mic_of_pieces(Alg::Md5, pieces).bytes());
     if pieces.piece(count).is_some() {
-        told.push_str(", and more")?;
+        answer.say(", and more");
     }
-    Ok(told)
+}
+
+/// Answers with what is kept of a content that is appended in steps of that length, and where its pieces join to something else.
+fn say_kept_in_steps(content: &[u8], step: &str, answer: &mut Answer) {
+    let step = answer.step_in(step);
+    let pieces = in_steps(content, step, answer);
+    let mut told = Answer::new(answer.alloc());
+    say_kept(&pieces, &mut told);
+    say_told(answer, &told);
+    match pieces.joined() {
+        Ok(joined) if joined.as_slice() == content => {}
+        Ok(_) => answer.say(", joined otherwise"),
+        Err(_) => answer.fail(Trouble::Memory),
+    }
 }
 
 /// `keep-content STEP .. | CONTENT`: what is kept of a content that is appended in such steps: how many bytes and pieces, and how many
 /// bytes in the last of these, and its MICs by SHA-1 and by MD5.
-fn keep_content(alloc: Global, rest: &str, answer: &mut Answer) -> Result<(), Trouble> {
-    let (steps, content) = two_words(rest)?;
-    let content = content_of(alloc, content)?;
+fn keep_content(rest: &str, answer: &mut Answer) {
+    let (steps, content) = answer.two_words(rest);
+    let content = content_of(content, answer);
     for step in steps.split(" ") {
-        let pieces = in_steps(alloc, content.as_slice(), step_in(step)?)?;
-        answer.say_same(kept_told(alloc, &pieces)?.as_bytes());
-        if pieces.joined()?.as_slice() != content.as_slice() {
-            answer.say(", joined otherwise");
-        }
+        say_kept_in_steps(content.as_slice(), step, answer);
     }
-    Ok(())
 }
 
 /// The content behind a step, appended in such steps.
-fn stepped(alloc: Global, words: &str) -> Result<Pieces, Trouble> {
-    let Some((step, content)) = words.split_once(" ") else {
-        return Err(Trouble::Unreadable("no step and content"));
-    };
-    let content = content_of(alloc, content)?;
-    in_steps(alloc, content.as_slice(), step_in(step)?)
+fn stepped(words: &str, answer: &mut Answer) -> Pieces {
+    let (step, content) = answer.cut(words, " ", "no step and content");
+    let content = content_of(content, answer);
+    let step = answer.step_in(step);
+    in_steps(content.as_slice(), step, answer)
 }
 
 /// `same-contents STEP CONTENT | STEP CONTENT`: whether two contents, each appended in its steps, are the same, asked of each.
-fn same_contents(alloc: Global, rest: &str, answer: &mut Answer) -> Result<(), Trouble> {
-    let (left, right) = two_words(rest)?;
-    let left = stepped(alloc, left)?;
-    let right = stepped(alloc, right)?;
+fn same_contents(rest: &str, answer: &mut Answer) {
+    let (left, right) = answer.two_words(rest);
+    let left = stepped(left, answer);
+    let right = stepped(right, answer);
     for is_same in [left.same_bytes(&right), right.same_bytes(&left)] {
         answer.say_same(if is_same { b"yes" } else { b"no" });
     }
-    Ok(())
+}
+
+/// Appends more to a content, and answers with how many bytes there are then; with what is kept, where the memory isn't there.
+fn say_appended(pieces: &mut Pieces, more: &[u8], answer: &mut Answer) {
+    let alloc = answer.alloc();
+    match pieces.append(more) {
+        Ok(()) => answer.say_made(format!(in alloc; "bytes {}", pieces.len())),
+        Err(_) => say_kept(pieces, answer),
+    }
 }
 
 /// `append-content CONTENT | CONTENT`: how many bytes there are once the second is appended to the first; what is kept, where the
 /// memory for that isn't there.
-fn append_content(alloc: Global, rest: &str, answer: &mut Answer) -> Result<(), Trouble> {
-    let (first, second) = two_words(rest)?;
-    let first = content_of(alloc, first)?;
-    let second = content_of(alloc, second)?;
-    let mut pieces = in_steps(alloc, first.as_slice(), first.len())?;
-    let told = match pieces.append(second.as_slice()) {
-        Ok(()) => format!(in alloc; "bytes {}", pieces.len())?,
-        Err(_) => kept_told(alloc, &pieces)?,
-    };
-    answer.say(told.as_str());
-    Ok(())
+fn append_content(rest: &str, answer: &mut Answer) {
+    let (first, second) = answer.two_words(rest);
+    let first = content_of(first, answer);
+    let second = content_of(second, answer);
+    let mut pieces = in_steps(first.as_slice(), first.len(), answer);
+    say_appended(&mut pieces, second.as_slice(), answer);
 }
 
 /// Answers to the verbs of contents; whether it is one.
-pub fn answer(alloc: Global, verb: &str, rest: &str, answer: &mut Answer) -> Result<bool, Trouble> {
+pub fn answer(verb: &str, rest: &str, answer: &mut Answer) -> bool {
     match verb {
-        "keep-content" => keep_content(alloc, rest, answer)?,
-        "same-contents" => same_contents(alloc, rest, answer)?,
-        "append-content" => append_content(alloc, rest, answer)?,
-        _ => return Ok(false),
+        "keep-content" => keep_content(rest, answer),
+        "same-contents" => same_contents(rest, answer),
+        "append-content" => append_content(rest, answer),
+        _ => return false,
     }
-    Ok(true)
+    true
 }

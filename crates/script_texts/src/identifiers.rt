@@ -1,15 +1,19 @@
 //! Message identifiers as they are read and compared.
 use as2_names::{IdFault, MessageId, is_identifier, without_blanks};
-use script_lines::{Answer, Trouble, bytes_of, two_words};
-use std::alloc::Global;
+use script_lines::{Answer, Trouble};
 
 /// The identifier that a text spells, which must be one.
-fn identifier_in(alloc: Global, text: &str) -> Result<MessageId, Trouble> {
-    let text = bytes_of(alloc, text)?;
-    match MessageId::parse(alloc, text.as_slice()) {
-        Ok(id) => Ok(id),
-        Err(IdFault::Memory) => Err(Trouble::Memory),
-        Err(_) => Err(Trouble::Unreadable("no identifier")),
+fn identifier_in(text: &str, answer: &mut Answer) -> Option<MessageId> {
+    let text = answer.bytes_of(text);
+    match MessageId::parse(answer.alloc(), text.as_slice()) {
+        Ok(id) => Some(id),
+        Err(fault) => {
+            answer.fail(match fault {
+                IdFault::Memory => Trouble::Memory,
+                _ => Trouble::Unreadable("no identifier"),
+            });
+            None
+        }
     }
 }
 
@@ -21,54 +25,56 @@ fn say_identifier(answer: &mut Answer, id: &MessageId) {
 }
 
 /// `read-identifier TEXT`: the identifier that a field holds and its value, or why it holds none.
-fn read_identifier(alloc: Global, rest: &str, answer: &mut Answer) -> Result<(), Trouble> {
-    let text = bytes_of(alloc, rest)?;
-    match MessageId::parse(alloc, text.as_slice()) {
+fn read_identifier(rest: &str, answer: &mut Answer) {
+    let text = answer.bytes_of(rest);
+    match MessageId::parse(answer.alloc(), text.as_slice()) {
         Ok(id) => say_identifier(answer, &id),
         Err(fault) => answer.say_fault(&fault),
     }
-    Ok(())
 }
 
 /// `copy-identifier TEXT`: the copy of an identifier.
-fn copy_identifier(alloc: Global, rest: &str, answer: &mut Answer) -> Result<(), Trouble> {
-    let copy = identifier_in(alloc, rest)?.clone()?;
-    answer.say(copy.as_received());
-    Ok(())
+fn copy_identifier(rest: &str, answer: &mut Answer) {
+    let Some(id) = identifier_in(rest, answer) else {
+        return;
+    };
+    match id.clone() {
+        Ok(copy) => answer.say(copy.as_received()),
+        Err(_) => answer.fail(Trouble::Memory),
+    }
 }
 
 /// `same-identifier TEXT | TEXT`: whether two identifiers have one value.
-fn same_identifier(alloc: Global, rest: &str, answer: &mut Answer) -> Result<(), Trouble> {
-    let (left, right) = two_words(rest)?;
-    let left = identifier_in(alloc, left)?;
-    let right = identifier_in(alloc, right)?;
-    answer.say_whether(left.same_value(&right));
-    Ok(())
+fn same_identifier(rest: &str, answer: &mut Answer) {
+    let (left, right) = answer.two_words(rest);
+    let left = identifier_in(left, answer);
+    let right = identifier_in(right, answer);
+    if let (Some(left), Some(right)) = (&left, &right) {
+        answer.say_whether(left.same_value(right));
+    }
 }
 
 /// `is-identifier TEXT`: whether a text is an identifier as it stands.
-fn is_one(alloc: Global, rest: &str, answer: &mut Answer) -> Result<(), Trouble> {
-    let text = bytes_of(alloc, rest)?;
+fn is_one(rest: &str, answer: &mut Answer) {
+    let text = answer.bytes_of(rest);
     answer.say_whether(is_identifier(text.as_slice()));
-    Ok(())
 }
 
 /// `without-blanks TEXT`: the text without the blanks at its ends.
-fn bare(alloc: Global, rest: &str, answer: &mut Answer) -> Result<(), Trouble> {
-    let text = bytes_of(alloc, rest)?;
+fn bare(rest: &str, answer: &mut Answer) {
+    let text = answer.bytes_of(rest);
     answer.say_bytes(without_blanks(text.as_slice()));
-    Ok(())
 }
 
 /// Answers to the verbs of identifiers; whether it is one.
-pub fn answer(alloc: Global, verb: &str, rest: &str, answer: &mut Answer) -> Result<bool, Trouble> {
+pub fn answer(verb: &str, rest: &str, answer: &mut Answer) -> bool {
     match verb {
-        "read-identifier" => read_identifier(alloc, rest, answer)?,
-        "copy-identifier" => copy_identifier(alloc, rest, answer)?,
-        "same-identifier" => same_identifier(alloc, rest, answer)?,
-        "is-identifier" => is_one(alloc, rest, answer)?,
-        "without-blanks" => bare(alloc, rest, answer)?,
-        _ => return Ok(false),
+        "read-identifier" => read_identifier(rest, answer),
+        "copy-identifier" => copy_identifier(rest, answer),
+        "same-identifier" => same_identifier(rest, answer),
+        "is-identifier" => is_one(rest, answer),
+        "without-blanks" => bare(rest, answer),
+        _ => return false,
     }
-    Ok(true)
+    true
 }

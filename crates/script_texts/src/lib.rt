@@ -11,33 +11,29 @@ mod moments;
 mod names;
 mod parts;
 mod requests;
+mod told;
 
-use script_lines::{Answer, Trouble};
-use std::alloc::Global;
+use script_lines::Answer;
 
 /// Answers to the verbs of names, heads and media types; whether it is one.
-fn of_heads(alloc: Global, verb: &str, rest: &str, answer: &mut Answer) -> Result<bool, Trouble> {
-    Ok(
-        names::answer(alloc, verb, rest, answer)?
-            || identifiers::answer(alloc, verb, rest, answer)?
-            || moments::answer(alloc, verb, rest, answer)?
-            || heads::answer(alloc, verb, rest, answer)?
-            || media::answer(alloc, verb, rest, answer)?,
-    )
+fn of_heads(verb: &str, rest: &str, answer: &mut Answer) -> bool {
+    names::answer(verb, rest, answer)
+        || identifiers::answer(verb, rest, answer)
+        || moments::answer(verb, rest, answer)
+        || heads::answer(verb, rest, answer)
+        || media::answer(verb, rest, answer)
 }
 
 /// Answers to the verbs of bodies, requests and contents; whether it is one.
-fn of_bodies(alloc: Global, verb: &str, rest: &str, answer: &mut Answer) -> Result<bool, Trouble> {
-    Ok(
-        parts::answer(alloc, verb, rest, answer)?
-            || requests::answer(alloc, verb, rest, answer)?
-            || mics::answer(alloc, verb, rest, answer)?
-            || contents::answer(alloc, verb, rest, answer)?
-            || framing::answer(alloc, verb, rest, answer)?,
-    )
+fn of_bodies(verb: &str, rest: &str, answer: &mut Answer) -> bool {
+    parts::answer(verb, rest, answer)
+        || requests::answer(verb, rest, answer)
+        || mics::answer(verb, rest, answer)
+        || contents::answer(verb, rest, answer)
+        || framing::answer(verb, rest, answer)
 }
 
 /// Answers to a line; whether its verb is one of these.
-pub fn answer(alloc: Global, verb: &str, rest: &str, answer: &mut Answer) -> Result<bool, Trouble> {
-    Ok(of_heads(alloc, verb, rest, answer)? || of_bodies(alloc, verb, rest, answer)?)
+pub fn answer(verb: &str, rest: &str, answer: &mut Answer) -> bool {
+    of_heads(verb, rest, answer) || of_bodies(verb, rest, answer)
 }

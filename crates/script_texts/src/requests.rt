@@ -1,12 +1,11 @@
 //! Addresses, and what heads ask of receipts.
 use crate::heads::head_of;
 use as2_text::{How, ReceiptAsk, Url};
-use script_lines::{Answer, Trouble, bytes_of};
-use std::alloc::Global;
+use script_lines::Answer;
 
 /// `read-url TEXT`: the host with its port, and the target, that an address says.
-fn read_url(alloc: Global, rest: &str, answer: &mut Answer) -> Result<(), Trouble> {
-    let text = bytes_of(alloc, rest)?;
+fn read_url(rest: &str, answer: &mut Answer) {
+    let text = answer.bytes_of(rest);
     match Url::parse(text.as_slice()) {
         Some(url) => {
             answer.say_bytes(url.authority());
@@ -15,7 +14,6 @@ fn read_url(alloc: Global, rest: &str, answer: &mut Answer) -> Result<(), Troubl
         }
         None => answer.say("nothing"),
     }
-    Ok(())
 }
 
 /// Answers with how a receipt is to come.
@@ -48,21 +46,20 @@ fn say_ask(answer: &mut Answer, ask: &ReceiptAsk<'_>) {
 
 /// `read-ask FIELD ..`: what a head asks of the receipt: how it is to come, the digests that are listed, and whether one of these or
 /// anything else is required.
-fn read_ask(alloc: Global, rest: &str, answer: &mut Answer) -> Result<(), Trouble> {
-    let head = head_of(alloc, rest)?;
+fn read_ask(rest: &str, answer: &mut Answer) {
+    let head = head_of(rest, answer);
     match ReceiptAsk::read(&head) {
         Ok(ask) => say_ask(answer, &ask),
         Err(fault) => answer.say_fault(&fault),
     }
-    Ok(())
 }
 
 /// Answers to the verbs of requests; whether it is one.
-pub fn answer(alloc: Global, verb: &str, rest: &str, answer: &mut Answer) -> Result<bool, Trouble> {
+pub fn answer(verb: &str, rest: &str, answer: &mut Answer) -> bool {
     match verb {
-        "read-url" => read_url(alloc, rest, answer)?,
-        "read-ask" => read_ask(alloc, rest, answer)?,
-        _ => return Ok(false),
+        "read-url" => read_url(rest, answer),
+        "read-ask" => read_ask(rest, answer),
+        _ => return false,
     }
-    Ok(true)
+    true
 }

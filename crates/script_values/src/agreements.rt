@@ -1,9 +1,8 @@
 //! Agreements as they are read: their values and members, and the first fault.
+use crate::arguments::value_in;
 use as2_agreement::{AgreementFault, Agreements, Key, Organization, Partner};
 use as2_text::AsName;
-use script_lines::{Answer, Trouble, bytes_of};
-use std::alloc::Global;
-use std::str;
+use script_lines::Answer;
 
 /// A fault of each kind, with a key where the kind has one.
 static FAULTS: &[AgreementFault] = &[
@@ -35,59 +34,65 @@ static KEYS: &[Key] = &[
 ];
 
 /// The agreements that a text spells, or their first fault.
-fn read(alloc: Global, text: &str) -> Result<Result<Agreements, AgreementFault>, Trouble> {
-    let bytes = bytes_of(alloc, text)?;
-    match str::from_utf8(bytes.as_slice()) {
-        Ok(text) => Ok(Agreements::read(alloc, text)),
-        Err(_) => Err(Trouble::Unreadable("no UTF-8")),
-    }
+fn read(text: &str, answer: &mut Answer) -> Result<Agreements, AgreementFault> {
+    let bytes = answer.bytes_of(text);
+    let text = answer.text_of(bytes.as_slice());
+    Agreements::read(answer.alloc(), text)
 }
 
 /// Agreements that have no fault.
-fn agreed(alloc: Global, text: &str) -> Result<Agreements, Trouble> {
-    match read(alloc, text)? {
-        Ok(agreements) => Ok(agreements),
-        Err(_) => Err(Trouble::Unreadable("no agreements")),
+fn agreed(text: &str, answer: &mut Answer) -> Option<Agreements> {
+    match read(text, answer) {
+        Ok(agreements) => Some(agreements),
+        Err(_) => {
+            answer.lack("no agreements");
+            None
+        }
     }
 }
 
 /// Answers how many organizations and partners there are.
-fn say_counts(alloc: Global, answer: &mut Answer, agreements: &Agreements) {
+fn say_counts(answer: &mut Answer, agreements: &Agreements) {
     let (organizations, partners) = agreements.counts();
-    answer.say_made(format!(in alloc; "{organizations}, {partners}"));
+    answer.say_number(organizations);
+    answer.say(", ");
+    answer.say_number(partners);
 }
 
-fn say_read(alloc: Global, text: &str, answer: &mut Answer) -> Result<(), Trouble> {
-    match read(alloc, text)? {
-        Ok(agreements) => say_counts(alloc, answer, &agreements),
-        Err(fault) => {
-            answer.say_made(format!(in alloc; "fault {fault:?}"));
-        }
+/// Answers how many members a text's agreements have, or with the first fault.
+fn say_read(text: &str, answer: &mut Answer) {
+    match read(text, answer) {
+        Ok(agreements) => say_counts(answer, &agreements),
+        Err(fault) => answer.say_fault(&fault),
     }
-    Ok(())
 }
 
 /// Answers with the domain, and the address for receipts.
-fn say_values(alloc: Global, text: &str, answer: &mut Answer) -> Result<(), Trouble> {
-    let agreements = agreed(alloc, text)?;
+fn say_station(answer: &mut Answer, agreements: &Agreements) {
     answer.say_bytes(agreements.domain().bytes());
     answer.say(", ");
     match agreements.return_url() {
         Some(url) => answer.say(url.as_str()),
         None => answer.say("nothing"),
     }
-    Ok(())
 }
 
-/// A name, and the text behind ` | `.
-fn name_and_text(alloc: Global, rest: &str) -> Result<(AsName, &str), Trouble> {
-    let Some((name, text)) = rest.split_once(" | ") else {
-        return Err(Trouble::Unreadable("no text"));
-    };
-    let name = bytes_of(alloc, name)?;
+/// `read-values TEXT`: the domain, and the address for receipts.
+fn say_values(text: &str, answer: &mut Answer) {
+    if let Some(agreements) = agreed(text, answer) {
+        say_station(answer, &agreements);
+    }
+}
+
+/// The name that a word spells.
+fn name_in(word: &str, answer: &mut Answer) -> Option<AsName> {
+    let name = answer.bytes_of(word);
     match AsName::plain(name.as_slice()) {
-        Ok(name) => Ok((name, text)),
-        Err(_) => Err(Trouble::Unreadable("no name")),
+        Ok(name) => Some(name),
+        Err(_) => {
+            answer.lack("no name");
+            None
+        }
     }
 }
 
@@ -98,46 +103,61 @@ fn say_organization(answer: &mut Answer, organization: Option<&Organization>) {
     }
 }
 
-/// A partner's terms: the way of its receipts, their digest, the content type, and three numbers.
-fn terms(alloc: Global, partner: &Partner) -> Result<String, Trouble> {
-    let url = partner.url.as_str();
-    let content_type = partner.content_type.as_str();
-    let asked = format!(in alloc; "{url}, {:?}, {:?}", partner.receipt, partner.digest)?;
-    let (tries, retry) = (partner.max_tries, partner.retry_seconds);
-    let overdue = partner.overdue_seconds;
-    Ok(format!(in alloc; "{asked}, {content_type}, {tries}, {retry}, {overdue}")?)
+/// Answers with a partner's terms: the way of its receipts, their digest, the content type, and three numbers.
+fn say_terms(answer: &mut Answer, partner: &Partner) {
+    answer.say(partner.url.as_str());
+    answer.say(", ");
+    answer.say_name(&partner.receipt);
+    answer.say(", ");
+    answer.say_name(&partner.digest);
+    answer.say(", ");
+    answer.say(partner.content_type.as_str());
+    answer.say(", ");
+    answer.say_number(partner.max_tries);
+    answer.say(", ");
+    answer.say_number(partner.retry_seconds);
+    answer.say(", ");
+    answer.say_number(partner.overdue_seconds);
 }
 
-fn say_partner(
-    alloc: Global,
-    answer: &mut Answer,
-    partner: Option<&Partner>,
-) -> Result<(), Trouble> {
-    let Some(partner) = partner else {
-        answer.say("nothing");
-        return Ok(());
-    };
-    answer.say_bytes(partner.name.bytes());
-    answer.say(", ");
-    answer.say(terms(alloc, partner)?.as_str());
-    Ok(())
+fn say_partner(answer: &mut Answer, partner: Option<&Partner>) {
+    match partner {
+        Some(partner) => {
+            answer.say_bytes(partner.name.bytes());
+            answer.say(", ");
+            say_terms(answer, partner);
+        }
+        None => answer.say("nothing"),
+    }
 }
 
 /// Answers with the organization of a name.
-fn find_organization(alloc: Global, rest: &str, answer: &mut Answer) -> Result<(), Trouble> {
-    let (name, text) = name_and_text(alloc, rest)?;
-    say_organization(answer, agreed(alloc, text)?.organization(&name));
-    Ok(())
+fn find_organization(rest: &str, answer: &mut Answer) {
+    let (name, text) = answer.cut(rest, " | ", "no text");
+    let Some(name) = name_in(name, answer) else {
+        return;
+    };
+    if let Some(agreements) = agreed(text, answer) {
+        say_organization(answer, agreements.organization(&name));
+    }
 }
 
 /// Answers with the partner of a name, and its terms.
-fn find_partner(alloc: Global, rest: &str, answer: &mut Answer) -> Result<(), Trouble> {
-    let (name, text) = name_and_text(alloc, rest)?;
-    say_partner(alloc, answer, agreed(alloc, text)?.partner(&name))
+fn find_partner(rest: &str, answer: &mut Answer) {
+    let (name, text) = answer.cut(rest, " | ", "no text");
+    let Some(name) = name_in(name, answer) else {
+        return;
+    };
+    if let Some(agreements) = agreed(text, answer) {
+        say_partner(answer, agreements.partner(&name));
+    }
 }
 
-/// Answers with the word of a fault, and the key that it names.
-fn say_fault(answer: &mut Answer, fault: AgreementFault) {
+/// Answers with the words of the fault that is spelled so in a script: its word, and the key that it names.
+fn word_fault(word: &str, answer: &mut Answer) {
+    let Some(fault) = value_in(word, FAULTS, "no such fault", answer) else {
+        return;
+    };
     answer.say(fault.name());
     if let Some(key) = fault.key() {
         answer.say(" ");
@@ -145,38 +165,24 @@ fn say_fault(answer: &mut Answer, fault: AgreementFault) {
     }
 }
 
-/// Answers with the words of the fault that is spelled so in a script.
-fn word_fault(alloc: Global, word: &str, answer: &mut Answer) -> Result<(), Trouble> {
-    for fault in FAULTS {
-        if format!(in alloc; "{fault:?}")?.as_str() == word {
-            say_fault(answer, *fault);
-            return Ok(());
-        }
-    }
-    Err(Trouble::Unreadable("no such fault"))
-}
-
 /// Answers with a key as a file spells it, and as it is printed.
-fn spell_key(alloc: Global, word: &str, answer: &mut Answer) -> Result<(), Trouble> {
-    for key in KEYS {
-        if format!(in alloc; "{key:?}")?.as_str() == word {
-            answer.say_made(format!(in alloc; "{}, printed {key}", key.name()));
-            return Ok(());
-        }
+fn spell_key(word: &str, answer: &mut Answer) {
+    if let Some(key) = value_in(word, KEYS, "no such key", answer) {
+        answer.say(key.name());
+        answer.say_made(format!(in answer.alloc(); ", printed {key}"));
     }
-    Err(Trouble::Unreadable("no such key"))
 }
 
 /// Answers to the verbs of agreements; whether it is one.
-pub fn answer(alloc: Global, verb: &str, rest: &str, answer: &mut Answer) -> Result<bool, Trouble> {
+pub fn answer(verb: &str, rest: &str, answer: &mut Answer) -> bool {
     match verb {
-        "read-agreements" => say_read(alloc, rest, answer)?,
-        "read-values" => say_values(alloc, rest, answer)?,
-        "find-organization" => find_organization(alloc, rest, answer)?,
-        "find-partner" => find_partner(alloc, rest, answer)?,
-        "word-fault" => word_fault(alloc, rest, answer)?,
-        "spell-key" => spell_key(alloc, rest, answer)?,
-        _ => return Ok(false),
+        "read-agreements" => say_read(rest, answer),
+        "read-values" => say_values(rest, answer),
+        "find-organization" => find_organization(rest, answer),
+        "find-partner" => find_partner(rest, answer),
+        "word-fault" => word_fault(rest, answer),
+        "spell-key" => spell_key(rest, answer),
+        _ => return false,
     }
-    Ok(true)
+    true
 }

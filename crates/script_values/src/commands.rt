@@ -1,24 +1,38 @@
 //! Command lines.
+use crate::arguments::{Arguments, parts_of};
 use as2_commands::{Command, Filter, FirstNumber, Options, Serving, Submission, Task, options_in};
 use clap::Error;
-use script_lines::{Answer, Trouble, bytes_of, number_in};
-use std::alloc::Global;
+use script_lines::Answer;
 
 /// The text that a word spells.
-fn text_in(alloc: Global, word: &str) -> Result<String, Trouble> {
-    match String::from_utf8(bytes_of(alloc, word)?) {
-        Ok(text) => Ok(text),
-        Err(_) => Err(Trouble::Unreadable("no text")),
+fn text_in(word: &str, answer: &mut Answer) -> String {
+    match String::from_utf8(answer.bytes_of(word)) {
+        Ok(text) => text,
+        Err(_) => {
+            answer.lack("no text");
+            String::new(answer.alloc())
+        }
     }
 }
 
 /// The texts of the words of a command line, which blanks part; a blank in a word is spelled `\s`.
-fn texts_in(alloc: Global, line: &str) -> Result<Vec<String>, Trouble> {
-    let mut texts = Vec::new(alloc);
-    for word in line.split(" ") {
-        texts.push(text_in(alloc, word)?)?;
+fn texts_in(line: &str, answer: &mut Answer) -> Vec<String> {
+    let mut texts = Vec::new(answer.alloc());
+    for word in &parts_of(line, " ", answer) {
+        let pushed = texts.push(text_in(word, answer));
+        answer.unless_memory(pushed);
     }
-    Ok(texts)
+    texts
+}
+
+/// The texts as a command line has them.
+fn words_of<'a>(texts: &'a [String], answer: &mut Answer) -> Vec<&'a str> {
+    let mut words = Vec::new(answer.alloc());
+    for text in texts {
+        let pushed = words.push(text.as_str());
+        answer.unless_memory(pushed);
+    }
+    words
 }
 
 /// Answers with a document that is to be handed in.
@@ -32,9 +46,14 @@ fn say_submission(answer: &mut Answer, given: &Submission<'_>) {
 }
 
 /// Answers with what is to be served.
-fn say_serving(alloc: Global, answer: &mut Answer, given: &Serving<'_>) {
-    let (address, count, seconds) = (given.address, given.count, given.waits.seconds);
-    answer.say_made(format!(in alloc; "serve {address}, {count} connections, {seconds} seconds, "));
+fn say_serving(answer: &mut Answer, given: &Serving<'_>) {
+    answer.say("serve ");
+    answer.say(given.address);
+    answer.say(", ");
+    answer.say_number(given.count);
+    answer.say(" connections, ");
+    answer.say_number(given.waits.seconds);
+    answer.say(" seconds, ");
     match given.moment {
         Some(moment) => {
             answer.say("each at ");
@@ -45,12 +64,13 @@ fn say_serving(alloc: Global, answer: &mut Answer, given: &Serving<'_>) {
 }
 
 /// Answers with what is to be listed.
-fn say_filter(alloc: Global, answer: &mut Answer, given: &Filter) {
+fn say_filter(answer: &mut Answer, given: &Filter) {
     match given {
         Filter::Inbox => answer.say("list in"),
         Filter::Outbox(None) => answer.say("list out"),
         Filter::Outbox(Some(state)) => {
-            answer.say_made(format!(in alloc; "list out {state:?}"));
+            answer.say("list out ");
+            answer.say_name(state);
         }
     }
 }
@@ -63,83 +83,85 @@ fn say_with(answer: &mut Answer, word: &str, number: u64) {
 }
 
 /// Answers with what is asked of the records.
-fn say_command(alloc: Global, answer: &mut Answer, command: &Command<'_>) {
+fn say_command(answer: &mut Answer, command: &Command<'_>) {
     match command {
         Command::Post => answer.say("post"),
         Command::Submit(given) => say_submission(answer, given),
         Command::Send(waits) => say_with(answer, "send", waits.seconds),
         Command::Tick => answer.say("tick"),
-        Command::List(given) => say_filter(alloc, answer, given),
+        Command::List(given) => say_filter(answer, given),
         Command::Outstanding => answer.say("outstanding"),
         Command::Show(number) => say_with(answer, "show", *number),
         Command::Fetch(number) => say_with(answer, "fetch", *number),
-        Command::Serve(given) => say_serving(alloc, answer, given),
+        Command::Serve(given) => say_serving(answer, given),
     }
 }
 
 /// Answers with what a command line says.
-fn say_options(alloc: Global, answer: &mut Answer, options: &Options<'_>) {
+fn say_options(answer: &mut Answer, options: &Options<'_>) {
     answer.say(options.agreements);
     answer.say(", ");
     answer.say(options.store);
     match &options.task {
         Task::Check => answer.say(": check"),
         Task::Run(run, command) => {
-            let (first, moment) = (run.first.get(), run.moment.seconds());
-            answer.say_made(format!(in alloc; ", first {first}, moment {moment}: "));
-            say_command(alloc, answer, command)
+            answer.say(", first ");
+            answer.say_number(run.first.get());
+            answer.say(", moment ");
+            answer.say_number(run.moment.seconds());
+            answer.say(": ");
+            say_command(answer, command)
         }
     }
 }
 
 /// Answers with what there is to say in place of options: a fault, which is told on the standard error, or what isn't.
-fn say_error(alloc: Global, answer: &mut Answer, error: &Error) {
+fn say_error(answer: &mut Answer, error: &Error) {
     if error.use_stderr() {
         answer.say("fault ");
     }
-    let kind = error.kind();
-    answer.say_made(format!(in alloc; "{kind:?}"));
+    answer.say_name(&error.kind());
 }
 
 /// The clock's moment; none where it is `nothing`.
-fn clock_in(word: &str) -> Result<Option<u64>, Trouble> {
+fn clock_in(word: &str, answer: &mut Answer) -> Option<u64> {
     match word {
-        "nothing" => Ok(None),
-        _ => Ok(Some(number_in(word)?)),
+        "nothing" => None,
+        _ => Some(answer.number_in(word)),
+    }
+}
+
+/// Answers with what the words ask for.
+fn say_asked<'a>(answer: &mut Answer, words: &'a [&'a str], clock: Option<u64>) {
+    match options_in(answer.alloc(), words, clock) {
+        Ok(options) => say_options(answer, &options),
+        Err(error) => say_error(answer, &error),
     }
 }
 
 /// `command-line CLOCK | WORD ..`: what the words ask for, at the moment of the clock.
-fn read_line(alloc: Global, rest: &str, answer: &mut Answer) -> Result<(), Trouble> {
-    let (clock, line) = rest.split_once(" | ").unwrap_or((rest, ""));
-    let clock = clock_in(clock)?;
-    let texts = texts_in(alloc, line)?;
-    let mut words = Vec::new(alloc);
-    for text in &texts {
-        words.push(text.as_str())?;
-    }
-    match options_in(alloc, words.as_slice(), clock) {
-        Ok(options) => say_options(alloc, answer, &options),
-        Err(error) => say_error(alloc, answer, &error),
-    }
-    Ok(())
+fn read_line(rest: &str, answer: &mut Answer) {
+    let mut arguments = Arguments::of(rest);
+    let clock = clock_in(arguments.word(), answer);
+    let texts = texts_in(arguments.rest, answer);
+    let words = words_of(texts.as_slice(), answer);
+    say_asked(answer, words.as_slice(), clock);
 }
 
 /// `first-number N`: the number, where it can be the first of a store.
-fn say_first_number(rest: &str, answer: &mut Answer) -> Result<(), Trouble> {
-    match FirstNumber::new(number_in(rest)?) {
+fn say_first_number(rest: &str, answer: &mut Answer) {
+    match FirstNumber::new(answer.number_in(rest)) {
         Some(first) => answer.say_number(first.get()),
         None => answer.say("nothing"),
     }
-    Ok(())
 }
 
 /// Answers to the verbs of command lines; whether it is one.
-pub fn answer(alloc: Global, verb: &str, rest: &str, answer: &mut Answer) -> Result<bool, Trouble> {
+pub fn answer(verb: &str, rest: &str, answer: &mut Answer) -> bool {
     match verb {
-        "command-line" => read_line(alloc, rest, answer)?,
-        "first-number" => say_first_number(rest, answer)?,
-        _ => return Ok(false),
+        "command-line" => read_line(rest, answer),
+        "first-number" => say_first_number(rest, answer),
+        _ => return false,
     }
-    Ok(true)
+    true
 }

@@ -13,27 +13,22 @@ mod rows;
 mod told;
 mod views;
 
-use script_lines::{Answer, Trouble};
-use std::alloc::Global;
+use script_lines::Answer;
 pub use told::{say_how, say_mic};
 
 /// Answers to the verbs of agreements, receipts, reports and posts; whether it is one.
-fn of_posts(alloc: Global, verb: &str, rest: &str, answer: &mut Answer) -> Result<bool, Trouble> {
-    Ok(
-        agreements::answer(alloc, verb, rest, answer)?
-            || outcomes::answer(verb, rest, answer)?
-            || receipts::answer(alloc, verb, rest, answer)?
-            || reports::answer(alloc, verb, rest, answer)?
-            || posts::answer(alloc, verb, rest, answer)?,
-    )
+fn of_posts(verb: &str, rest: &str, answer: &mut Answer) -> bool {
+    agreements::answer(verb, rest, answer)
+        || outcomes::answer(verb, rest, answer)
+        || receipts::answer(verb, rest, answer)
+        || reports::answer(verb, rest, answer)
+        || posts::answer(verb, rest, answer)
 }
 
 /// Answers to a line; whether its verb is one of these.
-pub fn answer(alloc: Global, verb: &str, rest: &str, answer: &mut Answer) -> Result<bool, Trouble> {
-    Ok(
-        of_posts(alloc, verb, rest, answer)?
-            || rows::answer(alloc, verb, rest, answer)?
-            || views::answer(alloc, verb, rest, answer)?
-            || commands::answer(alloc, verb, rest, answer)?,
-    )
+pub fn answer(verb: &str, rest: &str, answer: &mut Answer) -> bool {
+    of_posts(verb, rest, answer)
+        || rows::answer(verb, rest, answer)
+        || views::answer(verb, rest, answer)
+        || commands::answer(verb, rest, answer)
 }

@@ -1,7 +1,8 @@
 //! What becomes of a received document.
+use crate::arguments::{Arguments, parts_of};
 use as2_mdn::{Outcome, outcome_of};
 use as2_text::{How, Kind, ReceiptAsk};
-use script_lines::{Answer, Trouble};
+use script_lines::Answer;
 
 static OUTCOMES: [Outcome; 6] = [
     Outcome::DecryptionFailed,
@@ -13,24 +14,28 @@ static OUTCOMES: [Outcome; 6] = [
 ];
 
 /// The outcome of that text.
-pub fn outcome_in(text: &str) -> Result<Outcome, Trouble> {
+pub fn outcome_in(text: &str, answer: &mut Answer) -> Outcome {
     for outcome in &OUTCOMES {
         if outcome.text() == text {
-            return Ok(*outcome);
+            return *outcome;
         }
     }
-    Err(Trouble::Unreadable("no outcome"))
+    answer.lack("no outcome");
+    Outcome::Processed
 }
 
 /// The kind of that name.
-fn kind_in(word: &str) -> Result<Kind, Trouble> {
+fn kind_in(word: &str, answer: &mut Answer) -> Kind {
     match word {
-        "document" => Ok(Kind::Document),
-        "enveloped" => Ok(Kind::Enveloped),
-        "compressed" => Ok(Kind::Compressed),
-        "signed" => Ok(Kind::Signed),
-        "report" => Ok(Kind::Report),
-        _ => Err(Trouble::Unreadable("no kind")),
+        "document" => Kind::Document,
+        "enveloped" => Kind::Enveloped,
+        "compressed" => Kind::Compressed,
+        "signed" => Kind::Signed,
+        "report" => Kind::Report,
+        _ => {
+            answer.lack("no kind");
+            Kind::Document
+        }
     }
 }
 
@@ -57,40 +62,45 @@ impl<'a> Wishes<'a> {
     }
 
     /// Adds one.
-    fn add(&mut self, wish: &'a str) -> Result<(), Trouble> {
+    fn add(&mut self, wish: &'a str, answer: &mut Answer) {
         match wish {
             "encoding refused" => self.is_refused = true,
             "digest required" => self.ask.digests_required = true,
             "other required" => self.ask.other_required = true,
             _ => match wish.strip_prefix("digests ") {
                 Some(digests) => self.ask.digests = digests.as_bytes(),
-                None => return Err(Trouble::Unreadable("no such wish")),
+                None => answer.lack("no such wish"),
             },
         }
-        Ok(())
     }
+}
+
+/// The wishes that stand there, if any does.
+fn wishes_in<'a>(text: &'a str, answer: &mut Answer) -> Wishes<'a> {
+    let mut wishes = Wishes::none();
+    if text.is_empty() {
+        return wishes;
+    }
+    for wish in &parts_of(text, " | ", answer) {
+        wishes.add(wish, answer);
+    }
+    wishes
 }
 
 /// `outcome KIND | WISH ..`: what becomes of a document of that kind. The wishes are `encoding refused`, `digests LIST`,
 /// `digest required` and `other required`.
-fn say_outcome(rest: &str, answer: &mut Answer) -> Result<(), Trouble> {
-    let (kind, rest) = rest.split_once(" | ").unwrap_or((rest, ""));
-    let kind = kind_in(kind)?;
-    let mut wishes = Wishes::none();
-    if !rest.is_empty() {
-        for wish in rest.split(" | ") {
-            wishes.add(wish)?;
-        }
-    }
+fn say_outcome(rest: &str, answer: &mut Answer) {
+    let mut arguments = Arguments::of(rest);
+    let kind = kind_in(arguments.word(), answer);
+    let wishes = wishes_in(arguments.rest, answer);
     answer.say(outcome_of(kind, wishes.is_refused, &wishes.ask).text());
-    Ok(())
 }
 
 /// Answers to the verb of outcomes; whether it is it.
-pub fn answer(verb: &str, rest: &str, answer: &mut Answer) -> Result<bool, Trouble> {
+pub fn answer(verb: &str, rest: &str, answer: &mut Answer) -> bool {
     match verb {
-        "outcome" => say_outcome(rest, answer)?,
-        _ => return Ok(false),
+        "outcome" => say_outcome(rest, answer),
+        _ => return false,
     }
-    Ok(true)
+    true
 }

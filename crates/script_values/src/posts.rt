@@ -1,70 +1,71 @@
 //! Posted documents.
-use crate::arguments::Arguments;
+use crate::arguments::{Arguments, parts_of, value_in};
 use crate::told::{attempt_word, mdn_word, say_due, say_how, say_mic};
 use as2_exchange::{InEntry, Line, Posted};
-use as2_mic::Pieces;
 use as2_posts::{Opened, document, first_entry, has_kept_mic, is_requeued, repeats};
 use as2_text::{AsName, Head, HeadFault, MediaType};
 use script_lines::{Answer, Trouble};
-use std::alloc::Global;
 
-/// The plain name.
-fn name(bytes: &[u8]) -> Result<AsName, Trouble> {
-    match AsName::plain(bytes) {
-        Ok(name) => Ok(name),
-        Err(_) => Err(Trouble::Unreadable("no AS2 name")),
+/// What the head of a post of Buyer to Supplier says that has that content type.
+fn opened<'a>(content_type: &'a [u8], answer: &mut Answer) -> Option<Opened<'a>> {
+    let Ok(media) = MediaType::parse(content_type) else {
+        answer.lack("no media type");
+        return None;
+    };
+    match (AsName::plain(b"Buyer"), AsName::plain(b"Supplier")) {
+        (Ok(from), Ok(to)) => Some(Opened {
+            from,
+            to,
+            media,
+            content_type,
+        }),
+        _ => {
+            answer.lack("no AS2 name");
+            None
+        }
     }
 }
 
-/// What the head of a post of Buyer to Supplier says that has that content type.
-fn opened(content_type: &[u8]) -> Result<Opened<'_>, Trouble> {
-    let Ok(media) = MediaType::parse(content_type) else {
-        return Err(Trouble::Unreadable("no media type"));
-    };
-    Ok(Opened {
-        from: name(b"Buyer")?,
-        to: name(b"Supplier")?,
-        media,
-        content_type,
-    })
-}
-
 /// Adds the field that `NAME: VALUE` spells to a head.
-fn add_field(head: &mut Head, field: &str) -> Result<(), Trouble> {
-    let Some((name, value)) = field.split_once(": ") else {
-        return Err(Trouble::Unreadable("no field"));
-    };
+fn add_field(head: &mut Head, field: &str, answer: &mut Answer) {
+    let (name, value) = answer.cut(field, ": ", "no field");
     match head.append(name.as_bytes(), value.as_bytes()) {
-        Ok(()) => Ok(()),
-        Err(HeadFault::Memory) => Err(Trouble::Memory),
-        Err(_) => Err(Trouble::Unreadable("no field of a head")),
+        Ok(()) => {}
+        Err(HeadFault::Memory) => answer.fail(Trouble::Memory),
+        Err(_) => answer.lack("no field of a head"),
     }
 }
 
 /// The head of these fields.
-fn head_of(alloc: Global, fields: &str) -> Result<Head, Trouble> {
-    let mut head = Head::new(alloc);
-    for field in fields.split(" | ") {
-        add_field(&mut head, field)?;
+fn head_of(fields: &str, answer: &mut Answer) -> Head {
+    let mut head = Head::new(answer.alloc());
+    for field in &parts_of(fields, " | ", answer) {
+        add_field(&mut head, field, answer);
     }
-    Ok(head)
+    head
 }
 
 /// What the post of a document `TYPE | CONTENT | FIELD | ..` of Buyer to Supplier is read as.
-fn read_post(alloc: Global, text: &str) -> Result<Result<Posted, Line>, Trouble> {
-    let mut arguments = Arguments::of(alloc, text);
-    let content_type = arguments.bytes()?;
-    let content = arguments.content()?;
-    let head = head_of(alloc, arguments.rest)?;
-    let opened = opened(content_type.as_slice())?;
-    Ok(document(alloc, opened, &head, content)?)
+fn read_post(text: &str, answer: &mut Answer) -> Option<Result<Posted, Line>> {
+    let mut arguments = Arguments::of(text);
+    let content_type = arguments.bytes(answer);
+    let content = arguments.content(answer);
+    let head = head_of(arguments.rest, answer);
+    match opened(content_type.as_slice(), answer) {
+        Some(opened) => { answer.unless_memory(document(answer.alloc(), opened, &head, content)) }
+        None => None,
+    }
 }
 
 /// The document that is posted so.
-fn post_in(alloc: Global, text: &str) -> Result<Posted, Trouble> {
-    match read_post(alloc, text)? {
-        Ok(posted) => Ok(posted),
-        Err(_) => Err(Trouble::Unreadable("a post that is refused")),
+fn post_in(text: &str, answer: &mut Answer) -> Option<Posted> {
+    match read_post(text, answer) {
+        Some(Ok(posted)) => Some(posted),
+        Some(Err(_)) => {
+            answer.lack("a post that is refused");
+            None
+        }
+        None => None,
     }
 }
 
@@ -93,37 +94,36 @@ fn say_posted(answer: &mut Answer, posted: &Posted) {
 }
 
 /// `read-document TYPE | CONTENT | FIELD | ..`: what the post of a document is read as.
-fn say_post(alloc: Global, rest: &str, answer: &mut Answer) -> Result<(), Trouble> {
-    match read_post(alloc, rest)? {
-        Ok(posted) => say_posted(answer, &posted),
-        Err(line) => answer.say_fault(&line),
+fn say_post(rest: &str, answer: &mut Answer) {
+    match read_post(rest, answer) {
+        Some(Ok(posted)) => say_posted(answer, &posted),
+        Some(Err(line)) => answer.say_fault(&line),
+        None => {}
     }
-    Ok(())
+}
+
+/// Answers whether the document that is posted so repeats that one.
+fn say_repeats(answer: &mut Answer, one: &Posted, text: &str) {
+    if let Some(other) = post_in(text, answer) {
+        answer.say_whether(repeats(one, &other));
+    }
 }
 
 /// `repeats DOCUMENT || DOCUMENT`: whether the second repeats the first.
-fn say_whether_repeats(alloc: Global, rest: &str, answer: &mut Answer) -> Result<(), Trouble> {
-    let Some((one, other)) = rest.split_once(" || ") else {
-        return Err(Trouble::Unreadable("no two documents"));
-    };
-    let one = post_in(alloc, one)?;
-    let other = post_in(alloc, other)?;
-    answer.say_whether(repeats(&one, &other));
-    Ok(())
+fn say_whether_repeats(rest: &str, answer: &mut Answer) {
+    let (one, other) = answer.cut(rest, " || ", "no two documents");
+    if let Some(one) = post_in(one, answer) {
+        say_repeats(answer, &one, other);
+    }
 }
 
 /// `keeps-mic DOCUMENT || CONTENT`: whether that content has the MIC that is kept of the document.
-fn say_whether_kept(alloc: Global, rest: &str, answer: &mut Answer) -> Result<(), Trouble> {
-    let Some((text, content)) = rest.split_once(" || ") else {
-        return Err(Trouble::Unreadable("no content"));
-    };
-    let content: Pieces = Arguments::of(alloc, content).content()?;
-    let posted = Posted {
-        content,
-        ..post_in(alloc, text)?
-    };
-    answer.say_whether(has_kept_mic(&posted));
-    Ok(())
+fn say_whether_kept(rest: &str, answer: &mut Answer) {
+    let (text, content) = answer.cut(rest, " || ", "no content");
+    let content = Arguments::of(content).content(answer);
+    if let Some(posted) = post_in(text, answer) {
+        answer.say_whether(has_kept_mic(&Posted { content, ..posted }));
+    }
 }
 
 /// Answers with an entry of the inbox, but for its document.
@@ -142,18 +142,16 @@ fn say_entry(answer: &mut Answer, entry: &InEntry) {
 }
 
 /// `first-entry NUMBER | MOMENT || DOCUMENT`: the entry of a document that is posted for the first time.
-fn say_first_entry(alloc: Global, rest: &str, answer: &mut Answer) -> Result<(), Trouble> {
-    let Some((first, text)) = rest.split_once(" || ") else {
-        return Err(Trouble::Unreadable("no document"));
+fn say_first_entry(rest: &str, answer: &mut Answer) {
+    let (first, text) = answer.cut(rest, " || ", "no document");
+    let mut arguments = Arguments::of(first);
+    let number = arguments.number(answer);
+    let Some(moment) = arguments.moment(answer) else {
+        return;
     };
-    let mut arguments = Arguments::of(alloc, first);
-    let number = arguments.number()?;
-    let Some(moment) = arguments.moment() else {
-        return Err(Trouble::Unreadable("no moment"));
-    };
-    let entry = first_entry(number, moment, post_in(alloc, text)?);
-    say_entry(answer, &entry);
-    Ok(())
+    if let Some(posted) = post_in(text, answer) {
+        say_entry(answer, &first_entry(number, moment, posted));
+    }
 }
 
 static LINES: [Line; 19] = [
@@ -179,25 +177,21 @@ static LINES: [Line; 19] = [
 ];
 
 /// `status LINE`: the status of the answer that the line is.
-fn say_status(alloc: Global, rest: &str, answer: &mut Answer) -> Result<(), Trouble> {
-    for line in &LINES {
-        if format!(in alloc; "{line:?}")?.as_str() == rest {
-            answer.say_number(u64::from(line.status()));
-            return Ok(());
-        }
+fn say_status(rest: &str, answer: &mut Answer) {
+    if let Some(line) = value_in(rest, &LINES, "no line", answer) {
+        answer.say_number(u64::from(line.status()));
     }
-    Err(Trouble::Unreadable("no line"))
 }
 
 /// Answers to the verbs of posts; whether it is one.
-pub fn answer(alloc: Global, verb: &str, rest: &str, answer: &mut Answer) -> Result<bool, Trouble> {
+pub fn answer(verb: &str, rest: &str, answer: &mut Answer) -> bool {
     match verb {
-        "read-document" => say_post(alloc, rest, answer)?,
-        "repeats" => say_whether_repeats(alloc, rest, answer)?,
-        "keeps-mic" => say_whether_kept(alloc, rest, answer)?,
-        "first-entry" => say_first_entry(alloc, rest, answer)?,
-        "status" => say_status(alloc, rest, answer)?,
-        _ => return Ok(false),
+        "read-document" => say_post(rest, answer),
+        "repeats" => say_whether_repeats(rest, answer),
+        "keeps-mic" => say_whether_kept(rest, answer),
+        "first-entry" => say_first_entry(rest, answer),
+        "status" => say_status(rest, answer),
+        _ => return false,
     }
-    Ok(true)
+    true
 }

@@ -1,9 +1,8 @@
 //! Receipts: their dispositions, what they say of a document, and the details that come of it.
-use crate::arguments::Arguments;
+use crate::arguments::{Arguments, pieces_of, value_in};
 use as2_mdn::{Detail, Disposition, MicPart, Receipt, State, verdict, verdict_pieces};
-use as2_mic::{MicField, Pieces};
-use script_lines::{Answer, Trouble, bytes_of};
-use std::alloc::Global;
+use as2_mic::MicField;
+use script_lines::Answer;
 
 static DETAILS: [Detail; 14] = [
     Detail::New,
@@ -37,13 +36,12 @@ fn say_disposition(answer: &mut Answer, disposition: &Disposition<'_>) {
 }
 
 /// `read-disposition VALUE`: whether the type is `processed`, and the modifier.
-fn read_disposition(alloc: Global, rest: &str, answer: &mut Answer) -> Result<(), Trouble> {
-    let value = bytes_of(alloc, rest)?;
+fn read_disposition(rest: &str, answer: &mut Answer) {
+    let value = answer.bytes_of(rest);
     match Disposition::parse(value.as_slice()) {
         Ok(disposition) => say_disposition(answer, &disposition),
         Err(fault) => answer.say_fault(&fault),
     }
-    Ok(())
 }
 
 /// The MIC of a field's value; `nothing` where there is no field.
@@ -58,54 +56,57 @@ fn mic_in(value: &[u8]) -> MicPart<'_> {
 }
 
 /// The receipt of that document, with that disposition and MIC.
-fn receipt_in<'a>(id: &'a [u8], value: &'a [u8], mic: &'a [u8]) -> Result<Receipt<'a>, Trouble> {
+fn receipt_in<'a>(
+    id: &'a [u8],
+    value: &'a [u8],
+    mic: &'a [u8],
+    answer: &mut Answer,
+) -> Option<Receipt<'a>> {
     match Disposition::parse(value) {
-        Ok(disposition) => Ok(Receipt {
+        Ok(disposition) => Some(Receipt {
             original_id: id,
             disposition,
             mic: mic_in(mic),
         }),
-        Err(_) => Err(Trouble::Unreadable("no disposition")),
+        Err(_) => {
+            answer.lack("no disposition");
+            None
+        }
     }
 }
 
 /// Answers with the verdict on a content, and with that on the same in pieces where it is another.
-fn say_verdict(
-    alloc: Global,
-    receipt: &Receipt<'_>,
-    content: &[u8],
-    answer: &mut Answer,
-) -> Result<(), Trouble> {
+fn say_verdict(answer: &mut Answer, receipt: &Receipt<'_>, content: &[u8]) {
     let whole = verdict(receipt, content);
     answer.say(whole.name());
-    let mut pieces = Pieces::new(alloc);
-    pieces.append(content)?;
+    let pieces = pieces_of(content, answer);
     let in_pieces = verdict_pieces(receipt, &pieces);
     if in_pieces != whole {
         answer.say(", in pieces ");
         answer.say(in_pieces.name());
     }
-    Ok(())
 }
 
 /// `verdict DISPOSITION | MIC | CONTENT`: what a receipt of these says of the document of that content.
-fn judge(alloc: Global, rest: &str, answer: &mut Answer) -> Result<(), Trouble> {
-    let mut arguments = Arguments::of(alloc, rest);
-    let value = arguments.bytes()?;
-    let mic = arguments.bytes()?;
-    let content = arguments.bytes()?;
-    let receipt = receipt_in(b"<out-1@station.example>", value.as_slice(), mic.as_slice())?;
-    say_verdict(alloc, &receipt, content.as_slice(), answer)
+fn judge(rest: &str, answer: &mut Answer) {
+    let mut arguments = Arguments::of(rest);
+    let value = arguments.bytes(answer);
+    let mic = arguments.bytes(answer);
+    let content = arguments.bytes(answer);
+    let id = b"<out-1@station.example>";
+    if let Some(receipt) = receipt_in(id, value.as_slice(), mic.as_slice(), answer) {
+        say_verdict(answer, &receipt, content.as_slice());
+    }
 }
 
 /// `receipt-is-of IDENTIFIER | VALUE`: whether a receipt of that identifier is of the document whose identifier has that value.
-fn is_receipt_of(alloc: Global, rest: &str, answer: &mut Answer) -> Result<(), Trouble> {
-    let mut arguments = Arguments::of(alloc, rest);
-    let id = arguments.bytes()?;
+fn is_receipt_of(rest: &str, answer: &mut Answer) {
+    let mut arguments = Arguments::of(rest);
+    let id = arguments.bytes(answer);
     let processed = b"automatic-action/MDN-sent-automatically; processed";
-    let receipt = receipt_in(id.as_slice(), processed, b"nothing")?;
-    answer.say_whether(receipt.names(arguments.word()));
-    Ok(())
+    if let Some(receipt) = receipt_in(id.as_slice(), processed, b"nothing", answer) {
+        answer.say_whether(receipt.names(arguments.word()));
+    }
 }
 
 /// The letter of a state.
@@ -120,26 +121,22 @@ fn letter(state: State) -> &'static str {
 }
 
 /// `detail DETAIL`: the name that is written, and the state that the detail belongs to.
-fn say_detail(alloc: Global, rest: &str, answer: &mut Answer) -> Result<(), Trouble> {
-    for detail in &DETAILS {
-        if format!(in alloc; "{detail:?}")?.as_str() == rest {
-            answer.say(detail.name());
-            answer.say(", ");
-            answer.say(letter(detail.state()));
-            return Ok(());
-        }
+fn say_detail(rest: &str, answer: &mut Answer) {
+    if let Some(detail) = value_in(rest, &DETAILS, "no detail", answer) {
+        answer.say(detail.name());
+        answer.say(", ");
+        answer.say(letter(detail.state()));
     }
-    Err(Trouble::Unreadable("no detail"))
 }
 
 /// Answers to the verbs of receipts; whether it is one.
-pub fn answer(alloc: Global, verb: &str, rest: &str, answer: &mut Answer) -> Result<bool, Trouble> {
+pub fn answer(verb: &str, rest: &str, answer: &mut Answer) -> bool {
     match verb {
-        "read-disposition" => read_disposition(alloc, rest, answer)?,
-        "verdict" => judge(alloc, rest, answer)?,
-        "receipt-is-of" => is_receipt_of(alloc, rest, answer)?,
-        "detail" => say_detail(alloc, rest, answer)?,
-        _ => return Ok(false),
+        "read-disposition" => read_disposition(rest, answer),
+        "verdict" => judge(rest, answer),
+        "receipt-is-of" => is_receipt_of(rest, answer),
+        "detail" => say_detail(rest, answer),
+        _ => return false,
     }
-    Ok(true)
+    true
 }

@@ -6,8 +6,7 @@ use as2_mdn::{
 };
 use as2_mic::{Alg, Compared, mic_of};
 use as2_text::{Domain, MediaType};
-use script_lines::{Answer, Trouble, bytes_of};
-use std::alloc::Global;
+use script_lines::Answer;
 
 /// What a receipt's MIC is, beside a content.
 fn mic_word(mic: &MicPart<'_>, content: &[u8]) -> &'static str {
@@ -36,151 +35,152 @@ fn say_receipt(answer: &mut Answer, receipt: &Receipt<'_>, content: &[u8]) {
     answer.say(mic_word(&receipt.mic, content));
 }
 
-/// What a report of that type, and its MIC beside that content, is read as.
-fn reading(
-    alloc: Global,
-    content_type: &[u8],
-    body: &[u8],
-    content: &[u8],
-) -> Result<Answer, Trouble> {
-    let Ok(media) = MediaType::parse(content_type) else {
-        return Err(Trouble::Unreadable("no media type"));
-    };
-    let mut answer = Answer::new(alloc);
-    match read_report(&media, body) {
-        Ok(receipt) => say_receipt(&mut answer, &receipt, content),
-        Err(fault) => answer.say_made(format!(in alloc; "fault {fault:?}")),
+/// Answers with what a report of that type, and its MIC beside that content, is read as.
+fn say_reading(answer: &mut Answer, media: &MediaType<'_>, body: &[u8], content: &[u8]) {
+    match read_report(media, body) {
+        Ok(receipt) => say_receipt(answer, &receipt, content),
+        Err(fault) => answer.say_fault(&fault),
     }
-    Ok(answer)
+}
+
+/// The media type that is spelled so.
+fn media_in<'a>(content_type: &'a [u8], answer: &mut Answer) -> Option<MediaType<'a>> {
+    match MediaType::parse(content_type) {
+        Ok(media) => Some(media),
+        Err(_) => {
+            answer.lack("no media type");
+            None
+        }
+    }
 }
 
 /// `read-report TYPE | BODY | CONTENT`: the document that it is of, whether it was processed, and whether the MIC is that of the
 /// content.
-fn say_reading(alloc: Global, rest: &str, answer: &mut Answer) -> Result<(), Trouble> {
-    let mut arguments = Arguments::of(alloc, rest);
-    let content_type = arguments.bytes()?;
-    let body = arguments.bytes()?;
-    let content = arguments.bytes()?;
-    let read = reading(
-        alloc,
-        content_type.as_slice(),
-        body.as_slice(),
-        content.as_slice(),
-    )?;
-    answer.say_bytes(read.bytes.as_slice());
-    Ok(())
+fn say_whole_reading(rest: &str, answer: &mut Answer) {
+    let mut arguments = Arguments::of(rest);
+    let content_type = arguments.bytes(answer);
+    let body = arguments.bytes(answer);
+    let content = arguments.bytes(answer);
+    if let Some(media) = media_in(content_type.as_slice(), answer) {
+        say_reading(answer, &media, body.as_slice(), content.as_slice());
+    }
+}
+
+/// Answers with a line for what is read of so many bytes, where it is another than what is read of one byte less.
+fn say_change(answer: &mut Answer, length: usize, read: &Answer, last: &Answer) {
+    match read.whole() {
+        Ok(bytes) if bytes == last.bytes.as_slice() => {}
+        Ok(bytes) => {
+            answer.say_number(length as u64);
+            answer.say(" bytes: ");
+            answer.say_bytes(bytes);
+            answer.say("\n");
+        }
+        Err(trouble) => answer.fail(trouble),
+    }
 }
 
 /// Answers with what is read of the first bytes of a body, of none, one, two and so on up to all of them: a line for each number of
 /// bytes that is read otherwise than one byte less.
-fn say_cut_readings(
-    alloc: Global,
-    content_type: &[u8],
-    body: &[u8],
-    content: &[u8],
-    answer: &mut Answer,
-) -> Result<(), Trouble> {
-    let mut last = Answer::new(alloc);
+fn say_cut_readings(answer: &mut Answer, media: &MediaType<'_>, body: &[u8], content: &[u8]) {
+    let mut last = Answer::new(answer.alloc());
     for length in 0..=body.len() {
         let (first, _) = body.split_at(length);
-        let read = reading(alloc, content_type, first, content)?;
-        if read.bytes.as_slice() != last.bytes.as_slice() {
-            answer.say_made(format!(in alloc; "{length} bytes: "));
-            answer.say_bytes(read.bytes.as_slice());
-            answer.say("\n");
-            last = read;
-        }
+        let mut read = Answer::new(answer.alloc());
+        say_reading(&mut read, media, first, content);
+        say_change(answer, length, &read, &last);
+        last = read;
     }
-    Ok(())
 }
 
 /// `read-cut-report TYPE | BODY | CONTENT`: the same of each start of the body.
-fn say_each_reading(alloc: Global, rest: &str, answer: &mut Answer) -> Result<(), Trouble> {
-    let mut arguments = Arguments::of(alloc, rest);
-    let content_type = arguments.bytes()?;
-    let body = arguments.bytes()?;
-    let content = arguments.bytes()?;
-    say_cut_readings(
-        alloc,
-        content_type.as_slice(),
-        body.as_slice(),
-        content.as_slice(),
-        answer,
-    )
+fn say_each_reading(rest: &str, answer: &mut Answer) {
+    let mut arguments = Arguments::of(rest);
+    let content_type = arguments.bytes(answer);
+    let body = arguments.bytes(answer);
+    let content = arguments.bytes(answer);
+    if let Some(media) = media_in(content_type.as_slice(), answer) {
+        say_cut_readings(answer, &media, body.as_slice(), content.as_slice());
+    }
 }
 
 /// The MIC that `DIGEST CONTENT` asks for; none where it is `nothing`.
-fn mic_for(alloc: Global, word: &str) -> Result<Option<ReportMic>, Trouble> {
+fn mic_for(word: &str, answer: &mut Answer) -> Option<ReportMic> {
     if word == "nothing" {
-        return Ok(None);
+        return None;
     }
     let (digest, content) = word.split_once(" ").unwrap_or((word, ""));
     let Some(digest) = Alg::named(digest.as_bytes()) else {
-        return Err(Trouble::Unreadable("no digest"));
+        answer.lack("no digest");
+        return None;
     };
-    let content = bytes_of(alloc, content)?;
-    Ok(Some(ReportMic {
+    let content = answer.bytes_of(content);
+    Some(ReportMic {
         digest,
         text: mic_of(digest, content.as_slice()),
-    }))
+    })
 }
 
 /// The domain of that name.
-fn domain_in(word: &str) -> Result<Domain, Trouble> {
-    match Domain::of(word.as_bytes()) {
-        Some(domain) => Ok(domain),
-        None => Err(Trouble::Unreadable("no domain")),
+fn domain_in(word: &str, answer: &mut Answer) -> Option<Domain> {
+    let domain = Domain::of(word.as_bytes());
+    if domain.is_none() {
+        answer.lack("no domain");
     }
+    domain
 }
 
 /// The report that `NUMBER | DOMAIN | FROM | TO | IDENTIFIER | OUTCOME | MIC` describes.
-fn report_in(alloc: Global, arguments: &mut Arguments<'_>) -> Result<ReportOut, Trouble> {
-    let mut out = ReportOut {
-        number: arguments.number()?,
-        domain: domain_in(arguments.word())?,
-        from: arguments.name()?,
-        to: arguments.name()?,
-        original_id: arguments.identifier()?,
-        outcome: outcome_in(arguments.word())?,
-        mic: None,
-    };
-    match mic_for(alloc, arguments.word()) {
-        Ok(mic) => {
-            out.mic = mic;
-            Ok(out)
-        }
-        Err(trouble) => Err(trouble),
-    }
+fn report_in(arguments: &mut Arguments<'_>, answer: &mut Answer) -> Option<ReportOut> {
+    let number = arguments.number(answer);
+    let domain = domain_in(arguments.word(), answer)?;
+    let from = arguments.name(answer)?;
+    let to = arguments.name(answer)?;
+    let original_id = arguments.identifier(answer)?;
+    Some(ReportOut {
+        number,
+        domain,
+        from,
+        to,
+        original_id,
+        outcome: outcome_in(arguments.word(), answer),
+        mic: mic_for(arguments.word(), answer),
+    })
 }
 
 /// `write-report NUMBER | DOMAIN | FROM | TO | IDENTIFIER | OUTCOME | MIC`: the body of the report.
-fn say_report(alloc: Global, rest: &str, answer: &mut Answer) -> Result<(), Trouble> {
-    let out = report_in(alloc, &mut Arguments::of(alloc, rest))?;
-    let body = write_report(alloc, &out)?;
-    answer.say_bytes(body.as_slice());
-    Ok(())
+fn say_report(rest: &str, answer: &mut Answer) {
+    let Some(out) = report_in(&mut Arguments::of(rest), answer) else {
+        return;
+    };
+    let body = write_report(answer.alloc(), &out);
+    if let Some(body) = answer.unless_memory(body) {
+        answer.say_bytes(body.as_slice());
+    }
 }
 
 /// `write-fields LENGTH | NUMBER | DOMAIN | FROM | TO | IDENTIFIER | OUTCOME | MIC | BEFORE`: the head fields of the report, of a body
 /// of so many bytes, behind what was there before.
-fn say_fields(alloc: Global, rest: &str, answer: &mut Answer) -> Result<(), Trouble> {
-    let mut arguments = Arguments::of(alloc, rest);
-    let length = arguments.length()?;
-    let out = report_in(alloc, &mut arguments)?;
-    let mut text = arguments.bytes()?;
-    write_head_fields(alloc, &mut text, &out, length)?;
+fn say_fields(rest: &str, answer: &mut Answer) {
+    let mut arguments = Arguments::of(rest);
+    let length = arguments.length(answer);
+    let Some(out) = report_in(&mut arguments, answer) else {
+        return;
+    };
+    let mut text = arguments.bytes(answer);
+    let written = write_head_fields(answer.alloc(), &mut text, &out, length);
+    answer.unless_memory(written);
     answer.say_bytes(text.as_slice());
-    Ok(())
 }
 
 /// Answers to the verbs of reports; whether it is one.
-pub fn answer(alloc: Global, verb: &str, rest: &str, answer: &mut Answer) -> Result<bool, Trouble> {
+pub fn answer(verb: &str, rest: &str, answer: &mut Answer) -> bool {
     match verb {
-        "read-report" => say_reading(alloc, rest, answer)?,
-        "read-cut-report" => say_each_reading(alloc, rest, answer)?,
-        "write-report" => say_report(alloc, rest, answer)?,
-        "write-fields" => say_fields(alloc, rest, answer)?,
-        _ => return Ok(false),
+        "read-report" => say_whole_reading(rest, answer),
+        "read-cut-report" => say_each_reading(rest, answer),
+        "write-report" => say_report(rest, answer),
+        "write-fields" => say_fields(rest, answer),
+        _ => return false,
     }
-    Ok(true)
+    true
 }

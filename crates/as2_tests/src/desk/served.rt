@@ -4,7 +4,7 @@ ghost use Rattle.as2_http.specs.Devices.{Opens};
 use crate::texts::stage;
 use as2_http::{Counted, Served, serve_stream};
 use as2_text::Moment;
-use script_lines::Trouble;
+use script_lines::{Answer, Trouble};
 use script_station::Stage;
 use std::alloc::Global;
 use std::io::{Read, Write};
@@ -48,7 +48,11 @@ impl Fixture {
         let mut source: Counted<R, A, B> = Counted::new(input, reads, failed_reads);
         let mut sink: Counted<W, C, D> = Counted::new(output, writes, failed_writes);
         let alloc = self.stage.alloc;
-        let (station, agreements) = self.stage.played.ready(alloc, &self.stage.settings)?;
+        let mut answer = Answer::new(alloc);
+        let ready = self.stage.played.ready(&self.stage.settings, &mut answer);
+        let Some((station, agreements)) = ready else {
+            return Err(Trouble::Unreadable("no station"));
+        };
         let end = serve_stream(
             alloc,
             agreements,

@@ -1,19 +1,15 @@
 //! A document is sent by `exchange`, and the receipt in its answer settles it.
-ghost use Rattle.as2_http.specs.Devices.{Opens};
-
 use crate::texts::{RECEIPT, RECEIPT_TYPE, stage};
 use as2_exchange::{Answer, Event, Job, TryAnswer};
-use as2_http::{Counted, exchange};
 use as2_mdn::Detail;
 use as2_text::Moment;
+use script_http::exchanged;
 use script_lines::Answer as Told;
 use script_station::Stage;
 use std::alloc::{AllocError, Global};
 use std::io;
 use std::io::{Read, Write};
-use std::marker::Brand;
 use std::net::{OpenListener, OpenStream, Shutdown, TcpListener, TcpStream};
-use std::sync::ledger::{Blank, Ledger};
 use std::test::Fail;
 
 /// A station where the first try of a document for Buyer has begun.
@@ -26,10 +22,14 @@ struct Begun {
 impl Begun {
     fn new(alloc: Global) -> Result<Begun, Fail> {
         let mut stage = stage(alloc)?;
+        let mut told = Told::new(alloc);
         let document = "1000 submit | Supplier | Buyer | abc";
-        stage.played.take(alloc, &stage.settings, document)??;
-        match stage.played.take(alloc, &stage.settings, "1000 begin 1")? {
-            Ok(Answer::Job(job)) => Ok(Begun { stage, job }),
+        stage.played.take(&stage.settings, document, &mut told);
+        match stage
+            .played
+            .take(&stage.settings, "1000 begin 1", &mut told)
+        {
+            Some(Ok(Answer::Job(job))) => Ok(Begun { stage, job }),
             _ => Err(Fail::new("no job")),
         }
     }
@@ -45,7 +45,10 @@ impl Begun {
             answer,
             moment,
         };
-        let (station, agreements) = stage.played.ready(stage.alloc, &stage.settings)?;
+        let mut told = Told::new(stage.alloc);
+        let Some((station, agreements)) = stage.played.ready(&stage.settings, &mut told) else {
+            return Err(Fail::new("no station"));
+        };
         let said = station.step(stage.alloc, agreements, outcome)?;
         Ok(matches!(said, Answer::Settled(Detail::Processed)) && stands_settled(&mut stage)?)
     }
@@ -54,7 +57,7 @@ impl Begun {
 /// It stands as settled by a receipt after one try.
 fn stands_settled(stage: &mut Stage) -> Result<bool, Fail> {
     let mut told = Told::new(stage.alloc);
-    let is_told = script_station::answer(stage, "document", "1", &mut told)?;
+    let is_told = script_station::answer(stage, "document", "1", &mut told);
     Ok(is_told && told.whole()? == b"processed S, tries 1, idle, due -, receipt".as_slice())
 }
 
@@ -90,45 +93,6 @@ fn answer_text(alloc: Global, framing: Framing) -> Result<Vec<u8>, AllocError> {
         text.extend_from_slice(part)?;
     }
     Ok(text)
-}
-
-fn exchange_counted<R: Read, W: Write, A: Ledger, B: Ledger, C: Ledger, D: Ledger>(
-    alloc: Global,
-    job: &Job,
-    input: &mut R,
-    output: &mut W,
-    reads: Blank,
-    failed_reads: Blank,
-    writes: Blank,
-    failed_writes: Blank,
-) -> TryAnswer
-    requires reads { Opens reads.name reads.parts A.name A.parts }
-    requires failed_reads { Opens failed_reads.name failed_reads.parts B.name B.parts }
-    requires writes { Opens writes.name writes.parts C.name C.parts }
-    requires failed_writes { Opens failed_writes.name failed_writes.parts D.name D.parts }
-{
-    let mut source: Counted<&mut R, A, B> = Counted::new(input, reads, failed_reads);
-    let mut sink: Counted<&mut W, C, D> = Counted::new(output, writes, failed_writes);
-    exchange(alloc, job, &mut source, &mut sink)
-}
-
-/// What the try gets, where nobody looks at the counts.
-fn exchanged<R: Read, W: Write>(
-    alloc: Global,
-    job: &Job,
-    input: &mut R,
-    output: &mut W,
-) -> TryAnswer {
-    exchange_counted::<R, W, Brand, Brand, Brand, Brand>(
-        alloc,
-        job,
-        input,
-        output,
-        Blank::new(1),
-        Blank::new(1),
-        Blank::new(1),
-        Blank::new(1),
-    )
 }
 
 #[test]

@@ -2,7 +2,7 @@
 //! event that was under way, and the list goes on from there to the same end.
 use super::lists::{LISTS, Row};
 use crate::agreements::AGREEMENTS;
-use crate::texts::{is_said, texts};
+use crate::texts::{event_of, is_said, texts};
 use as2_agreement::Agreements;
 use as2_exchange::Event;
 use as2_restart::{Stopped, play_then_stop, reopen, stop_and_open};
@@ -10,7 +10,6 @@ use as2_station::{Filter, Station};
 use as2_store::Store;
 use as2_text::Moment;
 use script_lines::Settings;
-use script_station::event;
 use sqlite::{Alter, Connection, FileStore, Options};
 use sqlite_disk::{Files, Fuse, Memory};
 use std::alloc::Global;
@@ -78,7 +77,7 @@ impl Play {
     /// Plays the rows, each answered as it says, until one has a fault; how many were answered.
     fn until_fault<S: Alter>(&self, station: &mut Station<S>, rows: &[Row]) -> Result<usize, Fail> {
         for (at, (line, wanted)) in rows.iter().enumerate() {
-            let event = event(self.alloc, &self.settings, line)?;
+            let event = event_of(self.alloc, &self.settings, line)?;
             let said = station.step(self.alloc, &self.agreements, event);
             if said.is_err() {
                 return Ok(at);
@@ -94,7 +93,7 @@ impl Play {
     fn events(&self, rows: &[Row]) -> Result<Vec<Event>, Fail> {
         let mut events = Vec::new(self.alloc);
         for (line, _) in rows {
-            events.push(event(self.alloc, &self.settings, line)?)?;
+            events.push(event_of(self.alloc, &self.settings, line)?)?;
         }
         Ok(events)
     }
