@@ -3,15 +3,15 @@
 //! `post` and `reply` bring a body and fields `NAME: VALUE`. The body is a count of letters `a`, the name of a text, or a text. The
 //! fields are those of the text `BODY-fields`, where the body is a text of that name, else those of `post-fields`; a field of the line
 //! stands in place of the one of its name, and is left out where it has no value. Each `OLD -> NEW` is a change in the body.
+use crate::made::{change, copied, made};
 use as2_exchange::{Event, TryAnswer};
 use as2_mic::Pieces;
 use as2_text::{AsName, Head, Moment};
-use script_lines::{Settings, Trouble, bytes_of, number_in};
-use std::alloc::Global;
+use script_lines::{Answer, Settings, Trouble};
 
 /// What a line brings.
 #[derive(Drop)]
-struct Arguments<'a> {
+struct Brought<'a> {
     fields: Vec<(&'a str, &'a str)>,
     /// Changes in the body.
     changes: Vec<(&'a str, &'a str)>,
@@ -19,28 +19,39 @@ struct Arguments<'a> {
     words: Vec<&'a str>,
 }
 
-/// Adds a part of a line to what it brings.
-fn add_part<'a>(arguments: &mut Arguments<'a>, part: &'a str) -> Result<(), Trouble> {
-    if let Some(change) = part.split_once(" -> ") {
-        arguments.changes.push(change)?;
-    } else if let Some((name, value)) = part.split_once(":") {
-        arguments.fields.push((name, value.trim()))?;
-    } else {
-        arguments.words.push(part.trim())?;
+impl<'a> Brought<'a> {
+    /// The word at that place, or no letter.
+    fn word(&self, place: usize) -> &'a str {
+        self.words.get(place).copied().unwrap_or("")
     }
-    Ok(())
 }
 
-fn arguments_of(alloc: Global, text: &str) -> Result<Arguments<'_>, Trouble> {
-    let mut arguments = Arguments {
+/// Adds a part of a line to what it brings.
+fn add_part<'a>(brought: &mut Brought<'a>, part: &'a str, answer: &mut Answer) {
+    let is_added = if let Some(change) = part.split_once(" -> ") {
+        brought.changes.push(change).is_ok()
+    } else if let Some((name, value)) = part.split_once(":") {
+        brought.fields.push((name, value.trim())).is_ok()
+    } else {
+        brought.words.push(part.trim()).is_ok()
+    };
+    if !is_added {
+        answer.fail(Trouble::Memory);
+    }
+}
+
+/// What a line brings in its parts, which stand between ` | `.
+fn brought_by<'a>(line: &'a str, answer: &mut Answer) -> Brought<'a> {
+    let alloc = answer.alloc();
+    let mut brought = Brought {
         fields: Vec::new(alloc),
         changes: Vec::new(alloc),
         words: Vec::new(alloc),
     };
-    for part in text.split(" | ") {
-        add_part(&mut arguments, part)?;
+    for part in line.split(" | ") {
+        add_part(&mut brought, part, answer);
     }
-    Ok(arguments)
+    brought
 }
 
 /// The value of the field of that name among these.
@@ -54,217 +65,251 @@ fn value_of<'a>(fields: &[(&'a str, &'a str)], name: &str) -> Option<&'a str> {
 }
 
 /// Adds a field, unless its value is empty.
-fn add_field(alloc: Global, head: &mut Head, name: &str, value: &str) -> Result<(), Trouble> {
+pub fn add_field(head: &mut Head, name: &str, value: &str, answer: &mut Answer) {
     if value.is_empty() {
-        return Ok(());
+        return;
     }
-    let value = bytes_of(alloc, value)?;
-    match head.append(name.as_bytes(), value.as_slice()) {
-        Ok(()) => Ok(()),
-        Err(_) => Err(Trouble::Unreadable("no field")),
+    let value = answer.bytes_of(value);
+    if head.append(name.as_bytes(), value.as_slice()).is_err() {
+        answer.lack("no field");
     }
 }
 
-/// A head of the plain fields, each with the value that the others give it, and of the others that are not among them.
-fn head_of<'a>(
-    alloc: Global,
+/// Adds the plain fields, each with the value that the others give it.
+fn add_plain<'a>(
+    head: &mut Head,
     plain: &[(&'a str, &'a str)],
     others: &[(&'a str, &'a str)],
-) -> Result<Head, Trouble> {
-    let mut head = Head::new(alloc);
+    answer: &mut Answer,
+) {
     for (name, value) in plain {
         let value = value_of(others, name).unwrap_or(value);
-        add_field(alloc, &mut head, name, value)?;
+        add_field(head, name, value, answer);
     }
+}
+
+/// Adds the others that are not among the plain fields.
+fn add_others<'a>(
+    head: &mut Head,
+    plain: &[(&'a str, &'a str)],
+    others: &[(&'a str, &'a str)],
+    answer: &mut Answer,
+) {
     for (name, value) in others {
         if value_of(plain, name).is_none() {
-            add_field(alloc, &mut head, name, value)?;
+            add_field(head, name, value, answer);
         }
     }
-    Ok(head)
+}
+
+/// The text of the fields that a body of that kind has of itself.
+fn plain_fields<'a>(settings: &'a Settings, kind: &str, answer: &mut Answer) -> &'a str {
+    let name = made(format!(in answer.alloc(); "{kind}-fields"), answer);
+    match settings.text(name.as_str()) {
+        Some(fields) => fields,
+        None => settings.text("post-fields").unwrap_or(""),
+    }
+}
+
+/// The head that a line brings.
+fn head_of(settings: &Settings, brought: &Brought<'_>, answer: &mut Answer) -> Head {
+    let plain = plain_fields(settings, brought.word(1), answer);
+    let plain = brought_by(plain, answer);
+    let (plain, others) = (plain.fields.as_slice(), brought.fields.as_slice());
+    let mut head = Head::new(answer.alloc());
+    add_plain(&mut head, plain, others, answer);
+    add_others(&mut head, plain, others, answer);
+    head
 }
 
 /// The bytes as a body.
-pub fn body_of(alloc: Global, bytes: &[u8]) -> Result<Pieces, Trouble> {
-    let mut body = Pieces::new(alloc);
-    body.append(bytes)?;
-    Ok(body)
+pub fn body_of(bytes: &[u8], answer: &mut Answer) -> Pieces {
+    let mut body = Pieces::new(answer.alloc());
+    if body.append(bytes).is_err() {
+        answer.fail(Trouble::Memory);
+    }
+    body
+}
+
+/// A body of so many letters.
+fn letters(count: usize, answer: &mut Answer) -> Pieces {
+    let letters = made("a".repeat(answer.alloc(), count), answer);
+    body_of(letters.as_bytes(), answer)
+}
+
+/// Makes changes in a text.
+fn change_each(text: &mut String, changes: &[(&str, &str)], answer: &mut Answer) {
+    for (old, new) in changes {
+        change(text, old, new, answer);
+    }
+}
+
+/// A body of a text with these changes.
+fn changed(text: &str, changes: &[(&str, &str)], answer: &mut Answer) -> Pieces {
+    let mut text = copied(text, answer);
+    change_each(&mut text, changes, answer);
+    let bytes = answer.bytes_of(text.as_str());
+    body_of(bytes.as_slice(), answer)
+}
+
+/// The body that the word at that place tells.
+fn body_at(
+    settings: &Settings,
+    brought: &Brought<'_>,
+    place: usize,
+    answer: &mut Answer,
+) -> Pieces {
+    let word = brought.word(place);
+    match word.parse::<usize>() {
+        Ok(count) => letters(count, answer),
+        Err(_) => {
+            let text = settings.text(word).unwrap_or(word);
+            changed(text, brought.changes.as_slice(), answer)
+        }
+    }
 }
 
 /// A name that a word spells.
-pub fn name_in(alloc: Global, word: &str) -> Result<AsName, Trouble> {
-    match AsName::plain(bytes_of(alloc, word)?.as_slice()) {
-        Ok(name) => Ok(name),
-        Err(_) => Err(Trouble::Unreadable("no name")),
+pub fn name_in(word: &str, answer: &mut Answer) -> Option<AsName> {
+    let name = answer.bytes_of(word);
+    match AsName::plain(name.as_slice()) {
+        Ok(name) => Some(name),
+        Err(_) => {
+            answer.lack("no name");
+            None
+        }
     }
 }
 
-/// The moment that a word spells, in seconds since 1970, if it spells one.
-pub fn moment_in(word: &str) -> Option<Moment> {
-    Moment::new(number_in(word).ok()?)
+/// The moment that a word spells, in seconds since 1970.
+pub fn moment_in(word: &str, answer: &mut Answer) -> Option<Moment> {
+    let moment = Moment::new(word.parse::<u64>().unwrap_or(u64::MAX));
+    if moment.is_none() {
+        answer.lack("no moment");
+    }
+    moment
 }
 
-/// A word that should spell a moment, and doesn't.
-pub const NO_MOMENT: Trouble = Trouble::Unreadable("no moment");
-
-/// What a line brings, and the texts that it may name.
-#[derive(Drop)]
-struct Brought<'a> {
-    alloc: Global,
-    settings: &'a Settings,
-    arguments: Arguments<'a>,
-}
-
-impl<'a> Brought<'a> {
-    /// The word at that place, or no letter.
-    fn word(&self, place: usize) -> &'a str {
-        self.arguments.words.get(place).copied().unwrap_or("")
-    }
-
-    fn name(&self, place: usize) -> Result<AsName, Trouble> {
-        name_in(self.alloc, self.word(place))
-    }
-
-    /// The text of the fields that the body's kind has of itself.
-    fn plain_fields(&self) -> Result<&'a str, Trouble> {
-        let name = format!(in self.alloc; "{}-fields", self.word(1))?;
-        match self.settings.text(name.as_str()) {
-            Some(text) => Ok(text),
-            None => Ok(self.settings.text("post-fields").unwrap_or("")),
-        }
-    }
-
-    fn head(&self) -> Result<Head, Trouble> {
-        let plain = arguments_of(self.alloc, self.plain_fields()?)?;
-        head_of(
-            self.alloc,
-            plain.fields.as_slice(),
-            self.arguments.fields.as_slice(),
-        )
-    }
-
-    /// The text with the line's changes.
-    fn changed(&self, text: &str) -> Result<Vec<u8>, Trouble> {
-        let mut text = String::from_str(self.alloc, text)?;
-        for (old, new) in &self.arguments.changes {
-            text = text.replace(self.alloc, old, new)?;
-        }
-        bytes_of(self.alloc, text.as_str())
-    }
-
-    /// The body that the word at that place tells.
-    fn body(&self, place: usize) -> Result<Pieces, Trouble> {
-        let word = self.word(place);
-        if let Ok(count) = word.parse::<usize>() {
-            return body_of(self.alloc, "a".repeat(self.alloc, count)?.as_bytes());
-        }
-        let text = self.settings.text(word).unwrap_or(word);
-        body_of(self.alloc, self.changed(text)?.as_slice())
-    }
-
-    /// What came of a try: nothing, where no status is told.
-    fn answer(&self, status: &str) -> Result<TryAnswer, Trouble> {
-        if status.is_empty() {
-            return Ok(TryAnswer::NoAnswer);
-        }
-        let Ok(status) = status.parse::<u16>() else {
-            return Err(Trouble::Unreadable("no status"));
-        };
-        Ok(TryAnswer::Reply {
+/// What came of a try: nothing, where no status is told.
+fn reply(
+    settings: &Settings,
+    brought: &Brought<'_>,
+    status: &str,
+    answer: &mut Answer,
+) -> TryAnswer {
+    match status.parse::<u16>() {
+        Ok(status) => TryAnswer::Reply {
             status,
-            head: self.head()?,
-            body: self.body(1)?,
-        })
+            head: head_of(settings, brought, answer),
+            body: body_at(settings, brought, 1, answer),
+        },
+        Err(_) => {
+            if !status.is_empty() {
+                answer.lack("no status");
+            }
+            TryAnswer::NoAnswer
+        }
     }
+}
 
-    fn post(&self, moment: Moment) -> Result<Event, Trouble> {
-        Ok(Event::Post {
-            head: self.head()?,
-            body: self.body(1)?,
-            moment,
-        })
-    }
-
-    fn submission(&self, moment: Moment) -> Result<Event, Trouble> {
-        Ok(Event::Submit {
-            organization: self.name(1)?,
-            partner: self.name(2)?,
-            content: self.body(3)?,
-            moment,
-        })
-    }
+/// The answer to a try that a line tells: a status, and behind it what is brought; nothing, where the line is empty.
+pub fn try_answer(settings: &Settings, line: &str, answer: &mut Answer) -> TryAnswer {
+    let brought = brought_by(line, answer);
+    reply(settings, &brought, brought.word(0), answer)
 }
 
 /// The words of an event: its moment, its name, a number, and a status.
 #[derive(Clone, Copy)]
 struct Words<'a> {
-    moment: Moment,
+    moment: &'a str,
     name: &'a str,
     number: &'a str,
     status: &'a str,
 }
 
-fn words_of(text: &str) -> Option<Words<'_>> {
+fn words_of(text: &str) -> Words<'_> {
     let mut words = text.split_whitespace();
-    Some(Words {
-        moment: moment_in(words.next()?)?,
-        name: words.next()?,
+    Words {
+        moment: words.next().unwrap_or(""),
+        name: words.next().unwrap_or(""),
         number: words.next().unwrap_or(""),
         status: words.next().unwrap_or(""),
+    }
+}
+
+/// `MOMENT post | CONTENT | NAME: VALUE | OLD -> NEW`.
+fn post(settings: &Settings, brought: &Brought<'_>, moment: Moment, answer: &mut Answer) -> Event {
+    Event::Post {
+        head: head_of(settings, brought, answer),
+        body: body_at(settings, brought, 1, answer),
+        moment,
+    }
+}
+
+/// `MOMENT submit | ORGANIZATION | PARTNER | CONTENT`.
+fn submission(
+    settings: &Settings,
+    brought: &Brought<'_>,
+    moment: Moment,
+    answer: &mut Answer,
+) -> Option<Event> {
+    let organization = name_in(brought.word(1), answer)?;
+    let partner = name_in(brought.word(2), answer)?;
+    Some(Event::Submit {
+        organization,
+        partner,
+        content: body_at(settings, brought, 3, answer),
+        moment,
     })
 }
 
 /// An event of a try, of a document or of a receipt.
-fn try_event(brought: &Brought<'_>, words: &Words<'_>) -> Result<Event, Trouble> {
-    let number = number_in(words.number)?;
-    let moment = words.moment;
+fn try_event(
+    settings: &Settings,
+    brought: &Brought<'_>,
+    words: &Words<'_>,
+    moment: Moment,
+    answer: &mut Answer,
+) -> Option<Event> {
+    let number = answer.number_in(words.number);
     match words.name {
-        "begin" => Ok(Event::Begin { number, moment }),
-        "begin-mdn" => Ok(Event::BeginMdn { number, moment }),
-        "reply" | "unanswered" => Ok(Event::Outcome {
+        "begin" => Some(Event::Begin { number, moment }),
+        "begin-mdn" => Some(Event::BeginMdn { number, moment }),
+        "reply" | "unanswered" => Some(Event::Outcome {
             number,
-            answer: brought.answer(words.status)?,
+            answer: reply(settings, brought, words.status, answer),
             moment,
         }),
-        "reply-mdn" | "unanswered-mdn" => Ok(Event::OutcomeMdn {
+        "reply-mdn" | "unanswered-mdn" => Some(Event::OutcomeMdn {
             number,
-            answer: brought.answer(words.status)?,
+            answer: reply(settings, brought, words.status, answer),
             moment,
         }),
-        _ => Err(Trouble::Unreadable("no such event")),
+        _ => {
+            answer.lack("no such event");
+            None
+        }
+    }
+}
+
+/// The event that is told by what a line brings.
+fn event_of(settings: &Settings, brought: &Brought<'_>, answer: &mut Answer) -> Option<Event> {
+    let words = words_of(brought.word(0));
+    let moment = moment_in(words.moment, answer)?;
+    match words.name {
+        "" => {
+            answer.lack("no moment");
+            None
+        }
+        "post" => Some(post(settings, brought, moment, answer)),
+        "submit" => submission(settings, brought, moment, answer),
+        "tick" => Some(Event::Tick { moment }),
+        _ => try_event(settings, brought, &words, moment, answer),
     }
 }
 
 /// The event that a line tells.
-pub fn event<'a>(alloc: Global, settings: &'a Settings, line: &'a str) -> Result<Event, Trouble> {
-    let brought = Brought {
-        alloc,
-        settings,
-        arguments: arguments_of(alloc, line)?,
-    };
-    let Some(words) = words_of(brought.word(0)) else {
-        return Err(NO_MOMENT);
-    };
-    match words.name {
-        "post" => brought.post(words.moment),
-        "submit" => brought.submission(words.moment),
-        "tick" => Ok(Event::Tick {
-            moment: words.moment,
-        }),
-        _ => try_event(&brought, &words),
-    }
-}
-
-/// The answer to a try that a line tells: a status, and behind it what is brought; nothing, where the line is empty.
-pub fn try_answer<'a>(
-    alloc: Global,
-    settings: &'a Settings,
-    line: &'a str,
-) -> Result<TryAnswer, Trouble> {
-    let brought = Brought {
-        alloc,
-        settings,
-        arguments: arguments_of(alloc, line)?,
-    };
-    brought.answer(brought.word(0))
+pub fn event(settings: &Settings, line: &str, answer: &mut Answer) -> Option<Event> {
+    let brought = brought_by(line, answer);
+    event_of(settings, &brought, answer)
 }

@@ -2,6 +2,7 @@
 #![tactic(auto)]
 
 mod events;
+mod made;
 mod played;
 mod records;
 mod sending;
@@ -13,21 +14,14 @@ mod writes;
 
 pub use events::event;
 pub use played::Played;
-use script_lines::{Answer, Trouble};
+use script_lines::Answer;
 pub use stage::Stage;
 pub use told::say;
 
 /// Answers to a line; whether its verb is one of these.
-pub fn answer(
-    stage: &mut Stage,
-    verb: &str,
-    rest: &str,
-    answer: &mut Answer,
-) -> Result<bool, Trouble> {
-    Ok(
-        station::answer(stage, verb, rest, answer)?
-            || records::answer(stage, verb, rest, answer)?
-            || store::answer(stage, verb, rest, answer)?
-            || writes::answer(stage, verb, rest, answer)?,
-    )
+pub fn answer(stage: &mut Stage, verb: &str, rest: &str, answer: &mut Answer) -> bool {
+    station::answer(stage, verb, rest, answer)
+        || records::answer(stage, verb, rest, answer)
+        || store::answer(stage, verb, rest, answer)
+        || writes::answer(stage, verb, rest, answer)
 }

@@ -1,14 +1,14 @@
 //! The station that the events of a list go to, over a store in memory.
-ghost use Rattle.std.specs.Prelude.{◌≡◌, false, IfOk};
+ghost use Rattle.std.specs.Prelude.{◌≡◌, false, IfSome};
 
 use crate::events::event;
+use crate::made::made;
 use as2_agreement::Agreements;
-use as2_exchange::{Answer, END_OF_NUMBERS, Event, StoreFault};
+use as2_exchange::{Answer as Said, END_OF_NUMBERS, Event, StoreFault};
 use as2_station::Station;
 use as2_store::Store;
-use script_lines::{Settings, Trouble, bytes_of, expanded, number_in, text_of};
+use script_lines::{Answer, Settings, Trouble};
 use sqlite::{Connection, MemStore};
-use std::alloc::Global;
 
 /// A station under agreements, each once it is asked for.
 #[derive(Drop)]
@@ -17,59 +17,107 @@ pub struct Played {
     station: Option<Station<MemStore>>,
 }
 
-/// A database in memory after these statements.
-pub fn database(alloc: Global, statements: &str) -> Result<Connection<MemStore>, Trouble>
-    ensures { IfOk result (λ conn. conn.in_transaction ≡ false) }
+/// The connection after these statements.
+pub fn executed(
+    mut conn: Connection<MemStore>,
+    statements: &str,
+    answer: &mut Answer,
+) -> Option<Connection<MemStore>>
+    ensures { IfSome result (λ conn. conn.in_transaction ≡ false) }
 {
-    let Ok(mut conn) = Connection::open_in_memory(alloc) else {
-        return Err(Trouble::Memory);
-    };
-    if conn.execute_batch(statements).is_err() || !conn.is_autocommit() {
-        return Err(Trouble::Unreadable("no statements"));
+    if conn.execute_batch(statements).is_ok() && conn.is_autocommit() {
+        return Some(conn);
     }
-    Ok(conn)
+    answer.lack("no statements");
+    None
+}
+
+/// A database in memory after these statements.
+pub fn database(statements: &str, answer: &mut Answer) -> Option<Connection<MemStore>>
+    ensures { IfSome result (λ conn. conn.in_transaction ≡ false) }
+{
+    match Connection::open_in_memory(answer.alloc()) {
+        Ok(conn) => executed(conn, statements, answer),
+        Err(_) => {
+            answer.fail(Trouble::Memory);
+            None
+        }
+    }
 }
 
 /// A new store in memory, whose first number is that.
-fn new_store(alloc: Global, first: u64) -> Result<Store<MemStore>, Trouble> {
+fn new_store(first: u64, answer: &mut Answer) -> Option<Store<MemStore>> {
     if first < 1 || first >= END_OF_NUMBERS {
-        return Err(Trouble::Unreadable("no first number"));
+        answer.lack("no first number");
+        return None;
     }
-    match Store::create(database(alloc, "")?, first) {
-        Ok(store) => Ok(store),
-        Err(_) => Err(Trouble::Memory),
+    let conn = database("", answer)?;
+    match Store::create(conn, first) {
+        Ok(store) => Some(store),
+        Err(_) => {
+            answer.fail(Trouble::Memory);
+            None
+        }
     }
 }
 
 /// The agreements that a text has.
-fn agreements_in(alloc: Global, text: &str) -> Result<Agreements, Trouble> {
-    let text = bytes_of(alloc, text)?;
-    match Agreements::read(alloc, text_of(text.as_slice())?) {
-        Ok(agreements) => Ok(agreements),
-        Err(_) => Err(Trouble::Unreadable("no agreements")),
+fn agreements_in(text: &str, answer: &mut Answer) -> Option<Agreements> {
+    let text = answer.bytes_of(text);
+    match Agreements::read(answer.alloc(), answer.text_of(text.as_slice())) {
+        Ok(agreements) => Some(agreements),
+        Err(_) => {
+            answer.lack("no agreements");
+            None
+        }
+    }
+}
+
+/// Adds the event of the line of that name, with a place in place of `%`.
+fn add_held(
+    events: &mut Vec<Event>,
+    settings: &Settings,
+    name: &str,
+    place: u64,
+    answer: &mut Answer,
+) {
+    let sign = made(format!(in answer.alloc(); "{{{name} {place}}}"), answer);
+    let line = answer.expanded(sign.as_str(), settings);
+    if let Some(event) = event(settings, line.as_str(), answer) {
+        answer.unless_memory(events.push(event));
     }
 }
 
 /// The events by which a store comes to hold so many posts and documents: for each the lines `held-post` and `held-document`, with its
 /// place in place of `%`.
-fn filling(alloc: Global, settings: &Settings, held: u64) -> Result<Vec<Event>, Trouble> {
-    let mut events = Vec::new(alloc);
+fn filling(settings: &Settings, held: u64, answer: &mut Answer) -> Vec<Event> {
+    let mut events = Vec::new(answer.alloc());
     for place in 0..held {
-        for name in ["held-post", "held-document"] {
-            let sign = format!(in alloc; "{{{name} {place}}}")?;
-            let line = expanded(alloc, sign.as_str(), settings)?;
-            events.push(event(alloc, settings, line.as_str())?)?;
-        }
+        add_held(&mut events, settings, "held-post", place, answer);
+        add_held(&mut events, settings, "held-document", place, answer);
     }
-    Ok(events)
+    events
 }
 
 /// The number that the text of that name spells, or another where there is no such text.
-fn number_of(settings: &Settings, name: &str, other: u64) -> Result<u64, Trouble> {
+fn number_of(settings: &Settings, name: &str, other: u64, answer: &mut Answer) -> u64 {
     match settings.text(name) {
-        Some(text) => number_in(text),
-        None => Ok(other),
+        Some(text) => answer.number_in(text),
+        None => other,
     }
+}
+
+/// A station over a new store: its first own number is the text `first`, or 1; before it are as many posts and documents as the text
+/// `held` says.
+fn begun(settings: &Settings, answer: &mut Answer) -> Option<Station<MemStore>> {
+    let held = number_of(settings, "held", 0, answer);
+    let first = number_of(settings, "first", held.saturating_add(1), answer);
+    let agreements = agreements_in(settings.text("agreements").unwrap_or(""), answer)?;
+    let store = new_store(first.saturating_sub(held), answer)?;
+    let events = filling(settings, held, answer);
+    let mut station = Station::new(store);
+    answer.unless_memory(station.play(answer.alloc(), &agreements, events));
+    Some(station)
 }
 
 impl Played {
@@ -81,9 +129,8 @@ impl Played {
     }
 
     /// Has what comes be under the agreements of that text.
-    pub fn agree(&mut self, alloc: Global, text: &str) -> Result<(), Trouble> {
-        self.agreements = Some(agreements_in(alloc, text)?);
-        Ok(())
+    pub fn agree(&mut self, text: &str, answer: &mut Answer) {
+        self.agreements = agreements_in(text, answer);
     }
 
     /// Has the list go on over another store.
@@ -91,69 +138,58 @@ impl Played {
         self.station = Some(Station::new(store));
     }
 
-    /// A station over a new store: its first own number is the text `first`, or 1; before it are as many posts and documents as the
-    /// text `held` says.
-    fn begun(alloc: Global, settings: &Settings) -> Result<Station<MemStore>, Trouble> {
-        let held = number_of(settings, "held", 0)?;
-        let first = number_of(settings, "first", held.saturating_add(1))?;
-        let mut station = Station::new(new_store(alloc, first.saturating_sub(held))?);
-        let agreements = agreements_in(alloc, settings.text("agreements").unwrap_or(""))?;
-        station.play(alloc, &agreements, filling(alloc, settings, held)?)?;
-        Ok(station)
+    /// Has the station begin where there is none yet.
+    fn begin(&mut self, settings: &Settings, answer: &mut Answer) {
+        if self.station.is_none() {
+            self.station = begun(settings, answer);
+        }
     }
 
     /// The station, which begins where there is none yet.
     pub fn station(
         &mut self,
-        alloc: Global,
         settings: &Settings,
-    ) -> Result<&mut Station<MemStore>, Trouble> {
-        if self.station.is_none() {
-            self.station = Some(Played::begun(alloc, settings)?);
-        }
-        match &mut self.station {
-            Some(station) => Ok(station),
-            None => Err(Trouble::Unreadable("no station")),
-        }
+        answer: &mut Answer,
+    ) -> Option<&mut Station<MemStore>> {
+        self.begin(settings, answer);
+        self.station.as_mut()
     }
 
     /// The store, taken out of the station.
     pub fn take_store(
         &mut self,
-        alloc: Global,
         settings: &Settings,
-    ) -> Result<Store<MemStore>, Trouble> {
+        answer: &mut Answer,
+    ) -> Option<Store<MemStore>> {
+        self.begin(settings, answer);
         match self.station.take() {
-            Some(station) => Ok(station.into_store()),
-            None => Ok(Played::begun(alloc, settings)?.into_store()),
+            Some(station) => Some(station.into_store()),
+            None => None,
         }
     }
 
     /// What the station says to the event of a line.
     pub fn take(
         &mut self,
-        alloc: Global,
         settings: &Settings,
         line: &str,
-    ) -> Result<Result<Answer, StoreFault>, Trouble> {
-        let event = event(alloc, settings, line)?;
-        let (station, agreements) = self.ready(alloc, settings)?;
-        Ok(station.step(alloc, agreements, event))
+        answer: &mut Answer,
+    ) -> Option<Result<Said, StoreFault>> {
+        let (station, agreements) = self.ready(settings, answer)?;
+        let event = event(settings, line, answer)?;
+        Some(station.step(answer.alloc(), agreements, event))
     }
 
     /// The station and its agreements, each of which begins where there is none yet.
     pub fn ready(
         &mut self,
-        alloc: Global,
         settings: &Settings,
-    ) -> Result<(&mut Station<MemStore>, &Agreements), Trouble> {
+        answer: &mut Answer,
+    ) -> Option<(&mut Station<MemStore>, &Agreements)> {
         if self.agreements.is_none() {
-            self.agree(alloc, settings.text("agreements").unwrap_or(""))?;
+            self.agree(settings.text("agreements").unwrap_or(""), answer);
         }
-        self.station(alloc, settings)?;
-        match (&mut self.station, &self.agreements) {
-            (Some(station), Some(agreements)) => Ok((station, agreements)),
-            _ => Err(Trouble::Unreadable("no agreements")),
-        }
+        self.begin(settings, answer);
+        Some((self.station.as_mut()?, self.agreements.as_ref()?))
     }
 }

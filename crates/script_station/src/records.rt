@@ -1,14 +1,13 @@
 //! How documents, receipts and what waits stand in the records.
 use crate::stage::Stage;
 use crate::station::state_in;
-use as2_exchange::{Evidence, InEntry, OutEntry};
+use as2_exchange::{Evidence, InEntry, OutEntry, StoreFault};
 use as2_mdn::Detail;
 use as2_mic::Pieces;
 use as2_rows::{InRow, OutRow};
-use as2_store::Store;
-use script_lines::{Answer, Trouble, number_in};
+use as2_store::{NextNumbers, Store};
+use script_lines::Answer;
 use sqlite::MemStore;
-use std::alloc::Global;
 
 /// Answers with the moment when something is due, or `-`.
 fn say_due(answer: &mut Answer, due: Option<u64>) {
@@ -102,39 +101,6 @@ pub fn say_between(answer: &mut Answer, at: usize, between: &str) {
     }
 }
 
-/// Answers with the numbers of the received documents, and how the receipt of each stands.
-fn say_inbox(alloc: Global, answer: &mut Answer, store: &mut Store<MemStore>) {
-    let Some(rows) = answer.unless_fault(store.list_in(alloc)) else {
-        return;
-    };
-    for (at, row) in rows.iter().enumerate() {
-        say_between(answer, at, ", ");
-        answer.say_number(row.number);
-        answer.say(" ");
-        answer.say_small(&row.mdn);
-    }
-}
-
-/// Answers with the numbers of the documents to partners, of that state or of all.
-fn say_outbox(
-    alloc: Global,
-    answer: &mut Answer,
-    store: &mut Store<MemStore>,
-    letter: &str,
-) -> Result<(), Trouble> {
-    let state = match letter {
-        "" => None,
-        letter => Some(state_in(letter)?),
-    };
-    if let Some(rows) = answer.unless_fault(store.list_out(alloc, state)) {
-        for (at, row) in rows.iter().enumerate() {
-            say_between(answer, at, ", ");
-            answer.say_number(row.number);
-        }
-    }
-    Ok(())
-}
-
 /// Answers with how long a content is and when it came.
 fn say_size(answer: &mut Answer, length: u64, seconds: u64) {
     answer.say(", ");
@@ -159,17 +125,6 @@ fn say_in_row(answer: &mut Answer, row: &InRow) {
     say_due(answer, row.due);
 }
 
-/// Answers with the row of each received document, without its content.
-fn say_inbox_rows(alloc: Global, answer: &mut Answer, store: &mut Store<MemStore>) {
-    let Some(rows) = answer.unless_fault(store.list_in(alloc)) else {
-        return;
-    };
-    for (at, row) in rows.iter().enumerate() {
-        say_between(answer, at, "; ");
-        say_in_row(answer, row);
-    }
-}
-
 /// Answers with the row of a document to a partner.
 fn say_out_row(answer: &mut Answer, row: &OutRow) {
     answer.say_number(row.number);
@@ -183,9 +138,44 @@ fn say_out_row(answer: &mut Answer, row: &OutRow) {
     say_due(answer, row.due);
 }
 
+/// Answers with the numbers of the received documents, and how the receipt of each stands.
+fn say_inbox(answer: &mut Answer, listed: Result<Vec<InRow>, StoreFault>) {
+    let Some(rows) = answer.unless_fault(listed) else {
+        return;
+    };
+    for (at, row) in rows.iter().enumerate() {
+        say_between(answer, at, ", ");
+        answer.say_number(row.number);
+        answer.say(" ");
+        answer.say_small(&row.mdn);
+    }
+}
+
+/// Answers with the row of each received document, without its content.
+fn say_inbox_rows(answer: &mut Answer, listed: Result<Vec<InRow>, StoreFault>) {
+    let Some(rows) = answer.unless_fault(listed) else {
+        return;
+    };
+    for (at, row) in rows.iter().enumerate() {
+        say_between(answer, at, "; ");
+        say_in_row(answer, row);
+    }
+}
+
+/// Answers with the numbers of documents to partners.
+fn say_outbox(answer: &mut Answer, listed: Result<Vec<OutRow>, StoreFault>) {
+    let Some(rows) = answer.unless_fault(listed) else {
+        return;
+    };
+    for (at, row) in rows.iter().enumerate() {
+        say_between(answer, at, ", ");
+        answer.say_number(row.number);
+    }
+}
+
 /// Answers with the row of each document to a partner, without its content.
-fn say_outbox_rows(alloc: Global, answer: &mut Answer, store: &mut Store<MemStore>) {
-    let Some(rows) = answer.unless_fault(store.list_out(alloc, None)) else {
+fn say_outbox_rows(answer: &mut Answer, listed: Result<Vec<OutRow>, StoreFault>) {
+    let Some(rows) = answer.unless_fault(listed) else {
         return;
     };
     for (at, row) in rows.iter().enumerate() {
@@ -195,144 +185,156 @@ fn say_outbox_rows(alloc: Global, answer: &mut Answer, store: &mut Store<MemStor
 }
 
 /// Answers with the next number of a receipt and that of a document.
-fn say_numbers(answer: &mut Answer, store: &mut Store<MemStore>) {
-    if let Some(next) = answer.unless_fault(store.next_numbers()) {
+fn say_numbers(answer: &mut Answer, next: Result<NextNumbers, StoreFault>) {
+    if let Some(next) = answer.unless_fault(next) {
         answer.say_number(next.receipt);
         answer.say(" ");
         answer.say_number(next.document);
     }
 }
 
-/// Answers with the five counts of what is outstanding, in the order in which a station shows them.
-fn say_counts(alloc: Global, answer: &mut Answer, store: &mut Store<MemStore>) {
-    let Some(counts) = answer.unless_fault(store.counts(alloc)) else {
-        return;
-    };
-    let counts = [
-        counts.not_sent,
-        counts.in_retry,
-        counts.awaited,
-        counts.in_error,
-        counts.to_send,
-    ];
-    for (at, count) in counts.iter().enumerate() {
-        say_between(answer, at, " ");
-        answer.say_number(*count);
-    }
-}
-
-/// Answers with the numbers of the documents that a receipt has settled.
-fn say_settled(alloc: Global, answer: &mut Answer, store: &mut Store<MemStore>) {
-    let Some(numbers) = answer.unless_fault(store.settled(alloc)) else {
-        return;
-    };
+/// Answers with numbers, with that between them.
+fn say_each(answer: &mut Answer, numbers: &[u64], between: &str) {
     for (at, number) in numbers.iter().enumerate() {
-        say_between(answer, at, ", ");
+        say_between(answer, at, between);
         answer.say_number(*number);
     }
 }
 
-/// Answers with the document under an identifier, whole or how it stands.
-fn say_identified(
-    alloc: Global,
-    answer: &mut Answer,
-    store: &mut Store<MemStore>,
-    id: &str,
-    is_whole: bool,
-) {
-    let found = store.find_out_by_id(alloc, id.as_bytes());
-    if let Some(document) = answer.unless_absent(found) {
-        if is_whole {
-            say_submitted(answer, &document);
-        } else {
-            say_document(answer, &document);
-        }
+/// Answers with the numbers of the documents that a receipt has settled.
+fn say_settled(answer: &mut Answer, settled: Result<Vec<u64>, StoreFault>) {
+    if let Some(numbers) = answer.unless_fault(settled) {
+        say_each(answer, numbers.as_slice(), ", ");
     }
 }
 
-/// Answers to one of the verbs of records over the store.
-fn look(
-    alloc: Global,
-    store: &mut Store<MemStore>,
-    verb: &str,
-    rest: &str,
-    answer: &mut Answer,
-) -> Result<(), Trouble> {
-    match verb {
-        "numbers" => say_numbers(answer, store),
-        "counts" => say_counts(alloc, answer, store),
-        "settled" => say_settled(alloc, answer, store),
-        "inbox" => say_inbox(alloc, answer, store),
-        "outbox" => say_outbox(alloc, answer, store, rest)?,
-        "inbox-rows" => say_inbox_rows(alloc, answer, store),
-        "outbox-rows" => say_outbox_rows(alloc, answer, store),
-        "identified" => say_identified(alloc, answer, store, rest, false),
-        "identified-whole" => say_identified(alloc, answer, store, rest, true),
-        _ => look_at(alloc, store, verb, number_in(rest)?, answer),
+/// Answers with the receipt that settled a document, where there is one.
+fn say_settling(answer: &mut Answer, found: Result<Option<Evidence>, StoreFault>) {
+    if let Some(evidence) = answer.unless_absent(found) {
+        say_evidence(answer, &evidence);
     }
-    Ok(())
 }
 
-/// The same, of that number.
-fn look_at(
-    alloc: Global,
-    store: &mut Store<MemStore>,
-    verb: &str,
-    number: u64,
-    answer: &mut Answer,
-) {
+/// Answers with how the receipt of a received document stands, where it is found.
+fn say_receipt(answer: &mut Answer, found: Result<Option<InEntry>, StoreFault>) {
+    if let Some(entry) = answer.unless_absent(found) {
+        say_owed(answer, &entry);
+    }
+}
+
+/// Answers with a document to a partner, whole or how it stands, where it is found.
+fn say_found(answer: &mut Answer, found: Result<Option<OutEntry>, StoreFault>, is_whole: bool) {
+    let Some(document) = answer.unless_absent(found) else {
+        return;
+    };
+    if is_whole {
+        say_submitted(answer, &document);
+    } else {
+        say_document(answer, &document);
+    }
+}
+
+/// What is asked of the records.
+#[derive(Clone, Copy)]
+enum Asked {
+    Numbers,
+    Counts,
+    Settled,
+    Inbox,
+    InboxRows,
+    Outbox,
+    OutboxRows,
+    Identified,
+    IdentifiedWhole,
+    Document,
+    Submitted,
+    Evidence,
+    Receipt,
+}
+
+/// What a verb asks.
+fn asked_by(verb: &str) -> Option<Asked> {
     match verb {
-        "evidence" => {
-            if let Some(evidence) = answer.unless_absent(store.evidence(alloc, number)) {
-                say_evidence(answer, &evidence);
-            }
+        "numbers" => Some(Asked::Numbers),
+        "counts" => Some(Asked::Counts),
+        "settled" => Some(Asked::Settled),
+        "inbox" => Some(Asked::Inbox),
+        "inbox-rows" => Some(Asked::InboxRows),
+        "outbox" => Some(Asked::Outbox),
+        "outbox-rows" => Some(Asked::OutboxRows),
+        "identified" => Some(Asked::Identified),
+        "identified-whole" => Some(Asked::IdentifiedWhole),
+        "document" => Some(Asked::Document),
+        "submitted" => Some(Asked::Submitted),
+        "evidence" => Some(Asked::Evidence),
+        "receipt" => Some(Asked::Receipt),
+        _ => None,
+    }
+}
+
+/// Answers with the five counts of what is outstanding, in the order in which a station shows them.
+fn look_at_counts(store: &mut Store<MemStore>, answer: &mut Answer) {
+    if let Some(counts) = answer.unless_fault(store.counts(answer.alloc())) {
+        let counts = [
+            counts.not_sent,
+            counts.in_retry,
+            counts.awaited,
+            counts.in_error,
+            counts.to_send,
+        ];
+        say_each(answer, &counts, " ");
+    }
+}
+
+/// Answers with the numbers of the documents to partners, of that state or of all.
+fn look_out(store: &mut Store<MemStore>, letter: &str, answer: &mut Answer) {
+    let state = match letter {
+        "" => None,
+        letter => state_in(letter, answer),
+    };
+    say_outbox(answer, store.list_out(answer.alloc(), state));
+}
+
+/// Answers with what is asked of that number.
+fn look_at(store: &mut Store<MemStore>, asked: Asked, number: u64, answer: &mut Answer) {
+    let alloc = answer.alloc();
+    match asked {
+        Asked::Evidence => say_settling(answer, store.evidence(alloc, number)),
+        Asked::Receipt => say_receipt(answer, store.find_in_number(alloc, number)),
+        Asked::Submitted => say_found(answer, store.find_out(alloc, number), true),
+        _ => say_found(answer, store.find_out(alloc, number), false),
+    }
+}
+
+/// Answers with what is asked.
+fn look(store: &mut Store<MemStore>, asked: Asked, rest: &str, answer: &mut Answer) {
+    let alloc = answer.alloc();
+    match asked {
+        Asked::Numbers => say_numbers(answer, store.next_numbers()),
+        Asked::Counts => look_at_counts(store, answer),
+        Asked::Settled => say_settled(answer, store.settled(alloc)),
+        Asked::Inbox => say_inbox(answer, store.list_in(alloc)),
+        Asked::InboxRows => say_inbox_rows(answer, store.list_in(alloc)),
+        Asked::Outbox => look_out(store, rest, answer),
+        Asked::OutboxRows => say_outbox_rows(answer, store.list_out(alloc, None)),
+        Asked::Identified => {
+            say_found(answer, store.find_out_by_id(alloc, rest.as_bytes()), false);
         }
-        "receipt" => {
-            if let Some(entry) = answer.unless_absent(store.find_in_number(alloc, number)) {
-                say_owed(answer, &entry);
-            }
+        Asked::IdentifiedWhole => {
+            say_found(answer, store.find_out_by_id(alloc, rest.as_bytes()), true);
         }
-        _ => {
-            if let Some(document) = answer.unless_absent(store.find_out(alloc, number)) {
-                if verb == "submitted" {
-                    say_submitted(answer, &document);
-                } else {
-                    say_document(answer, &document);
-                }
-            }
-        }
+        _ => look_at(store, asked, answer.number_in(rest), answer),
     }
 }
 
 /// Answers to the verbs of records; whether it is one.
-pub fn answer(
-    stage: &mut Stage,
-    verb: &str,
-    rest: &str,
-    answer: &mut Answer,
-) -> Result<bool, Trouble> {
-    let is_known = matches!(
-        verb,
-        "numbers"
-            | "counts"
-            | "settled"
-            | "inbox"
-            | "outbox"
-            | "inbox-rows"
-            | "outbox-rows"
-            | "identified"
-            | "identified-whole"
-            | "document"
-            | "submitted"
-            | "evidence"
-            | "receipt"
-    );
-    if !is_known {
-        return Ok(false);
+pub fn answer(stage: &mut Stage, verb: &str, rest: &str, answer: &mut Answer) -> bool {
+    let Some(asked) = asked_by(verb) else {
+        return false;
+    };
+    if let Some(mut store) = stage.played.take_store(&stage.settings, answer) {
+        look(&mut store, asked, rest, answer);
+        stage.played.put(store);
     }
-    let alloc = stage.alloc;
-    let mut store = stage.played.take_store(alloc, &stage.settings)?;
-    look(alloc, &mut store, verb, rest, answer)?;
-    stage.played.put(store);
-    Ok(true)
+    true
 }

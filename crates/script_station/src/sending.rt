@@ -9,7 +9,7 @@ use as2_http::Counted;
 use as2_sending::{Links, Sent, send};
 use as2_station::Station;
 use as2_text::Moment;
-use script_lines::{Answer, Settings, Trouble, number_in};
+use script_lines::{Answer, Settings};
 use sqlite::MemStore;
 use std::alloc::Global;
 use std::cmp::min;
@@ -22,22 +22,15 @@ use std::sync::ledger::{Blank, Ledger};
 #[derive(Drop)]
 struct Partners<'a> {
     settings: &'a Settings,
-    asked: Vec<u8>,
-}
-
-impl Partners<'_> {
-    /// What is answered, where memory is there.
-    fn answer(&mut self, alloc: Global, job: &Job) -> Result<TryAnswer, Trouble> {
-        self.asked.extend_from_slice(b", ")?;
-        self.asked.extend_from_slice(job.authority.as_slice())?;
-        let reply = self.settings.text("partner-reply").unwrap_or("");
-        try_answer(alloc, self.settings, reply)
-    }
+    asked: Answer,
 }
 
 impl Links for Partners<'_> {
-    fn exchange(&mut self, alloc: Global, job: &Job) -> TryAnswer {
-        self.answer(alloc, job).unwrap_or(TryAnswer::NoAnswer)
+    fn exchange(&mut self, _alloc: Global, job: &Job) -> TryAnswer {
+        self.asked.say(", ");
+        self.asked.say_bytes(job.authority.as_slice());
+        let reply = self.settings.text("partner-reply").unwrap_or("");
+        try_answer(self.settings, reply, &mut self.asked)
     }
 }
 
@@ -62,7 +55,6 @@ impl Write for Paper {
 
 /// Sends with counts of the calls that are made of what is written.
 fn sent_counted<L: Ledger, M: Ledger>(
-    alloc: Global,
     agreements: &Agreements,
     moment: Moment,
     station: &mut Station<MemStore>,
@@ -74,32 +66,42 @@ fn sent_counted<L: Ledger, M: Ledger>(
     requires writes { Opens writes.name writes.parts L.name L.parts }
     requires failed_writes { Opens failed_writes.name failed_writes.parts M.name M.parts }
 {
+    let alloc = partners.asked.alloc();
     let mut output: Counted<&mut Paper, L, M> = Counted::new(paper, writes, failed_writes);
     send(alloc, agreements, moment, station, partners, &mut output)
 }
 
 /// How much may be written: what the text `room` says, or all.
-fn room(settings: &Settings) -> Result<usize, Trouble> {
+fn room(settings: &Settings, answer: &mut Answer) -> usize {
     match settings.text("room") {
-        Some(text) => Ok(usize::try_from(number_in(text)?).unwrap_or(usize::MAX)),
-        None => Ok(usize::MAX),
+        Some(text) => answer.length_in(text),
+        None => usize::MAX,
+    }
+}
+
+/// Answers with whom was asked, or why they can't have answered.
+fn say_asked(answer: &mut Answer, asked: &Answer) {
+    match asked.whole() {
+        Ok(bytes) => answer.say_bytes(bytes),
+        Err(trouble) => answer.fail(trouble),
     }
 }
 
 /// Sends what is due at the moment; answers with what was written, how that ended, and whom it asked.
-pub fn say_sent(stage: &mut Stage, moment: Moment, answer: &mut Answer) -> Result<(), Trouble> {
-    let alloc = stage.alloc;
+pub fn say_sent(stage: &mut Stage, moment: Moment, answer: &mut Answer) {
+    let room = room(&stage.settings, answer);
+    let Some((station, agreements)) = stage.played.ready(&stage.settings, answer) else {
+        return;
+    };
     let mut partners = Partners {
         settings: &stage.settings,
-        asked: Vec::new(alloc),
+        asked: Answer::new(answer.alloc()),
     };
     let mut paper = Paper {
-        bytes: Vec::new(alloc),
-        room: room(&stage.settings)?,
+        bytes: Vec::new(answer.alloc()),
+        room,
     };
-    let (station, agreements) = stage.played.ready(alloc, &stage.settings)?;
     let sent = sent_counted::<Brand, Brand>(
-        alloc,
         agreements,
         moment,
         station,
@@ -109,7 +111,6 @@ pub fn say_sent(stage: &mut Stage, moment: Moment, answer: &mut Answer) -> Resul
         Blank::new(1),
     );
     answer.say_bytes(paper.bytes.as_slice());
-    answer.say_made(format!(in alloc; "{sent:?}"));
-    answer.say_bytes(partners.asked.as_slice());
-    Ok(())
+    answer.say_name(&sent);
+    say_asked(answer, &partners.asked);
 }

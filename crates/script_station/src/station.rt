@@ -1,14 +1,14 @@
 //! Events, what is to be sent next, and what a station shows.
-use crate::events::{NO_MOMENT, moment_in};
+use crate::events::moment_in;
+use crate::made::made;
 use crate::sending::say_sent;
 use crate::stage::Stage;
 use crate::told::{say, say_report_bytes};
 use as2_exchange::{Next, StoreFault};
 use as2_mdn::State;
 use as2_station::{Filter, Station};
-use script_lines::{Answer, Trouble, number_in};
+use script_lines::Answer;
 use sqlite::MemStore;
-use std::alloc::Global;
 
 /// Answers with what is to be sent next.
 fn say_next(answer: &mut Answer, next: Result<Option<Next>, StoreFault>) {
@@ -31,117 +31,120 @@ fn say_text(answer: &mut Answer, text: Result<String, StoreFault>) {
 }
 
 /// The state of that letter.
-pub fn state_in(letter: &str) -> Result<State, Trouble> {
+pub fn state_in(letter: &str, answer: &mut Answer) -> Option<State> {
     match letter {
-        "P" => Ok(State::P),
-        "R" => Ok(State::R),
-        "S" => Ok(State::S),
-        "W" => Ok(State::W),
-        "E" => Ok(State::E),
-        _ => Err(Trouble::Unreadable("no state")),
+        "P" => Some(State::P),
+        "R" => Some(State::R),
+        "S" => Some(State::S),
+        "W" => Some(State::W),
+        "E" => Some(State::E),
+        _ => {
+            answer.lack("no state");
+            None
+        }
     }
 }
 
 /// What a listing is asked for by: `in`, `out`, or `out` and a state.
-fn filter_in(words: &str) -> Result<Filter, Trouble> {
+fn filter_in(words: &str, answer: &mut Answer) -> Option<Filter> {
     match words.split_once(" ") {
-        Some((_, letter)) => Ok(Filter::Outbox(Some(state_in(letter)?))),
-        None if words == "in" => Ok(Filter::Inbox),
-        None => Ok(Filter::Outbox(None)),
+        Some((_, letter)) => {
+            let state = state_in(letter, answer)?;
+            Some(Filter::Outbox(Some(state)))
+        }
+        None if words == "in" => Some(Filter::Inbox),
+        None => Some(Filter::Outbox(None)),
     }
 }
 
-/// Answers with a document in full, or that there is none.
-fn show(alloc: Global, station: &mut Station<MemStore>, number: u64, answer: &mut Answer) {
-    if let Some(text) = answer.unless_absent(station.show(alloc, number)) {
+/// Answers with a text that is shown, or that there is none.
+fn say_shown(answer: &mut Answer, shown: Result<Option<String>, StoreFault>) {
+    if let Some(text) = answer.unless_absent(shown) {
         answer.say(text.as_str());
     }
 }
 
-/// Answers with the content of a received document, or that there is none.
-fn fetch(alloc: Global, station: &mut Station<MemStore>, number: u64, answer: &mut Answer) {
-    if let Some(content) = answer.unless_absent(station.fetch(alloc, number)) {
+/// Answers with a content, or that there is none.
+fn say_fetched(answer: &mut Answer, fetched: Result<Option<Vec<u8>>, StoreFault>) {
+    if let Some(content) = answer.unless_absent(fetched) {
         answer.say_bytes(content.as_slice());
     }
 }
 
+/// Answers with the listing that is asked for.
+fn list(station: &mut Station<MemStore>, rest: &str, answer: &mut Answer) {
+    if let Some(filter) = filter_in(rest, answer) {
+        say_text(answer, station.listing(answer.alloc(), filter));
+    }
+}
+
 /// Answers with what is to be sent next at a moment, or with what is outstanding then.
-fn look_ahead(
-    alloc: Global,
-    station: &mut Station<MemStore>,
-    verb: &str,
-    rest: &str,
-    answer: &mut Answer,
-) -> Result<(), Trouble> {
-    let Some(moment) = moment_in(rest) else {
-        return Err(NO_MOMENT);
+fn look_ahead(station: &mut Station<MemStore>, verb: &str, rest: &str, answer: &mut Answer) {
+    let Some(moment) = moment_in(rest, answer) else {
+        return;
     };
     if verb == "next" {
         say_next(answer, station.next(moment));
     } else {
-        say_text(answer, station.outstanding(alloc, moment));
+        say_text(answer, station.outstanding(answer.alloc(), moment));
     }
-    Ok(())
 }
 
 /// Answers with what a station shows.
-fn look(
-    alloc: Global,
-    station: &mut Station<MemStore>,
-    verb: &str,
-    rest: &str,
-    answer: &mut Answer,
-) -> Result<(), Trouble> {
+fn look(station: &mut Station<MemStore>, verb: &str, rest: &str, answer: &mut Answer) {
+    let alloc = answer.alloc();
     match verb {
-        "list" => say_text(answer, station.listing(alloc, filter_in(rest)?)),
-        "show" => show(alloc, station, number_in(rest)?, answer),
-        "fetch" => fetch(alloc, station, number_in(rest)?, answer),
-        _ => look_ahead(alloc, station, verb, rest, answer)?,
+        "list" => list(station, rest, answer),
+        "show" => {
+            let number = answer.number_in(rest);
+            say_shown(answer, station.show(alloc, number));
+        }
+        "fetch" => {
+            let number = answer.number_in(rest);
+            say_fetched(answer, station.fetch(alloc, number));
+        }
+        _ => look_ahead(station, verb, rest, answer),
     }
-    Ok(())
 }
 
-/// Answers with what the station says to the event of a line.
-fn say_event(stage: &mut Stage, line: &str, answer: &mut Answer) -> Result<(), Trouble> {
-    let said = stage.played.take(stage.alloc, &stage.settings, line)?;
-    say(stage.alloc, &stage.settings, answer, &said)
+/// Answers with what the station of the list shows.
+fn look_on(stage: &mut Stage, verb: &str, rest: &str, answer: &mut Answer) {
+    if let Some(station) = stage.played.station(&stage.settings, answer) {
+        look(station, verb, rest, answer);
+    }
 }
 
-/// Answers with the report that the station makes to the event of a line.
-fn say_report(stage: &mut Stage, line: &str, answer: &mut Answer) -> Result<(), Trouble> {
-    let said = stage.played.take(stage.alloc, &stage.settings, line)?;
-    say_report_bytes(answer, &said)
+/// Answers with what the station says to the event of a line, or with the bytes of its report alone.
+fn say_event(stage: &mut Stage, line: &str, is_report: bool, answer: &mut Answer) {
+    let Some(said) = stage.played.take(&stage.settings, line, answer) else {
+        return;
+    };
+    if is_report {
+        say_report_bytes(answer, &said);
+    } else {
+        say(&stage.settings, answer, &said);
+    }
 }
 
 /// Sends what is due at a moment.
-fn send(stage: &mut Stage, rest: &str, answer: &mut Answer) -> Result<(), Trouble> {
-    match moment_in(rest) {
-        Some(moment) => say_sent(stage, moment, answer),
-        None => Err(NO_MOMENT),
+fn send(stage: &mut Stage, rest: &str, answer: &mut Answer) {
+    if let Some(moment) = moment_in(rest, answer) {
+        say_sent(stage, moment, answer);
     }
 }
 
 /// Answers to the verbs of a station; whether it is one. One that is a number is the moment of an event.
-pub fn answer(
-    stage: &mut Stage,
-    verb: &str,
-    rest: &str,
-    answer: &mut Answer,
-) -> Result<bool, Trouble> {
-    let alloc = stage.alloc;
+pub fn answer(stage: &mut Stage, verb: &str, rest: &str, answer: &mut Answer) -> bool {
     match verb {
-        "report-bytes" => say_report(stage, rest, answer)?,
-        "send" => send(stage, rest, answer)?,
-        "under" => stage.played.agree(alloc, rest)?,
-        "next" | "list" | "outstanding" | "show" | "fetch" => {
-            let station = stage.played.station(alloc, &stage.settings)?;
-            look(alloc, station, verb, rest, answer)?;
-        }
+        "report-bytes" => say_event(stage, rest, true, answer),
+        "send" => send(stage, rest, answer),
+        "under" => stage.played.agree(rest, answer),
+        "next" | "list" | "outstanding" | "show" | "fetch" => look_on(stage, verb, rest, answer),
         _ if verb.parse::<u64>().is_ok() => {
-            let line = format!(in alloc; "{verb} {rest}")?;
-            say_event(stage, line.as_str(), answer)?;
+            let line = made(format!(in answer.alloc(); "{verb} {rest}"), answer);
+            say_event(stage, line.as_str(), false, answer);
         }
-        _ => return Ok(false),
+        _ => return false,
     }
-    Ok(true)
+    true
 }

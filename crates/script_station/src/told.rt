@@ -1,72 +1,56 @@
 //! What is said to an event, as a line tells it.
+use crate::made::{change, copied, made};
 use as2_exchange::{Answer as Said, HttpAnswer, HttpBody, Job, StoreFault};
 use as2_mdn::ReportOut;
-use script_lines::{Answer, Settings, Trouble, bytes_of, text_of};
-use std::alloc::Global;
+use script_lines::{Answer, Settings};
 
 /// The MIC of a report and its digest, or `-`.
-fn mic_of(alloc: Global, out: &ReportOut) -> Result<String, Trouble> {
+fn say_mic(answer: &mut Answer, out: &ReportOut) {
     match &out.mic {
         Some(mic) => {
-            let text = text_of(mic.text.bytes())?;
-            Ok(format!(in alloc; "{text}, {}", mic.digest.name())?)
+            answer.say_bytes(mic.text.bytes());
+            answer.say(", ");
+            answer.say(mic.digest.name());
         }
-        None => Ok(String::from_str(alloc, "-")?),
+        None => answer.say("-"),
     }
 }
 
-/// Puts what a report says of its document into the text of reports.
-fn with_document(alloc: Global, text: &str, out: &ReportOut) -> Result<String, Trouble> {
-    let number = out.number.to_string(alloc)?;
-    let text = text.replace(alloc, "@number", number.as_str())?;
-    let text = text.replace(alloc, "@organization", text_of(out.from.bytes())?)?;
-    let text = text.replace(alloc, "@outcome", out.outcome.text())?;
-    Ok(text.replace(alloc, "@id", out.original_id.as_received())?)
+/// Puts the MIC of a report into the text of reports: the line of it that tells the MIC is left out where the report has none.
+fn put_mic(text: &mut String, out: &ReportOut, answer: &mut Answer) {
+    if out.mic.is_none() {
+        change(text, "Received-content-MIC: @mic\\r\\n", "", answer);
+        return;
+    }
+    let mut mic = Answer::new(answer.alloc());
+    say_mic(&mut mic, out);
+    change(text, "@mic", answer.text_of(mic.bytes.as_slice()), answer);
 }
 
-/// The bytes of a report, by the text `report-text`: a line of it that has `@mic` is left out where the report has none.
-fn report_bytes(
-    alloc: Global,
-    settings: &Settings,
-    out: &ReportOut,
-    mic: &str,
-) -> Result<Vec<u8>, Trouble> {
+/// Puts what a report says into the text of reports.
+fn put_report(text: &mut String, out: &ReportOut, answer: &mut Answer) {
+    let number = made(out.number.to_string(answer.alloc()), answer);
+    change(text, "@number", number.as_str(), answer);
+    change(
+        text,
+        "@organization",
+        answer.text_of(out.from.bytes()),
+        answer,
+    );
+    change(text, "@outcome", out.outcome.text(), answer);
+    change(text, "@id", out.original_id.as_received(), answer);
+    put_mic(text, out, answer);
+}
+
+/// Whether the bytes of a report are those of the text `report-text`.
+fn is_by_text(settings: &Settings, answer: &mut Answer, out: &ReportOut, bytes: &[u8]) -> bool {
     let Some(text) = settings.text("report-text") else {
-        return Err(Trouble::Unreadable("no text report-text"));
+        answer.lack("no text report-text");
+        return false;
     };
-    let text = with_document(alloc, text, out)?;
-    let text = if mic == "-" {
-        text.replace(alloc, "Received-content-MIC: @mic\\r\\n", "")?
-    } else {
-        text.replace(alloc, "@mic", mic)?
-    };
-    bytes_of(alloc, text.as_str())
-}
-
-/// What a report says, if its bytes are those of the text of reports.
-fn say_report(
-    alloc: Global,
-    settings: &Settings,
-    answer: &mut Answer,
-    out: &ReportOut,
-    bytes: &[u8],
-) -> Result<(), Trouble> {
-    let mic = mic_of(alloc, out)?;
-    if report_bytes(alloc, settings, out, mic.as_str())?.as_slice() != bytes {
-        answer.say("a report of other bytes");
-        return Ok(());
-    }
-    answer.say("report <mdn-");
-    answer.say_number(out.number);
-    answer.say("@");
-    answer.say_bytes(out.domain.bytes());
-    say_names(answer, out);
-    answer.say(out.original_id.as_received());
-    answer.say(": ");
-    answer.say(out.outcome.text());
-    answer.say("; ");
-    answer.say(mic.as_str());
-    Ok(())
+    let mut text = copied(text, answer);
+    put_report(&mut text, out, answer);
+    answer.bytes_of(text.as_str()).as_slice() == bytes
 }
 
 /// Whom a report is from and to.
@@ -78,12 +62,25 @@ fn say_names(answer: &mut Answer, out: &ReportOut) {
     answer.say(" on ");
 }
 
-fn say_http(
-    alloc: Global,
-    settings: &Settings,
-    answer: &mut Answer,
-    said: &HttpAnswer,
-) -> Result<(), Trouble> {
+/// What a report says, if its bytes are those of the text of reports.
+fn say_report(settings: &Settings, answer: &mut Answer, out: &ReportOut, bytes: &[u8]) {
+    if !is_by_text(settings, answer, out, bytes) {
+        answer.say("a report of other bytes");
+        return;
+    }
+    answer.say("report <mdn-");
+    answer.say_number(out.number);
+    answer.say("@");
+    answer.say_bytes(out.domain.bytes());
+    say_names(answer, out);
+    answer.say(out.original_id.as_received());
+    answer.say(": ");
+    answer.say(out.outcome.text());
+    answer.say("; ");
+    say_mic(answer, out);
+}
+
+fn say_http(settings: &Settings, answer: &mut Answer, said: &HttpAnswer) {
     answer.say_number(u64::from(said.status));
     match &said.body {
         HttpBody::Nothing => {}
@@ -93,10 +90,9 @@ fn say_http(
         }
         HttpBody::Report { out, bytes } => {
             answer.say(" ");
-            say_report(alloc, settings, answer, out, bytes.as_slice())?;
+            say_report(settings, answer, out, bytes.as_slice());
         }
     }
-    Ok(())
 }
 
 /// A request that is to be sent: its address and its bytes.
@@ -133,26 +129,17 @@ fn say_words(answer: &mut Answer, said: &Said) {
 }
 
 /// What is said to an event.
-pub fn say(
-    alloc: Global,
-    settings: &Settings,
-    answer: &mut Answer,
-    said: &Result<Said, StoreFault>,
-) -> Result<(), Trouble> {
+pub fn say(settings: &Settings, answer: &mut Answer, said: &Result<Said, StoreFault>) {
     match said {
         Err(fault) => answer.say_fault(fault),
-        Ok(Said::Http(said)) => say_http(alloc, settings, answer, said)?,
+        Ok(Said::Http(said)) => say_http(settings, answer, said),
         Ok(Said::Job(job)) => say_job(answer, job),
         Ok(said) => say_words(answer, said),
     }
-    Ok(())
 }
 
 /// Answers with the bytes of the report that is said to a post.
-pub fn say_report_bytes(
-    answer: &mut Answer,
-    said: &Result<Said, StoreFault>,
-) -> Result<(), Trouble> {
+pub fn say_report_bytes(answer: &mut Answer, said: &Result<Said, StoreFault>) {
     match said {
         Ok(
             Said::Http(
@@ -161,10 +148,7 @@ pub fn say_report_bytes(
                     ..
                 },
             ),
-        ) => {
-            answer.say_bytes(bytes.as_slice());
-            Ok(())
-        }
-        _ => Err(Trouble::Unreadable("no report")),
+        ) => answer.say_bytes(bytes.as_slice()),
+        _ => answer.lack("no report"),
     }
 }

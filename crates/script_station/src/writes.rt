@@ -1,16 +1,15 @@
 //! Calls of the store beside the machine: entries that are put in, found by their key and settled.
-use crate::events::{NO_MOMENT, body_of, moment_in};
+use crate::events::{add_field, body_of, moment_in, name_in};
 use crate::records::{say_content, say_names, say_owed};
 use crate::stage::Stage;
 use as2_exchange::{Bytes, Evidence, InEntry, Posted, StoreFault};
 use as2_mdn::Detail;
 use as2_posts::{Opened, document, first_entry};
 use as2_store::Store;
-use as2_text::{AsName, Head, MediaType, MessageId};
-use script_lines::{Answer, Trouble, bytes_of, number_in};
+use as2_text::{AsName, Head, MediaType, MessageId, Moment};
+use script_lines::{Answer, Trouble};
 use script_values::{say_how, say_mic};
 use sqlite::MemStore;
-use std::alloc::Global;
 
 /// Every detail.
 static DETAILS: [Detail; 14] = [
@@ -31,13 +30,14 @@ static DETAILS: [Detail; 14] = [
 ];
 
 /// The detail of that name.
-fn detail_in(name: &str) -> Result<Detail, Trouble> {
+fn detail_in(name: &str, answer: &mut Answer) -> Option<Detail> {
     for detail in &DETAILS {
         if detail.name() == name {
-            return Ok(*detail);
+            return Some(*detail);
         }
     }
-    Err(Trouble::Unreadable("no detail"))
+    answer.lack("no detail");
+    None
 }
 
 /// Answers whether a write was done.
@@ -47,106 +47,103 @@ fn say_done(answer: &mut Answer, done: Result<(), StoreFault>) {
     }
 }
 
-/// The partner that posts, and the organization that it posts to.
-fn names() -> Result<(AsName, AsName), Trouble> {
-    match (AsName::plain(b"Buyer"), AsName::plain(b"Supplier")) {
-        (Ok(partner), Ok(organization)) => Ok((partner, organization)),
-        _ => Err(Trouble::Unreadable("no names")),
-    }
-}
-
 /// The head of the plain post under that identifier.
-fn head_of(alloc: Global, id: &[u8]) -> Result<Head, Trouble> {
-    let mut head = Head::new(alloc);
-    for (name, value) in [
-        (b"Message-ID".as_slice(), id),
-        (b"Content-Type", b"application/edi-x12"),
-        (b"Disposition-Notification-To", b"a@x"),
-        (
-            b"Disposition-Notification-Options",
-            b"signed-receipt-micalg=optional, sha1",
-        ),
-    ] {
-        if head.append(name, value).is_err() {
-            return Err(Trouble::Unreadable("no field"));
-        }
-    }
-    Ok(head)
+fn head_of(id: &str, answer: &mut Answer) -> Head {
+    let options = "signed-receipt-micalg=optional, sha1";
+    let mut head = Head::new(answer.alloc());
+    add_field(&mut head, "Message-ID", id, answer);
+    add_field(&mut head, "Content-Type", "application/edi-x12", answer);
+    add_field(&mut head, "Disposition-Notification-To", "a@x", answer);
+    add_field(
+        &mut head,
+        "Disposition-Notification-Options",
+        options,
+        answer,
+    );
+    head
 }
 
-/// The document that Buyer posts to Supplier under that identifier.
-fn posted(alloc: Global, id: &[u8], content: &[u8]) -> Result<Posted, Trouble> {
-    let (from, to) = names()?;
+/// What the head of a post says that Buyer posts to Supplier.
+fn opened(answer: &mut Answer) -> Option<Opened<'static>> {
     let Ok(media) = MediaType::parse(b"application/edi-x12") else {
-        return Err(Trouble::Unreadable("no type"));
+        answer.lack("no type");
+        return None;
     };
-    let opened = Opened {
+    let from = name_in("Buyer", answer)?;
+    let to = name_in("Supplier", answer)?;
+    Some(Opened {
         from,
         to,
         media,
         content_type: b"application/edi-x12",
-    };
-    match document(
-        alloc,
-        opened,
-        &head_of(alloc, id)?,
-        body_of(alloc, content)?,
-    )? {
-        Ok(posted) => Ok(posted),
-        Err(_) => Err(Trouble::Unreadable("no document")),
+    })
+}
+
+/// The document that Buyer posts to Supplier under that identifier.
+fn posted(id: &str, content: &str, answer: &mut Answer) -> Option<Posted> {
+    let opened = opened(answer)?;
+    let head = head_of(id, answer);
+    let content = answer.bytes_of(content);
+    let body = body_of(content.as_slice(), answer);
+    match document(answer.alloc(), opened, &head, body) {
+        Ok(Ok(posted)) => Some(posted),
+        Ok(Err(_)) => {
+            answer.lack("no document");
+            None
+        }
+        Err(_) => {
+            answer.fail(Trouble::Memory);
+            None
+        }
     }
 }
 
+/// The entry of a post by Buyer at 1000, by its number, its identifier and its content.
+fn entry_in(rest: &str, answer: &mut Answer) -> Option<InEntry> {
+    let (number, rest) = rest.split_once(" | ").unwrap_or((rest, ""));
+    let (id, content) = rest.split_once(" | ").unwrap_or((rest, ""));
+    let number = answer.number_in(number);
+    let moment = moment_in("1000", answer)?;
+    let posted = posted(id, content, answer)?;
+    Some(first_entry(number, moment, posted))
+}
+
 /// `add NUMBER | IDENTIFIER | CONTENT` puts in the entry of a post by Buyer at 1000.
-fn add(
-    alloc: Global,
-    store: &mut Store<MemStore>,
-    rest: &str,
-    answer: &mut Answer,
-) -> Result<(), Trouble> {
-    let mut parts = rest.split(" | ");
-    let number = number_in(parts.next().unwrap_or(""))?;
-    let id = bytes_of(alloc, parts.next().unwrap_or(""))?;
-    let content = bytes_of(alloc, parts.next().unwrap_or(""))?;
-    let posted = posted(alloc, id.as_slice(), content.as_slice())?;
-    let Some(moment) = moment_in("1000") else {
-        return Err(NO_MOMENT);
-    };
-    let entry = first_entry(number, moment, posted);
-    say_done(answer, store.add_in(&entry));
-    Ok(())
+fn add(store: &mut Store<MemStore>, rest: &str, answer: &mut Answer) {
+    if let Some(entry) = entry_in(rest, answer) {
+        say_done(answer, store.add_in(&entry));
+    }
+}
+
+/// A receipt of the bytes `abc` at 2000.
+fn evidence(answer: &mut Answer) -> Option<Evidence> {
+    let moment = moment_in("2000", answer)?;
+    Some(Evidence {
+        moment,
+        content_type: Bytes::of(answer.bytes_of("text/plain")),
+        body: body_of(b"abc", answer),
+    })
 }
 
 /// `settle NUMBER DETAIL` settles a document at 2000 by a receipt of the bytes `abc`.
-fn settle(
-    alloc: Global,
-    store: &mut Store<MemStore>,
-    rest: &str,
-    answer: &mut Answer,
-) -> Result<(), Trouble> {
+fn settle(store: &mut Store<MemStore>, rest: &str, answer: &mut Answer) {
     let (number, name) = rest.split_once(" ").unwrap_or((rest, ""));
-    let Some(moment) = moment_in("2000") else {
-        return Err(NO_MOMENT);
+    let number = answer.number_in(number);
+    let Some(detail) = detail_in(name, answer) else {
+        return;
     };
-    let evidence = Evidence {
-        moment,
-        content_type: Bytes::keep(alloc, b"text/plain")?,
-        body: body_of(alloc, b"abc")?,
-    };
-    let done = store.settle(number_in(number)?, detail_in(name)?, &evidence);
-    say_done(answer, done);
-    Ok(())
+    if let Some(evidence) = evidence(answer) {
+        say_done(answer, store.settle(number, detail, &evidence));
+    }
 }
 
 /// `requeue NUMBER MOMENT` has a receipt sent again from that moment on.
-fn requeue(store: &mut Store<MemStore>, rest: &str, answer: &mut Answer) -> Result<(), Trouble> {
+fn requeue(store: &mut Store<MemStore>, rest: &str, answer: &mut Answer) {
     let (number, moment) = rest.split_once(" ").unwrap_or((rest, ""));
-    let Some(moment) = moment_in(moment) else {
-        return Err(NO_MOMENT);
-    };
-    let done = store.requeue_mdn(number_in(number)?, moment);
-    say_done(answer, done);
-    Ok(())
+    if let Some(moment) = moment_in(moment, answer) {
+        let number = answer.number_in(number);
+        say_done(answer, store.requeue_mdn(number, moment));
+    }
 }
 
 /// Answers with what stands in a received document's head: its type, how a receipt was asked for, and the MIC; and with its outcome.
@@ -188,76 +185,84 @@ fn say_found(answer: &mut Answer, found: Result<Option<InEntry>, StoreFault>) {
     }
 }
 
-/// `received PARTNER | IDENTIFIER` finds a document of that partner to Supplier by the value of that identifier.
-fn received(
-    alloc: Global,
-    store: &mut Store<MemStore>,
-    rest: &str,
-    answer: &mut Answer,
-) -> Result<(), Trouble> {
+/// By what a received document is found.
+#[derive(Drop)]
+struct Key {
+    partner: AsName,
+    organization: AsName,
+    id: MessageId,
+}
+
+/// A document of a partner to Supplier, by an identifier.
+fn key_in(rest: &str, answer: &mut Answer) -> Option<Key> {
     let (partner, id) = rest.split_once(" | ").unwrap_or((rest, ""));
-    let (_, organization) = names()?;
     let Ok(partner) = AsName::plain(partner.as_bytes()) else {
-        return Err(Trouble::Unreadable("no partner"));
+        answer.lack("no partner");
+        return None;
     };
-    let Ok(id) = MessageId::parse(alloc, id.as_bytes()) else {
-        return Err(Trouble::Unreadable("no identifier"));
-    };
-    let found = store.find_in(alloc, &partner, &organization, id.value());
-    say_found(answer, found);
-    Ok(())
+    let organization = name_in("Supplier", answer)?;
+    match MessageId::parse(answer.alloc(), id.as_bytes()) {
+        Ok(id) => Some(Key {
+            partner,
+            organization,
+            id,
+        }),
+        Err(_) => {
+            answer.lack("no identifier");
+            None
+        }
+    }
+}
+
+/// `received PARTNER | IDENTIFIER` finds a document of that partner to Supplier by the value of that identifier.
+fn received(store: &mut Store<MemStore>, rest: &str, answer: &mut Answer) {
+    if let Some(key) = key_in(rest, answer) {
+        let id = key.id.value();
+        let found = store.find_in(answer.alloc(), &key.partner, &key.organization, id);
+        say_found(answer, found);
+    }
+}
+
+/// `received-number NUMBER` finds a received document.
+fn received_number(store: &mut Store<MemStore>, rest: &str, answer: &mut Answer) {
+    let number = answer.number_in(rest);
+    say_found(answer, store.find_in_number(answer.alloc(), number));
+}
+
+/// Answers with a number that was found.
+fn say_number(answer: &mut Answer, found: Result<Option<u64>, StoreFault>) {
+    if let Some(number) = answer.unless_absent(found) {
+        answer.say_number(number);
+    }
 }
 
 /// Answers with the least number of the documents, or of the receipts, that are due at a moment.
-fn due(
-    store: &mut Store<MemStore>,
-    verb: &str,
-    rest: &str,
-    answer: &mut Answer,
-) -> Result<(), Trouble> {
-    let Some(moment) = moment_in(rest) else {
-        return Err(NO_MOMENT);
+fn due(store: &mut Store<MemStore>, verb: &str, rest: &str, answer: &mut Answer) {
+    let Some(moment) = moment_in(rest, answer) else {
+        return;
     };
-    let due = if verb == "due-document" {
-        store.due_out(moment)
+    if verb == "due-document" {
+        say_number(answer, store.due_out(moment));
     } else {
-        store.due_mdn(moment)
-    };
-    if let Some(number) = answer.unless_absent(due) {
-        answer.say_number(number);
+        say_number(answer, store.due_mdn(moment));
     }
-    Ok(())
 }
 
 /// Answers to one of these verbs over the store.
-fn call(
-    alloc: Global,
-    store: &mut Store<MemStore>,
-    verb: &str,
-    rest: &str,
-    answer: &mut Answer,
-) -> Result<(), Trouble> {
+fn call(store: &mut Store<MemStore>, verb: &str, rest: &str, answer: &mut Answer) {
     match verb {
-        "add" => add(alloc, store, rest, answer),
-        "settle" => settle(alloc, store, rest, answer),
+        "add" => add(store, rest, answer),
+        "settle" => settle(store, rest, answer),
         "requeue" => requeue(store, rest, answer),
-        "received" => received(alloc, store, rest, answer),
-        "received-number" => {
-            say_found(answer, store.find_in_number(alloc, number_in(rest)?));
-            Ok(())
-        }
+        "received" => received(store, rest, answer),
+        "received-number" => received_number(store, rest, answer),
         _ => due(store, verb, rest, answer),
     }
 }
 
-/// Answers to the verbs of the store's calls; whether it is one.
-pub fn answer(
-    stage: &mut Stage,
-    verb: &str,
-    rest: &str,
-    answer: &mut Answer,
-) -> Result<bool, Trouble> {
-    let is_known = matches!(
+/// Whether the verb is one of these.
+fn is_known(verb: &str) -> bool {
+    matches!(
         verb,
         "add"
             | "settle"
@@ -266,13 +271,17 @@ pub fn answer(
             | "received-number"
             | "due-document"
             | "due-receipt"
-    );
-    if !is_known {
-        return Ok(false);
+    )
+}
+
+/// Answers to the verbs of the store's calls; whether it is one.
+pub fn answer(stage: &mut Stage, verb: &str, rest: &str, answer: &mut Answer) -> bool {
+    if !is_known(verb) {
+        return false;
     }
-    let alloc = stage.alloc;
-    let mut store = stage.played.take_store(alloc, &stage.settings)?;
-    call(alloc, &mut store, verb, rest, answer)?;
-    stage.played.put(store);
-    Ok(true)
+    if let Some(mut store) = stage.played.take_store(&stage.settings, answer) {
+        call(&mut store, verb, rest, answer);
+        stage.played.put(store);
+    }
+    true
 }
