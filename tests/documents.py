@@ -6,6 +6,7 @@ the repository in it as links. What stands behind `console`:
 
     background   the block goes on beside the next one, and is compared when that has ended
     nginx        it is skipped where nginx isn't installed
+    systemd      it is skipped where systemd-socket-activate isn't installed
 
 A block ```LANGUAGE NAME with any other language is a file of that name, which is written first. All other blocks are only to be
 read. Prints a line for each command; the status is 1 where one prints something else. `documents.py [PROGRAM]`.
@@ -23,6 +24,7 @@ TOP = os.path.dirname(os.path.dirname(os.path.abspath(__file__)))
 DOCUMENTS = ["README.md", "docs/OPERATING.md"]
 MARK = "---- command "
 SECONDS = 120
+NEEDS = {"nginx": "nginx", "systemd": "systemd-socket-activate"}
 
 
 def blocks(text):
@@ -108,8 +110,9 @@ def run(document, folder):
                 with open(os.path.join(folder, info[1]), "w", encoding="utf-8") as file:
                     file.write("\n".join(lines) + "\n")
             continue
-        if "nginx" in info and not shutil.which("nginx", path=os.environ["PATH"] + ":/usr/sbin"):
-            print(f"skip  {document}: {lines[0][2:]}: nginx isn't installed")
+        absent = [NEEDS[word] for word in info if word in NEEDS and not shutil.which(NEEDS[word], path=os.environ["PATH"] + ":/usr/sbin")]
+        if absent:
+            print(f"skip  {document}: {lines[0][2:]}: {absent[0]} isn't installed")
             continue
         block = Block(folder, lines)
         if "background" in info:
