@@ -31,16 +31,82 @@ const NEVER: Stop = Stop {
     database: u64::MAX,
 };
 
-/// A station over a new store in files in memory; None where it is stopped before.
-fn station(alloc: Global, stop: Stop) -> Option<Station<FileStore<Fuse<Memory>>>> {
-    let files = Files {
-        log: Fuse::new(Memory::new(alloc), stop.log),
-        db: Fuse::new(Memory::new(alloc), stop.database),
-    };
-    let Ok(conn) = Connection::open_files(alloc, files, Options::new(1)) else {
-        return None;
-    };
-    Some(Station::new(Store::create(conn, 1).ok()?))
+/// A station over files that a stop leaves, and that are opened again. The tests go by this alone, since each call at the one kind of
+/// files costs the prover much.
+trait Stops: Drop {
+    type Kind: Alter;
+
+    /// Over a new store; None where it is stopped before.
+    fn begin(alloc: Global, stop: Stop) -> Option<Self>;
+
+    fn station(&mut self) -> &mut Station<Self::Kind>;
+
+    /// Stops the computer, and opens what is left.
+    fn stopped(self, alloc: Global) -> Option<Self>;
+
+    /// Plays the events in one call, stops, and opens what is left.
+    fn played(self, play: &Play, events: Vec<Event>) -> Result<Self, Fail>;
+
+    /// Closes the store, and opens it again.
+    fn reopened(self, alloc: Global) -> Option<Self>;
+}
+
+/// A station over files in memory, each of which stops after some calls.
+#[derive(Drop)]
+struct Fused {
+    station: Station<FileStore<Fuse<Memory>>>,
+}
+
+impl Stops for Fused {
+    type Kind = FileStore<Fuse<Memory>>;
+
+    fn begin(alloc: Global, stop: Stop) -> Option<Fused> {
+        let files = Files {
+            log: Fuse::new(Memory::new(alloc), stop.log),
+            db: Fuse::new(Memory::new(alloc), stop.database),
+        };
+        let Ok(conn) = Connection::open_files(alloc, files, Options::new(1)) else {
+            return None;
+        };
+        let store = Store::create(conn, 1).ok()?;
+        Some(Fused {
+            station: Station::new(store),
+        })
+    }
+
+    fn station(&mut self) -> &mut Station<FileStore<Fuse<Memory>>> {
+        &mut self.station
+    }
+
+    fn stopped(self, alloc: Global) -> Option<Fused> {
+        let Fused { station } = self;
+        let station = stop_and_open(alloc, station, Options::new(2))?;
+        Some(Fused { station })
+    }
+
+    fn played(self, play: &Play, events: Vec<Event>) -> Result<Fused, Fail> {
+        let Fused { station } = self;
+        let options = Options::new(2);
+        let Ok(Stopped { said: _, again }) = play_then_stop(
+            play.alloc,
+            station,
+            &play.agreements,
+            events,
+            options,
+        ) else {
+            return Err(Fail::new("no memory"));
+        };
+        match again {
+            Some(station) => Ok(Fused { station }),
+            None => Err(Fail::new("no store is found")),
+        }
+    }
+
+    fn reopened(self, alloc: Global) -> Option<Fused> {
+        let Fused { station } = self;
+        let station = reopen(alloc, station, Options::new(3))?;
+        Some(Fused { station })
+    }
 }
 
 /// All that a station shows: both listings, what is outstanding, and the first document.
@@ -100,17 +166,18 @@ impl Play {
 }
 
 /// What is seen before the first row and after each.
-fn sights(play: &Play, rows: &[Row]) -> Result<Vec<String>, Fail> {
-    let Some(mut station) = station(play.alloc, NEVER) else {
+fn sights<F: Stops>(play: &Play, rows: &[Row]) -> Result<Vec<String>, Fail> {
+    let Some(mut files) = F::begin(play.alloc, NEVER) else {
         return Err(Fail::new("no station"));
     };
+    let station = files.station();
     let mut seen = Vec::new(play.alloc);
-    seen.push(sight(play.alloc, &mut station)?)?;
+    seen.push(sight(play.alloc, station)?)?;
     for row in rows.chunks(1) {
-        if play.until_fault(&mut station, row)? != 1 {
+        if play.until_fault(station, row)? != 1 {
             return Err(Fail::new("a fault"));
         }
-        seen.push(sight(play.alloc, &mut station)?)?;
+        seen.push(sight(play.alloc, station)?)?;
     }
     Ok(seen)
 }
@@ -126,29 +193,45 @@ fn done_by(seen: &String, sights: &[String], answered: usize) -> Result<usize, F
     }
 }
 
-/// Plays the rows with that stop, opens what is left, and plays the rest; whether the stop came before the end.
-fn is_stopped(play: &Play, rows: &[Row], sights: &[String], stop: Stop) -> Result<bool, Fail> {
-    let Some(mut station) = station(play.alloc, stop) else {
-        return Ok(true);
-    };
-    let answered = play.until_fault(&mut station, rows)?;
-    let Some(mut again) = stop_and_open(play.alloc, station, Options::new(2)) else {
-        return Err(Fail::new("no store is found"));
-    };
-    let done = done_by(&sight(play.alloc, &mut again)?, sights, answered)?;
+/// Looks at what a stop has left behind so many answered rows, and plays the rest.
+fn go_on<S: Alter>(
+    play: &Play,
+    rows: &[Row],
+    sights: &[String],
+    answered: usize,
+    station: &mut Station<S>,
+) -> Result<(), Fail> {
+    let done = done_by(&sight(play.alloc, station)?, sights, answered)?;
     let Some(rest) = rows.get(done..) else {
         return Err(Fail::new("no such row"));
     };
-    if play.until_fault(&mut again, rest)? != rest.len() {
+    if play.until_fault(station, rest)? != rest.len() {
         return Err(Fail::new("a fault after the stop"));
     }
-    check_last(play.alloc, &mut again, sights)?;
+    check_last(play.alloc, station, sights)
+}
+
+/// Plays the rows with that stop, opens what is left, and plays the rest; whether the stop came before the end.
+fn is_stopped<F: Stops>(
+    play: &Play,
+    rows: &[Row],
+    sights: &[String],
+    stop: Stop,
+) -> Result<bool, Fail> {
+    let Some(mut files) = F::begin(play.alloc, stop) else {
+        return Ok(true);
+    };
+    let answered = play.until_fault(files.station(), rows)?;
+    let Some(mut again) = files.stopped(play.alloc) else {
+        return Err(Fail::new("no store is found"));
+    };
+    go_on(play, rows, sights, answered, again.station())?;
     Ok(answered < rows.len())
 }
 
 /// Stops the rows after no call, one, two and so on of the log, or else of the database.
-fn check_stops(play: &Play, rows: &[Row], of_log: bool) -> Result<(), Fail> {
-    let sights = sights(play, rows)?;
+fn check_stops<F: Stops>(play: &Play, rows: &[Row], of_log: bool) -> Result<(), Fail> {
+    let sights = sights::<F>(play, rows)?;
     for calls in 0..MOST_CALLS {
         let stop = if of_log {
             Stop {
@@ -161,33 +244,11 @@ fn check_stops(play: &Play, rows: &[Row], of_log: bool) -> Result<(), Fail> {
                 ..NEVER
             }
         };
-        if !is_stopped(play, rows, &sights, stop)? {
+        if !is_stopped::<F>(play, rows, &sights, stop)? {
             return Ok(());
         }
     }
     Err(Fail::new("no end"))
-}
-
-/// The station that is found behind all rows and a stop.
-fn stopped_behind(play: &Play, rows: &[Row]) -> Result<Station<FileStore<Fuse<Memory>>>, Fail> {
-    let Some(station) = station(play.alloc, NEVER) else {
-        return Err(Fail::new("no station"));
-    };
-    let events = play.events(rows)?;
-    let options = Options::new(2);
-    let Ok(Stopped { said: _, again }) = play_then_stop(
-        play.alloc,
-        station,
-        &play.agreements,
-        events,
-        options,
-    ) else {
-        return Err(Fail::new("no memory"));
-    };
-    match again {
-        Some(found) => Ok(found),
-        None => Err(Fail::new("no store is found")),
-    }
 }
 
 /// What is seen is the last of these sights.
@@ -203,23 +264,26 @@ fn check_last<S: Alter>(
 }
 
 /// Plays all rows at once, stops, opens what is left, closes it and opens it again: each time all that was answered is seen.
-fn check_whole(play: &Play, rows: &[Row]) -> Result<(), Fail> {
-    let sights = sights(play, rows)?;
-    let mut found = stopped_behind(play, rows)?;
-    check_last(play.alloc, &mut found, &sights)?;
-    let Some(mut opened) = reopen(play.alloc, found, Options::new(3)) else {
+fn check_whole<F: Stops>(play: &Play, rows: &[Row]) -> Result<(), Fail> {
+    let sights = sights::<F>(play, rows)?;
+    let Some(files) = F::begin(play.alloc, NEVER) else {
+        return Err(Fail::new("no station"));
+    };
+    let mut found = files.played(play, play.events(rows)?)?;
+    check_last(play.alloc, found.station(), &sights)?;
+    let Some(mut opened) = found.reopened(play.alloc) else {
         return Err(Fail::new("no store is opened"));
     };
-    check_last(play.alloc, &mut opened, &sights)
+    check_last(play.alloc, opened.station(), &sights)
 }
 
 #[test]
 fn what_was_answered_stands(rt: HostRuntime) -> Result<(), Fail> {
     let play = Play::new(rt.alloc())?;
     for rows in LISTS {
-        check_stops(&play, rows, true)?;
-        check_stops(&play, rows, false)?;
-        check_whole(&play, rows)?;
+        check_stops::<Fused>(&play, rows, true)?;
+        check_stops::<Fused>(&play, rows, false)?;
+        check_whole::<Fused>(&play, rows)?;
     }
     Ok(())
 }
