@@ -2,24 +2,19 @@
 # What a monitor watches of a station: monitor.sh AGREEMENTS STORE [PROGRAM]. It asks under the lock that lies beside the store,
 # station.lock, and waits five seconds for it. The status:
 #   0  the station is well
-#   1  documents are in error, or receipts overdue; their lines are printed
+#   1  somebody has to look: documents are in error, settled with a warning, or due for a quarter of an hour; their lines are printed
 #   2  the station couldn't be asked: the lock wasn't had, or a command failed; standard error says why
-if [ $# -lt 2 ] || [ ! -e "$2" ]; then
-    echo "monitor: wanted: agreements, and a store that is there" >&2
-    exit 2
-fi
-said=$(flock -w 5 -E 75 "$(dirname "$2")/station.lock" sh -c '
-    "$1" --agreements "$2" --store "$3" list out --state E && "$1" --agreements "$2" --store "$3" outstanding
-' ask "${3:-as2desk}" "$1" "$2")
-status=$?
-if [ $status -ne 0 ]; then
-    [ $status -ne 75 ] || echo "monitor: the lock wasn't had in five seconds" >&2
-    exit 2
-fi
-# A receipt that is overdue is state E once `tick` has run, and until then a document that is due and awaits it.
-lines=$(printf '%s\n' "$said" | grep -E '^ *[0-9]+ (E |P +[0-9]+ . awaiting )')
-case $? in
-    0) printf '%s\n' "$lines"; exit 1 ;;
-    1) exit 0 ;;
-    *) exit 2 ;;
-esac
+[ $# -ge 2 ] && [ -s "$2" ] || { echo "monitor: wanted: agreements, and a store that is there" >&2; exit 2; }
+agreements=$1 store=$2 program=${3:-as2desk}
+exec 9> "$(dirname "$store")/station.lock"
+flock -w 5 9 || { echo "monitor: the lock wasn't had in five seconds" >&2; exit 2; }
+station() { "$program" --agreements "$agreements" --store "$store" "$@"; }
+
+said=$(station list out --state E && station list out --state W) || exit 2
+due=$(station --moment $(($(date +%s) - ${MONITOR_SECONDS:-900})) outstanding) || exit 2
+# `no-receipt-asked` is as it should be. Behind its five counts `outstanding` has the documents that were due then: nobody sends them, or
+# no receipt comes.
+lines=$(printf '%s\n' "$said" | grep -v ' no-receipt-asked ' | grep . ; printf '%s\n' "$due" | sed 1,5d | grep .)
+[ -z "$lines" ] && exit 0
+printf '%s\n' "$lines"
+exit 1

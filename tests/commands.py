@@ -71,7 +71,7 @@ def tries(folder, agreements):
         it.write(b"abc")
     submit = ["submit", "--from", "Supplier", "--to"]
     same("submit", run(store, [*submit, "Buyer", paper]), (0, "1\n", ""))
-    same("send, nobody listens", run(store, ["send"], agreements=agreements), (0, "document 1: try failed\n", ""))
+    same("send, nobody listens", run(store, ["send"], agreements=agreements), (0, "document 1: try failed\n", "hint: document 1: connection refused\n"))
     same("list out, to be tried again", run(store, ["list", "out", "--state", "R"]), (0, "           1 R  1 - retry            Supplier -> Buyer\n", ""))
     same("submit, a receipt by a post", run(store, [*submit, "Depot", paper]), (0, "2\n", ""))
     same("send, taken", run(store, ["send"], agreements=agreements), (0, "document 2: delivered\n", ""))
@@ -87,7 +87,7 @@ def tries(folder, agreements):
     same("show", run(store, ["show", "2"]), (0, shown, ""))
     same("show, another number", run(store, ["show", "3"]), (1, "", "refused: NoSuchNumber\n"))
     same("submit, an unknown partner", run(store, [*submit, "Nobody", paper]), (1, "", "refused: UnknownPartner\n"))
-    same("submit, no file", run(store, [*submit, "Buyer", f"{folder}/absent"]), (1, "", "refused: CannotRead\n"))
+    same("submit, no file", run(store, [*submit, "Buyer", f"{folder}/absent"]), (1, "", f'refused: CannotRead\nhint: file "{folder}/absent"\n'))
     with open(paper, "wb") as it:
         it.write(bytes(1_048_577))
     same("submit, a larger one", run(store, [*submit, "Buyer", paper]), (1, "", "refused: TooLarge\n"))

@@ -4,6 +4,7 @@ use Rattle.std.proofs.Math.Seq.{drop-cons}
 use Rattle.toml.specs.declared.value.Value.{Value}
 use Rattle.toml.specs.Data.{Data}
 use Rattle.toml.specs.View.{view, items_view}
+use Rattle.as2_agreement.specs.Places.{first_faulty}
 use Rattle.as2_agreement.specs.Reading.{Read, each}
 use Rattle.as2_agreement.specs.declared.fault.AgreementFault.{AgreementFault}
 
@@ -19,3 +20,8 @@ module _ {X : Type 0} (one : List X → Data → Read X) (before : List X) (entr
 
   pub each_fault : (fault : AgreementFault) → one before (view v) ≡ Err fault → each one before (items_view (drop i entries)) ≡ Err fault
   each_fault fault read = rw here (rw read refl)
+
+  -- the same, where the first fault is looked for
+  pub faulty_next : (n next : ℕ) (x : X) → n + 1 ≡ next → one before (view v) ≡ Ok x
+      → first_faulty one n before (items_view (drop i entries)) ≡ first_faulty one next (before ++ x ∷ []) (items_view (drop (i + 1) entries))
+  faulty_next n next x is read = rw here (rw read (ap (λ (k : ℕ). first_faulty one k (before ++ x ∷ []) (items_view (drop (i + 1) entries))) is))

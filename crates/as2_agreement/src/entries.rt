@@ -14,10 +14,10 @@ use std::alloc::Global;
 use toml::{Table, Value};
 
 /// The most organizations.
-const ORGANIZATIONS_LIMIT: usize = 64;
+pub(crate) const ORGANIZATIONS_LIMIT: usize = 64;
 
 /// The most partners.
-const PARTNERS_LIMIT: usize = 256;
+pub(crate) const PARTNERS_LIMIT: usize = 256;
 
 /// The most tries of a document.
 const TRIES_LIMIT: u64 = 99;
@@ -26,7 +26,10 @@ const TRIES_LIMIT: u64 = 99;
 const SECONDS_LIMIT: u64 = 31_536_000;
 
 /// The organization that an entry is, with those before it.
-fn organization(before: &[Organization], entry: &Value) -> Result<Organization, AgreementFault>
+pub(crate) fn organization(
+    before: &[Organization],
+    entry: &Value,
+) -> Result<Organization, AgreementFault>
     ensures { result ≡ organization before.now (view entry.now) }
 {
     let table = table_of(entry, Key::Organization)?;
@@ -35,7 +38,10 @@ fn organization(before: &[Organization], entry: &Value) -> Result<Organization, 
 }
 
 /// The organizations that the entries are.
-fn each_organization(alloc: Global, entries: &[Value]) -> Result<Vec<Organization>, AgreementFault>
+pub(crate) fn each_organization(
+    alloc: Global,
+    entries: &[Value],
+) -> Result<Vec<Organization>, AgreementFault>
     ensures { GivesOrMemory (λ v. v.items) result (each organization [] (items_view entries.now)) }
 {
     let mut kept = Vec::new(alloc);
@@ -60,7 +66,7 @@ pub(crate) fn organizations(
 }
 
 /// The partner that an entry is, with the organizations and the partners before it.
-fn partner(
+pub(crate) fn partner(
     alloc: Global,
     organizations: &[Organization],
     before: &[Partner],

@@ -7,12 +7,16 @@ mod entries;
 mod fault;
 mod key;
 mod partner;
+mod places;
 mod terms;
 mod texts;
+mod unknown;
 mod values;
 
 pub use agreements::Agreements;
 pub use fault::AgreementFault;
 pub use key::Key;
 pub use partner::{Asked, Organization, Partner};
+pub use places::{Entry, Place};
 pub use texts::{ContentType, UrlText};
+pub use unknown::{Holder, Unknown};

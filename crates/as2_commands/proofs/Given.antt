@@ -1,6 +1,7 @@
 -- The words ask for one thing.
 use Rattle.std.proofs.Common.{◌≡◌, ◌∙◌, ◌==◌, ◌<◌, ◌+◌, ◌*◌, slice_index, lit<, arith, if◌then◌else◌, [], ◌∷◌, ℕ, List, Option, Some, None, option_map, refl, sym, ap, ap₂, subst, codes}
 use Rattle.clap.specs.Walk.{Row, Text}
+use Rattle.clap.specs.Words.{first_of}
 use Rattle.as2_names.specs.Names.{Spells}
 use Rattle.as2_names.proofs.Spelled.{again}
 use Rattle.as2_mdn.specs.declared.detail.State.{State}
@@ -9,7 +10,7 @@ use Rattle.as2_exchange.specs.Views.{state_text}
 use Rattle.as2_views.specs.declared.filter.Filter.{Filter}
 use Rattle.as2_views.specs.declared.filter.Filter.TheVariants.{Outbox, Inbox}
 use Rattle.as2_commands.specs.CommandLine.{command_in, option_values}
-use Rattle.as2_commands.specs.Options.{AsksRun, AsksServe, AsksSubmit, Gives, Lists, NameIs, NumberIs, SecondsAre, Tasks, Tell, TellsOption, word_of}
+use Rattle.as2_commands.specs.Options.{AsksRun, AsksServe, AsksSubmit, Gives, Lists, is_idle, NameIs, NumberIs, SecondsAre, Tasks, Tell, TellsOption, word_of}
 use Rattle.as2_commands.specs.Requests.{Serving, Submission}
 use Rattle.as2_commands.specs.declared.tasks.Command.{Command}
 use Rattle.as2_commands.specs.declared.tasks.Command.TheVariants as command
@@ -103,7 +104,7 @@ command_one values own command.Post command.Post is x y = refl
 command_one values own command.Post (command.Submit t) is x y = absurd (apart 112115 115098 (lit< tt) (ap mark is))
 command_one values own command.Post (command.Send t) is x y = absurd (apart 112115 115110 (lit< tt) (ap mark is))
 command_one values own command.Post command.Tick is x y = absurd (apart 112115 116099 (lit< tt) (ap mark is))
-command_one values own command.Post (command.List t) is x y = absurd (apart 108115 112115 (lit< tt) (ap mark (sym is)))
+command_one values own command.Post (command.List t j) is x y = absurd (apart 108115 112115 (lit< tt) (ap mark (sym is)))
 command_one values own command.Post command.Outstanding is x y = absurd (apart 111116 112115 (lit< tt) (ap mark (sym is)))
 command_one values own command.Post (command.Show t) is x y = absurd (apart 112115 115111 (lit< tt) (ap mark is))
 command_one values own command.Post (command.Fetch t) is x y = absurd (apart 102116 112115 (lit< tt) (ap mark (sym is)))
@@ -112,7 +113,7 @@ command_one values own (command.Submit s) command.Post is x y = absurd (apart 11
 command_one values own (command.Submit s) (command.Submit t) is x y = ap command.Submit (submission_one own s t x y)
 command_one values own (command.Submit s) (command.Send t) is x y = absurd (apart 115098 115110 (lit< tt) (ap mark is))
 command_one values own (command.Submit s) command.Tick is x y = absurd (apart 115098 116099 (lit< tt) (ap mark is))
-command_one values own (command.Submit s) (command.List t) is x y = absurd (apart 108115 115098 (lit< tt) (ap mark (sym is)))
+command_one values own (command.Submit s) (command.List t j) is x y = absurd (apart 108115 115098 (lit< tt) (ap mark (sym is)))
 command_one values own (command.Submit s) command.Outstanding is x y = absurd (apart 111116 115098 (lit< tt) (ap mark (sym is)))
 command_one values own (command.Submit s) (command.Show t) is x y = absurd (apart 115098 115111 (lit< tt) (ap mark is))
 command_one values own (command.Submit s) (command.Fetch t) is x y = absurd (apart 102116 115098 (lit< tt) (ap mark (sym is)))
@@ -121,7 +122,7 @@ command_one values own (command.Send s) command.Post is x y = absurd (apart 1121
 command_one values own (command.Send s) (command.Submit t) is x y = absurd (apart 115098 115110 (lit< tt) (ap mark (sym is)))
 command_one values own (command.Send s) (command.Send t) is x y = ap command.Send (waits_one s t (number_one _ s.seconds t.seconds x.number y.number))
 command_one values own (command.Send s) command.Tick is x y = absurd (apart 115110 116099 (lit< tt) (ap mark is))
-command_one values own (command.Send s) (command.List t) is x y = absurd (apart 108115 115110 (lit< tt) (ap mark (sym is)))
+command_one values own (command.Send s) (command.List t j) is x y = absurd (apart 108115 115110 (lit< tt) (ap mark (sym is)))
 command_one values own (command.Send s) command.Outstanding is x y = absurd (apart 111116 115110 (lit< tt) (ap mark (sym is)))
 command_one values own (command.Send s) (command.Show t) is x y = absurd (apart 115110 115111 (lit< tt) (ap mark is))
 command_one values own (command.Send s) (command.Fetch t) is x y = absurd (apart 102116 115110 (lit< tt) (ap mark (sym is)))
@@ -130,25 +131,27 @@ command_one values own command.Tick command.Post is x y = absurd (apart 112115 1
 command_one values own command.Tick (command.Submit t) is x y = absurd (apart 115098 116099 (lit< tt) (ap mark (sym is)))
 command_one values own command.Tick (command.Send t) is x y = absurd (apart 115110 116099 (lit< tt) (ap mark (sym is)))
 command_one values own command.Tick command.Tick is x y = refl
-command_one values own command.Tick (command.List t) is x y = absurd (apart 108115 116099 (lit< tt) (ap mark (sym is)))
+command_one values own command.Tick (command.List t j) is x y = absurd (apart 108115 116099 (lit< tt) (ap mark (sym is)))
 command_one values own command.Tick command.Outstanding is x y = absurd (apart 111116 116099 (lit< tt) (ap mark (sym is)))
 command_one values own command.Tick (command.Show t) is x y = absurd (apart 115111 116099 (lit< tt) (ap mark (sym is)))
 command_one values own command.Tick (command.Fetch t) is x y = absurd (apart 102116 116099 (lit< tt) (ap mark (sym is)))
 command_one values own command.Tick (command.Serve t) is x y = absurd (apart 115114 116099 (lit< tt) (ap mark (sym is)))
-command_one values own (command.List s) command.Post is x y = absurd (apart 108115 112115 (lit< tt) (ap mark is))
-command_one values own (command.List s) (command.Submit t) is x y = absurd (apart 108115 115098 (lit< tt) (ap mark is))
-command_one values own (command.List s) (command.Send t) is x y = absurd (apart 108115 115110 (lit< tt) (ap mark is))
-command_one values own (command.List s) command.Tick is x y = absurd (apart 108115 116099 (lit< tt) (ap mark is))
-command_one values own (command.List s) (command.List t) is x y = ap command.List (filter_one _ _ s t x y)
-command_one values own (command.List s) command.Outstanding is x y = absurd (apart 108115 111116 (lit< tt) (ap mark is))
-command_one values own (command.List s) (command.Show t) is x y = absurd (apart 108115 115111 (lit< tt) (ap mark is))
-command_one values own (command.List s) (command.Fetch t) is x y = absurd (apart 102116 108115 (lit< tt) (ap mark (sym is)))
-command_one values own (command.List s) (command.Serve t) is x y = absurd (apart 108115 115114 (lit< tt) (ap mark is))
+command_one values own (command.List s i) command.Post is x y = absurd (apart 108115 112115 (lit< tt) (ap mark is))
+command_one values own (command.List s i) (command.Submit t) is x y = absurd (apart 108115 115098 (lit< tt) (ap mark is))
+command_one values own (command.List s i) (command.Send t) is x y = absurd (apart 108115 115110 (lit< tt) (ap mark is))
+command_one values own (command.List s i) command.Tick is x y = absurd (apart 108115 116099 (lit< tt) (ap mark is))
+command_one values own (command.List s i) (command.List t j) is x y =
+    let same = filter_one _ _ s t x.0 y.0 in
+    ap₂ command.List same (x.1 ∙ ap (λ (f : Filter). is_idle f (first_of (codes "state") own)) same ∙ sym y.1)
+command_one values own (command.List s i) command.Outstanding is x y = absurd (apart 108115 111116 (lit< tt) (ap mark is))
+command_one values own (command.List s i) (command.Show t) is x y = absurd (apart 108115 115111 (lit< tt) (ap mark is))
+command_one values own (command.List s i) (command.Fetch t) is x y = absurd (apart 102116 108115 (lit< tt) (ap mark (sym is)))
+command_one values own (command.List s i) (command.Serve t) is x y = absurd (apart 108115 115114 (lit< tt) (ap mark is))
 command_one values own command.Outstanding command.Post is x y = absurd (apart 111116 112115 (lit< tt) (ap mark is))
 command_one values own command.Outstanding (command.Submit t) is x y = absurd (apart 111116 115098 (lit< tt) (ap mark is))
 command_one values own command.Outstanding (command.Send t) is x y = absurd (apart 111116 115110 (lit< tt) (ap mark is))
 command_one values own command.Outstanding command.Tick is x y = absurd (apart 111116 116099 (lit< tt) (ap mark is))
-command_one values own command.Outstanding (command.List t) is x y = absurd (apart 108115 111116 (lit< tt) (ap mark (sym is)))
+command_one values own command.Outstanding (command.List t j) is x y = absurd (apart 108115 111116 (lit< tt) (ap mark (sym is)))
 command_one values own command.Outstanding command.Outstanding is x y = refl
 command_one values own command.Outstanding (command.Show t) is x y = absurd (apart 111116 115111 (lit< tt) (ap mark is))
 command_one values own command.Outstanding (command.Fetch t) is x y = absurd (apart 102116 111116 (lit< tt) (ap mark (sym is)))
@@ -157,7 +160,7 @@ command_one values own (command.Show s) command.Post is x y = absurd (apart 1121
 command_one values own (command.Show s) (command.Submit t) is x y = absurd (apart 115098 115111 (lit< tt) (ap mark (sym is)))
 command_one values own (command.Show s) (command.Send t) is x y = absurd (apart 115110 115111 (lit< tt) (ap mark (sym is)))
 command_one values own (command.Show s) command.Tick is x y = absurd (apart 115111 116099 (lit< tt) (ap mark is))
-command_one values own (command.Show s) (command.List t) is x y = absurd (apart 108115 115111 (lit< tt) (ap mark (sym is)))
+command_one values own (command.Show s) (command.List t j) is x y = absurd (apart 108115 115111 (lit< tt) (ap mark (sym is)))
 command_one values own (command.Show s) command.Outstanding is x y = absurd (apart 111116 115111 (lit< tt) (ap mark (sym is)))
 command_one values own (command.Show s) (command.Show t) is x y = ap command.Show (number_one _ s t x.number y.number)
 command_one values own (command.Show s) (command.Fetch t) is x y = absurd (apart 102116 115111 (lit< tt) (ap mark (sym is)))
@@ -166,7 +169,7 @@ command_one values own (command.Fetch s) command.Post is x y = absurd (apart 102
 command_one values own (command.Fetch s) (command.Submit t) is x y = absurd (apart 102116 115098 (lit< tt) (ap mark is))
 command_one values own (command.Fetch s) (command.Send t) is x y = absurd (apart 102116 115110 (lit< tt) (ap mark is))
 command_one values own (command.Fetch s) command.Tick is x y = absurd (apart 102116 116099 (lit< tt) (ap mark is))
-command_one values own (command.Fetch s) (command.List t) is x y = absurd (apart 102116 108115 (lit< tt) (ap mark is))
+command_one values own (command.Fetch s) (command.List t j) is x y = absurd (apart 102116 108115 (lit< tt) (ap mark is))
 command_one values own (command.Fetch s) command.Outstanding is x y = absurd (apart 102116 111116 (lit< tt) (ap mark is))
 command_one values own (command.Fetch s) (command.Show t) is x y = absurd (apart 102116 115111 (lit< tt) (ap mark is))
 command_one values own (command.Fetch s) (command.Fetch t) is x y = ap command.Fetch (number_one _ s t x.number y.number)
@@ -175,7 +178,7 @@ command_one values own (command.Serve s) command.Post is x y = absurd (apart 112
 command_one values own (command.Serve s) (command.Submit t) is x y = absurd (apart 115098 115114 (lit< tt) (ap mark (sym is)))
 command_one values own (command.Serve s) (command.Send t) is x y = absurd (apart 115110 115114 (lit< tt) (ap mark (sym is)))
 command_one values own (command.Serve s) command.Tick is x y = absurd (apart 115114 116099 (lit< tt) (ap mark is))
-command_one values own (command.Serve s) (command.List t) is x y = absurd (apart 108115 115114 (lit< tt) (ap mark (sym is)))
+command_one values own (command.Serve s) (command.List t j) is x y = absurd (apart 108115 115114 (lit< tt) (ap mark (sym is)))
 command_one values own (command.Serve s) command.Outstanding is x y = absurd (apart 111116 115114 (lit< tt) (ap mark (sym is)))
 command_one values own (command.Serve s) (command.Show t) is x y = absurd (apart 115111 115114 (lit< tt) (ap mark (sym is)))
 command_one values own (command.Serve s) (command.Fetch t) is x y = absurd (apart 102116 115114 (lit< tt) (ap mark (sym is)))
@@ -193,7 +196,7 @@ no_check command.Post is = absurd (apart 99101 112115 (lit< tt) (ap mark is))
 no_check (command.Submit s) is = absurd (apart 99101 115098 (lit< tt) (ap mark is))
 no_check (command.Send s) is = absurd (apart 99101 115110 (lit< tt) (ap mark is))
 no_check command.Tick is = absurd (apart 99101 116099 (lit< tt) (ap mark is))
-no_check (command.List s) is = absurd (apart 99101 108115 (lit< tt) (ap mark is))
+no_check (command.List s i) is = absurd (apart 99101 108115 (lit< tt) (ap mark is))
 no_check command.Outstanding is = absurd (apart 99101 111116 (lit< tt) (ap mark is))
 no_check (command.Show s) is = absurd (apart 99101 115111 (lit< tt) (ap mark is))
 no_check (command.Fetch s) is = absurd (apart 99101 102116 (lit< tt) (ap mark is))

@@ -1,5 +1,5 @@
 -- What a command line asks for.
-use Rattle.std.specs.Prelude.{◌≡◌, ◌≤◌, ◌-◌, ℕ, List, [], Option, Some, None, IfSome, option_map, codes, ⊤, ◌&&◌, nat_le, nat_lt, if◌then◌else◌}
+use Rattle.std.specs.Prelude.{◌≡◌, ◌≤◌, ◌-◌, ℕ, List, [], Option, Some, None, IfSome, option_map, codes, ⊤, Bool, is_some, false, ◌&&◌, nat_le, nat_lt, if◌then◌else◌}
 use Rattle.std.specs.Str.Parse.{IsNumeral, digits_value, without_leading_plus}
 use Rattle.as2_names.specs.Moments.{last_moment}
 use Rattle.as2_names.specs.Names.{Spells}
@@ -80,6 +80,16 @@ abbrev pub Lists : Option Text → Option Text → Filter → Type 0
 Lists kind state Inbox = kind ≡ Some (codes "in")
 Lists kind state (Outbox only) = (kind ≡ Some (codes "out")) × (state ≡ option_map state_text only)
 
+-- a state is given and isn't looked at
+abbrev pub is_idle : Filter → Option Text → Bool
+is_idle Inbox state = is_some state
+is_idle (Outbox only) state = false
+
+-- .. and whether a state was given in vain
+abbrev pub AsksList : List Row → Command → Type 0
+AsksList own (Listing f idle) = Lists (first_of (codes "kind") own) (first_of (codes "state") own) f × (idle ≡ is_idle f (first_of (codes "state") own))
+AsksList own other = ⊥
+
 -- the address, the count and the waits, and the moment where the values before the command give it
 pub record AsksServe (values own : List Row) (s : Serving) : Type 0 where
   pub listens : first_of (codes "listen") own ≡ Some s.address
@@ -93,7 +103,7 @@ word_of Post = codes "post"
 word_of (Submit s) = codes "submit"
 word_of (Send w) = codes "send"
 word_of Tick = codes "tick"
-word_of (Listing f) = codes "list"
+word_of (Listing f idle) = codes "list"
 word_of Outstanding = codes "outstanding"
 word_of (Show n) = codes "show"
 word_of (Fetch n) = codes "fetch"
@@ -103,7 +113,7 @@ word_of (Serve s) = codes "serve"
 abbrev pub Tell : List Row → List Row → Command → Type 0
 Tell values own (Submit s) = AsksSubmit own s
 Tell values own (Send w) = IsWait own w.seconds
-Tell values own (Listing f) = Lists (first_of (codes "kind") own) (first_of (codes "state") own) f
+Tell values own (Listing f idle) = AsksList own (Listing f idle)
 Tell values own (Show n) = IsEntry own n
 Tell values own (Fetch n) = IsEntry own n
 Tell values own (Serve s) = AsksServe values own s

@@ -18,7 +18,8 @@ pub(crate) const CHECK: &str = "\
 Prints one line, 'organizations A, partners B', and reads nothing but the file of agreements: the
 store stays closed, and isn't made where it is absent.
 Where that has a fault, the first one is said on standard error, and the key where it has one:
-'agreements: WrongKind receipt'. The exit status is then 1.
+'agreements: WrongKind receipt'. A second line says in which line or entry it stands. The exit status is
+then 1.
 
 Example:
   as2desk --agreements agreements.toml --store station.db check";
@@ -57,8 +58,9 @@ pub(crate) const SEND: &str = "\
 Each document and receipt that is due at the moment is sent to its partner, in turn. The moment is
 that of '--moment', in seconds since 1970, or else the clock's when the command begins. A line is
 printed for each try when it happens: 'document N: settled S processed', where the receipt came with
-the answer; 'document N: delivered', where it is to come later; 'document N: try failed', where there
-was no answer; 'receipt N: delivered' or 'receipt N: try failed'. A try that failed is no refusal.
+the answer; 'document N: delivered', where it is to come later; 'document N: try failed', where neither
+did; 'receipt N: delivered' or 'receipt N: try failed'. A try that failed is no refusal; why it did is
+told on standard error: 'hint: document N: connection refused'.
 
 SECONDS is the longest wait for a peer's next byte, for a connection to be made, and for a write. A
 connection as a whole ends after ten times that. Looking a name up has no limit.
@@ -87,7 +89,7 @@ try is open, or another is due), S (success), W (delivered, with something left 
 Without '--state' all are listed.
 
 A line of 'in' has the number, 'S' where the document was processed, else 'E', the receipt that it asks
-for ('-' none, 'P' still to be sent, 'S' sent), 'SENDER -> RECEIVER' and the identifier. '--state' isn't
+for ('-' none, 'P' not sent yet, 'S' sent), 'SENDER -> RECEIVER' and the identifier. '--state' isn't
 looked at there.
 
 A listing that can't be written is 'refused: CannotWrite' on standard error, exit status 1. A fault of

@@ -6,7 +6,7 @@ ghost use Rattle.as2_exchange.specs.Views.{state_text};
 ghost use Rattle.as2_mdn.specs.declared.detail.State.{State as TheState};
 ghost use Rattle.as2_views.specs.declared.filter.Filter.{Filter as TheFilter};
 ghost use Rattle.clap.specs.Words.{first_of, found_of, one_of, rows_of, subcommand_rows_of};
-ghost use Rattle.as2_commands.specs.Options.{AsksRun, AsksServe, AsksSubmit, Commands, Give, IsEntry, IsWait, Lists, NameIs, NumberFrom, NumberIs, SecondsAre, Tasks, TellsMoment, TellsOption};
+ghost use Rattle.as2_commands.specs.Options.{AsksList, AsksRun, AsksServe, AsksSubmit, Commands, Give, IsEntry, IsWait, Lists, is_idle, NameIs, NumberFrom, NumberIs, SecondsAre, Tasks, TellsMoment, TellsOption};
 ghost use Rattle.as2_commands.specs.Requests.{Serving as TheServing, Submission as TheSubmission};
 ghost use Rattle.as2_commands.specs.declared.tasks.Command.{Command as TheCommand};
 ghost use Rattle.as2_commands.specs.declared.tasks.RunOptions.{RunOptions as TheOptions};
@@ -96,7 +96,7 @@ fn command_of<'a>(
         "submit" => Ok(Command::Submit(submission(own)?)),
         "send" => Ok(Command::Send(waits(own)?)),
         "tick" => Ok(Command::Tick),
-        "list" => Ok(Command::List(filter(own)?)),
+        "list" => listing(own),
         "outstanding" => Ok(Command::Outstanding),
         "show" => Ok(Command::Show(entry(own)?)),
         "fetch" => Ok(Command::Fetch(entry(own)?)),
@@ -147,6 +147,25 @@ fn entry<'a>(own: &ArgMatches<'a>) -> Result<u64, OptionFault<'a>>
     ensures none { IfErr result (λ _. (n : ℕ) → ¬ IsEntry (rows_of (found_of own.now)) n) }
 {
     number_from(own, NUMBER, 1, END_OF_NUMBERS - 1)
+}
+
+/// The command `list`.
+fn listing<'a>(own: &ArgMatches<'a>) -> Result<Command<'a>, OptionFault<'a>>
+    ensures given { IfOk result (λ c. AsksList (rows_of (found_of own.now)) c) }
+    ensures none { IfErr result (λ _. (f : TheFilter) → ¬ Lists (first_of (codes "kind") (rows_of (found_of own.now))) (first_of (codes "state") (rows_of (found_of own.now))) f) }
+{
+    let filter = filter(own)?;
+    Ok(Command::List(filter, is_idle(filter, own)))
+}
+
+/// Whether a state is given and isn't looked at.
+fn is_idle(filter: Filter, own: &ArgMatches<'_>) -> bool
+    ensures { result ≡ is_idle filter (first_of (codes "state") (rows_of (found_of own.now))) }
+{
+    match filter {
+        Filter::Inbox => text(own, STATE).is_some(),
+        Filter::Outbox(_) => false,
+    }
 }
 
 /// The listing that is asked for. The state of what was received isn't looked at.

@@ -71,8 +71,8 @@ pub enum Command<'a> {
     Send(Waits),
     /// Time has come to the moment.
     Tick,
-    /// Entries are listed.
-    List(Filter),
+    /// Entries are listed; and whether a state was given that isn't looked at, since what was received has none.
+    List(Filter, bool),
     /// What is outstanding is listed.
     Outstanding,
     /// The document of that number of the outbox is shown: 1 to 999,999,999,999.

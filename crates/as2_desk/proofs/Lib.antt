@@ -4,3 +4,4 @@ mod StreamEnds
 mod Answering
 mod Connecting
 mod Working
+mod Unhinted

@@ -1,4 +1,7 @@
 pub mod Statuses
+pub mod Escapes
+pub mod Hints
+pub mod Places
 pub mod Refusals
 pub mod Stores
 pub mod Endings

@@ -1,5 +1,5 @@
 -- What sending comes to, and how that is told.
-use Rattle.std.specs.Prelude.{ℕ, List, Option, IfSome, codes}
+use Rattle.std.specs.Prelude.{ℕ, List, Option, IfSome, codes, ⊤}
 use Rattle.as2_agreement.specs.Agreements.{AgreedValues}
 use Rattle.as2_exchange.specs.State.{State}
 use Rattle.as2_desk.specs.Endings.{Ends, EndsRefused}
@@ -23,5 +23,5 @@ TellsSent sent.Unwritten Said ran = EndsRefused CannotWrite Said ran
 pub record SendsDue (agreements : AgreedValues) (moment : ℕ) (known : Option State) (Left : State → Type 0)
     (written now : Option (List ℕ)) (Said : List ℕ → Type 0) (ran : Ran) : Type 0 where
   pub end : Sent
-  pub sends : IfSome known (λ s. (t : State) × Left t × Sends agreements moment s t written now end)
+  pub sends : IfSome known (λ s. (t : State) × Left t × Sends agreements moment s t written now (λ text. ⊤) end)
   pub told : TellsSent end Said ran

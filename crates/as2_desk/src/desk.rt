@@ -19,7 +19,9 @@ ghost use Rattle.as2_desk.specs.declared.refusal.CommandFault.TheVariants.{Memor
 use crate::agreed::agreements_in;
 use crate::check::check;
 use crate::files::ReadFiles;
+use crate::hints::{document_path, is_named, is_noticed};
 use crate::network::Network;
+use crate::places::is_told;
 use crate::refusal::{CommandFault, refuse};
 use crate::status::{DONE, FAULTY, Ran};
 use crate::stores::OpenStores;
@@ -36,8 +38,8 @@ use std::io::Write;
 /// Runs the command line `words`, which begin with the program's name. `clock` is the moment where the options give
 /// none, in seconds since 1970, if it can be told. The agreements, and the document of a submission, are read from `files`; a store is opened from `stores`,
 /// or in memory where its path is `:memory:`. What the command has to say goes to `output`; why something was refused or
-/// is faulty, to `errors`. A store that was opened from `stores` is handed back with its path, for the caller to close.
-pub fn run<'a, F: ReadFiles, O: OpenStores, N: Network, R: Source, W: Sink, E: Write>(
+/// is faulty, to `errors`; why a try failed and what wasn't looked at, to `hints`. A store that was opened from `stores` is handed back with its path, for the caller to close.
+pub fn run<'a, F: ReadFiles, O: OpenStores, N: Network, R: Source, W: Sink, H: Write, E: Write>(
     alloc: Global,
     words: &'a [&'a str],
     clock: Option<u64>,
@@ -46,6 +48,7 @@ pub fn run<'a, F: ReadFiles, O: OpenStores, N: Network, R: Source, W: Sink, E: W
     network: &N,
     input: &mut R,
     output: &mut W,
+    hints: &mut H,
     errors: &mut E,
 ) -> (Ran, Option<(&'a str, Connection<O::Kind>)>)
     ensures status { (result.0.status ≡ done) ⊎ ((result.0.status ≡ refused) ⊎ ((result.0.status ≡ faulty) ⊎ (result.0.status ≡ failed))) }
@@ -77,17 +80,23 @@ pub fn run<'a, F: ReadFiles, O: OpenStores, N: Network, R: Source, W: Sink, E: W
 {
     match options_in(alloc, words, clock) {
         Ok(options) => {
-            let agreed = agreements_in(alloc, files, options.agreements);
-            carry_out(
-                alloc, options, agreed, files, stores, network, input, output, errors,
-            )
+            let path = options.agreements;
+            let is_checked = is_check(&options.task);
+            let (agreed, noticed) = agreements_in(alloc, files, path, is_checked);
+            let unread = is_unread(&agreed);
+            let done = carry_out(
+                alloc, options, agreed, files, stores, network, input, output, hints, errors,
+            );
+            let _ = is_told(&noticed, hints);
+            let _ = is_named(unread, path, hints);
+            done
         }
         Err(error) => (tell(alloc, &error, output, errors), None),
     }
 }
 
 /// Does what is asked for, where there are agreements to do it over.
-fn carry_out<'a, F: ReadFiles, O: OpenStores, N: Network, R: Source, W: Sink, E: Write>(
+fn carry_out<'a, F: ReadFiles, O: OpenStores, N: Network, R: Source, W: Sink, H: Write, E: Write>(
     alloc: Global,
     options: Options<'a>,
     agreed: Result<Agreements, CommandFault>,
@@ -96,6 +105,7 @@ fn carry_out<'a, F: ReadFiles, O: OpenStores, N: Network, R: Source, W: Sink, E:
     network: &N,
     input: &mut R,
     output: &mut W,
+    hints: &mut H,
     errors: &mut E,
 ) -> (Ran, Option<(&'a str, Connection<O::Kind>)>)
     ensures status { (result.0.status ≡ done) ⊎ ((result.0.status ≡ refused) ⊎ (result.0.status ≡ failed)) }
@@ -114,22 +124,42 @@ fn carry_out<'a, F: ReadFiles, O: OpenStores, N: Network, R: Source, W: Sink, E:
     };
     match task {
         Task::Check => (check(alloc, &agreements, output, errors), None),
-        Task::Run(run, command) => match work_of(alloc, files, command) {
-            Ok(work) => work_over(
-                alloc,
-                &agreements,
-                run,
-                work,
-                store,
-                stores,
-                network,
-                input,
-                output,
-                errors,
-            ),
-            Err(refusal) => (refuse(refusal, errors), None),
-        },
+        Task::Run(run, command) => {
+            let _ = is_noticed(&command, hints);
+            let path = document_path(&command);
+            match work_of(alloc, files, command) {
+                Ok(work) => work_over(
+                    alloc,
+                    &agreements,
+                    run,
+                    work,
+                    store,
+                    stores,
+                    network,
+                    input,
+                    output,
+                    hints,
+                    errors,
+                ),
+                Err(refusal) => {
+                    let ran = refuse(refusal, errors);
+                    let unread = refusal == CommandFault::CannotRead;
+                    let _ = is_named(unread, path, hints);
+                    (ran, None)
+                }
+            }
+        }
     }
+}
+
+/// Whether agreements are to be checked.
+fn is_check(task: &Task<'_>) -> bool {
+    matches!(task, Task::Check)
+}
+
+/// Whether the file of agreements can't be read.
+fn is_unread(agreed: &Result<Agreements, CommandFault>) -> bool {
+    matches!(agreed, Err(CommandFault::CannotRead))
 }
 
 /// Says why nothing is run: help and the version on `output`, a fault on `errors`.

@@ -24,13 +24,14 @@ use std::alloc::Global;
 use std::io::Write;
 
 /// Sends what is due, over these links.
-pub(crate) fn send_due<S: Alter, L: Links, W: Sink, E: Write>(
+pub(crate) fn send_due<S: Alter, L: Links, W: Sink, H: Write, E: Write>(
     alloc: Global,
     agreements: &Agreements,
     moment: Moment,
     station: &mut Station<S>,
     links: &mut L,
     output: &mut W,
+    hints: &mut H,
     errors: &mut E,
 ) -> Ran
     ensures status { (result.status ≡ done) ⊎ ((result.status ≡ refused) ⊎ (result.status ≡ failed)) }
@@ -41,8 +42,8 @@ pub(crate) fn send_due<S: Alter, L: Links, W: Sink, E: Write>(
     ensures store { result.status ≡ failed
         → (fault : TheFault) × EndsRefused (Failing fault) (Appends (E.contents errors.old) (E.contents errors.new)) result }
 {
-    let sent = send(alloc, agreements, moment, station, links, output);
-    tell_sent(sent, errors)
+    let sent = send(alloc, agreements, moment, station, links, output, hints);
+    tell_sent(sent.end, errors)
 }
 
 /// Tells what sending came to.

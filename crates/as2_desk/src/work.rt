@@ -55,7 +55,7 @@ pub(crate) fn work_of<'a, F: ReadFiles>(
     match command {
         Command::Post => Ok(Work::Post),
         Command::Tick => Ok(Work::Ask(Question::Tick)),
-        Command::List(filter) => Ok(Work::Ask(Question::Listing(filter))),
+        Command::List(filter, _) => Ok(Work::Ask(Question::Listing(filter))),
         Command::Outstanding => Ok(Work::Ask(Question::Outstanding)),
         Command::Show(number) => Ok(Work::Ask(Question::Show(number))),
         Command::Fetch(number) => Ok(Work::Ask(Question::Fetch(number))),
@@ -73,7 +73,7 @@ pub(crate) fn work_of<'a, F: ReadFiles>(
 }
 
 /// Does the work at the station.
-fn do_at<S: Alter, N: Network, R: Source, W: Sink, E: Write>(
+fn do_at<S: Alter, N: Network, R: Source, W: Sink, H: Write, E: Write>(
     alloc: Global,
     agreements: &Agreements,
     moment: Moment,
@@ -82,6 +82,7 @@ fn do_at<S: Alter, N: Network, R: Source, W: Sink, E: Write>(
     network: &N,
     input: &mut R,
     output: &mut W,
+    hints: &mut H,
     errors: &mut E,
 ) -> Ran
     ensures status { (result.status ≡ done) ⊎ ((result.status ≡ refused) ⊎ (result.status ≡ failed)) }
@@ -99,7 +100,7 @@ fn do_at<S: Alter, N: Network, R: Source, W: Sink, E: Write>(
         Work::Send(waits) => {
             let mut links = network.links(waits);
             send_due(
-                alloc, agreements, moment, station, &mut links, output, errors,
+                alloc, agreements, moment, station, &mut links, output, hints, errors,
             )
         }
         Work::Serve(serving) => serve(alloc, agreements, serving, station, network, output, errors),
@@ -107,7 +108,7 @@ fn do_at<S: Alter, N: Network, R: Source, W: Sink, E: Write>(
 }
 
 /// Does the work, where there are records to do it over, and gives their connection back.
-fn do_over<S: Alter + Drop, N: Network, R: Source, W: Sink, E: Write>(
+fn do_over<S: Alter + Drop, N: Network, R: Source, W: Sink, H: Write, E: Write>(
     alloc: Global,
     agreements: &Agreements,
     moment: Moment,
@@ -116,6 +117,7 @@ fn do_over<S: Alter + Drop, N: Network, R: Source, W: Sink, E: Write>(
     network: &N,
     input: &mut R,
     output: &mut W,
+    hints: &mut H,
     errors: &mut E,
 ) -> (Ran, Option<Connection<S>>)
     ensures status { (result.0.status ≡ done) ⊎ ((result.0.status ≡ refused) ⊎ (result.0.status ≡ failed)) }
@@ -142,6 +144,7 @@ fn do_over<S: Alter + Drop, N: Network, R: Source, W: Sink, E: Write>(
                 network,
                 input,
                 output,
+                hints,
                 errors,
             );
             let conn = station.into_connection();
@@ -152,7 +155,7 @@ fn do_over<S: Alter + Drop, N: Network, R: Source, W: Sink, E: Write>(
 }
 
 /// Does the work over the store of that path, and hands the store back.
-pub(crate) fn work_over<'a, O: OpenStores, N: Network, R: Source, W: Sink, E: Write>(
+pub(crate) fn work_over<'a, O: OpenStores, N: Network, R: Source, W: Sink, H: Write, E: Write>(
     alloc: Global,
     agreements: &Agreements,
     options: RunOptions,
@@ -162,6 +165,7 @@ pub(crate) fn work_over<'a, O: OpenStores, N: Network, R: Source, W: Sink, E: Wr
     network: &N,
     input: &mut R,
     output: &mut W,
+    hints: &mut H,
     errors: &mut E,
 ) -> (Ran, Option<(&'a str, Connection<O::Kind>)>)
     ensures status { (result.0.status ≡ done) ⊎ ((result.0.status ≡ refused) ⊎ (result.0.status ≡ failed)) }
@@ -181,13 +185,13 @@ pub(crate) fn work_over<'a, O: OpenStores, N: Network, R: Source, W: Sink, E: Wr
     if path == ":memory:" {
         let records = records_in_memory(alloc, first);
         let (ran, _) = do_over(
-            alloc, agreements, moment, work, records, network, input, output, errors,
+            alloc, agreements, moment, work, records, network, input, output, hints, errors,
         );
         return (ran, None);
     }
     let records = records_in(alloc, stores, path, first);
     let (ran, conn) = do_over(
-        alloc, agreements, moment, work, records, network, input, output, errors,
+        alloc, agreements, moment, work, records, network, input, output, hints, errors,
     );
     (ran, under(path, conn))
 }

@@ -1,7 +1,7 @@
 //! Command lines of the station over files, stores, streams and a network in memory, as texts set them.
 //!
 //! A file is the text whose name is its path. `stores` says what stands under each path (`stores.rt`), `connections` how the connections
-//! end that come, and `partner-reply` what each partner answers (`network.rt`); `script_player` has the clock and the streams.
+//! end that come, `partner-reply` what each partner answers, and `link-fault` why none does (`network.rt`); `script_player` has the clock and the streams.
 ghost use Rattle.as2_http.specs.Devices.{Opens};
 
 mod files;
@@ -34,6 +34,12 @@ fn are_unread(parts: &[Vec<u8>], left: (usize, usize)) -> bool {
     }
 }
 
+/// The bytes with the others behind them, where there is memory for these.
+fn joined(mut bytes: Vec<u8>, others: &[u8]) -> Vec<u8> {
+    let _ = bytes.extend_from_slice(others);
+    bytes
+}
+
 /// Runs the command line with counts of the calls that are made of its streams: what it comes to, and what it leaves.
 fn run_counted<A: Ledger, B: Ledger, C: Ledger, D: Ledger>(
     alloc: Global,
@@ -57,6 +63,7 @@ fn run_counted<A: Ledger, B: Ledger, C: Ledger, D: Ledger>(
     let mut input: Counted<Input<'_>, A, B> = Counted::new(input, reads, failed_reads);
     let output = Paper::new(alloc, given.calls.writes);
     let mut output: Counted<Paper, C, D> = Counted::new(output, writes, failed_writes);
+    let mut hints = Paper::new(alloc, given.calls.errors);
     let mut errors = Paper::new(alloc, given.calls.errors);
     let (ran, handed) = run(
         alloc,
@@ -67,6 +74,7 @@ fn run_counted<A: Ledger, B: Ledger, C: Ledger, D: Ledger>(
         &peers,
         &mut input,
         &mut output,
+        &mut hints,
         &mut errors,
     );
     let unread = input.into_inner().left();
@@ -74,7 +82,7 @@ fn run_counted<A: Ledger, B: Ledger, C: Ledger, D: Ledger>(
         status: ran.status,
         told: ran.told,
         output: output.into_inner().bytes,
-        errors: errors.bytes,
+        errors: joined(hints.bytes, errors.bytes.as_slice()),
         is_unread: are_unread(given.parts.as_slice(), unread),
     };
     let kept = match handed {

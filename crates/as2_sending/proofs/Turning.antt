@@ -2,6 +2,7 @@
 use Rattle.std.proofs.Common.{◌≡◌, ◌⊎◌, inl, inr, ℕ, true, List, [], ◌∷◌, ◌++◌, Option, Some, None, Ok, Err, refl, sym, ap, ◌∙◌, subst, append_assoc, append-nil}
 use Rattle.std.proofs.KnownBytes.{Appends-nil, Appends-trans}
 use Rattle.std.proofs.lemmas.Bool.{false≢true}
+use Rattle.std.proofs.lemmas.Grind.{flat_map-append}
 use Rattle.std.specs.Io.KnownBytes.{Appends}
 use Rattle.sqlite.specs.State.{State as Connected}
 use Rattle.as2_exchange.specs.Agreement.{Agreements, Text}
@@ -18,9 +19,11 @@ use Rattle.as2_exchange.specs.declared.fault.StoreFault.TheVariants.{Full}
 use Rattle.as2_exchange.specs.declared.next.Next.{Next}
 use Rattle.as2_exchange.specs.declared.next.Next.TheVariants.{Receipt, Document}
 use Rattle.as2_store.specs.Stands.{Rests, may_come}
+use Rattle.as2_sending.specs.Hints.{hint_if, why_of}
 use Rattle.as2_sending.specs.Lines.{answer_of, line, lines, line_of}
 use Rattle.as2_station.proofs.ByHistory.{ends_by_history}
-use Rattle.as2_sending.specs.Turns.{Turn, Begins, Takes, TakesAll, begin_of, outcome_of, events, Ends, IsRefused, HasFailed, at_begin_refused, at_outcome_refused, at_next_failed, at_begin_failed, at_outcome_failed, Sends, BeginsTo, ClosesTo, TurnsTo, handed, came}
+use Rattle.as2_sending.specs.Turns.{Turn, Begins, Takes, TakesAll, begin_of, outcome_of, events, Ends, IsRefused, HasFailed, at_begin_refused, at_outcome_refused, at_next_failed, at_begin_failed, at_outcome_failed, Sends, BeginsTo, ClosesTo, TurnsTo, handed, came, hint_of, hints}
+use Rattle.as2_sending.specs.declared.links.LinkFault.{LinkFault}
 use Rattle.as2_sending.specs.declared.sent.Sent.{Sent}
 use Rattle.as2_sending.specs.declared.sent.Sent.TheVariants as sent
 use Rattle.as2_sending.specs.declared.telling.Became.{Became}
@@ -69,34 +72,35 @@ outcome_fails A m s what got job mid c f b left either =
 
 -- ---- a turn
 
--- it ends as it begins, or with its outcome: nothing is written
-pub begin_ends : (U : Type 0) (A : Agreements) (m : ℕ) (s : State) (what : Next) (c : Connected) (now : Option (List ℕ)) (end : Sent) → BeginsTo A m s what c (Err end) → TurnsTo {U = U} A m s c now now (Err end)
-begin_ends U A m s what c now end w = (w.0, w.1, [], w.2, w.3, Appends-nil now)
+-- it ends as it begins, or with its outcome: nothing is written, and nothing hinted
+pub begin_ends : (U : Type 0) (A : Agreements) (m : ℕ) (s : State) (what : Next) (c : Connected) (now : Option (List ℕ)) (Hinted : Text → Type 0) (end : Sent) → Hinted [] → BeginsTo A m s what c (Err end) → TurnsTo {U = U} A m s c now now Hinted (Err end)
+begin_ends U A m s what c now Hinted end none w = (w.0, w.1, [], w.2, w.3, Appends-nil now, none)
 
-pub close_ends : (U : Type 0) (A : Agreements) (m : ℕ) (s : State) (what : Next) (got : TryAnswer) (mid : State) (c : Connected) (now : Option (List ℕ)) (end : Sent) → ClosesTo A m s what got mid c (Err end) → TurnsTo {U = U} A m s c now now (Err end)
-close_ends U A m s what got mid c now end w = (w.0, w.1, [], w.2, w.3, Appends-nil now)
+pub close_ends : (U : Type 0) (A : Agreements) (m : ℕ) (s : State) (what : Next) (got : TryAnswer) (mid : State) (c : Connected) (now : Option (List ℕ)) (Hinted : Text → Type 0) (end : Sent) → Hinted [] → ClosesTo A m s what got mid c (Err end) → TurnsTo {U = U} A m s c now now Hinted (Err end)
+close_ends U A m s what got mid c now Hinted end none w = (w.0, w.1, [], w.2, w.3, Appends-nil now, none)
 
-pub turn_told : (U : Type 0) (A : Agreements) (m : ℕ) (s : State) (what : Next) (got : TryAnswer) (job : Job) (mid : State) (c : Connected) (before after : Option (List ℕ)) (became : Became) (u : U)
-    → Begins A m s what job mid → ClosesTo A m s what got mid c (Ok became) → Appends before after (line what became) → TurnsTo {U = U} A m s c before after (Ok u)
-turn_told U A m s what got job mid c before after became u b w written =
-    (record { what = what; job = job; got = got; became = became }, w.0, record { mid = mid; begins = b; closes = w.1 }, w.2, written)
+pub turn_told : (U : Type 0) (A : Agreements) (m : ℕ) (s : State) (what : Next) (got : TryAnswer) (fault : LinkFault) (job : Job) (mid : State) (c : Connected) (before after : Option (List ℕ)) (Hinted : Text → Type 0) (became : Became) (u : U)
+    → Begins A m s what job mid → ClosesTo A m s what got mid c (Ok became) → Appends before after (line what became) → Hinted (hint_if what became (why_of got fault)) → TurnsTo {U = U} A m s c before after Hinted (Ok u)
+turn_told U A m s what got fault job mid c before after Hinted became u b w written hinted =
+    (record { what = what; job = job; got = got; fault = fault; became = became }, w.0, record { mid = mid; begins = b; closes = w.1 }, w.2, written, hinted)
 
-pub turn_untold : (U : Type 0) (A : Agreements) (m : ℕ) (s : State) (what : Next) (got : TryAnswer) (job : Job) (mid : State) (c : Connected) (before after : Option (List ℕ)) (became : Became) (part missing : Text)
-    → Begins A m s what job mid → ClosesTo A m s what got mid c (Ok became) → line what became ≡ part ++ missing → Appends before after part → TurnsTo {U = U} A m s c before after (Err sent.Unwritten)
-turn_untold U A m s what got job mid c before after became part missing b w cut written = (
+pub turn_untold : (U : Type 0) (A : Agreements) (m : ℕ) (s : State) (what : Next) (got : TryAnswer) (fault : LinkFault) (job : Job) (mid : State) (c : Connected) (before after : Option (List ℕ)) (Hinted : Text → Type 0) (became : Became) (part missing : Text)
+    → Begins A m s what job mid → ClosesTo A m s what got mid c (Ok became) → line what became ≡ part ++ missing → Appends before after part → Hinted [] → TurnsTo {U = U} A m s c before after Hinted (Err sent.Unwritten)
+turn_untold U A m s what got fault job mid c before after Hinted became part missing b w cut written none = (
   _,
   w.0,
   part,
-  record { turn = record { what = what; job = job; got = got; became = became }; takes = record { mid = mid; begins = b; closes = w.1 }; are = refl; missing = missing; cut = cut },
+  record { turn = record { what = what; job = job; got = got; fault = fault; became = became }; takes = record { mid = mid; begins = b; closes = w.1 }; are = refl; missing = missing; cut = cut },
   w.2,
   written,
+  none,
 )
 
-pub nothing_next : (U : Type 0) (A : Agreements) (m : ℕ) (s : State) (c : Connected) (now : Option (List ℕ)) → next s m ≡ None → Rests c s → TurnsTo {U = U} A m s c now now (Err sent.Done)
-nothing_next U A m s c now none rests = ([], s, [], (none, refl, refl, refl), rests, Appends-nil now)
+pub nothing_next : (U : Type 0) (A : Agreements) (m : ℕ) (s : State) (c : Connected) (now : Option (List ℕ)) (Hinted : Text → Type 0) → Hinted [] → next s m ≡ None → Rests c s → TurnsTo {U = U} A m s c now now Hinted (Err sent.Done)
+nothing_next U A m s c now Hinted no_hint none rests = ([], s, [], (none, refl, refl, refl), rests, Appends-nil now, no_hint)
 
-pub next_fails : (U : Type 0) (A : Agreements) (m : ℕ) (s : State) (c : Connected) (now : Option (List ℕ)) (f : StoreFault) → may_come f ≡ true → Rests c s → TurnsTo {U = U} A m s c now now (Err (sent.Failed f))
-next_fails U A m s c now f may rests = ([], s, [], (at_next_failed refl refl, may, refl), rests, Appends-nil now)
+pub next_fails : (U : Type 0) (A : Agreements) (m : ℕ) (s : State) (c : Connected) (now : Option (List ℕ)) (Hinted : Text → Type 0) (f : StoreFault) → Hinted [] → may_come f ≡ true → Rests c s → TurnsTo {U = U} A m s c now now Hinted (Err (sent.Failed f))
+next_fails U A m s c now Hinted f none may rests = ([], s, [], (at_next_failed refl refl, may, refl), rests, Appends-nil now, none)
 
 -- ---- runs
 
@@ -125,15 +129,16 @@ end_run A m s t last text sent.Unwritten e = subst (λ (x : Trace). Run A s x t)
 -- ---- all turns
 
 -- the turns so far
-pub record SentSoFar (A : Agreements) (m : ℕ) (s : State) (c : Connected) (before now : Option (List ℕ)) : Type 0 where
+pub record SentSoFar (A : Agreements) (m : ℕ) (s : State) (c : Connected) (before now : Option (List ℕ)) (Hinted : Text → Type 0) : Type 0 where
   pub done : List Turn
   pub mid : State
   pub all : TakesAll A m s done mid
   pub rests : Rests c mid
   pub written : Appends before now (lines (events m done))
+  pub hinted : Hinted (hints done)
 
-pub sends_first : (A : Agreements) (m : ℕ) (s : State) (c : Connected) (now : Option (List ℕ)) → Rests c s → SentSoFar A m s c now now
-sends_first A m s c now rests = record { done = []; mid = s; all = refl; rests = rests; written = Appends-nil now }
+pub sends_first : (A : Agreements) (m : ℕ) (s : State) (c : Connected) (now : Option (List ℕ)) (Hinted : Text → Type 0) → Hinted [] → Rests c s → SentSoFar A m s c now now Hinted
+sends_first A m s c now Hinted none rests = record { done = []; mid = s; all = refl; rests = rests; written = Appends-nil now; hinted = none }
 
 all_more : (A : Agreements) (m : ℕ) (s mid t : State) (done : List Turn) (x : Turn) → TakesAll A m s done mid → Takes A m mid x t → TakesAll A m s (done ++ x ∷ []) t
 all_more A m s mid t [] x all takes = (t, subst (λ (y : State). Takes A m y x t) all takes, refl)
@@ -167,33 +172,49 @@ lines_more m (y ∷ done) x =
     ∙ sym (append_assoc (line y.what y.became) (lines (events m done)) (line x.what x.became))
     ∙ ap (λ (l : Text). l ++ line x.what x.became) (sym (first_line m y done))
 
-pub sends_on : (U : Type 0) (A : Agreements) (m : ℕ) (s : State) (c d : Connected) (before now later : Option (List ℕ)) (u : U) → (w : SentSoFar A m s c before now) → TurnsTo {U = U} A m w.mid d now later (Ok u) → SentSoFar A m s d before later
-sends_on U A m s c d before now later u w x = record {
-  done = w.done ++ x.0 ∷ [];
-  mid = x.1;
-  all = all_more A m s w.mid x.1 w.done x.0 w.all x.2;
-  rests = x.3;
-  written = subst (Appends before later) (sym (lines_more m w.done x.0)) (Appends-trans before now later (lines (events m w.done)) (line x.0.what x.0.became) w.written x.4);
-}
+hints_more : (done : List Turn) (x : Turn) → hints (done ++ x ∷ []) ≡ hints done ++ hint_of x
+hints_more done x = flat_map-append hint_of done (x ∷ []) ∙ ap (λ (l : Text). hints done ++ l) (append-nil (hint_of x))
 
-pub sends_ended : (U : Type 0) (A : Agreements) (m : ℕ) (s : State) (c d : Connected) (before now later : Option (List ℕ)) (end : Sent) → (w : SentSoFar A m s c before now) → TurnsTo {U = U} A m w.mid d now later (Err end)
-    → (t : State) × Rests d t × Sends A m s t before later end
-sends_ended U A m s c d before now later end w x = (
-  x.1,
-  x.4,
-  record {
-    done = w.done;
-    mid = w.mid;
-    all = w.all;
-    last = x.0;
-    rest = x.2;
-    ends = x.3;
-    run = all_run A m s w.mid x.1 w.done x.0 w.all (end_run A m w.mid x.1 x.0 x.2 end x.3);
-    by_history = ends_by_history A s (events m w.done ++ x.0) x.1 (all_run A m s w.mid x.1 w.done x.0 w.all (end_run A m w.mid x.1 x.0 x.2 end x.3));
-    written = Appends-trans before now later (lines (events m w.done)) x.2 w.written x.5;
-  },
-)
+-- what was hinted before, and what is behind it
+abbrev pub Joins : (Text → Type 0) → (Text → Type 0) → (Text → Type 0) → Type 0
+Joins Before Behind Both = (a b : Text) → Before a → Behind b → Both (a ++ b)
+
+-- texts that were written where something holds
+pub joined : (P Q R : Type 0) (before mid after : Option (List ℕ)) → (R → P × Q) → Joins (λ text. P → Appends before mid text) (λ text. Q → Appends mid after text) (λ text. R → Appends before after text)
+joined P Q R before mid after parts a b one other = λ r. let both = parts r in Appends-trans before mid after a b (one both.0) (other both.1)
+
+module _ (U : Type 0) (A : Agreements) (m : ℕ) (s : State) (c d : Connected) (before now later : Option (List ℕ)) (So Behind Then : Text → Type 0) (joins : Joins So Behind Then) where
+  pub sends_on : (u : U) (w : SentSoFar A m s c before now So) → TurnsTo {U = U} A m w.mid d now later Behind (Ok u) → SentSoFar A m s d before later Then
+  sends_on u w x = record {
+    done = w.done ++ x.0 ∷ [];
+    mid = x.1;
+    all = all_more A m s w.mid x.1 w.done x.0 w.all x.2;
+    rests = x.3;
+    written = subst (Appends before later) (sym (lines_more m w.done x.0)) (Appends-trans before now later (lines (events m w.done)) (line x.0.what x.0.became) w.written x.4);
+    hinted = subst Then (sym (hints_more w.done x.0)) (joins (hints w.done) (hint_of x.0) w.hinted x.5);
+  }
+
+  pub sends_ended : (end : Sent) (w : SentSoFar A m s c before now So) → TurnsTo {U = U} A m w.mid d now later Behind (Err end) → (t : State) × Rests d t × Sends A m s t before later Then end
+  sends_ended end w x = (
+    x.1,
+    x.4,
+    record {
+      done = w.done;
+      mid = w.mid;
+      all = w.all;
+      last = x.0;
+      rest = x.2;
+      ends = x.3;
+      run = all_run A m s w.mid x.1 w.done x.0 w.all (end_run A m w.mid x.1 x.0 x.2 end x.3);
+      by_history = ends_by_history A s (events m w.done ++ x.0) x.1 (all_run A m s w.mid x.1 w.done x.0 w.all (end_run A m w.mid x.1 x.0 x.2 end x.3));
+      written = Appends-trans before now later (lines (events m w.done)) x.2 w.written x.5;
+      hinted = subst Then (append-nil (hints w.done)) (joins (hints w.done) [] w.hinted x.6);
+    },
+  )
 
 -- it is given up, as if what is next couldn't be told
-pub sends_given_up : (A : Agreements) (m : ℕ) (s : State) (c : Connected) (before now : Option (List ℕ)) (f : StoreFault) → may_come f ≡ true → SentSoFar A m s c before now → (t : State) × Rests c t × Sends A m s t before now (sent.Failed f)
-sends_given_up A m s c before now f may w = sends_ended ℕ A m s c c before now now (sent.Failed f) w (next_fails ℕ A m w.mid c now f may w.rests)
+pub sends_given_up : (A : Agreements) (m : ℕ) (s : State) (c : Connected) (before now : Option (List ℕ)) (Hinted : Text → Type 0) (f : StoreFault) → may_come f ≡ true → SentSoFar A m s c before now Hinted
+    → (t : State) × Rests c t × Sends A m s t before now Hinted (sent.Failed f)
+sends_given_up A m s c before now Hinted f may w =
+    sends_ended ℕ A m s c c before now now Hinted (λ text. text ≡ []) Hinted (λ a b hinted is. subst Hinted (sym (append-nil a) ∙ ap (λ (l : Text). a ++ l) (sym is)) hinted)
+    (sent.Failed f) w (next_fails ℕ A m w.mid c now (λ text. text ≡ []) f refl may w.rests)

@@ -1,6 +1,7 @@
 -- What is due is sent, turn by turn, and how that ends.
 use Rattle.std.specs.Prelude.{◌≡◌, ℕ, true, List, [], ◌∷◌, ◌++◌, Option, Some, None, Result, Ok, Err}
 use Rattle.std.specs.Io.KnownBytes.{Appends}
+use Rattle.std.specs.List.{flat_map}
 use Rattle.sqlite.specs.State.{State as Connected}
 use Rattle.as2_exchange.specs.Agreement.{Agreements, Text}
 use Rattle.as2_exchange.specs.Run.{Trace, Answered, Failed, Run}
@@ -20,7 +21,9 @@ use Rattle.as2_exchange.specs.declared.next.Next.{Next}
 use Rattle.as2_exchange.specs.declared.next.Next.TheVariants.{Receipt, Document}
 use Rattle.as2_store.specs.Stands.{Rests, may_come}
 use Rattle.as2_station.specs.Theorem.{EndsByHistory}
+use Rattle.as2_sending.specs.Hints.{hint_if, why_of}
 use Rattle.as2_sending.specs.Lines.{answer_of, line, lines}
+use Rattle.as2_sending.specs.declared.links.LinkFault.{LinkFault}
 use Rattle.as2_sending.specs.declared.sent.Sent.{Sent}
 use Rattle.as2_sending.specs.declared.sent.Sent.TheVariants as sent
 use Rattle.as2_sending.specs.declared.telling.Became.{Became}
@@ -38,12 +41,21 @@ abbrev pub outcome_of : Next → TryAnswer → ℕ → Event
 outcome_of (Receipt n) got m = OutcomeMdn n got m
 outcome_of (Document n) got m = Outcome n got m
 
--- what is tried, the request that is handed to the link, what the link answers, and what becomes of the try
+-- what is tried, the request that is handed to the link, what the link answers, and why it brings no answer, where it brings none;
+-- and what becomes of the try
 pub record Turn : Type 0 where
   pub what : Next
   pub job : Job
   pub got : TryAnswer
+  pub fault : LinkFault
   pub became : Became
+
+-- why it failed, where it did
+abbrev pub hint_of : Turn → Text
+hint_of x = hint_if x.what x.became (why_of x.got x.fault)
+
+abbrev pub hints : List Turn → Text
+hints turns = flat_map hint_of turns
 
 -- what is next in the state s begins at this moment, and this request is to be sent; mid is left
 pub record Begins (A : Agreements) (m : ℕ) (s : State) (what : Next) (job : Job) (mid : State) : Type 0 where
@@ -100,8 +112,8 @@ Ends A m s last t text sent.Unwritten = IsUntold A m s last t text
 -- ---- all of it
 
 -- Turns were taken one after the other, and then sending ended so. The events are a run of the machine, what stands of each document
--- then is its history, and what was written is the lines of the turns.
-pub record Sends (A : Agreements) (m : ℕ) (s t : State) (before after : Option (List ℕ)) (end : Sent) : Type 0 where
+-- then is its history, what was written is the lines of the turns, and what was hinted (Hinted) why each failed that did.
+pub record Sends (A : Agreements) (m : ℕ) (s t : State) (before after : Option (List ℕ)) (Hinted : Text → Type 0) (end : Sent) : Type 0 where
   pub done : List Turn
   pub mid : State
   pub all : TakesAll A m s done mid
@@ -111,6 +123,7 @@ pub record Sends (A : Agreements) (m : ℕ) (s t : State) (before after : Option
   pub run : Run A s (events m done ++ last) t
   pub by_history : EndsByHistory A s (events m done ++ last) t
   pub written : Appends before after (lines (events m done) ++ rest)
+  pub hinted : Hinted (hints done)
 
 -- ---- one turn
 
@@ -139,7 +152,7 @@ abbrev pub ClosesTo : Agreements → ℕ → State → Next → TryAnswer → St
 ClosesTo A m s what got mid c (Ok became) = (t : State) × (step A mid (outcome_of what got m) ≡ Some (answer_of became, t)) × Rests c t
 ClosesTo A m s what got mid c (Err end) = (last : Trace) × (t : State) × Ends A m s last t [] end × Rests c t
 
--- a turn is taken whole, with its line; or sending ends with it
-abbrev pub TurnsTo : {U : Type 0} → Agreements → ℕ → State → Connected → Option (List ℕ) → Option (List ℕ) → Result U Sent → Type 0
-TurnsTo A m s c before after (Ok done) = (x : Turn) × (t : State) × Takes A m s x t × Rests c t × Appends before after (line x.what x.became)
-TurnsTo A m s c before after (Err end) = (last : Trace) × (t : State) × (text : Text) × Ends A m s last t text end × Rests c t × Appends before after text
+-- a turn is taken whole, with its line and its hint; or sending ends with it, and nothing is hinted
+abbrev pub TurnsTo : {U : Type 0} → Agreements → ℕ → State → Connected → Option (List ℕ) → Option (List ℕ) → (Text → Type 0) → Result U Sent → Type 0
+TurnsTo A m s c before after Hinted (Ok done) = (x : Turn) × (t : State) × Takes A m s x t × Rests c t × Appends before after (line x.what x.became) × Hinted (hint_of x)
+TurnsTo A m s c before after Hinted (Err end) = (last : Trace) × (t : State) × (text : Text) × Ends A m s last t text end × Rests c t × Appends before after text × Hinted []

@@ -2,12 +2,14 @@
 //! is due or something is refused.
 #![tactic(auto)]
 
+mod hints;
 mod links;
 mod sending;
 mod sent;
 mod telling;
 mod turns;
 
-pub use links::Links;
+pub use hints::Why;
+pub use links::{LinkFault, Links};
 pub use sending::send;
-pub use sent::Sent;
+pub use sent::{Sending, Sent};

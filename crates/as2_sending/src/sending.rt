@@ -1,5 +1,6 @@
 //! What is due is sent.
-ghost use Rattle.std.specs.Prelude.{◌≡◌};
+ghost use Rattle.std.specs.Prelude.{◌≡◌, true};
+ghost use Rattle.std.specs.Io.KnownBytes.{Appends};
 ghost use Rattle.sqlite.specs.Held.{state};
 ghost use Rattle.sqlite.specs.State.{HasCleanDisk};
 ghost use Rattle.as2_exchange.specs.State.{State};
@@ -7,7 +8,7 @@ ghost use Rattle.as2_store.specs.Stands.{Rests};
 ghost use Rattle.as2_sending.specs.Turns.{Sends};
 
 use crate::links::Links;
-use crate::sent::Sent;
+use crate::sent::{Sending, Sent};
 use crate::turns::take_turn;
 use as2_agreement::Agreements;
 use as2_exchange::StoreFault;
@@ -16,34 +17,50 @@ use as2_station::Station;
 use as2_text::Moment;
 use sqlite::Alter;
 use std::alloc::Global;
+use std::io::Write;
 
 /// More turns than there are receipts and documents: numbers end below 10^12, and what was tried at a moment is due only
 /// later. So sending ends before.
 const TURNS: u64 = 2_000_000_000_000;
 
+/// Whether both are.
+fn both(one: bool, other: bool) -> bool
+    ensures { result ≡ true → (one ≡ true) × (other ≡ true) }
+{
+    one && other
+}
+
 /// Sends what is due at a moment, in turns: what is next - the receipt or else the document of the least number - begins, the
 /// link's answer to its request is its outcome, and then its line is written, at once. Refused at the first event that is
 /// refused, which has no line; Failed where the store fails; Unwritten where a line can't be written, and what was done stays;
-/// Done once nothing is due.
-pub fn send<S: Alter, L: Links, W: Sink>(
+/// Done once nothing is due. Behind the line of a try that failed, why it did is written among the hints; a hint that can't be
+/// written changes nothing else.
+pub fn send<S: Alter, L: Links, W: Sink, E: Write>(
     alloc: Global,
     agreements: &Agreements,
     moment: Moment,
     station: &mut Station<S>,
     links: &mut L,
     output: &mut W,
-) -> Sent
+    hints: &mut E,
+) -> Sending
     ensures clean { HasCleanDisk (state S.Store station.new) → HasCleanDisk (state S.Store station.old) }
     // The tables stand for the state that a run of whole turns and of one end leaves.
     ensures sends { HasCleanDisk (state S.Store station.new) → (s : State) → Rests (state S.Store station.old) s
         → (t : State) × Rests (state S.Store station.new) t
-        × Sends agreements.now moment s t (W.written output.old) (W.written output.new) result }
+        × Sends agreements.now moment s t (W.written output.old) (W.written output.new)
+        (λ text. result.told ≡ true → Appends (E.contents hints.old) (E.contents hints.new) text) result.end }
 {
+    let mut told = true;
     for _ in 0..TURNS {
-        if let Err(end) = take_turn(alloc, agreements, moment, station, links, output) {
-            return end;
+        match take_turn(alloc, agreements, moment, station, links, output, hints) {
+            Ok(hinted) => told = both(told, hinted),
+            Err(end) => return Sending { end, told },
         }
     }
     // Something may still be due, so this isn't Done.
-    Sent::Failed(StoreFault::Refused)
+    Sending {
+        end: Sent::Failed(StoreFault::Refused),
+        told,
+    }
 }

@@ -13,3 +13,12 @@ pub enum Sent {
     /// A line couldn't be written. The try that it tells of stands.
     Unwritten,
 }
+
+/// How sending ended.
+#[derive(Clone, Copy, Debug, PartialEq, Eq)]
+pub struct Sending {
+    /// What it came to.
+    pub end: Sent,
+    /// Whether each hint could be written.
+    pub told: bool,
+}

@@ -40,7 +40,7 @@ fn letter(state: State) -> &'static str
 }
 
 /// Appends what was tried.
-fn subject(what: Next) -> Line
+pub(crate) fn subject(what: Next) -> Line
     ensures text { result.bytes ≡ subject what }
     ensures short { length result.bytes ≤ 49 }
 {

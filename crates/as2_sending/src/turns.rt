@@ -1,5 +1,6 @@
 //! One turn: what is next begins, is exchanged, and its outcome is taken and told.
-ghost use Rattle.std.specs.Prelude.{◌≡◌, Some};
+ghost use Rattle.std.specs.Prelude.{◌≡◌, Some, IfOk, true};
+ghost use Rattle.std.specs.Io.KnownBytes.{Appends};
 ghost use Rattle.sqlite.specs.Held.{state};
 ghost use Rattle.sqlite.specs.State.{HasCleanDisk};
 ghost use Rattle.as2_exchange.specs.declared.answer.Job.{Job as HandedJob};
@@ -8,6 +9,7 @@ ghost use Rattle.as2_exchange.specs.Views.{next};
 ghost use Rattle.as2_store.specs.Stands.{Rests};
 ghost use Rattle.as2_sending.specs.Turns.{Begins, BeginsTo, ClosesTo, TurnsTo, begin_of, came, handed, outcome_of};
 
+use crate::hints::{is_hinted, why_of};
 use crate::links::Links;
 use crate::sent::Sent;
 use crate::telling::{Became, line};
@@ -18,6 +20,7 @@ use as2_station::Station;
 use as2_text::Moment;
 use sqlite::Alter;
 use std::alloc::Global;
+use std::io::Write;
 
 /// A try of it begins.
 fn begin_event(what: Next, moment: Moment) -> Event
@@ -111,8 +114,9 @@ fn close<S: Alter>(
     }
 }
 
-/// Takes a turn of what is next, and writes its line. An Err says how sending ends.
-fn turn<S: Alter, L: Links, W: Sink>(
+/// Takes a turn of what is next, writes its line, and behind that why it failed, where it did; whether that could be said. An
+/// Err says how sending ends.
+fn turn<S: Alter, L: Links, W: Sink, E: Write>(
     alloc: Global,
     agreements: &Agreements,
     moment: Moment,
@@ -120,35 +124,43 @@ fn turn<S: Alter, L: Links, W: Sink>(
     what: Next,
     links: &mut L,
     output: &mut W,
-) -> Result<(), Sent>
+    hints: &mut E,
+) -> Result<bool, Sent>
     ensures clean { HasCleanDisk (state S.Store station.new) → HasCleanDisk (state S.Store station.old) }
     ensures turned { HasCleanDisk (state S.Store station.new) → (s : State) → Rests (state S.Store station.old) s → next s moment ≡ Some what
-        → TurnsTo agreements.now moment s (state S.Store station.new) (W.written output.old) (W.written output.new) result }
+        → TurnsTo agreements.now moment s (state S.Store station.new) (W.written output.old) (W.written output.new)
+        (λ text. IfOk result (λ told. told ≡ true) → Appends (E.contents hints.old) (E.contents hints.new) text) result }
 {
     let job = begin(alloc, agreements, moment, station, what)?;
     let got = links.exchange(alloc, &job);
+    let why = why_of(&got, links.fault());
     let became = close(alloc, agreements, moment, station, what, got)?;
     match push_all(output, line(what, became).as_str().as_bytes()) {
-        Ok(()) => Ok(()),
+        Ok(()) => Ok(is_hinted(what, became, why, hints)),
         Err(_) => Err(Sent::Unwritten),
     }
 }
 
-/// Takes a turn of what is next, if something is. An Err says how sending ends.
-pub fn take_turn<S: Alter, L: Links, W: Sink>(
+/// Takes a turn of what is next, if something is; whether all that there was to hint could be said. An Err says how sending
+/// ends.
+pub(crate) fn take_turn<S: Alter, L: Links, W: Sink, E: Write>(
     alloc: Global,
     agreements: &Agreements,
     moment: Moment,
     station: &mut Station<S>,
     links: &mut L,
     output: &mut W,
-) -> Result<(), Sent>
+    hints: &mut E,
+) -> Result<bool, Sent>
     ensures clean { HasCleanDisk (state S.Store station.new) → HasCleanDisk (state S.Store station.old) }
     ensures turned { HasCleanDisk (state S.Store station.new) → (s : State) → Rests (state S.Store station.old) s
-        → TurnsTo agreements.now moment s (state S.Store station.new) (W.written output.old) (W.written output.new) result }
+        → TurnsTo agreements.now moment s (state S.Store station.new) (W.written output.old) (W.written output.new)
+        (λ text. IfOk result (λ told. told ≡ true) → Appends (E.contents hints.old) (E.contents hints.new) text) result }
 {
     match station.next(moment) {
-        Ok(Some(what)) => turn(alloc, agreements, moment, station, what, links, output),
+        Ok(Some(what)) => turn(
+            alloc, agreements, moment, station, what, links, output, hints,
+        ),
         Ok(None) => Err(Sent::Done),
         Err(fault) => Err(Sent::Failed(fault)),
     }

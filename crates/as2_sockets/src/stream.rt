@@ -123,7 +123,7 @@ impl<'a, S: Write + OpenStream, C: Clock> Write for TimedStream<'a, S, C> {
 
 /// Opens a connection to the host and port of an authority. Each address of the host is tried until one answers, and none for
 /// longer than one wait; the whole of the connection begins with the first of these tries. Looking the host up is not bounded.
-/// `InvalidInput` where the authority names no port behind its colon, or the host has no address.
+/// `InvalidInput` where the authority names no port behind its colon; `NotFound` where the host has no address.
 pub fn connect<'a, R: Net + Clock>(
     rt: &'a R,
     authority: &str,
@@ -134,9 +134,11 @@ pub fn connect<'a, R: Net + Clock>(
     let Some(host_and_port) = host_and_port(authority) else {
         return Err(io::Error::from(ErrorKind::InvalidInput));
     };
-    let addresses = host_and_port.to_socket_addrs(rt)?;
+    let Ok(addresses) = host_and_port.to_socket_addrs(rt) else {
+        return Err(io::Error::from(ErrorKind::NotFound));
+    };
     let timer = Timer::start(rt, limits)?;
-    let mut last = io::Error::from(ErrorKind::InvalidInput);
+    let mut last = io::Error::from(ErrorKind::NotFound);
     for address in addresses {
         match TcpStream::connect_timeout(rt, &address, timer.wait()?) {
             Ok(stream) => return Ok(TimedStream { stream, timer }),

@@ -2,6 +2,7 @@
 #![tactic(auto)]
 
 mod file_system;
+mod links;
 mod network;
 
 ghost use Rattle.as2_http.specs.Devices.{Opens};
@@ -53,6 +54,7 @@ fn run<S: Start, A: Ledger, B: Ledger, C: Ledger, D: Ledger>(
         &Sockets { rt },
         &mut input,
         &mut output,
+        &mut rt.stderr(),
         &mut rt.stderr(),
     );
     if let Some((path, store)) = left {

@@ -1,4 +1,4 @@
-//! The network: connections over TCP that are served, and links to partners.
+//! The network: connections over TCP that are served.
 ghost use Rattle.as2_http.specs.Devices.{Opens};
 ghost use Rattle.as2_http.specs.StreamReads.{RunsPosts};
 ghost use Rattle.as2_exchange.specs.State.{State};
@@ -7,13 +7,12 @@ ghost use Rattle.sqlite.specs.Held.{state};
 ghost use Rattle.sqlite.specs.State.{HasCleanDisk};
 
 use crate::clock;
+use crate::links::Connections;
 use as2_agreement::Agreements;
 use as2_commands::Waits;
 use as2_desk::{CannotListen, Listens, Network};
-use as2_exchange::{Job, TryAnswer};
-use as2_http::{Counted, Served, exchange, serve_stream};
-use as2_sending::Links;
-use as2_sockets::{Limits, TimedStream, connect};
+use as2_http::{Counted, Served, serve_stream};
+use as2_sockets::{Limits, TimedStream};
 use as2_station::Station;
 use as2_text::{Memory, Moment};
 use sqlite::Alter;
@@ -24,7 +23,7 @@ use std::net::{SocketAddr, TcpListener, TcpStream};
 use std::sync::ledger::{Blank, Ledger};
 
 /// A connection with its limits.
-type Stream<'a> = TimedStream<'a, TcpStream, HostRuntime>;
+pub(crate) type Stream<'a> = TimedStream<'a, TcpStream, HostRuntime>;
 
 /// The sockets of this machine.
 #[derive(Clone, Copy)]
@@ -38,13 +37,6 @@ pub struct ListeningSocket<'a> {
     rt: &'a HostRuntime,
     socket: TcpListener,
     address: SocketAddr,
-    limits: Limits,
-}
-
-/// What opens connections to partners.
-#[derive(Clone, Copy)]
-pub struct Connections<'a> {
-    rt: &'a HostRuntime,
     limits: Limits,
 }
 
@@ -106,27 +98,6 @@ fn serve_connection<S: Alter>(
     )
 }
 
-/// Exchanges over a connection, with counts of the calls that are made of it.
-fn exchange_counted<A: Ledger, B: Ledger, C: Ledger, D: Ledger>(
-    alloc: Global,
-    job: &Job,
-    reader: Stream<'_>,
-    writer: Stream<'_>,
-    reads: Blank,
-    failed_reads: Blank,
-    writes: Blank,
-    failed_writes: Blank,
-) -> TryAnswer
-    requires reads { Opens reads.name reads.parts A.name A.parts }
-    requires failed_reads { Opens failed_reads.name failed_reads.parts B.name B.parts }
-    requires writes { Opens writes.name writes.parts C.name C.parts }
-    requires failed_writes { Opens failed_writes.name failed_writes.parts D.name D.parts }
-{
-    let mut source: Counted<Stream, A, B> = Counted::new(reader, reads, failed_reads);
-    let mut sink: Counted<Stream, C, D> = Counted::new(writer, writes, failed_writes);
-    exchange(alloc, job, &mut source, &mut sink)
-}
-
 impl<'a> ListeningSocket<'a> {
     /// Accepts one connection: its two ends, and the clock's reading then.
     fn accept(&self) -> io::Result<(Stream<'a>, Stream<'a>)> {
@@ -166,30 +137,6 @@ impl Listens for ListeningSocket<'_> {
     }
 }
 
-impl Links for Connections<'_> {
-    fn exchange(&mut self, alloc: Global, job: &Job) -> TryAnswer {
-        let Ok(authority) = str::from_utf8(job.authority.as_slice()) else {
-            return TryAnswer::NoAnswer;
-        };
-        let Ok(reader) = connect(self.rt, authority, self.limits) else {
-            return TryAnswer::NoAnswer;
-        };
-        let Ok(writer) = reader.try_clone() else {
-            return TryAnswer::NoAnswer;
-        };
-        exchange_counted::<Brand, Brand, Brand, Brand>(
-            alloc,
-            job,
-            reader,
-            writer,
-            Blank::new(1),
-            Blank::new(1),
-            Blank::new(1),
-            Blank::new(1),
-        )
-    }
-}
-
 impl<'a> Network for Sockets<'a> {
     type Listener = ListeningSocket<'a>;
 
@@ -216,9 +163,6 @@ impl<'a> Network for Sockets<'a> {
     }
 
     fn links(&self, waits: Waits) -> Connections<'a> {
-        Connections {
-            rt: self.rt,
-            limits: Limits::of_seconds(waits.seconds),
-        }
+        Connections::new(self.rt, waits)
     }
 }

@@ -6,7 +6,7 @@ use crate::stage::Stage;
 use as2_agreement::Agreements;
 use as2_exchange::{Job, TryAnswer};
 use as2_http::Counted;
-use as2_sending::{Links, Sent, send};
+use as2_sending::{LinkFault, Links, Sent, send};
 use as2_station::Station;
 use as2_text::Moment;
 use script_lines::{Answer, Settings};
@@ -31,6 +31,10 @@ impl Links for Partners<'_> {
         self.asked.say_bytes(job.authority.as_slice());
         let reply = self.settings.text("partner-reply").unwrap_or("");
         try_answer(self.settings, reply, &mut self.asked)
+    }
+
+    fn fault(&self) -> LinkFault {
+        LinkFault::ConnectionRefused
     }
 }
 
@@ -68,7 +72,17 @@ fn sent_counted<L: Ledger, M: Ledger>(
 {
     let alloc = partners.asked.alloc();
     let mut output: Counted<&mut Paper, L, M> = Counted::new(paper, writes, failed_writes);
-    send(alloc, agreements, moment, station, partners, &mut output)
+    let mut hints = Vec::new(alloc);
+    let sending = send(
+        alloc,
+        agreements,
+        moment,
+        station,
+        partners,
+        &mut output,
+        &mut hints,
+    );
+    sending.end
 }
 
 /// How much may be written: what the text `room` says, or all.

@@ -89,7 +89,12 @@ fn say_command(answer: &mut Answer, command: &Command<'_>) {
         Command::Submit(given) => say_submission(answer, given),
         Command::Send(waits) => say_with(answer, "send", waits.seconds),
         Command::Tick => answer.say("tick"),
-        Command::List(given) => say_filter(answer, given),
+        Command::List(given, idle) => {
+            say_filter(answer, given);
+            if *idle {
+                answer.say(", whose state isn't looked at");
+            }
+        }
         Command::Outstanding => answer.say("outstanding"),
         Command::Show(number) => say_with(answer, "show", *number),
         Command::Fetch(number) => say_with(answer, "fetch", *number),

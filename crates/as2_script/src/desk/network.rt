@@ -1,6 +1,6 @@
-//! A network in memory, by the texts `connections` and `partner-reply`.
+//! A network in memory, by the texts `connections`, `partner-reply` and `link-fault`.
 use as2_agreement::Agreements;
-use as2_desk::{CannotListen, Links, Listens, Network, Served, Waits};
+use as2_desk::{CannotListen, LinkFault, Links, Listens, Network, Served, Waits};
 use as2_exchange::{Job, TryAnswer};
 use as2_mic::Pieces;
 use as2_station::Station;
@@ -109,6 +109,23 @@ impl Links for Peers<'_> {
             Some(text) => reply_of(alloc, text).unwrap_or(TryAnswer::NoAnswer),
             None => TryAnswer::NoAnswer,
         }
+    }
+
+    fn fault(&self) -> LinkFault {
+        link_fault(self.settings.text("link-fault").unwrap_or(""))
+    }
+}
+
+/// The fault of a link that a word names; that nobody listens, where it names none.
+fn link_fault(word: &str) -> LinkFault {
+    match word {
+        "unknown-host" => LinkFault::UnknownHost,
+        "no-connection" => LinkFault::NoConnection,
+        "silent" => LinkFault::Silent(30),
+        "slow" => LinkFault::Slow(300),
+        "broken" => LinkFault::Broken,
+        "no-answer" => LinkFault::NoAnswer,
+        _ => LinkFault::ConnectionRefused,
     }
 }
 

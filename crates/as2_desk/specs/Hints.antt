@@ -1,0 +1,17 @@
+-- What may help whoever looks on, a line each.
+use Rattle.std.specs.Prelude.{ℕ, List, [], ◌++◌, Bool, codes, true, if◌then◌else◌}
+use Rattle.as2_commands.specs.declared.tasks.Command.{Command}
+use Rattle.as2_commands.specs.declared.tasks.Command.TheVariants.{List as Listing}
+use Rattle.as2_desk.specs.Escapes.{escaped}
+
+-- what is given and not looked at: a state, where what was received is listed
+abbrev pub idle_hint : Command → List ℕ
+idle_hint (Listing filter true) = codes "hint: 'list in' doesn't look at --state\n"
+idle_hint other = []
+
+-- which file can't be read
+abbrev pub file_hint : List ℕ → List ℕ
+file_hint path = codes "hint: file \"" ++ (escaped path ++ codes "\"\n")
+
+abbrev pub file_hint_if : Bool → List ℕ → List ℕ
+file_hint_if unread path = if unread then file_hint path else []

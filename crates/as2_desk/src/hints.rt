@@ -1,0 +1,46 @@
+//! What may help whoever looks on, a line each: what is given and not looked at, and which file can't be read. `places` has the
+//! lines on agreements, and `as2_sending` those on tries.
+ghost use Rattle.std.specs.Prelude.{◌≡◌, OnOk, true};
+ghost use Rattle.std.specs.Io.KnownBytes.{Appends};
+ghost use Rattle.as2_desk.specs.Hints.{file_hint, file_hint_if, idle_hint};
+
+use crate::escaping::write_escaped;
+use as2_commands::Command;
+use std::io;
+use std::io::Write;
+
+const IDLE_STATE: &str = "hint: 'list in' doesn't look at --state\n";
+
+/// Says what is given and not looked at: a state, where what was received is listed; and whether that could be said.
+pub(crate) fn is_noticed<H: Write>(command: &Command<'_>, hints: &mut H) -> bool
+    ensures { result ≡ true → Appends (H.contents hints.old) (H.contents hints.new) (idle_hint command.now) }
+{
+    match command {
+        Command::List(_, true) => hints.write_all(IDLE_STATE.as_bytes()).is_ok(),
+        _ => true,
+    }
+}
+
+/// The path of the file that a command reads; empty where it reads none.
+pub(crate) fn document_path<'a>(command: &Command<'a>) -> &'a str {
+    match command {
+        Command::Submit(submission) => submission.path,
+        _ => "",
+    }
+}
+
+/// Writes which file can't be read.
+fn write_file<H: Write>(path: &str, hints: &mut H) -> io::Result<()>
+    ensures { OnOk result (Appends (H.contents hints.old) (H.contents hints.new) (file_hint path.now)) }
+{
+    hints.write_all(b"hint: file \"")?;
+    write_escaped(path, hints)?;
+    hints.write_all(b"\"\n")
+}
+
+/// Says which file can't be read, where one can't be; and whether that could be said.
+pub(crate) fn is_named<H: Write>(unread: bool, path: &str, hints: &mut H) -> bool
+    ensures { result ≡ true → Appends (H.contents hints.old) (H.contents hints.new) (file_hint_if unread path.now) }
+{
+    !unread || write_file(path, hints).is_ok()
+}
