@@ -14,6 +14,7 @@ station() { "$program" --agreements "$agreements" --store "$store" "$@"; }
 list() { station list out > "$folder/.list"; }
 count() { wc -l < "$folder/.list"; }
 
+refusals=0
 # What was begun before a stop: the count of documents then, and the file.
 list
 if [ -s "$folder/.begun" ]; then
@@ -42,6 +43,9 @@ for file in "$folder"/*; do
         list
         [ "$(count)" -eq "$before" ] || exit "$status"
         mv "$file" "$folder/refused/$name"
+        echo "hand-in: $name is refused, and lies in $folder/refused" >&2
+        refusals=1
     fi
     rm "$folder/.begun"
 done
+exit "$refusals"
