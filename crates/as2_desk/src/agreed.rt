@@ -46,7 +46,7 @@ fn noticed_in(alloc: Global, text: &str, is_faulty: bool, is_checked: bool) -> N
 }
 
 /// The same of bytes. Of those that are no text nothing is noticed.
-fn noticed(alloc: Global, bytes: &[u8], is_faulty: bool, is_checked: bool) -> Noticed {
+fn noticed_in_bytes(alloc: Global, bytes: &[u8], is_faulty: bool, is_checked: bool) -> Noticed {
     match std::str::from_utf8(bytes) {
         Ok(text) => noticed_in(alloc, text, is_faulty, is_checked),
         Err(_) => Noticed::Nothing,
@@ -62,7 +62,7 @@ fn agreed_in(
     ensures { BytesGive bytes.now result.0 }
 {
     let agreed = agreements_of(alloc, bytes);
-    let noticed = noticed(alloc, bytes, agreed.is_err(), is_checked);
+    let noticed = noticed_in_bytes(alloc, bytes, agreed.is_err(), is_checked);
     (agreed, noticed)
 }
 

@@ -1,4 +1,4 @@
-use Rattle.std.proofs.Common.{◌≡◌, ◌∙◌, IfSome, inr, refl, sym, subst}
+use Rattle.std.proofs.Common.{◌≡◌, IfSome, inr, refl, sym, subst}
 use Rattle.sqlite.specs.Held.{Held, state}
 use Rattle.sqlite.specs.State.{HasCleanDisk}
 use Rattle.as2_store.specs.Stands.{Rests}
