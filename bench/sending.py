@@ -10,6 +10,7 @@ import sqlite3
 import subprocess
 import sys
 import tempfile
+import threading
 import time
 
 CONTENT = b"ISA*00*" + b"x" * 2_993
@@ -122,6 +123,8 @@ def serve(desk, store, count, before=()):
     words = [*before, *desk.words(store, "serve", "--listen", "127.0.0.1:0", "--count", str(count))]
     run = subprocess.Popen(words, cwd=desk.folder, stdin=subprocess.DEVNULL, stdout=subprocess.PIPE, stderr=subprocess.PIPE, text=True)
     port = int(run.stderr.readline().rsplit(":", 1)[1])
+    # a line for each reply
+    threading.Thread(target=run.stderr.read, daemon=True).start()
     began = time.perf_counter()
     for number in range(count):
         with socket.create_connection(("127.0.0.1", port)) as client:
@@ -130,7 +133,8 @@ def serve(desk, store, count, before=()):
                 if not reply.read().startswith(b"HTTP/1.1 200 OK\r\n"):
                     sys.exit("post %d isn't answered" % number)
     seconds = time.perf_counter() - began
-    run.communicate()
+    run.stdout.read()
+    run.wait()
     return seconds
 
 

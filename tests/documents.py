@@ -2,7 +2,7 @@
 
 A block that begins with ```console has commands behind `$ `, each with what it prints below it; a line `...` stands for any lines.
 The blocks of a document are run in the order in which they stand there, each in one shell, in an empty folder that has the top of
-the repository in it as links. What stands behind `console`:
+the repository in it as links. `...` within a shown line stands for any text. What stands behind `console`:
 
     background   the block goes on beside the next one, and is compared when that has ended
     nginx        it is skipped where nginx isn't installed
@@ -46,13 +46,18 @@ def commands(lines):
     return found
 
 
+def is_line(shown, printed):
+    """Whether this line was printed, where `...` is any text."""
+    return re.fullmatch(".*".join(re.escape(part) for part in shown.split("...")), printed) is not None
+
+
 def fits(shown, printed):
     """Whether these lines were printed, where `...` is any lines."""
     if not shown:
         return not printed
     if shown[0] == "...":
         return any(fits(shown[1:], printed[i:]) for i in range(len(printed) + 1))
-    return bool(printed) and shown[0] == printed[0] and fits(shown[1:], printed[1:])
+    return bool(printed) and is_line(shown[0], printed[0]) and fits(shown[1:], printed[1:])
 
 
 class Block:

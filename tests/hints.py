@@ -1,6 +1,6 @@
 #!/usr/bin/env python3
-"""What `as2desk send --timeout 1` hints at, for each way in which a partner over a socket can fail; and where faulty agreements have their
-fault. Prints a line for each; the status is 1 where one isn't as wanted. Takes some 15 seconds. The program is ./as2desk, or the file that
+"""What `as2desk send --timeout 1` hints at, for each way in which a partner over a socket can fail; where faulty agreements have their
+fault; and what `serve` says of its replies. Prints a line for each; the status is 1 where one isn't as wanted. Takes some 15 seconds. The program is ./as2desk, or the file that
 the argument names.
 """
 import os
@@ -115,6 +115,22 @@ FAULTS = [
 ]
 
 
+def replies(program):
+    """What `serve` says on standard error of two connections: one of two posts, and one of something else."""
+    words = [program, "--agreements", os.path.join(TOP, "examples", "agreements.toml"), "--store", ":memory:", "--moment", "1000"]
+    with open(os.path.join(TOP, "examples", "plain-post.http"), "rb") as file:
+        post = file.read()
+    with subprocess.Popen([*words, "serve", "--listen", "127.0.0.1:0", "--count", "2"], stdout=subprocess.DEVNULL, stderr=subprocess.PIPE, text=True) as run:
+        port = int(run.stderr.readline().rsplit(":", 1)[1])
+        for request in (post * 2, b"no request\r\n\r\n"):
+            with socket.create_connection(("127.0.0.1", port), timeout=20) as client:
+                client.sendall(request)
+                client.shutdown(socket.SHUT_WR)
+                while client.recv(1 << 16):
+                    pass
+        return run.stderr.read()
+
+
 def main():
     program = os.path.abspath(sys.argv[1]) if len(sys.argv) > 1 else os.path.join(TOP, "as2desk")
     with tempfile.TemporaryDirectory() as folder:
@@ -133,6 +149,8 @@ def main():
         absent = os.path.join(folder, "absent.toml")
         ran = subprocess.run([program, "--agreements", absent, "--store", ":memory:", "check"], capture_output=True, text=True)
         tell("agreements that are absent", 'refused: CannotRead\nhint: file "%s"\n' % absent, ran.stderr)
+    said = "reply: 1000 Buyer Supplier <m1@x> 200\n" * 2 + "reply: 1000 - - - 400\n"
+    tell("replies are noted", said, replies(program))
     return 1 if failed else 0
 
 

@@ -5,6 +5,7 @@ use Rattle.as2_exchange.specs.State.{end_of_numbers}
 use Rattle.clap.specs.Words.{App, Row, Rule, Shape, Text, fault_of, matches_of, new_app, new_rule, subcommand_of, with_rule}
 use Rattle.clap.specs.Simple.{new_shape, on_top}
 use Rattle.clap.specs.Kinds.{IsAmong, Kinds}
+use Rattle.clap.specs.declared.builder.action.ArgAction.TheVariants.{SetTrue}
 use Rattle.clap.specs.declared.builder.value_parser.ValueParser.TheVariants.{Unsigned}
 use Rattle.clap.specs.declared.error.kind.ErrorKind.{ErrorKind}
 use Rattle.clap.specs.declared.error.kind.ErrorKind.TheVariants.{DisplayHelp, DisplayVersion}
@@ -12,6 +13,10 @@ use Rattle.clap.specs.declared.error.kind.ErrorKind.TheVariants.{DisplayHelp, Di
 -- `--name VALUE`
 abbrev pub option : Text → Rule
 option name = record (new_rule name) { long = Some name; value_names = 1 }
+
+-- `--name`
+abbrev pub flag : Text → Rule
+flag name = record (new_rule name) { long = Some name; action = Some SetTrue }
 
 -- a value that stands by itself, and must be there
 abbrev pub value : Text → Rule
@@ -64,6 +69,9 @@ options = with_rule (with_rule (with_rule (with_rule program (required (option (
 abbrev pub command : Text → List Rule → Shape
 command name rules = record (new_shape name) { rules = rules }
 
+abbrev pub post : Shape
+post = command (codes "post") (flag (codes "log") ∷ [])
+
 abbrev pub submit : Shape
 submit = command (codes "submit") (required (option (codes "from")) ∷ required (option (codes "to")) ∷ value (codes "file") ∷ [])
 
@@ -76,7 +84,7 @@ serve = command (codes "serve") (required (option (codes "listen")) ∷ count �
 abbrev pub commands : List Shape
 commands =
     command (codes "check") []
-    ∷ command (codes "post") []
+    ∷ post
     ∷ submit
     ∷ command (codes "send") (timeout ∷ [])
     ∷ command (codes "tick") []

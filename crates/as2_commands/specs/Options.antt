@@ -1,5 +1,5 @@
 -- What a command line asks for.
-use Rattle.std.specs.Prelude.{◌≡◌, ◌≤◌, ◌-◌, ℕ, List, [], Option, Some, None, IfSome, option_map, codes, ⊤, Bool, is_some, false, ◌&&◌, nat_le, nat_lt, if◌then◌else◌}
+use Rattle.std.specs.Prelude.{◌≡◌, ◌≤◌, ◌-◌, ℕ, List, [], Option, Some, None, IfSome, option_map, codes, ⊤, Bool, bytes_eq, is_some, false, ◌&&◌, nat_le, nat_lt, if◌then◌else◌}
 use Rattle.std.specs.Str.Parse.{IsNumeral, digits_value, without_leading_plus}
 use Rattle.as2_names.specs.Moments.{last_moment}
 use Rattle.as2_names.specs.Names.{Spells}
@@ -97,9 +97,14 @@ pub record AsksServe (values own : List Row) (s : Serving) : Type 0 where
   pub wait : IsWait own s.waits.seconds
   pub seconds : TellsMoment (one_of (codes "moment") values) s.moment
 
+-- a flag is there
+abbrev pub is_set : Option Text → Bool
+is_set (Some text) = bytes_eq text (codes "true")
+is_set None = false
+
 -- the word for a command
 abbrev pub word_of : Command → Text
-word_of Post = codes "post"
+word_of (Post log) = codes "post"
 word_of (Submit s) = codes "submit"
 word_of (Send w) = codes "send"
 word_of Tick = codes "tick"
@@ -111,6 +116,7 @@ word_of (Serve s) = codes "serve"
 
 -- what the values before a command and its own say for it
 abbrev pub Tell : List Row → List Row → Command → Type 0
+Tell values own (Post log) = log ≡ is_set (first_of (codes "log") own)
 Tell values own (Submit s) = AsksSubmit own s
 Tell values own (Send w) = IsWait own w.seconds
 Tell values own (Listing f idle) = AsksList own (Listing f idle)

@@ -1,11 +1,11 @@
 //! Options and values of commands.
 ghost use Rattle.std.specs.Prelude.{◌≡◌, ◌<◌, ◌≤◌, ◌^◌, codes, false};
 ghost use Rattle.clap.specs.Words.{rule_of};
-ghost use Rattle.as2_commands.specs.CommandLine.{count, default, entry, first, moment, number, option, required, timeout, value};
+ghost use Rattle.as2_commands.specs.CommandLine.{count, default, entry, first, flag, moment, number, option, required, timeout, value};
 
 use as2_exchange::END_OF_NUMBERS;
 use as2_text::LAST_MOMENT;
-use clap::{Arg, value_parser};
+use clap::{Arg, ArgAction, value_parser};
 use std::alloc::Global;
 
 pub(crate) const AGREEMENTS: &str = "agreements";
@@ -22,6 +22,9 @@ pub(crate) const TO: &str = "to";
 
 /// The document's file.
 pub(crate) const FILE: &str = "file";
+
+/// Replies are noted.
+pub(crate) const LOG: &str = "log";
 
 /// The longest wait for a peer.
 pub(crate) const TIMEOUT: &str = "timeout";
@@ -55,6 +58,17 @@ pub(crate) fn option<'a>(alloc: Global, name: &'a str, value: &'a str, help: &'a
     Arg::new(alloc, name)
         .long(name)
         .value_name(value)
+        .help(help)
+}
+
+/// An option without a value: it is there, or it isn't.
+pub(crate) fn flag<'a>(alloc: Global, name: &'a str, help: &'a str) -> Arg<'a>
+    ensures rule { rule_of result ≡ flag name.entry.now }
+    ensures local { result.global ≡ false }
+{
+    Arg::new(alloc, name)
+        .long(name)
+        .action(ArgAction::SetTrue)
         .help(help)
 }
 

@@ -34,6 +34,9 @@ a reply can't be written.
 The documents are recorded in the store, and answered the same when they are posted again. A store that
 can't be opened is told before anything is read: 'store: NAME' on standard error, exit status 3.
 
+With '--log' a line is said on standard error for each reply: 'reply: MOMENT FROM TO IDENTIFIER STATUS',
+with a dash for each of the three that the request's head doesn't tell.
+
 Example:
   as2desk --agreements agreements.toml --store station.db --moment 1000 post < plain-post.http";
 
@@ -137,7 +140,8 @@ Writes 'listening: ADDRESS' on standard error once it does; the line tells the p
 chose. Each connection is answered as 'post' answers its input, and when it has ended, 'connection: END'
 is printed: Closed in good order, else Truncated, BadFraming, ReadFault, WriteFault, Memory or TooLong.
 The next is taken then. The moment is that of '--moment', in seconds since 1970, or else the clock's at
-each connection. The exit status is 0 once all were served, however they ended.
+each connection. The exit status is 0 once all were served, however they ended. For each reply a line is
+said on standard error, as 'post --log' says it: 'reply: MOMENT FROM TO IDENTIFIER STATUS'.
 
 SECONDS is the longest wait for a peer's next byte, and for a write. A connection as a whole ends after
 ten times that. A wait that is over is a ReadFault or a WriteFault.

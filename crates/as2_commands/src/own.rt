@@ -1,10 +1,11 @@
 //! Each command, with its own options.
 ghost use Rattle.std.specs.Prelude.{[], ◌∷◌, codes, IfOk};
 ghost use Rattle.as2_commands.specs.Building.{Looks};
-ghost use Rattle.as2_commands.specs.CommandLine.{command, entry, list, serve, submit, timeout};
+ghost use Rattle.as2_commands.specs.CommandLine.{command, entry, list, post, serve, submit, timeout};
 
 use crate::args::{
-    FILE, FROM, KIND, LISTEN, STATE, TO, count, entry, option, required_option, timeout, value,
+    FILE, FROM, KIND, LISTEN, LOG, STATE, TO, count, entry, flag, option, required_option, timeout,
+    value,
 };
 use crate::building::{Made, and};
 use crate::help;
@@ -46,10 +47,11 @@ pub(crate) fn check<'a>(alloc: Global) -> Made<'a>
 }
 
 pub(crate) fn post<'a>(alloc: Global) -> Made<'a>
-    ensures { IfOk result (Looks (command (codes "post") [])) }
+    ensures { IfOk result (Looks post) }
 {
     let about = "Answers the requests on standard input with replies on standard output";
-    named(alloc, POST, about, help::POST)
+    let log = "Says a line for each reply on standard error";
+    and(named(alloc, POST, about, help::POST), flag(alloc, LOG, log))
 }
 
 pub(crate) fn submit<'a>(alloc: Global) -> Made<'a>

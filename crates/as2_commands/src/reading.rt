@@ -6,14 +6,14 @@ ghost use Rattle.as2_exchange.specs.Views.{state_text};
 ghost use Rattle.as2_mdn.specs.declared.detail.State.{State as TheState};
 ghost use Rattle.as2_views.specs.declared.filter.Filter.{Filter as TheFilter};
 ghost use Rattle.clap.specs.Words.{first_of, found_of, one_of, rows_of, subcommand_rows_of};
-ghost use Rattle.as2_commands.specs.Options.{AsksList, AsksRun, AsksServe, AsksSubmit, Commands, Give, IsEntry, IsWait, Lists, is_idle, NameIs, NumberFrom, NumberIs, SecondsAre, Tasks, TellsMoment, TellsOption};
+ghost use Rattle.as2_commands.specs.Options.{AsksList, AsksRun, AsksServe, AsksSubmit, Commands, Give, IsEntry, IsWait, Lists, is_idle, is_set, NameIs, NumberFrom, NumberIs, SecondsAre, Tasks, TellsMoment, TellsOption};
 ghost use Rattle.as2_commands.specs.Requests.{Serving as TheServing, Submission as TheSubmission};
 ghost use Rattle.as2_commands.specs.declared.tasks.Command.{Command as TheCommand};
 ghost use Rattle.as2_commands.specs.declared.tasks.RunOptions.{RunOptions as TheOptions};
 ghost use Rattle.as2_commands.specs.declared.tasks.Task.{Task as TheTask};
 
 use crate::args::{
-    AGREEMENTS, COUNT, FILE, FIRST, FROM, KIND, LEAST_WAIT, LISTEN, MOMENT, MOST_CONNECTIONS,
+    AGREEMENTS, COUNT, FILE, FIRST, FROM, KIND, LEAST_WAIT, LISTEN, LOG, MOMENT, MOST_CONNECTIONS,
     MOST_WAIT, NUMBER, STATE, STORE, TIMEOUT, TO,
 };
 use crate::fault::OptionFault;
@@ -92,7 +92,7 @@ fn command_of<'a>(
         → ¬ Commands (rows_of (found_of found.now)) word.now (rows_of (found_of own.now)) command) }
 {
     match word {
-        "post" => Ok(Command::Post),
+        "post" => Ok(Command::Post(is_set(own, LOG))),
         "submit" => Ok(Command::Submit(submission(own)?)),
         "send" => Ok(Command::Send(waits(own)?)),
         "tick" => Ok(Command::Tick),
@@ -102,6 +102,16 @@ fn command_of<'a>(
         "fetch" => Ok(Command::Fetch(entry(own)?)),
         "serve" => Ok(Command::Serve(serving(found, own)?)),
         _ => Err(OptionFault::NoCommand),
+    }
+}
+
+/// Whether a flag is there.
+fn is_set(own: &ArgMatches<'_>, flag: &str) -> bool
+    ensures { result ≡ is_set (first_of flag.now (rows_of (found_of own.now))) }
+{
+    match text(own, flag) {
+        Some(text) => text == "true",
+        None => false,
     }
 }
 

@@ -63,8 +63,8 @@ impl<'a> Model for Serving<'a> {
 /// What is asked of the records.
 #[derive(Drop)]
 pub enum Command<'a> {
-    /// The requests on standard input are answered.
-    Post,
+    /// The requests on standard input are answered; and whether each reply is noted.
+    Post(bool),
     /// A document is handed in.
     Submit(Submission<'a>),
     /// What is due is sent.

@@ -3,6 +3,7 @@ use Rattle.std.proofs.Common.{◌≡◌, ◌⊎◌, ◌∙◌, ℕ, Bool, true, 
 use Rattle.std.specs.Str.{bytes_eq}
 use Rattle.as2_agreement.specs.Agreements.{AgreedValues}
 use Rattle.as2_exchange.specs.State.{State}
+use Rattle.as2_http.specs.Notes.{Spoken}
 use Rattle.as2_desk.specs.Posting.{Posts}
 use Rattle.as2_desk.specs.Runs.{HandsBack}
 use Rattle.as2_desk.specs.Stores.{Kept, kept_at, nothing}
@@ -13,7 +14,7 @@ each_known P Q None p f = tt
 each_known P Q (Some s) p f = f s p
 
 -- it may be said in other words
-pub posts_left : (A : AgreedValues) (moment : ℕ) (known : Option State) (before after : Option (List ℕ)) (calls later_calls : ℕ) (Left Later : State → Type 0) (written now : Option (List ℕ)) (Said : List ℕ → Type 0) (ran : Ran)
+pub posts_left : (A : AgreedValues) (moment : ℕ) (known : Option State) (before after : Option (List ℕ)) (calls later_calls : ℕ) (Left Later : State → Type 0) (written now : Spoken) (Said : List ℕ → Type 0) (ran : Ran)
     → ((t : State) → Left t → Later t) → Posts A moment known before after calls later_calls Left written now Said ran → Posts A moment known before after calls later_calls Later written now Said ran
 posts_left A moment known before after calls later_calls Left Later written now Said ran later it = record {
   end = it.end;

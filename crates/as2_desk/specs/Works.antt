@@ -5,6 +5,7 @@ use Rattle.std.specs.Prelude.{◌≡◌, ◌+◌, ℕ, List, Option, Result, Ok,
 use Rattle.as2_agreement.specs.Agreements.{AgreedValues}
 use Rattle.as2_exchange.specs.State.{State, content_limit}
 use Rattle.as2_desk.specs.Connections.{ServesCount}
+use Rattle.as2_http.specs.Notes.{spoken}
 use Rattle.as2_desk.specs.FileContents.{Content, front}
 use Rattle.as2_desk.specs.FileDocuments.{Document, HasDocument}
 use Rattle.as2_desk.specs.Posting.{Posts}
@@ -30,7 +31,7 @@ handing s (Err refusal) = Err refusal
 
 -- what a command does over the store; of the file of a submission one byte more is read than a content may have
 abbrev pub IsWork : (List ℕ → Content) → Command → Begun → Type 0
-IsWork contents command.Post begun = begun ≡ Ok work.Post
+IsWork contents (command.Post logs) begun = begun ≡ Ok (work.Post logs)
 IsWork contents (command.Submit s) begun = (document : Document) × HasDocument (front (content_limit + 1) (contents s.path)) document × (begun ≡ handing s document)
 IsWork contents (command.Send waits) begun = begun ≡ Ok (work.Send waits)
 IsWork contents command.Tick begun = begun ≡ Ok (work.Ask Tick)
@@ -42,7 +43,8 @@ IsWork contents (command.Serve serving) begun = begun ≡ Ok (work.Serve serving
 
 -- it is done, at this moment; no other command than `post` reads the input
 abbrev pub Does : AgreedValues → ℕ → Work → Option State → Option (List ℕ) → Option (List ℕ) → ℕ → ℕ → Type 0 → Type 0 → (State → Type 0) → Option (List ℕ) → Option (List ℕ) → (List ℕ → Type 0) → Ran → Type 0
-Does agreements moment work.Post known before after calls later Unread Unwritten Left written now Said ran = Posts agreements moment known before after calls later Left written now Said ran
+Does agreements moment (work.Post logs) known before after calls later Unread Unwritten Left written now Said ran =
+    (noted new : Option (List ℕ)) × Posts agreements moment known before after calls later Left (spoken written noted) (spoken now new) Said ran
 Does agreements moment (work.Ask question) known before after calls later Unread Unwritten Left written now Said ran = Unread × Asks agreements moment question known Unwritten Left written now Said ran
 Does agreements moment (work.Send waits) known before after calls later Unread Unwritten Left written now Said ran = Unread × SendsDue agreements moment known Left written now Said ran
 Does agreements moment (work.Serve serving) known before after calls later Unread Unwritten Left written now Said ran = Unread × ServesCount agreements serving known Unwritten Left written now Said ran

@@ -28,7 +28,7 @@ use crate::stores::OpenStores;
 use crate::work::{work_of, work_over};
 use as2_agreement::Agreements;
 use as2_commands::{Options, Task, options_in};
-use as2_http::{Sink, Source, push_all};
+use as2_http::{Journal, Sink, Source, push_all};
 use clap::Error;
 use clap::error::ErrorKind;
 use sqlite::Connection;
@@ -38,8 +38,17 @@ use std::io::Write;
 /// Runs the command line `words`, which begin with the program's name. `clock` is the moment where the options give
 /// none, in seconds since 1970, if it can be told. The agreements, and the document of a submission, are read from `files`; a store is opened from `stores`,
 /// or in memory where its path is `:memory:`. What the command has to say goes to `output`; why something was refused or
-/// is faulty, to `errors`; why a try failed and what wasn't looked at, to `hints`. A store that was opened from `stores` is handed back with its path, for the caller to close.
-pub fn run<'a, F: ReadFiles, O: OpenStores, N: Network, R: Source, W: Sink, H: Write, E: Write>(
+/// is faulty, to `errors`; why a try failed and what wasn't looked at, to `hints`, where replies are noted, too. A store that was opened from `stores` is handed back with its path, for the caller to close.
+pub fn run<
+    'a,
+    F: ReadFiles,
+    O: OpenStores,
+    N: Network,
+    R: Source,
+    W: Sink,
+    H: Write + Journal,
+    E: Write,
+>(
     alloc: Global,
     words: &'a [&'a str],
     clock: Option<u64>,
@@ -96,7 +105,16 @@ pub fn run<'a, F: ReadFiles, O: OpenStores, N: Network, R: Source, W: Sink, H: W
 }
 
 /// Does what is asked for, where there are agreements to do it over.
-fn carry_out<'a, F: ReadFiles, O: OpenStores, N: Network, R: Source, W: Sink, H: Write, E: Write>(
+fn carry_out<
+    'a,
+    F: ReadFiles,
+    O: OpenStores,
+    N: Network,
+    R: Source,
+    W: Sink,
+    H: Write + Journal,
+    E: Write,
+>(
     alloc: Global,
     options: Options<'a>,
     agreed: Result<Agreements, CommandFault>,

@@ -8,7 +8,7 @@ ghost use Rattle.as2_desk.specs.Connections.{ServesOne};
 
 use as2_agreement::Agreements;
 use as2_commands::Waits;
-use as2_http::Served;
+use as2_http::{Journal, Served};
 use as2_sending::Links;
 use as2_station::Station;
 use as2_text::{Memory, Moment};
@@ -25,13 +25,14 @@ pub trait Listens {
     fn address(&self, alloc: Global) -> Result<String, Memory>;
 
     /// Accepts one connection and has the station answer its requests, at this moment, or where none is given at the one
-    /// that the clock tells then. An accept that fails is a `ReadFault`.
-    fn serve<S: Alter>(
+    /// that the clock tells then. Each reply is noted in the journal. An accept that fails is a `ReadFault`.
+    fn serve<S: Alter, J: Journal>(
         &mut self,
         alloc: Global,
         agreements: &Agreements,
         moment: Option<Moment>,
         station: &mut Station<S>,
+        journal: &mut J,
     ) -> Served
         ensures clean { HasCleanDisk (state S.Store station.new) → HasCleanDisk (state S.Store station.old) }
         ensures serves { HasCleanDisk (state S.Store station.new) → (s : State) → Rests (state S.Store station.old) s

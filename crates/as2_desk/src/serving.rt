@@ -13,7 +13,7 @@ use crate::refusal::{CommandFault, refuse, refuse_behind};
 use crate::status::{DONE, Ran, end_name};
 use as2_agreement::Agreements;
 use as2_commands::Serving;
-use as2_http::{DeviceFault, Served, Sink, push_all};
+use as2_http::{DeviceFault, Journal, Served, Sink, push_all};
 use as2_station::Station;
 use as2_text::Moment;
 use sqlite::Alter;
@@ -43,25 +43,26 @@ fn says_listening<E: Write>(address: &str, errors: &mut E) -> bool
     write!(errors, "listening: {address}\n").is_ok()
 }
 
-/// Serves the next connection, and writes its line once it has ended.
-fn serve_next<S: Alter, L: Listens, W: Sink>(
+/// Serves the next connection, notes its replies, and writes its line once it has ended.
+fn serve_next<S: Alter, L: Listens, W: Sink, H: Journal>(
     alloc: Global,
     agreements: &Agreements,
     moment: &Option<Moment>,
     station: &mut Station<S>,
     listener: &mut L,
     output: &mut W,
+    hints: &mut H,
 ) -> Result<(), DeviceFault>
     ensures clean { HasCleanDisk (state S.Store station.new) → HasCleanDisk (state S.Store station.old) }
     ensures serves { ServesNext agreements.now moment.now (state S.Store station.old) (state S.Store station.new)
         (W.written output.old) (W.written output.new) result }
 {
-    let end = listener.serve(alloc, agreements, *moment, station);
+    let end = listener.serve(alloc, agreements, *moment, station, hints);
     write_connection(end, output)
 }
 
 /// Serves so many connections, one after the other, and writes a line for each as soon as it has ended.
-fn serve_connections<S: Alter, L: Listens, W: Sink>(
+fn serve_connections<S: Alter, L: Listens, W: Sink, H: Journal>(
     alloc: Global,
     agreements: &Agreements,
     count: u64,
@@ -69,25 +70,27 @@ fn serve_connections<S: Alter, L: Listens, W: Sink>(
     station: &mut Station<S>,
     listener: &mut L,
     output: &mut W,
+    hints: &mut H,
 ) -> Result<(), DeviceFault>
     ensures { ServesConnections agreements.now moment count (state S.Store station.old) (state S.Store station.new)
         (W.written output.old) (W.written output.new) result }
 {
     for served in 0..count {
         let _ = served;
-        serve_next(alloc, agreements, &moment, station, listener, output)?;
+        serve_next(alloc, agreements, &moment, station, listener, output, hints)?;
     }
     Ok(())
 }
 
 /// Serves connections at an address.
-pub(crate) fn serve<S: Alter, N: Network, W: Sink, E: Write>(
+pub(crate) fn serve<S: Alter, N: Network, W: Sink, H: Journal, E: Write>(
     alloc: Global,
     agreements: &Agreements,
     serving: Serving<'_>,
     station: &mut Station<S>,
     network: &N,
     output: &mut W,
+    hints: &mut H,
     errors: &mut E,
 ) -> Ran
     ensures status { (result.status ≡ done) ⊎ (result.status ≡ refused) }
@@ -112,6 +115,7 @@ pub(crate) fn serve<S: Alter, N: Network, W: Sink, E: Write>(
         station,
         &mut listener,
         output,
+        hints,
     ) {
         Ok(()) => Ran { status: DONE, told },
         Err(DeviceFault) => refuse_behind(told, CommandFault::CannotWrite, errors),

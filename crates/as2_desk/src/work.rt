@@ -23,7 +23,7 @@ use crate::status::Ran;
 use crate::stores::{OpenFault, OpenStores, records_in, records_in_memory};
 use as2_agreement::Agreements;
 use as2_commands::{Command, RunOptions, Serving, Waits};
-use as2_http::{Sink, Source};
+use as2_http::{Journal, Sink, Source};
 use as2_station::Station;
 use as2_store::Store;
 use as2_text::Moment;
@@ -34,8 +34,8 @@ use std::io::Write;
 /// What a command does over the store, once its document is read.
 #[derive(Drop)]
 pub(crate) enum Work<'a> {
-    /// The requests of the input are answered.
-    Post,
+    /// The requests of the input are answered; and whether the replies are noted.
+    Post(bool),
     /// The station is asked once.
     Ask(Question),
     /// What is due is sent.
@@ -53,7 +53,7 @@ pub(crate) fn work_of<'a, F: ReadFiles>(
     ensures { IsWork (F.content files.now) command.entry result }
 {
     match command {
-        Command::Post => Ok(Work::Post),
+        Command::Post(logs) => Ok(Work::Post(logs)),
         Command::Tick => Ok(Work::Ask(Question::Tick)),
         Command::List(filter, _) => Ok(Work::Ask(Question::Listing(filter))),
         Command::Outstanding => Ok(Work::Ask(Question::Outstanding)),
@@ -73,7 +73,7 @@ pub(crate) fn work_of<'a, F: ReadFiles>(
 }
 
 /// Does the work at the station.
-fn do_at<S: Alter, N: Network, R: Source, W: Sink, H: Write, E: Write>(
+fn do_at<S: Alter, N: Network, R: Source, W: Sink, H: Write + Journal, E: Write>(
     alloc: Global,
     agreements: &Agreements,
     moment: Moment,
@@ -95,7 +95,9 @@ fn do_at<S: Alter, N: Network, R: Source, W: Sink, H: Write, E: Write>(
         (Appends (E.contents errors.old) (E.contents errors.new)) result }
 {
     match work {
-        Work::Post => post(alloc, agreements, moment, station, input, output, errors),
+        Work::Post(logs) => post(
+            alloc, agreements, moment, station, logs, input, output, hints, errors,
+        ),
         Work::Ask(question) => ask(alloc, agreements, moment, station, question, output, errors),
         Work::Send(waits) => {
             let mut links = network.links(waits);
@@ -103,12 +105,14 @@ fn do_at<S: Alter, N: Network, R: Source, W: Sink, H: Write, E: Write>(
                 alloc, agreements, moment, station, &mut links, output, hints, errors,
             )
         }
-        Work::Serve(serving) => serve(alloc, agreements, serving, station, network, output, errors),
+        Work::Serve(serving) => serve(
+            alloc, agreements, serving, station, network, output, hints, errors,
+        ),
     }
 }
 
 /// Does the work, where there are records to do it over, and gives their connection back.
-fn do_over<S: Alter + Drop, N: Network, R: Source, W: Sink, H: Write, E: Write>(
+fn do_over<S: Alter + Drop, N: Network, R: Source, W: Sink, H: Write + Journal, E: Write>(
     alloc: Global,
     agreements: &Agreements,
     moment: Moment,
@@ -155,7 +159,15 @@ fn do_over<S: Alter + Drop, N: Network, R: Source, W: Sink, H: Write, E: Write>(
 }
 
 /// Does the work over the store of that path, and hands the store back.
-pub(crate) fn work_over<'a, O: OpenStores, N: Network, R: Source, W: Sink, H: Write, E: Write>(
+pub(crate) fn work_over<
+    'a,
+    O: OpenStores,
+    N: Network,
+    R: Source,
+    W: Sink,
+    H: Write + Journal,
+    E: Write,
+>(
     alloc: Global,
     agreements: &Agreements,
     options: RunOptions,

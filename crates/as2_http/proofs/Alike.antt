@@ -7,6 +7,7 @@ use Rattle.as2_exchange.specs.declared.answer.Answer.{Answer}
 use Rattle.as2_exchange.specs.declared.answer.Answer.TheVariants.{Http}
 use Rattle.as2_exchange.specs.declared.answer.HttpAnswer.{HttpAnswer}
 use Rattle.as2_framing.specs.HeadText.{unblank}
+use Rattle.as2_http.specs.Notes.{Spoken}
 use Rattle.as2_http.specs.Replies.{IsReply}
 use Rattle.as2_http.specs.Requests.{IsRefused, IsOpen}
 use Rattle.as2_http.specs.Responses.{RespondsTo, Responds, Takes, Unsaid, answer_of, post_event}
@@ -174,7 +175,7 @@ EndsSo done rest WriteFault = ⊥
 EndsSo done rest Memory = ⊥
 EndsSo done rest TooLong = ⊥
 
-ends_so : (A : AgreedValues) (moment : ℕ) (done : List Exchange) (mid t : State) (replies rest : List ℕ) (unread before after : Option (List ℕ)) (end : Served) → IsJudged end
+ends_so : (A : AgreedValues) (moment : ℕ) (done : List Exchange) (mid t : State) (replies rest : List ℕ) (unread : Option (List ℕ)) (before after : Spoken) (end : Served) → IsJudged end
     → Ends A moment done mid replies rest unread before after t end → (t ≡ mid) × EndsSo done rest end
 ends_so A moment done mid t replies rest unread before after Closed is e = (e.0, e.2)
 ends_so A moment done mid t replies rest unread before after Truncated is e = (e.0, (e.2, e.3, e.4))
@@ -233,7 +234,7 @@ one_end done rest BadFraming Memory e f = absurd f
 one_end done rest BadFraming TooLong e f = absurd f
 
 pub serves_in_one_way : ServesInOneWay
-serves_in_one_way A moment s t u input unread before after later base now i j k l end other one two sound ok =
+serves_in_one_way A moment s t u input unread later before after base now i j k l end other one two sound ok =
     at_judged end _ (λ is. at_judged other _ (λ was.
     let e = ends_so A moment one.done one.mid t one.replies one.rest unread before after end is one.ends in
     let f = ends_so A moment two.done two.mid u two.replies two.rest later base now other was two.ends in

@@ -5,6 +5,7 @@ pub mod Alone
 pub mod TakenPosts
 pub mod Unsaid
 pub mod Pushing
+pub mod Noting
 pub mod Streaming
 pub mod InputReads
 pub mod Serving

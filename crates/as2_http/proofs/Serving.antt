@@ -1,6 +1,5 @@
 -- A stream, put together from its pieces.
 use Rattle.std.proofs.Common.{◌≡◌, ℕ, true, List, [], ◌∷◌, ◌++◌, ◌⊎◌, ◌+◌, ◌≤◌, length, Option, Some, None, refl, sym, ap, ◌∙◌, subst, append_assoc, append-nil, inl, inr, arith}
-use Rattle.std.proofs.KnownBytes.{Appends-nil, Appends-trans}
 use Rattle.std.specs.Io.KnownBytes.{Appends, Consumes, IsAtEnd, Keeps}
 use Rattle.sqlite.specs.State.{State as Connected}
 use Rattle.as2_agreement.specs.Agreements.{AgreedValues}
@@ -12,9 +11,10 @@ use Rattle.as2_http.specs.Requests.{IsOpen}
 use Rattle.as2_http.specs.InputReads.{read_limit, ReadsNeeded}
 use Rattle.as2_station.proofs.ByHistory.{ends_by_history, run_then}
 use Rattle.as2_http.specs.StreamReads.{NeedsMore, BetweenReads, AnswersNext, ArePostsAt, RunsPosts, Serves}
+use Rattle.as2_http.specs.Notes.{Says, Spoken, note, refusal_note}
 use Rattle.as2_http.specs.Parsing.{HasTaken}
 use Rattle.as2_http.specs.Responses.{RespondsTo, Responds, Unsaid}
-use Rattle.as2_http.specs.Streams.{Exchange, AnswersAll, GoOn, EndsLast, event_by, events, event_said, AnswersPiece, PieceEnds, Ends, CutShort, in_reply, in_refusal, OutOfMemory, for_request, for_reply, may_end_piece}
+use Rattle.as2_http.specs.Streams.{Exchange, AnswersAll, GoOn, EndsLast, event_by, events, event_said, AnswersPiece, PieceEnds, Ends, CutShort, in_reply, in_refusal, OutOfMemory, for_request, for_reply, for_refusal, may_end_piece, notes}
 use Rattle.as2_http.specs.declared.request.Request.{Request}
 use Rattle.as2_http.specs.declared.framing.Method.{Method}
 use Rattle.as2_http.specs.declared.framing.Method.TheVariants as method
@@ -27,6 +27,7 @@ use Rattle.as2_http.specs.declared.stream.Served.{Served}
 use Rattle.as2_http.specs.declared.stream.Served.TheVariants as served
 use Rattle.as2_http.proofs.Framed.{begins_append}
 use Rattle.as2_http.proofs.InputReads.{HasArrived, piece_of, nothing_of, at_end, reads_none, read_on}
+use Rattle.as2_http.proofs.Noting.{notes_of_both, says_join, says_nil, says_trans}
 use Rattle.as2_http.proofs.Parsing.{holds_open}
 use Rattle.as2_http.proofs.Streaming.{answers_join, go_on_join}
 
@@ -87,23 +88,24 @@ one_runs A moment mid t r x p =
     posts_run A moment mid t (event_by r.method r.target moment (r, x) ++ []) (all_then moment (event_by r.method r.target moment (r, x)) [] (event_posts moment r x r.method r.target) tt)
     (event_then A moment mid t t r x r.method r.target [] p refl)
 
-cut_runs : (A : AgreedValues) (moment : ℕ) (mid : State) (replies rest : List ℕ) (before after : Option (List ℕ)) (t : State) → CutShort A moment mid replies rest before after t → RunsPosts A moment mid t
-cut_runs A moment mid replies rest before after t (in_reply r behind x text part missing b responds is cut written) = one_runs A moment mid t r x responds
-cut_runs A moment mid replies rest before after t (in_refusal refused text part missing b same is cut written) = subst (λ (x : State). RunsPosts A moment mid x) (sym same) (runs_none A moment mid)
+cut_runs : (A : AgreedValues) (moment : ℕ) (mid : State) (replies lines rest : List ℕ) (before after : Spoken) (t : State) → CutShort A moment mid replies lines rest before after t → RunsPosts A moment mid t
+cut_runs A moment mid replies lines rest before after t (in_reply r behind x text part missing b responds is cut written) = one_runs A moment mid t r x responds
+cut_runs A moment mid replies lines rest before after t (in_refusal refused text part missing b same is cut written) = subst (λ (x : State). RunsPosts A moment mid x) (sym same) (runs_none A moment mid)
 
-memory_runs : (A : AgreedValues) (moment : ℕ) (mid : State) (replies rest : List ℕ) (before after : Option (List ℕ)) (t : State) → OutOfMemory A moment mid replies rest before after t → RunsPosts A moment mid t
-memory_runs A moment mid replies rest before after t (for_request same written) = subst (λ (x : State). RunsPosts A moment mid x) (sym same) (runs_none A moment mid)
-memory_runs A moment mid replies rest before after t (for_reply r behind x b responds written) = one_runs A moment mid t r x responds
+memory_runs : (A : AgreedValues) (moment : ℕ) (mid : State) (replies lines rest : List ℕ) (before after : Spoken) (t : State) → OutOfMemory A moment mid replies lines rest before after t → RunsPosts A moment mid t
+memory_runs A moment mid replies lines rest before after t (for_request same written) = subst (λ (x : State). RunsPosts A moment mid x) (sym same) (runs_none A moment mid)
+memory_runs A moment mid replies lines rest before after t (for_refusal refused b same written) = subst (λ (x : State). RunsPosts A moment mid x) (sym same) (runs_none A moment mid)
+memory_runs A moment mid replies lines rest before after t (for_reply r behind x b responds written) = one_runs A moment mid t r x responds
 
-piece_left : (A : AgreedValues) (moment : ℕ) (s mid t : State) (done : List Exchange) (text replies rest left : List ℕ) (p : RequestParser) (before after : Option (List ℕ)) (end : Option Served)
+piece_left : (A : AgreedValues) (moment : ℕ) (s mid t : State) (done : List Exchange) (text replies rest left : List ℕ) (p : RequestParser) (before after : Spoken) (end : Option Served)
     → AnswersAll A moment s text done mid replies rest → PieceEnds A moment done mid replies rest left p before after t end → RunsPosts A moment s t
 piece_left A moment s mid t done text replies rest left p before after None a e = answers_runs A moment s mid t text replies rest done a e.1
 piece_left A moment s mid t done text replies rest left p before after (Some served.Closed) a e = answers_runs A moment s mid t text replies rest done a e.1
 piece_left A moment s mid t done text replies rest left p before after (Some served.BadFraming) a e = answers_runs A moment s mid t text replies rest done a e.1
 piece_left A moment s mid t done text replies rest left p before after (Some served.WriteFault) a e =
-    runs_join A moment s mid t (answers_runs A moment s mid mid text replies rest done a refl) (cut_runs A moment mid replies rest before after t e.1)
+    runs_join A moment s mid t (answers_runs A moment s mid mid text replies rest done a refl) (cut_runs A moment mid replies (notes moment done) rest before after t e.1)
 piece_left A moment s mid t done text replies rest left p before after (Some served.Memory) a e =
-    runs_join A moment s mid t (answers_runs A moment s mid mid text replies rest done a refl) (memory_runs A moment mid replies rest before after t e.1)
+    runs_join A moment s mid t (answers_runs A moment s mid mid text replies rest done a refl) (memory_runs A moment mid replies (notes moment done) rest before after t e.1)
 piece_left A moment s mid t done text replies rest left p before after (Some served.Truncated) a e = absurd e
 piece_left A moment s mid t done text replies rest left p before after (Some served.ReadFault) a e = absurd e
 piece_left A moment s mid t done text replies rest left p before after (Some served.TooLong) a e = absurd e
@@ -112,30 +114,30 @@ piece_left A moment s mid t done text replies rest left p before after (Some ser
 abbrev pub TakenSoFar : AgreedValues → ℕ → State → Connected → Type 0
 TakenSoFar A moment s c = (t : State) × Rests c t × RunsPosts A moment s t
 
-pub taken_on : (A : AgreedValues) (moment : ℕ) (s mid : State) (text left : List ℕ) (p : RequestParser) (c : Connected) (before after : Option (List ℕ)) (end : Option Served)
+pub taken_on : (A : AgreedValues) (moment : ℕ) (s mid : State) (text left : List ℕ) (p : RequestParser) (c : Connected) (before after : Spoken) (end : Option Served)
     → RunsPosts A moment s mid → AnswersPiece A moment mid text left p c before after end → TakenSoFar A moment s c
 taken_on A moment s mid text left p c before after end runs a =
     (a.last, a.rests, runs_join A moment s mid a.last runs (piece_left A moment mid a.mid a.last a.done text a.replies a.rest left p before after end a.all a.ends))
 
 -- what is left, and how the stream came to it
-abbrev pub LeavesServed : AgreedValues → ℕ → State → List ℕ → Option (List ℕ) → Connected → Option (List ℕ) → Option (List ℕ) → ℕ → ℕ → Served → Type 0
+abbrev pub LeavesServed : AgreedValues → ℕ → State → List ℕ → Option (List ℕ) → Connected → Spoken → Spoken → ℕ → ℕ → Served → Type 0
 LeavesServed A moment s input unread c before after calls later end = (t : State) × Rests c t × Serves A moment s t input unread before after calls later end
 
 -- ---- what was read
 
 -- what was read needs more
-needs_more : (A : AgreedValues) (moment : ℕ) (s : State) (input : List ℕ) (p : RequestParser) (c : Connected) (unread before now : Option (List ℕ)) (calls later : ℕ) → (w : BetweenReads A moment s input p c unread before now calls later)
+needs_more : (A : AgreedValues) (moment : ℕ) (s : State) (input : List ℕ) (p : RequestParser) (c : Connected) (unread : Option (List ℕ)) (before now : Spoken) (calls later : ℕ) → (w : BetweenReads A moment s input p c unread before now calls later)
     → NeedsMore A moment s w.reads.read
 needs_more A moment s input p c unread before now calls later w =
     record { done = w.done; mid = w.mid; replies = w.replies; held = w.held; all = w.all; go_on = w.go_on; undecided = holds_open p w.held w.taken }
 
 -- the next call was needed
-next_read : (A : AgreedValues) (moment : ℕ) (s : State) (input : List ℕ) (p : RequestParser) (c : Connected) (unread after before now : Option (List ℕ)) (calls later next : ℕ) (piece : List ℕ)
+next_read : (A : AgreedValues) (moment : ℕ) (s : State) (input : List ℕ) (p : RequestParser) (c : Connected) (unread after : Option (List ℕ)) (before now : Spoken) (calls later next : ℕ) (piece : List ℕ)
     → (w : BetweenReads A moment s input p c unread before now calls later) → HasArrived w.reads.left piece after → length piece ≤ read_limit → next ≡ later + 1 → ReadsNeeded (NeedsMore A moment s) input after calls next
 next_read A moment s input p c unread after before now calls later next piece w m most is =
     read_on (NeedsMore A moment s) input unread after calls later next piece w.reads (needs_more A moment s input p c unread before now calls later w) m most is
 
-pub between_first : (A : AgreedValues) (moment : ℕ) (s : State) (input : List ℕ) (p : RequestParser) (c : Connected) (unread now : Option (List ℕ)) (calls : ℕ) → Rests c s → HasTaken p [] → unread ≡ Some input
+pub between_first : (A : AgreedValues) (moment : ℕ) (s : State) (input : List ℕ) (p : RequestParser) (c : Connected) (unread : Option (List ℕ)) (now : Spoken) (calls : ℕ) → Rests c s → HasTaken p [] → unread ≡ Some input
     → BetweenReads A moment s input p c unread now now calls calls
 unfolding reads_none
 between_first A moment s input p c unread now calls rests taken known = record {
@@ -148,7 +150,7 @@ between_first A moment s input p c unread now calls rests taken known = record {
   go_on = tt;
   rests = rests;
   taken = taken;
-  appended = Appends-nil now;
+  said = says_nil now;
 }
 
 -- ---- a piece more
@@ -167,13 +169,13 @@ answers_append A moment s t text replies rest left (x ∷ done) a = (
 )
 
 -- .. so in front of the whole input
-in_input : (A : AgreedValues) (moment : ℕ) (s : State) (input : List ℕ) (p : RequestParser) (c : Connected) (unread before now : Option (List ℕ)) (calls later : ℕ) → (w : BetweenReads A moment s input p c unread before now calls later)
+in_input : (A : AgreedValues) (moment : ℕ) (s : State) (input : List ℕ) (p : RequestParser) (c : Connected) (unread : Option (List ℕ)) (before now : Spoken) (calls later : ℕ) → (w : BetweenReads A moment s input p c unread before now calls later)
     → AnswersAll A moment s input w.done w.mid w.replies (w.held ++ w.reads.left)
 in_input A moment s input p c unread before now calls later w =
     subst (λ (t : List ℕ). AnswersAll A moment s t w.done w.mid w.replies (w.held ++ w.reads.left)) (sym w.reads.whole)
     (answers_append A moment s w.mid w.reads.read w.replies w.held w.reads.left w.done w.all)
 
-joined : (A : AgreedValues) (moment : ℕ) (s : State) (input : List ℕ) (p q : RequestParser) (c d : Connected) (unread after before now later : Option (List ℕ)) (i j : ℕ) (piece : List ℕ) (end : Option Served)
+joined : (A : AgreedValues) (moment : ℕ) (s : State) (input : List ℕ) (p q : RequestParser) (c d : Connected) (unread after : Option (List ℕ)) (before now later : Spoken) (i j : ℕ) (piece : List ℕ) (end : Option Served)
     → (w : BetweenReads A moment s input p c unread before now i j) → (m : HasArrived w.reads.left piece after) → (a : AnswersPiece A moment w.mid (w.held ++ piece ++ m.left) m.left q d now later end)
     → AnswersAll A moment s input (w.done ++ a.done) a.mid (w.replies ++ a.replies) a.rest
 joined A moment s input p q c d unread after before now later i j piece end w m a =
@@ -181,7 +183,7 @@ joined A moment s input p q c d unread after before now later i j piece end w m 
     (subst (λ (t : List ℕ). AnswersAll A moment s input w.done w.mid w.replies t) (ap (λ (t : List ℕ). w.held ++ t) m.whole ∙ sym (append_assoc w.held piece m.left)) (in_input A moment s input p c unread before now i j w)) a.all
 
 -- no bytes behind the piece are looked at
-between_on : (A : AgreedValues) (moment : ℕ) (s : State) (input : List ℕ) (p q : RequestParser) (c d : Connected) (unread after before now later : Option (List ℕ)) (i j k : ℕ) (piece : List ℕ)
+between_on : (A : AgreedValues) (moment : ℕ) (s : State) (input : List ℕ) (p q : RequestParser) (c d : Connected) (unread after : Option (List ℕ)) (before now later : Spoken) (i j k : ℕ) (piece : List ℕ)
     → (w : BetweenReads A moment s input p c unread before now i j) → HasArrived w.reads.left piece after → length piece ≤ read_limit → k ≡ j + 1 → AnswersPiece A moment w.mid (w.held ++ piece ++ []) [] q d now later None
     → BetweenReads A moment s input q d after before later i k
 unfolding next_read read_on
@@ -200,43 +202,69 @@ between_on A moment s input p q c d unread after before now later i j k piece w 
       go_on = go_on_join w.done a.done w.go_on a.ends.0;
       rests = subst (λ (t : State). Rests d t) a.ends.1 a.rests;
       taken = a.ends.3.2;
-      appended = Appends-trans before now later w.replies a.replies w.appended a.ends.2;
+      said = says_join moment before now later w.replies a.replies w.done a.done w.said a.ends.2;
     }
 
--- the replies of the stream so far stand before those of the piece
-behind : (before now later : Option (List ℕ)) (replies more part : List ℕ) → Appends before now replies → Appends now later (more ++ part) → Appends before later (replies ++ more ++ part)
-behind before now later replies more part a b = subst (Appends before later) (sym (append_assoc replies more part)) (Appends-trans before now later replies (more ++ part) a b)
+-- the replies of the stream so far stand before those of the piece, and so do their lines
+behind : (before now later : Spoken) (replies more part lines further own : List ℕ) → Says before now replies lines → Says now later (more ++ part) (further ++ own)
+    → Says before later (replies ++ more ++ part) (lines ++ further ++ own)
+behind before now later replies more part lines further own a b =
+    let both = says_trans before now later replies (more ++ part) lines (further ++ own) a b in
+    (subst (Appends before.written later.written) (sym (append_assoc replies more part)) both.0, subst (Appends before.noted later.noted) (sym (append_assoc lines further own)) both.1)
 
-cut_on : (A : AgreedValues) (moment : ℕ) (mid : State) (replies more rest : List ℕ) (before now later : Option (List ℕ)) (t : State) → Appends before now replies → CutShort A moment mid more rest now later t
-    → CutShort A moment mid (replies ++ more) rest before later t
-cut_on A moment mid replies more rest before now later t a (in_reply r next x text part missing b responds is cut written) =
-    in_reply r next x text part missing b responds is cut (behind before now later replies more part a written)
-cut_on A moment mid replies more rest before now later t a (in_refusal refused text part missing b same is cut written) =
-    in_refusal refused text part missing b same is cut (behind before now later replies more part a written)
+-- .. of which no more is written
+behind_unwritten : (before now later : Spoken) (replies more lines further own : List ℕ) → Says before now replies lines → Says now later more (further ++ own) → Says before later (replies ++ more) (lines ++ further ++ own)
+behind_unwritten before now later replies more lines further own a b =
+    let both = says_trans before now later replies more lines (further ++ own) a b in (both.0, subst (Appends before.noted later.noted) (sym (append_assoc lines further own)) both.1)
 
-memory_on : (A : AgreedValues) (moment : ℕ) (mid : State) (replies more rest : List ℕ) (before now later : Option (List ℕ)) (t : State) → Appends before now replies → OutOfMemory A moment mid more rest now later t
-    → OutOfMemory A moment mid (replies ++ more) rest before later t
-memory_on A moment mid replies more rest before now later t a (for_request same written) = for_request same (Appends-trans before now later replies more a written)
-memory_on A moment mid replies more rest before now later t a (for_reply r next x b responds written) = for_reply r next x b responds (Appends-trans before now later replies more a written)
+cut_on : (A : AgreedValues) (moment : ℕ) (mid : State) (replies more lines further rest : List ℕ) (before now later : Spoken) (t : State) → Says before now replies lines → CutShort A moment mid more further rest now later t
+    → CutShort A moment mid (replies ++ more) (lines ++ further) rest before later t
+cut_on A moment mid replies more lines further rest before now later t a (in_reply r next x text part missing b responds is cut said) =
+    in_reply r next x text part missing b responds is cut (behind before now later replies more part lines further (note moment r x) a said)
+cut_on A moment mid replies more lines further rest before now later t a (in_refusal refused text part missing b same is cut said) =
+    in_refusal refused text part missing b same is cut (behind before now later replies more part lines further (refusal_note moment refused.reason) a said)
+
+memory_on : (A : AgreedValues) (moment : ℕ) (mid : State) (replies more lines further rest : List ℕ) (before now later : Spoken) (t : State) → Says before now replies lines
+    → OutOfMemory A moment mid more further rest now later t → OutOfMemory A moment mid (replies ++ more) (lines ++ further) rest before later t
+memory_on A moment mid replies more lines further rest before now later t a (for_request same said) = for_request same (says_trans before now later replies more lines further a said)
+memory_on A moment mid replies more lines further rest before now later t a (for_reply r next x b responds said) =
+    for_reply r next x b responds (behind_unwritten before now later replies more lines further (note moment r x) a said)
+memory_on A moment mid replies more lines further rest before now later t a (for_refusal refused b same said) =
+    for_refusal refused b same (behind_unwritten before now later replies more lines further (refusal_note moment refused.reason) a said)
 
 last_on : (done later : List Exchange) → GoOn done → EndsLast later → EndsLast (done ++ later)
 last_on done later go l = (done ++ l.0, l.1, ap (λ (t : List Exchange). done ++ t) l.2 ∙ sym (append_assoc done l.0 (l.1 ∷ [])), go_on_join done l.0 go l.3, l.4)
 
-ends_on : (A : AgreedValues) (moment : ℕ) (done later : List Exchange) (mid : State) (replies more rest left : List ℕ) (q : RequestParser) (unread before now after : Option (List ℕ)) (t : State) (end : Served)
-    → GoOn done → Appends before now replies → PieceEnds A moment later mid more rest left q now after t (Some end) → Ends A moment (done ++ later) mid (replies ++ more) rest unread before after t end
-ends_on A moment done later mid replies more rest left q unread before now after t served.Closed go a e = (e.1, Appends-trans before now after replies more a e.2, inl (last_on done later go e.0))
+ends_on : (A : AgreedValues) (moment : ℕ) (done later : List Exchange) (mid : State) (replies more rest left : List ℕ) (q : RequestParser) (unread : Option (List ℕ)) (before now after : Spoken) (t : State) (end : Served)
+    → GoOn done → Says before now replies (notes moment done) → PieceEnds A moment later mid more rest left q now after t (Some end) → Ends A moment (done ++ later) mid (replies ++ more) rest unread before after t end
+ends_on A moment done later mid replies more rest left q unread before now after t served.Closed go a e = (e.1, says_join moment before now after replies more done later a e.2, inl (last_on done later go e.0))
 ends_on A moment done later mid replies more rest left q unread before now after t served.Truncated go a e = absurd e
 ends_on A moment done later mid replies more rest left q unread before now after t served.BadFraming go a e = (
   e.1,
   go_on_join done later go e.0,
-  record { refused = e.2.refused; refuses = e.2.refuses; text = e.2.text; is = e.2.is; written = behind before now after replies more e.2.text a e.2.written },
+  record {
+    refused = e.2.refused;
+    refuses = e.2.refuses;
+    text = e.2.text;
+    is = e.2.is;
+    said = notes_of_both moment done later (λ (l : List ℕ). Says before after (replies ++ more ++ e.2.text) (l ++ refusal_note moment e.2.refused.reason))
+        (behind before now after replies more e.2.text (notes moment done) (notes moment later) (refusal_note moment e.2.refused.reason) a e.2.said);
+  },
 )
 ends_on A moment done later mid replies more rest left q unread before now after t served.ReadFault go a e = absurd e
-ends_on A moment done later mid replies more rest left q unread before now after t served.WriteFault go a e = (go_on_join done later go e.0, cut_on A moment mid replies more rest before now after t a e.1)
-ends_on A moment done later mid replies more rest left q unread before now after t served.Memory go a e = (go_on_join done later go e.0, memory_on A moment mid replies more rest before now after t a e.1)
+ends_on A moment done later mid replies more rest left q unread before now after t served.WriteFault go a e = (
+  go_on_join done later go e.0,
+  notes_of_both moment done later (λ (l : List ℕ). CutShort A moment mid (replies ++ more) l rest before after t)
+      (cut_on A moment mid replies more (notes moment done) (notes moment later) rest before now after t a e.1),
+)
+ends_on A moment done later mid replies more rest left q unread before now after t served.Memory go a e = (
+  go_on_join done later go e.0,
+  notes_of_both moment done later (λ (l : List ℕ). OutOfMemory A moment mid (replies ++ more) l rest before after t)
+      (memory_on A moment mid replies more (notes moment done) (notes moment later) rest before now after t a e.1),
+)
 ends_on A moment done later mid replies more rest left q unread before now after t served.TooLong go a e = absurd e
 
-serving_ends : (A : AgreedValues) (moment : ℕ) (s : State) (input : List ℕ) (p q : RequestParser) (c d : Connected) (unread after before now later : Option (List ℕ)) (i j k : ℕ) (piece : List ℕ) (end : Served)
+serving_ends : (A : AgreedValues) (moment : ℕ) (s : State) (input : List ℕ) (p q : RequestParser) (c d : Connected) (unread after : Option (List ℕ)) (before now later : Spoken) (i j k : ℕ) (piece : List ℕ) (end : Served)
     → (w : BetweenReads A moment s input p c unread before now i j) → (m : HasArrived w.reads.left piece after) → length piece ≤ read_limit → k ≡ j + 1 → AnswersPiece A moment w.mid (w.held ++ piece ++ m.left) m.left q d now later (Some end)
     → LeavesServed A moment s input after d before later i k end
 serving_ends A moment s input p q c d unread after before now later i j k piece end w m most is a =
@@ -250,13 +278,13 @@ serving_ends A moment s input p q c d unread after before now later i j k piece 
         rest = a.rest;
         all = all;
         run = answers_run A moment s a.mid input (w.replies ++ a.replies) a.rest (w.done ++ a.done) all;
-        ends = ends_on A moment w.done a.done a.mid w.replies a.replies a.rest m.left q after before now later a.last end w.go_on w.appended a.ends;
+        ends = ends_on A moment w.done a.done a.mid w.replies a.replies a.rest m.left q after before now later a.last end w.go_on w.said a.ends;
         reads = next_read A moment s input p c unread after before now i j k piece w m most is;
       },
     )
 
 -- the piece is answered, whatever comes behind it
-pub next_answered : (A : AgreedValues) (moment : ℕ) (s : State) (input : List ℕ) (p q : RequestParser) (c d : Connected) (unread after before now later : Option (List ℕ)) (i j k : ℕ) (piece : List ℕ) (result : Option Served)
+pub next_answered : (A : AgreedValues) (moment : ℕ) (s : State) (input : List ℕ) (p q : RequestParser) (c d : Connected) (unread after : Option (List ℕ)) (before now later : Spoken) (i j k : ℕ) (piece : List ℕ) (result : Option Served)
     → (w : BetweenReads A moment s input p c unread before now i j) → HasArrived w.reads.left piece after → length piece ≤ read_limit → k ≡ j + 1
     → ((left : List ℕ) → AnswersPiece A moment w.mid (w.held ++ piece ++ left) left q d now later result) → AnswersNext A moment s input q d after before later i k result
 next_answered A moment s input p q c d unread after before now later i j k piece None w m most is a = between_on A moment s input p q c d unread after before now later i j k piece w m most is (a [])
@@ -266,7 +294,7 @@ next_answered A moment s input p q c d unread after before now later i j k piece
 -- ---- the other ends
 
 -- behind the replies so far, in the state that they left
-serves_as : (A : AgreedValues) (moment : ℕ) (s : State) (input : List ℕ) (p : RequestParser) (c : Connected) (unread after before now : Option (List ℕ)) (i j k : ℕ) (end : Served)
+serves_as : (A : AgreedValues) (moment : ℕ) (s : State) (input : List ℕ) (p : RequestParser) (c : Connected) (unread after : Option (List ℕ)) (before now : Spoken) (i j k : ℕ) (end : Served)
     → (w : BetweenReads A moment s input p c unread before now i j) → Ends A moment w.done w.mid w.replies (w.held ++ w.reads.left) after before now w.mid end → ReadsNeeded (NeedsMore A moment s) input after i k
     → LeavesServed A moment s input after c before now i k end
 serves_as A moment s input p c unread after before now i j k end w e reads =
@@ -285,24 +313,24 @@ serves_as A moment s input p c unread after before now i j k end w e reads =
       },
     )
 
-serves_closed : (A : AgreedValues) (moment : ℕ) (s : State) (input : List ℕ) (p : RequestParser) (c : Connected) (unread after before now : Option (List ℕ)) (i j k : ℕ) (w : BetweenReads A moment s input p c unread before now i j)
+serves_closed : (A : AgreedValues) (moment : ℕ) (s : State) (input : List ℕ) (p : RequestParser) (c : Connected) (unread after : Option (List ℕ)) (before now : Spoken) (i j k : ℕ) (w : BetweenReads A moment s input p c unread before now i j)
     → Consumes unread after [] → IsAtEnd after → k ≡ j + 1 → ((text : List ℕ) → HasTaken p text → unblank text ≡ []) → LeavesServed A moment s input after c before now i k served.Closed
 serves_closed A moment s input p c unread after before now i j k w consumed done is blank =
     let same : w.held ≡ w.held ++ w.reads.left = sym (append-nil w.held) ∙ ap (λ (t : List ℕ). w.held ++ t) (sym (at_end unread after w.reads.left consumed done w.reads.known)) in
     serves_as A moment s input p c unread after before now i j k served.Closed w
-    (refl, w.appended, inr (w.go_on, subst IsOpen same (holds_open p w.held w.taken), subst (λ (t : List ℕ). unblank t ≡ []) same (blank w.held w.taken)))
+    (refl, w.said, inr (w.go_on, subst IsOpen same (holds_open p w.held w.taken), subst (λ (t : List ℕ). unblank t ≡ []) same (blank w.held w.taken)))
     (next_read A moment s input p c unread after before now i j k [] w (piece_of unread after w.reads.left [] consumed w.reads.known) (omega arith) is)
 
-serves_truncated : (A : AgreedValues) (moment : ℕ) (s : State) (input : List ℕ) (p : RequestParser) (c : Connected) (unread after before now : Option (List ℕ)) (i j k : ℕ) (w : BetweenReads A moment s input p c unread before now i j)
+serves_truncated : (A : AgreedValues) (moment : ℕ) (s : State) (input : List ℕ) (p : RequestParser) (c : Connected) (unread after : Option (List ℕ)) (before now : Spoken) (i j k : ℕ) (w : BetweenReads A moment s input p c unread before now i j)
     → Consumes unread after [] → IsAtEnd after → k ≡ j + 1 → ((text : List ℕ) → HasTaken p text → ¬ (unblank text ≡ [])) → LeavesServed A moment s input after c before now i k served.Truncated
 serves_truncated A moment s input p c unread after before now i j k w consumed done is some =
     let same : w.held ≡ w.held ++ w.reads.left = sym (append-nil w.held) ∙ ap (λ (t : List ℕ). w.held ++ t) (sym (at_end unread after w.reads.left consumed done w.reads.known)) in
     serves_as A moment s input p c unread after before now i j k served.Truncated w
-    (refl, w.appended, w.go_on, subst IsOpen same (holds_open p w.held w.taken), subst (λ (t : List ℕ). ¬ (unblank t ≡ [])) same (some w.held w.taken))
+    (refl, w.said, w.go_on, subst IsOpen same (holds_open p w.held w.taken), subst (λ (t : List ℕ). ¬ (unblank t ≡ [])) same (some w.held w.taken))
     (next_read A moment s input p c unread after before now i j k [] w (piece_of unread after w.reads.left [] consumed w.reads.known) (omega arith) is)
 
 -- the input ended
-pub serves_ended : (A : AgreedValues) (moment : ℕ) (s : State) (input : List ℕ) (p : RequestParser) (c : Connected) (unread after before now : Option (List ℕ)) (i j k : ℕ) (end : Served) → BetweenReads A moment s input p c unread before now i j
+pub serves_ended : (A : AgreedValues) (moment : ℕ) (s : State) (input : List ℕ) (p : RequestParser) (c : Connected) (unread after : Option (List ℕ)) (before now : Spoken) (i j k : ℕ) (end : Served) → BetweenReads A moment s input p c unread before now i j
     → Consumes unread after [] → IsAtEnd after → k ≡ j + 1 → (end ≡ served.Closed → (text : List ℕ) → HasTaken p text → unblank text ≡ [])
     → (end ≡ served.Truncated → (text : List ℕ) → HasTaken p text → ¬ (unblank text ≡ [])) → (end ≡ served.Closed) ⊎ (end ≡ served.Truncated) → LeavesServed A moment s input after c before now i k end
 serves_ended A moment s input p c unread after before now i j k end w consumed done is blank some one =
@@ -311,21 +339,21 @@ serves_ended A moment s input p c unread after before now i j k end w consumed d
       | inr same ↦ subst (λ (x : Served). LeavesServed A moment s input after c before now i k x) (sym same) (serves_truncated A moment s input p c unread after before now i j k w consumed done is (some same))
     ]
 
-pub serves_fault : (A : AgreedValues) (moment : ℕ) (s : State) (input : List ℕ) (p : RequestParser) (c : Connected) (unread after before now : Option (List ℕ)) (i j k : ℕ) → BetweenReads A moment s input p c unread before now i j → Keeps unread after → k ≡ j + 1
+pub serves_fault : (A : AgreedValues) (moment : ℕ) (s : State) (input : List ℕ) (p : RequestParser) (c : Connected) (unread after : Option (List ℕ)) (before now : Spoken) (i j k : ℕ) → BetweenReads A moment s input p c unread before now i j → Keeps unread after → k ≡ j + 1
     → LeavesServed A moment s input after c before now i k served.ReadFault
 unfolding nothing_of
 serves_fault A moment s input p c unread after before now i j k w kept is =
     let m = nothing_of unread after w.reads.left kept w.reads.known in
-    serves_as A moment s input p c unread after before now i j k served.ReadFault w (refl, w.appended, w.go_on, (w.held, w.reads.left, refl, holds_open p w.held w.taken, m.kept))
+    serves_as A moment s input p c unread after before now i j k served.ReadFault w (refl, w.said, w.go_on, (w.held, w.reads.left, refl, holds_open p w.held w.taken, m.kept))
     (next_read A moment s input p c unread after before now i j k [] w m (omega arith) is)
 
-pub serves_long : (A : AgreedValues) (moment : ℕ) (s : State) (input : List ℕ) (p : RequestParser) (c : Connected) (unread before now : Option (List ℕ)) (i j : ℕ) → BetweenReads A moment s input p c unread before now i j
+pub serves_long : (A : AgreedValues) (moment : ℕ) (s : State) (input : List ℕ) (p : RequestParser) (c : Connected) (unread : Option (List ℕ)) (before now : Spoken) (i j : ℕ) → BetweenReads A moment s input p c unread before now i j
     → LeavesServed A moment s input unread c before now i j served.TooLong
 serves_long A moment s input p c unread before now i j w =
-    serves_as A moment s input p c unread unread before now i j j served.TooLong w (refl, w.appended, w.go_on, (w.held, w.reads.left, refl, holds_open p w.held w.taken, w.reads.known)) w.reads
+    serves_as A moment s input p c unread unread before now i j j served.TooLong w (refl, w.said, w.go_on, (w.held, w.reads.left, refl, holds_open p w.held w.taken, w.reads.known)) w.reads
 
 -- memory for the reads was wanting
-pub serves_nothing : (A : AgreedValues) (moment : ℕ) (s : State) (input : List ℕ) (c : Connected) (unread now : Option (List ℕ)) (calls : ℕ) → Rests c s → unread ≡ Some input → LeavesServed A moment s input unread c now now calls calls served.Memory
+pub serves_nothing : (A : AgreedValues) (moment : ℕ) (s : State) (input : List ℕ) (c : Connected) (unread : Option (List ℕ)) (now : Spoken) (calls : ℕ) → Rests c s → unread ≡ Some input → LeavesServed A moment s input unread c now now calls calls served.Memory
 serves_nothing A moment s input c unread now calls rests known = (
   s,
   rests,
@@ -336,7 +364,7 @@ serves_nothing A moment s input c unread now calls rests known = (
     rest = input;
     all = (refl, refl, refl);
     run = refl;
-    ends = (tt, for_request refl (Appends-nil now));
+    ends = (tt, for_request refl (says_nil now));
     reads = reads_none (NeedsMore A moment s) input unread calls known;
   },
 )

@@ -1,18 +1,18 @@
 -- What the requests of a stream get, put together from its pieces.
-use Rattle.std.proofs.Common.{◌≡◌, ℕ, true, false, List, [], ◌∷◌, ◌++◌, Option, Some, None, Result, Ok, Err, refl, sym, ap, ◌∙◌, subst, append_assoc, append-nil}
-use Rattle.std.proofs.KnownBytes.{Appends-nil, Appends-trans}
+use Rattle.std.proofs.Common.{◌≡◌, ℕ, true, false, List, [], ◌∷◌, ◌++◌, Some, None, Result, Ok, Err, refl, sym, ap, ◌∙◌, subst, append_assoc, append-nil}
 use Rattle.std.specs.Io.KnownBytes.{Appends}
 use Rattle.sqlite.specs.State.{State as Connected}
 use Rattle.as2_agreement.specs.Agreements.{AgreedValues}
 use Rattle.as2_exchange.specs.Lines.{refusal}
 use Rattle.as2_exchange.specs.State.{State}
 use Rattle.as2_store.specs.Stands.{Rests}
+use Rattle.as2_http.specs.Notes.{Says, Spoken, note, refusal_note}
 use Rattle.as2_http.specs.Parsing.{HasTaken}
 use Rattle.as2_http.specs.Replies.{IsReply, refusal_line}
 use Rattle.as2_http.specs.Requests.{Begins, IsRefused}
 use Rattle.as2_http.specs.Responses.{Responds, Unsaid, answer_of}
 use Rattle.as2_http.specs.Sending.{Sends, form_of, refusal_form}
-use Rattle.as2_http.specs.Streams.{Exchange, Answers, AnswersAll, GoOn, Replied, AnswersPiece, in_reply, in_refusal, for_request, for_reply, end_by}
+use Rattle.as2_http.specs.Streams.{Exchange, Answers, AnswersAll, GoOn, Replied, AnswersPiece, in_reply, in_refusal, for_request, for_reply, for_refusal, end_by, notes}
 use Rattle.as2_http.specs.declared.request.Request.{Request}
 use Rattle.as2_http.specs.declared.framing.Refused.{Refused}
 use Rattle.as2_http.specs.declared.parser.RequestParser.{RequestParser}
@@ -21,6 +21,7 @@ use Rattle.as2_http.specs.declared.sending.SendFault.{SendFault}
 use Rattle.as2_http.specs.declared.sending.SendFault.TheVariants as send_fault
 use Rattle.as2_http.specs.declared.stream.Served.TheVariants as served
 use Rattle.as2_http.proofs.Framed.{begins_append, refuses_append}
+use Rattle.as2_http.proofs.Noting.{says_nil, says_one, says_trans, says_unwritten}
 
 -- ---- requests, one after the other
 
@@ -47,7 +48,7 @@ go_on_join [] later a b = b
 go_on_join (x ∷ done) later a b = (a.0, go_on_join done later a.1 b)
 
 -- the requests of a piece so far were answered, and the rest of the piece is to be taken
-pub record Proceeds (A : AgreedValues) (moment : ℕ) (s : State) (text rest left : List ℕ) (p : RequestParser) (c : Connected) (before now : Option (List ℕ)) : Type 0 where
+pub record Proceeds (A : AgreedValues) (moment : ℕ) (s : State) (text rest left : List ℕ) (p : RequestParser) (c : Connected) (before now : Spoken) : Type 0 where
   pub done : List Exchange
   pub mid : State
   pub replies : List ℕ
@@ -56,37 +57,37 @@ pub record Proceeds (A : AgreedValues) (moment : ℕ) (s : State) (text rest lef
   pub go_on : GoOn done
   pub rests : Rests c mid
   pub taken : HasTaken p held
-  pub appended : Appends before now replies
+  pub said : Says before now replies (notes moment done)
 
 -- what of a reply was written, of a request that is answered in a text
-pub record IsAnswered (A : AgreedValues) (moment : ℕ) (mid : State) (r : Request) (c : Connected) (now later : Option (List ℕ)) : Type 0 where
+pub record IsAnswered (A : AgreedValues) (moment : ℕ) (mid : State) (r : Request) (c : Connected) (now later : Spoken) : Type 0 where
   pub response : Response
   pub next : State
   pub rests : Rests c next
   pub responds : Responds A moment mid r response Unsaid next
   pub text : List ℕ
   pub is : IsReply moment (form_of r) (answer_of response) text
-  pub appended : Appends now later text
+  pub said : Says now later text (note moment r response)
 
-pub replied_whole : {U : Type 0} (A : AgreedValues) (moment : ℕ) (mid : State) (r : Request) (c : Connected) (now later : Option (List ℕ)) (sent : Result U SendFault) (u : U)
+pub replied_whole : {U : Type 0} (A : AgreedValues) (moment : ℕ) (mid : State) (r : Request) (c : Connected) (now later : Spoken) (sent : Result U SendFault) (u : U)
     → sent ≡ Ok u → Replied A moment mid r c now later sent → IsAnswered A moment mid r c now later
 replied_whole {U} A moment mid r c now later sent u is p =
-    let w : Sends {U = U} moment (form_of r) (answer_of p.response) now later (Ok u) = subst (λ (x : Result U SendFault). Sends moment (form_of r) (answer_of p.response) now later x) is p.sends in
-    record { response = p.response; next = p.left; rests = p.rests; responds = p.responds; text = w.0; is = w.1; appended = w.2 }
+    let w : Sends {U = U} moment (form_of r) (answer_of p.response) now.written later.written (Ok u) = subst (λ (x : Result U SendFault). Sends moment (form_of r) (answer_of p.response) now.written later.written x) is p.sends in
+    record { response = p.response; next = p.left; rests = p.rests; responds = p.responds; text = w.0; is = w.1; said = (w.2, p.noted) }
 
 -- the request begins the rest of the text, too, where that goes on
-answered_there : (A : AgreedValues) (moment : ℕ) (mid : State) (text next left : List ℕ) (r : Request) (c : Connected) (now later : Option (List ℕ)) → Begins text r next → (w : IsAnswered A moment mid r c now later)
+answered_there : (A : AgreedValues) (moment : ℕ) (mid : State) (text next left : List ℕ) (r : Request) (c : Connected) (now later : Spoken) → Begins text r next → (w : IsAnswered A moment mid r c now later)
     → Answers A moment mid (text ++ left) (r, w.response) w.next w.text (next ++ left)
 answered_there A moment mid text next left r c now later b w = record { begins = begins_append text left r next b; responds = w.responds; replies = w.is }
 
 -- ---- a piece
 
-pub begins_piece : (A : AgreedValues) (moment : ℕ) (s : State) (held piece left : List ℕ) (p : RequestParser) (c : Connected) (now : Option (List ℕ)) → Rests c s → HasTaken p held
+pub begins_piece : (A : AgreedValues) (moment : ℕ) (s : State) (held piece left : List ℕ) (p : RequestParser) (c : Connected) (now : Spoken) → Rests c s → HasTaken p held
     → Proceeds A moment s (held ++ piece ++ left) piece left p c now now
 begins_piece A moment s held piece left p c now rests taken =
-    record { done = []; mid = s; replies = []; held = held; all = (refl, refl, refl); go_on = tt; rests = rests; taken = taken; appended = Appends-nil now }
+    record { done = []; mid = s; replies = []; held = held; all = (refl, refl, refl); go_on = tt; rests = rests; taken = taken; said = says_nil now }
 
-pub proceeds_on : (A : AgreedValues) (moment : ℕ) (s : State) (text rest next left : List ℕ) (p q : RequestParser) (c d : Connected) (before now later : Option (List ℕ)) (r : Request)
+pub proceeds_on : (A : AgreedValues) (moment : ℕ) (s : State) (text rest next left : List ℕ) (p q : RequestParser) (c d : Connected) (before now later : Spoken) (r : Request)
     → (w : Proceeds A moment s text rest left p c before now) → Begins (w.held ++ rest) r next → HasTaken q [] → IsAnswered A moment w.mid r d now later → r.last ≡ false
     → Proceeds A moment s text next left q d before later
 proceeds_on A moment s text rest next left p q c d before now later r w b taken a go = record {
@@ -99,10 +100,10 @@ proceeds_on A moment s text rest next left p q c d before now later r w b taken 
   go_on = go_on_join w.done ((r, a.response) ∷ []) w.go_on (go, tt);
   rests = a.rests;
   taken = taken;
-  appended = Appends-trans before now later w.replies a.text w.appended a.appended;
+  said = says_one moment before now later w.replies a.text w.done (r, a.response) w.said a.said;
 }
 
-pub piece_last : (A : AgreedValues) (moment : ℕ) (s : State) (text rest next left : List ℕ) (p q : RequestParser) (c d : Connected) (before now later : Option (List ℕ)) (r : Request)
+pub piece_last : (A : AgreedValues) (moment : ℕ) (s : State) (text rest next left : List ℕ) (p q : RequestParser) (c d : Connected) (before now later : Spoken) (r : Request)
     → (w : Proceeds A moment s text rest left p c before now) → Begins (w.held ++ rest) r next → IsAnswered A moment w.mid r d now later → r.last ≡ true
     → AnswersPiece A moment s text left q d before later (Some served.Closed)
 piece_last A moment s text rest next left p q c d before now later r w b a ends = record {
@@ -114,11 +115,11 @@ piece_last A moment s text rest next left p q c d before now later r w b a ends 
   all = answers_join A moment s w.mid a.next text (w.held ++ rest ++ left) (next ++ left) w.replies a.text w.done ((r, a.response) ∷ []) w.all
       (answers_one A moment w.mid a.next (w.held ++ rest ++ left) a.text (next ++ left) (r, a.response) (answered_there A moment w.mid (w.held ++ rest) next left r d now later b a));
   rests = a.rests;
-  ends = ((w.done, (r, a.response), refl, w.go_on, ends), refl, Appends-trans before now later w.replies a.text w.appended a.appended);
+  ends = ((w.done, (r, a.response), refl, w.go_on, ends), refl, says_one moment before now later w.replies a.text w.done (r, a.response) w.said a.said);
 }
 
 -- no request ends in the rest
-pub piece_open : (A : AgreedValues) (moment : ℕ) (s : State) (text rest left : List ℕ) (p q : RequestParser) (c : Connected) (before now : Option (List ℕ))
+pub piece_open : (A : AgreedValues) (moment : ℕ) (s : State) (text rest left : List ℕ) (p q : RequestParser) (c : Connected) (before now : Spoken)
     → (w : Proceeds A moment s text rest left p c before now) → HasTaken q (w.held ++ rest) → AnswersPiece A moment s text left q c before now None
 piece_open A moment s text rest left p q c before now w taken = record {
   done = w.done;
@@ -128,17 +129,17 @@ piece_open A moment s text rest left p q c before now w taken = record {
   rest = w.held ++ rest ++ left;
   all = w.all;
   rests = w.rests;
-  ends = (w.go_on, refl, w.appended, (w.held ++ rest, refl, taken));
+  ends = (w.go_on, refl, w.said, (w.held ++ rest, refl, taken));
 }
 
 -- nothing is left of the piece
-pub piece_taken : (A : AgreedValues) (moment : ℕ) (s : State) (text rest left : List ℕ) (p : RequestParser) (c : Connected) (before now : Option (List ℕ))
+pub piece_taken : (A : AgreedValues) (moment : ℕ) (s : State) (text rest left : List ℕ) (p : RequestParser) (c : Connected) (before now : Spoken)
     → Proceeds A moment s text rest left p c before now → rest ≡ [] → AnswersPiece A moment s text left p c before now None
 piece_taken A moment s text rest left p c before now w none =
     piece_open A moment s text rest left p p c before now w (subst (HasTaken p) (sym (append-nil w.held) ∙ ap (λ (t : List ℕ). w.held ++ t) (sym none)) w.taken)
 
 -- memory for a request was wanting
-pub piece_unread : (A : AgreedValues) (moment : ℕ) (s : State) (text rest left : List ℕ) (p q : RequestParser) (c : Connected) (before now : Option (List ℕ))
+pub piece_unread : (A : AgreedValues) (moment : ℕ) (s : State) (text rest left : List ℕ) (p q : RequestParser) (c : Connected) (before now : Spoken)
     → Proceeds A moment s text rest left p c before now → AnswersPiece A moment s text left q c before now (Some served.Memory)
 piece_unread A moment s text rest left p q c before now w = record {
   done = w.done;
@@ -148,15 +149,15 @@ piece_unread A moment s text rest left p q c before now w = record {
   rest = w.held ++ rest ++ left;
   all = w.all;
   rests = w.rests;
-  ends = (w.go_on, for_request refl w.appended);
+  ends = (w.go_on, for_request refl w.said);
 }
 
 -- a reply wasn't written whole
-pub piece_cut : {U : Type 0} (A : AgreedValues) (moment : ℕ) (s : State) (text rest next left : List ℕ) (p q : RequestParser) (c d : Connected) (before now later : Option (List ℕ)) (r : Request)
+pub piece_cut : {U : Type 0} (A : AgreedValues) (moment : ℕ) (s : State) (text rest next left : List ℕ) (p q : RequestParser) (c d : Connected) (before now later : Spoken) (r : Request)
     (sent : Result U SendFault) (fault : SendFault) → (w : Proceeds A moment s text rest left p c before now) → Begins (w.held ++ rest) r next → sent ≡ Err fault
     → Replied A moment w.mid r d now later sent → AnswersPiece A moment s text left q d before later (Some (end_by fault))
 piece_cut {U} A moment s text rest next left p q c d before now later r sent send_fault.Write w b is x =
-    let e : Sends {U = U} moment (form_of r) (answer_of x.response) now later (Err send_fault.Write) = subst (λ (y : Result U SendFault). Sends moment (form_of r) (answer_of x.response) now later y) is x.sends in
+    let e : Sends {U = U} moment (form_of r) (answer_of x.response) now.written later.written (Err send_fault.Write) = subst (λ (y : Result U SendFault). Sends moment (form_of r) (answer_of x.response) now.written later.written y) is x.sends in
     record {
       done = w.done;
       mid = w.mid;
@@ -167,11 +168,12 @@ piece_cut {U} A moment s text rest next left p q c d before now later r sent sen
       rests = x.rests;
       ends = (
         w.go_on,
-        in_reply r (next ++ left) x.response e.0 e.2.part e.2.missing (begins_append (w.held ++ rest) left r next b) x.responds e.1 e.2.cut (Appends-trans before now later w.replies e.2.part w.appended e.2.appended),
+        in_reply r (next ++ left) x.response e.0 e.2.part e.2.missing (begins_append (w.held ++ rest) left r next b) x.responds e.1 e.2.cut
+            (says_trans before now later w.replies e.2.part (notes moment w.done) (note moment r x.response) w.said (e.2.appended, x.noted)),
       );
     }
 piece_cut {U} A moment s text rest next left p q c d before now later r sent send_fault.Memory w b is x =
-    let e : Sends {U = U} moment (form_of r) (answer_of x.response) now later (Err send_fault.Memory) = subst (λ (y : Result U SendFault). Sends moment (form_of r) (answer_of x.response) now later y) is x.sends in
+    let e : Sends {U = U} moment (form_of r) (answer_of x.response) now.written later.written (Err send_fault.Memory) = subst (λ (y : Result U SendFault). Sends moment (form_of r) (answer_of x.response) now.written later.written y) is x.sends in
     record {
       done = w.done;
       mid = w.mid;
@@ -183,16 +185,16 @@ piece_cut {U} A moment s text rest next left p q c d before now later r sent sen
       ends = (
         w.go_on,
         for_reply r (next ++ left) x.response (begins_append (w.held ++ rest) left r next b) x.responds
-            (subst (Appends before later) (append-nil w.replies) (Appends-trans before now later w.replies [] w.appended e)),
+            (says_unwritten before now later w.replies (notes moment w.done) (note moment r x.response) w.said (e, x.noted)),
       );
     }
 
 -- a refusal is written
-pub piece_refused : {U : Type 0} (A : AgreedValues) (moment : ℕ) (s : State) (text rest left : List ℕ) (p q : RequestParser) (c : Connected) (before now later : Option (List ℕ)) (refused : Refused)
+pub piece_refused : {U : Type 0} (A : AgreedValues) (moment : ℕ) (s : State) (text rest left : List ℕ) (p q : RequestParser) (c : Connected) (before now later : Spoken) (refused : Refused)
     (sent : Result U SendFault) (u : U) → (w : Proceeds A moment s text rest left p c before now) → IsRefused (w.held ++ rest) refused → sent ≡ Ok u
-    → Sends moment (refusal_form refused) (refusal (refusal_line refused.reason)) now later sent → AnswersPiece A moment s text left q c before later (Some served.BadFraming)
-piece_refused {U} A moment s text rest left p q c before now later refused sent u w b is x =
-    let e : Sends {U = U} moment (refusal_form refused) (refusal (refusal_line refused.reason)) now later (Ok u) = subst (λ (y : Result U SendFault). Sends moment (refusal_form refused) (refusal (refusal_line refused.reason)) now later y) is x in
+    → Sends moment (refusal_form refused) (refusal (refusal_line refused.reason)) now.written later.written sent → Appends now.noted later.noted (refusal_note moment refused.reason) → AnswersPiece A moment s text left q c before later (Some served.BadFraming)
+piece_refused {U} A moment s text rest left p q c before now later refused sent u w b is x noted =
+    let e : Sends {U = U} moment (refusal_form refused) (refusal (refusal_line refused.reason)) now.written later.written (Ok u) = subst (λ (y : Result U SendFault). Sends moment (refusal_form refused) (refusal (refusal_line refused.reason)) now.written later.written y) is x in
     record {
       done = w.done;
       mid = w.mid;
@@ -204,15 +206,15 @@ piece_refused {U} A moment s text rest left p q c before now later refused sent 
       ends = (
         w.go_on,
         refl,
-        record { refused = refused; refuses = refuses_append (w.held ++ rest) left refused b; text = e.0; is = e.1; written = Appends-trans before now later w.replies e.0 w.appended e.2 },
+        record { refused = refused; refuses = refuses_append (w.held ++ rest) left refused b; text = e.0; is = e.1; said = says_trans before now later w.replies e.0 (notes moment w.done) (refusal_note moment refused.reason) w.said (e.2, noted) },
       );
     }
 
-pub piece_refusal_cut : {U : Type 0} (A : AgreedValues) (moment : ℕ) (s : State) (text rest left : List ℕ) (p q : RequestParser) (c : Connected) (before now later : Option (List ℕ)) (refused : Refused)
+pub piece_refusal_cut : {U : Type 0} (A : AgreedValues) (moment : ℕ) (s : State) (text rest left : List ℕ) (p q : RequestParser) (c : Connected) (before now later : Spoken) (refused : Refused)
     (sent : Result U SendFault) (fault : SendFault) → (w : Proceeds A moment s text rest left p c before now) → IsRefused (w.held ++ rest) refused → sent ≡ Err fault
-    → Sends moment (refusal_form refused) (refusal (refusal_line refused.reason)) now later sent → AnswersPiece A moment s text left q c before later (Some (end_by fault))
-piece_refusal_cut {U} A moment s text rest left p q c before now later refused sent send_fault.Write w b is x =
-    let e : Sends {U = U} moment (refusal_form refused) (refusal (refusal_line refused.reason)) now later (Err send_fault.Write) = subst (λ (y : Result U SendFault). Sends moment (refusal_form refused) (refusal (refusal_line refused.reason)) now later y) is x in
+    → Sends moment (refusal_form refused) (refusal (refusal_line refused.reason)) now.written later.written sent → Appends now.noted later.noted (refusal_note moment refused.reason) → AnswersPiece A moment s text left q c before later (Some (end_by fault))
+piece_refusal_cut {U} A moment s text rest left p q c before now later refused sent send_fault.Write w b is x noted =
+    let e : Sends {U = U} moment (refusal_form refused) (refusal (refusal_line refused.reason)) now.written later.written (Err send_fault.Write) = subst (λ (y : Result U SendFault). Sends moment (refusal_form refused) (refusal (refusal_line refused.reason)) now.written later.written y) is x in
     record {
       done = w.done;
       mid = w.mid;
@@ -223,11 +225,12 @@ piece_refusal_cut {U} A moment s text rest left p q c before now later refused s
       rests = w.rests;
       ends = (
         w.go_on,
-        in_refusal refused e.0 e.2.part e.2.missing (refuses_append (w.held ++ rest) left refused b) refl e.1 e.2.cut (Appends-trans before now later w.replies e.2.part w.appended e.2.appended),
+        in_refusal refused e.0 e.2.part e.2.missing (refuses_append (w.held ++ rest) left refused b) refl e.1 e.2.cut
+            (says_trans before now later w.replies e.2.part (notes moment w.done) (refusal_note moment refused.reason) w.said (e.2.appended, noted)),
       );
     }
-piece_refusal_cut {U} A moment s text rest left p q c before now later refused sent send_fault.Memory w b is x =
-    let e : Sends {U = U} moment (refusal_form refused) (refusal (refusal_line refused.reason)) now later (Err send_fault.Memory) = subst (λ (y : Result U SendFault). Sends moment (refusal_form refused) (refusal (refusal_line refused.reason)) now later y) is x in
+piece_refusal_cut {U} A moment s text rest left p q c before now later refused sent send_fault.Memory w b is x noted =
+    let e : Sends {U = U} moment (refusal_form refused) (refusal (refusal_line refused.reason)) now.written later.written (Err send_fault.Memory) = subst (λ (y : Result U SendFault). Sends moment (refusal_form refused) (refusal (refusal_line refused.reason)) now.written later.written y) is x in
     record {
       done = w.done;
       mid = w.mid;
@@ -236,5 +239,8 @@ piece_refusal_cut {U} A moment s text rest left p q c before now later refused s
       rest = w.held ++ rest ++ left;
       all = w.all;
       rests = w.rests;
-      ends = (w.go_on, for_request refl (subst (Appends before later) (append-nil w.replies) (Appends-trans before now later w.replies [] w.appended e)));
+      ends = (
+        w.go_on,
+        for_refusal refused (refuses_append (w.held ++ rest) left refused b) refl (says_unwritten before now later w.replies (notes moment w.done) (refusal_note moment refused.reason) w.said (e, noted)),
+      );
     }

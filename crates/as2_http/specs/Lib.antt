@@ -6,6 +6,7 @@ pub mod Parsing
 pub mod Reading
 pub mod Replies
 pub mod Responses
+pub mod Notes
 pub mod Sending
 pub mod InputReads
 pub mod Streams

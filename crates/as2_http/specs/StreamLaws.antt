@@ -2,6 +2,7 @@
 use Rattle.std.specs.Prelude.{◌≡◌, ℕ, List, [], ◌∷◌, Option, ⊤}
 use Rattle.as2_agreement.specs.Agreements.{AgreedValues}
 use Rattle.as2_exchange.specs.State.{State}
+use Rattle.as2_http.specs.Notes.{Spoken}
 use Rattle.as2_http.specs.StreamReads.{Serves}
 use Rattle.as2_http.specs.Streams.{Exchange}
 use Rattle.as2_http.specs.declared.response.Response.{Response}
@@ -32,14 +33,14 @@ AtJudged Memory P = ⊤
 AtJudged TooLong P = ⊤
 
 -- the same requests got the same, by the same replies, and the same follows them
-abbrev pub ServesAlike : (A : AgreedValues) (moment : ℕ) (s t u : State) (input : List ℕ) (unread before after later base now : Option (List ℕ)) (i j k l : ℕ) (end other : Served)
+abbrev pub ServesAlike : (A : AgreedValues) (moment : ℕ) (s t u : State) (input : List ℕ) (unread later : Option (List ℕ)) (before after base now : Spoken) (i j k l : ℕ) (end other : Served)
     → Serves A moment s t input unread before after i j end → Serves A moment s u input later base now k l other → Type 0
-ServesAlike A moment s t u input unread before after later base now i j k l end other one two =
+ServesAlike A moment s t u input unread later before after base now i j k l end other one two =
     (one.done ≡ two.done) × (one.replies ≡ two.replies) × (one.rest ≡ two.rest) × (end ≡ other) × (t ≡ u)
 
 -- In one state an input is served in one way, where nothing failed, and the store neither.
 abbrev pub ServesInOneWay : Type 0
-ServesInOneWay = (A : AgreedValues) (moment : ℕ) (s t u : State) (input : List ℕ) (unread before after later base now : Option (List ℕ)) (i j k l : ℕ) (end other : Served)
+ServesInOneWay = (A : AgreedValues) (moment : ℕ) (s t u : State) (input : List ℕ) (unread later : Option (List ℕ)) (before after base now : Spoken) (i j k l : ℕ) (end other : Served)
     → (one : Serves A moment s t input unread before after i j end) → (two : Serves A moment s u input later base now k l other)
     → AreSound one.done → AreSound two.done
-    → AtJudged end (AtJudged other (ServesAlike A moment s t u input unread before after later base now i j k l end other one two))
+    → AtJudged end (AtJudged other (ServesAlike A moment s t u input unread later before after base now i j k l end other one two))

@@ -1,6 +1,5 @@
 -- What is read of a stream, each read where it is needed, and what the stream comes to.
 use Rattle.std.specs.Prelude.{◌≡◌, ℕ, List, [], ◌∷◌, Option, Some, None, ⊤}
-use Rattle.std.specs.Io.KnownBytes.{Appends}
 use Rattle.sqlite.specs.State.{State as Connected}
 use Rattle.as2_agreement.specs.Agreements.{AgreedValues}
 use Rattle.as2_exchange.specs.Run.{Trace, Run}
@@ -10,9 +9,10 @@ use Rattle.as2_exchange.specs.declared.event.Event.TheVariants as event
 use Rattle.as2_store.specs.Stands.{Rests}
 use Rattle.as2_station.specs.Theorem.{EndsByHistory}
 use Rattle.as2_http.specs.InputReads.{ReadsNeeded}
+use Rattle.as2_http.specs.Notes.{Says, Spoken}
 use Rattle.as2_http.specs.Parsing.{HasTaken}
 use Rattle.as2_http.specs.Requests.{IsOpen}
-use Rattle.as2_http.specs.Streams.{Exchange, AnswersAll, Ends, GoOn, events}
+use Rattle.as2_http.specs.Streams.{Exchange, AnswersAll, Ends, GoOn, events, notes}
 use Rattle.as2_http.specs.declared.parser.RequestParser.{RequestParser}
 use Rattle.as2_http.specs.declared.stream.Served.{Served}
 
@@ -28,8 +28,8 @@ pub record NeedsMore (A : AgreedValues) (moment : ℕ) (s : State) (text : List 
   pub go_on : GoOn done
   pub undecided : IsOpen held
 
--- Between two reads: the whole requests that were read are answered, their replies are written, and what is left of the bytes is less than a request.
-pub record BetweenReads (A : AgreedValues) (moment : ℕ) (s : State) (input : List ℕ) (p : RequestParser) (c : Connected) (unread before now : Option (List ℕ)) (calls later : ℕ) : Type 0 where
+-- Between two reads: the whole requests that were read are answered, their replies are written and noted, and what is left of the bytes is less than a request.
+pub record BetweenReads (A : AgreedValues) (moment : ℕ) (s : State) (input : List ℕ) (p : RequestParser) (c : Connected) (unread : Option (List ℕ)) (before now : Spoken) (calls later : ℕ) : Type 0 where
   pub reads : ReadsNeeded (NeedsMore A moment s) input unread calls later
   pub done : List Exchange
   pub mid : State
@@ -39,12 +39,12 @@ pub record BetweenReads (A : AgreedValues) (moment : ℕ) (s : State) (input : L
   pub go_on : GoOn done
   pub rests : Rests c mid
   pub taken : HasTaken p held
-  pub appended : Appends before now replies
+  pub said : Says before now replies (notes moment done)
 
 -- ---- the stream
 
--- the requests that the input begins with were answered one after the other, a run of the machine; their replies were written, this end followed, and t is left
-pub record Serves (A : AgreedValues) (moment : ℕ) (s t : State) (input : List ℕ) (unread before after : Option (List ℕ)) (calls later : ℕ) (served : Served) : Type 0 where
+-- the requests that the input begins with were answered one after the other, a run of the machine; their replies were written and noted, this end followed, and t is left
+pub record Serves (A : AgreedValues) (moment : ℕ) (s t : State) (input : List ℕ) (unread : Option (List ℕ)) (before after : Spoken) (calls later : ℕ) (served : Served) : Type 0 where
   pub done : List Exchange
   pub mid : State
   pub replies : List ℕ
@@ -55,7 +55,7 @@ pub record Serves (A : AgreedValues) (moment : ℕ) (s t : State) (input : List 
   pub reads : ReadsNeeded (NeedsMore A moment s) input unread calls later
 
 -- a read, and what it gave is answered: the stream goes on, or ends so
-abbrev pub AnswersNext : AgreedValues → ℕ → State → List ℕ → RequestParser → Connected → Option (List ℕ) → Option (List ℕ) → Option (List ℕ) → ℕ → ℕ → Option Served → Type 0
+abbrev pub AnswersNext : AgreedValues → ℕ → State → List ℕ → RequestParser → Connected → Option (List ℕ) → Spoken → Spoken → ℕ → ℕ → Option Served → Type 0
 AnswersNext A moment s input p c unread before after calls later None = BetweenReads A moment s input p c unread before after calls later
 AnswersNext A moment s input p c unread before after calls later (Some end) = (t : State) × Rests c t × Serves A moment s t input unread before after calls later end
 

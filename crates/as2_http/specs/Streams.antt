@@ -9,6 +9,7 @@ use Rattle.as2_exchange.specs.State.{State}
 use Rattle.as2_exchange.specs.declared.answer.Answer.TheVariants.{Http}
 use Rattle.as2_store.specs.Stands.{Rests}
 use Rattle.as2_framing.specs.HeadText.{unblank}
+use Rattle.as2_http.specs.Notes.{Says, Spoken, note, refusal_note}
 use Rattle.as2_http.specs.Parsing.{HasTaken}
 use Rattle.as2_http.specs.Replies.{IsReply, refusal_line}
 use Rattle.as2_http.specs.Requests.{Begins, IsRefused, IsOpen}
@@ -73,36 +74,47 @@ abbrev pub events : ℕ → List Exchange → Trace
 events moment [] = []
 events moment (x ∷ more) = event_by x.0.method x.0.target moment x ++ events moment more
 
--- ---- what is written, and what is left
+-- ---- what is written and noted, and what is left
 
--- the request got that, and t is left; its reply is written, or the first bytes of it
-pub record Replied {U : Type 0} (A : AgreedValues) (moment : ℕ) (s : State) (r : Request) (c : Connected) (before after : Option (List ℕ)) (sent : Result U SendFault) : Type 0 where
+-- the lines that are noted of requests with what they got
+abbrev pub notes : ℕ → List Exchange → List ℕ
+notes moment [] = []
+notes moment (x ∷ more) = note moment x.0 x.1 ++ notes moment more
+
+-- the request got that, and t is left; its reply is written, or the first bytes of it, and its line is noted
+pub record Replied {U : Type 0} (A : AgreedValues) (moment : ℕ) (s : State) (r : Request) (c : Connected) (before after : Spoken) (sent : Result U SendFault) : Type 0 where
   pub response : Response
   pub left : State
   pub rests : Rests c left
   pub responds : Responds A moment s r response Unsaid left
-  pub sends : Sends moment (form_of r) (answer_of response) before after sent
+  pub sends : Sends moment (form_of r) (answer_of response) before.written after.written sent
+  pub noted : Appends before.noted after.noted (note moment r response)
 
--- a reply or a refusal was cut short: the first bytes of it were written behind the others, and t is left
-pub data CutShort (A : AgreedValues) (moment : ℕ) (mid : State) (replies rest : List ℕ) (before after : Option (List ℕ)) (t : State) : Type 0 where
+-- a reply or a refusal was cut short: the first bytes of it were written behind the others, its line was noted, and t is left
+pub data CutShort (A : AgreedValues) (moment : ℕ) (mid : State) (replies lines rest : List ℕ) (before after : Spoken) (t : State) : Type 0 where
   in_reply : (r : Request) (behind : List ℕ) (response : Response) (text part missing : List ℕ) (begins : Begins rest r behind) (responds : Responds A moment mid r response Unsaid t)
-      (is : IsReply moment (form_of r) (answer_of response) text) (cut : text ≡ part ++ missing) (written : Appends before after (replies ++ part)) → CutShort A moment mid replies rest before after t
+      (is : IsReply moment (form_of r) (answer_of response) text) (cut : text ≡ part ++ missing) (said : Says before after (replies ++ part) (lines ++ note moment r response))
+      → CutShort A moment mid replies lines rest before after t
   in_refusal : (refused : Refused) (text part missing : List ℕ) (refuses : IsRefused rest refused) (same : t ≡ mid)
-      (is : IsReply moment (refusal_form refused) (refusal (refusal_line refused.reason)) text) (cut : text ≡ part ++ missing) (written : Appends before after (replies ++ part)) → CutShort A moment mid replies rest before after t
+      (is : IsReply moment (refusal_form refused) (refusal (refusal_line refused.reason)) text) (cut : text ≡ part ++ missing) (said : Says before after (replies ++ part) (lines ++ refusal_note moment refused.reason))
+      → CutShort A moment mid replies lines rest before after t
 
--- memory was wanting, for a request, for a reply or for a refusal, and no more than the replies before is written
-pub data OutOfMemory (A : AgreedValues) (moment : ℕ) (mid : State) (replies rest : List ℕ) (before after : Option (List ℕ)) (t : State) : Type 0 where
-  for_request : (same : t ≡ mid) (written : Appends before after replies) → OutOfMemory A moment mid replies rest before after t
+-- memory was wanting, for a request, for a reply or for a refusal, and no more than the replies before is written; a request that
+-- was taken and a refusal are noted
+pub data OutOfMemory (A : AgreedValues) (moment : ℕ) (mid : State) (replies lines rest : List ℕ) (before after : Spoken) (t : State) : Type 0 where
+  for_request : (same : t ≡ mid) (said : Says before after replies lines) → OutOfMemory A moment mid replies lines rest before after t
   for_reply : (r : Request) (behind : List ℕ) (response : Response) (begins : Begins rest r behind) (responds : Responds A moment mid r response Unsaid t)
-      (written : Appends before after replies) → OutOfMemory A moment mid replies rest before after t
+      (said : Says before after replies (lines ++ note moment r response)) → OutOfMemory A moment mid replies lines rest before after t
+  for_refusal : (refused : Refused) (refuses : IsRefused rest refused) (same : t ≡ mid) (said : Says before after replies (lines ++ refusal_note moment refused.reason))
+      → OutOfMemory A moment mid replies lines rest before after t
 
--- a refusal was written behind the replies
-pub record WritesRefusal (moment : ℕ) (replies rest : List ℕ) (before after : Option (List ℕ)) : Type 0 where
+-- a refusal was written behind the replies, and noted
+pub record WritesRefusal (moment : ℕ) (replies lines rest : List ℕ) (before after : Spoken) : Type 0 where
   pub refused : Refused
   pub refuses : IsRefused rest refused
   pub text : List ℕ
   pub is : IsReply moment (refusal_form refused) (refusal (refusal_line refused.reason)) text
-  pub written : Appends before after (replies ++ text)
+  pub said : Says before after (replies ++ text) (lines ++ refusal_note moment refused.reason)
 
 -- ---- a piece of the stream
 
@@ -112,12 +124,12 @@ end_by send_fault.Write = served.WriteFault
 end_by send_fault.Memory = served.Memory
 
 -- how a stream ends with a piece: behind the requests that were answered
-abbrev pub PieceEnds : AgreedValues → ℕ → List Exchange → State → List ℕ → List ℕ → List ℕ → RequestParser → Option (List ℕ) → Option (List ℕ) → State → Option Served → Type 0
-PieceEnds A moment done mid replies rest left p before after t None = GoOn done × (t ≡ mid) × Appends before after replies × ((held : List ℕ) × (rest ≡ held ++ left) × HasTaken p held)
-PieceEnds A moment done mid replies rest left p before after t (Some served.Closed) = EndsLast done × (t ≡ mid) × Appends before after replies
-PieceEnds A moment done mid replies rest left p before after t (Some served.BadFraming) = GoOn done × (t ≡ mid) × WritesRefusal moment replies rest before after
-PieceEnds A moment done mid replies rest left p before after t (Some served.WriteFault) = GoOn done × CutShort A moment mid replies rest before after t
-PieceEnds A moment done mid replies rest left p before after t (Some served.Memory) = GoOn done × OutOfMemory A moment mid replies rest before after t
+abbrev pub PieceEnds : AgreedValues → ℕ → List Exchange → State → List ℕ → List ℕ → List ℕ → RequestParser → Spoken → Spoken → State → Option Served → Type 0
+PieceEnds A moment done mid replies rest left p before after t None = GoOn done × (t ≡ mid) × Says before after replies (notes moment done) × ((held : List ℕ) × (rest ≡ held ++ left) × HasTaken p held)
+PieceEnds A moment done mid replies rest left p before after t (Some served.Closed) = EndsLast done × (t ≡ mid) × Says before after replies (notes moment done)
+PieceEnds A moment done mid replies rest left p before after t (Some served.BadFraming) = GoOn done × (t ≡ mid) × WritesRefusal moment replies (notes moment done) rest before after
+PieceEnds A moment done mid replies rest left p before after t (Some served.WriteFault) = GoOn done × CutShort A moment mid replies (notes moment done) rest before after t
+PieceEnds A moment done mid replies rest left p before after t (Some served.Memory) = GoOn done × OutOfMemory A moment mid replies (notes moment done) rest before after t
 PieceEnds A moment done mid replies rest left p before after t (Some served.Truncated) = ⊥
 PieceEnds A moment done mid replies rest left p before after t (Some served.ReadFault) = ⊥
 PieceEnds A moment done mid replies rest left p before after t (Some served.TooLong) = ⊥
@@ -132,8 +144,8 @@ may_end_piece served.Truncated = false
 may_end_piece served.ReadFault = false
 may_end_piece served.TooLong = false
 
--- the requests that end in a piece were answered, in the text that it stands in; and how the stream ends with it, if it does
-pub record AnswersPiece (A : AgreedValues) (moment : ℕ) (s : State) (text left : List ℕ) (p : RequestParser) (c : Connected) (before after : Option (List ℕ)) (end : Option Served) : Type 0 where
+-- the requests that end in a piece were answered and noted, in the text that it stands in; and how the stream ends with it, if it does
+pub record AnswersPiece (A : AgreedValues) (moment : ℕ) (s : State) (text left : List ℕ) (p : RequestParser) (c : Connected) (before after : Spoken) (end : Option Served) : Type 0 where
   pub done : List Exchange
   pub mid : State
   pub last : State
@@ -146,11 +158,11 @@ pub record AnswersPiece (A : AgreedValues) (moment : ℕ) (s : State) (text left
 -- ---- the stream
 
 -- how the stream ends, behind the requests that were answered; ReadFault and TooLong behind all whole ones of the bytes that were read
-abbrev pub Ends : AgreedValues → ℕ → List Exchange → State → List ℕ → List ℕ → Option (List ℕ) → Option (List ℕ) → Option (List ℕ) → State → Served → Type 0
-Ends A moment done mid replies rest unread before after t served.Closed = (t ≡ mid) × Appends before after replies × (EndsLast done ⊎ (GoOn done × IsOpen rest × (unblank rest ≡ [])))
-Ends A moment done mid replies rest unread before after t served.Truncated = (t ≡ mid) × Appends before after replies × GoOn done × IsOpen rest × ¬ (unblank rest ≡ [])
-Ends A moment done mid replies rest unread before after t served.BadFraming = (t ≡ mid) × GoOn done × WritesRefusal moment replies rest before after
-Ends A moment done mid replies rest unread before after t served.ReadFault = (t ≡ mid) × Appends before after replies × GoOn done × ((held left : List ℕ) × (rest ≡ held ++ left) × IsOpen held × (unread ≡ Some left))
-Ends A moment done mid replies rest unread before after t served.TooLong = (t ≡ mid) × Appends before after replies × GoOn done × ((held left : List ℕ) × (rest ≡ held ++ left) × IsOpen held × (unread ≡ Some left))
-Ends A moment done mid replies rest unread before after t served.WriteFault = GoOn done × CutShort A moment mid replies rest before after t
-Ends A moment done mid replies rest unread before after t served.Memory = GoOn done × OutOfMemory A moment mid replies rest before after t
+abbrev pub Ends : AgreedValues → ℕ → List Exchange → State → List ℕ → List ℕ → Option (List ℕ) → Spoken → Spoken → State → Served → Type 0
+Ends A moment done mid replies rest unread before after t served.Closed = (t ≡ mid) × Says before after replies (notes moment done) × (EndsLast done ⊎ (GoOn done × IsOpen rest × (unblank rest ≡ [])))
+Ends A moment done mid replies rest unread before after t served.Truncated = (t ≡ mid) × Says before after replies (notes moment done) × GoOn done × IsOpen rest × ¬ (unblank rest ≡ [])
+Ends A moment done mid replies rest unread before after t served.BadFraming = (t ≡ mid) × GoOn done × WritesRefusal moment replies (notes moment done) rest before after
+Ends A moment done mid replies rest unread before after t served.ReadFault = (t ≡ mid) × Says before after replies (notes moment done) × GoOn done × ((held left : List ℕ) × (rest ≡ held ++ left) × IsOpen held × (unread ≡ Some left))
+Ends A moment done mid replies rest unread before after t served.TooLong = (t ≡ mid) × Says before after replies (notes moment done) × GoOn done × ((held left : List ℕ) × (rest ≡ held ++ left) × IsOpen held × (unread ≡ Some left))
+Ends A moment done mid replies rest unread before after t served.WriteFault = GoOn done × CutShort A moment mid replies (notes moment done) rest before after t
+Ends A moment done mid replies rest unread before after t served.Memory = GoOn done × OutOfMemory A moment mid replies (notes moment done) rest before after t

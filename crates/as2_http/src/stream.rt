@@ -1,5 +1,6 @@
 //! The requests of a stream, answered one after the other.
 ghost use Rattle.std.specs.Prelude.{◌≡◌, ◌⊎◌, ◌+◌, ◌<◌, ◌≤◌, List, ℕ, [], ◌++◌, take, vec_len, Option, Some, None, Err, IfSome, true};
+ghost use Rattle.std.specs.Io.KnownBytes.{Appends};
 ghost use Rattle.as2_framing.specs.HeadText.{unblank};
 ghost use Rattle.as2_http.specs.declared.stream.Served.TheVariants.{Closed, ReadFault, TooLong, Truncated, WriteFault};
 ghost use Rattle.as2_http.specs.declared.sending.SendFault.TheVariants.{Write};
@@ -9,10 +10,16 @@ ghost use Rattle.as2_exchange.specs.State.{State};
 ghost use Rattle.as2_store.specs.Stands.{Rests};
 ghost use Rattle.as2_http.specs.InputReads.{read_limit};
 ghost use Rattle.as2_http.specs.Parsing.{HasTaken};
+ghost use Rattle.as2_http.specs.Notes.{Spoken, refusal_note, spoken};
+ghost use Rattle.as2_http.specs.Sending.{Sends, refusal_form};
+ghost use Rattle.as2_http.specs.Replies.{refusal_line};
+ghost use Rattle.as2_exchange.specs.Lines.{refusal};
 ghost use Rattle.as2_http.specs.StreamReads.{AnswersNext, BetweenReads, RunsPosts, Serves};
 ghost use Rattle.as2_http.specs.Streams.{AnswersPiece, Replied, end_by, may_end_piece};
 
 use crate::device::{Sink, Source};
+use crate::framing::Refused;
+use crate::journal::{Journal, note_refusal, note_request, note_status};
 use crate::parser::{Parsed, RequestParser};
 use crate::reads::{READ_LIMIT, READS, pull};
 use crate::reply::Form;
@@ -55,18 +62,37 @@ fn end_by(fault: SendFault) -> Served
     }
 }
 
-/// Has the station take a request, and writes its reply.
-fn reply<S: Alter, W: Sink>(
+/// Writes the reply that says why no request begins there, and notes it.
+fn refuse<W: Sink, J: Journal>(
+    alloc: Global,
+    moment: Moment,
+    refused: Refused,
+    sink: &mut W,
+    journal: &mut J,
+) -> Result<(), SendFault>
+    ensures sends { Sends moment (refusal_form refused) (refusal (refusal_line refused.reason))
+        (W.written sink.old) (W.written sink.new) result }
+    ensures noted { Appends (J.noted journal.old) (J.noted journal.new) (refusal_note moment refused.reason) }
+    ensures failed { result ≡ Err Write → W.failed sink.old < W.failed sink.new }
+    ensures counted { W.failed sink.old ≤ W.failed sink.new }
+{
+    note_refusal(moment, refused.reason, journal);
+    send_refusal(alloc, moment, refused, sink)
+}
+
+/// Has the station take a request, writes its reply, and notes it.
+fn reply<S: Alter, W: Sink, J: Journal>(
     alloc: Global,
     agreements: &Agreements,
     moment: Moment,
     station: &mut Station<S>,
     request: Request,
     sink: &mut W,
+    journal: &mut J,
 ) -> Result<(), SendFault>
     ensures clean { HasCleanDisk (state S.Store station.new) → HasCleanDisk (state S.Store station.old) }
     ensures replied { HasCleanDisk (state S.Store station.new) → (s : State) → Rests (state S.Store station.old) s
-        → Replied agreements.now moment s request (state S.Store station.new) (W.written sink.old) (W.written sink.new) result }
+        → Replied agreements.now moment s request (state S.Store station.new) (spoken (W.written sink.old) (J.noted journal.old)) (spoken (W.written sink.new) (J.noted journal.new)) result }
     ensures failed { result ≡ Err Write → W.failed sink.old < W.failed sink.new }
     ensures counted { W.failed sink.old ≤ W.failed sink.new }
 {
@@ -74,12 +100,15 @@ fn reply<S: Alter, W: Sink>(
         closes: false,
         to_head: request.method.is_head(),
     };
+    note_request(moment, &request.fields, journal);
     let response = respond(alloc, agreements, moment, station, request);
-    send(alloc, moment, form, &response.answer(), sink)
+    let answer = response.answer();
+    note_status(answer.status, journal);
+    send(alloc, moment, form, &answer, sink)
 }
 
 /// Answers the requests that end in a piece, in turn, and tells how the stream ends with it, if it does.
-fn answer_piece<S: Alter, W: Sink>(
+fn answer_piece<S: Alter, W: Sink, J: Journal>(
     alloc: Global,
     agreements: &Agreements,
     moment: Moment,
@@ -87,13 +116,14 @@ fn answer_piece<S: Alter, W: Sink>(
     parser: &mut RequestParser,
     piece: &[u8],
     sink: &mut W,
+    journal: &mut J,
 ) -> Option<Served>
     requires held { (held : List ℕ) × HasTaken parser.old held }
     ensures clean { HasCleanDisk (state S.Store station.new) → HasCleanDisk (state S.Store station.old) }
     ensures answered { HasCleanDisk (state S.Store station.new) → (s : State) → Rests (state S.Store station.old) s
         → (held left : List ℕ) → HasTaken parser.old held
         → AnswersPiece agreements.now moment s (held ++ piece.now ++ left) left parser.new (state S.Store station.new)
-        (W.written sink.old) (W.written sink.new) result }
+        (spoken (W.written sink.old) (J.noted journal.old)) (spoken (W.written sink.new) (J.noted journal.new)) result }
     ensures failed { result ≡ Some WriteFault → W.failed sink.old < W.failed sink.new }
     ensures counted { W.failed sink.old ≤ W.failed sink.new }
     ensures of_piece { IfSome result (λ end. may_end_piece end ≡ true) }
@@ -105,7 +135,9 @@ fn answer_piece<S: Alter, W: Sink>(
             Ok(Parsed::Open) => return None,
             Ok(Parsed::Request(request, used)) => {
                 let last = request.last;
-                if let Err(fault) = reply(alloc, agreements, moment, station, request, sink) {
+                if let Err(fault) = reply(
+                    alloc, agreements, moment, station, request, sink, journal,
+                ) {
                     return Some(end_by(fault));
                 }
                 if last {
@@ -114,7 +146,7 @@ fn answer_piece<S: Alter, W: Sink>(
                 rest = &rest[used..];
             }
             Ok(Parsed::Refused(refused)) => {
-                return match send_refusal(alloc, moment, refused, sink) {
+                return match refuse(alloc, moment, refused, sink, journal) {
                     Ok(()) => Some(Served::BadFraming),
                     Err(fault) => Some(end_by(fault)),
                 };
@@ -140,7 +172,7 @@ fn ended(parser: &RequestParser) -> Served
 
 /// Makes one read, and answers the requests that end in what it gave. Before it, every whole request that was read has its
 /// reply; and so behind it, where the stream goes on.
-fn answer_next<S: Alter, R: Source, W: Sink>(
+fn answer_next<S: Alter, R: Source, W: Sink, J: Journal>(
     alloc: Global,
     agreements: &Agreements,
     moment: Moment,
@@ -149,14 +181,15 @@ fn answer_next<S: Alter, R: Source, W: Sink>(
     buffer: &mut Vec<u8>,
     source: &mut R,
     sink: &mut W,
+    journal: &mut J,
 ) -> Option<Served>
     requires held { (held : List ℕ) × HasTaken parser.old held }
     requires room { vec_len buffer.old ≡ read_limit }
     ensures clean { HasCleanDisk (state S.Store station.new) → HasCleanDisk (state S.Store station.old) }
     ensures calls { R.calls source.new ≡ R.calls source.old + 1 }
-    ensures answered { HasCleanDisk (state S.Store station.new) → (s : State) (input : List ℕ) (before : Option (List ℕ)) (calls : ℕ)
-        → BetweenReads agreements.now moment s input parser.old (state S.Store station.old) (R.left source.old) before (W.written sink.old) calls (R.calls source.old)
-        → AnswersNext agreements.now moment s input parser.new (state S.Store station.new) (R.left source.new) before (W.written sink.new) calls (R.calls source.new) result }
+    ensures answered { HasCleanDisk (state S.Store station.new) → (s : State) (input : List ℕ) (before : Spoken) (calls : ℕ)
+        → BetweenReads agreements.now moment s input parser.old (state S.Store station.old) (R.left source.old) before (spoken (W.written sink.old) (J.noted journal.old)) calls (R.calls source.old)
+        → AnswersNext agreements.now moment s input parser.new (state S.Store station.new) (R.left source.new) before (spoken (W.written sink.new) (J.noted journal.new)) calls (R.calls source.new) result }
     ensures posts { HasCleanDisk (state S.Store station.new) → (s mid : State) → Rests (state S.Store station.old) mid → RunsPosts agreements.now moment s mid
         → (t : State) × Rests (state S.Store station.new) t × RunsPosts agreements.now moment s t }
     ensures held { result ≡ None → (held : List ℕ) × HasTaken parser.new held }
@@ -174,23 +207,27 @@ fn answer_next<S: Alter, R: Source, W: Sink>(
         return Some(ended(parser));
     }
     let piece = &buffer[..count];
-    answer_piece(alloc, agreements, moment, station, parser, piece, sink)
+    answer_piece(
+        alloc, agreements, moment, station, parser, piece, sink, journal,
+    )
 }
 
 /// Answers the requests of a stream one after the other: a post is taken by the station, over the agreements. A read is made
 /// only when every whole request that was read has its reply, and none once the stream has ended; at most 100,000 are made.
-pub fn serve_stream<S: Alter, R: Source, W: Sink>(
+/// Each reply is noted in the journal, in a line: a request up to its status before the station takes it.
+pub fn serve_stream<S: Alter, R: Source, W: Sink, J: Journal>(
     alloc: Global,
     agreements: &Agreements,
     moment: Moment,
     station: &mut Station<S>,
     source: &mut R,
     sink: &mut W,
+    journal: &mut J,
 ) -> Served
     ensures clean { HasCleanDisk (state S.Store station.new) → HasCleanDisk (state S.Store station.old) }
     ensures serves { HasCleanDisk (state S.Store station.new) → (s : State) → Rests (state S.Store station.old) s
         → (input : List ℕ) → R.left source.old ≡ Some input → (t : State) × Rests (state S.Store station.new) t
-        × Serves agreements.now moment s t input (R.left source.new) (W.written sink.old) (W.written sink.new) (R.calls source.old) (R.calls source.new) result }
+        × Serves agreements.now moment s t input (R.left source.new) (spoken (W.written sink.old) (J.noted journal.old)) (spoken (W.written sink.new) (J.noted journal.new)) (R.calls source.old) (R.calls source.new) result }
     // Whatever the reader tells, nothing but posts at this moment was taken.
     ensures posts { HasCleanDisk (state S.Store station.new) → (s : State) → Rests (state S.Store station.old) s
         → (t : State) × Rests (state S.Store station.new) t × RunsPosts agreements.now moment s t }
@@ -214,6 +251,7 @@ pub fn serve_stream<S: Alter, R: Source, W: Sink>(
             &mut buffer,
             source,
             sink,
+            journal,
         );
         if let Some(end) = end {
             return end;

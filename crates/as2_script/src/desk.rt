@@ -8,7 +8,7 @@ mod files;
 mod network;
 mod stores;
 
-use as2_desk::run;
+use as2_desk::{Lines, run};
 use as2_http::Counted;
 use files::Files;
 use network::Peers;
@@ -63,7 +63,9 @@ fn run_counted<A: Ledger, B: Ledger, C: Ledger, D: Ledger>(
     let mut input: Counted<Input<'_>, A, B> = Counted::new(input, reads, failed_reads);
     let output = Paper::new(alloc, given.calls.writes);
     let mut output: Counted<Paper, C, D> = Counted::new(output, writes, failed_writes);
-    let mut hints = Paper::new(alloc, given.calls.errors);
+    let mut hints = Lines {
+        inner: Paper::new(alloc, given.calls.errors),
+    };
     let mut errors = Paper::new(alloc, given.calls.errors);
     let (ran, handed) = run(
         alloc,
@@ -82,7 +84,7 @@ fn run_counted<A: Ledger, B: Ledger, C: Ledger, D: Ledger>(
         status: ran.status,
         told: ran.told,
         output: output.into_inner().bytes,
-        errors: joined(hints.bytes, errors.bytes.as_slice()),
+        errors: joined(hints.inner.bytes, errors.bytes.as_slice()),
         is_unread: are_unread(given.parts.as_slice(), unread),
     };
     let kept = match handed {

@@ -9,10 +9,11 @@ ghost use Rattle.as2_http.specs.Devices.{Opens};
 
 use crate::file_system::{FileSystem, StoreFiles};
 use crate::network::Sockets;
+use as2_desk::Lines;
 use as2_http::Counted;
 use sqlite_disk::Start;
 use sqlite_std_file::Unknown;
-use std::io::{Stdin, Stdout};
+use std::io::{LineWriter, Stderr, Stdin, Stdout};
 use std::marker::Brand;
 use std::process::ExitCode;
 use std::sync::ledger::{Blank, Ledger};
@@ -27,11 +28,12 @@ fn clock(rt: &HostRuntime) -> Option<u64> {
 }
 
 /// Runs the command line `words` over the file system, the network and the standard streams, with counts of the calls that are made of
-/// input and output. `start` stands for what the files of its store hold as they are opened. The exit status.
+/// input and output. `start` stands for what the files of its store hold as they are opened; hints and notes of replies go to `hints`. The exit status.
 fn run<S: Start, A: Ledger, B: Ledger, C: Ledger, D: Ledger>(
     rt: &HostRuntime,
     words: &[&str],
     start: S,
+    hints: &mut Lines<LineWriter<Stderr>>,
     reads: Blank,
     failed_reads: Blank,
     writes: Blank,
@@ -54,7 +56,7 @@ fn run<S: Start, A: Ledger, B: Ledger, C: Ledger, D: Ledger>(
         &Sockets { rt },
         &mut input,
         &mut output,
-        &mut rt.stderr(),
+        hints,
         &mut rt.stderr(),
     );
     if let Some((path, store)) = left {
@@ -76,10 +78,14 @@ fn main(rt: HostRuntime) -> io::Result<ExitCode> {
     for word in &words {
         texts.push(word.as_str())?;
     }
+    let mut hints = Lines {
+        inner: LineWriter::new(rt.alloc(), rt.stderr())?,
+    };
     let status = run::<Unknown, Brand, Brand, Brand, Brand>(
         &rt,
         texts.as_slice(),
         Unknown,
+        &mut hints,
         Blank::new(1),
         Blank::new(1),
         Blank::new(1),

@@ -11,7 +11,7 @@ use crate::links::Connections;
 use as2_agreement::Agreements;
 use as2_commands::Waits;
 use as2_desk::{CannotListen, Listens, Network};
-use as2_http::{Counted, Served, serve_stream};
+use as2_http::{Counted, Journal, Served, serve_stream};
 use as2_sockets::{Limits, TimedStream};
 use as2_station::Station;
 use as2_text::{Memory, Moment};
@@ -41,13 +41,14 @@ pub struct ListeningSocket<'a> {
 }
 
 /// Serves the requests of a connection, with counts of the calls that are made of it.
-fn serve_counted<S: Alter, A: Ledger, B: Ledger, C: Ledger, D: Ledger>(
+fn serve_counted<S: Alter, J: Journal, A: Ledger, B: Ledger, C: Ledger, D: Ledger>(
     alloc: Global,
     agreements: &Agreements,
     moment: Moment,
     station: &mut Station<S>,
     reader: Stream<'_>,
     writer: Stream<'_>,
+    journal: &mut J,
     reads: Blank,
     failed_reads: Blank,
     writes: Blank,
@@ -63,7 +64,15 @@ fn serve_counted<S: Alter, A: Ledger, B: Ledger, C: Ledger, D: Ledger>(
 {
     let mut source: Counted<Stream, A, B> = Counted::new(reader, reads, failed_reads);
     let mut sink: Counted<Stream, C, D> = Counted::new(writer, writes, failed_writes);
-    let end = serve_stream(alloc, agreements, moment, station, &mut source, &mut sink);
+    let end = serve_stream(
+        alloc,
+        agreements,
+        moment,
+        station,
+        &mut source,
+        &mut sink,
+        journal,
+    );
     if end == Served::BadFraming {
         // the peer may still be sending, and is to read why it was refused
         sink.into_inner().linger();
@@ -72,25 +81,27 @@ fn serve_counted<S: Alter, A: Ledger, B: Ledger, C: Ledger, D: Ledger>(
 }
 
 /// Serves the requests of a connection.
-fn serve_connection<S: Alter>(
+fn serve_connection<S: Alter, J: Journal>(
     alloc: Global,
     agreements: &Agreements,
     moment: Moment,
     station: &mut Station<S>,
     reader: Stream<'_>,
     writer: Stream<'_>,
+    journal: &mut J,
 ) -> Served
     ensures clean { HasCleanDisk (state S.Store station.new) → HasCleanDisk (state S.Store station.old) }
     ensures posts { HasCleanDisk (state S.Store station.new) → (s : State) → Rests (state S.Store station.old) s
         → (t : State) × Rests (state S.Store station.new) t × RunsPosts agreements.now moment s t }
 {
-    serve_counted::<S, Brand, Brand, Brand, Brand>(
+    serve_counted::<S, J, Brand, Brand, Brand, Brand>(
         alloc,
         agreements,
         moment,
         station,
         reader,
         writer,
+        journal,
         Blank::new(1),
         Blank::new(1),
         Blank::new(1),
@@ -116,12 +127,13 @@ impl Listens for ListeningSocket<'_> {
         }
     }
 
-    fn serve<S: Alter>(
+    fn serve<S: Alter, J: Journal>(
         &mut self,
         alloc: Global,
         agreements: &Agreements,
         moment: Option<Moment>,
         station: &mut Station<S>,
+        journal: &mut J,
     ) -> Served {
         let Ok((reader, writer)) = self.accept() else {
             return Served::ReadFault;
@@ -133,7 +145,7 @@ impl Listens for ListeningSocket<'_> {
                 None => return Served::ReadFault,
             },
         };
-        serve_connection(alloc, agreements, moment, station, reader, writer)
+        serve_connection(alloc, agreements, moment, station, reader, writer, journal)
     }
 }
 

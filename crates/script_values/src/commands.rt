@@ -85,7 +85,8 @@ fn say_with(answer: &mut Answer, word: &str, number: u64) {
 /// Answers with what is asked of the records.
 fn say_command(answer: &mut Answer, command: &Command<'_>) {
     match command {
-        Command::Post => answer.say("post"),
+        Command::Post(false) => answer.say("post"),
+        Command::Post(true) => answer.say("post, each reply noted"),
         Command::Submit(given) => say_submission(answer, given),
         Command::Send(waits) => say_with(answer, "send", waits.seconds),
         Command::Tick => answer.say("tick"),

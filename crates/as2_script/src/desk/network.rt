@@ -2,6 +2,7 @@
 use as2_agreement::Agreements;
 use as2_desk::{CannotListen, LinkFault, Links, Listens, Network, Served, Waits};
 use as2_exchange::{Job, TryAnswer};
+use as2_http::Journal;
 use as2_mic::Pieces;
 use as2_station::Station;
 use as2_text::{Head, Memory, Moment};
@@ -41,12 +42,13 @@ impl Listens for Peers<'_> {
         Ok(text)
     }
 
-    fn serve<S: Alter>(
+    fn serve<S: Alter, J: Journal>(
         &mut self,
         _alloc: Global,
         _agreements: &Agreements,
         _moment: Option<Moment>,
         _station: &mut Station<S>,
+        _journal: &mut J,
     ) -> Served {
         let (word, rest) = self.ends.split_once(" ").unwrap_or((self.ends, ""));
         self.ends = rest;

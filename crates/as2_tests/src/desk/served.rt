@@ -2,7 +2,7 @@
 ghost use Rattle.as2_http.specs.Devices.{Opens};
 
 use crate::texts::stage;
-use as2_http::{Counted, Served, serve_stream};
+use as2_http::{Counted, Served, Unnoted, serve_stream};
 use as2_text::Moment;
 use script_lines::{Answer, Trouble};
 use script_station::Stage;
@@ -60,6 +60,7 @@ impl Fixture {
             station,
             &mut source,
             &mut sink,
+            &mut Unnoted,
         );
         Ok((end, sink.into_inner()))
     }

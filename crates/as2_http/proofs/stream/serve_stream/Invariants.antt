@@ -3,6 +3,7 @@ use Rattle.sqlite.specs.Held.{state}
 use Rattle.sqlite.specs.State.{HasCleanDisk}
 use Rattle.as2_exchange.specs.State.{State}
 use Rattle.as2_store.specs.Stands.{Rests}
+use Rattle.as2_http.specs.Notes.{spoken}
 use Rattle.as2_http.specs.Parsing.{HasTaken}
 use Rattle.as2_http.specs.InputReads.{read_limit}
 use Rattle.as2_http.specs.StreamReads.{BetweenReads}
@@ -18,5 +19,5 @@ invariant-loop g l =
     × (g.W.Sink.failed l.fn.sink ≤ g.W.Sink.failed l.sink)
     × ((held : List ℕ) × HasTaken l.parser held)
     × (HasCleanDisk (state g.S.Store l.station) → (s : State) → Rests (state g.S.Store l.fn.station) s → (input : List ℕ) → g.R.Source.left l.fn.source ≡ Some input
-    → BetweenReads l.agreements l.moment s input l.parser (state g.S.Store l.station) (g.R.Source.left l.source) (g.W.Sink.written l.fn.sink) (g.W.Sink.written l.sink) (g.R.Source.calls l.fn.source) (g.R.Source.calls l.source))
+    → BetweenReads l.agreements l.moment s input l.parser (state g.S.Store l.station) (g.R.Source.left l.source) (spoken (g.W.Sink.written l.fn.sink) (g.J.Journal.noted l.fn.journal)) (spoken (g.W.Sink.written l.sink) (g.J.Journal.noted l.journal)) (g.R.Source.calls l.fn.source) (g.R.Source.calls l.source))
     × (HasCleanDisk (state g.S.Store l.station) → (s : State) → Rests (state g.S.Store l.fn.station) s → TakenSoFar l.agreements l.moment s (state g.S.Store l.station))
