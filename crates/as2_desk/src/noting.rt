@@ -23,6 +23,8 @@ impl<E: Write> Write for Lines<E> {
 }
 
 impl<E: Write> Journal for Lines<E> {
+    ghost use Rattle.std.specs.Prelude.{None};
+
     ghost noted = { λ _. None };
 
     fn note(&mut self, text: &[u8]) {
