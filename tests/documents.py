@@ -70,7 +70,7 @@ class Block:
         for i, (command, _) in enumerate(self.commands):
             script += f"echo '{MARK}{i}'\n{command}\n"
             if command.endswith("&"):
-                script += "sleep 2\n"  # until it listens
+                script += "sleep 1\n"  # until it listens
         self.shell = subprocess.Popen(["bash", "-c", script], cwd=folder, stdin=subprocess.DEVNULL, stdout=self.output,
                                       stderr=subprocess.STDOUT, start_new_session=True)
 
