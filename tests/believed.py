@@ -1,5 +1,5 @@
 #!/usr/bin/env python3
-"""Lists the files that a reader has to believe in order to believe what `play`, `step` and `post` say, with their lines: the statement,
+"""Lists the files that a reader has to believe in order to believe what `play`, `step` and `post` say, and `take` of the tables, with their lines: the statement,
 and what it imports, definitions in specs/ and the types that they name in src/, and so on. Compares that with the list in
 docs/THEOREM.md; the status is 1 where it differs. With `--write` it puts the list there."""
 
@@ -9,7 +9,7 @@ import sys
 
 TOP = pathlib.Path(__file__).resolve().parent.parent
 DOCUMENT = TOP / "docs" / "THEOREM.md"
-ROOTS = ["as2_station.specs.Theorem", "as2_station.specs.Traces"]
+ROOTS = ["as2_station.specs.Theorem", "as2_station.specs.Traces", "as2_instance.specs.Tables"]
 IMPORT = re.compile(r"^(?:pub )?use Rattle\.([\w.]+?)(?:\.\{[^}]*\})?(?: as \w+)?;?$", re.M)
 BEGIN, END = "<!-- list -->\n", "<!-- end of list -->\n"
 

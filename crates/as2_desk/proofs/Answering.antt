@@ -1,7 +1,7 @@
 -- What is told of what the station said.
 use Rattle.std.proofs.Common.{◌≡◌, ◌⊎◌, inl, inr, ◌∙◌, ℕ, List, Bool, true, false, not, Option, Some, None, Result, Ok, Err, IfErr, IfSome, option_map, refl, sym, ap, subst, if◌then◌else◌, is_some, nat_le, nat_lt, length}
 use Rattle.std.specs.Bool.{⊤}
-use Rattle.sqlite.specs.State.{State as Connected, HasCleanDisk}
+use Rattle.as2_records.specs.Standing.{Medium, Standing}
 use Rattle.as2_agreement.specs.Agreements.{AgreedValues}
 use Rattle.as2_exchange.specs.Agreement.{is_organization, partner_of}
 use Rattle.as2_exchange.specs.declared.event.Event.{Event}
@@ -18,12 +18,12 @@ use Rattle.as2_exchange.specs.declared.fault.StoreFault.TheVariants.{Full}
 use Rattle.as2_station.specs.Heads.{submit_refusal}
 use Rattle.as2_station.specs.Steps.{RefusesSubmit, TakesEvent}
 use Rattle.as2_station.specs.Traces.{said}
-use Rattle.as2_store.specs.Calls.{Reads}
-use Rattle.as2_store.specs.Stands.{Rests, may_come}
+use Rattle.as2_records.specs.Calls.{Reads}
+use Rattle.as2_records.specs.Standing.{may_come}
 use Rattle.as2_desk.specs.Questions.{FaultMayCome, Tells, Told, found_told, is_event, looked_up, number_told, read_told, told_by, told_by_step}
 use Rattle.as2_desk.specs.declared.asking.Question.{Question}
 use Rattle.as2_desk.specs.declared.refusal.CommandFault.TheVariants.{Station}
-use Rattle.as2_desk.specs.declared.stores.OpenFault.TheVariants as open_fault
+use Rattle.as2_host.specs.declared.stores.OpenFault.TheVariants as open_fault
 
 -- a number, or a refusal
 abbrev pub IsNumber : Answer → Type 0
@@ -64,10 +64,10 @@ pub submission_refused : {H : Type 0} (A : AgreedValues) (from to content : List
     → (reason : Refusal) → submit_refusal A from to content ≡ Some reason → number_told (said r) ≡ Err (Station reason)
 submission_refused A from to content m old new r refuses reason is = ap (λ (x : Result Answer StoreFault). number_told (said x)) (refuses.answer from to content m reason refl is)
 
-abbrev pub TellsFrom : AgreedValues → ℕ → Question → Connected → Connected → Told → Type 0
-TellsFrom A m q old new told = (s : State) → Rests old s → (t : State) × Rests new t × Tells A m q s t told
+abbrev pub TellsFrom : {M : Medium} → AgreedValues → ℕ → Question → Standing M → Standing M → Told → Type 0
+TellsFrom A m q old new told = (s : State) → old.Rests s → (t : State) × new.Rests t × Tells A m q s t told
 
-module _ (A : AgreedValues) (m : ℕ) (q : Question) (old new : Connected) (clean : HasCleanDisk new) where
+module _ {M : Medium} (A : AgreedValues) (m : ℕ) (q : Question) (old new : Standing M) (clean : new.IsClean) where
   -- a text of the state
   pub read : {V : Type 0} (text : V → List ℕ) (view : State → List ℕ) → ((s : State) → told_by A m q s ≡ Some (Ok (view s), s))
       → (r : Result V StoreFault) → Reads (λ s v. text v ≡ view s) old new r → IfErr r (λ f. may_come f ≡ true) → TellsFrom A m q old new (read_told text r)

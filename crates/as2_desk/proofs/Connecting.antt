@@ -3,11 +3,10 @@ use Rattle.std.proofs.Common.{◌≡◌, ◌<◌, ◌≤◌, ◌+◌, ◌∙◌,
 use Rattle.std.proofs.lemmas.Grind.{flat_map-append}
 use Rattle.std.proofs.KnownBytes.{Appends-nil, Appends-trans}
 use Rattle.std.specs.Io.KnownBytes.{Appends}
-use Rattle.sqlite.specs.State.{State as Connected, HasCleanDisk}
+use Rattle.as2_records.specs.Standing.{Medium, Standing}
 use Rattle.as2_agreement.specs.Agreements.{AgreedValues}
 use Rattle.as2_exchange.specs.State.{State}
 use Rattle.as2_http.specs.declared.stream.Served.{Served}
-use Rattle.as2_store.specs.Stands.{Rests}
 use Rattle.as2_commands.specs.Requests.{Serving}
 use Rattle.as2_desk.proofs.HandedBack.{each_known}
 use Rattle.as2_desk.specs.Endings.{Ends}
@@ -15,17 +14,18 @@ use Rattle.as2_desk.specs.Refusals.{error_line}
 use Rattle.as2_desk.specs.Statuses.{done, refused}
 use Rattle.as2_desk.specs.declared.refusal.CommandFault.TheVariants.{CannotWrite}
 use Rattle.as2_desk.specs.declared.status.Ran.{Ran}
-use Rattle.as2_desk.specs.Connections.{ServesCount, listening_line, ServesConnections, ServesEach, ServesNext, ServesOne, connection_line, connection_lines}
+use Rattle.as2_desk.specs.Connections.{ServesCount, listening_line, ServesConnections, ServesEach, ServesNext, connection_line, connection_lines}
+use Rattle.as2_host.specs.Serving.{ServesOne}
 
 -- n connections were served, and their lines written
-pub record HasServed (A : AgreedValues) (given : Option ℕ) (n : ℕ) (old new : Connected) (written now : Option (List ℕ)) : Type 0 where
-  pub clean : HasCleanDisk new → HasCleanDisk old
+pub record HasServed {M : Medium} (A : AgreedValues) (given : Option ℕ) (n : ℕ) (old new : Standing M) (written now : Option (List ℕ)) : Type 0 where
+  pub clean : new.IsClean → old.IsClean
   pub ends : List Served
   pub all : length ends ≡ n
-  pub serves : HasCleanDisk new → (s : State) → Rests old s → (t : State) × Rests new t × ServesEach A given ends s t
+  pub serves : new.IsClean → (s : State) → old.Rests s → (t : State) × new.Rests t × ServesEach A given ends s t
   pub lines : Appends written now (connection_lines ends)
 
-pub none_served : (A : AgreedValues) (given : Option ℕ) (c : Connected) (written : Option (List ℕ)) → HasServed A given 0 c c written written
+pub none_served : {M : Medium} (A : AgreedValues) (given : Option ℕ) (c : Standing M) (written : Option (List ℕ)) → HasServed A given 0 c c written written
 none_served A given c written = record { clean = λ h. h; ends = []; all = refl; serves = λ clean s rests. (s, rests, refl); lines = Appends-nil written }
 
 serves_more : (A : AgreedValues) (given : Option ℕ) (ends : List Served) (end : Served) (s mid t : State) → ServesEach A given ends s mid → ServesOne A given mid t → ServesEach A given (ends ++ end ∷ []) s t
@@ -35,9 +35,9 @@ serves_more A given (e ∷ ends) end s mid t each one = (each.0, each.1, serves_
 lines_more : (ends : List Served) (end : Served) → connection_lines (ends ++ end ∷ []) ≡ connection_lines ends ++ connection_line end
 lines_more ends end = flat_map-append connection_line ends (end ∷ []) ∙ ap (λ (x : List ℕ). connection_lines ends ++ x) (append-nil (connection_line end))
 
-module _ (A : AgreedValues) (given : Option ℕ) (n : ℕ) (old mid new : Connected) (w x y : Option (List ℕ)) (so_far : HasServed A given n old mid w x) (clean : HasCleanDisk new → HasCleanDisk mid) where
-  with_next : {V F : Type 0} (r : Result V F) (next : ServesNext A given mid new x y r) → HasCleanDisk new → (s : State) → Rests old s
-      → (t : State) × Rests new t × ServesEach A given (so_far.ends ++ next.end ∷ []) s t
+module _ {M : Medium} (A : AgreedValues) (given : Option ℕ) (n : ℕ) (old mid new : Standing M) (w x y : Option (List ℕ)) (so_far : HasServed A given n old mid w x) (clean : new.IsClean → mid.IsClean) where
+  with_next : {V F : Type 0} (r : Result V F) (next : ServesNext A given mid new x y r) → new.IsClean → (s : State) → old.Rests s
+      → (t : State) × new.Rests t × ServesEach A given (so_far.ends ++ next.end ∷ []) s t
   with_next r next is_clean s rests =
       let before = so_far.serves (clean is_clean) s rests in
       let after = next.serves is_clean before.0 before.1 in
@@ -69,7 +69,7 @@ module _ (A : AgreedValues) (given : Option ℕ) (n : ℕ) (old mid new : Connec
   cut count f (Ok v) fails below next = absurd cc
   cut count f (Err g) fails below next = cut_at count f g below next
 
-pub all_served : {V F : Type 0} (A : AgreedValues) (given : Option ℕ) (n count : ℕ) (old new : Connected) (w x : Option (List ℕ)) (v : V) → n ≡ count → HasServed A given n old new w x
+pub all_served : {M : Medium} {V F : Type 0} (A : AgreedValues) (given : Option ℕ) (n count : ℕ) (old new : Standing M) (w x : Option (List ℕ)) (v : V) → n ≡ count → HasServed A given n old new w x
     → ServesConnections {V = V} {F = F} A given count old new w x (Ok v)
 all_served A given n count old new w x v is so_far = record {
   clean = so_far.clean;
@@ -87,16 +87,16 @@ pub behind_ok : {V F : Type 0} (a b d : Option (List ℕ)) (xs ys zs : List ℕ)
 behind_ok a b d xs ys zs (Ok v) is first then = Appends-trans a b d xs zs first (subst (Appends b d) is then)
 behind_ok a b d xs ys zs (Err f) is first then = tt
 
-module _ (A : AgreedValues) (serving : Serving) (given : Option ℕ) (count : ℕ) (known : Option State) (Unwritten : Type 0) (old new : Connected)
+module _ {M : Medium} (A : AgreedValues) (serving : Serving) (given : Option ℕ) (count : ℕ) (known : Option State) (Unwritten : Type 0) (old new : Standing M)
     (written now : Option (List ℕ)) (Said : List ℕ → Type 0) (ran : Ran) (address : List ℕ) (is_given : given ≡ serving.moment) (is_count : count ≡ serving.count)
-    (stood : IfSome known (λ s. HasCleanDisk new × Rests old s)) where
+    (stood : IfSome known (λ s. new.IsClean × old.Rests s)) where
   each : {V F : Type 0} (r : Result V F) (all : ServesConnections {V = V} {F = F} A given count old new written now r)
-      → IfSome known (λ s. (t : State) × Rests new t × ServesEach A serving.moment all.ends s t)
+      → IfSome known (λ s. (t : State) × new.Rests t × ServesEach A serving.moment all.ends s t)
   each r all = each_known _ _ known stood (λ s it.
-      subst (λ (m : Option ℕ). (t : State) × Rests new t × ServesEach A m all.ends s t) is_given (all.serves it.0 s it.1))
+      subst (λ (m : Option ℕ). (t : State) × new.Rests t × ServesEach A m all.ends s t) is_given (all.serves it.0 s it.1))
 
   pub all_told : {V F : Type 0} (v : V) → ServesConnections {V = V} {F = F} A given count old new written now (Ok v) → Ends done (listening_line address) Said ran
-      → ServesCount A serving known Unwritten (λ t. Rests new t) written now Said ran
+      → ServesCount A serving known Unwritten (λ t. new.Rests t) written now Said ran
   all_told v all told = record {
     ends = all.ends;
     serves = each (Ok v) all;
@@ -104,7 +104,7 @@ module _ (A : AgreedValues) (serving : Serving) (given : Option ℕ) (count : �
   }
 
   pub cut_told : {V F : Type 0} (r : Result V F) → ServesConnections {V = V} {F = F} A given count old new written now r → Ends refused (listening_line address ++ error_line CannotWrite) Said ran
-      → ServesCount A serving known Unwritten (λ t. Rests new t) written now Said ran
+      → ServesCount A serving known Unwritten (λ t. new.Rests t) written now Said ran
   cut_told r all told = record {
     ends = all.ends;
     serves = each r all;

@@ -6,22 +6,15 @@ use Rattle.std.specs.List.{flat_map}
 use Rattle.std.specs.Io.KnownBytes.{Appends}
 use Rattle.as2_agreement.specs.Agreements.{AgreedValues}
 use Rattle.as2_exchange.specs.State.{State}
-use Rattle.as2_http.specs.StreamReads.{RunsPosts}
+use Rattle.as2_host.specs.Serving.{ServesOne}
 use Rattle.as2_http.specs.declared.stream.Served.{Served}
-use Rattle.as2_store.specs.Stands.{Rests}
-use Rattle.sqlite.specs.State.{State as Connected, HasCleanDisk}
+use Rattle.as2_records.specs.Standing.{Medium, Standing}
 use Rattle.as2_desk.specs.Endings.{Ends, EndsRefused}
 use Rattle.as2_desk.specs.Refusals.{error_line}
 use Rattle.as2_commands.specs.Requests.{Serving}
 use Rattle.as2_desk.specs.Statuses.{done, end_name, refused}
 use Rattle.as2_desk.specs.declared.refusal.CommandFault.TheVariants.{CannotListen, CannotWrite, Memory}
 use Rattle.as2_desk.specs.declared.status.Ran.{Ran}
-
--- posts at one moment, and nothing else, led the machine from s to t; it is that moment where one is given
-pub record ServesOne (A : AgreedValues) (given : Option ℕ) (s t : State) : Type 0 where
-  pub moment : ℕ
-  pub is_given : IfSome given (λ m. moment ≡ m)
-  pub posts : RunsPosts A moment s t
 
 -- a connection for each of these ends
 abbrev pub ServesEach : AgreedValues → Option ℕ → List Served → State → State → Type 0
@@ -40,17 +33,17 @@ abbrev pub listening_line : List ℕ → List ℕ
 listening_line address = codes "listening: " ++ (address ++ codes "\n")
 
 -- One more connection was served, which ended so, and its line was written where it could be.
-pub record ServesNext {V F : Type 0} (A : AgreedValues) (given : Option ℕ) (old new : Connected) (written now : Option (List ℕ)) (r : Result V F) : Type 0 where
+pub record ServesNext {M : Medium} {V F : Type 0} (A : AgreedValues) (given : Option ℕ) (old new : Standing M) (written now : Option (List ℕ)) (r : Result V F) : Type 0 where
   pub end : Served
-  pub serves : HasCleanDisk new → (s : State) → Rests old s → (t : State) × Rests new t × ServesOne A given s t
+  pub serves : new.IsClean → (s : State) → old.Rests s → (t : State) × new.Rests t × ServesOne A given s t
   pub line : OnOk r (Appends written now (connection_line end))
 
 -- Connections with these ends were served, one after the other: as many as that, and a line written for each, or fewer where a line
 -- couldn't be written.
-pub record ServesConnections {V F : Type 0} (A : AgreedValues) (given : Option ℕ) (count : ℕ) (old new : Connected) (written now : Option (List ℕ)) (r : Result V F) : Type 0 where
-  pub clean : HasCleanDisk new → HasCleanDisk old
+pub record ServesConnections {M : Medium} {V F : Type 0} (A : AgreedValues) (given : Option ℕ) (count : ℕ) (old new : Standing M) (written now : Option (List ℕ)) (r : Result V F) : Type 0 where
+  pub clean : new.IsClean → old.IsClean
   pub ends : List Served
-  pub serves : HasCleanDisk new → (s : State) → Rests old s → (t : State) × Rests new t × ServesEach A given ends s t
+  pub serves : new.IsClean → (s : State) → old.Rests s → (t : State) × new.Rests t × ServesEach A given ends s t
   pub within : length ends ≤ count
   pub all : OnOk r (length ends ≡ count)
   pub lines : OnOk r (Appends written now (connection_lines ends))

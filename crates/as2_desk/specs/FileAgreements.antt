@@ -3,7 +3,7 @@ use Rattle.std.specs.Prelude.{◌≡◌, ◌⊎◌, ℕ, List, Result, Ok, Err, 
 use Rattle.as2_agreement.specs.Agreements.{AgreedValues}
 use Rattle.as2_agreement.specs.Reading.{reading}
 use Rattle.as2_agreement.specs.declared.fault.AgreementFault.TheVariants as fault
-use Rattle.as2_desk.specs.FileContents.{Content, untold, unreadable, file}
+use Rattle.as2_host.specs.FileContents.{Content, untold, unreadable, file}
 use Rattle.as2_desk.specs.declared.refusal.CommandFault.{CommandFault}
 use Rattle.as2_desk.specs.declared.refusal.CommandFault.TheVariants as refusal
 

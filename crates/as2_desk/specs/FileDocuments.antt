@@ -1,6 +1,6 @@
 -- Which document a file has, or why it has none.
 use Rattle.std.specs.Prelude.{◌≡◌, ℕ, List, Result, Ok, Err, ⊤}
-use Rattle.as2_desk.specs.FileContents.{Content, untold, unreadable, file}
+use Rattle.as2_host.specs.FileContents.{Content, untold, unreadable, file}
 use Rattle.as2_desk.specs.declared.refusal.CommandFault.{CommandFault}
 use Rattle.as2_desk.specs.declared.refusal.CommandFault.TheVariants.{CannotRead, Memory}
 

@@ -5,9 +5,9 @@ pub mod Places
 pub mod Refusals
 pub mod Stores
 pub mod Endings
-pub mod FileContents
 pub mod FileAgreements
 pub mod FileDocuments
+pub mod Observed
 pub mod Checks
 pub mod Posting
 pub mod Questions

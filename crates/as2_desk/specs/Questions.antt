@@ -16,7 +16,7 @@ use Rattle.as2_exchange.specs.declared.fault.StoreFault.TheVariants as store_fau
 use Rattle.as2_exchange.specs.Run.{Said as Saying, Answered, Failed}
 use Rattle.as2_exchange.specs.declared.fault.StoreFault.{StoreFault}
 use Rattle.as2_station.specs.Heads.{submit_refusal}
-use Rattle.as2_store.specs.Stands.{may_come}
+use Rattle.as2_records.specs.Standing.{may_come}
 use Rattle.as2_views.specs.Filtering.{listing}
 use Rattle.as2_desk.specs.Endings.{Ends, EndsRefused}
 use Rattle.as2_desk.specs.Statuses.{done}
@@ -27,7 +27,7 @@ use Rattle.as2_desk.specs.declared.asking.Question.TheVariants.{Submit, Tick, Li
 use Rattle.as2_desk.specs.declared.refusal.CommandFault.{CommandFault}
 use Rattle.as2_desk.specs.declared.refusal.CommandFault.TheVariants.{CannotWrite, Station, Store}
 use Rattle.as2_desk.specs.declared.status.Ran.{Ran}
-use Rattle.as2_desk.specs.declared.stores.OpenFault.TheVariants as open_fault
+use Rattle.as2_host.specs.declared.stores.OpenFault.TheVariants as open_fault
 
 -- a number in decimal digits, and LF
 abbrev pub number_line : ℕ → List ℕ

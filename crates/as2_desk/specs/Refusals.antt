@@ -11,8 +11,8 @@ use Rattle.as2_desk.specs.Statuses.{end_name, failed, refused}
 use Rattle.as2_http.specs.declared.stream.Served.{Served}
 use Rattle.as2_http.specs.declared.stream.Served.TheVariants as end
 use Rattle.as2_desk.specs.declared.refusal.CommandFault.{CommandFault}
-use Rattle.as2_desk.specs.declared.stores.OpenFault.{OpenFault}
-use Rattle.as2_desk.specs.declared.stores.OpenFault.TheVariants.{Held, Store}
+use Rattle.as2_host.specs.declared.stores.OpenFault.{OpenFault}
+use Rattle.as2_host.specs.declared.stores.OpenFault.TheVariants.{Held, Store}
 use Rattle.as2_desk.specs.declared.refusal.CommandFault.TheVariants as refusal
 
 -- `refused: NAME`

@@ -9,7 +9,7 @@ use Rattle.as2_sending.specs.Turns.{Sends}
 use Rattle.as2_sending.specs.declared.sent.Sent.{Sent}
 use Rattle.as2_sending.specs.declared.sent.Sent.TheVariants as sent
 use Rattle.as2_desk.specs.declared.status.Ran.{Ran}
-use Rattle.as2_desk.specs.declared.stores.OpenFault.TheVariants as open_fault
+use Rattle.as2_host.specs.declared.stores.OpenFault.TheVariants as open_fault
 
 -- nothing is said where nothing more is due; else one line says why it isn't done
 abbrev pub TellsSent : Sent → (List ℕ → Type 0) → Ran → Type 0

@@ -1,13 +1,12 @@
--- What a command does over a store. Of the streams these are told: what the reader had left and has
--- left (before, after) and how many calls were made of it (calls, later), that nothing was read (Unread) or written (Unwritten), what standard output held and holds (written, now),
--- and which text was written on standard error (Said); and for which states the tables stand of the store then (Left).
+-- What a command does over the store.
 use Rattle.std.specs.Prelude.{◌≡◌, ◌+◌, ℕ, List, Option, Result, Ok, Err, ⊤}
 use Rattle.as2_agreement.specs.Agreements.{AgreedValues}
 use Rattle.as2_exchange.specs.State.{State, content_limit}
 use Rattle.as2_desk.specs.Connections.{ServesCount}
 use Rattle.as2_http.specs.Notes.{spoken}
-use Rattle.as2_desk.specs.FileContents.{Content, front}
+use Rattle.as2_host.specs.FileContents.{Content, front}
 use Rattle.as2_desk.specs.FileDocuments.{Document, HasDocument}
+use Rattle.as2_desk.specs.Observed.{Observed}
 use Rattle.as2_desk.specs.Posting.{Posts}
 use Rattle.as2_desk.specs.Questions.{Asks}
 use Rattle.as2_desk.specs.SendingDue.{SendsDue}
@@ -42,12 +41,12 @@ IsWork contents (command.Fetch n) begun = begun ≡ Ok (work.Ask (Fetch n))
 IsWork contents (command.Serve serving) begun = begun ≡ Ok (work.Serve serving)
 
 -- it is done, at this moment; no other command than `post` reads the input
-abbrev pub Does : AgreedValues → ℕ → Work → Option State → Option (List ℕ) → Option (List ℕ) → ℕ → ℕ → Type 0 → Type 0 → (State → Type 0) → Option (List ℕ) → Option (List ℕ) → (List ℕ → Type 0) → Ran → Type 0
-Does agreements moment (work.Post logs) known before after calls later Unread Unwritten Left written now Said ran =
-    (noted new : Option (List ℕ)) × Posts agreements moment known before after calls later Left (spoken written noted) (spoken now new) Said ran
-Does agreements moment (work.Ask question) known before after calls later Unread Unwritten Left written now Said ran = Unread × Asks agreements moment question known Unwritten Left written now Said ran
-Does agreements moment (work.Send waits) known before after calls later Unread Unwritten Left written now Said ran = Unread × SendsDue agreements moment known Left written now Said ran
-Does agreements moment (work.Serve serving) known before after calls later Unread Unwritten Left written now Said ran = Unread × ServesCount agreements serving known Unwritten Left written now Said ran
+abbrev pub Does : AgreedValues → ℕ → Work → Option State → Observed → Ran → Type 0
+Does agreements moment (work.Post logs) known o ran =
+    (noted new : Option (List ℕ)) × Posts agreements moment known o.before o.after o.calls o.later o.Left (spoken o.written noted) (spoken o.now new) o.Said ran
+Does agreements moment (work.Ask question) known o ran = o.Unread × Asks agreements moment question known o.Unwritten o.Left o.written o.now o.Said ran
+Does agreements moment (work.Send waits) known o ran = o.Unread × SendsDue agreements moment known o.Left o.written o.now o.Said ran
+Does agreements moment (work.Serve serving) known o ran = o.Unread × ServesCount agreements serving known o.Unwritten o.Left o.written o.now o.Said ran
 
 -- it sends
 abbrev pub SendsWork : Work → Type 0

@@ -2,9 +2,9 @@
 ghost use Rattle.std.specs.Prelude.{◌≡◌};
 ghost use Rattle.as2_desk.specs.FileAgreements.{BytesGive, Opens};
 
-use crate::files::{FileFault, ReadFiles};
 use crate::refusal::CommandFault;
 use as2_agreement::{AgreementFault, Agreements, Place, Unknown};
+use as2_host::{FileFault, ReadFiles};
 use std::alloc::Global;
 
 /// The agreements of a file's bytes.

@@ -1,30 +1,27 @@
 //! What is asked of the station once, and what is printed of its answer.
 ghost use Rattle.std.specs.Prelude.{◌≡◌, ◌⊎◌, OnOk, Option, Some, Err, IfSome, string_bytes};
 ghost use Rattle.std.specs.Io.KnownBytes.{Appends};
-ghost use Rattle.sqlite.specs.Held.{state};
-ghost use Rattle.sqlite.specs.State.{HasCleanDisk};
 ghost use Rattle.as2_exchange.specs.State.{State};
 ghost use Rattle.as2_exchange.specs.declared.answer.Refusal.{Refusal as TheRefusal};
-ghost use Rattle.as2_store.specs.Stands.{Rests};
 ghost use Rattle.as2_station.specs.Traces.{said as saying};
 ghost use Rattle.as2_desk.specs.Endings.{EndsRefused};
 ghost use Rattle.as2_desk.specs.Questions.{Asks, FaultMayCome, Prints, Tells, looked_up, number_line, number_told, printed_text, read_told, refusal_to, told_as};
 ghost use Rattle.as2_desk.specs.Statuses.{done, failed, refused};
 ghost use Rattle.as2_desk.specs.declared.refusal.CommandFault.TheVariants.{Station as Refusing, Store as Failing};
-ghost use Rattle.as2_desk.specs.declared.stores.OpenFault.{OpenFault as TheFault};
+ghost use Rattle.as2_host.specs.declared.stores.OpenFault.{OpenFault as TheFault};
 
 use crate::refusal::{CommandFault, refuse};
 use crate::status::{DONE, Ran};
-use crate::stores::OpenFault;
 use as2_agreement::Agreements;
 use as2_exchange::{Answer, Event, Refusal, StoreFault};
+use as2_host::OpenFault;
 use as2_http::{DeviceFault, Sink, push_all};
 use as2_mic::Pieces;
+use as2_records::Records;
 use as2_station::Station;
 use as2_text::{AsName, Moment};
 use as2_views::Filter;
 use itoa::Buffer;
-use sqlite::Alter;
 use std::alloc::Global;
 use std::io::Write;
 
@@ -105,18 +102,18 @@ fn fetched_told(said: Result<Option<Vec<u8>>, StoreFault>) -> Result<Printed, Co
 }
 
 /// Asks the station once.
-fn answer<S: Alter>(
+fn answer<K: Records>(
     alloc: Global,
     agreements: &Agreements,
     moment: Moment,
-    station: &mut Station<S>,
+    station: &mut Station<K>,
     question: Question,
 ) -> Result<Printed, CommandFault>
     ensures refused { (reason : TheRefusal) → refusal_to agreements.now question ≡ Some reason → told_as result ≡ Err (Refusing reason) }
     ensures fault { FaultMayCome question (told_as result) }
-    ensures clean { HasCleanDisk (state S.Store station.new) → HasCleanDisk (state S.Store station.old) }
-    ensures tells { HasCleanDisk (state S.Store station.new) → (s : State) → Rests (state S.Store station.old) s
-        → (t : State) × Rests (state S.Store station.new) t × Tells agreements.now moment question s t (told_as result) }
+    ensures clean { (K.shows station.new).IsClean → (K.shows station.old).IsClean }
+    ensures tells { (K.shows station.new).IsClean → (s : State) → (K.shows station.old).Rests s
+        → (t : State) × (K.shows station.new).Rests t × Tells agreements.now moment question s t (told_as result) }
 {
     match question {
         Question::Submit { from, to, content } => {
@@ -137,19 +134,19 @@ fn answer<S: Alter>(
 }
 
 /// Asks the station once, and prints its answer.
-pub(crate) fn ask<S: Alter, W: Sink, E: Write>(
+pub(crate) fn ask<K: Records, W: Sink, E: Write>(
     alloc: Global,
     agreements: &Agreements,
     moment: Moment,
-    station: &mut Station<S>,
+    station: &mut Station<K>,
     question: Question,
     output: &mut W,
     errors: &mut E,
 ) -> Ran
     ensures status { (result.status ≡ done) ⊎ ((result.status ≡ refused) ⊎ (result.status ≡ failed)) }
-    ensures clean { HasCleanDisk (state S.Store station.new) → HasCleanDisk (state S.Store station.old) }
-    ensures asks { (known : Option State) → IfSome known (λ s. HasCleanDisk (state S.Store station.new) × Rests (state S.Store station.old) s)
-        → Asks agreements.now moment question known (output.new ≡ output.old) (λ t. Rests (state S.Store station.new) t)
+    ensures clean { (K.shows station.new).IsClean → (K.shows station.old).IsClean }
+    ensures asks { (known : Option State) → IfSome known (λ s. (K.shows station.new).IsClean × (K.shows station.old).Rests s)
+        → Asks agreements.now moment question known (output.new ≡ output.old) (λ t. (K.shows station.new).Rests t)
         (W.written output.old) (W.written output.new) (Appends (E.contents errors.old) (E.contents errors.new)) result }
     ensures store { result.status ≡ failed → (output.new ≡ output.old)
         × ((fault : TheFault) × EndsRefused (Failing fault) (Appends (E.contents errors.old) (E.contents errors.new)) result) }

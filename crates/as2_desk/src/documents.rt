@@ -1,13 +1,13 @@
 //! Documents in files.
 ghost use Rattle.std.specs.Prelude.{◌≡◌, ◌+◌, IfErr, IfOk};
 ghost use Rattle.as2_exchange.specs.State.{content_limit};
-ghost use Rattle.as2_desk.specs.FileContents.{front};
+ghost use Rattle.as2_host.specs.FileContents.{front};
 ghost use Rattle.as2_desk.specs.FileDocuments.{HasDocument};
 ghost use Rattle.as2_desk.specs.declared.refusal.CommandFault.TheVariants.{Memory};
 
-use crate::files::{FileFault, ReadFiles};
 use crate::refusal::CommandFault;
 use as2_exchange::CONTENT_LIMIT;
+use as2_host::{FileFault, ReadFiles};
 use as2_mic::Pieces;
 use std::alloc::Global;
 

@@ -1,10 +1,7 @@
 //! The command `post`: the requests of standard input, answered.
-ghost use Rattle.std.specs.Prelude.{◌≡◌, ◌⊎◌, ℕ, List, Option, Some, IfSome};
+ghost use Rattle.std.specs.Prelude.{◌≡◌, ◌⊎◌, ℕ, List, Option, Some, IfSome, false};
 ghost use Rattle.std.specs.Io.KnownBytes.{Appends};
-ghost use Rattle.sqlite.specs.Held.{state};
-ghost use Rattle.sqlite.specs.State.{HasCleanDisk};
 ghost use Rattle.as2_exchange.specs.State.{State};
-ghost use Rattle.as2_store.specs.Stands.{Rests};
 ghost use Rattle.as2_desk.specs.Endings.{Ends};
 ghost use Rattle.as2_http.specs.Notes.{spoken};
 ghost use Rattle.as2_http.specs.StreamReads.{RunsPosts, Serves};
@@ -16,31 +13,32 @@ use crate::refusal::{CommandFault, refuse};
 use crate::status::{DONE, Ran};
 use as2_agreement::Agreements;
 use as2_http::{Journal, Served, Sink, Source, Unnoted, serve_stream};
+use as2_records::Records;
 use as2_station::Station;
 use as2_text::Moment;
-use sqlite::Alter;
 use std::alloc::Global;
 use std::io::Write;
 
 /// Answers the requests of the input; the replies are noted where that is asked for.
-fn serve_input<S: Alter, R: Source, W: Sink, H: Journal>(
+fn serve_input<K: Records, R: Source, W: Sink, H: Journal>(
     alloc: Global,
     agreements: &Agreements,
     moment: Moment,
-    station: &mut Station<S>,
+    station: &mut Station<K>,
     logs: bool,
     input: &mut R,
     output: &mut W,
     hints: &mut H,
 ) -> Served
-    ensures clean { HasCleanDisk (state S.Store station.new) → HasCleanDisk (state S.Store station.old) }
-    ensures serves { HasCleanDisk (state S.Store station.new) → (s : State) → Rests (state S.Store station.old) s
-        → (text : List ℕ) → R.left input.old ≡ Some text → (t : State) × Rests (state S.Store station.new) t
+    ensures clean { (K.shows station.new).IsClean → (K.shows station.old).IsClean }
+    ensures serves { (K.shows station.new).IsClean → (s : State) → (K.shows station.old).Rests s
+        → (text : List ℕ) → R.left input.old ≡ Some text → (t : State) × (K.shows station.new).Rests t
         × Serves agreements.now moment s t text (R.left input.new)
         (spoken (W.written output.old) (if_noted logs (H.noted hints.old))) (spoken (W.written output.new) (if_noted logs (H.noted hints.new)))
         (R.calls input.old) (R.calls input.new) result }
-    ensures posts { HasCleanDisk (state S.Store station.new) → (s : State) → Rests (state S.Store station.old) s
-        → (t : State) × Rests (state S.Store station.new) t × RunsPosts agreements.now moment s t }
+    ensures posts { (K.shows station.new).IsClean → (s : State) → (K.shows station.old).Rests s
+        → (t : State) × (K.shows station.new).Rests t × RunsPosts agreements.now moment s t }
+    ensures silent { logs ≡ false → hints.new ≡ hints.old }
 {
     if logs {
         return serve_stream(alloc, agreements, moment, station, input, output, hints);
@@ -57,11 +55,11 @@ fn serve_input<S: Alter, R: Source, W: Sink, H: Journal>(
 }
 
 /// Answers the requests of the input.
-pub(crate) fn post<S: Alter, R: Source, W: Sink, H: Journal, E: Write>(
+pub(crate) fn post<K: Records, R: Source, W: Sink, H: Journal, E: Write>(
     alloc: Global,
     agreements: &Agreements,
     moment: Moment,
-    station: &mut Station<S>,
+    station: &mut Station<K>,
     logs: bool,
     input: &mut R,
     output: &mut W,
@@ -69,12 +67,13 @@ pub(crate) fn post<S: Alter, R: Source, W: Sink, H: Journal, E: Write>(
     errors: &mut E,
 ) -> Ran
     ensures status { (result.status ≡ done) ⊎ (result.status ≡ refused) }
-    ensures clean { HasCleanDisk (state S.Store station.new) → HasCleanDisk (state S.Store station.old) }
-    ensures posts { (known : Option State) → IfSome known (λ s. HasCleanDisk (state S.Store station.new) × Rests (state S.Store station.old) s)
+    ensures clean { (K.shows station.new).IsClean → (K.shows station.old).IsClean }
+    ensures posts { (known : Option State) → IfSome known (λ s. (K.shows station.new).IsClean × (K.shows station.old).Rests s)
         → Posts agreements.now moment known (R.left input.old) (R.left input.new) (R.calls input.old) (R.calls input.new)
-        (λ t. Rests (state S.Store station.new) t)
+        (λ t. (K.shows station.new).Rests t)
         (spoken (W.written output.old) (if_noted logs (H.noted hints.old))) (spoken (W.written output.new) (if_noted logs (H.noted hints.new)))
         (Appends (E.contents errors.old) (E.contents errors.new)) result }
+    ensures silent { logs ≡ false → hints.new ≡ hints.old }
 {
     let end = serve_input(
         alloc, agreements, moment, station, logs, input, output, hints,

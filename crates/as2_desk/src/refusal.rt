@@ -5,12 +5,12 @@ ghost use Rattle.as2_desk.specs.Refusals.{agreements_line, error_line, refusal_n
 ghost use Rattle.as2_desk.specs.Endings.{EndsRefused};
 ghost use Rattle.as2_desk.specs.Statuses.{failed, refused};
 ghost use Rattle.as2_desk.specs.declared.refusal.CommandFault.TheVariants.{Store as Failing};
-ghost use Rattle.as2_desk.specs.declared.stores.OpenFault.{OpenFault as TheFault};
+ghost use Rattle.as2_host.specs.declared.stores.OpenFault.{OpenFault as TheFault};
 
 use crate::status::{FAILED, REFUSED, Ran, end_name};
-use crate::stores::OpenFault;
 use as2_agreement::AgreementFault;
 use as2_exchange::{Refusal, StoreFault};
+use as2_host::OpenFault;
 use as2_http::Served;
 use std::io;
 use std::io::Write;

@@ -1,43 +1,40 @@
 //! The command `send`: what is due is sent.
 ghost use Rattle.std.specs.Prelude.{◌≡◌, ◌⊎◌, Option, IfSome};
 ghost use Rattle.std.specs.Io.KnownBytes.{Appends};
-ghost use Rattle.sqlite.specs.Held.{state};
-ghost use Rattle.sqlite.specs.State.{HasCleanDisk};
 ghost use Rattle.as2_exchange.specs.State.{State};
-ghost use Rattle.as2_store.specs.Stands.{Rests};
 ghost use Rattle.as2_desk.specs.Endings.{EndsRefused};
 ghost use Rattle.as2_desk.specs.SendingDue.{SendsDue, TellsSent};
 ghost use Rattle.as2_desk.specs.Statuses.{done, failed, refused};
 ghost use Rattle.as2_desk.specs.declared.refusal.CommandFault.TheVariants.{Store as Failing};
-ghost use Rattle.as2_desk.specs.declared.stores.OpenFault.{OpenFault as TheFault};
+ghost use Rattle.as2_host.specs.declared.stores.OpenFault.{OpenFault as TheFault};
 
 use crate::refusal::{CommandFault, refuse};
 use crate::status::{DONE, Ran};
-use crate::stores::OpenFault;
 use as2_agreement::Agreements;
+use as2_host::OpenFault;
 use as2_http::Sink;
+use as2_records::Records;
 use as2_sending::{Links, Sent, send};
 use as2_station::Station;
 use as2_text::Moment;
-use sqlite::Alter;
 use std::alloc::Global;
 use std::io::Write;
 
 /// Sends what is due, over these links.
-pub(crate) fn send_due<S: Alter, L: Links, W: Sink, H: Write, E: Write>(
+pub(crate) fn send_due<K: Records, L: Links, W: Sink, H: Write, E: Write>(
     alloc: Global,
     agreements: &Agreements,
     moment: Moment,
-    station: &mut Station<S>,
+    station: &mut Station<K>,
     links: &mut L,
     output: &mut W,
     hints: &mut H,
     errors: &mut E,
 ) -> Ran
     ensures status { (result.status ≡ done) ⊎ ((result.status ≡ refused) ⊎ (result.status ≡ failed)) }
-    ensures clean { HasCleanDisk (state S.Store station.new) → HasCleanDisk (state S.Store station.old) }
-    ensures sends { (known : Option State) → IfSome known (λ s. HasCleanDisk (state S.Store station.new) × Rests (state S.Store station.old) s)
-        → SendsDue agreements.now moment known (λ t. Rests (state S.Store station.new) t)
+    ensures clean { (K.shows station.new).IsClean → (K.shows station.old).IsClean }
+    ensures sends { (known : Option State) → IfSome known (λ s. (K.shows station.new).IsClean × (K.shows station.old).Rests s)
+        → SendsDue agreements.now moment known (λ t. (K.shows station.new).Rests t)
         (W.written output.old) (W.written output.new) (Appends (E.contents errors.old) (E.contents errors.new)) result }
     ensures store { result.status ≡ failed
         → (fault : TheFault) × EndsRefused (Failing fault) (Appends (E.contents errors.old) (E.contents errors.new)) result }

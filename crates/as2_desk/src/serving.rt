@@ -1,22 +1,19 @@
 //! The command `serve`: connections, one after the other.
 ghost use Rattle.std.specs.Prelude.{◌≡◌, ◌⊎◌, ◌++◌, codes, Option, IfSome, OnOk, true};
 ghost use Rattle.std.specs.Io.KnownBytes.{Appends};
-ghost use Rattle.sqlite.specs.Held.{state};
-ghost use Rattle.sqlite.specs.State.{HasCleanDisk};
 ghost use Rattle.as2_exchange.specs.State.{State};
-ghost use Rattle.as2_store.specs.Stands.{Rests};
 ghost use Rattle.as2_desk.specs.Connections.{ServesConnections, ServesCount, ServesNext, connection_line, listening_line};
 ghost use Rattle.as2_desk.specs.Statuses.{done, refused};
 
-use crate::network::{Listens, Network};
 use crate::refusal::{CommandFault, refuse, refuse_behind};
 use crate::status::{DONE, Ran, end_name};
 use as2_agreement::Agreements;
 use as2_commands::Serving;
+use as2_host::{Listens, Network};
 use as2_http::{DeviceFault, Journal, Served, Sink, push_all};
+use as2_records::Records;
 use as2_station::Station;
 use as2_text::Moment;
-use sqlite::Alter;
 use std::alloc::Global;
 use std::io::Write;
 
@@ -44,17 +41,17 @@ fn says_listening<E: Write>(address: &str, errors: &mut E) -> bool
 }
 
 /// Serves the next connection, notes its replies, and writes its line once it has ended.
-fn serve_next<S: Alter, L: Listens, W: Sink, H: Journal>(
+fn serve_next<K: Records, L: Listens, W: Sink, H: Journal>(
     alloc: Global,
     agreements: &Agreements,
     moment: &Option<Moment>,
-    station: &mut Station<S>,
+    station: &mut Station<K>,
     listener: &mut L,
     output: &mut W,
     hints: &mut H,
 ) -> Result<(), DeviceFault>
-    ensures clean { HasCleanDisk (state S.Store station.new) → HasCleanDisk (state S.Store station.old) }
-    ensures serves { ServesNext agreements.now moment.now (state S.Store station.old) (state S.Store station.new)
+    ensures clean { (K.shows station.new).IsClean → (K.shows station.old).IsClean }
+    ensures serves { ServesNext agreements.now moment.now (K.shows station.old) (K.shows station.new)
         (W.written output.old) (W.written output.new) result }
 {
     let end = listener.serve(alloc, agreements, *moment, station, hints);
@@ -62,17 +59,17 @@ fn serve_next<S: Alter, L: Listens, W: Sink, H: Journal>(
 }
 
 /// Serves so many connections, one after the other, and writes a line for each as soon as it has ended.
-fn serve_connections<S: Alter, L: Listens, W: Sink, H: Journal>(
+fn serve_connections<K: Records, L: Listens, W: Sink, H: Journal>(
     alloc: Global,
     agreements: &Agreements,
     count: u64,
     moment: Option<Moment>,
-    station: &mut Station<S>,
+    station: &mut Station<K>,
     listener: &mut L,
     output: &mut W,
     hints: &mut H,
 ) -> Result<(), DeviceFault>
-    ensures { ServesConnections agreements.now moment count (state S.Store station.old) (state S.Store station.new)
+    ensures { ServesConnections agreements.now moment count (K.shows station.old) (K.shows station.new)
         (W.written output.old) (W.written output.new) result }
 {
     for served in 0..count {
@@ -83,20 +80,20 @@ fn serve_connections<S: Alter, L: Listens, W: Sink, H: Journal>(
 }
 
 /// Serves connections at an address.
-pub(crate) fn serve<S: Alter, N: Network, W: Sink, H: Journal, E: Write>(
+pub(crate) fn serve<K: Records, N: Network, W: Sink, H: Journal, E: Write>(
     alloc: Global,
     agreements: &Agreements,
     serving: Serving<'_>,
-    station: &mut Station<S>,
+    station: &mut Station<K>,
     network: &N,
     output: &mut W,
     hints: &mut H,
     errors: &mut E,
 ) -> Ran
     ensures status { (result.status ≡ done) ⊎ (result.status ≡ refused) }
-    ensures clean { HasCleanDisk (state S.Store station.new) → HasCleanDisk (state S.Store station.old) }
-    ensures serves { (known : Option State) → IfSome known (λ s. HasCleanDisk (state S.Store station.new) × Rests (state S.Store station.old) s)
-        → ServesCount agreements.now serving.entry known (output.new ≡ output.old) (λ t. Rests (state S.Store station.new) t)
+    ensures clean { (K.shows station.new).IsClean → (K.shows station.old).IsClean }
+    ensures serves { (known : Option State) → IfSome known (λ s. (K.shows station.new).IsClean × (K.shows station.old).Rests s)
+        → ServesCount agreements.now serving.entry known (output.new ≡ output.old) (λ t. (K.shows station.new).Rests t)
         (W.written output.old) (W.written output.new) (Appends (E.contents errors.old) (E.contents errors.new)) result }
 {
     let Ok(mut listener) = network.listen(alloc, serving.address, serving.waits) else {

@@ -1,33 +1,28 @@
 //! What a command does over the store.
-ghost use Rattle.std.specs.Prelude.{◌≡◌, ◌⊎◌, ℕ, Option, None, option_map, IfSome, IsErr, IsSome};
+ghost use Rattle.std.specs.Prelude.{◌≡◌, ◌+◌, ◌⊎◌, Option, Ok, None, codes, IfErr, IfOk, IfSome, IsSomeAnd};
 ghost use Rattle.std.specs.Io.KnownBytes.{Appends};
-ghost use Rattle.sqlite.specs.Held.{state};
-ghost use Rattle.sqlite.specs.State.{HasCleanDisk};
 ghost use Rattle.as2_exchange.specs.State.{State};
-ghost use Rattle.as2_store.specs.Stands.{Rests};
-ghost use Rattle.as2_desk.specs.Endings.{Fails, Stopped};
-ghost use Rattle.as2_desk.specs.Runs.{HandsBack};
+ghost use Rattle.as2_desk.specs.Endings.{EndsRefused, Stopped};
+ghost use Rattle.as2_desk.specs.Runs.{Goes};
 ghost use Rattle.as2_desk.specs.Statuses.{done, failed, refused};
-ghost use Rattle.as2_desk.specs.Stores.{Holds, IsKnown, Kept, kept_at};
+ghost use Rattle.as2_desk.specs.Stores.{Begins, Leaves, is_in_memory, opens_at};
 ghost use Rattle.as2_desk.specs.Works.{Does, IsWork, SendsWork};
+ghost use Rattle.as2_desk.specs.declared.refusal.CommandFault.TheVariants.{Store as Failing};
 
 use crate::asking::{Question, ask};
 use crate::documents::document_in;
-use crate::files::ReadFiles;
-use crate::network::Network;
 use crate::posting::post;
 use crate::refusal::{CommandFault, refuse};
 use crate::sending::send_due;
 use crate::serving::serve;
 use crate::status::Ran;
-use crate::stores::{OpenFault, OpenStores, records_in, records_in_memory};
 use as2_agreement::Agreements;
 use as2_commands::{Command, RunOptions, Serving, Waits};
+use as2_host::{Network, OpenFault, OpenStores, ReadFiles};
 use as2_http::{Journal, Sink, Source};
+use as2_records::Records;
 use as2_station::Station;
-use as2_store::Store;
 use as2_text::Moment;
-use sqlite::{Alter, Connection};
 use std::alloc::Global;
 use std::io::Write;
 
@@ -73,12 +68,12 @@ pub(crate) fn work_of<'a, F: ReadFiles>(
 }
 
 /// Does the work at the station.
-fn do_at<S: Alter, N: Network, R: Source, W: Sink, H: Write + Journal, E: Write>(
+fn do_at<K: Records, N: Network, R: Source, W: Sink, H: Write + Journal, E: Write>(
     alloc: Global,
     agreements: &Agreements,
     moment: Moment,
     work: Work<'_>,
-    station: &mut Station<S>,
+    station: &mut Station<K>,
     network: &N,
     input: &mut R,
     output: &mut W,
@@ -86,11 +81,20 @@ fn do_at<S: Alter, N: Network, R: Source, W: Sink, H: Write + Journal, E: Write>
     errors: &mut E,
 ) -> Ran
     ensures status { (result.status ≡ done) ⊎ ((result.status ≡ refused) ⊎ (result.status ≡ failed)) }
-    ensures clean { HasCleanDisk (state S.Store station.new) → HasCleanDisk (state S.Store station.old) }
-    ensures does { (known : Option State) → IfSome known (λ s. HasCleanDisk (state S.Store station.new) × Rests (state S.Store station.old) s)
-        → Does agreements.now moment work.entry known (R.left input.old) (R.left input.new) (R.calls input.old) (R.calls input.new)
-        (input.new ≡ input.old) (output.new ≡ output.old) (λ t. Rests (state S.Store station.new) t)
-        (W.written output.old) (W.written output.new) (Appends (E.contents errors.old) (E.contents errors.new)) result }
+    ensures clean { (K.shows station.new).IsClean → (K.shows station.old).IsClean }
+    ensures does { (known : Option State) → IfSome known (λ s. (K.shows station.new).IsClean × (K.shows station.old).Rests s)
+        → Does agreements.now moment work.entry known (record {
+          before = R.left input.old;
+          after = R.left input.new;
+          calls = R.calls input.old;
+          later = R.calls input.new;
+          Unread = input.new ≡ input.old;
+          written = W.written output.old;
+          now = W.written output.new;
+          Unwritten = output.new ≡ output.old;
+          Said = Appends (E.contents errors.old) (E.contents errors.new);
+          Left = λ t. (K.shows station.new).Rests t;
+        }) result }
     ensures store { result.status ≡ failed → Stopped (SendsWork work.entry) (input.new ≡ input.old) (output.new ≡ output.old)
         (Appends (E.contents errors.old) (E.contents errors.new)) result }
 {
@@ -111,56 +115,72 @@ fn do_at<S: Alter, N: Network, R: Source, W: Sink, H: Write + Journal, E: Write>
     }
 }
 
-/// Does the work, where there are records to do it over, and gives their connection back.
-fn do_over<S: Alter + Drop, N: Network, R: Source, W: Sink, H: Write + Journal, E: Write>(
+/// Does the work, where there are records to do it over, and gives them back.
+fn do_over<K: Records + Drop, N: Network, R: Source, W: Sink, H: Write + Journal, E: Write>(
     alloc: Global,
     agreements: &Agreements,
     moment: Moment,
     work: Work<'_>,
-    records: Result<Store<S>, OpenFault>,
+    records: Result<K, OpenFault>,
     network: &N,
     input: &mut R,
     output: &mut W,
     hints: &mut H,
     errors: &mut E,
-) -> (Ran, Option<Connection<S>>)
+) -> (Ran, Option<K>)
     ensures status { (result.0.status ≡ done) ⊎ ((result.0.status ≡ refused) ⊎ (result.0.status ≡ failed)) }
-    ensures does { (kept : Kept) (first : ℕ) → Holds S.Store kept first records
-        → (IsErr records × (result.1 ≡ None) × (input.new ≡ input.old) × (output.new ≡ output.old)
-        × Fails kept (Appends (E.contents errors.old) (E.contents errors.new)) result.0)
-        ⊎ (IsSome result.1 × ((known : Option State) → IsKnown kept first (IfSome result.1 (λ conn. HasCleanDisk (state S.Store conn))) known
-        → Does agreements.now moment work.entry known (R.left input.old) (R.left input.new) (R.calls input.old) (R.calls input.new)
-        (input.new ≡ input.old) (output.new ≡ output.old) (λ t. IfSome result.1 (λ conn. Rests (state S.Store conn) t))
-        (W.written output.old) (W.written output.new) (Appends (E.contents errors.old) (E.contents errors.new)) result.0)) }
+    ensures fails { IfErr records (λ fault. (result.1 ≡ None) × (input.new ≡ input.old) × (output.new ≡ output.old)
+        × EndsRefused (Failing fault) (Appends (E.contents errors.old) (E.contents errors.new)) result.0) }
+    ensures does { IfOk records (λ opened. IsSomeAnd result.1 (λ last. ((K.shows last).IsClean → (K.shows opened).IsClean)
+        × ((known : Option State) → IfSome known (λ s. (K.shows last).IsClean × (K.shows opened).Rests s)
+        → Does agreements.now moment work.entry known (record {
+          before = R.left input.old;
+          after = R.left input.new;
+          calls = R.calls input.old;
+          later = R.calls input.new;
+          Unread = input.new ≡ input.old;
+          written = W.written output.old;
+          now = W.written output.new;
+          Unwritten = output.new ≡ output.old;
+          Said = Appends (E.contents errors.old) (E.contents errors.new);
+          Left = λ t. (K.shows last).Rests t;
+        }) result.0))) }
     ensures store { result.0.status ≡ failed → Stopped (SendsWork work.entry) (input.new ≡ input.old) (output.new ≡ output.old)
         (Appends (E.contents errors.old) (E.contents errors.new)) result.0 }
-    ensures handed { (input.new ≡ input.old) ⊎ IsSome result.1 }
 {
-    match records {
-        Ok(store) => {
-            let mut station = Station::new(store);
-            let ran = do_at(
-                alloc,
-                agreements,
-                moment,
-                work,
-                &mut station,
-                network,
-                input,
-                output,
-                hints,
-                errors,
-            );
-            let conn = station.into_connection();
-            (ran, Some(conn))
-        }
-        Err(fault) => (refuse(CommandFault::Store(fault), errors), None),
+    let records = match records {
+        Ok(records) => records,
+        Err(fault) => return (refuse(CommandFault::Store(fault), errors), None),
+    };
+    let mut station = Station::new(records);
+    let ran = do_at(
+        alloc,
+        agreements,
+        moment,
+        work,
+        &mut station,
+        network,
+        input,
+        output,
+        hints,
+        errors,
+    );
+    (ran, Some(station.into_records()))
+}
+
+/// Closes the records of that path, where they were opened.
+fn close_in<O: OpenStores>(stores: &mut O, path: &str, records: Option<O::Opened>)
+    ensures clean { IfSome records (λ last. O.is_clean stores.new → (O.Opened.shows last).IsClean) }
+    ensures kept { IfSome records (λ last. O.is_clean stores.new → (t : State) → (O.Opened.shows last).Rests t → O.keeps stores.new path.now t) }
+    ensures counted { O.opens stores.new ≡ O.opens stores.old }
+{
+    if let Some(records) = records {
+        stores.close(path, records);
     }
 }
 
-/// Does the work over the store of that path, and hands the store back.
+/// Does the work over the store of that path, which is opened and closed.
 pub(crate) fn work_over<
-    'a,
     O: OpenStores,
     N: Network,
     R: Source,
@@ -172,52 +192,49 @@ pub(crate) fn work_over<
     agreements: &Agreements,
     options: RunOptions,
     work: Work<'_>,
-    path: &'a str,
+    path: &str,
     stores: &mut O,
     network: &N,
     input: &mut R,
     output: &mut W,
     hints: &mut H,
     errors: &mut E,
-) -> (Ran, Option<(&'a str, Connection<O::Kind>)>)
-    ensures status { (result.0.status ≡ done) ⊎ ((result.0.status ≡ refused) ⊎ (result.0.status ≡ failed)) }
-    ensures does { ((result.1 ≡ None) × (input.new ≡ input.old) × (output.new ≡ output.old)
-        × Fails (kept_at path.now (O.kept stores.old path.now)) (Appends (E.contents errors.old) (E.contents errors.new)) result.0)
-        ⊎ (HandsBack path.now ⊥ (option_map (λ l. l.0.now) result.1)
-        × ((known : Option State) → IsKnown (kept_at path.now (O.kept stores.old path.now)) options.first (IfSome result.1 (λ l. HasCleanDisk (state O.Kind.Store l.1))) known
-        → Does agreements.now options.moment work.entry known
-        (R.left input.old) (R.left input.new) (R.calls input.old) (R.calls input.new) (input.new ≡ input.old) (output.new ≡ output.old)
-        (λ t. IfSome result.1 (λ l. Rests (state O.Kind.Store l.1) t))
-        (W.written output.old) (W.written output.new) (Appends (E.contents errors.old) (E.contents errors.new)) result.0)) }
-    ensures store { result.0.status ≡ failed → Stopped (SendsWork work.entry) (input.new ≡ input.old) (output.new ≡ output.old)
-        (Appends (E.contents errors.old) (E.contents errors.new)) result.0 }
-    ensures handed { HandsBack path.now (input.new ≡ input.old) (option_map (λ l. l.0.now) result.1) }
+) -> Ran
+    ensures status { (result.status ≡ done) ⊎ ((result.status ≡ refused) ⊎ (result.status ≡ failed)) }
+    ensures goes { Goes agreements.now options (Ok work.entry) (record {
+      before = R.left input.old;
+      after = R.left input.new;
+      calls = R.calls input.old;
+      later = R.calls input.new;
+      Unread = input.new ≡ input.old;
+      written = W.written output.old;
+      now = W.written output.new;
+      Unwritten = output.new ≡ output.old;
+      Said = Appends (E.contents errors.old) (E.contents errors.new);
+      Left = Leaves path.now (O.keeps stores.new path.now);
+    }) (record {
+      path = path.now;
+      Untouched = stores.new ≡ stores.old;
+      Unopened = O.opens stores.new ≡ O.opens stores.old;
+      Opened = O.opens stores.new ≡ O.opens stores.old + opens_at (is_in_memory path.now);
+      Begins = λ first s. Begins path.now first (O.is_clean stores.new) (O.keeps stores.old path.now) s;
+    }) result }
+    ensures memory { path.now ≡ codes ":memory:" → stores.new ≡ stores.old }
+    ensures store { result.status ≡ failed → Stopped (SendsWork work.entry) (input.new ≡ input.old) (output.new ≡ output.old)
+        (Appends (E.contents errors.old) (E.contents errors.new)) result }
 {
     let RunOptions { first, moment } = options;
     if path == ":memory:" {
-        let records = records_in_memory(alloc, first);
+        let records = stores.open_in_memory(alloc, first);
         let (ran, _) = do_over(
             alloc, agreements, moment, work, records, network, input, output, hints, errors,
         );
-        return (ran, None);
+        return ran;
     }
-    let records = records_in(alloc, stores, path, first);
-    let (ran, conn) = do_over(
+    let records = stores.open(alloc, path, first);
+    let (ran, left) = do_over(
         alloc, agreements, moment, work, records, network, input, output, hints, errors,
     );
-    (ran, under(path, conn))
-}
-
-/// The connection with the path of its store.
-fn under<'a, S: Alter + Drop>(
-    path: &'a str,
-    conn: Option<Connection<S>>,
-) -> Option<(&'a str, Connection<S>)>
-    ensures path { option_map (λ l. l.0.now) result ≡ option_map (λ _. path.now) conn }
-    ensures conn { option_map (λ l. l.1) result ≡ conn }
-{
-    match conn {
-        Some(conn) => Some((path, conn)),
-        None => None,
-    }
+    close_in(stores, path, left);
+    ran
 }

@@ -8,24 +8,24 @@ use Rattle.as2_exchange.specs.declared.answer.Answer.TheVariants.{Http}
 use Rattle.as2_exchange.specs.declared.answer.HttpAnswer.{HttpAnswer}
 use Rattle.as2_framing.specs.HeadText.{unblank}
 use Rattle.as2_http.specs.Notes.{Spoken}
-use Rattle.as2_http.specs.Replies.{IsReply}
-use Rattle.as2_http.specs.Requests.{IsRefused, IsOpen}
+use Rattle.as2_messages.specs.Replies.{IsReply}
+use Rattle.as2_messages.specs.Requests.{IsRefused, IsOpen}
 use Rattle.as2_http.specs.Responses.{RespondsTo, Responds, Takes, Unsaid, answer_of, post_event}
 use Rattle.as2_http.specs.Sending.{form_of}
 use Rattle.as2_http.specs.StreamLaws.{AreSound, AtJudged, IsSound, ServesInOneWay}
 use Rattle.as2_http.specs.Streams.{Exchange, AnswersAll, EndsLast, Ends, GoOn}
-use Rattle.as2_http.specs.declared.framing.Refused.{Refused}
-use Rattle.as2_http.specs.declared.framing.Method.{Method}
-use Rattle.as2_http.specs.declared.framing.Method.TheVariants.{Post, Head, Other as OtherMethod}
-use Rattle.as2_http.specs.declared.framing.Target.{Target}
-use Rattle.as2_http.specs.declared.framing.Target.TheVariants.{Station, Other as OtherTarget}
-use Rattle.as2_http.specs.declared.request.Request.{Request}
+use Rattle.as2_messages.specs.declared.framing.Refused.{Refused}
+use Rattle.as2_messages.specs.declared.framing.Method.{Method}
+use Rattle.as2_messages.specs.declared.framing.Method.TheVariants.{Post, Head, Other as OtherMethod}
+use Rattle.as2_messages.specs.declared.framing.Target.{Target}
+use Rattle.as2_messages.specs.declared.framing.Target.TheVariants.{Station, Other as OtherTarget}
+use Rattle.as2_messages.specs.declared.request.Request.{Request}
 use Rattle.as2_http.specs.declared.response.Response.{Response}
 use Rattle.as2_http.specs.declared.response.Response.TheVariants.{Answered, Failed, OnlyPost, NoPath}
 use Rattle.as2_http.specs.declared.stream.Served.{Served}
 use Rattle.as2_http.specs.declared.stream.Served.TheVariants.{Closed, Truncated, BadFraming, ReadFault, WriteFault, Memory, TooLong}
-use Rattle.as2_http.proofs.Alone.{begins_with_one, never_refuses_requests, never_opens_requests, never_opens_refused}
-use Rattle.as2_http.proofs.Dated.{replies_in_one_way}
+use Rattle.as2_messages.proofs.Alone.{begins_with_one, never_refuses_requests, never_opens_requests, never_opens_refused}
+use Rattle.as2_messages.proofs.Dated.{replies_in_one_way}
 
 -- ---- one request
 

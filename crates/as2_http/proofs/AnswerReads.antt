@@ -3,13 +3,13 @@ use Rattle.std.proofs.Common.{◌≡◌, ◌+◌, ◌≤◌, length, ℕ, List, 
 use Rattle.std.specs.Io.KnownBytes.{Consumes, IsAtEnd, Keeps}
 use Rattle.as2_exchange.specs.declared.event.TryAnswer.{TryAnswer}
 use Rattle.as2_exchange.specs.declared.event.TryAnswer.TheVariants.{Reply}
-use Rattle.as2_http.specs.Answering.{BeginsAnswer, AnswerIn, by_length, Gets, IsOpenAnswer}
-use Rattle.as2_http.specs.AnswerPieces.{HasKept}
+use Rattle.as2_messages.specs.Answering.{BeginsAnswer, AnswerIn, by_length, Gets, IsOpenAnswer}
+use Rattle.as2_messages.specs.AnswerPieces.{HasKept}
 use Rattle.as2_http.specs.InputReads.{read_limit, ReadsNeeded}
-use Rattle.as2_http.specs.declared.answer_parser.AnswerParser.{AnswerParser}
-use Rattle.as2_http.specs.declared.answer_parser.ReceivedAnswer.{ReceivedAnswer}
-use Rattle.as2_http.proofs.AnswerHeads.{begins_more}
-use Rattle.as2_http.proofs.Answered.{holds_open}
+use Rattle.as2_messages.specs.declared.answer_parser.AnswerParser.{AnswerParser}
+use Rattle.as2_messages.specs.declared.answer_parser.ReceivedAnswer.{ReceivedAnswer}
+use Rattle.as2_messages.proofs.AnswerHeads.{begins_more}
+use Rattle.as2_messages.proofs.Answered.{holds_open}
 use Rattle.as2_http.proofs.InputReads.{piece_of, nothing_of, at_end, reads_none, read_on}
 
 -- what was read is less than an answer, and the parser has it

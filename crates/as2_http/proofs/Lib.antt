@@ -1,7 +1,3 @@
-pub mod Judging
-pub mod Framed
-pub mod Parsing
-pub mod Alone
 pub mod TakenPosts
 pub mod Unsaid
 pub mod Pushing
@@ -9,10 +5,5 @@ pub mod Noting
 pub mod Streaming
 pub mod InputReads
 pub mod Serving
-pub mod Dated
-pub mod Phrases
 pub mod Alike
-pub mod AnswerHeads
-pub mod Answered
 pub mod AnswerReads
-pub mod OneAnswer

@@ -1,34 +1,33 @@
 -- A stream, put together from its pieces.
 use Rattle.std.proofs.Common.{◌≡◌, ℕ, true, List, [], ◌∷◌, ◌++◌, ◌⊎◌, ◌+◌, ◌≤◌, length, Option, Some, None, refl, sym, ap, ◌∙◌, subst, append_assoc, append-nil, inl, inr, arith}
 use Rattle.std.specs.Io.KnownBytes.{Appends, Consumes, IsAtEnd, Keeps}
-use Rattle.sqlite.specs.State.{State as Connected}
+use Rattle.as2_records.specs.Standing.{Medium, Standing}
 use Rattle.as2_agreement.specs.Agreements.{AgreedValues}
 use Rattle.as2_exchange.specs.Run.{Trace, Run}
 use Rattle.as2_exchange.specs.State.{State}
-use Rattle.as2_store.specs.Stands.{Rests}
 use Rattle.as2_framing.specs.HeadText.{unblank}
-use Rattle.as2_http.specs.Requests.{IsOpen}
+use Rattle.as2_messages.specs.Requests.{IsOpen}
 use Rattle.as2_http.specs.InputReads.{read_limit, ReadsNeeded}
 use Rattle.as2_station.proofs.ByHistory.{ends_by_history, run_then}
 use Rattle.as2_http.specs.StreamReads.{NeedsMore, BetweenReads, AnswersNext, ArePostsAt, RunsPosts, Serves}
 use Rattle.as2_http.specs.Notes.{Says, Spoken, note, refusal_note}
-use Rattle.as2_http.specs.Parsing.{HasTaken}
+use Rattle.as2_messages.specs.Parsing.{HasTaken}
 use Rattle.as2_http.specs.Responses.{RespondsTo, Responds, Unsaid}
 use Rattle.as2_http.specs.Streams.{Exchange, AnswersAll, GoOn, EndsLast, event_by, events, event_said, AnswersPiece, PieceEnds, Ends, CutShort, in_reply, in_refusal, OutOfMemory, for_request, for_reply, for_refusal, may_end_piece, notes}
-use Rattle.as2_http.specs.declared.request.Request.{Request}
-use Rattle.as2_http.specs.declared.framing.Method.{Method}
-use Rattle.as2_http.specs.declared.framing.Method.TheVariants as method
-use Rattle.as2_http.specs.declared.framing.Target.{Target}
-use Rattle.as2_http.specs.declared.framing.Target.TheVariants as target
-use Rattle.as2_http.specs.declared.parser.RequestParser.{RequestParser}
+use Rattle.as2_messages.specs.declared.request.Request.{Request}
+use Rattle.as2_messages.specs.declared.framing.Method.{Method}
+use Rattle.as2_messages.specs.declared.framing.Method.TheVariants as method
+use Rattle.as2_messages.specs.declared.framing.Target.{Target}
+use Rattle.as2_messages.specs.declared.framing.Target.TheVariants as target
+use Rattle.as2_messages.specs.declared.parser.RequestParser.{RequestParser}
 use Rattle.as2_http.specs.declared.response.Response.{Response}
 use Rattle.as2_http.specs.declared.response.Response.TheVariants as response
 use Rattle.as2_http.specs.declared.stream.Served.{Served}
 use Rattle.as2_http.specs.declared.stream.Served.TheVariants as served
-use Rattle.as2_http.proofs.Framed.{begins_append}
+use Rattle.as2_messages.proofs.Framed.{begins_append}
 use Rattle.as2_http.proofs.InputReads.{HasArrived, piece_of, nothing_of, at_end, reads_none, read_on}
 use Rattle.as2_http.proofs.Noting.{notes_of_both, says_join, says_nil, says_trans}
-use Rattle.as2_http.proofs.Parsing.{holds_open}
+use Rattle.as2_messages.proofs.Parsing.{holds_open}
 use Rattle.as2_http.proofs.Streaming.{answers_join, go_on_join}
 
 -- ---- a run of the machine
@@ -111,33 +110,33 @@ piece_left A moment s mid t done text replies rest left p before after (Some ser
 piece_left A moment s mid t done text replies rest left p before after (Some served.TooLong) a e = absurd e
 
 -- so did all that was taken of the stream so far
-abbrev pub TakenSoFar : AgreedValues → ℕ → State → Connected → Type 0
-TakenSoFar A moment s c = (t : State) × Rests c t × RunsPosts A moment s t
+abbrev pub TakenSoFar : {M : Medium} → AgreedValues → ℕ → State → Standing M → Type 0
+TakenSoFar A moment s c = (t : State) × c.Rests t × RunsPosts A moment s t
 
-pub taken_on : (A : AgreedValues) (moment : ℕ) (s mid : State) (text left : List ℕ) (p : RequestParser) (c : Connected) (before after : Spoken) (end : Option Served)
+pub taken_on : {M : Medium} (A : AgreedValues) (moment : ℕ) (s mid : State) (text left : List ℕ) (p : RequestParser) (c : Standing M) (before after : Spoken) (end : Option Served)
     → RunsPosts A moment s mid → AnswersPiece A moment mid text left p c before after end → TakenSoFar A moment s c
 taken_on A moment s mid text left p c before after end runs a =
     (a.last, a.rests, runs_join A moment s mid a.last runs (piece_left A moment mid a.mid a.last a.done text a.replies a.rest left p before after end a.all a.ends))
 
 -- what is left, and how the stream came to it
-abbrev pub LeavesServed : AgreedValues → ℕ → State → List ℕ → Option (List ℕ) → Connected → Spoken → Spoken → ℕ → ℕ → Served → Type 0
-LeavesServed A moment s input unread c before after calls later end = (t : State) × Rests c t × Serves A moment s t input unread before after calls later end
+abbrev pub LeavesServed : {M : Medium} → AgreedValues → ℕ → State → List ℕ → Option (List ℕ) → Standing M → Spoken → Spoken → ℕ → ℕ → Served → Type 0
+LeavesServed A moment s input unread c before after calls later end = (t : State) × c.Rests t × Serves A moment s t input unread before after calls later end
 
 -- ---- what was read
 
 -- what was read needs more
-needs_more : (A : AgreedValues) (moment : ℕ) (s : State) (input : List ℕ) (p : RequestParser) (c : Connected) (unread : Option (List ℕ)) (before now : Spoken) (calls later : ℕ) → (w : BetweenReads A moment s input p c unread before now calls later)
+needs_more : {M : Medium} (A : AgreedValues) (moment : ℕ) (s : State) (input : List ℕ) (p : RequestParser) (c : Standing M) (unread : Option (List ℕ)) (before now : Spoken) (calls later : ℕ) → (w : BetweenReads A moment s input p c unread before now calls later)
     → NeedsMore A moment s w.reads.read
 needs_more A moment s input p c unread before now calls later w =
     record { done = w.done; mid = w.mid; replies = w.replies; held = w.held; all = w.all; go_on = w.go_on; undecided = holds_open p w.held w.taken }
 
 -- the next call was needed
-next_read : (A : AgreedValues) (moment : ℕ) (s : State) (input : List ℕ) (p : RequestParser) (c : Connected) (unread after : Option (List ℕ)) (before now : Spoken) (calls later next : ℕ) (piece : List ℕ)
+next_read : {M : Medium} (A : AgreedValues) (moment : ℕ) (s : State) (input : List ℕ) (p : RequestParser) (c : Standing M) (unread after : Option (List ℕ)) (before now : Spoken) (calls later next : ℕ) (piece : List ℕ)
     → (w : BetweenReads A moment s input p c unread before now calls later) → HasArrived w.reads.left piece after → length piece ≤ read_limit → next ≡ later + 1 → ReadsNeeded (NeedsMore A moment s) input after calls next
 next_read A moment s input p c unread after before now calls later next piece w m most is =
     read_on (NeedsMore A moment s) input unread after calls later next piece w.reads (needs_more A moment s input p c unread before now calls later w) m most is
 
-pub between_first : (A : AgreedValues) (moment : ℕ) (s : State) (input : List ℕ) (p : RequestParser) (c : Connected) (unread : Option (List ℕ)) (now : Spoken) (calls : ℕ) → Rests c s → HasTaken p [] → unread ≡ Some input
+pub between_first : {M : Medium} (A : AgreedValues) (moment : ℕ) (s : State) (input : List ℕ) (p : RequestParser) (c : Standing M) (unread : Option (List ℕ)) (now : Spoken) (calls : ℕ) → c.Rests s → HasTaken p [] → unread ≡ Some input
     → BetweenReads A moment s input p c unread now now calls calls
 unfolding reads_none
 between_first A moment s input p c unread now calls rests taken known = record {
@@ -169,13 +168,13 @@ answers_append A moment s t text replies rest left (x ∷ done) a = (
 )
 
 -- .. so in front of the whole input
-in_input : (A : AgreedValues) (moment : ℕ) (s : State) (input : List ℕ) (p : RequestParser) (c : Connected) (unread : Option (List ℕ)) (before now : Spoken) (calls later : ℕ) → (w : BetweenReads A moment s input p c unread before now calls later)
+in_input : {M : Medium} (A : AgreedValues) (moment : ℕ) (s : State) (input : List ℕ) (p : RequestParser) (c : Standing M) (unread : Option (List ℕ)) (before now : Spoken) (calls later : ℕ) → (w : BetweenReads A moment s input p c unread before now calls later)
     → AnswersAll A moment s input w.done w.mid w.replies (w.held ++ w.reads.left)
 in_input A moment s input p c unread before now calls later w =
     subst (λ (t : List ℕ). AnswersAll A moment s t w.done w.mid w.replies (w.held ++ w.reads.left)) (sym w.reads.whole)
     (answers_append A moment s w.mid w.reads.read w.replies w.held w.reads.left w.done w.all)
 
-joined : (A : AgreedValues) (moment : ℕ) (s : State) (input : List ℕ) (p q : RequestParser) (c d : Connected) (unread after : Option (List ℕ)) (before now later : Spoken) (i j : ℕ) (piece : List ℕ) (end : Option Served)
+joined : {M : Medium} (A : AgreedValues) (moment : ℕ) (s : State) (input : List ℕ) (p q : RequestParser) (c d : Standing M) (unread after : Option (List ℕ)) (before now later : Spoken) (i j : ℕ) (piece : List ℕ) (end : Option Served)
     → (w : BetweenReads A moment s input p c unread before now i j) → (m : HasArrived w.reads.left piece after) → (a : AnswersPiece A moment w.mid (w.held ++ piece ++ m.left) m.left q d now later end)
     → AnswersAll A moment s input (w.done ++ a.done) a.mid (w.replies ++ a.replies) a.rest
 joined A moment s input p q c d unread after before now later i j piece end w m a =
@@ -183,7 +182,7 @@ joined A moment s input p q c d unread after before now later i j piece end w m 
     (subst (λ (t : List ℕ). AnswersAll A moment s input w.done w.mid w.replies t) (ap (λ (t : List ℕ). w.held ++ t) m.whole ∙ sym (append_assoc w.held piece m.left)) (in_input A moment s input p c unread before now i j w)) a.all
 
 -- no bytes behind the piece are looked at
-between_on : (A : AgreedValues) (moment : ℕ) (s : State) (input : List ℕ) (p q : RequestParser) (c d : Connected) (unread after : Option (List ℕ)) (before now later : Spoken) (i j k : ℕ) (piece : List ℕ)
+between_on : {M : Medium} (A : AgreedValues) (moment : ℕ) (s : State) (input : List ℕ) (p q : RequestParser) (c d : Standing M) (unread after : Option (List ℕ)) (before now later : Spoken) (i j k : ℕ) (piece : List ℕ)
     → (w : BetweenReads A moment s input p c unread before now i j) → HasArrived w.reads.left piece after → length piece ≤ read_limit → k ≡ j + 1 → AnswersPiece A moment w.mid (w.held ++ piece ++ []) [] q d now later None
     → BetweenReads A moment s input q d after before later i k
 unfolding next_read read_on
@@ -200,7 +199,7 @@ between_on A moment s input p q c d unread after before now later i j k piece w 
       all = answers_join A moment s w.mid a.mid (w.reads.read ++ piece) (w.held ++ piece) held w.replies a.replies w.done a.done
           (answers_append A moment s w.mid w.reads.read w.replies w.held piece w.done w.all) there;
       go_on = go_on_join w.done a.done w.go_on a.ends.0;
-      rests = subst (λ (t : State). Rests d t) a.ends.1 a.rests;
+      rests = subst (λ (t : State). d.Rests t) a.ends.1 a.rests;
       taken = a.ends.3.2;
       said = says_join moment before now later w.replies a.replies w.done a.done w.said a.ends.2;
     }
@@ -264,7 +263,7 @@ ends_on A moment done later mid replies more rest left q unread before now after
 )
 ends_on A moment done later mid replies more rest left q unread before now after t served.TooLong go a e = absurd e
 
-serving_ends : (A : AgreedValues) (moment : ℕ) (s : State) (input : List ℕ) (p q : RequestParser) (c d : Connected) (unread after : Option (List ℕ)) (before now later : Spoken) (i j k : ℕ) (piece : List ℕ) (end : Served)
+serving_ends : {M : Medium} (A : AgreedValues) (moment : ℕ) (s : State) (input : List ℕ) (p q : RequestParser) (c d : Standing M) (unread after : Option (List ℕ)) (before now later : Spoken) (i j k : ℕ) (piece : List ℕ) (end : Served)
     → (w : BetweenReads A moment s input p c unread before now i j) → (m : HasArrived w.reads.left piece after) → length piece ≤ read_limit → k ≡ j + 1 → AnswersPiece A moment w.mid (w.held ++ piece ++ m.left) m.left q d now later (Some end)
     → LeavesServed A moment s input after d before later i k end
 serving_ends A moment s input p q c d unread after before now later i j k piece end w m most is a =
@@ -284,7 +283,7 @@ serving_ends A moment s input p q c d unread after before now later i j k piece 
     )
 
 -- the piece is answered, whatever comes behind it
-pub next_answered : (A : AgreedValues) (moment : ℕ) (s : State) (input : List ℕ) (p q : RequestParser) (c d : Connected) (unread after : Option (List ℕ)) (before now later : Spoken) (i j k : ℕ) (piece : List ℕ) (result : Option Served)
+pub next_answered : {M : Medium} (A : AgreedValues) (moment : ℕ) (s : State) (input : List ℕ) (p q : RequestParser) (c d : Standing M) (unread after : Option (List ℕ)) (before now later : Spoken) (i j k : ℕ) (piece : List ℕ) (result : Option Served)
     → (w : BetweenReads A moment s input p c unread before now i j) → HasArrived w.reads.left piece after → length piece ≤ read_limit → k ≡ j + 1
     → ((left : List ℕ) → AnswersPiece A moment w.mid (w.held ++ piece ++ left) left q d now later result) → AnswersNext A moment s input q d after before later i k result
 next_answered A moment s input p q c d unread after before now later i j k piece None w m most is a = between_on A moment s input p q c d unread after before now later i j k piece w m most is (a [])
@@ -294,7 +293,7 @@ next_answered A moment s input p q c d unread after before now later i j k piece
 -- ---- the other ends
 
 -- behind the replies so far, in the state that they left
-serves_as : (A : AgreedValues) (moment : ℕ) (s : State) (input : List ℕ) (p : RequestParser) (c : Connected) (unread after : Option (List ℕ)) (before now : Spoken) (i j k : ℕ) (end : Served)
+serves_as : {M : Medium} (A : AgreedValues) (moment : ℕ) (s : State) (input : List ℕ) (p : RequestParser) (c : Standing M) (unread after : Option (List ℕ)) (before now : Spoken) (i j k : ℕ) (end : Served)
     → (w : BetweenReads A moment s input p c unread before now i j) → Ends A moment w.done w.mid w.replies (w.held ++ w.reads.left) after before now w.mid end → ReadsNeeded (NeedsMore A moment s) input after i k
     → LeavesServed A moment s input after c before now i k end
 serves_as A moment s input p c unread after before now i j k end w e reads =
@@ -313,7 +312,7 @@ serves_as A moment s input p c unread after before now i j k end w e reads =
       },
     )
 
-serves_closed : (A : AgreedValues) (moment : ℕ) (s : State) (input : List ℕ) (p : RequestParser) (c : Connected) (unread after : Option (List ℕ)) (before now : Spoken) (i j k : ℕ) (w : BetweenReads A moment s input p c unread before now i j)
+serves_closed : {M : Medium} (A : AgreedValues) (moment : ℕ) (s : State) (input : List ℕ) (p : RequestParser) (c : Standing M) (unread after : Option (List ℕ)) (before now : Spoken) (i j k : ℕ) (w : BetweenReads A moment s input p c unread before now i j)
     → Consumes unread after [] → IsAtEnd after → k ≡ j + 1 → ((text : List ℕ) → HasTaken p text → unblank text ≡ []) → LeavesServed A moment s input after c before now i k served.Closed
 serves_closed A moment s input p c unread after before now i j k w consumed done is blank =
     let same : w.held ≡ w.held ++ w.reads.left = sym (append-nil w.held) ∙ ap (λ (t : List ℕ). w.held ++ t) (sym (at_end unread after w.reads.left consumed done w.reads.known)) in
@@ -321,7 +320,7 @@ serves_closed A moment s input p c unread after before now i j k w consumed done
     (refl, w.said, inr (w.go_on, subst IsOpen same (holds_open p w.held w.taken), subst (λ (t : List ℕ). unblank t ≡ []) same (blank w.held w.taken)))
     (next_read A moment s input p c unread after before now i j k [] w (piece_of unread after w.reads.left [] consumed w.reads.known) (omega arith) is)
 
-serves_truncated : (A : AgreedValues) (moment : ℕ) (s : State) (input : List ℕ) (p : RequestParser) (c : Connected) (unread after : Option (List ℕ)) (before now : Spoken) (i j k : ℕ) (w : BetweenReads A moment s input p c unread before now i j)
+serves_truncated : {M : Medium} (A : AgreedValues) (moment : ℕ) (s : State) (input : List ℕ) (p : RequestParser) (c : Standing M) (unread after : Option (List ℕ)) (before now : Spoken) (i j k : ℕ) (w : BetweenReads A moment s input p c unread before now i j)
     → Consumes unread after [] → IsAtEnd after → k ≡ j + 1 → ((text : List ℕ) → HasTaken p text → ¬ (unblank text ≡ [])) → LeavesServed A moment s input after c before now i k served.Truncated
 serves_truncated A moment s input p c unread after before now i j k w consumed done is some =
     let same : w.held ≡ w.held ++ w.reads.left = sym (append-nil w.held) ∙ ap (λ (t : List ℕ). w.held ++ t) (sym (at_end unread after w.reads.left consumed done w.reads.known)) in
@@ -330,7 +329,7 @@ serves_truncated A moment s input p c unread after before now i j k w consumed d
     (next_read A moment s input p c unread after before now i j k [] w (piece_of unread after w.reads.left [] consumed w.reads.known) (omega arith) is)
 
 -- the input ended
-pub serves_ended : (A : AgreedValues) (moment : ℕ) (s : State) (input : List ℕ) (p : RequestParser) (c : Connected) (unread after : Option (List ℕ)) (before now : Spoken) (i j k : ℕ) (end : Served) → BetweenReads A moment s input p c unread before now i j
+pub serves_ended : {M : Medium} (A : AgreedValues) (moment : ℕ) (s : State) (input : List ℕ) (p : RequestParser) (c : Standing M) (unread after : Option (List ℕ)) (before now : Spoken) (i j k : ℕ) (end : Served) → BetweenReads A moment s input p c unread before now i j
     → Consumes unread after [] → IsAtEnd after → k ≡ j + 1 → (end ≡ served.Closed → (text : List ℕ) → HasTaken p text → unblank text ≡ [])
     → (end ≡ served.Truncated → (text : List ℕ) → HasTaken p text → ¬ (unblank text ≡ [])) → (end ≡ served.Closed) ⊎ (end ≡ served.Truncated) → LeavesServed A moment s input after c before now i k end
 serves_ended A moment s input p c unread after before now i j k end w consumed done is blank some one =
@@ -339,7 +338,7 @@ serves_ended A moment s input p c unread after before now i j k end w consumed d
       | inr same ↦ subst (λ (x : Served). LeavesServed A moment s input after c before now i k x) (sym same) (serves_truncated A moment s input p c unread after before now i j k w consumed done is (some same))
     ]
 
-pub serves_fault : (A : AgreedValues) (moment : ℕ) (s : State) (input : List ℕ) (p : RequestParser) (c : Connected) (unread after : Option (List ℕ)) (before now : Spoken) (i j k : ℕ) → BetweenReads A moment s input p c unread before now i j → Keeps unread after → k ≡ j + 1
+pub serves_fault : {M : Medium} (A : AgreedValues) (moment : ℕ) (s : State) (input : List ℕ) (p : RequestParser) (c : Standing M) (unread after : Option (List ℕ)) (before now : Spoken) (i j k : ℕ) → BetweenReads A moment s input p c unread before now i j → Keeps unread after → k ≡ j + 1
     → LeavesServed A moment s input after c before now i k served.ReadFault
 unfolding nothing_of
 serves_fault A moment s input p c unread after before now i j k w kept is =
@@ -347,13 +346,13 @@ serves_fault A moment s input p c unread after before now i j k w kept is =
     serves_as A moment s input p c unread after before now i j k served.ReadFault w (refl, w.said, w.go_on, (w.held, w.reads.left, refl, holds_open p w.held w.taken, m.kept))
     (next_read A moment s input p c unread after before now i j k [] w m (omega arith) is)
 
-pub serves_long : (A : AgreedValues) (moment : ℕ) (s : State) (input : List ℕ) (p : RequestParser) (c : Connected) (unread : Option (List ℕ)) (before now : Spoken) (i j : ℕ) → BetweenReads A moment s input p c unread before now i j
+pub serves_long : {M : Medium} (A : AgreedValues) (moment : ℕ) (s : State) (input : List ℕ) (p : RequestParser) (c : Standing M) (unread : Option (List ℕ)) (before now : Spoken) (i j : ℕ) → BetweenReads A moment s input p c unread before now i j
     → LeavesServed A moment s input unread c before now i j served.TooLong
 serves_long A moment s input p c unread before now i j w =
     serves_as A moment s input p c unread unread before now i j j served.TooLong w (refl, w.said, w.go_on, (w.held, w.reads.left, refl, holds_open p w.held w.taken, w.reads.known)) w.reads
 
 -- memory for the reads was wanting
-pub serves_nothing : (A : AgreedValues) (moment : ℕ) (s : State) (input : List ℕ) (c : Connected) (unread : Option (List ℕ)) (now : Spoken) (calls : ℕ) → Rests c s → unread ≡ Some input → LeavesServed A moment s input unread c now now calls calls served.Memory
+pub serves_nothing : {M : Medium} (A : AgreedValues) (moment : ℕ) (s : State) (input : List ℕ) (c : Standing M) (unread : Option (List ℕ)) (now : Spoken) (calls : ℕ) → c.Rests s → unread ≡ Some input → LeavesServed A moment s input unread c now now calls calls served.Memory
 serves_nothing A moment s input c unread now calls rests known = (
   s,
   rests,

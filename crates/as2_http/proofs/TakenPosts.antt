@@ -1,25 +1,24 @@
 -- What a post gets, from what the station says of it.
 use Rattle.std.proofs.Common.{◌≡◌, ℕ, Ok, Err, refl, subst, sym}
-use Rattle.sqlite.specs.State.{State as Connected, HasCleanDisk}
+use Rattle.as2_records.specs.Standing.{Medium, Standing}
 use Rattle.as2_agreement.specs.Agreements.{AgreedValues}
 use Rattle.as2_exchange.specs.State.{State}
 use Rattle.as2_exchange.specs.declared.answer.Answer.TheVariants.{Http}
 use Rattle.as2_exchange.specs.declared.answer.HttpAnswer.{HttpAnswer}
 use Rattle.as2_exchange.specs.declared.fault.StoreFault.{StoreFault}
-use Rattle.as2_http.specs.declared.request.Request.{Request}
-use Rattle.as2_http.specs.declared.framing.Method.{Method}
-use Rattle.as2_http.specs.declared.framing.Method.TheVariants.{Post}
-use Rattle.as2_http.specs.declared.framing.Target.{Target}
-use Rattle.as2_http.specs.declared.framing.Target.TheVariants.{Station}
+use Rattle.as2_messages.specs.declared.request.Request.{Request}
+use Rattle.as2_messages.specs.declared.framing.Method.{Method}
+use Rattle.as2_messages.specs.declared.framing.Method.TheVariants.{Post}
+use Rattle.as2_messages.specs.declared.framing.Target.{Target}
+use Rattle.as2_messages.specs.declared.framing.Target.TheVariants.{Station}
 use Rattle.as2_http.specs.declared.response.Response.{Response}
 use Rattle.as2_station.specs.Steps.{TakesEvent, TakesHead}
-use Rattle.as2_store.specs.Stands.{Rests}
 use Rattle.as2_http.specs.Responses.{IsSafe, Responds, RespondsTo, Takes, post_event}
 use Rattle.as2_http.specs.declared.response.Response.TheVariants.{Answered, Failed}
 
 -- it is answered, and what is left is safe where the store was asked
-pub answered : (A : AgreedValues) (moment : ℕ) (r : Request) (old new : Connected) (a : HttpAnswer) → TakesEvent A (post_event r moment) Http old new (Ok a)
-    → HasCleanDisk new → (s : State) → Rests old s → (t : State) × Rests new t × Takes A moment s r (Answered a) (IsSafe new) t
+pub answered : {M : Medium} (A : AgreedValues) (moment : ℕ) (r : Request) (old new : Standing M) (a : HttpAnswer) → TakesEvent A (post_event r moment) Http old new (Ok a)
+    → new.IsClean → (s : State) → old.Rests s → (t : State) × new.Rests t × Takes A moment s r (Answered a) (IsSafe new) t
 answered A moment r old new a taken clean s rests =
     let left = taken.does.answered clean s rests tt in (
       left.next,
@@ -28,9 +27,9 @@ answered A moment r old new a taken clean s rests =
     )
 
 -- the store failed, and its head didn't decide
-pub store_failed : {H : Type 0} (A : AgreedValues) (moment : ℕ) (r : Request) (old new : Connected) (before after : H) (f : StoreFault)
+pub store_failed : {M : Medium} {H : Type 0} (A : AgreedValues) (moment : ℕ) (r : Request) (old new : Standing M) (before after : H) (f : StoreFault)
     → TakesEvent A (post_event r moment) Http old new (Err f) → TakesHead A (post_event r moment) (λ (a : HttpAnswer). a) before after (Err f)
-    → HasCleanDisk new → (s : State) → Rests old s → (t : State) × Rests new t × Takes A moment s r (Failed f) (IsSafe new) t
+    → new.IsClean → (s : State) → old.Rests s → (t : State) × new.Rests t × Takes A moment s r (Failed f) (IsSafe new) t
 store_failed A moment r old new before after f taken head clean s rests =
     let fault = taken.does.failed clean s rests tt in (
       s,

@@ -1,10 +1,4 @@
 pub mod Devices
-pub mod Framing
-pub mod Requests
-pub mod Laws
-pub mod Parsing
-pub mod Reading
-pub mod Replies
 pub mod Responses
 pub mod Notes
 pub mod Sending
@@ -12,6 +6,3 @@ pub mod InputReads
 pub mod Streams
 pub mod StreamReads
 pub mod StreamLaws
-pub mod Answering
-pub mod AnswerPieces
-pub mod AnswerLaws

@@ -8,11 +8,11 @@ use Rattle.as2_names.specs.Identifiers.{is_identifier}
 use Rattle.as2_names.specs.Names.{reading, spelling}
 use Rattle.as2_names.specs.declared.name.NameFault.{NameFault}
 use Rattle.as2_exchange.specs.Lines.{refusal}
-use Rattle.as2_http.specs.Replies.{refusal_line}
-use Rattle.as2_http.specs.Requests.{Fields}
+use Rattle.as2_messages.specs.Replies.{refusal_line}
+use Rattle.as2_messages.specs.Requests.{Fields}
 use Rattle.as2_http.specs.Responses.{answer_of}
-use Rattle.as2_http.specs.declared.framing.RequestFault.{RequestFault}
-use Rattle.as2_http.specs.declared.request.Request.{Request}
+use Rattle.as2_messages.specs.declared.framing.RequestFault.{RequestFault}
+use Rattle.as2_messages.specs.declared.request.Request.{Request}
 use Rattle.as2_http.specs.declared.response.Response.{Response}
 
 -- ---- the line

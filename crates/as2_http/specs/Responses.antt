@@ -1,6 +1,6 @@
--- What a request gets in a state of the station, and the state that it leaves, which is Safe where the store was asked.
+-- What a request gets in a state of the station, and the state that it leaves, which is Safe where the records were asked.
 use Rattle.std.specs.Prelude.{◌≡◌, ℕ, Some, IsTrue, true, ⊤}
-use Rattle.sqlite.specs.State.{State as Connected}
+use Rattle.as2_records.specs.Standing.{Medium, Standing}
 use Rattle.as2_agreement.specs.Agreements.{AgreedValues}
 use Rattle.as2_exchange.specs.Lines.{refusal}
 use Rattle.as2_exchange.specs.Posts.{Refuses, reading}
@@ -9,7 +9,7 @@ use Rattle.as2_exchange.specs.State.{State}
 use Rattle.as2_exchange.specs.Step.{step}
 use Rattle.as2_exchange.specs.declared.answer.Line.{Line as TheLine}
 use Rattle.as2_station.specs.Heads.{asks_store, is_of_head}
-use Rattle.as2_store.specs.Calls.{Lasts}
+use Rattle.as2_records.specs.Calls.{Lasts}
 use Rattle.as2_exchange.specs.declared.event.Event.{Event}
 use Rattle.as2_exchange.specs.declared.answer.Answer.TheVariants.{Http}
 use Rattle.as2_exchange.specs.declared.answer.HttpAnswer.{HttpAnswer}
@@ -17,11 +17,11 @@ use Rattle.as2_exchange.specs.declared.answer.Line.TheVariants as line
 use Rattle.as2_exchange.specs.declared.event.Event.TheVariants as event
 use Rattle.as2_exchange.specs.declared.fault.StoreFault.{StoreFault}
 use Rattle.as2_exchange.specs.declared.fault.StoreFault.TheVariants.{Full}
-use Rattle.as2_http.specs.declared.request.Request.{Request}
-use Rattle.as2_http.specs.declared.framing.Method.{Method}
-use Rattle.as2_http.specs.declared.framing.Method.TheVariants.{Post, Head, Other as OtherMethod}
-use Rattle.as2_http.specs.declared.framing.Target.{Target}
-use Rattle.as2_http.specs.declared.framing.Target.TheVariants.{Station, Other as OtherTarget}
+use Rattle.as2_messages.specs.declared.request.Request.{Request}
+use Rattle.as2_messages.specs.declared.framing.Method.{Method}
+use Rattle.as2_messages.specs.declared.framing.Method.TheVariants.{Post, Head, Other as OtherMethod}
+use Rattle.as2_messages.specs.declared.framing.Target.{Target}
+use Rattle.as2_messages.specs.declared.framing.Target.TheVariants.{Station, Other as OtherTarget}
 use Rattle.as2_http.specs.declared.response.Response.{Response}
 use Rattle.as2_http.specs.declared.response.Response.TheVariants.{Answered, Failed, OnlyPost, NoPath}
 
@@ -48,8 +48,8 @@ IsPastHead A r = (line : TheLine) → reading A r.fields r.body ≡ Refuses line
 abbrev pub post_event : Request → ℕ → Event
 post_event r moment = event.Post r.fields r.body moment
 
--- the connection is open, and whatever stops the computer now, what an open finds stands for this state
-pub record IsSafe (c : Connected) (t : State) : Type 0 where
+-- the records are open, and whatever stops the computer now, what an open finds stands for this state
+pub record IsSafe {M : Medium} (c : Standing M) (t : State) : Type 0 where
   pub is_open : IsTrue c.is_open
   pub lasts : Lasts c t
 
@@ -57,7 +57,7 @@ pub record IsSafe (c : Connected) (t : State) : Type 0 where
 abbrev pub Unsaid : State → Type 0
 Unsaid t = ⊤
 
--- the post is a step of the machine, and where it asks the store, the state that it leaves is safe; or there is a fault, which
+-- the post is a step of the machine, and where it asks the records, the state that it leaves is safe; or there is a fault, which
 -- changes nothing, and never stands in place of what the head decides
 abbrev pub Takes : AgreedValues → ℕ → State → Request → Response → (State → Type 0) → State → Type 0
 Takes A moment s r (Answered answer) Safe t =

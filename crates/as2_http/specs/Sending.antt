@@ -2,11 +2,11 @@
 use Rattle.std.specs.Prelude.{◌≡◌, ℕ, List, [], ◌++◌, Option, Result, Ok, Err, true, false}
 use Rattle.std.specs.Io.KnownBytes.{Appends}
 use Rattle.as2_exchange.specs.declared.answer.HttpAnswer.{HttpAnswer}
-use Rattle.as2_http.specs.Replies.{IsReply}
-use Rattle.as2_http.specs.Requests.{is_head}
-use Rattle.as2_http.specs.declared.request.Request.{Request}
-use Rattle.as2_http.specs.declared.framing.Refused.{Refused}
-use Rattle.as2_http.specs.declared.reply.Form.{Form}
+use Rattle.as2_messages.specs.Replies.{IsReply}
+use Rattle.as2_messages.specs.Requests.{is_head}
+use Rattle.as2_messages.specs.declared.request.Request.{Request}
+use Rattle.as2_messages.specs.declared.framing.Refused.{Refused}
+use Rattle.as2_messages.specs.declared.reply.Form.{Form}
 use Rattle.as2_http.specs.declared.sending.SendFault.{SendFault}
 use Rattle.as2_http.specs.declared.sending.SendFault.TheVariants as fault
 

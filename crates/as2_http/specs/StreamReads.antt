@@ -1,19 +1,18 @@
 -- What is read of a stream, each read where it is needed, and what the stream comes to.
 use Rattle.std.specs.Prelude.{◌≡◌, ℕ, List, [], ◌∷◌, Option, Some, None, ⊤}
-use Rattle.sqlite.specs.State.{State as Connected}
+use Rattle.as2_records.specs.Standing.{Medium, Standing}
 use Rattle.as2_agreement.specs.Agreements.{AgreedValues}
 use Rattle.as2_exchange.specs.Run.{Trace, Run}
 use Rattle.as2_exchange.specs.State.{State}
 use Rattle.as2_exchange.specs.declared.event.Event.{Event}
 use Rattle.as2_exchange.specs.declared.event.Event.TheVariants as event
-use Rattle.as2_store.specs.Stands.{Rests}
 use Rattle.as2_station.specs.Theorem.{EndsByHistory}
 use Rattle.as2_http.specs.InputReads.{ReadsNeeded}
 use Rattle.as2_http.specs.Notes.{Says, Spoken}
-use Rattle.as2_http.specs.Parsing.{HasTaken}
-use Rattle.as2_http.specs.Requests.{IsOpen}
+use Rattle.as2_messages.specs.Parsing.{HasTaken}
+use Rattle.as2_messages.specs.Requests.{IsOpen}
 use Rattle.as2_http.specs.Streams.{Exchange, AnswersAll, Ends, GoOn, events, notes}
-use Rattle.as2_http.specs.declared.parser.RequestParser.{RequestParser}
+use Rattle.as2_messages.specs.declared.parser.RequestParser.{RequestParser}
 use Rattle.as2_http.specs.declared.stream.Served.{Served}
 
 -- ---- what is read
@@ -29,7 +28,7 @@ pub record NeedsMore (A : AgreedValues) (moment : ℕ) (s : State) (text : List 
   pub undecided : IsOpen held
 
 -- Between two reads: the whole requests that were read are answered, their replies are written and noted, and what is left of the bytes is less than a request.
-pub record BetweenReads (A : AgreedValues) (moment : ℕ) (s : State) (input : List ℕ) (p : RequestParser) (c : Connected) (unread : Option (List ℕ)) (before now : Spoken) (calls later : ℕ) : Type 0 where
+pub record BetweenReads {M : Medium} (A : AgreedValues) (moment : ℕ) (s : State) (input : List ℕ) (p : RequestParser) (c : Standing M) (unread : Option (List ℕ)) (before now : Spoken) (calls later : ℕ) : Type 0 where
   pub reads : ReadsNeeded (NeedsMore A moment s) input unread calls later
   pub done : List Exchange
   pub mid : State
@@ -37,7 +36,7 @@ pub record BetweenReads (A : AgreedValues) (moment : ℕ) (s : State) (input : L
   pub held : List ℕ
   pub all : AnswersAll A moment s reads.read done mid replies held
   pub go_on : GoOn done
-  pub rests : Rests c mid
+  pub rests : c.Rests mid
   pub taken : HasTaken p held
   pub said : Says before now replies (notes moment done)
 
@@ -55,9 +54,9 @@ pub record Serves (A : AgreedValues) (moment : ℕ) (s t : State) (input : List 
   pub reads : ReadsNeeded (NeedsMore A moment s) input unread calls later
 
 -- a read, and what it gave is answered: the stream goes on, or ends so
-abbrev pub AnswersNext : AgreedValues → ℕ → State → List ℕ → RequestParser → Connected → Option (List ℕ) → Spoken → Spoken → ℕ → ℕ → Option Served → Type 0
+abbrev pub AnswersNext : {M : Medium} → AgreedValues → ℕ → State → List ℕ → RequestParser → Standing M → Option (List ℕ) → Spoken → Spoken → ℕ → ℕ → Option Served → Type 0
 AnswersNext A moment s input p c unread before after calls later None = BetweenReads A moment s input p c unread before after calls later
-AnswersNext A moment s input p c unread before after calls later (Some end) = (t : State) × Rests c t × Serves A moment s t input unread before after calls later end
+AnswersNext A moment s input p c unread before after calls later (Some end) = (t : State) × c.Rests t × Serves A moment s t input unread before after calls later end
 
 -- ---- whatever the reader tells
 

@@ -1,27 +1,26 @@
 -- What the requests of a stream get, one after the other (RFC 9112, sections 2.1 and 9.3), and how the stream ends.
 use Rattle.std.specs.Prelude.{◌≡◌, ℕ, ◌⊎◌, Bool, true, false, List, [], ◌∷◌, ◌++◌, Option, Some, None, Result, ⊤}
 use Rattle.std.specs.Io.KnownBytes.{Appends}
-use Rattle.sqlite.specs.State.{State as Connected}
+use Rattle.as2_records.specs.Standing.{Medium, Standing}
 use Rattle.as2_agreement.specs.Agreements.{AgreedValues}
 use Rattle.as2_exchange.specs.Lines.{refusal}
 use Rattle.as2_exchange.specs.Run.{Answered as Said, Failed, Trace}
 use Rattle.as2_exchange.specs.State.{State}
 use Rattle.as2_exchange.specs.declared.answer.Answer.TheVariants.{Http}
-use Rattle.as2_store.specs.Stands.{Rests}
 use Rattle.as2_framing.specs.HeadText.{unblank}
 use Rattle.as2_http.specs.Notes.{Says, Spoken, note, refusal_note}
-use Rattle.as2_http.specs.Parsing.{HasTaken}
-use Rattle.as2_http.specs.Replies.{IsReply, refusal_line}
-use Rattle.as2_http.specs.Requests.{Begins, IsRefused, IsOpen}
+use Rattle.as2_messages.specs.Parsing.{HasTaken}
+use Rattle.as2_messages.specs.Replies.{IsReply, refusal_line}
+use Rattle.as2_messages.specs.Requests.{Begins, IsRefused, IsOpen}
 use Rattle.as2_http.specs.Responses.{Responds, Unsaid, answer_of, post_event}
 use Rattle.as2_http.specs.Sending.{Sends, form_of, refusal_form}
-use Rattle.as2_http.specs.declared.request.Request.{Request}
-use Rattle.as2_http.specs.declared.framing.Refused.{Refused}
-use Rattle.as2_http.specs.declared.framing.Method.{Method}
-use Rattle.as2_http.specs.declared.framing.Method.TheVariants as method
-use Rattle.as2_http.specs.declared.framing.Target.{Target}
-use Rattle.as2_http.specs.declared.framing.Target.TheVariants as target
-use Rattle.as2_http.specs.declared.parser.RequestParser.{RequestParser}
+use Rattle.as2_messages.specs.declared.request.Request.{Request}
+use Rattle.as2_messages.specs.declared.framing.Refused.{Refused}
+use Rattle.as2_messages.specs.declared.framing.Method.{Method}
+use Rattle.as2_messages.specs.declared.framing.Method.TheVariants as method
+use Rattle.as2_messages.specs.declared.framing.Target.{Target}
+use Rattle.as2_messages.specs.declared.framing.Target.TheVariants as target
+use Rattle.as2_messages.specs.declared.parser.RequestParser.{RequestParser}
 use Rattle.as2_http.specs.declared.response.Response.{Response}
 use Rattle.as2_http.specs.declared.response.Response.TheVariants as response
 use Rattle.as2_http.specs.declared.sending.SendFault.{SendFault}
@@ -82,10 +81,10 @@ notes moment [] = []
 notes moment (x ∷ more) = note moment x.0 x.1 ++ notes moment more
 
 -- the request got that, and t is left; its reply is written, or the first bytes of it, and its line is noted
-pub record Replied {U : Type 0} (A : AgreedValues) (moment : ℕ) (s : State) (r : Request) (c : Connected) (before after : Spoken) (sent : Result U SendFault) : Type 0 where
+pub record Replied {M : Medium} {U : Type 0} (A : AgreedValues) (moment : ℕ) (s : State) (r : Request) (c : Standing M) (before after : Spoken) (sent : Result U SendFault) : Type 0 where
   pub response : Response
   pub left : State
-  pub rests : Rests c left
+  pub rests : c.Rests left
   pub responds : Responds A moment s r response Unsaid left
   pub sends : Sends moment (form_of r) (answer_of response) before.written after.written sent
   pub noted : Appends before.noted after.noted (note moment r response)
@@ -145,14 +144,14 @@ may_end_piece served.ReadFault = false
 may_end_piece served.TooLong = false
 
 -- the requests that end in a piece were answered and noted, in the text that it stands in; and how the stream ends with it, if it does
-pub record AnswersPiece (A : AgreedValues) (moment : ℕ) (s : State) (text left : List ℕ) (p : RequestParser) (c : Connected) (before after : Spoken) (end : Option Served) : Type 0 where
+pub record AnswersPiece {M : Medium} (A : AgreedValues) (moment : ℕ) (s : State) (text left : List ℕ) (p : RequestParser) (c : Standing M) (before after : Spoken) (end : Option Served) : Type 0 where
   pub done : List Exchange
   pub mid : State
   pub last : State
   pub replies : List ℕ
   pub rest : List ℕ
   pub all : AnswersAll A moment s text done mid replies rest
-  pub rests : Rests c last
+  pub rests : c.Rests last
   pub ends : PieceEnds A moment done mid replies rest left p before after last end
 
 -- ---- the stream

@@ -1,16 +1,16 @@
 //! A request is sent, and one answer is read.
 ghost use Rattle.std.specs.Prelude.{◌≡◌, ◌+◌, ◌≤◌, List, ℕ, Some, IsTrue};
 ghost use Rattle.std.specs.Io.KnownBytes.{Appends};
-ghost use Rattle.as2_http.specs.Answering.{Gets, IsOpenAnswer, is_answered};
-ghost use Rattle.as2_http.specs.AnswerPieces.{HasKept};
+ghost use Rattle.as2_messages.specs.Answering.{Gets, IsOpenAnswer, is_answered};
+ghost use Rattle.as2_messages.specs.AnswerPieces.{HasKept};
 ghost use Rattle.as2_http.specs.InputReads.{ReadsNeeded};
 ghost use Rattle.as2_http.specs.Sending.{AppendsPart};
 
-use crate::answer_parser::{AnswerParser, ParsedAnswer, ReceivedAnswer};
 use crate::device::{Sink, Source};
 use crate::reads::{READ_LIMIT, READS, pull};
 use crate::sending::push_all;
 use as2_exchange::{Job, TryAnswer};
+use as2_messages::{AnswerParser, ParsedAnswer, ReceivedAnswer};
 use std::alloc::Global;
 
 /// What a try gets with a whole answer.

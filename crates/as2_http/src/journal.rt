@@ -4,9 +4,8 @@ ghost use Rattle.std.specs.Io.KnownBytes.{Appends};
 ghost use Rattle.as2_names.specs.Heads.{Tells};
 ghost use Rattle.as2_http.specs.Notes.{closing, head_told, identifier_told, name_told, opening, refusal_note};
 
-use crate::framing::RequestFault;
-use crate::reply::refusal;
 use arrayvec::ArrayString;
+use as2_messages::{RequestFault, refusal};
 use as2_text::{AsName, Head, Moment, Once, is_identifier, without_blanks};
 use itoa::Buffer;
 

@@ -1,18 +1,14 @@
 //! What a request gets over the records of the station.
 ghost use Rattle.std.specs.Prelude.{◌≡◌, []};
-ghost use Rattle.sqlite.specs.Held.{state};
-ghost use Rattle.sqlite.specs.State.{HasCleanDisk};
 ghost use Rattle.as2_exchange.specs.State.{State};
-ghost use Rattle.as2_store.specs.Stands.{Rests};
 ghost use Rattle.as2_http.specs.Responses.{IsSafe, Responds, answer_of, store_fault_line};
 
-use crate::framing::{Method, Target};
-use crate::request::Request;
 use as2_agreement::Agreements;
 use as2_exchange::{HttpAnswer, Line, StoreFault};
+use as2_messages::{Method, Request, Target};
+use as2_records::Records;
 use as2_station::Station;
 use as2_text::Moment;
-use sqlite::Alter;
 use std::alloc::Global;
 
 /// What a request gets.
@@ -53,17 +49,17 @@ fn store_fault_line(fault: StoreFault) -> Line
 }
 
 /// Has the station take a request.
-pub fn respond<S: Alter>(
+pub fn respond<K: Records>(
     alloc: Global,
     agreements: &Agreements,
     moment: Moment,
-    station: &mut Station<S>,
+    station: &mut Station<K>,
     request: Request,
 ) -> Response
-    ensures clean { HasCleanDisk (state S.Store station.new) → HasCleanDisk (state S.Store station.old) }
-    ensures responds { HasCleanDisk (state S.Store station.new) → (s : State) → Rests (state S.Store station.old) s
-        → (t : State) × Rests (state S.Store station.new) t
-        × Responds agreements.now moment s request result (IsSafe (state S.Store station.new)) t }
+    ensures clean { (K.shows station.new).IsClean → (K.shows station.old).IsClean }
+    ensures responds { (K.shows station.new).IsClean → (s : State) → (K.shows station.old).Rests s
+        → (t : State) × (K.shows station.new).Rests t
+        × Responds agreements.now moment s request result (IsSafe (K.shows station.new)) t }
 {
     let Request {
         method,

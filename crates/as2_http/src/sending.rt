@@ -2,14 +2,13 @@
 ghost use Rattle.std.specs.Prelude.{◌≡◌, ◌<◌, ◌≤◌, Err, OnOk, OnErr};
 ghost use Rattle.std.specs.Io.KnownBytes.{Appends};
 ghost use Rattle.as2_exchange.specs.Lines.{refusal};
-ghost use Rattle.as2_http.specs.Replies.{refusal_line};
+ghost use Rattle.as2_messages.specs.Replies.{refusal_line};
 ghost use Rattle.as2_http.specs.Sending.{AppendsPart, Sends, refusal_form};
 ghost use Rattle.as2_http.specs.declared.sending.SendFault.TheVariants.{Write};
 
 use crate::device::{DeviceFault, Sink};
-use crate::framing::Refused;
-use crate::reply::{Form, refusal, write_reply};
 use as2_exchange::HttpAnswer;
+use as2_messages::{Form, Refused, refusal, write_reply};
 use as2_text::Moment;
 use std::alloc::Global;
 

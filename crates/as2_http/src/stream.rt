@@ -4,32 +4,26 @@ ghost use Rattle.std.specs.Io.KnownBytes.{Appends};
 ghost use Rattle.as2_framing.specs.HeadText.{unblank};
 ghost use Rattle.as2_http.specs.declared.stream.Served.TheVariants.{Closed, ReadFault, TooLong, Truncated, WriteFault};
 ghost use Rattle.as2_http.specs.declared.sending.SendFault.TheVariants.{Write};
-ghost use Rattle.sqlite.specs.Held.{state};
-ghost use Rattle.sqlite.specs.State.{HasCleanDisk};
 ghost use Rattle.as2_exchange.specs.State.{State};
-ghost use Rattle.as2_store.specs.Stands.{Rests};
 ghost use Rattle.as2_http.specs.InputReads.{read_limit};
-ghost use Rattle.as2_http.specs.Parsing.{HasTaken};
+ghost use Rattle.as2_messages.specs.Parsing.{HasTaken};
 ghost use Rattle.as2_http.specs.Notes.{Spoken, refusal_note, spoken};
 ghost use Rattle.as2_http.specs.Sending.{Sends, refusal_form};
-ghost use Rattle.as2_http.specs.Replies.{refusal_line};
+ghost use Rattle.as2_messages.specs.Replies.{refusal_line};
 ghost use Rattle.as2_exchange.specs.Lines.{refusal};
 ghost use Rattle.as2_http.specs.StreamReads.{AnswersNext, BetweenReads, RunsPosts, Serves};
 ghost use Rattle.as2_http.specs.Streams.{AnswersPiece, Replied, end_by, may_end_piece};
 
 use crate::device::{Sink, Source};
-use crate::framing::Refused;
 use crate::journal::{Journal, note_refusal, note_request, note_status};
-use crate::parser::{Parsed, RequestParser};
 use crate::reads::{READ_LIMIT, READS, pull};
-use crate::reply::Form;
-use crate::request::Request;
 use crate::response::respond;
 use crate::sending::{SendFault, send, send_refusal};
 use as2_agreement::Agreements;
+use as2_messages::{Form, Parsed, Refused, Request, RequestParser};
+use as2_records::Records;
 use as2_station::Station;
 use as2_text::Moment;
-use sqlite::Alter;
 use std::alloc::Global;
 
 /// What a stream came to.
@@ -81,18 +75,18 @@ fn refuse<W: Sink, J: Journal>(
 }
 
 /// Has the station take a request, writes its reply, and notes it.
-fn reply<S: Alter, W: Sink, J: Journal>(
+fn reply<K: Records, W: Sink, J: Journal>(
     alloc: Global,
     agreements: &Agreements,
     moment: Moment,
-    station: &mut Station<S>,
+    station: &mut Station<K>,
     request: Request,
     sink: &mut W,
     journal: &mut J,
 ) -> Result<(), SendFault>
-    ensures clean { HasCleanDisk (state S.Store station.new) → HasCleanDisk (state S.Store station.old) }
-    ensures replied { HasCleanDisk (state S.Store station.new) → (s : State) → Rests (state S.Store station.old) s
-        → Replied agreements.now moment s request (state S.Store station.new) (spoken (W.written sink.old) (J.noted journal.old)) (spoken (W.written sink.new) (J.noted journal.new)) result }
+    ensures clean { (K.shows station.new).IsClean → (K.shows station.old).IsClean }
+    ensures replied { (K.shows station.new).IsClean → (s : State) → (K.shows station.old).Rests s
+        → Replied agreements.now moment s request (K.shows station.new) (spoken (W.written sink.old) (J.noted journal.old)) (spoken (W.written sink.new) (J.noted journal.new)) result }
     ensures failed { result ≡ Err Write → W.failed sink.old < W.failed sink.new }
     ensures counted { W.failed sink.old ≤ W.failed sink.new }
 {
@@ -108,21 +102,21 @@ fn reply<S: Alter, W: Sink, J: Journal>(
 }
 
 /// Answers the requests that end in a piece, in turn, and tells how the stream ends with it, if it does.
-fn answer_piece<S: Alter, W: Sink, J: Journal>(
+fn answer_piece<K: Records, W: Sink, J: Journal>(
     alloc: Global,
     agreements: &Agreements,
     moment: Moment,
-    station: &mut Station<S>,
+    station: &mut Station<K>,
     parser: &mut RequestParser,
     piece: &[u8],
     sink: &mut W,
     journal: &mut J,
 ) -> Option<Served>
     requires held { (held : List ℕ) × HasTaken parser.old held }
-    ensures clean { HasCleanDisk (state S.Store station.new) → HasCleanDisk (state S.Store station.old) }
-    ensures answered { HasCleanDisk (state S.Store station.new) → (s : State) → Rests (state S.Store station.old) s
+    ensures clean { (K.shows station.new).IsClean → (K.shows station.old).IsClean }
+    ensures answered { (K.shows station.new).IsClean → (s : State) → (K.shows station.old).Rests s
         → (held left : List ℕ) → HasTaken parser.old held
-        → AnswersPiece agreements.now moment s (held ++ piece.now ++ left) left parser.new (state S.Store station.new)
+        → AnswersPiece agreements.now moment s (held ++ piece.now ++ left) left parser.new (K.shows station.new)
         (spoken (W.written sink.old) (J.noted journal.old)) (spoken (W.written sink.new) (J.noted journal.new)) result }
     ensures failed { result ≡ Some WriteFault → W.failed sink.old < W.failed sink.new }
     ensures counted { W.failed sink.old ≤ W.failed sink.new }
@@ -172,11 +166,11 @@ fn ended(parser: &RequestParser) -> Served
 
 /// Makes one read, and answers the requests that end in what it gave. Before it, every whole request that was read has its
 /// reply; and so behind it, where the stream goes on.
-fn answer_next<S: Alter, R: Source, W: Sink, J: Journal>(
+fn answer_next<K: Records, R: Source, W: Sink, J: Journal>(
     alloc: Global,
     agreements: &Agreements,
     moment: Moment,
-    station: &mut Station<S>,
+    station: &mut Station<K>,
     parser: &mut RequestParser,
     buffer: &mut Vec<u8>,
     source: &mut R,
@@ -185,13 +179,13 @@ fn answer_next<S: Alter, R: Source, W: Sink, J: Journal>(
 ) -> Option<Served>
     requires held { (held : List ℕ) × HasTaken parser.old held }
     requires room { vec_len buffer.old ≡ read_limit }
-    ensures clean { HasCleanDisk (state S.Store station.new) → HasCleanDisk (state S.Store station.old) }
+    ensures clean { (K.shows station.new).IsClean → (K.shows station.old).IsClean }
     ensures calls { R.calls source.new ≡ R.calls source.old + 1 }
-    ensures answered { HasCleanDisk (state S.Store station.new) → (s : State) (input : List ℕ) (before : Spoken) (calls : ℕ)
-        → BetweenReads agreements.now moment s input parser.old (state S.Store station.old) (R.left source.old) before (spoken (W.written sink.old) (J.noted journal.old)) calls (R.calls source.old)
-        → AnswersNext agreements.now moment s input parser.new (state S.Store station.new) (R.left source.new) before (spoken (W.written sink.new) (J.noted journal.new)) calls (R.calls source.new) result }
-    ensures posts { HasCleanDisk (state S.Store station.new) → (s mid : State) → Rests (state S.Store station.old) mid → RunsPosts agreements.now moment s mid
-        → (t : State) × Rests (state S.Store station.new) t × RunsPosts agreements.now moment s t }
+    ensures answered { (K.shows station.new).IsClean → (s : State) (input : List ℕ) (before : Spoken) (calls : ℕ)
+        → BetweenReads agreements.now moment s input parser.old (K.shows station.old) (R.left source.old) before (spoken (W.written sink.old) (J.noted journal.old)) calls (R.calls source.old)
+        → AnswersNext agreements.now moment s input parser.new (K.shows station.new) (R.left source.new) before (spoken (W.written sink.new) (J.noted journal.new)) calls (R.calls source.new) result }
+    ensures posts { (K.shows station.new).IsClean → (s mid : State) → (K.shows station.old).Rests mid → RunsPosts agreements.now moment s mid
+        → (t : State) × (K.shows station.new).Rests t × RunsPosts agreements.now moment s t }
     ensures held { result ≡ None → (held : List ℕ) × HasTaken parser.new held }
     ensures room { vec_len buffer.new ≡ read_limit }
     ensures read_fault { result ≡ Some ReadFault → R.failed source.old < R.failed source.new }
@@ -215,22 +209,22 @@ fn answer_next<S: Alter, R: Source, W: Sink, J: Journal>(
 /// Answers the requests of a stream one after the other: a post is taken by the station, over the agreements. A read is made
 /// only when every whole request that was read has its reply, and none once the stream has ended; at most 100,000 are made.
 /// Each reply is noted in the journal, in a line: a request up to its status before the station takes it.
-pub fn serve_stream<S: Alter, R: Source, W: Sink, J: Journal>(
+pub fn serve_stream<K: Records, R: Source, W: Sink, J: Journal>(
     alloc: Global,
     agreements: &Agreements,
     moment: Moment,
-    station: &mut Station<S>,
+    station: &mut Station<K>,
     source: &mut R,
     sink: &mut W,
     journal: &mut J,
 ) -> Served
-    ensures clean { HasCleanDisk (state S.Store station.new) → HasCleanDisk (state S.Store station.old) }
-    ensures serves { HasCleanDisk (state S.Store station.new) → (s : State) → Rests (state S.Store station.old) s
-        → (input : List ℕ) → R.left source.old ≡ Some input → (t : State) × Rests (state S.Store station.new) t
+    ensures clean { (K.shows station.new).IsClean → (K.shows station.old).IsClean }
+    ensures serves { (K.shows station.new).IsClean → (s : State) → (K.shows station.old).Rests s
+        → (input : List ℕ) → R.left source.old ≡ Some input → (t : State) × (K.shows station.new).Rests t
         × Serves agreements.now moment s t input (R.left source.new) (spoken (W.written sink.old) (J.noted journal.old)) (spoken (W.written sink.new) (J.noted journal.new)) (R.calls source.old) (R.calls source.new) result }
     // Whatever the reader tells, nothing but posts at this moment was taken.
-    ensures posts { HasCleanDisk (state S.Store station.new) → (s : State) → Rests (state S.Store station.old) s
-        → (t : State) × Rests (state S.Store station.new) t × RunsPosts agreements.now moment s t }
+    ensures posts { (K.shows station.new).IsClean → (s : State) → (K.shows station.old).Rests s
+        → (t : State) × (K.shows station.new).Rests t × RunsPosts agreements.now moment s t }
     ensures reads { R.calls source.new ≤ R.calls source.old + 100000 }
     ensures read_fault { result ≡ ReadFault → R.failed source.old < R.failed source.new }
     ensures write_fault { result ≡ WriteFault → W.failed sink.old < W.failed sink.new }

@@ -20,6 +20,7 @@ use Rattle.as2_exchange.specs.declared.event.Event.TheVariants.{Post, Submit, Be
 use Rattle.as2_exchange.specs.declared.fault.StoreFault.{StoreFault}
 use Rattle.as2_store.specs.Calls.{Keeps, Lasts}
 use Rattle.as2_store.specs.Stands.{Rests}
+use Rattle.as2_kept.specs.Instance.{standing}
 use Rattle.as2_station.specs.Heads.{asks_store, submit_refusal, takes_store}
 use Rattle.as2_station.specs.Steps.{Left, TakesEvent}
 use Rattle.as2_station.specs.Traces.{Taken, said, trace}
@@ -62,11 +63,11 @@ next_is o a t u is next = let same : Some t ≡ Some u = sym (ap (option_map (λ
 
 module _ (A : Agreements) (e : Event) (old new : Connected) (clean : HasCleanDisk new) where
   -- an answer is left by every crash
-  pub answered_lasts : (a : Answer) → TakesEvent A e (λ a. a) old new (Ok a) → (s t : State) → Rests old s → Lasts old s → step A s e ≡ Some (a, t) → Rests new t → Lasts new t
+  pub answered_lasts : (a : Answer) → TakesEvent A e (λ a. a) (standing old) (standing new) (Ok a) → (s t : State) → Rests old s → Lasts old s → step A s e ≡ Some (a, t) → Rests new t → Lasts new t
   answered_lasts a it s t rests lasts is rested = by new.is_open refl (asks_store A e) refl
     where
       by : (opened : Bool) → new.is_open ≡ opened → (asks : Bool) → asks_store A e ≡ asks → Lasts new t
-      by true opened asks asked = it.lasts opened t rested
+      by true opened asks asked = record { each = (it.lasts opened t rested).each }
       by false opened true asked = absurd (let two : true ≡ false = sym (it.does.is_open clean asked) ∙ opened in cc)
       by false opened false asked = record {
         each = λ db may. elim (it.does.crash.crash clean db may) [
@@ -113,7 +114,7 @@ done_first : (A : Agreements) (e : Event) (f : StoreFault) (a : Answer) (told : 
 done_first A e f a told s u t is run out = ((e, Answered a) ∷ told, inr (this_one e f a told out), (u, is, run))
 
 -- where a fault shut the connection, the state that was being committed may stand
-shut_at : (A : Agreements) (e : Event) (f : StoreFault) (old new : Connected) (s : State) (came : Option (Answer × State)) → step A s e ≡ came → HasCleanDisk new → TakesEvent A e (λ a. a) old new (Err f) → Rests old s → Lasts old s
+shut_at : (A : Agreements) (e : Event) (f : StoreFault) (old new : Connected) (s : State) (came : Option (Answer × State)) → step A s e ≡ came → HasCleanDisk new → TakesEvent A e (λ a. a) (standing old) (standing new) (Err f) → Rests old s → Lasts old s
     → (db : Trees) → new.may_leave db → Keeps db s ⊎ ((u : State) × (a : Answer) × (came ≡ Some (a, u)) × Keeps db u)
 shut_at A e f old new s came is clean it rests lasts db may = elim (it.does.crash.crash clean db may) [
   | inl before ↦ inl (lasts.each db before)
@@ -129,7 +130,7 @@ shut_at A e f old new s came is clean it rests lasts db may = elim (it.does.cras
 
 module _ (A : Agreements) (x : Event) (told : Trace) (old mid : Connected) (clean : HasCleanDisk mid) (db : Trees) where
   -- after a fault, over a connection that held s
-  failed_goes : (f : StoreFault) → TakesEvent A x (λ a. a) old mid (Err f) → (s : State) → Rests old s → Lasts old s → ((o : Option State) → At s o mid → Goes A told s o db) → Goes A ((x, Failed f) ∷ told) s None db
+  failed_goes : (f : StoreFault) → TakesEvent A x (λ a. a) (standing old) (standing mid) (Err f) → (s : State) → Rests old s → Lasts old s → ((o : Option State) → At s o mid → Goes A told s o db) → Goes A ((x, Failed f) ∷ told) s None db
   failed_goes f it s rests lasts go = by mid.is_open refl (step A s x) refl
     where
       now : Rests mid s × MayFail A s x f
@@ -139,7 +140,7 @@ module _ (A : Agreements) (x : Event) (told : Trace) (old mid : Connected) (clea
       whole held = let later = go None (now.0, held) in (later.0, failed_first A x f told s later.0 now.1 later.1, later.2)
 
       by : (opened : Bool) → mid.is_open ≡ opened → (came : Option (Answer × State)) → step A s x ≡ came → Goes A ((x, Failed f) ∷ told) s None db
-      by true opened came is = whole (it.lasts opened s now.0)
+      by true opened came is = whole (record { each = (it.lasts opened s now.0).each })
       by false opened None is = whole (record { each = λ d may. elim (shut_at A x f old mid s None is clean it rests lasts d may) [ inl k ↦ k | inr n ↦ absurd (let none : None ≡ Some (n.1, n.0) = n.2 in cc) ] })
       by false opened (Some y) is =
           let rested : Rests mid y.1 = record { autocommit = now.0.autocommit; stands = λ yes. absurd (let two : true ≡ false = sym yes ∙ opened in cc); committed = λ yes. absurd (let two : true ≡ false = sym yes ∙ opened in cc) } in
@@ -150,17 +151,17 @@ module _ (A : Agreements) (x : Event) (told : Trace) (old mid : Connected) (clea
           ]
 
   -- after an answer, over a connection that was shut as u was being committed
-  answered_shut : (a : Answer) → TakesEvent A x (λ a. a) old mid (Ok a) → (s u : State) → At s (Some u) old → ((t : State) (o : Option State) → At t o mid → Goes A told t o db) → Goes A ((x, Answered a) ∷ told) s (Some u) db
+  answered_shut : (a : Answer) → TakesEvent A x (λ a. a) (standing old) (standing mid) (Ok a) → (s u : State) → At s (Some u) old → ((t : State) (o : Option State) → At t o mid → Goes A told t o db) → Goes A ((x, Answered a) ∷ told) s (Some u) db
   answered_shut a it s u at go = by mid.is_open refl (asks_store A x) refl
     where
-      now : Left mid (step A s x) a
+      now : Left (standing mid) (step A s x) a
       now = it.does.answered clean s at.1 tt
 
-      other : Left mid (step A u x) a
+      other : Left (standing mid) (step A u x) a
       other = it.does.answered clean u at.2 tt
 
       by : (opened : Bool) → mid.is_open ≡ opened → (asks : Bool) → asks_store A x ≡ asks → Goes A ((x, Answered a) ∷ told) s (Some u) db
-      by true opened asks asked = let later = go now.next None (now.rests, it.lasts opened now.next now.rests) in inl (later.0, answered_first A x a told s now.next later.0 now.step later.1, later.2)
+      by true opened asks asked = let later = go now.next None (now.rests, record { each = (it.lasts opened now.next now.rests).each }) in inl (later.0, answered_first A x a told s now.next later.0 now.step later.1, later.2)
       by false opened true asked = absurd (let two : true ≡ false = sym (it.does.is_open clean asked) ∙ opened in cc)
       by false opened false asked =
           let same = unasked A s now.next x a asked now.step in
@@ -180,7 +181,7 @@ module _ (A : Agreements) (x : Event) (told : Trace) (old mid : Connected) (clea
           ]
 
   -- after a fault, over such a connection
-  failed_shut : (f : StoreFault) → TakesEvent A x (λ a. a) old mid (Err f) → (s u : State) → At s (Some u) old → ((o : Option State) → At s o mid → Goes A told s o db) → Goes A ((x, Failed f) ∷ told) s (Some u) db
+  failed_shut : (f : StoreFault) → TakesEvent A x (λ a. a) (standing old) (standing mid) (Err f) → (s u : State) → At s (Some u) old → ((o : Option State) → At s o mid → Goes A told s o db) → Goes A ((x, Failed f) ∷ told) s (Some u) db
   failed_shut f it s u at go = by mid.is_open refl
     where
       now : Rests mid s × MayFail A s x f
@@ -190,33 +191,33 @@ module _ (A : Agreements) (x : Event) (told : Trace) (old mid : Connected) (clea
       other = it.does.failed clean u at.2 tt
 
       by : (opened : Bool) → mid.is_open ≡ opened → Goes A ((x, Failed f) ∷ told) s (Some u) db
-      by true opened = let later = go None (now.0, it.lasts opened s now.0) in inl (later.0, failed_first A x f told s later.0 now.1 later.1, later.2)
+      by true opened = let later = go None (now.0, record { each = (it.lasts opened s now.0).each }) in inl (later.0, failed_first A x f told s later.0 now.1 later.1, later.2)
       by false opened =
           let next : At s (Some u) mid = (opened, now.0, other.0, λ d may. elim (it.does.crash.crash clean d may) [ inl before ↦ at.3 d before | inr more ↦ absurd (let two : true ≡ false = sym more.was_open ∙ at.0 in cc) ]) in
           elim (go (Some u) next) [ inl k ↦ inl (k.0, failed_first A x f told s k.0 now.1 k.1, k.2) | inr k ↦ inr (k.0, (other.1, k.1), k.2, k.3) ]
 
 module _ {S : Type 0} (g : Ghosts S) (A : Agreements) where
-  goes_on : (es : List Event) (rs : List (Result Answer StoreFault)) (old new : Held S) → Taken g A es rs old new → HasCleanDisk (state g new) → (s : State) (o : Option State) → At s o (state g old)
+  goes_on : (es : List Event) (rs : List (Result Answer StoreFault)) (old new : Held S) → Taken (λ (h : Held S). standing (state g h)) A es rs old new → HasCleanDisk (state g new) → (s : State) (o : Option State) → At s o (state g old)
       → (db : Trees) → (state g new).may_leave db → Goes A (trace es rs) s o db
   goes_on [] [] old new same clean s None at db may = (s, ([], inl refl, refl), at.1.each db (subst (λ (h : Held S). (state g h).may_leave db) same may))
   goes_on [] [] old new same clean s (Some u) at db may = elim (at.3 db (subst (λ (h : Held S). (state g h).may_leave db) same may)) [ inl k ↦ inl (s, ([], inl refl, refl), k) | inr k ↦ inr (u, refl, tt, k) ]
   goes_on [] (q ∷ rs) old new none clean s o at db may = absurd none
   goes_on (x ∷ es) [] old new none clean s o at db may = absurd none
   goes_on (x ∷ es) (Ok a ∷ rs) old new it clean s None at db may =
-      let mid = taken_clean g A es rs it.0 new it.4 clean in
+      let mid = taken_clean (λ (h : Held S). standing (state g h)) A es rs it.0 new it.4 clean in
       let now = it.1.does.answered mid s at.0 tt in
       let held = answered_lasts A x (state g old) (state g it.0) mid a it.1 s now.next at.0 at.1 now.step now.rests in
       let later = goes_on es rs it.0 new it.4 clean now.next None (now.rests, held) db may in
       (later.0, answered_first A x a (trace es rs) s now.next later.0 now.step later.1, later.2)
   goes_on (x ∷ es) (Ok a ∷ rs) old new it clean s (Some u) at db may =
-      answered_shut A x (trace es rs) (state g old) (state g it.0) (taken_clean g A es rs it.0 new it.4 clean) db a it.1 s u at (λ t o there. goes_on es rs it.0 new it.4 clean t o there db may)
+      answered_shut A x (trace es rs) (state g old) (state g it.0) (taken_clean (λ (h : Held S). standing (state g h)) A es rs it.0 new it.4 clean) db a it.1 s u at (λ t o there. goes_on es rs it.0 new it.4 clean t o there db may)
   goes_on (x ∷ es) (Err f ∷ rs) old new it clean s None at db may =
-      failed_goes A x (trace es rs) (state g old) (state g it.0) (taken_clean g A es rs it.0 new it.4 clean) db f it.1 s at.0 at.1 (λ o there. goes_on es rs it.0 new it.4 clean s o there db may)
+      failed_goes A x (trace es rs) (state g old) (state g it.0) (taken_clean (λ (h : Held S). standing (state g h)) A es rs it.0 new it.4 clean) db f it.1 s at.0 at.1 (λ o there. goes_on es rs it.0 new it.4 clean s o there db may)
   goes_on (x ∷ es) (Err f ∷ rs) old new it clean s (Some u) at db may =
-      failed_shut A x (trace es rs) (state g old) (state g it.0) (taken_clean g A es rs it.0 new it.4 clean) db f it.1 s u at (λ o there. goes_on es rs it.0 new it.4 clean s o there db may)
+      failed_shut A x (trace es rs) (state g old) (state g it.0) (taken_clean (λ (h : Held S). standing (state g h)) A es rs it.0 new it.4 clean) db f it.1 s u at (λ o there. goes_on es rs it.0 new it.4 clean s o there db may)
 
   -- whatever stops the computer after these events, they lead to what is found, perhaps with one more done
-  pub leaves : (es : List Event) (rs : List (Result Answer StoreFault)) (old new : Held S) → Taken g A es rs old new → HasCleanDisk (state g new) → (s : State) → IsHeld (state g old) s → MayLeave A (trace es rs) s (state g new)
+  pub leaves : (es : List Event) (rs : List (Result Answer StoreFault)) (old new : Held S) → Taken (λ (h : Held S). standing (state g h)) A es rs old new → HasCleanDisk (state g new) → (s : State) → IsHeld (state g old) s → MayLeave A (trace es rs) s (state g new)
   leaves es rs old new taken clean s held db may =
       let it = goes_on es rs old new taken clean s None (held.rests, held.lasts) db may in
       (it.0, record { events = it.1.0; counts = it.1.1; run = it.1.2; by_history = ends_by_history A s it.1.0 it.0 it.1.2 }, it.2)

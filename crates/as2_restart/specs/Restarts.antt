@@ -4,7 +4,7 @@ use Rattle.sqlite_disk.specs.declared.Disk as disk
 use Rattle.sqlite_store.specs.declared.store.FileStore.{FileStore}
 use Rattle.sqlite_trees.specs.Tree.{Trees}
 use Rattle.sqlite.specs.Files.{over_files}
-use Rattle.sqlite.specs.Held.{Held}
+use Rattle.sqlite.specs.Held.{Held, state}
 use Rattle.sqlite.specs.State.{State as Connected}
 use Rattle.as2_exchange.specs.Agreement.{Agreements}
 use Rattle.as2_exchange.specs.Run.{Said, Answered, Failed, Trace, Run}
@@ -14,6 +14,7 @@ use Rattle.as2_exchange.specs.declared.event.Event.{Event}
 use Rattle.as2_exchange.specs.declared.fault.StoreFault.{StoreFault}
 use Rattle.as2_store.specs.Calls.{Keeps, Lasts}
 use Rattle.as2_store.specs.Stands.{Rests}
+use Rattle.as2_kept.specs.Instance.{standing}
 use Rattle.as2_station.specs.Heads.{asks_store}
 use Rattle.as2_station.specs.Theorem.{EndsByHistory}
 use Rattle.as2_station.specs.Traces.{Taken}
@@ -61,4 +62,4 @@ ComesInTurn A (told ∷ rest) events s u = (t : State) × (it : ComesTo A told s
 
 -- each event was taken in turn by the station, and nothing was done between
 abbrev pub WasPlayed : {D : Type 0} {g : disk.Ghosts D} → Agreements → List Event → List (Result Answer StoreFault) → Held (FileStore D g) → Type 0
-WasPlayed {D} {g} A events answers station = (left : Held (FileStore D g)) × Taken over_files A events answers station left
+WasPlayed {D} {g} A events answers station = (left : Held (FileStore D g)) × Taken (λ (h : Held (FileStore D g)). standing (state over_files h)) A events answers station left

@@ -1,5 +1,5 @@
 //! The files of a store: closed, left by a stop, and opened at their path.
-ghost use Rattle.std.specs.Prelude.{◌≡◌, true, false, IfOk, IsTrue};
+ghost use Rattle.std.specs.Prelude.{◌≡◌, true, false, IfErr, IfOk, IsTrue};
 ghost use Rattle.sqlite.specs.Closing.{IsCopied};
 ghost use Rattle.sqlite.specs.Files.{IsBlankAs, IsOpened, file_state};
 ghost use Rattle.sqlite.specs.Start.{FindsIn};
@@ -16,6 +16,7 @@ ghost use Rattle.as2_store.specs.Stands.{Rests};
 ghost use Rattle.as2_restart.specs.Files.{AreClosed, AreLeft, AreShielded};
 ghost use Rattle.as2_restart.specs.Restarts.{MayLeave};
 
+use as2_kept::Kept;
 use as2_station::Station;
 use sqlite::{Connection, Error, FileFrom, FileStore, Start};
 use sqlite_disk::{Disk, Files};
@@ -41,39 +42,44 @@ pub fn open_at<S: Start>(
     }
 }
 
-/// Closes a store into its two files, which hold then what its tables stood for. Where that fails the store is dropped, and what is
-/// left then no clause says.
-pub fn close<D: Disk + Drop>(conn: Connection<FileStore<D>>) -> Result<Files<D>, Error>
+/// Closes a store into its two files, which hold then what its tables stood for. Where that fails the files come with the error, and
+/// what they hold then no clause says.
+pub fn close<D: Disk + Drop>(conn: Connection<FileStore<D>>) -> Result<Files<D>, (Error, Files<D>)>
     ensures usable { IfOk result (λ files. IsTrue (D.Disk.is_usable files.log) × IsTrue (D.Disk.is_usable files.db)) }
     ensures copied { IfOk result (λ files. AreClean D.Disk files.log files.db → IsCopied conn files) }
     ensures closed { IfOk result (λ files. AreClean D.Disk files.log files.db → (s : State) → Rests (file_state conn) s → AreClosed D.Disk files s) }
     ensures shield { IfOk result (λ files. (file_state conn).IsShielded → AreShielded D.Disk files) }
+    ensures clean { IfOk result (λ files. AreClean D.Disk files.log files.db → HasCleanDisk (file_state conn)) }
+    ensures unclosed { IfErr result (λ e. AreClean D.Disk e.1.log e.1.db → HasCleanDisk (file_state conn)) }
 {
     match conn.close_files() {
         Ok(files) => Ok(files),
-        Err((error, store)) => {
-            drop(store.close());
-            Err(error)
-        }
+        Err((error, store)) => Err((error, store.close())),
     }
 }
 
 /// Closes a station's store into its two files.
-pub(crate) fn shut<D: Disk + Drop>(station: Station<FileStore<D>>) -> Result<Files<D>, Error>
+pub(crate) fn shut<D: Disk + Drop>(
+    station: Station<Kept<FileStore<D>>>,
+) -> Result<Files<D>, (Error, Files<D>)>
     ensures usable { IfOk result (λ files. IsTrue (D.Disk.is_usable files.log) × IsTrue (D.Disk.is_usable files.db)) }
     ensures clean { IfOk result (λ files. AreClean D.Disk files.log files.db → HasCleanDisk (file_state station)) }
     ensures closed { IfOk result (λ files. AreClean D.Disk files.log files.db → (s : State) → Rests (file_state station) s → AreClosed D.Disk files s) }
     ensures shield { IfOk result (λ files. (file_state station).IsShielded → AreShielded D.Disk files) }
 {
-    close(station.into_connection())
+    close(station.into_records().into_connection())
 }
 
 /// The two files of a station, as a stop of the computer would find them: they hold what its store would leave to a crash.
-pub fn leave<D: Disk + Drop>(station: Station<FileStore<D>>) -> Files<D>
+pub fn leave<D: Disk + Drop>(station: Station<Kept<FileStore<D>>>) -> Files<D>
     ensures clean { AreClean D.Disk result.log result.db → HasCleanDisk (file_state station) }
     ensures left { AreClean D.Disk result.log result.db → (A : Agreements) (told : Trace) (s : State) → MayLeave A told s (file_state station) → AreLeft D.Disk result A told s }
     ensures kept { AreClean D.Disk result.log result.db → (s : State) → Rests (file_state station) s → IsTrue (file_state station).is_open
         → (image : Image) → outcomes D.Disk result.log result.db image → ∥ HoldsState image s ∥₁ }
 {
-    station.into_connection().into_store().close()
+    station
+        .into_records()
+        .into_connection()
+        .into_store()
+        .close()
 }

@@ -13,6 +13,7 @@ use crate::files::shut;
 use crate::reopening::stop_and_open;
 use as2_agreement::Agreements;
 use as2_exchange::{Answer, Event, StoreFault};
+use as2_kept::Kept;
 use as2_station::Station;
 use as2_text::Memory;
 use sqlite::{FileStore, Options};
@@ -25,7 +26,7 @@ pub struct Stopped<D: Disk> {
     /// What was said to each event.
     pub said: Vec<Result<Answer, StoreFault>>,
     /// The station over the files that were left, where they could be opened.
-    pub again: Option<Station<FileStore<D>>>,
+    pub again: Option<Station<Kept<FileStore<D>>>>,
 }
 
 /// A list of events, and the close behind it.
@@ -41,7 +42,7 @@ pub struct Closed<D: Disk> {
 /// answered stands; of what was not, one event at most is done. Memory where nothing has happened.
 pub fn play_then_stop<D: Crash + Drop>(
     alloc: Global,
-    mut station: Station<FileStore<D>>,
+    mut station: Station<Kept<FileStore<D>>>,
     agreements: &Agreements,
     events: Vec<Event>,
     options: Options,
@@ -60,7 +61,7 @@ pub fn play_then_stop<D: Crash + Drop>(
 /// honest gives. Memory where nothing has happened.
 pub fn play_then_close<C: Calls + Drop, S: Start>(
     alloc: Global,
-    mut station: Station<FileStore<Modelled<C, S>>>,
+    mut station: Station<Kept<FileStore<Modelled<C, S>>>>,
     agreements: &Agreements,
     events: Vec<Event>,
 ) -> Result<Closed<Modelled<C, S>>, Memory>

@@ -11,6 +11,7 @@ ghost use Rattle.as2_store.specs.Stands.{Rests};
 ghost use Rattle.as2_restart.specs.Restarts.{Comes, IsHeld, MayLeave};
 
 use crate::files::{leave, shut};
+use as2_kept::Kept;
 use as2_station::Station;
 use as2_store::Store;
 use sqlite::{Connection, FileStore, Options};
@@ -22,7 +23,7 @@ fn station_over<D: Disk + Drop>(
     alloc: Global,
     files: Files<D>,
     options: Options,
-) -> Option<Station<FileStore<D>>>
+) -> Option<Station<Kept<FileStore<D>>>>
     requires log { IsTrue (D.Disk.is_usable files.log) }
     requires db { IsTrue (D.Disk.is_usable files.db) }
     ensures clean { IfSome result (λ again. HasCleanDisk (file_state again) → AreClean D.Disk files.log files.db) }
@@ -32,7 +33,7 @@ fn station_over<D: Disk + Drop>(
         return None;
     };
     match Store::adopt(again) {
-        Ok(store) => Some(Station::new(store)),
+        Ok(store) => Some(Station::new(Kept::new(store))),
         Err(_) => None,
     }
 }
@@ -40,9 +41,9 @@ fn station_over<D: Disk + Drop>(
 /// Closes a station's store and opens its files again: they stand for the same state. None where a close or an open failed.
 pub fn reopen<D: Disk + Drop>(
     alloc: Global,
-    station: Station<FileStore<D>>,
+    station: Station<Kept<FileStore<D>>>,
     options: Options,
-) -> Option<Station<FileStore<D>>>
+) -> Option<Station<Kept<FileStore<D>>>>
     ensures same { IfSome result (λ again. HasCleanDisk (file_state again) → (s : State) → Rests (file_state station) s → IsHeld (file_state again) s) }
 {
     match shut(station) {
@@ -55,9 +56,9 @@ pub fn reopen<D: Disk + Drop>(
 /// crash may leave. None where the open failed.
 pub fn stop_and_open<D: Crash + Drop>(
     alloc: Global,
-    station: Station<FileStore<D>>,
+    station: Station<Kept<FileStore<D>>>,
     options: Options,
-) -> Option<Station<FileStore<D>>>
+) -> Option<Station<Kept<FileStore<D>>>>
     ensures clean { IfSome result (λ again. HasCleanDisk (file_state again) → HasCleanDisk (file_state station)) }
     ensures found { IfSome result (λ again. HasCleanDisk (file_state again) → (A : Agreements) (told : Trace) (s : State) → MayLeave A told s (file_state station)
         → ∥ Comes A told s (file_state again) ∥₁) }

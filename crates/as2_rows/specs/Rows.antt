@@ -12,9 +12,9 @@ use Rattle.as2_exchange.specs.declared.inbox.ReceiptDelivery.TheVariants.{NoRece
 use Rattle.as2_exchange.specs.declared.inbox.InEntry.{InEntry}
 use Rattle.as2_exchange.specs.declared.outbox.OutEntry.{OutEntry}
 use Rattle.as2_exchange.specs.declared.outbox.Evidence.{Evidence}
-use Rattle.as2_rows.specs.declared.inbox.InRow.{InRow}
-use Rattle.as2_rows.specs.declared.outbox.OutRow.{OutRow}
-use Rattle.as2_rows.specs.Summaries.{in_summary, out_summary}
+use Rattle.as2_records.specs.declared.summaries.InRow.{InRow}
+use Rattle.as2_records.specs.declared.summaries.OutRow.{OutRow}
+use Rattle.as2_records.specs.Summaries.{in_summary, out_summary}
 use Rattle.as2_rows.specs.Codes.{outcome_code, how_code, mdn_code, attempt_code, detail_code}
 
 -- ---- values

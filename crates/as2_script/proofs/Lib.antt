@@ -1,1 +1,2 @@
 mod Untouched
+mod Reached

@@ -4,7 +4,7 @@ use Rattle.as2_agreement.specs.Agreements.{AgreedValues}
 use Rattle.as2_exchange.specs.State.{State}
 use Rattle.as2_station.proofs.ByHistory.{ends_by_history}
 use Rattle.as2_http.specs.StreamReads.{RunsPosts}
-use Rattle.as2_desk.specs.Connections.{ServesOne}
+use Rattle.as2_host.specs.Serving.{ServesOne}
 
 no_posts : (A : AgreedValues) (moment : ℕ) (s : State) → RunsPosts A moment s s
 no_posts A moment s = record { trace = []; posts = tt; run = refl; by_history = ends_by_history A s [] s refl }

@@ -10,19 +10,20 @@ mod stores;
 
 use as2_desk::{Lines, run};
 use as2_http::Counted;
+use as2_kept::Kept;
 use files::Files;
 use network::Peers;
 use script_player::{Ended, Given, Input, Paper, Runs};
-use sqlite::{Connection, MemStore};
+use sqlite::MemStore;
 use std::alloc::Global;
 use std::marker::Brand;
 use std::sync::ledger::{Blank, Ledger};
 use stores::Stores;
 
-/// What the last command line left.
+/// The store that was closed last, and what the last command line left of its input.
 #[derive(Drop)]
 pub struct Desk {
-    kept: Option<Connection<MemStore>>,
+    kept: Option<Kept<MemStore>>,
     unread: (usize, usize),
 }
 
@@ -40,7 +41,7 @@ fn joined(mut bytes: Vec<u8>, others: &[u8]) -> Vec<u8> {
     bytes
 }
 
-/// Runs the command line with counts of the calls that are made of its streams: what it comes to, and what it leaves.
+/// Runs the command line with counts of the calls that are made of its streams: what it comes to, and what it leaves of its input.
 fn run_counted<A: Ledger, B: Ledger, C: Ledger, D: Ledger>(
     alloc: Global,
     given: &Given<'_>,
@@ -49,7 +50,7 @@ fn run_counted<A: Ledger, B: Ledger, C: Ledger, D: Ledger>(
     failed_reads: Blank,
     writes: Blank,
     failed_writes: Blank,
-) -> (Ended, Desk)
+) -> (Ended, (usize, usize))
     requires reads { Opens reads.name reads.parts A.name A.parts }
     requires failed_reads { Opens failed_reads.name failed_reads.parts B.name B.parts }
     requires writes { Opens writes.name writes.parts C.name C.parts }
@@ -67,7 +68,7 @@ fn run_counted<A: Ledger, B: Ledger, C: Ledger, D: Ledger>(
         inner: Paper::new(alloc, given.calls.errors),
     };
     let mut errors = Paper::new(alloc, given.calls.errors);
-    let (ran, handed) = run(
+    let ran = run(
         alloc,
         given.words.as_slice(),
         given.clock,
@@ -87,14 +88,10 @@ fn run_counted<A: Ledger, B: Ledger, C: Ledger, D: Ledger>(
         errors: joined(hints.inner.bytes, errors.bytes.as_slice()),
         is_unread: are_unread(given.parts.as_slice(), unread),
     };
-    let kept = match handed {
-        Some((_, conn)) => Some(conn),
-        None => None,
-    };
-    (ended, Desk { kept, unread })
+    (ended, unread)
 }
 
-fn run_over(alloc: Global, given: &Given<'_>, stores: &mut Stores<'_>) -> (Ended, Desk) {
+fn run_over(alloc: Global, given: &Given<'_>, stores: &mut Stores<'_>) -> (Ended, (usize, usize)) {
     run_counted::<Brand, Brand, Brand, Brand>(
         alloc,
         given,
@@ -117,16 +114,22 @@ impl Desk {
 
 impl Runs for Desk {
     fn run(&mut self, alloc: Global, given: &Given<'_>) -> Ended {
-        let mut stores = Stores {
-            word: given.settings.text("stores").unwrap_or(""),
-            kept: self.kept.take(),
+        let word = given.settings.text("stores").unwrap_or("");
+        let last = self.kept.take();
+        // (the store that was closed last stands there where the text says so, or is put aside)
+        let (kept, aside) = if word == "kept" {
+            (last, None)
+        } else {
+            (None, last)
         };
-        let (ended, left) = run_over(alloc, given, &mut stores);
-        *self = left;
-        // (the store that was handed back, or else the one that wasn't opened)
-        if self.kept.is_none() {
-            self.kept = stores.kept.take();
-        }
+        let mut stores = Stores {
+            word,
+            kept,
+            has_opened: false,
+        };
+        let (ended, unread) = run_over(alloc, given, &mut stores);
+        self.unread = unread;
+        self.kept = stores.kept.take().or(aside);
         ended
     }
 

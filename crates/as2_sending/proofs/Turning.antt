@@ -4,7 +4,7 @@ use Rattle.std.proofs.KnownBytes.{Appends-nil, Appends-trans}
 use Rattle.std.proofs.lemmas.Bool.{false≢true}
 use Rattle.std.proofs.lemmas.Grind.{flat_map-append}
 use Rattle.std.specs.Io.KnownBytes.{Appends}
-use Rattle.sqlite.specs.State.{State as Connected}
+use Rattle.as2_records.specs.Standing.{Medium, Standing}
 use Rattle.as2_exchange.specs.Agreement.{Agreements, Text}
 use Rattle.as2_exchange.specs.Run.{Trace, Run}
 use Rattle.as2_exchange.specs.State.{State}
@@ -18,7 +18,7 @@ use Rattle.as2_exchange.specs.declared.fault.StoreFault.{StoreFault}
 use Rattle.as2_exchange.specs.declared.fault.StoreFault.TheVariants.{Full}
 use Rattle.as2_exchange.specs.declared.next.Next.{Next}
 use Rattle.as2_exchange.specs.declared.next.Next.TheVariants.{Receipt, Document}
-use Rattle.as2_store.specs.Stands.{Rests, may_come}
+use Rattle.as2_records.specs.Standing.{may_come}
 use Rattle.as2_sending.specs.Hints.{hint_if, why_of}
 use Rattle.as2_sending.specs.Lines.{answer_of, line, lines, line_of}
 use Rattle.as2_station.proofs.ByHistory.{ends_by_history}
@@ -32,7 +32,7 @@ use Rattle.as2_sending.proofs.Answering.{begin_says, outcome_says, begin_answere
 
 -- ---- a begin
 
-pub begins_to : (A : Agreements) (m : ℕ) (s : State) (what : Next) (c : Connected) (a : Answer) (t : State) → next s m ≡ Some what → step A s (begin_of what m) ≡ Some (a, t) → Rests c t → BeginsTo A m s what c (handed a)
+pub begins_to : {M : Medium} (A : Agreements) (m : ℕ) (s : State) (what : Next) (c : Standing M) (a : Answer) (t : State) → next s m ≡ Some what → step A s (begin_of what m) ≡ Some (a, t) → c.Rests t → BeginsTo A m s what c (handed a)
 begins_to A m s what c (Handed job) t is h rests = (t, record { is_next = is; begun = h }, rests)
 begins_to A m s what c (Refused r) t is h rests = (_, t, (at_begin_refused what is h refl, refl), rests)
 begins_to A m s what c (Http x) t is h rests = absurd (false≢true (begin_says A m s what (Http x) t h))
@@ -47,13 +47,13 @@ begins_to A m s what c (Ticked n) t is h rests = absurd (false≢true (begin_say
 may_be : (f : StoreFault) → (f ≡ Full → ⊥) → (f ≡ Full) ⊎ (may_come f ≡ true) → may_come f ≡ true
 may_be f none either = elim either [ inl full ↦ absurd (none full) | inr may ↦ may ]
 
-pub begin_fails : (A : Agreements) (m : ℕ) (s : State) (what : Next) (c : Connected) (f : StoreFault) → next s m ≡ Some what → Rests c s × (f ≡ Full → step A s (begin_of what m) ≡ None) → (f ≡ Full) ⊎ (may_come f ≡ true)
+pub begin_fails : {M : Medium} (A : Agreements) (m : ℕ) (s : State) (what : Next) (c : Standing M) (f : StoreFault) → next s m ≡ Some what → c.Rests s × (f ≡ Full → step A s (begin_of what m) ≡ None) → (f ≡ Full) ⊎ (may_come f ≡ true)
     → BeginsTo A m s what c (Err (sent.Failed f))
 begin_fails A m s what c f is left either = (_, s, (at_begin_failed what is refl refl, may_be f (λ full. begin_answered A m s what (left.1 full)) either, refl), left.0)
 
 -- ---- an outcome
 
-pub closes_to : (A : Agreements) (m : ℕ) (s : State) (what : Next) (got : TryAnswer) (job : Job) (mid : State) (c : Connected) (a : Answer) (t : State) → Begins A m s what job mid → step A mid (outcome_of what got m) ≡ Some (a, t) → Rests c t
+pub closes_to : {M : Medium} (A : Agreements) (m : ℕ) (s : State) (what : Next) (got : TryAnswer) (job : Job) (mid : State) (c : Standing M) (a : Answer) (t : State) → Begins A m s what job mid → step A mid (outcome_of what got m) ≡ Some (a, t) → c.Rests t
     → ClosesTo A m s what got mid c (came a)
 closes_to A m s what got job mid c (Settled d) t b h rests = (t, h, rests)
 closes_to A m s what got job mid c Delivered t b h rests = (t, h, rests)
@@ -65,26 +65,26 @@ closes_to A m s what got job mid c (Submitted n) t b h rests = absurd (false≢t
 closes_to A m s what got job mid c (Handed j) t b h rests = absurd (false≢true (outcome_says A m mid what got (Handed j) t h))
 closes_to A m s what got job mid c (Ticked n) t b h rests = absurd (false≢true (outcome_says A m mid what got (Ticked n) t h))
 
-pub outcome_fails : (A : Agreements) (m : ℕ) (s : State) (what : Next) (got : TryAnswer) (job : Job) (mid : State) (c : Connected) (f : StoreFault) → Begins A m s what job mid
-    → Rests c mid × (f ≡ Full → step A mid (outcome_of what got m) ≡ None) → (f ≡ Full) ⊎ (may_come f ≡ true) → ClosesTo A m s what got mid c (Err (sent.Failed f))
+pub outcome_fails : {M : Medium} (A : Agreements) (m : ℕ) (s : State) (what : Next) (got : TryAnswer) (job : Job) (mid : State) (c : Standing M) (f : StoreFault) → Begins A m s what job mid
+    → c.Rests mid × (f ≡ Full → step A mid (outcome_of what got m) ≡ None) → (f ≡ Full) ⊎ (may_come f ≡ true) → ClosesTo A m s what got mid c (Err (sent.Failed f))
 outcome_fails A m s what got job mid c f b left either =
     (_, mid, (at_outcome_failed what job got b refl, may_be f (λ full. outcome_answered A m mid what got (left.1 full)) either, refl), left.0)
 
 -- ---- a turn
 
 -- it ends as it begins, or with its outcome: nothing is written, and nothing hinted
-pub begin_ends : (U : Type 0) (A : Agreements) (m : ℕ) (s : State) (what : Next) (c : Connected) (now : Option (List ℕ)) (Hinted : Text → Type 0) (end : Sent) → Hinted [] → BeginsTo A m s what c (Err end) → TurnsTo {U = U} A m s c now now Hinted (Err end)
+pub begin_ends : {M : Medium} (U : Type 0) (A : Agreements) (m : ℕ) (s : State) (what : Next) (c : Standing M) (now : Option (List ℕ)) (Hinted : Text → Type 0) (end : Sent) → Hinted [] → BeginsTo A m s what c (Err end) → TurnsTo {U = U} A m s c now now Hinted (Err end)
 begin_ends U A m s what c now Hinted end none w = (w.0, w.1, [], w.2, w.3, Appends-nil now, none)
 
-pub close_ends : (U : Type 0) (A : Agreements) (m : ℕ) (s : State) (what : Next) (got : TryAnswer) (mid : State) (c : Connected) (now : Option (List ℕ)) (Hinted : Text → Type 0) (end : Sent) → Hinted [] → ClosesTo A m s what got mid c (Err end) → TurnsTo {U = U} A m s c now now Hinted (Err end)
+pub close_ends : {M : Medium} (U : Type 0) (A : Agreements) (m : ℕ) (s : State) (what : Next) (got : TryAnswer) (mid : State) (c : Standing M) (now : Option (List ℕ)) (Hinted : Text → Type 0) (end : Sent) → Hinted [] → ClosesTo A m s what got mid c (Err end) → TurnsTo {U = U} A m s c now now Hinted (Err end)
 close_ends U A m s what got mid c now Hinted end none w = (w.0, w.1, [], w.2, w.3, Appends-nil now, none)
 
-pub turn_told : (U : Type 0) (A : Agreements) (m : ℕ) (s : State) (what : Next) (got : TryAnswer) (fault : LinkFault) (job : Job) (mid : State) (c : Connected) (before after : Option (List ℕ)) (Hinted : Text → Type 0) (became : Became) (u : U)
+pub turn_told : {M : Medium} (U : Type 0) (A : Agreements) (m : ℕ) (s : State) (what : Next) (got : TryAnswer) (fault : LinkFault) (job : Job) (mid : State) (c : Standing M) (before after : Option (List ℕ)) (Hinted : Text → Type 0) (became : Became) (u : U)
     → Begins A m s what job mid → ClosesTo A m s what got mid c (Ok became) → Appends before after (line what became) → Hinted (hint_if what became (why_of got fault)) → TurnsTo {U = U} A m s c before after Hinted (Ok u)
 turn_told U A m s what got fault job mid c before after Hinted became u b w written hinted =
     (record { what = what; job = job; got = got; fault = fault; became = became }, w.0, record { mid = mid; begins = b; closes = w.1 }, w.2, written, hinted)
 
-pub turn_untold : (U : Type 0) (A : Agreements) (m : ℕ) (s : State) (what : Next) (got : TryAnswer) (fault : LinkFault) (job : Job) (mid : State) (c : Connected) (before after : Option (List ℕ)) (Hinted : Text → Type 0) (became : Became) (part missing : Text)
+pub turn_untold : {M : Medium} (U : Type 0) (A : Agreements) (m : ℕ) (s : State) (what : Next) (got : TryAnswer) (fault : LinkFault) (job : Job) (mid : State) (c : Standing M) (before after : Option (List ℕ)) (Hinted : Text → Type 0) (became : Became) (part missing : Text)
     → Begins A m s what job mid → ClosesTo A m s what got mid c (Ok became) → line what became ≡ part ++ missing → Appends before after part → Hinted [] → TurnsTo {U = U} A m s c before after Hinted (Err sent.Unwritten)
 turn_untold U A m s what got fault job mid c before after Hinted became part missing b w cut written none = (
   _,
@@ -96,10 +96,10 @@ turn_untold U A m s what got fault job mid c before after Hinted became part mis
   none,
 )
 
-pub nothing_next : (U : Type 0) (A : Agreements) (m : ℕ) (s : State) (c : Connected) (now : Option (List ℕ)) (Hinted : Text → Type 0) → Hinted [] → next s m ≡ None → Rests c s → TurnsTo {U = U} A m s c now now Hinted (Err sent.Done)
+pub nothing_next : {M : Medium} (U : Type 0) (A : Agreements) (m : ℕ) (s : State) (c : Standing M) (now : Option (List ℕ)) (Hinted : Text → Type 0) → Hinted [] → next s m ≡ None → c.Rests s → TurnsTo {U = U} A m s c now now Hinted (Err sent.Done)
 nothing_next U A m s c now Hinted no_hint none rests = ([], s, [], (none, refl, refl, refl), rests, Appends-nil now, no_hint)
 
-pub next_fails : (U : Type 0) (A : Agreements) (m : ℕ) (s : State) (c : Connected) (now : Option (List ℕ)) (Hinted : Text → Type 0) (f : StoreFault) → Hinted [] → may_come f ≡ true → Rests c s → TurnsTo {U = U} A m s c now now Hinted (Err (sent.Failed f))
+pub next_fails : {M : Medium} (U : Type 0) (A : Agreements) (m : ℕ) (s : State) (c : Standing M) (now : Option (List ℕ)) (Hinted : Text → Type 0) (f : StoreFault) → Hinted [] → may_come f ≡ true → c.Rests s → TurnsTo {U = U} A m s c now now Hinted (Err (sent.Failed f))
 next_fails U A m s c now Hinted f none may rests = ([], s, [], (at_next_failed refl refl, may, refl), rests, Appends-nil now, none)
 
 -- ---- runs
@@ -129,15 +129,15 @@ end_run A m s t last text sent.Unwritten e = subst (λ (x : Trace). Run A s x t)
 -- ---- all turns
 
 -- the turns so far
-pub record SentSoFar (A : Agreements) (m : ℕ) (s : State) (c : Connected) (before now : Option (List ℕ)) (Hinted : Text → Type 0) : Type 0 where
+pub record SentSoFar {M : Medium} (A : Agreements) (m : ℕ) (s : State) (c : Standing M) (before now : Option (List ℕ)) (Hinted : Text → Type 0) : Type 0 where
   pub done : List Turn
   pub mid : State
   pub all : TakesAll A m s done mid
-  pub rests : Rests c mid
+  pub rests : c.Rests mid
   pub written : Appends before now (lines (events m done))
   pub hinted : Hinted (hints done)
 
-pub sends_first : (A : Agreements) (m : ℕ) (s : State) (c : Connected) (now : Option (List ℕ)) (Hinted : Text → Type 0) → Hinted [] → Rests c s → SentSoFar A m s c now now Hinted
+pub sends_first : {M : Medium} (A : Agreements) (m : ℕ) (s : State) (c : Standing M) (now : Option (List ℕ)) (Hinted : Text → Type 0) → Hinted [] → c.Rests s → SentSoFar A m s c now now Hinted
 sends_first A m s c now Hinted none rests = record { done = []; mid = s; all = refl; rests = rests; written = Appends-nil now; hinted = none }
 
 all_more : (A : Agreements) (m : ℕ) (s mid t : State) (done : List Turn) (x : Turn) → TakesAll A m s done mid → Takes A m mid x t → TakesAll A m s (done ++ x ∷ []) t
@@ -183,7 +183,7 @@ Joins Before Behind Both = (a b : Text) → Before a → Behind b → Both (a ++
 pub joined : (P Q R : Type 0) (before mid after : Option (List ℕ)) → (R → P × Q) → Joins (λ text. P → Appends before mid text) (λ text. Q → Appends mid after text) (λ text. R → Appends before after text)
 joined P Q R before mid after parts a b one other = λ r. let both = parts r in Appends-trans before mid after a b (one both.0) (other both.1)
 
-module _ (U : Type 0) (A : Agreements) (m : ℕ) (s : State) (c d : Connected) (before now later : Option (List ℕ)) (So Behind Then : Text → Type 0) (joins : Joins So Behind Then) where
+module _ {M : Medium} (U : Type 0) (A : Agreements) (m : ℕ) (s : State) (c d : Standing M) (before now later : Option (List ℕ)) (So Behind Then : Text → Type 0) (joins : Joins So Behind Then) where
   pub sends_on : (u : U) (w : SentSoFar A m s c before now So) → TurnsTo {U = U} A m w.mid d now later Behind (Ok u) → SentSoFar A m s d before later Then
   sends_on u w x = record {
     done = w.done ++ x.0 ∷ [];
@@ -194,7 +194,7 @@ module _ (U : Type 0) (A : Agreements) (m : ℕ) (s : State) (c d : Connected) (
     hinted = subst Then (sym (hints_more w.done x.0)) (joins (hints w.done) (hint_of x.0) w.hinted x.5);
   }
 
-  pub sends_ended : (end : Sent) (w : SentSoFar A m s c before now So) → TurnsTo {U = U} A m w.mid d now later Behind (Err end) → (t : State) × Rests d t × Sends A m s t before later Then end
+  pub sends_ended : (end : Sent) (w : SentSoFar A m s c before now So) → TurnsTo {U = U} A m w.mid d now later Behind (Err end) → (t : State) × d.Rests t × Sends A m s t before later Then end
   sends_ended end w x = (
     x.1,
     x.4,
@@ -213,8 +213,8 @@ module _ (U : Type 0) (A : Agreements) (m : ℕ) (s : State) (c d : Connected) (
   )
 
 -- it is given up, as if what is next couldn't be told
-pub sends_given_up : (A : Agreements) (m : ℕ) (s : State) (c : Connected) (before now : Option (List ℕ)) (Hinted : Text → Type 0) (f : StoreFault) → may_come f ≡ true → SentSoFar A m s c before now Hinted
-    → (t : State) × Rests c t × Sends A m s t before now Hinted (sent.Failed f)
+pub sends_given_up : {M : Medium} (A : Agreements) (m : ℕ) (s : State) (c : Standing M) (before now : Option (List ℕ)) (Hinted : Text → Type 0) (f : StoreFault) → may_come f ≡ true → SentSoFar A m s c before now Hinted
+    → (t : State) × c.Rests t × Sends A m s t before now Hinted (sent.Failed f)
 sends_given_up A m s c before now Hinted f may w =
     sends_ended ℕ A m s c c before now now Hinted (λ text. text ≡ []) Hinted (λ a b hinted is. subst Hinted (sym (append-nil a) ∙ ap (λ (l : Text). a ++ l) (sym is)) hinted)
     (sent.Failed f) w (next_fails ℕ A m w.mid c now (λ text. text ≡ []) f refl may w.rests)

@@ -2,7 +2,7 @@
 use Rattle.std.specs.Prelude.{◌≡◌, ℕ, true, List, [], ◌∷◌, ◌++◌, Option, Some, None, Result, Ok, Err}
 use Rattle.std.specs.Io.KnownBytes.{Appends}
 use Rattle.std.specs.List.{flat_map}
-use Rattle.sqlite.specs.State.{State as Connected}
+use Rattle.as2_records.specs.Standing.{Medium, Standing}
 use Rattle.as2_exchange.specs.Agreement.{Agreements, Text}
 use Rattle.as2_exchange.specs.Run.{Trace, Answered, Failed, Run}
 use Rattle.as2_exchange.specs.State.{State}
@@ -19,7 +19,7 @@ use Rattle.as2_exchange.specs.declared.fault.StoreFault.{StoreFault}
 use Rattle.as2_exchange.specs.declared.fault.StoreFault.TheVariants as fault
 use Rattle.as2_exchange.specs.declared.next.Next.{Next}
 use Rattle.as2_exchange.specs.declared.next.Next.TheVariants.{Receipt, Document}
-use Rattle.as2_store.specs.Stands.{Rests, may_come}
+use Rattle.as2_records.specs.Standing.{may_come}
 use Rattle.as2_station.specs.Theorem.{EndsByHistory}
 use Rattle.as2_sending.specs.Hints.{hint_if, why_of}
 use Rattle.as2_sending.specs.Lines.{answer_of, line, lines}
@@ -142,17 +142,17 @@ came AlreadySettled = Ok became.AlreadySettled
 came (Refused reason) = Err (sent.Refused reason)
 came other = Err (sent.Failed fault.Refused)
 
--- what is next begins, and the tables stand for the state that it leaves; or sending ends with it
-abbrev pub BeginsTo : Agreements → ℕ → State → Next → Connected → Result Job Sent → Type 0
-BeginsTo A m s what c (Ok job) = (mid : State) × Begins A m s what job mid × Rests c mid
-BeginsTo A m s what c (Err end) = (last : Trace) × (t : State) × Ends A m s last t [] end × Rests c t
+-- what is next begins, and the records rest on the state that it leaves; or sending ends with it
+abbrev pub BeginsTo : {M : Medium} → Agreements → ℕ → State → Next → Standing M → Result Job Sent → Type 0
+BeginsTo A m s what c (Ok job) = (mid : State) × Begins A m s what job mid × c.Rests mid
+BeginsTo A m s what c (Err end) = (last : Trace) × (t : State) × Ends A m s last t [] end × c.Rests t
 
 -- the outcome of what has begun is taken, which leaves mid behind; or sending ends with it
-abbrev pub ClosesTo : Agreements → ℕ → State → Next → TryAnswer → State → Connected → Result Became Sent → Type 0
-ClosesTo A m s what got mid c (Ok became) = (t : State) × (step A mid (outcome_of what got m) ≡ Some (answer_of became, t)) × Rests c t
-ClosesTo A m s what got mid c (Err end) = (last : Trace) × (t : State) × Ends A m s last t [] end × Rests c t
+abbrev pub ClosesTo : {M : Medium} → Agreements → ℕ → State → Next → TryAnswer → State → Standing M → Result Became Sent → Type 0
+ClosesTo A m s what got mid c (Ok became) = (t : State) × (step A mid (outcome_of what got m) ≡ Some (answer_of became, t)) × c.Rests t
+ClosesTo A m s what got mid c (Err end) = (last : Trace) × (t : State) × Ends A m s last t [] end × c.Rests t
 
 -- a turn is taken whole, with its line and its hint; or sending ends with it, and nothing is hinted
-abbrev pub TurnsTo : {U : Type 0} → Agreements → ℕ → State → Connected → Option (List ℕ) → Option (List ℕ) → (Text → Type 0) → Result U Sent → Type 0
-TurnsTo A m s c before after Hinted (Ok done) = (x : Turn) × (t : State) × Takes A m s x t × Rests c t × Appends before after (line x.what x.became) × Hinted (hint_of x)
-TurnsTo A m s c before after Hinted (Err end) = (last : Trace) × (t : State) × (text : Text) × Ends A m s last t text end × Rests c t × Appends before after text × Hinted []
+abbrev pub TurnsTo : {M : Medium} {U : Type 0} → Agreements → ℕ → State → Standing M → Option (List ℕ) → Option (List ℕ) → (Text → Type 0) → Result U Sent → Type 0
+TurnsTo A m s c before after Hinted (Ok done) = (x : Turn) × (t : State) × Takes A m s x t × c.Rests t × Appends before after (line x.what x.became) × Hinted (hint_of x)
+TurnsTo A m s c before after Hinted (Err end) = (last : Trace) × (t : State) × (text : Text) × Ends A m s last t text end × c.Rests t × Appends before after text × Hinted []

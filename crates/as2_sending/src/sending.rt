@@ -1,10 +1,7 @@
 //! What is due is sent.
 ghost use Rattle.std.specs.Prelude.{◌≡◌, true};
 ghost use Rattle.std.specs.Io.KnownBytes.{Appends};
-ghost use Rattle.sqlite.specs.Held.{state};
-ghost use Rattle.sqlite.specs.State.{HasCleanDisk};
 ghost use Rattle.as2_exchange.specs.State.{State};
-ghost use Rattle.as2_store.specs.Stands.{Rests};
 ghost use Rattle.as2_sending.specs.Turns.{Sends};
 
 use crate::links::Links;
@@ -13,9 +10,9 @@ use crate::turns::take_turn;
 use as2_agreement::Agreements;
 use as2_exchange::StoreFault;
 use as2_http::Sink;
+use as2_records::Records;
 use as2_station::Station;
 use as2_text::Moment;
-use sqlite::Alter;
 use std::alloc::Global;
 use std::io::Write;
 
@@ -35,19 +32,19 @@ fn both(one: bool, other: bool) -> bool
 /// refused, which has no line; Failed where the store fails; Unwritten where a line can't be written, and what was done stays;
 /// Done once nothing is due. Behind the line of a try that failed, why it did is written among the hints; a hint that can't be
 /// written changes nothing else.
-pub fn send<S: Alter, L: Links, W: Sink, E: Write>(
+pub fn send<K: Records, L: Links, W: Sink, E: Write>(
     alloc: Global,
     agreements: &Agreements,
     moment: Moment,
-    station: &mut Station<S>,
+    station: &mut Station<K>,
     links: &mut L,
     output: &mut W,
     hints: &mut E,
 ) -> Sending
-    ensures clean { HasCleanDisk (state S.Store station.new) → HasCleanDisk (state S.Store station.old) }
-    // The tables stand for the state that a run of whole turns and of one end leaves.
-    ensures sends { HasCleanDisk (state S.Store station.new) → (s : State) → Rests (state S.Store station.old) s
-        → (t : State) × Rests (state S.Store station.new) t
+    ensures clean { (K.shows station.new).IsClean → (K.shows station.old).IsClean }
+    // The records rest on the state that a run of whole turns and of one end leaves.
+    ensures sends { (K.shows station.new).IsClean → (s : State) → (K.shows station.old).Rests s
+        → (t : State) × (K.shows station.new).Rests t
         × Sends agreements.now moment s t (W.written output.old) (W.written output.new)
         (λ text. result.told ≡ true → Appends (E.contents hints.old) (E.contents hints.new) text) result.end }
 {

@@ -1,12 +1,9 @@
 //! One turn: what is next begins, is exchanged, and its outcome is taken and told.
 ghost use Rattle.std.specs.Prelude.{◌≡◌, Some, IfOk, true};
 ghost use Rattle.std.specs.Io.KnownBytes.{Appends};
-ghost use Rattle.sqlite.specs.Held.{state};
-ghost use Rattle.sqlite.specs.State.{HasCleanDisk};
 ghost use Rattle.as2_exchange.specs.declared.answer.Job.{Job as HandedJob};
 ghost use Rattle.as2_exchange.specs.State.{State};
 ghost use Rattle.as2_exchange.specs.Views.{next};
-ghost use Rattle.as2_store.specs.Stands.{Rests};
 ghost use Rattle.as2_sending.specs.Turns.{Begins, BeginsTo, ClosesTo, TurnsTo, begin_of, came, handed, outcome_of};
 
 use crate::hints::{is_hinted, why_of};
@@ -16,9 +13,9 @@ use crate::telling::{Became, line};
 use as2_agreement::Agreements;
 use as2_exchange::{Answer, Event, Job, Next, StoreFault, TryAnswer};
 use as2_http::{Sink, push_all};
+use as2_records::Records;
 use as2_station::Station;
 use as2_text::Moment;
-use sqlite::Alter;
 use std::alloc::Global;
 use std::io::Write;
 
@@ -78,16 +75,16 @@ fn came(answer: Answer) -> Result<Became, Sent>
 }
 
 /// Begins a try of what is next, and gives its request.
-fn begin<S: Alter>(
+fn begin<K: Records>(
     alloc: Global,
     agreements: &Agreements,
     moment: Moment,
-    station: &mut Station<S>,
+    station: &mut Station<K>,
     what: Next,
 ) -> Result<Job, Sent>
-    ensures clean { HasCleanDisk (state S.Store station.new) → HasCleanDisk (state S.Store station.old) }
-    ensures begun { HasCleanDisk (state S.Store station.new) → (s : State) → Rests (state S.Store station.old) s → next s moment ≡ Some what
-        → BeginsTo agreements.now moment s what (state S.Store station.new) result }
+    ensures clean { (K.shows station.new).IsClean → (K.shows station.old).IsClean }
+    ensures begun { (K.shows station.new).IsClean → (s : State) → (K.shows station.old).Rests s → next s moment ≡ Some what
+        → BeginsTo agreements.now moment s what (K.shows station.new) result }
 {
     match station.step(alloc, agreements, begin_event(what, moment)) {
         Ok(answer) => handed(answer),
@@ -96,17 +93,17 @@ fn begin<S: Alter>(
 }
 
 /// Takes the outcome of a try, and tells what became of it.
-fn close<S: Alter>(
+fn close<K: Records>(
     alloc: Global,
     agreements: &Agreements,
     moment: Moment,
-    station: &mut Station<S>,
+    station: &mut Station<K>,
     what: Next,
     got: TryAnswer,
 ) -> Result<Became, Sent>
-    ensures clean { HasCleanDisk (state S.Store station.new) → HasCleanDisk (state S.Store station.old) }
-    ensures closed { HasCleanDisk (state S.Store station.new) → (s mid : State) (job : HandedJob) → Begins agreements.now moment s what job mid → Rests (state S.Store station.old) mid
-        → ClosesTo agreements.now moment s what got mid (state S.Store station.new) result }
+    ensures clean { (K.shows station.new).IsClean → (K.shows station.old).IsClean }
+    ensures closed { (K.shows station.new).IsClean → (s mid : State) (job : HandedJob) → Begins agreements.now moment s what job mid → (K.shows station.old).Rests mid
+        → ClosesTo agreements.now moment s what got mid (K.shows station.new) result }
 {
     match station.step(alloc, agreements, outcome_event(what, got, moment)) {
         Ok(answer) => came(answer),
@@ -116,19 +113,19 @@ fn close<S: Alter>(
 
 /// Takes a turn of what is next, writes its line, and behind that why it failed, where it did; whether that could be said. An
 /// Err says how sending ends.
-fn turn<S: Alter, L: Links, W: Sink, E: Write>(
+fn turn<K: Records, L: Links, W: Sink, E: Write>(
     alloc: Global,
     agreements: &Agreements,
     moment: Moment,
-    station: &mut Station<S>,
+    station: &mut Station<K>,
     what: Next,
     links: &mut L,
     output: &mut W,
     hints: &mut E,
 ) -> Result<bool, Sent>
-    ensures clean { HasCleanDisk (state S.Store station.new) → HasCleanDisk (state S.Store station.old) }
-    ensures turned { HasCleanDisk (state S.Store station.new) → (s : State) → Rests (state S.Store station.old) s → next s moment ≡ Some what
-        → TurnsTo agreements.now moment s (state S.Store station.new) (W.written output.old) (W.written output.new)
+    ensures clean { (K.shows station.new).IsClean → (K.shows station.old).IsClean }
+    ensures turned { (K.shows station.new).IsClean → (s : State) → (K.shows station.old).Rests s → next s moment ≡ Some what
+        → TurnsTo agreements.now moment s (K.shows station.new) (W.written output.old) (W.written output.new)
         (λ text. IfOk result (λ told. told ≡ true) → Appends (E.contents hints.old) (E.contents hints.new) text) result }
 {
     let job = begin(alloc, agreements, moment, station, what)?;
@@ -143,18 +140,18 @@ fn turn<S: Alter, L: Links, W: Sink, E: Write>(
 
 /// Takes a turn of what is next, if something is; whether all that there was to hint could be said. An Err says how sending
 /// ends.
-pub(crate) fn take_turn<S: Alter, L: Links, W: Sink, E: Write>(
+pub(crate) fn take_turn<K: Records, L: Links, W: Sink, E: Write>(
     alloc: Global,
     agreements: &Agreements,
     moment: Moment,
-    station: &mut Station<S>,
+    station: &mut Station<K>,
     links: &mut L,
     output: &mut W,
     hints: &mut E,
 ) -> Result<bool, Sent>
-    ensures clean { HasCleanDisk (state S.Store station.new) → HasCleanDisk (state S.Store station.old) }
-    ensures turned { HasCleanDisk (state S.Store station.new) → (s : State) → Rests (state S.Store station.old) s
-        → TurnsTo agreements.now moment s (state S.Store station.new) (W.written output.old) (W.written output.new)
+    ensures clean { (K.shows station.new).IsClean → (K.shows station.old).IsClean }
+    ensures turned { (K.shows station.new).IsClean → (s : State) → (K.shows station.old).Rests s
+        → TurnsTo agreements.now moment s (K.shows station.new) (W.written output.old) (W.written output.new)
         (λ text. IfOk result (λ told. told ≡ true) → Appends (E.contents hints.old) (E.contents hints.new) text) result }
 {
     match station.next(moment) {

@@ -3,7 +3,6 @@ use Rattle.std.proofs.Common.{◌≡◌, ◌∙◌, ℕ, ◌==◌, Bool, true, f
 use Rattle.std.specs.Prelude.{if◌then◌else◌}
 use Rattle.std.specs.Option.{option_map_or}
 use Rattle.std.proofs.lemmas.Bool.Decides.{nat_tests}
-use Rattle.sqlite.specs.Effect.{Database}
 use Rattle.as2_exchange.specs.Agreement.{Agreements, Partner, Text, is_organization, partner_of}
 use Rattle.as2_exchange.specs.State.{State, document, change_document}
 use Rattle.as2_exchange.specs.Step.{acted, on_document}
@@ -14,7 +13,7 @@ use Rattle.as2_exchange.specs.declared.answer.Refusal.{Refusal}
 use Rattle.as2_exchange.specs.declared.answer.Refusal.TheVariants.{UnknownOrganization, UnknownPartner}
 use Rattle.as2_exchange.specs.declared.outbox.OutEntry.{OutEntry}
 use Rattle.as2_exchange.proofs.Refusing.{left_as_is}
-use Rattle.as2_store.specs.Stands.{Stands}
+use Rattle.as2_records.specs.Standing.{IsCounted}
 use Rattle.as2_station.specs.Trying.{agreed_partner, known}
 use Rattle.as2_station.proofs.Numbers.{changes_alike}
 
@@ -39,7 +38,7 @@ module _ {E : Type 0} (A : Agreements) (organization partner : Text) (e : E) (ac
 
 -- ---- an act on a document that is found
 
-module _ (s : State) (d : OutEntry) (db : Database) (stands : Stands db s) (found : document s d.number ≡ Some d) (act : OutEntry → Answer × OutEntry) (a : Answer) where
+module _ (s : State) (d : OutEntry) (stands : IsCounted s) (found : document s d.number ≡ Some d) (act : OutEntry → Answer × OutEntry) (a : Answer) where
   -- it leaves it
   pub leaves : act d ≡ (a, d) → on_document s d.number act ≡ (a, s)
   leaves is =
@@ -64,8 +63,8 @@ numbered {E} number n (x ∷ ds) d found = go (number x == n) refl found (number
     go false is here later = later here
 
 -- an act that does the same to it
-pub acts_alike : (s : State) (d : OutEntry) (db : Database) → Stands db s → document s d.number ≡ Some d → (act other : OutEntry → Answer × OutEntry) → act d ≡ other d → on_document s d.number act ≡ on_document s d.number other
-acts_alike s d db stands found act other same =
+pub acts_alike : (s : State) (d : OutEntry) → IsCounted s → document s d.number ≡ Some d → (act other : OutEntry → Answer × OutEntry) → act d ≡ other d → on_document s d.number act ≡ on_document s d.number other
+acts_alike s d stands found act other same =
     ap (acted s d.number act) found
     ∙ ap₂ (λ (x : Answer) (ds : List OutEntry). (x, record s { outbox = ds })) (ap (λ y. y.0) same)
     (changes_alike (λ (x : OutEntry). x.number) (λ e. (act e).1) (λ e. (other e).1) d.number d s.outbox stands.documents.1.distinct found (ap (λ y. y.1) same))

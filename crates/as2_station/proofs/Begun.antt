@@ -1,7 +1,6 @@
 -- What a try makes of a document that is found, or why it doesn't begin.
 use Rattle.std.proofs.Common.{◌≡◌, ◌∙◌, ℕ, ◌||◌, Bool, true, false, option_map, Some, None, Ok, Err, nat_le, refl, sym, ap}
 use Rattle.std.specs.Prelude.{if◌then◌else◌}
-use Rattle.sqlite.specs.Effect.{Database}
 use Rattle.as2_exchange.specs.Agreement.{Agreements, Partner}
 use Rattle.as2_exchange.specs.Documents.{begun, waits}
 use Rattle.as2_exchange.specs.Readings.{document_job}
@@ -13,8 +12,8 @@ use Rattle.as2_exchange.specs.declared.answer.Answer.TheVariants.{Job as AJob, R
 use Rattle.as2_exchange.specs.declared.answer.Refusal.{Refusal}
 use Rattle.as2_exchange.specs.declared.answer.Refusal.TheVariants.{AllSettled, NotDue, TriesUsed}
 use Rattle.as2_exchange.specs.declared.outbox.OutEntry.{OutEntry}
-use Rattle.as2_store.specs.Stands.{Stands}
-use Rattle.as2_store.specs.Progressing.{come_to, set_in}
+use Rattle.as2_records.specs.Standing.{IsCounted}
+use Rattle.as2_records.specs.Progressing.{come_to, set_in}
 use Rattle.as2_station.specs.Trying.{agreed_partner, tried, try_refusal}
 use Rattle.as2_station.proofs.Acting.{acts_agreed, changes, refused_agreed}
 
@@ -59,9 +58,9 @@ tries_left p d m is = by (is_settled d) (nat_le p.max_tries d.tries) (waits d.de
     by false false c is = refl
 
 -- what is written is what the machine leaves
-pub begins : (A : Agreements) (m : ℕ) (s t : State) (db : Database) (d : OutEntry) (p : Partner) → Stands db s → document s d.number ≡ Some d → agreed_partner A d.organization d.partner ≡ Ok p → try_refusal p d m ≡ None
+pub begins : (A : Agreements) (m : ℕ) (s t : State) (d : OutEntry) (p : Partner) → IsCounted s → document s d.number ≡ Some d → agreed_partner A d.organization d.partner ≡ Ok p → try_refusal p d m ≡ None
     → set_in d.number (tried p d m) s ≡ Some t → Some (on_document s d.number (begun A m)) ≡ Some (AJob (document_job A p d.organization d.id d.content), t)
-begins A m s t db d p stands found known fine is =
+begins A m s t d p stands found known fine is =
     let left : Some (change_document s d.number (come_to (tried p d m))) ≡ Some t = ap (option_map (λ _. change_document s d.number (come_to (tried p d m)))) (sym found) ∙ is in
     let there : change_document s d.number (come_to (tried p d m)) ≡ t = cc in
-    ap Some (changes s d db stands found (begun A m) (AJob (document_job A p d.organization d.id d.content)) (come_to (tried p d m)) (a_try A m d p known fine) ∙ ap (λ (x : State). (AJob (document_job A p d.organization d.id d.content), x)) there)
+    ap Some (changes s d stands found (begun A m) (AJob (document_job A p d.organization d.id d.content)) (come_to (tried p d m)) (a_try A m d p known fine) ∙ ap (λ (x : State). (AJob (document_job A p d.organization d.id d.content), x)) there)

@@ -1,7 +1,7 @@
 -- What stands after a run is by history.
 use Rattle.std.proofs.Common.{◌≡◌, ◌↔◌, ◌∙◌, ℕ, true, List, [], ◌∷◌, ◌++◌, Option, Some, None, Result, Ok, Err, refl, sym, ap, subst}
 use Rattle.std.specs.Prelude.{IsSomeAnd, option_map, option_and_then}
-use Rattle.sqlite.specs.State.{State as Connected}
+use Rattle.as2_records.specs.Standing.{Medium, Standing}
 use Rattle.as2_mdn.specs.Details.{state_of}
 use Rattle.as2_mdn.specs.Verdicts.{Confirms}
 use Rattle.as2_mdn.specs.declared.detail.State.TheVariants.{S}
@@ -26,8 +26,7 @@ use Rattle.as2_exchange.proofs.Runs.{as_submitted, law, same_facts, waiting_law}
 use Rattle.as2_exchange.proofs.States.{formed}
 use Rattle.as2_exchange.proofs.Success.{settled_stays_law, state_of_success, success_confirmed}
 use Rattle.as2_exchange.proofs.Ticking.{ticked_counts}
-use Rattle.as2_store.specs.Calls.{Lasts}
-use Rattle.as2_store.specs.Stands.{Rests}
+use Rattle.as2_records.specs.Calls.{Lasts}
 use Rattle.std.specs.Prelude.{IsTrue}
 use Rattle.as2_exchange.specs.Readings.{Head}
 use Rattle.as2_exchange.specs.Posts.{reading}
@@ -95,7 +94,7 @@ ends_by_history A s trace t run first before counter came = stands_by_history A 
 
 -- ---- an event
 
-pub takes_by_history : {X : Type 0} (A : Agreements) (event : Event) (asks : Type 0) (told : X → Answer) (old new : Connected) (r : Result X StoreFault) → Does (λ s. step A s event) always asks told old new r
+pub takes_by_history : {M : Medium} {X : Type 0} (A : Agreements) (event : Event) (asks : Type 0) (told : X → Answer) (old new : Standing M) (r : Result X StoreFault) → Does (λ s. step A s event) always asks told old new r
     → TakesByHistory A event told old new r
 takes_by_history A event asks told old new (Ok a) does clean s rests =
     let left = does.answered clean s rests tt in
@@ -104,7 +103,7 @@ takes_by_history A event asks told old new (Err f) does clean s rests =
     let left = does.failed clean s rests tt in
     (s, left.0, ends_by_history A s ((event, Failed f) ∷ []) s (left.1, refl))
 
-pub takes_event : {X : Type 0} (A : Agreements) (event : Event) (told : X → Answer) (old new : Connected) (r : Result X StoreFault) → Does (λ s. step A s event) always (asks_store A event ≡ true) told old new r
-    → (IsTrue new.is_open → (s : State) → Rests new s → Lasts new s) → ((head : Head) (body : List ℕ) (moment : ℕ) → event ≡ Post head body moment → ClashesWhole told (reading A head body) old new r) → TakesEvent A event told old new r
+pub takes_event : {M : Medium} {X : Type 0} (A : Agreements) (event : Event) (told : X → Answer) (old new : Standing M) (r : Result X StoreFault) → Does (λ s. step A s event) always (asks_store A event ≡ true) told old new r
+    → (IsTrue new.is_open → (s : State) → new.Rests s → Lasts new s) → ((head : Head) (body : List ℕ) (moment : ℕ) → event ≡ Post head body moment → ClashesWhole told (reading A head body) old new r) → TakesEvent A event told old new r
 takes_event A event told old new r does lasts whole =
     record { does = does; by_history = takes_by_history A event (asks_store A event ≡ true) told old new r does; lasts = lasts; whole = whole }

@@ -20,9 +20,9 @@ use Rattle.as2_exchange.specs.declared.outbox.Evidence.{Evidence}
 use Rattle.as2_exchange.specs.declared.outbox.OutEntry.{OutEntry}
 use Rattle.as2_mdn.specs.declared.detail.Detail.{Detail}
 use Rattle.as2_mdn.specs.declared.detail.Detail.TheVariants.{Retry, TriesUsed}
-use Rattle.as2_store.specs.Progressing.{come_to, set_in}
-use Rattle.as2_store.specs.Settling.{settled_in}
-use Rattle.as2_store.specs.declared.progress.Progress.{Progress}
+use Rattle.as2_records.specs.Progressing.{come_to, set_in}
+use Rattle.as2_records.specs.Settling.{settled_in}
+use Rattle.as2_records.specs.declared.progress.Progress.{Progress}
 use Rattle.as2_station.specs.Closing.{after_failure, ended, settled_by, without_receipt}
 use Rattle.as2_station.specs.Trying.{agreed_partner}
 use Rattle.as2_station.specs.declared.closing.End.TheVariants as ending

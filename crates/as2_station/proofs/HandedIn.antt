@@ -12,8 +12,8 @@ use Rattle.as2_exchange.specs.declared.answer.Refusal.{Refusal}
 use Rattle.as2_exchange.specs.declared.answer.Refusal.TheVariants.{UnknownOrganization, UnknownPartner, TooLarge}
 use Rattle.as2_exchange.specs.declared.fault.StoreFault.{StoreFault}
 use Rattle.as2_exchange.specs.declared.fault.StoreFault.TheVariants.{Memory, Refused as TheRefused}
-use Rattle.as2_store.specs.Stands.{may_come}
-use Rattle.as2_store.specs.Adding.{added_document, with_document}
+use Rattle.as2_records.specs.Standing.{may_come}
+use Rattle.as2_records.specs.Adding.{added_document, with_document}
 use Rattle.as2_station.specs.Heads.{submit_refusal}
 
 -- what is refused, and what isn't, by three tests

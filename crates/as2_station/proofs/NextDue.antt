@@ -1,15 +1,15 @@
 -- What is to be sent next: a receipt is asked for first, and then a document.
 use Rattle.std.proofs.Common.{◌≡◌, ◌∙◌, ℕ, Option, option_map, Some, None, Result, Ok, Err, IsErr, refl, sym, ap, subst}
-use Rattle.sqlite.specs.State.{State as Connected}
+use Rattle.as2_records.specs.Standing.{Medium, Standing}
 use Rattle.as2_exchange.specs.Views.{IsNext, due_documents, due_receipts, least, next, next_of}
 use Rattle.as2_exchange.specs.declared.fault.StoreFault.{StoreFault}
 use Rattle.as2_exchange.specs.declared.next.Next.{Next}
 use Rattle.as2_exchange.specs.declared.next.Next.TheVariants.{Document, Receipt}
-use Rattle.as2_store.specs.Calls.{Reads}
+use Rattle.as2_records.specs.Calls.{Reads}
 use Rattle.as2_exchange.proofs.Least.{next_is}
-use Rattle.as2_store.proofs.Querying.{read_bad, read_ok, read_then, reads_less}
+use Rattle.as2_records.proofs.Following.{read_bad, read_ok, read_then, reads_less}
 
-module _ (m : ℕ) (old mid new : Connected) (receipt : Option ℕ) (none : receipt ≡ None) (one : Reads {A = Option ℕ} {E = StoreFault} (λ s number. number ≡ least (due_receipts s m)) old mid (Ok receipt)) where
+module _ {M : Medium} (m : ℕ) (old mid new : Standing M) (receipt : Option ℕ) (none : receipt ≡ None) (one : Reads {A = Option ℕ} {E = StoreFault} (λ s number. number ≡ least (due_receipts s m)) old mid (Ok receipt)) where
   -- the document can't be asked for
   pub not_asked : (f : StoreFault) (r : Result (Option Next) StoreFault) → IsErr r → Reads {A = Option ℕ} {E = StoreFault} (λ s number. number ≡ least (due_documents s m)) mid new (Err f) → Reads (λ s found. found ≡ next s m) old new r
   not_asked f r err two =
@@ -28,11 +28,11 @@ module _ (m : ℕ) (old mid new : Connected) (receipt : Option ℕ) (none : rece
       (read_ok (λ s number. number ≡ least (due_documents s m)) (λ s found. found ≡ option_map Document (least (due_documents s m))) mid new document (option_map Document document) (λ s rests is. ap (option_map Document) is) two)
 
 -- what is next is due, and of the least number
-pub is_least : (m : ℕ) (old new : Connected) (r : Result (Option Next) StoreFault) → Reads (λ s found. found ≡ next s m) old new r → Reads (λ s found. IsNext s m found) old new r
+pub is_least : {M : Medium} (m : ℕ) (old new : Standing M) (r : Result (Option Next) StoreFault) → Reads (λ s found. found ≡ next s m) old new r → Reads (λ s found. IsNext s m found) old new r
 is_least m old new r it = reads_less (λ s found. IsNext s m found) (λ s found. found ≡ next s m) old new r (λ s found rests is. subst (IsNext s m) (sym is) (next_is s m)) it
 
 -- and so is the receipt that is told
-pub receipt_is_least : (m : ℕ) (old new : Connected) (receipt : Option ℕ) (n : ℕ) → receipt ≡ Some n → Reads {A = Option ℕ} {E = StoreFault} (λ s number. number ≡ least (due_receipts s m)) old new (Ok receipt)
+pub receipt_is_least : {M : Medium} (m : ℕ) (old new : Standing M) (receipt : Option ℕ) (n : ℕ) → receipt ≡ Some n → Reads {A = Option ℕ} {E = StoreFault} (λ s number. number ≡ least (due_receipts s m)) old new (Ok receipt)
     → Reads {A = Option Next} {E = StoreFault} (λ s found. IsNext s m found) old new (Ok (Some (Receipt n)))
 receipt_is_least m old new receipt n is one =
     read_ok (λ s number. number ≡ least (due_receipts s m)) (λ s found. IsNext s m found) old new receipt (Some (Receipt n))

@@ -1,7 +1,6 @@
 -- What a try makes of a receipt that is found, and what its end does.
 use Rattle.std.proofs.Common.{◌≡◌, ◌∙◌, ℕ, ◌+◌, not, Bool, true, false, Some, None, Ok, Err, nat_le, refl, ap}
 use Rattle.std.specs.Prelude.{if◌then◌else◌}
-use Rattle.sqlite.specs.Effect.{Database}
 use Rattle.as2_exchange.specs.Agreement.{Agreements, Partner}
 use Rattle.as2_exchange.specs.OwedReceipts.{is_pending, is_shut, mdn_begun, mdn_closed}
 use Rattle.as2_exchange.specs.Readings.{receipt_job}
@@ -19,8 +18,8 @@ use Rattle.as2_exchange.specs.declared.attempt.Attempt.TheVariants.{Idle, Last, 
 use Rattle.as2_exchange.specs.declared.event.TryAnswer.{TryAnswer}
 use Rattle.as2_exchange.specs.declared.inbox.InEntry.{InEntry}
 use Rattle.as2_exchange.specs.declared.inbox.MdnState.TheVariants.{Sent}
-use Rattle.as2_store.specs.Stands.{Stands}
-use Rattle.as2_store.specs.Owing.{owed_as, set_mdn_in}
+use Rattle.as2_records.specs.Standing.{IsCounted}
+use Rattle.as2_records.specs.Owing.{owed_as, set_mdn_in}
 use Rattle.as2_station.specs.OwedTries.{end_answer, mdn_ended, mdn_tried, mdn_try_refusal}
 use Rattle.as2_station.specs.Trying.{agreed_partner}
 use Rattle.as2_station.proofs.Acting.{acts_agreed, refused_agreed}
@@ -60,11 +59,11 @@ mdn_tries_left p e m is = by (not (is_pending e.mdn)) (nat_le p.max_tries e.trie
     by false false c is = refl
 
 -- what is written is what the machine leaves
-pub begins_mdn : (A : Agreements) (m : ℕ) (s t : State) (db : Database) (e : InEntry) (p : Partner) → Stands db s → received s e.number ≡ Some e → agreed_partner A e.posted.receiver e.posted.sender ≡ Ok p → mdn_try_refusal p e m ≡ None
+pub begins_mdn : (A : Agreements) (m : ℕ) (s t : State) (e : InEntry) (p : Partner) → IsCounted s → received s e.number ≡ Some e → agreed_partner A e.posted.receiver e.posted.sender ≡ Ok p → mdn_try_refusal p e m ≡ None
     → set_mdn_in e.number (mdn_tried p e m) s ≡ Some t → Some (on_received s e.number (mdn_begun A m)) ≡ Some (AJob (receipt_job e.posted.how (report A e.number e.posted)), t)
-begins_mdn A m s t db e p stands found known fine is =
+begins_mdn A m s t e p stands found known fine is =
     let there : change_received s e.number (owed_as (mdn_tried p e m)) ≡ t = cc in
-    ap Some (changes_in s e db stands found (mdn_begun A m) (AJob (receipt_job e.posted.how (report A e.number e.posted))) (owed_as (mdn_tried p e m)) (a_try A m e p known fine)
+    ap Some (changes_in s e stands found (mdn_begun A m) (AJob (receipt_job e.posted.how (report A e.number e.posted))) (owed_as (mdn_tried p e m)) (a_try A m e p known fine)
     ∙ ap (λ (x : State). (AJob (receipt_job e.posted.how (report A e.number e.posted)), x)) there)
 
 -- ---- its outcome
@@ -99,10 +98,10 @@ module _ (A : Agreements) (got : TryAnswer) (m : ℕ) (e : InEntry) where
       by true = refl
       by false = failed (is_last e.attempt)
 
-pub ends_mdn : (A : Agreements) (got : TryAnswer) (m : ℕ) (s t : State) (db : Database) (e : InEntry) (p : Partner) → Stands db s → received s e.number ≡ Some e → agreed_partner A e.posted.receiver e.posted.sender ≡ Ok p
+pub ends_mdn : (A : Agreements) (got : TryAnswer) (m : ℕ) (s t : State) (e : InEntry) (p : Partner) → IsCounted s → received s e.number ≡ Some e → agreed_partner A e.posted.receiver e.posted.sender ≡ Ok p
     → is_pending e.mdn ≡ true → is_shut e.attempt ≡ false → set_mdn_in e.number (mdn_ended (is_delivery got) p e m) s ≡ Some t
     → Some (on_received s e.number (mdn_closed A got m)) ≡ Some (end_answer (is_delivery got), t)
-ends_mdn A got m s t db e p stands found known pending under_way is =
+ends_mdn A got m s t e p stands found known pending under_way is =
     let there : change_received s e.number (owed_as (mdn_ended (is_delivery got) p e m)) ≡ t = cc in
-    ap Some (changes_in s e db stands found (mdn_closed A got m) (end_answer (is_delivery got)) (owed_as (mdn_ended (is_delivery got) p e m)) (ends A got m e p known pending under_way)
+    ap Some (changes_in s e stands found (mdn_closed A got m) (end_answer (is_delivery got)) (owed_as (mdn_ended (is_delivery got) p e m)) (ends A got m e p known pending under_way)
     ∙ ap (λ (x : State). (end_answer (is_delivery got), x)) there)

@@ -1,36 +1,33 @@
 -- One event more, and the run of all.
 use Rattle.std.proofs.Common.{◌≡◌, List, [], ◌∷◌, ◌++◌, length, Result, Ok, Err, refl, sym, subst, arith}
-use Rattle.sqlite.specs.Store.{Ghosts}
-use Rattle.sqlite.specs.Held.{Held, state}
-use Rattle.sqlite.specs.State.{State as Connected, HasCleanDisk}
+use Rattle.as2_records.specs.Standing.{Medium, Standing}
 use Rattle.as2_exchange.specs.Agreement.{Agreements}
 use Rattle.as2_exchange.specs.declared.event.Event.{Event}
 use Rattle.as2_exchange.specs.declared.answer.Answer.{Answer}
 use Rattle.as2_exchange.specs.declared.answer.Answer.TheVariants.{Http}
 use Rattle.as2_exchange.specs.declared.answer.HttpAnswer.{HttpAnswer}
 use Rattle.as2_exchange.specs.declared.fault.StoreFault.{StoreFault}
-use Rattle.as2_store.specs.Stands.{Rests}
 use Rattle.as2_station.specs.Steps.{RefusesSubmit, TakesEvent, TakesHead}
 use Rattle.as2_station.specs.Traces.{Plays, Taken, trace}
 use Rattle.as2_exchange.specs.Run.{Run}
 use Rattle.as2_station.proofs.ByHistory.{ends_by_history}
 
-module _ {S : Type 0} (g : Ghosts S) (A : Agreements) where
-  pub taken_more : (es : List Event) (rs : List (Result Answer StoreFault)) (e : Event) (r : Result Answer StoreFault) (old mid new : Held S) → Taken g A es rs old mid → TakesEvent A e (λ a. a) (state g mid) (state g new) r
-      → TakesHead A e Http mid new r → RefusesSubmit A e mid new r → Taken g A (es ++ e ∷ []) (rs ++ r ∷ []) old new
-  taken_more [] [] e r old mid new same one head refuses = subst (λ h. Taken g A (e ∷ []) (r ∷ []) h new) same (new, one, head, refuses, refl)
+module _ {H : Type 0} {M : Medium} (shows : H → Standing M) (A : Agreements) where
+  pub taken_more : (es : List Event) (rs : List (Result Answer StoreFault)) (e : Event) (r : Result Answer StoreFault) (old mid new : H) → Taken shows A es rs old mid → TakesEvent A e (λ a. a) (shows mid) (shows new) r
+      → TakesHead A e Http mid new r → RefusesSubmit A e mid new r → Taken shows A (es ++ e ∷ []) (rs ++ r ∷ []) old new
+  taken_more [] [] e r old mid new same one head refuses = subst (λ h. Taken shows A (e ∷ []) (r ∷ []) h new) same (new, one, head, refuses, refl)
   taken_more [] (q ∷ rs) e r old mid new none one head refuses = absurd none
   taken_more (x ∷ es) [] e r old mid new none one head refuses = absurd none
   taken_more (x ∷ es) (q ∷ rs) e r old mid new before one head refuses = (before.0, before.1, before.2, before.3, taken_more es rs e r before.0 mid new before.4 one head refuses)
 
-  pub taken_clean : (es : List Event) (rs : List (Result Answer StoreFault)) (old new : Held S) → Taken g A es rs old new → HasCleanDisk (state g new) → HasCleanDisk (state g old)
-  taken_clean [] [] old new same clean = subst (λ h. HasCleanDisk (state g h)) same clean
+  pub taken_clean : (es : List Event) (rs : List (Result Answer StoreFault)) (old new : H) → Taken shows A es rs old new → (shows new).IsClean → (shows old).IsClean
+  taken_clean [] [] old new same clean = subst (λ h. (shows h).IsClean) same clean
   taken_clean [] (q ∷ rs) old new none clean = absurd none
   taken_clean (x ∷ es) [] old new none clean = absurd none
   taken_clean (x ∷ es) (q ∷ rs) old new it clean = it.1.does.clean (taken_clean es rs it.0 new it.4 clean)
 
-  pub taken_plays : (es : List Event) (rs : List (Result Answer StoreFault)) (old new : Held S) → Taken g A es rs old new → Plays g A es rs old new
-  taken_plays [] [] old new same clean s rests = record { end = s; run = refl; by_history = ends_by_history A s [] s refl; rests = subst (λ h. Rests (state g h) s) (sym same) rests }
+  pub taken_plays : (es : List Event) (rs : List (Result Answer StoreFault)) (old new : H) → Taken shows A es rs old new → Plays shows A es rs old new
+  taken_plays [] [] old new same clean s rests = record { end = s; run = refl; by_history = ends_by_history A s [] s refl; rests = subst (λ h. (shows h).Rests s) (sym same) rests }
   taken_plays [] (q ∷ rs) old new none clean s rests = absurd none
   taken_plays (x ∷ es) [] old new none clean s rests = absurd none
   taken_plays (x ∷ es) (Ok a ∷ rs) old new it clean s rests =
@@ -45,7 +42,7 @@ module _ {S : Type 0} (g : Ghosts S) (A : Agreements) where
       record { end = later.end; run = run; by_history = ends_by_history A s (trace (x ∷ es) (Err f ∷ rs)) later.end run; rests = later.rests }
 
 -- what takes a post takes the event
-pub as_event : (A : Agreements) (e : Event) (old new : Connected) (a : HttpAnswer) → TakesEvent A e Http old new (Ok a) → TakesEvent A e (λ a. a) old new (Ok (Http a))
+pub as_event : {M : Medium} (A : Agreements) (e : Event) (old new : Standing M) (a : HttpAnswer) → TakesEvent A e Http old new (Ok a) → TakesEvent A e (λ a. a) old new (Ok (Http a))
 as_event A e old new a it = record {
   does = record { clean = it.does.clean; is_open = it.does.is_open; answered = it.does.answered; failed = it.does.failed; fault = it.does.fault; crash = it.does.crash };
   by_history = it.by_history;
@@ -53,7 +50,7 @@ as_event A e old new a it = record {
   whole = it.whole;
 }
 
-pub as_failed : (A : Agreements) (e : Event) (old new : Connected) (f : StoreFault) → TakesEvent A e Http old new (Err f) → TakesEvent A e (λ a. a) old new (Err f)
+pub as_failed : {M : Medium} (A : Agreements) (e : Event) (old new : Standing M) (f : StoreFault) → TakesEvent A e Http old new (Err f) → TakesEvent A e (λ a. a) old new (Err f)
 as_failed A e old new f it = record {
   does = record { clean = it.does.clean; is_open = it.does.is_open; answered = it.does.answered; failed = it.does.failed; fault = it.does.fault; crash = it.does.crash };
   by_history = it.by_history;

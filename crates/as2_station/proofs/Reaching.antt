@@ -1,9 +1,6 @@
 -- The next state that a write of the store reaches.
-use Rattle.std.proofs.Common.{◌≡◌, ◌∙◌, ◌+◌, ◌≤◌, ◌==◌, ◌&&◌, List, nat_le, cond, arith, refl, ℕ, Some, None, IsTrue, true, false, ap, sym, subst}
+use Rattle.std.proofs.Common.{◌≡◌, ◌∙◌, ◌+◌, ◌≤◌, ◌==◌, ◌&&◌, List, nat_le, cond, arith, refl, ℕ, Some, None, true, false, ap, sym, subst}
 use Rattle.std.proofs.lemmas.Bool.Decides.{nat_tests}
-use Rattle.sqlite_trees.specs.Tree.{Trees}
-use Rattle.sqlite.specs.Effect.{Database}
-use Rattle.sqlite.specs.State.{State as Connected}
 use Rattle.as2_mdn.specs.declared.detail.Detail.{Detail}
 use Rattle.as2_exchange.specs.Agreement.{Agreements}
 use Rattle.as2_exchange.specs.Invariants.{IsCounter, is_by_receipt}
@@ -20,23 +17,21 @@ use Rattle.as2_exchange.specs.declared.inbox.Posted.{Posted}
 use Rattle.as2_exchange.specs.declared.outbox.Evidence.{Evidence}
 use Rattle.as2_exchange.specs.declared.outbox.OutEntry.{OutEntry}
 use Rattle.as2_posts.specs.Answers.{is_requeued}
-use Rattle.as2_store.specs.Adding.{added, with_received}
-use Rattle.as2_store.specs.Stands.{Rests, Stands}
-use Rattle.as2_store.specs.Calls.{Keeps, Lasts}
-use Rattle.as2_store.proofs.Committing.{keeps_of}
-use Rattle.as2_store.specs.Requeuing.{requeued_in}
+use Rattle.as2_records.specs.Adding.{added, with_received}
+use Rattle.as2_records.specs.Standing.{IsCounted}
+use Rattle.as2_records.specs.Requeuing.{requeued_in}
 use Rattle.as2_exchange.specs.Documents.{settled_as}
-use Rattle.as2_store.specs.Settling.{settled_in}
+use Rattle.as2_records.specs.Settling.{settled_in}
 use Rattle.as2_station.proofs.Numbers.{changes_alike, found_number, left_alone, sent_anew}
 
 settles_to : (s : State) (n : ℕ) (detail : Detail) (e : Evidence) (d : OutEntry) → is_by_receipt detail ≡ true → document s n ≡ Some d → is_settled d ≡ false → settled_in n detail e s ≡ Some (change_document s n (settled_as detail e))
 settles_to s n detail e d by found unsettled = rw (found, unsettled, by) refl
 
 -- a receipt settles the document that it is for
-pub settles : (s t : State) (db : Database) (m : ℕ) (r : ReceivedReceipt) (d : OutEntry) (detail : Detail) (e : Evidence) → Stands db s → document_named s (named_by r.receipt) ≡ Some d → (bears r d.organization d.partner d.id && is_begun d) ≡ true
+pub settles : (s t : State) (m : ℕ) (r : ReceivedReceipt) (d : OutEntry) (detail : Detail) (e : Evidence) → IsCounted s → document_named s (named_by r.receipt) ≡ Some d → (bears r d.organization d.partner d.id && is_begun d) ≡ true
     → is_settled d ≡ false → is_by_receipt detail ≡ true → settled_as detail e d ≡ settled m r d → settled_in d.number detail e s ≡ Some t → Some (settle s m r) ≡ Some (http 200 Nothing, t)
 unfolding settle
-settles s t db m r d detail e stands named this unsettled by same is =
+settles s t m r d detail e stands named this unsettled by same is =
     let apart = stands.documents.1.distinct in
     let number = found_number (λ (x : OutEntry). x.number) _ s.outbox d apart named in
     let left : Some (change_document s d.number (settled_as detail e)) ≡ Some t = sym (settles_to s d.number detail e d by number unsettled) ∙ is in
@@ -46,9 +41,9 @@ settles s t db m r d detail e stands named this unsettled by same is =
     rw (named, this, unsettled) (ap (λ (x : State). Some (http 200 Nothing, x)) (alike ∙ there))
 
 -- a repeat queues the receipt of its entry again
-pub requeues : (A : Agreements) (s t : State) (db : Database) (m : ℕ) (p : Posted) (e : InEntry) → Stands db s → received_as s p ≡ Some e → repeats e.posted p ≡ true → is_requeued e ≡ true → requeued_in e.number m s ≡ Some t
+pub requeues : (A : Agreements) (s t : State) (m : ℕ) (p : Posted) (e : InEntry) → IsCounted s → received_as s p ≡ Some e → repeats e.posted p ≡ true → is_requeued e ≡ true → requeued_in e.number m s ≡ Some t
     → recorded A s m p (Some e) ≡ Some (answer_to A e.number e.posted, t)
-requeues A s t db m p e stands found same queued is =
+requeues A s t m p e stands found same queued is =
     let apart = stands.receipts.1.distinct in
     let number = found_number (λ (x : InEntry). x.number) _ s.inbox e apart found in
     let left : Some (change_received s e.number (requeued_by_repeat m)) ≡ Some t = ap Some (sym (sent_anew s m e apart number queued)) ∙ is in
@@ -56,17 +51,11 @@ requeues A s t db m p e stands found same queued is =
     rw same (ap (λ (x : State). Some (answer_to A e.number e.posted, x)) there)
 
 -- or leaves it
-pub stays : (A : Agreements) (s : State) (db : Database) (m : ℕ) (p : Posted) (e : InEntry) → Stands db s → received_as s p ≡ Some e → repeats e.posted p ≡ true → is_requeued e ≡ false
+pub stays : (A : Agreements) (s : State) (m : ℕ) (p : Posted) (e : InEntry) → IsCounted s → received_as s p ≡ Some e → repeats e.posted p ≡ true → is_requeued e ≡ false
     → recorded A s m p (Some e) ≡ Some (answer_to A e.number e.posted, s)
-stays A s db m p e stands found same left =
+stays A s m p e stands found same left =
     let apart = stands.receipts.1.distinct in
     rw same (ap (λ (x : State). Some (answer_to A e.number e.posted, x)) (left_alone s m e apart (found_number (λ (x : InEntry). x.number) _ s.inbox e apart found) left))
-
--- whatever stops the computer, what the tables stand for over an open connection lasts
-pub rests_lasts : (c : Connected) → ((db : Trees) → IsTrue c.is_open → c.may_leave db → db ≡ c.committed.trees) → IsTrue c.is_open → (s : State) → Rests c s → Lasts c s
-rests_lasts c settled opened s r = record {
-  each = λ db may. subst (λ (t : Trees). Keeps t s) (sym (settled db opened may ∙ ap (λ (d : Database). d.trees) (r.committed opened))) (keeps_of c.now s (r.stands opened));
-}
 
 -- the first entry under the next number
 pub adds : (A : Agreements) (s t : State) (m n : ℕ) (p : Posted) → n ≡ s.next_in → added (first_entry n m p) s ≡ Some t → IsCounter t.next_in → recorded A s m p None ≡ Some (answer_to A n p, t)

@@ -1,26 +1,27 @@
 -- Time passes, as a step of the machine.
 use Rattle.std.proofs.Common.{◌≡◌, ◌∙◌, inr, ℕ, Some, Ok, Err, true, sym, ap}
-use Rattle.sqlite.specs.State.{State as Connected, HasCleanDisk, Survives}
-use Rattle.sqlite.proofs.StateLemmas.{survives_weaker}
+use Rattle.as2_records.specs.Standing.{Medium, Standing}
+use Rattle.as2_records.specs.Calls.{Survives}
+use Rattle.as2_records.proofs.Following.{survives_weaker}
 use Rattle.as2_exchange.specs.Documents.{tick}
 use Rattle.as2_exchange.specs.State.{State}
 use Rattle.as2_exchange.specs.declared.answer.Answer.{Answer}
 use Rattle.as2_exchange.specs.declared.answer.Answer.TheVariants.{Ticked}
 use Rattle.as2_exchange.specs.declared.fault.StoreFault.{StoreFault}
-use Rattle.as2_store.specs.Calls.{Commits, Writes}
-use Rattle.as2_store.specs.Expiring.{AreTicked, ticked_in}
-use Rattle.as2_store.specs.Stands.{may_come}
+use Rattle.as2_records.specs.Calls.{Commits, Writes}
+use Rattle.as2_records.specs.Expiring.{AreTicked, ticked_in}
+use Rattle.as2_records.specs.Standing.{may_come}
 use Rattle.as2_station.specs.Steps.{Does, MayLeave, always}
 use Rattle.as2_station.proofs.Doing.{never_full}
 
-module _ (m : ℕ) (old new : Connected) where
+module _ {M : Medium} (m : ℕ) (old new : Standing M) where
   leaves : Survives old new (Commits (ticked_in m) old) → Survives old new (MayLeave (λ s. Some (tick m s)) always old)
-  leaves it = survives_weaker old new (Commits (ticked_in m) old) (MayLeave (λ s. Some (tick m s)) always old) (λ clean db may. record {
+  leaves it = survives_weaker old new (Commits (ticked_in m) old) (MayLeave (λ s. Some (tick m s)) always old) (λ clean left may. record {
     was_open = may.was_open;
     stands = λ s rests known. inr (may.stands s rests);
   }) it
 
-  pub ticks : (count : ℕ) → Writes {A = ℕ} {E = StoreFault} (ticked_in m) old new (Ok count) → (HasCleanDisk new → AreTicked m old count) → Does (λ s. Some (tick m s)) always (true ≡ true) (λ (a : Answer). a) old new (Ok (Ticked count))
+  pub ticks : (count : ℕ) → Writes {A = ℕ} {E = StoreFault} (ticked_in m) old new (Ok count) → (new.IsClean → AreTicked m old count) → Does (λ s. Some (tick m s)) always (true ≡ true) (λ (a : Answer). a) old new (Ok (Ticked count))
   ticks count it counted = record {
     clean = it.clean;
     is_open = λ clean _. it.is_open clean;

@@ -1,20 +1,21 @@
 -- Texts of rows are those of each state that the tables stand for.
 use Rattle.std.proofs.Common.{◌≡◌, ◌∙◌, ◌++◌, ℕ, List, map, Option, None, Result, Ok, Err, IfOk, String, Vec, Global, string_bytes, sym, ap, ap₂, subst}
 use Rattle.std.specs.List.{filter, flat_map}
-use Rattle.sqlite.specs.State.{State as Connected}
+use Rattle.as2_records.specs.Standing.{Medium, Standing}
 use Rattle.as2_mdn.specs.declared.detail.State.{State as StateOf}
 use Rattle.as2_exchange.specs.State.{State}
 use Rattle.as2_exchange.specs.Views.{list_in, list_out, outstanding}
 use Rattle.as2_exchange.specs.declared.fault.StoreFault.{StoreFault}
-use Rattle.as2_rows.specs.Summaries.{in_summary, out_summary}
-use Rattle.as2_rows.specs.declared.inbox.InRow.{InRow}
-use Rattle.as2_rows.specs.declared.outbox.OutRow.{OutRow}
-use Rattle.as2_store.specs.Calls.{Reads}
-use Rattle.as2_store.specs.Listing.{listed}
-use Rattle.as2_store.proofs.Querying.{read_if, read_then, reads_standing}
-use Rattle.as2_views.specs.declared.counts.Counts.{Counts}
-use Rattle.as2_views.specs.Counting.{counts_of, counts_text}
-use Rattle.as2_views.specs.Lists.{Rise, document_numbers, is_outstanding, marked_line, settled_numbers}
+use Rattle.as2_records.specs.Summaries.{in_summary, out_summary}
+use Rattle.as2_records.specs.declared.summaries.InRow.{InRow}
+use Rattle.as2_records.specs.declared.summaries.OutRow.{OutRow}
+use Rattle.as2_records.specs.Calls.{Reads}
+use Rattle.as2_records.specs.Listing.{listed, settled_numbers}
+use Rattle.as2_records.proofs.Following.{read_if, read_then, reads_standing}
+use Rattle.as2_records.specs.declared.counts.Counts.{Counts}
+use Rattle.as2_records.specs.Counting.{counts_of}
+use Rattle.as2_views.specs.Counting.{counts_text}
+use Rattle.as2_views.specs.Lists.{Rise, document_numbers, is_outstanding, marked_line}
 use Rattle.as2_views.specs.RowLines.{in_row_line}
 use Rattle.as2_views.proofs.Listings.{given_rise, inbox_lines, outbox_lines, outstanding_lines, settled_rise}
 use Rattle.as2_views.proofs.Marks.{all_listed}
@@ -22,7 +23,7 @@ use Rattle.as2_station.specs.declared.viewing.Marked.{Marked}
 
 -- ---- received documents
 
-pub received_lines : (old new : Connected) (rows : Vec InRow Global) (shown : List InRow) (r : Result (String Global) StoreFault) → shown ≡ rows.items → IfOk r (λ t. string_bytes t ≡ flat_map in_row_line shown)
+pub received_lines : {M : Medium} (old new : Standing M) (rows : Vec InRow Global) (shown : List InRow) (r : Result (String Global) StoreFault) → shown ≡ rows.items → IfOk r (λ t. string_bytes t ≡ flat_map in_row_line shown)
     → Reads {A = Vec InRow Global} {E = StoreFault} (λ s es. es.items ≡ map in_summary s.inbox) old new (Ok rows) → Reads (λ s t. string_bytes t ≡ list_in s) old new r
 received_lines old new rows shown r same lines it =
     read_if _ (λ s t. string_bytes t ≡ list_in s) old new rows r (λ t. string_bytes t ≡ flat_map in_row_line shown) lines
@@ -38,7 +39,7 @@ Known wanted s m = (m.rows.items ≡ listed wanted s) × (m.settled.items ≡ se
 abbrev Rising : Option StateOf → State → Marked → Type 0
 Rising wanted s m = Known wanted s m × Rise (document_numbers s)
 
-rising : (wanted : Option StateOf) (old new : Connected) (m : Marked) → Reads {A = Marked} {E = StoreFault} (Known wanted) old new (Ok m) → Reads {A = Marked} {E = StoreFault} (Rising wanted) old new (Ok m)
+rising : {M : Medium} (wanted : Option StateOf) (old new : Standing M) (m : Marked) → Reads {A = Marked} {E = StoreFault} (Known wanted) old new (Ok m) → Reads {A = Marked} {E = StoreFault} (Rising wanted) old new (Ok m)
 rising wanted old new m it = reads_standing (Known wanted) (Rising wanted) old new (Ok m) (λ s m stands known. (known, given_rise s.next_out (document_numbers s) stands.documents.1)) it
 
 -- what holds of an answer where numbers rise
@@ -46,7 +47,7 @@ under : {B F X : Type 0} (Q : B → Type 0) (r : Result B F) → (X → IfOk r Q
 under Q (Ok b) h = h
 under Q (Err e) h = tt
 
-module _ (old new : Connected) (m : Marked) (rows : List OutRow) (settled : List ℕ) (r : Result (String Global) StoreFault) (same_rows : rows ≡ m.rows.items) (same_settled : settled ≡ m.settled.items) where
+module _ {M : Medium} (old new : Standing M) (m : Marked) (rows : List OutRow) (settled : List ℕ) (r : Result (String Global) StoreFault) (same_rows : rows ≡ m.rows.items) (same_settled : settled ≡ m.settled.items) where
   pub sent_lines : (wanted : Option StateOf) → (Rise settled → IfOk r (λ t. string_bytes t ≡ flat_map (marked_line settled) rows))
       → Reads {A = Marked} {E = StoreFault} (Known wanted) old new (Ok m) → Reads (λ s t. string_bytes t ≡ list_out s wanted) old new r
   sent_lines wanted lines it =
@@ -70,7 +71,7 @@ module _ (old new : Connected) (m : Marked) (rows : List OutRow) (settled : List
       ∙ outstanding_lines s moment known.1)
       (rising None old new m it)
 
-  pub outstanding_shown : (first : Connected) (moment : ℕ) (counts : Counts) → (Rise settled → IfOk r (λ t. string_bytes t ≡ counts_text counts ++ flat_map (marked_line settled) (filter (is_outstanding moment) rows)))
+  pub outstanding_shown : (first : Standing M) (moment : ℕ) (counts : Counts) → (Rise settled → IfOk r (λ t. string_bytes t ≡ counts_text counts ++ flat_map (marked_line settled) (filter (is_outstanding moment) rows)))
       → Reads {A = Counts} {E = StoreFault} (λ s c. c ≡ counts_of s) first old (Ok counts) → Reads {A = Marked} {E = StoreFault} (Known None) old new (Ok m) → Reads (λ s t. string_bytes t ≡ outstanding s moment) first new r
   outstanding_shown first moment counts lines one two =
       read_then (λ s c. c ≡ counts_of s) (λ s t. counts ≡ counts_of s → string_bytes t ≡ outstanding s moment) (λ s t. string_bytes t ≡ outstanding s moment) first old new counts r (λ s t rests known more. more known) one

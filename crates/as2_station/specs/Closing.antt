@@ -10,8 +10,8 @@ use Rattle.as2_exchange.specs.declared.answer.Answer.TheVariants.{Delivered, Set
 use Rattle.as2_exchange.specs.declared.attempt.Attempt.TheVariants.{Idle}
 use Rattle.as2_exchange.specs.declared.outbox.OutEntry.{OutEntry}
 use Rattle.as2_mdn.specs.declared.detail.Detail.TheVariants.{Awaiting, NoReceiptAsked, Retry, TriesUsed}
-use Rattle.as2_store.specs.Progressing.{come_to}
-use Rattle.as2_store.specs.declared.progress.Progress.{Progress}
+use Rattle.as2_records.specs.Progressing.{come_to}
+use Rattle.as2_records.specs.declared.progress.Progress.{Progress}
 use Rattle.as2_station.specs.declared.closing.End.{End}
 use Rattle.as2_station.specs.declared.closing.End.TheVariants as ending
 

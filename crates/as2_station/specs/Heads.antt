@@ -1,4 +1,4 @@
--- The lines that refuse a post by its head alone, and the posts that take the store.
+-- The lines that refuse a post by its head alone, and the posts that take the records.
 use Rattle.std.specs.Prelude.{Bool, true, false, not, Option, Some, None, is_some, is_none, nat_lt, length, if◌then◌else◌}
 use Rattle.as2_exchange.specs.Agreement.{Agreements, Text, is_organization, partner_of}
 use Rattle.as2_exchange.specs.State.{content_limit}
@@ -18,7 +18,7 @@ is_of_head UnknownNames = true
 is_of_head BadType = true
 is_of_head other = false
 
--- it can be read, as a receipt or as a document: the answer is looked for in the store
+-- it can be read, as a receipt or as a document: the answer is looked for in the records
 abbrev pub takes_store : Reading → Bool
 takes_store (Refuses line) = false
 takes_store (IsReceipt receipt) = true

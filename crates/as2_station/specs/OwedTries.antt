@@ -10,7 +10,7 @@ use Rattle.as2_exchange.specs.declared.answer.Refusal.TheVariants.{AllSettled, N
 use Rattle.as2_exchange.specs.declared.attempt.Attempt.TheVariants.{Idle, Last, Running, Used}
 use Rattle.as2_exchange.specs.declared.inbox.InEntry.{InEntry}
 use Rattle.as2_exchange.specs.declared.inbox.MdnState.TheVariants.{Sent}
-use Rattle.as2_store.specs.declared.owed.MdnProgress.{MdnProgress}
+use Rattle.as2_records.specs.declared.progress.MdnProgress.{MdnProgress}
 
 -- none is to be sent; its tries are used up; or its moment hasn't come
 abbrev pub mdn_try_refusal : Partner → InEntry → ℕ → Option Refusal

@@ -1,9 +1,7 @@
--- A step of the machine, as the tables show it.
+-- A step of the machine, as the records show it.
 use Rattle.std.specs.Prelude.{◌≡◌, ◌⊎◌, ℕ, List, Option, Some, None, true, Result, Ok, IfOk, IfErr, OnOk, IsTrue, option_map, ⊤}
-use Rattle.sqlite.specs.Store.{Ghosts}
-use Rattle.sqlite.specs.Held.{Held, state}
-use Rattle.sqlite.specs.State.{State as Connected, HasCleanDisk, Survives}
-use Rattle.sqlite_trees.specs.Tree.{Trees}
+use Rattle.as2_records.specs.Standing.{Medium, Standing}
+use Rattle.as2_records.specs.Calls.{Survives}
 use Rattle.as2_exchange.specs.Agreement.{Agreements, Text}
 use Rattle.as2_exchange.specs.Readings.{Head}
 use Rattle.as2_exchange.specs.Posts.{Reading, Refuses, IsDocument, reading}
@@ -23,8 +21,8 @@ use Rattle.as2_exchange.specs.declared.answer.Answer.TheVariants.{Http, Refused}
 use Rattle.as2_exchange.specs.declared.answer.Refusal.{Refusal}
 use Rattle.as2_exchange.specs.declared.fault.StoreFault.{StoreFault}
 use Rattle.as2_exchange.specs.declared.fault.StoreFault.TheVariants.{Full}
-use Rattle.as2_store.specs.Stands.{Rests, may_come}
-use Rattle.as2_store.specs.Calls.{Keeps, KeepsNext, Lasts}
+use Rattle.as2_records.specs.Standing.{may_come}
+use Rattle.as2_records.specs.Calls.{KeepsNext, Lasts}
 use Rattle.as2_station.specs.Theorem.{TakesByHistory}
 use Rattle.as2_station.specs.Heads.{is_of_head, asks_store, submit_refusal, takes_store}
 
@@ -32,29 +30,29 @@ use Rattle.as2_station.specs.Heads.{is_of_head, asks_store, submit_refusal, take
 abbrev pub Machine : Type 0
 Machine = State → Option (Answer × State)
 
--- the state that the machine leaves with this answer, which the tables stand for
-pub record Left (c : Connected) (came : Option (Answer × State)) (a : Answer) : Type 0 where
+-- the state that the machine leaves with this answer, which the records rest on
+pub record Left {M : Medium} (c : Standing M) (came : Option (Answer × State)) (a : Answer) : Type 0 where
   pub next : State
   pub step : came ≡ Some (a, next)
-  pub rests : Rests c next
+  pub rests : c.Rests next
 
 -- the state that the machine leaves
 abbrev pub left_by : Machine → State → Option State
 left_by machine s = option_map (λ (came : Answer × State). came.1) (machine s)
 
--- what a call may leave to a crash beside what was left before: over an open connection, the state that the tables stood for,
+-- what a call may leave to a crash beside what was left before: over open records, the state that they rested on,
 -- or the one that the machine leaves
-pub record MayLeave (machine : Machine) (given : State → Type 0) (old : Connected) (db : Trees) : Type 0 where
+pub record MayLeave {M : Medium} (machine : Machine) (given : State → Type 0) (old : Standing M) (left : M.Left) : Type 0 where
   pub was_open : IsTrue old.is_open
-  pub stands : (s : State) → Rests old s → given s → Keeps db s ⊎ KeepsNext db (left_by machine s)
+  pub stands : (s : State) → old.Rests s → given s → M.keeps left s ⊎ KeepsNext M left (left_by machine s)
 
 -- a call does what the machine does, in each state of which this is given: it answers what the machine answers - what asks the
--- store, over an open connection - or fails, and then nothing is changed; and it is Full only where no number is left
-pub record Does {A : Type 0} (machine : Machine) (given : State → Type 0) (asks : Type 0) (told : A → Answer) (old new : Connected) (r : Result A StoreFault) : Type 0 where
-  pub clean : HasCleanDisk new → HasCleanDisk old
-  pub is_open : HasCleanDisk new → OnOk r (asks → IsTrue new.is_open)
-  pub answered : HasCleanDisk new → IfOk r (λ a. (s : State) → Rests old s → given s → Left new (machine s) (told a))
-  pub failed : HasCleanDisk new → IfErr r (λ f. (s : State) → Rests old s → given s → Rests new s × (f ≡ Full → machine s ≡ None))
+-- records, over open ones - or fails, and then nothing is changed; and it is Full only where no number is left
+pub record Does {M : Medium} {A : Type 0} (machine : Machine) (given : State → Type 0) (asks : Type 0) (told : A → Answer) (old new : Standing M) (r : Result A StoreFault) : Type 0 where
+  pub clean : new.IsClean → old.IsClean
+  pub is_open : new.IsClean → OnOk r (asks → IsTrue new.is_open)
+  pub answered : new.IsClean → IfOk r (λ a. (s : State) → old.Rests s → given s → Left new (machine s) (told a))
+  pub failed : new.IsClean → IfErr r (λ f. (s : State) → old.Rests s → given s → new.Rests s × (f ≡ Full → machine s ≡ None))
   pub fault : IfErr r (λ f. (f ≡ Full) ⊎ (may_come f ≡ true))
   pub crash : Survives old new (MayLeave machine given old)
 
@@ -67,28 +65,28 @@ abbrev pub IsKeptWhole : Posted → State → Type 0
 IsKeptWhole p s = (e : InEntry) → received_as s p ≡ Some e → has_kept_mic e.posted ≡ true
 
 -- an identifier is told to be another document's only where that one is kept whole
-abbrev pub ClashesWhole : {A : Type 0} → (A → Answer) → Reading → Connected → Connected → Result A StoreFault → Type 0
-ClashesWhole told reads old new r = HasCleanDisk new
-    → IfOk r (λ a. told a ≡ Http (refusal IdUsedBefore) → (p : Posted) → reads ≡ IsDocument p → (s : State) → Rests old s → IsKeptWhole p s)
+abbrev pub ClashesWhole : {M : Medium} {A : Type 0} → (A → Answer) → Reading → Standing M → Standing M → Result A StoreFault → Type 0
+ClashesWhole told reads old new r = new.IsClean
+    → IfOk r (λ a. told a ≡ Http (refusal IdUsedBefore) → (p : Posted) → reads ≡ IsDocument p → (s : State) → old.Rests s → IsKeptWhole p s)
 
--- a call that takes an event; what stands then of each document is its history; what the tables stand for lasts, whatever stops
+-- a call that takes an event; what stands then of each document is its history; what the records rest on lasts, whatever stops
 -- the machine; and what is damaged is not taken for another document
-pub record TakesEvent {A : Type 0} (agreed : Agreements) (event : Event) (told : A → Answer) (old new : Connected) (r : Result A StoreFault) : Type 0 where
+pub record TakesEvent {M : Medium} {A : Type 0} (agreed : Agreements) (event : Event) (told : A → Answer) (old new : Standing M) (r : Result A StoreFault) : Type 0 where
   pub does : Does (λ s. step agreed s event) always (asks_store agreed event ≡ true) told old new r
   pub by_history : TakesByHistory agreed event told old new r
-  pub lasts : IsTrue new.is_open → (s : State) → Rests new s → Lasts new s
+  pub lasts : IsTrue new.is_open → (s : State) → new.Rests s → Lasts new s
   pub whole : (head : Head) (body : List ℕ) (moment : ℕ) → event ≡ Post head body moment → ClashesWhole told (reading agreed head body) old new r
 
 -- a call that takes a post that is read so, in each state of which this is given
-abbrev pub TakesPost : {S : Type 0} → Ghosts S → Agreements → ℕ → Reading → (State → Type 0) → Held S → Held S → Result HttpAnswer StoreFault → Type 0
-TakesPost g agreed moment reads given old new r = Does (λ s. post agreed s moment reads) given (takes_store reads ≡ true) Http (state g old) (state g new) r
+abbrev pub TakesPost : {H : Type 0} {M : Medium} → (H → Standing M) → Agreements → ℕ → Reading → (State → Type 0) → H → H → Result HttpAnswer StoreFault → Type 0
+TakesPost shows agreed moment reads given old new r = Does (λ s. post agreed s moment reads) given (takes_store reads ≡ true) Http (shows old) (shows new) r
 
 -- a post that its head alone refuses is answered by that line, and nothing else happens
 pub record TakesHead {A H : Type 0} (agreed : Agreements) (event : Event) (told : HttpAnswer → A) (old new : H) (r : Result A StoreFault) : Type 0 where
   pub answer : (head : Head) (body : List ℕ) (moment : ℕ) (line : Line) → event ≡ Post head body moment → reading agreed head body ≡ Refuses line → is_of_head line ≡ true → r ≡ Ok (told (refusal line))
   pub same : (head : Head) (body : List ℕ) (moment : ℕ) (line : Line) → event ≡ Post head body moment → reading agreed head body ≡ Refuses line → is_of_head line ≡ true → new ≡ old
 
--- a document that is refused gets its refusal, whatever memory and the store do, and nothing else happens
+-- a document that is refused gets its refusal, whatever memory and the records do, and nothing else happens
 pub record RefusesSubmit {H : Type 0} (agreed : Agreements) (event : Event) (old new : H) (r : Result Answer StoreFault) : Type 0 where
   pub answer : (organization partner content : Text) (moment : ℕ) (reason : Refusal) → event ≡ Submit organization partner content moment → submit_refusal agreed organization partner content ≡ Some reason → r ≡ Ok (Refused reason)
   pub same : (organization partner content : Text) (moment : ℕ) (reason : Refusal) → event ≡ Submit organization partner content moment → submit_refusal agreed organization partner content ≡ Some reason → new ≡ old

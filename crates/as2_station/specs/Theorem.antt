@@ -8,7 +8,8 @@
 -- Its words, and where each is defined; a file without a crate is one of as2_exchange's specs:
 --   any list                         Trace, Run.antt: events in any order, each with what was said to it; moments may run backwards
 --   posts .. clock moments           Event, as2_exchange/src/event.rt
---   the tables .. are those of       Rests, as2_store/specs/Stands.antt: the tables of the connection stand for the state
+--   the tables .. are those of       Rests, as2_records/specs/Standing.antt: the records rest on the state; over
+--                                    SQLite as2_store/specs/Stands.antt: the tables of the connection stand for it
 --   .. answers are those of          Run, Run.antt: an answered event is a step of the machine, and one that failed changes nothing
 --   the exchange machine             step, Step.antt, over State, State.antt; empty: a store without entries
 --   the accepted ones                accepted, Run.antt: those that were answered, by a refusal too; no fault of the store is an answer
@@ -21,7 +22,7 @@
 --   says processed without modifier  Confirms, as2_mdn/specs/Verdicts.antt
 --     and carries the integrity check of the content sent
 use Rattle.std.specs.Prelude.{◌≡◌, ◌↔◌, ℕ, ◌+◌, ◌<◌, true, false, List, [], ◌∷◌, ◌++◌, Some, None, Result, Ok, Err, IsSomeAnd, IsTrue, map, option_map}
-use Rattle.sqlite.specs.State.{State as Connected, HasCleanDisk}
+use Rattle.as2_records.specs.Standing.{Medium, Standing}
 use Rattle.as2_mdn.specs.Details.{state_of}
 use Rattle.as2_mdn.specs.Verdicts.{Confirms}
 use Rattle.as2_mdn.specs.declared.detail.State.TheVariants.{S}
@@ -47,7 +48,6 @@ use Rattle.as2_exchange.specs.declared.answer.Job.{Job}
 use Rattle.as2_exchange.specs.declared.event.Event.{Event}
 use Rattle.as2_exchange.specs.declared.event.Event.TheVariants.{Post, Begin, BeginMdn, Tick}
 use Rattle.as2_exchange.specs.declared.fault.StoreFault.{StoreFault}
-use Rattle.as2_store.specs.Stands.{Rests}
 
 -- the document stands as successful
 abbrev pub IsSuccessful : State → ℕ → Type 0
@@ -113,6 +113,6 @@ abbrev pub said_as : {A : Type 0} → (A → Answer) → Result A StoreFault →
 said_as told (Ok a) = Answered (told a)
 said_as told (Err fault) = Failed fault
 
--- what stands after a call that took an event is by that event, behind what led to the state that the tables stood for
-abbrev pub TakesByHistory : {A : Type 0} → Agreements → Event → (A → Answer) → Connected → Connected → Result A StoreFault → Type 0
-TakesByHistory A event told old new r = HasCleanDisk new → (s : State) → Rests old s → (t : State) × Rests new t × EndsByHistory A s ((event, said_as told r) ∷ []) t
+-- what stands after a call that took an event is by that event, behind what led to the state that the records rested on
+abbrev pub TakesByHistory : {M : Medium} {A : Type 0} → Agreements → Event → (A → Answer) → Standing M → Standing M → Result A StoreFault → Type 0
+TakesByHistory A event told old new r = new.IsClean → (s : State) → old.Rests s → (t : State) × new.Rests t × EndsByHistory A s ((event, said_as told r) ∷ []) t

@@ -1,8 +1,6 @@
 -- Events with what was said to each.
 use Rattle.std.specs.Prelude.{◌≡◌, List, [], ◌∷◌, map, zip, Result, Ok, Err}
-use Rattle.sqlite.specs.Store.{Ghosts}
-use Rattle.sqlite.specs.Held.{Held, state}
-use Rattle.sqlite.specs.State.{State as Connected, HasCleanDisk}
+use Rattle.as2_records.specs.Standing.{Medium, Standing}
 use Rattle.as2_exchange.specs.Agreement.{Agreements}
 use Rattle.as2_exchange.specs.Run.{Said, Answered, Failed, Trace, Run}
 use Rattle.as2_exchange.specs.State.{State}
@@ -10,7 +8,6 @@ use Rattle.as2_exchange.specs.declared.event.Event.{Event}
 use Rattle.as2_exchange.specs.declared.answer.Answer.{Answer}
 use Rattle.as2_exchange.specs.declared.answer.Answer.TheVariants.{Http}
 use Rattle.as2_exchange.specs.declared.fault.StoreFault.{StoreFault}
-use Rattle.as2_store.specs.Stands.{Rests}
 use Rattle.as2_station.specs.Steps.{RefusesSubmit, TakesEvent, TakesHead}
 use Rattle.as2_station.specs.Theorem.{EndsByHistory}
 
@@ -23,21 +20,21 @@ said (Err fault) = Failed fault
 abbrev pub trace : List Event → List (Result Answer StoreFault) → Trace
 trace events answers = zip events (map said answers)
 
--- the trace is a run of the machine, from the state that the tables stood for to the one that they stand for, in which what stands of
+-- the trace is a run of the machine, from the state that the records rested on to the one that they rest on, in which what stands of
 -- each document is its history
-pub record Played (A : Agreements) (told : Trace) (s : State) (c : Connected) : Type 0 where
+pub record Played {M : Medium} (A : Agreements) (told : Trace) (s : State) (c : Standing M) : Type 0 where
   pub end : State
   pub run : Run A s told end
   pub by_history : EndsByHistory A s told end
-  pub rests : Rests c end
+  pub rests : c.Rests end
 
--- what was said is a run of the machine, from each state that the tables stood for
-abbrev pub Plays : {S : Type 0} → Ghosts S → Agreements → List Event → List (Result Answer StoreFault) → Held S → Held S → Type 0
-Plays g A events answers old new = HasCleanDisk (state g new) → (s : State) → Rests (state g old) s → Played A (trace events answers) s (state g new)
+-- what was said is a run of the machine, from each state that the records rested on
+abbrev pub Plays : {H : Type 0} {M : Medium} → (H → Standing M) → Agreements → List Event → List (Result Answer StoreFault) → H → H → Type 0
+Plays shows A events answers old new = (shows new).IsClean → (s : State) → (shows old).Rests s → Played A (trace events answers) s (shows new)
 
--- each event was taken in turn, from one connection to the next, and nothing was done between
-abbrev pub Taken : {S : Type 0} → Ghosts S → Agreements → List Event → List (Result Answer StoreFault) → Held S → Held S → Type 0
-Taken g A [] [] old new = new ≡ old
-Taken g A [] (r ∷ rs) old new = ⊥
-Taken g A (e ∷ es) [] old new = ⊥
-Taken {S} g A (e ∷ es) (r ∷ rs) old new = (mid : Held S) × TakesEvent A e (λ a. a) (state g old) (state g mid) r × TakesHead A e Http old mid r × RefusesSubmit A e old mid r × Taken g A es rs mid new
+-- each event was taken in turn, from one standing of the records to the next, and nothing was done between
+abbrev pub Taken : {H : Type 0} {M : Medium} → (H → Standing M) → Agreements → List Event → List (Result Answer StoreFault) → H → H → Type 0
+Taken shows A [] [] old new = new ≡ old
+Taken shows A [] (r ∷ rs) old new = ⊥
+Taken shows A (e ∷ es) [] old new = ⊥
+Taken {H} {M} shows A (e ∷ es) (r ∷ rs) old new = (mid : H) × TakesEvent A e (λ a. a) (shows old) (shows mid) r × TakesHead A e Http old mid r × RefusesSubmit A e old mid r × Taken shows A es rs mid new

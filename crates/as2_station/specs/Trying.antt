@@ -9,7 +9,7 @@ use Rattle.as2_exchange.specs.declared.answer.Refusal.{Refusal}
 use Rattle.as2_exchange.specs.declared.answer.Refusal.TheVariants.{AllSettled, NotDue, TriesUsed, UnknownOrganization, UnknownPartner}
 use Rattle.as2_exchange.specs.declared.attempt.Attempt.TheVariants.{Last, Running}
 use Rattle.as2_mdn.specs.declared.detail.Detail.TheVariants.{Sending}
-use Rattle.as2_store.specs.declared.progress.Progress.{Progress}
+use Rattle.as2_records.specs.declared.progress.Progress.{Progress}
 
 -- the partner, where there is one
 abbrev pub known : Option Partner → Result Partner Refusal

@@ -1,7 +1,5 @@
 //! Outcomes of tries: the receipt for the document settles it, or the answer says how the try ended.
 ghost use Rattle.std.specs.Prelude.{◌≡◌, IfOk, Some, IsTrue, true, option_map, option_and_then};
-ghost use Rattle.sqlite.specs.Held.{state};
-ghost use Rattle.sqlite.specs.State.{HasCleanDisk};
 ghost use Rattle.as2_agreement.specs.Partners.{IsPartner};
 ghost use Rattle.as2_exchange.specs.Documents.{closed, closed_by, if_for};
 ghost use Rattle.as2_exchange.specs.Readings.{report_in, verdict};
@@ -21,9 +19,8 @@ use as2_exchange::{Answer, Attempt, Evidence, OutEntry, Refusal, StoreFault, Try
 use as2_mdn::{Detail, read_report, verdict_pieces};
 use as2_mic::Pieces;
 use as2_posts::{Opened, open_answer};
-use as2_store::{Progress, Store};
+use as2_records::{Progress, Records};
 use as2_text::{Head, Memory, Moment};
-use sqlite::Alter;
 use std::alloc::Global;
 
 /// How a try of a document ends.
@@ -165,37 +162,37 @@ fn end_of(
 }
 
 /// Writes how the try of the document has ended.
-fn end_try<S: Alter>(store: &mut Store<S>, entry: &OutEntry, end: End) -> Result<Answer, StoreFault>
-    requires open { HasCleanDisk (state S.Store store.old) → IsTrue (state S.Store store.old).is_open }
-    ensures taken { Does (λ s. Some (on_document s entry.now.number (ended end))) (λ s. document s entry.now.number ≡ Some entry.now) (true ≡ true) (λ a. a) (state S.Store store.old) (state S.Store store.new) result }
+fn end_try<R: Records>(records: &mut R, entry: &OutEntry, end: End) -> Result<Answer, StoreFault>
+    requires open { (R.shows records.old).IsClean → IsTrue (R.shows records.old).is_open }
+    ensures taken { Does (λ s. Some (on_document s entry.now.number (ended end))) (λ s. document s entry.now.number ≡ Some entry.now) (true ≡ true) (λ a. a) (R.shows records.old) (R.shows records.new) result }
 {
     match end {
         End::ByReceipt { detail, evidence } => {
-            store.settle(entry.number, detail, &evidence)?;
+            records.settle(entry.number, detail, &evidence)?;
             Ok(Answer::Settled(detail))
         }
         End::Delivered(progress) => {
-            store.set_out(entry.number, progress)?;
+            records.set_out(entry.number, progress)?;
             Ok(Answer::Delivered)
         }
         End::Failed(progress) => {
-            store.set_out(entry.number, progress)?;
+            records.set_out(entry.number, progress)?;
             Ok(Answer::TryFailed)
         }
     }
 }
 
 /// Takes the outcome of a try of this document, unless none is open.
-fn close_found<S: Alter>(
-    store: &mut Store<S>,
+fn close_found<R: Records>(
+    records: &mut R,
     alloc: Global,
     agreements: &Agreements,
     entry: &OutEntry,
     answer: TryAnswer,
     moment: Moment,
 ) -> Result<Answer, StoreFault>
-    requires open { HasCleanDisk (state S.Store store.old) → IsTrue (state S.Store store.old).is_open }
-    ensures taken { Does (λ s. Some (on_document s entry.now.number (closed agreements.now answer moment))) (λ s. document s entry.now.number ≡ Some entry.now) (true ≡ true) (λ a. a) (state S.Store store.old) (state S.Store store.new) result }
+    requires open { (R.shows records.old).IsClean → IsTrue (R.shows records.old).is_open }
+    ensures taken { Does (λ s. Some (on_document s entry.now.number (closed agreements.now answer moment))) (λ s. document s entry.now.number ≡ Some entry.now) (true ≡ true) (λ a. a) (R.shows records.old) (R.shows records.new) result }
 {
     let partner = match agreed_partner(agreements, &entry.organization, &entry.partner) {
         Ok(partner) => partner,
@@ -208,22 +205,22 @@ fn close_found<S: Alter>(
         return Ok(Answer::Refused(Refusal::NoOpenTry));
     }
     let end = end_of(alloc, partner, entry, answer, moment)?;
-    end_try(store, entry, end)
+    end_try(records, entry, end)
 }
 
 /// Takes the outcome of a try of the document of this number.
-pub fn close<S: Alter>(
-    store: &mut Store<S>,
+pub fn close<R: Records>(
+    records: &mut R,
     alloc: Global,
     agreements: &Agreements,
     number: u64,
     answer: TryAnswer,
     moment: Moment,
 ) -> Result<Answer, StoreFault>
-    ensures taken { Does (λ s. Some (on_document s number (closed agreements.now answer moment))) always (true ≡ true) (λ a. a) (state S.Store store.old) (state S.Store store.new) result }
+    ensures taken { Does (λ s. Some (on_document s number (closed agreements.now answer moment))) always (true ≡ true) (λ a. a) (R.shows records.old) (R.shows records.new) result }
 {
-    match store.find_out(alloc, number)? {
-        Some(document) => close_found(store, alloc, agreements, &document, answer, moment),
+    match records.find_out(alloc, number)? {
+        Some(document) => close_found(records, alloc, agreements, &document, answer, moment),
         None => Ok(Answer::Refused(Refusal::NoSuchNumber)),
     }
 }

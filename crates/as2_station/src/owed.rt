@@ -1,7 +1,5 @@
 //! Tries of receipts that are sent by a request of their own: each is committed before its request is handed out.
 ghost use Rattle.std.specs.Prelude.{◌≡◌, ◌<◌, Some, IsTrue, true};
-ghost use Rattle.sqlite.specs.Held.{state};
-ghost use Rattle.sqlite.specs.State.{HasCleanDisk};
 ghost use Rattle.as2_agreement.specs.Partners.{IsPartner};
 ghost use Rattle.as2_exchange.specs.OwedReceipts.{is_pending, is_shut, mdn_begun, mdn_closed};
 ghost use Rattle.as2_exchange.specs.Receipts.{is_delivery};
@@ -16,9 +14,8 @@ use crate::trying::is_early;
 use as2_agreement::{Agreements, Partner};
 use as2_exchange::{Answer, Attempt, InEntry, MdnState, Refusal, StoreFault, TryAnswer};
 use as2_posts::receipt_job;
-use as2_store::{MdnProgress, Store};
+use as2_records::{MdnProgress, Records};
 use as2_text::Moment;
-use sqlite::Alter;
 use std::alloc::Global;
 
 /// Whether the receipt is still to be sent.
@@ -68,15 +65,15 @@ fn tried(partner: &Partner, entry: &InEntry, moment: Moment) -> MdnProgress
 }
 
 /// Begins a try of the receipt of this entry, unless that is refused.
-fn begin_found<S: Alter>(
-    store: &mut Store<S>,
+fn begin_found<R: Records>(
+    records: &mut R,
     alloc: Global,
     agreements: &Agreements,
     entry: &InEntry,
     moment: Moment,
 ) -> Result<Answer, StoreFault>
-    requires open { HasCleanDisk (state S.Store store.old) → IsTrue (state S.Store store.old).is_open }
-    ensures taken { Does (λ s. Some (on_received s entry.now.number (mdn_begun agreements.now moment))) (λ s. received s entry.now.number ≡ Some entry.now) (true ≡ true) (λ a. a) (state S.Store store.old) (state S.Store store.new) result }
+    requires open { (R.shows records.old).IsClean → IsTrue (R.shows records.old).is_open }
+    ensures taken { Does (λ s. Some (on_received s entry.now.number (mdn_begun agreements.now moment))) (λ s. received s entry.now.number ≡ Some entry.now) (true ≡ true) (λ a. a) (R.shows records.old) (R.shows records.new) result }
 {
     let partner = match agreed_partner(agreements, &entry.posted.receiver, &entry.posted.sender) {
         Ok(partner) => partner,
@@ -87,22 +84,22 @@ fn begin_found<S: Alter>(
     }
     let progress = tried(partner, entry, moment);
     let job = receipt_job(alloc, agreements, entry.number, &entry.posted)?;
-    store.set_mdn(entry.number, progress)?;
+    records.set_mdn(entry.number, progress)?;
     Ok(Answer::Job(job))
 }
 
 /// Begins a try of the receipt of the entry of this number.
-pub fn begin_mdn<S: Alter>(
-    store: &mut Store<S>,
+pub fn begin_mdn<R: Records>(
+    records: &mut R,
     alloc: Global,
     agreements: &Agreements,
     number: u64,
     moment: Moment,
 ) -> Result<Answer, StoreFault>
-    ensures taken { Does (λ s. Some (on_received s number (mdn_begun agreements.now moment))) always (true ≡ true) (λ a. a) (state S.Store store.old) (state S.Store store.new) result }
+    ensures taken { Does (λ s. Some (on_received s number (mdn_begun agreements.now moment))) always (true ≡ true) (λ a. a) (R.shows records.old) (R.shows records.new) result }
 {
-    match store.find_in_number(alloc, number)? {
-        Some(entry) => begin_found(store, alloc, agreements, &entry, moment),
+    match records.find_in_number(alloc, number)? {
+        Some(entry) => begin_found(records, alloc, agreements, &entry, moment),
         None => Ok(Answer::Refused(Refusal::NoSuchNumber)),
     }
 }
@@ -160,15 +157,15 @@ fn end_answer(delivered: bool) -> Answer
 }
 
 /// Takes the outcome of a try of the receipt of this entry, unless none is open.
-fn close_found<S: Alter>(
-    store: &mut Store<S>,
+fn close_found<R: Records>(
+    records: &mut R,
     agreements: &Agreements,
     entry: &InEntry,
     answer: &TryAnswer,
     moment: Moment,
 ) -> Result<Answer, StoreFault>
-    requires open { HasCleanDisk (state S.Store store.old) → IsTrue (state S.Store store.old).is_open }
-    ensures taken { Does (λ s. Some (on_received s entry.now.number (mdn_closed agreements.now answer.now moment))) (λ s. received s entry.now.number ≡ Some entry.now) (true ≡ true) (λ a. a) (state S.Store store.old) (state S.Store store.new) result }
+    requires open { (R.shows records.old).IsClean → IsTrue (R.shows records.old).is_open }
+    ensures taken { Does (λ s. Some (on_received s entry.now.number (mdn_closed agreements.now answer.now moment))) (λ s. received s entry.now.number ≡ Some entry.now) (true ≡ true) (λ a. a) (R.shows records.old) (R.shows records.new) result }
 {
     let partner = match agreed_partner(agreements, &entry.posted.receiver, &entry.posted.sender) {
         Ok(partner) => partner,
@@ -181,23 +178,23 @@ fn close_found<S: Alter>(
         return Ok(Answer::Refused(Refusal::NoOpenTry));
     }
     let delivered = is_delivery(answer);
-    store.set_mdn(entry.number, after_try(partner, entry, delivered, moment))?;
+    records.set_mdn(entry.number, after_try(partner, entry, delivered, moment))?;
     Ok(end_answer(delivered))
 }
 
 /// Takes the outcome of a try of the receipt of the entry of this number.
-pub fn close_mdn<S: Alter>(
-    store: &mut Store<S>,
+pub fn close_mdn<R: Records>(
+    records: &mut R,
     alloc: Global,
     agreements: &Agreements,
     number: u64,
     answer: TryAnswer,
     moment: Moment,
 ) -> Result<Answer, StoreFault>
-    ensures taken { Does (λ s. Some (on_received s number (mdn_closed agreements.now answer moment))) always (true ≡ true) (λ a. a) (state S.Store store.old) (state S.Store store.new) result }
+    ensures taken { Does (λ s. Some (on_received s number (mdn_closed agreements.now answer moment))) always (true ≡ true) (λ a. a) (R.shows records.old) (R.shows records.new) result }
 {
-    match store.find_in_number(alloc, number)? {
-        Some(entry) => close_found(store, agreements, &entry, &answer, moment),
+    match records.find_in_number(alloc, number)? {
+        Some(entry) => close_found(records, agreements, &entry, &answer, moment),
         None => Ok(Answer::Refused(Refusal::NoSuchNumber)),
     }
 }

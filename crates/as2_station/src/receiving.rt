@@ -1,7 +1,5 @@
 //! Receipts that are posted: each settles its document once.
 ghost use Rattle.std.specs.Prelude.{◌≡◌, ◌&&◌, List, ℕ, Some, IsTrue};
-ghost use Rattle.sqlite.specs.Held.{state};
-ghost use Rattle.sqlite.specs.State.{HasCleanDisk};
 ghost use Rattle.as2_exchange.specs.Agreement.{Agreements};
 ghost use Rattle.as2_exchange.specs.Posts.{IsReceipt};
 ghost use Rattle.as2_exchange.specs.Readings.{named_by};
@@ -16,9 +14,8 @@ use as2_exchange::{HttpAnswer, HttpBody, Line, OutEntry, StoreFault};
 use as2_mdn::{Receipt, read_report, verdict_pieces};
 use as2_mic::Pieces;
 use as2_posts::Opened;
-use as2_store::Store;
+use as2_records::Records;
 use as2_text::{Moment, without_brackets};
-use sqlite::Alter;
 use std::alloc::Global;
 
 /// Whether the receipt is for the document, and that was begun.
@@ -41,8 +38,8 @@ fn taken() -> HttpAnswer
 
 /// Takes a receipt that names this document: it settles the document if it is for it, unless one has settled it before.
 #[tactic(auto, unfolding(as2_exchange::specs::Documents::settle, as2_exchange::specs::Readings::verdict))]
-fn settle_named<S: Alter>(
-    store: &mut Store<S>,
+fn settle_named<R: Records>(
+    records: &mut R,
     alloc: Global,
     opened: &Opened<'_>,
     receipt: &Receipt<'_>,
@@ -50,9 +47,9 @@ fn settle_named<S: Alter>(
     moment: Moment,
     document: &OutEntry,
 ) -> Result<HttpAnswer, StoreFault>
-    requires open { HasCleanDisk (state S.Store store.old) → IsTrue (state S.Store store.old).is_open }
-    ensures taken { (A : Agreements) → TakesPost S.Store A moment (IsReceipt (receipt_by opened.now receipt.now body))
-        (λ s. document_named s (named_by receipt.now) ≡ Some document.now) store.old store.new result }
+    requires open { (R.shows records.old).IsClean → IsTrue (R.shows records.old).is_open }
+    ensures taken { (A : Agreements) → TakesPost R.shows A moment (IsReceipt (receipt_by opened.now receipt.now body))
+        (λ s. document_named s (named_by receipt.now) ≡ Some document.now) records.old records.new result }
 {
     if !is_for(opened, receipt, document) {
         return Ok(Line::NoSuchMessage.answer());
@@ -62,28 +59,28 @@ fn settle_named<S: Alter>(
     }
     let evidence = evidence_of(alloc, opened, body, moment)?;
     let detail = verdict_pieces(receipt, &document.content);
-    store.settle(document.number, detail, &evidence)?;
+    records.settle(document.number, detail, &evidence)?;
     Ok(taken())
 }
 
 /// Takes a posted report: a receipt, unless it can't be read. The document that it names is settled, if one is there.
 #[tactic(auto, unfolding(as2_exchange::specs::Documents::settle, as2_exchange::specs::Readings::report_in))]
-pub fn receive<S: Alter>(
-    store: &mut Store<S>,
+pub fn receive<R: Records>(
+    records: &mut R,
     alloc: Global,
     opened: &Opened<'_>,
     body: Pieces,
     moment: Moment,
 ) -> Result<HttpAnswer, StoreFault>
-    ensures taken { (A : Agreements) → TakesPost S.Store A moment (report_by opened.now body) always store.old store.new result }
+    ensures taken { (A : Agreements) → TakesPost R.shows A moment (report_by opened.now body) always records.old records.new result }
 {
     let report = body.joined()?;
     let Ok(receipt) = read_report(&opened.media, &report) else {
         return Ok(Line::UnreadableReceipt.answer());
     };
     let id_value = without_brackets(receipt.original_id);
-    match store.find_out_by_id(alloc, id_value)? {
-        Some(document) => settle_named(store, alloc, opened, &receipt, body, moment, &document),
+    match records.find_out_by_id(alloc, id_value)? {
+        Some(document) => settle_named(records, alloc, opened, &receipt, body, moment, &document),
         None => Ok(Line::NoSuchMessage.answer()),
     }
 }

@@ -1,7 +1,5 @@
 //! Documents that are posted: each is recorded once.
 ghost use Rattle.std.specs.Prelude.{◌≡◌, Ok, Some, None, IsTrue, true};
-ghost use Rattle.sqlite.specs.Held.{state};
-ghost use Rattle.sqlite.specs.State.{HasCleanDisk};
 ghost use Rattle.as2_exchange.specs.State.{received_as};
 ghost use Rattle.as2_exchange.specs.Lines.{refusal};
 ghost use Rattle.as2_exchange.specs.Posts.{IsDocument};
@@ -13,24 +11,23 @@ ghost use Rattle.as2_station.specs.Steps.{ClashesWhole, TakesPost, always};
 use as2_agreement::Agreements;
 use as2_exchange::{HttpAnswer, InEntry, Line, Posted, StoreFault};
 use as2_posts::{answer_to, first_entry, has_kept_mic, is_requeued, repeats};
-use as2_store::Store;
+use as2_records::Records;
 use as2_text::Moment;
-use sqlite::Alter;
 use std::alloc::Global;
 
 /// Takes a document whose key an entry has: a repeat of the entry's document is answered as that was, and its receipt is
 /// queued again where a repeat does so. Any other is refused, unless the entry's own document is damaged: that is Disk.
 #[tactic(auto, unfolding(as2_exchange::specs::Recording::record_post))]
-fn record_again<S: Alter>(
-    store: &mut Store<S>,
+fn record_again<R: Records>(
+    records: &mut R,
     alloc: Global,
     agreements: &Agreements,
     entry: &InEntry,
     posted: &Posted,
     moment: Moment,
 ) -> Result<HttpAnswer, StoreFault>
-    requires open { HasCleanDisk (state S.Store store.old) → IsTrue (state S.Store store.old).is_open }
-    ensures taken { TakesPost S.Store agreements.now moment (IsDocument posted.now) (λ s. received_as s posted.now ≡ Some entry.now) store.old store.new result }
+    requires open { (R.shows records.old).IsClean → IsTrue (R.shows records.old).is_open }
+    ensures taken { TakesPost R.shows agreements.now moment (IsDocument posted.now) (λ s. received_as s posted.now ≡ Some entry.now) records.old records.new result }
     ensures whole { result ≡ Ok (refusal IdUsedBefore) → has_kept_mic entry.now.posted ≡ true }
 {
     if !repeats(&entry.posted, posted) {
@@ -43,43 +40,43 @@ fn record_again<S: Alter>(
     if !is_requeued(entry) {
         return Ok(answer);
     }
-    store.requeue_mdn(entry.number, moment)?;
+    records.requeue_mdn(entry.number, moment)?;
     Ok(answer)
 }
 
 /// Takes a document whose key no entry has: it gets the next number.
 #[tactic(auto, unfolding(as2_exchange::specs::Recording::record_post, as2_exchange::specs::Readings::value_of))]
-fn record_first<S: Alter>(
-    store: &mut Store<S>,
+fn record_first<R: Records>(
+    records: &mut R,
     alloc: Global,
     agreements: &Agreements,
     posted: Posted,
     moment: Moment,
 ) -> Result<HttpAnswer, StoreFault>
-    ensures taken { TakesPost S.Store agreements.now moment (IsDocument posted) (λ s. received_as s posted ≡ None) store.old store.new result }
+    ensures taken { TakesPost R.shows agreements.now moment (IsDocument posted) (λ s. received_as s posted ≡ None) records.old records.new result }
     ensures own { ¬ (result ≡ Ok (refusal IdUsedBefore)) }
 {
-    let number = store.next_numbers()?.receipt;
+    let number = records.next_numbers()?.receipt;
     let answer = answer_to(alloc, agreements, number, &posted)?;
-    store.add_in(&first_entry(number, moment, posted))?;
+    records.add_in(&first_entry(number, moment, posted))?;
     Ok(answer)
 }
 
 /// Takes a document: it repeats one, clashes with one, or is new and gets the next number.
 #[tactic(auto, unfolding(as2_exchange::specs::Readings::value_of))]
-pub fn record<S: Alter>(
-    store: &mut Store<S>,
+pub fn record<R: Records>(
+    records: &mut R,
     alloc: Global,
     agreements: &Agreements,
     posted: Posted,
     moment: Moment,
 ) -> Result<HttpAnswer, StoreFault>
-    ensures taken { TakesPost S.Store agreements.now moment (IsDocument posted) always store.old store.new result }
-    ensures whole { ClashesWhole Http (IsDocument posted) (state S.Store store.old) (state S.Store store.new) result }
+    ensures taken { TakesPost R.shows agreements.now moment (IsDocument posted) always records.old records.new result }
+    ensures whole { ClashesWhole Http (IsDocument posted) (R.shows records.old) (R.shows records.new) result }
 {
-    let found = store.find_in(alloc, &posted.sender, &posted.receiver, posted.id.value())?;
+    let found = records.find_in(alloc, &posted.sender, &posted.receiver, posted.id.value())?;
     match &found {
-        Some(entry) => record_again(store, alloc, agreements, entry, &posted, moment),
-        None => record_first(store, alloc, agreements, posted, moment),
+        Some(entry) => record_again(records, alloc, agreements, entry, &posted, moment),
+        None => record_first(records, alloc, agreements, posted, moment),
     }
 }

@@ -1,12 +1,11 @@
 //! The station, event by event.
 ghost use Rattle.std.specs.Prelude.{◌≡◌, IfOk, IfErr, OnErr, option_map, string_bytes, true};
-ghost use Rattle.sqlite.specs.Held.{state};
 ghost use Rattle.as2_exchange.specs.declared.event.Event.TheVariants.{Post};
 ghost use Rattle.as2_exchange.specs.declared.answer.Answer.TheVariants.{Http};
 ghost use Rattle.as2_exchange.specs.Views.{IsNext, fetch, next, outstanding, show};
 ghost use Rattle.as2_views.specs.Filtering.{listing};
-ghost use Rattle.as2_store.specs.Calls.{Reads};
-ghost use Rattle.as2_store.specs.Stands.{may_come};
+ghost use Rattle.as2_records.specs.Calls.{Reads};
+ghost use Rattle.as2_records.specs.Standing.{may_come};
 ghost use Rattle.as2_posts.specs.Openings.{reading_by};
 ghost use Rattle.as2_station.specs.Steps.{ClashesWhole, RefusesSubmit, TakesEvent, TakesHead, TakesPost, always};
 ghost use Rattle.as2_station.specs.Traces.{Plays, Taken};
@@ -23,50 +22,40 @@ use as2_agreement::Agreements;
 use as2_exchange::{Answer, Event, HttpAnswer, Next, StoreFault};
 use as2_mic::Pieces;
 use as2_posts::{Opened, document, open};
-use as2_store::Store;
+use as2_records::Records;
 use as2_text::{Head, Memory, Moment};
 use as2_views::Filter;
-use sqlite::{Alter, Connection};
 use std::alloc::Global;
 use std::marker::Model;
 
-/// The station over its records. It keeps nothing beside the tables.
+/// The station over its records. It keeps nothing beside them.
 #[derive(Drop)]
-pub struct Station<S: Alter> {
-    store: Store<S>,
+pub struct Station<R: Records> {
+    records: R,
 }
 
-impl<S: Alter> Model for Station<S> {
-    ghost use Rattle.sqlite.specs.Held.{Held, held_code};
+impl<R: Records> Model for Station<R> {
+    ghost Value = { R };
 
-    ghost Value = { Held S };
+    ghost coded = { R.code };
 
-    ghost coded = { held_code S.code };
-
-    ghost view = { λ s. s.store };
+    ghost view = { λ s. s.records };
 }
 
-impl<S: Alter> Station<S> {
+impl<R: Records> Station<R> {
     /// The station over these records.
-    pub fn new(store: Store<S>) -> Station<S>
-        ensures { result ≡ store }
+    pub fn new(records: R) -> Station<R>
+        ensures { result ≡ records }
     {
-        Station { store }
+        Station { records }
     }
 
     /// Gives the records back.
-    pub fn into_store(self) -> Store<S>
+    pub fn into_records(self) -> R
         ensures { result ≡ self }
     {
-        let Station { store } = self;
-        store
-    }
-
-    /// Gives the records back as the connection that they are in.
-    pub fn into_connection(self) -> Connection<S>
-        ensures { result ≡ self }
-    {
-        self.into_store().into_connection()
+        let Station { records } = self;
+        records
     }
 
     /// Takes a post whose head is in order as far as its content type.
@@ -79,20 +68,20 @@ impl<S: Alter> Station<S> {
         body: Pieces,
         moment: Moment,
     ) -> Result<HttpAnswer, StoreFault>
-        ensures taken { TakesPost S.Store agreements.now moment (reading_by opened.entry head.now body) always self.old self.new result }
-        ensures whole { ClashesWhole Http (reading_by opened.entry head.now body) (state S.Store self.old) (state S.Store self.new) result }
+        ensures taken { TakesPost R.shows agreements.now moment (reading_by opened.entry head.now body) always self.old self.new result }
+        ensures whole { ClashesWhole Http (reading_by opened.entry head.now body) (R.shows self.old) (R.shows self.new) result }
     {
         if opened.is_report() {
-            return receive(&mut self.store, alloc, &opened, body, moment);
+            return receive(&mut self.records, alloc, &opened, body, moment);
         }
         match document(alloc, opened, head, body)? {
-            Ok(posted) => record(&mut self.store, alloc, agreements, posted, moment),
+            Ok(posted) => record(&mut self.records, alloc, agreements, posted, moment),
             Err(line) => Ok(line.answer()),
         }
     }
 
-    /// Takes a post. One that its names, version or content type refuse takes neither memory nor the store. A fault of the
-    /// store may come in place of any other answer, and nothing is changed then; Full where no number is left. A kept document
+    /// Takes a post. One that its names, version or content type refuse takes neither memory nor the records. A fault of
+    /// theirs may come in place of any other answer, and nothing is changed then; Full where no number is left. A kept document
     /// that no longer has its kept MIC is Disk, where the identifier would else be told to be another document's.
     pub fn post(
         &mut self,
@@ -102,7 +91,7 @@ impl<S: Alter> Station<S> {
         body: Pieces,
         moment: Moment,
     ) -> Result<HttpAnswer, StoreFault>
-        ensures taken { TakesEvent agreements.now (Post head.now body moment) Http (state S.Store self.old) (state S.Store self.new) result }
+        ensures taken { TakesEvent agreements.now (Post head.now body moment) Http (R.shows self.old) (R.shows self.new) result }
         ensures of_head { TakesHead agreements.now (Post head.now body moment) (λ a. a) self.old self.new result }
     {
         match open(agreements, head) {
@@ -112,9 +101,9 @@ impl<S: Alter> Station<S> {
     }
 
     /// Takes an event. A post is taken as `post` takes it. A document is taken in under the next number; one that is refused takes
-    /// neither memory nor the store. A try begins once it is committed; its outcome settles the document by the receipt that came in
+    /// neither memory nor the records. A try begins once it is committed; its outcome settles the document by the receipt that came in
     /// the answer, or says when to try again; a receipt that is sent later is tried likewise. As time passes, what waited too
-    /// long is given up. A fault of the store may come in place of any other answer, and nothing is changed then; Full where no
+    /// long is given up. A fault of the records may come in place of any other answer, and nothing is changed then; Full where no
     /// number is left.
     pub fn step(
         &mut self,
@@ -122,7 +111,7 @@ impl<S: Alter> Station<S> {
         agreements: &Agreements,
         event: Event,
     ) -> Result<Answer, StoreFault>
-        ensures taken { TakesEvent agreements.now event (λ a. a) (state S.Store self.old) (state S.Store self.new) result }
+        ensures taken { TakesEvent agreements.now event (λ a. a) (R.shows self.old) (R.shows self.new) result }
         ensures of_head { TakesHead agreements.now event Http self.old self.new result }
         ensures submitted { RefusesSubmit agreements.now event self.old self.new result }
     {
@@ -136,7 +125,7 @@ impl<S: Alter> Station<S> {
                 content,
                 moment,
             } => submit(
-                &mut self.store,
+                &mut self.records,
                 alloc,
                 agreements,
                 organization,
@@ -145,36 +134,36 @@ impl<S: Alter> Station<S> {
                 moment,
             ),
             Event::Begin { number, moment } => {
-                begin(&mut self.store, alloc, agreements, number, moment)
+                begin(&mut self.records, alloc, agreements, number, moment)
             }
             Event::Outcome {
                 number,
                 answer,
                 moment,
-            } => close(&mut self.store, alloc, agreements, number, answer, moment),
+            } => close(&mut self.records, alloc, agreements, number, answer, moment),
             Event::BeginMdn { number, moment } => {
-                begin_mdn(&mut self.store, alloc, agreements, number, moment)
+                begin_mdn(&mut self.records, alloc, agreements, number, moment)
             }
             Event::OutcomeMdn {
                 number,
                 answer,
                 moment,
-            } => close_mdn(&mut self.store, alloc, agreements, number, answer, moment),
-            Event::Tick { moment } => tick(&mut self.store, moment),
+            } => close_mdn(&mut self.records, alloc, agreements, number, answer, moment),
+            Event::Tick { moment } => tick(&mut self.records, moment),
         }
     }
 
     /// What is to be sent next at this moment: the receipt of the least number of which a try may begin, or else the document of
     /// the least number, or nothing. Answers Memory, Disk or Refused.
     pub fn next(&mut self, moment: Moment) -> Result<Option<Next>, StoreFault>
-        ensures next { Reads (λ s found. found ≡ next s moment) (state S.Store self.old) (state S.Store self.new) result }
-        ensures least { Reads (λ s found. IsNext s moment found) (state S.Store self.old) (state S.Store self.new) result }
+        ensures next { Reads (λ s found. found ≡ next s moment) (R.shows self.old) (R.shows self.new) result }
+        ensures least { Reads (λ s found. IsNext s moment found) (R.shows self.old) (R.shows self.new) result }
         ensures fault { IfErr result (λ f. may_come f ≡ true) }
     {
-        if let Some(number) = self.store.due_mdn(moment)? {
+        if let Some(number) = self.records.due_mdn(moment)? {
             return Ok(Some(Next::Receipt(number)));
         }
-        match self.store.due_out(moment)? {
+        match self.records.due_out(moment)? {
             Some(number) => Ok(Some(Next::Document(number))),
             None => Ok(None),
         }
@@ -182,42 +171,42 @@ impl<S: Alter> Station<S> {
 
     /// The listing that is asked for, a line each, in order of number. Answers Memory, Disk or Refused.
     pub fn listing(&mut self, alloc: Global, filter: Filter) -> Result<String, StoreFault>
-        ensures listing { Reads (λ s text. string_bytes text ≡ listing filter s) (state S.Store self.old) (state S.Store self.new) result }
+        ensures listing { Reads (λ s text. string_bytes text ≡ listing filter s) (R.shows self.old) (R.shows self.new) result }
         ensures fault { IfErr result (λ f. may_come f ≡ true) }
     {
         match filter {
-            Filter::Outbox(wanted) => viewing::sent_listing(&mut self.store, alloc, wanted),
-            Filter::Inbox => viewing::received_listing(&mut self.store, alloc),
+            Filter::Outbox(wanted) => viewing::sent_listing(&mut self.records, alloc, wanted),
+            Filter::Inbox => viewing::received_listing(&mut self.records, alloc),
         }
     }
 
     /// How much is outstanding, a line for each of five counts, and the lines of the documents that are under way and due at this
     /// moment. Answers Memory, Disk or Refused.
     pub fn outstanding(&mut self, alloc: Global, moment: Moment) -> Result<String, StoreFault>
-        ensures outstanding { Reads (λ s text. string_bytes text ≡ outstanding s moment) (state S.Store self.old) (state S.Store self.new) result }
+        ensures outstanding { Reads (λ s text. string_bytes text ≡ outstanding s moment) (R.shows self.old) (R.shows self.new) result }
         ensures fault { IfErr result (λ f. may_come f ≡ true) }
     {
-        viewing::outstanding(&mut self.store, alloc, moment)
+        viewing::outstanding(&mut self.records, alloc, moment)
     }
 
     /// All that is known of the document of this number, a line each; None where there is no such document. Answers Memory, Disk
     /// or Refused.
     pub fn show(&mut self, alloc: Global, number: u64) -> Result<Option<String>, StoreFault>
-        ensures shown { Reads (λ s text. option_map string_bytes text ≡ show s number) (state S.Store self.old) (state S.Store self.new) result }
+        ensures shown { Reads (λ s text. option_map string_bytes text ≡ show s number) (R.shows self.old) (R.shows self.new) result }
         ensures fault { IfErr result (λ f. may_come f ≡ true) }
     {
-        viewing::show(&mut self.store, alloc, number)
+        viewing::show(&mut self.records, alloc, number)
     }
 
     /// The content of the received document of this number; None where there is no such entry. Answers Memory, Disk or Refused.
     pub fn fetch(&mut self, alloc: Global, number: u64) -> Result<Option<Vec<u8>>, StoreFault>
-        ensures fetched { Reads (λ s content. option_map (λ v. v.items) content ≡ fetch s number) (state S.Store self.old) (state S.Store self.new) result }
+        ensures fetched { Reads (λ s content. option_map (λ v. v.items) content ≡ fetch s number) (R.shows self.old) (R.shows self.new) result }
         ensures fault { IfErr result (λ f. may_come f ≡ true) }
     {
-        viewing::fetch(&mut self.store, alloc, number)
+        viewing::fetch(&mut self.records, alloc, number)
     }
 
-    /// Takes the events one after the other: each is answered, or is a fault of the store and changes nothing. Memory means
+    /// Takes the events one after the other: each is answered, or is a fault of the records and changes nothing. Memory means
     /// that nothing has happened.
     pub fn play(
         &mut self,
@@ -225,8 +214,8 @@ impl<S: Alter> Station<S> {
         agreements: &Agreements,
         events: Vec<Event>,
     ) -> Result<Vec<Result<Answer, StoreFault>>, Memory>
-        ensures each { IfOk result (λ said. Taken S.Store agreements.now events.items said.items self.old self.new) }
-        ensures played { IfOk result (λ said. Plays S.Store agreements.now events.items said.items self.old self.new) }
+        ensures each { IfOk result (λ said. Taken R.shows agreements.now events.items said.items self.old self.new) }
+        ensures played { IfOk result (λ said. Plays R.shows agreements.now events.items said.items self.old self.new) }
         ensures nothing { OnErr result (self.new ≡ self.old) }
     {
         let mut said = Vec::with_capacity(alloc, events.len())?;

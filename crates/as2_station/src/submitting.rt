@@ -1,6 +1,5 @@
 //! Documents that are handed in for a partner: each gets the next number.
 ghost use Rattle.std.specs.Prelude.{◌≡◌, None, Some, Ok, is_none, true};
-ghost use Rattle.sqlite.specs.Held.{state};
 ghost use Rattle.as2_exchange.specs.Documents.{submit};
 ghost use Rattle.as2_exchange.specs.declared.answer.Answer.TheVariants.{Refused};
 ghost use Rattle.as2_exchange.specs.declared.answer.Refusal.{Refusal as TheRefusal};
@@ -14,9 +13,8 @@ use as2_exchange::{Answer, Attempt, CONTENT_LIMIT, OutEntry, Refusal, StoreFault
 use as2_mdn::Detail;
 use as2_mic::Pieces;
 use as2_posts::out_id;
-use as2_store::Store;
+use as2_records::Records;
 use as2_text::{AsName, MessageId, Moment};
-use sqlite::Alter;
 use std::alloc::Global;
 
 /// Why a document that is handed in is refused, if it is: who sends it is no organization, who is to get it no partner, or it
@@ -68,8 +66,8 @@ fn new_document(
 }
 
 /// Takes a document in for a partner, under the next number, unless it is refused.
-pub fn submit<S: Alter>(
-    store: &mut Store<S>,
+pub fn submit<R: Records>(
+    records: &mut R,
     alloc: Global,
     agreements: &Agreements,
     organization: AsName,
@@ -77,15 +75,15 @@ pub fn submit<S: Alter>(
     content: Pieces,
     moment: Moment,
 ) -> Result<Answer, StoreFault>
-    ensures taken { Does (λ s. submit agreements.now s organization partner content moment) always (is_none (submit_refusal agreements.now organization partner content) ≡ true) (λ a. a) (state S.Store store.old) (state S.Store store.new) result }
+    ensures taken { Does (λ s. submit agreements.now s organization partner content moment) always (is_none (submit_refusal agreements.now organization partner content) ≡ true) (λ a. a) (R.shows records.old) (R.shows records.new) result }
     ensures refused { (reason : TheRefusal) → submit_refusal agreements.now organization partner content ≡ Some reason → result ≡ Ok (Refused reason) }
-    ensures same { (reason : TheRefusal) → submit_refusal agreements.now organization partner content ≡ Some reason → store.new ≡ store.old }
+    ensures same { (reason : TheRefusal) → submit_refusal agreements.now organization partner content ≡ Some reason → records.new ≡ records.old }
 {
     if let Some(reason) = refusal_of(agreements, &organization, &partner, &content) {
         return Ok(Answer::Refused(reason));
     }
-    let number = store.next_numbers()?.document;
+    let number = records.next_numbers()?.document;
     let id = out_id(alloc, agreements, number)?;
-    store.add_out(&new_document(number, organization, partner, id, content, moment))?;
+    records.add_out(&new_document(number, organization, partner, id, content, moment))?;
     Ok(Answer::Submitted(number))
 }

@@ -2,15 +2,15 @@
 ghost use Rattle.std.specs.Prelude.{◌≡◌, ◌++◌, IfOk, IfErr, string_bytes, true};
 ghost use Rattle.std.specs.List.{filter, flat_map};
 ghost use Rattle.as2_exchange.specs.Views.{shown_words};
-ghost use Rattle.as2_store.specs.Stands.{may_come};
+ghost use Rattle.as2_records.specs.Standing.{may_come};
 ghost use Rattle.as2_views.specs.Counting.{counts_text};
 ghost use Rattle.as2_views.specs.Lists.{Rise, is_outstanding, marked_line};
 ghost use Rattle.as2_views.specs.RowLines.{in_row_line};
 
 use as2_exchange::{OutEntry, StoreFault};
-use as2_rows::{InRow, OutRow};
+use as2_records::{Counts, InRow, OutRow};
 use as2_text::Moment;
-use as2_views::{Counts, add_counts, add_document, add_in_lines, add_out_lines, keep_outstanding};
+use as2_views::{add_counts, add_document, add_in_lines, add_out_lines, keep_outstanding};
 use std::alloc::Global;
 
 /// The bytes as a text. They are one, as long as names and identifiers are.

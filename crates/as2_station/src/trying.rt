@@ -1,7 +1,5 @@
 //! Tries of documents: each is committed before its request is handed out.
 ghost use Rattle.std.specs.Prelude.{◌≡◌, ◌<◌, ℕ, Some, IsTrue, true};
-ghost use Rattle.sqlite.specs.Held.{state};
-ghost use Rattle.sqlite.specs.State.{HasCleanDisk};
 ghost use Rattle.as2_agreement.specs.Partners.{IsPartner};
 ghost use Rattle.as2_exchange.specs.Documents.{begun, waits};
 ghost use Rattle.as2_exchange.specs.State.{document};
@@ -15,9 +13,8 @@ use as2_agreement::{Agreements, Partner};
 use as2_exchange::{Answer, Attempt, OutEntry, Refusal, StoreFault};
 use as2_mdn::Detail;
 use as2_posts::document_job;
-use as2_store::{Progress, Store};
+use as2_records::{Progress, Records};
 use as2_text::Moment;
-use sqlite::Alter;
 use std::alloc::Global;
 
 /// Whether a document waits for what no try can bring.
@@ -77,15 +74,15 @@ fn tried(partner: &Partner, document: &OutEntry, moment: Moment) -> Progress
 }
 
 /// Begins a try of this document, unless that is refused.
-fn begin_found<S: Alter>(
-    store: &mut Store<S>,
+fn begin_found<R: Records>(
+    records: &mut R,
     alloc: Global,
     agreements: &Agreements,
     entry: &OutEntry,
     moment: Moment,
 ) -> Result<Answer, StoreFault>
-    requires open { HasCleanDisk (state S.Store store.old) → IsTrue (state S.Store store.old).is_open }
-    ensures taken { Does (λ s. Some (on_document s entry.now.number (begun agreements.now moment))) (λ s. document s entry.now.number ≡ Some entry.now) (true ≡ true) (λ a. a) (state S.Store store.old) (state S.Store store.new) result }
+    requires open { (R.shows records.old).IsClean → IsTrue (R.shows records.old).is_open }
+    ensures taken { Does (λ s. Some (on_document s entry.now.number (begun agreements.now moment))) (λ s. document s entry.now.number ≡ Some entry.now) (true ≡ true) (λ a. a) (R.shows records.old) (R.shows records.new) result }
 {
     let partner = match agreed_partner(agreements, &entry.organization, &entry.partner) {
         Ok(partner) => partner,
@@ -103,22 +100,22 @@ fn begin_found<S: Alter>(
         &entry.id,
         &entry.content,
     )?;
-    store.set_out(entry.number, progress)?;
+    records.set_out(entry.number, progress)?;
     Ok(Answer::Job(job))
 }
 
 /// Begins a try of the document of this number.
-pub fn begin<S: Alter>(
-    store: &mut Store<S>,
+pub fn begin<R: Records>(
+    records: &mut R,
     alloc: Global,
     agreements: &Agreements,
     number: u64,
     moment: Moment,
 ) -> Result<Answer, StoreFault>
-    ensures taken { Does (λ s. Some (on_document s number (begun agreements.now moment))) always (true ≡ true) (λ a. a) (state S.Store store.old) (state S.Store store.new) result }
+    ensures taken { Does (λ s. Some (on_document s number (begun agreements.now moment))) always (true ≡ true) (λ a. a) (R.shows records.old) (R.shows records.new) result }
 {
-    match store.find_out(alloc, number)? {
-        Some(document) => begin_found(store, alloc, agreements, &document, moment),
+    match records.find_out(alloc, number)? {
+        Some(document) => begin_found(records, alloc, agreements, &document, moment),
         None => Ok(Answer::Refused(Refusal::NoSuchNumber)),
     }
 }

@@ -22,7 +22,8 @@ use Rattle.as2_rows.specs.Contents.{pieces, piece_shown}
 use Rattle.as2_rows.specs.Waiting.{out_waiting}
 use Rattle.as2_store.specs.Tables.{store_schema, meta_tree, outbox_table, outbox_tree, outbox_piece_tree}
 use Rattle.as2_store.specs.Stands.{IsWhole, Stands, HasCounters, waiting_row, all_waiting, evidence_rows, outbox_pieces}
-use Rattle.as2_store.specs.Adding.{Appended, Noted, noted_rows, IsEntered, with_document, added_document}
+use Rattle.as2_store.specs.Adding.{Appended, Noted, noted_rows, IsEntered}
+use Rattle.as2_records.specs.Adding.{with_document, added_document}
 use Rattle.as2_store.proofs.Statements.{out_put_text}
 use Rattle.as2_store.proofs.Texts.{out_put_terms, out_put_is, out_put_plain}
 use Rattle.as2_store.proofs.Committing.{FollowsEach}

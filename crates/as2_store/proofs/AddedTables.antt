@@ -21,7 +21,8 @@ use Rattle.as2_rows.specs.Contents.{pieces, piece_shown}
 use Rattle.as2_rows.specs.Waiting.{WaitingRow, in_waiting}
 use Rattle.as2_store.specs.Tables.{store_schema, meta_tree, inbox_tree, inbox_piece_tree, waiting_tree}
 use Rattle.as2_store.specs.Stands.{IsWhole, Stands, HasCounters, inbox_pieces}
-use Rattle.as2_store.specs.Adding.{Appended, Noted, noted_rows, IsEntered, with_received, added}
+use Rattle.as2_store.specs.Adding.{Appended, Noted, noted_rows, IsEntered}
+use Rattle.as2_records.specs.Adding.{with_received, added}
 use Rattle.as2_store.proofs.Committing.{FollowsEach}
 use Rattle.as2_store.proofs.NumberedRows.{puts_between}
 use Rattle.as2_store.proofs.WaitingRows.{noted}

@@ -15,7 +15,8 @@ use Rattle.as2_exchange.specs.declared.fault.StoreFault.{StoreFault}
 use Rattle.as2_exchange.specs.declared.fault.StoreFault.TheVariants.{NotAStore}
 use Rattle.sqlite.specs.Schema.{Schema}
 use Rattle.as2_store.proofs.Statements.{meta_read_text}
-use Rattle.as2_store.specs.Stands.{Stands, MetaSays, adoption_fault, may_come}
+use Rattle.as2_store.specs.Stands.{Stands, MetaSays, adoption_fault}
+use Rattle.as2_records.specs.Standing.{may_come}
 use Rattle.as2_store.specs.Calls.{IsInside, IsGivenBack, IsReason, Writes, Adopts}
 use Rattle.as2_store.proofs.MetaRow.{said_fails, reads_said, says_of, meta_cells}
 

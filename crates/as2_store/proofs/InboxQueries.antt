@@ -2,8 +2,8 @@
 use Rattle.std.proofs.Common.{◌≡◌, ℕ, pos, ◌<◌, ◌≤◌, ◌^◌, ◌==◌, nat_le, inl, inr, List, [], ◌∷◌, ◌++◌, map, Bool, true, false, ◌&&◌, refl, sym, ap, ap₂, ◌∙◌, negsuc, arith}
 use Rattle.std.specs.List.{filter}
 use Rattle.std.proofs.lemmas.List.{map-append}
-use Rattle.as2_rows.specs.declared.inbox.InRow.{InRow}
-use Rattle.as2_rows.specs.Summaries.{in_summary}
+use Rattle.as2_records.specs.declared.summaries.InRow.{InRow}
+use Rattle.as2_records.specs.Summaries.{in_summary}
 use Rattle.std.specs.List.{AllByRecursion}
 use Rattle.std.proofs.lemmas.Bool.{cases_Bool}
 use Rattle.std.proofs.lemmas.Bool.Decides.{nat_tests}

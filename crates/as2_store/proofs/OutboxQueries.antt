@@ -15,9 +15,10 @@ use Rattle.sqlite_trees.proofs.ListLemmas.{filter_same}
 use Rattle.as2_exchange.specs.declared.outbox.Evidence.{Evidence}
 use Rattle.as2_exchange.specs.declared.outbox.OutEntry.{OutEntry}
 use Rattle.as2_rows.specs.Rows.{out_row, out_shown, evidence_row, evidence_shown}
-use Rattle.as2_rows.specs.Summaries.{evidence_in, out_entry, out_summary}
+use Rattle.as2_rows.specs.Summaries.{evidence_in}
+use Rattle.as2_records.specs.Summaries.{out_entry, out_summary}
 use Rattle.as2_rows.specs.declared.evidence.EvidenceRow.{EvidenceRow}
-use Rattle.as2_rows.specs.declared.outbox.OutRow.{OutRow}
+use Rattle.as2_records.specs.declared.summaries.OutRow.{OutRow}
 use Rattle.as2_store.specs.Tables.{outbox_tree, evidence_tree}
 use Rattle.as2_store.proofs.Statements.{out_by_id_text, out_by_number_text, evidence_by_number_text}
 use Rattle.as2_store.specs.Stands.{Rests, evidence_rows}

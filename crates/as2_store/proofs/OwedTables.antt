@@ -28,10 +28,11 @@ use Rattle.as2_store.specs.Tables.{store_schema, inbox_table, inbox_tree, inbox_
 use Rattle.as2_store.proofs.Statements.{in_set_text}
 use Rattle.as2_store.specs.Stands.{IsWhole, Stands, waiting_row, documents_waiting, all_waiting, inbox_pieces}
 use Rattle.as2_store.specs.Adding.{noted_rows}
-use Rattle.as2_store.specs.Owing.{answers_at, owed_as, set_mdn_in}
+use Rattle.as2_store.specs.Owing.{answers_at}
+use Rattle.as2_records.specs.Owing.{owed_as, set_mdn_in}
 use Rattle.as2_store.specs.Requeuing.{not_at, HoldsWaiting, Renewed}
 use Rattle.as2_store.specs.Settling.{place_of}
-use Rattle.as2_store.specs.declared.owed.MdnProgress.{MdnProgress}
+use Rattle.as2_records.specs.declared.progress.MdnProgress.{MdnProgress}
 use Rattle.as2_store.proofs.NumberedRows.{numbers_rise, entries_rise}
 use Rattle.as2_store.proofs.WaitingRows.{IsLast, cast_optional, documents_of, ins_small, kind_is_last}
 use Rattle.as2_store.proofs.InboxRow.{cast_url, cast_digest, cast_mic}

@@ -37,7 +37,8 @@ use Rattle.as2_rows.specs.Waiting.{WaitingRow, to_hear, to_end}
 use Rattle.as2_store.specs.Tables.{store_schema, outbox_table, outbox_tree, outbox_piece_tree, waiting_table, waiting_tree}
 use Rattle.as2_store.specs.Stands.{IsWhole, Stands, place, waiting_row, all_waiting}
 use Rattle.as2_store.specs.Due.{due_numbers, due_waiting, number_row}
-use Rattle.as2_store.specs.Expiring.{HoldsDocuments, PassesInto, Rewritten, over, passing, passing_in, passing_one, ticked_in, without_due}
+use Rattle.as2_store.specs.Expiring.{HoldsDocuments, PassesInto, Rewritten, over, passing, passing_in, passing_one, without_due}
+use Rattle.as2_records.specs.Expiring.{ticked_in}
 use Rattle.as2_store.specs.Requeuing.{HoldsWaiting}
 use Rattle.as2_store.proofs.Statements.{all_due_text, out_pass_text, waiting_take_due_text}
 use Rattle.as2_store.proofs.Texts.{number_terms, pass_project, out_pass_is, out_pass_plain, due_columns, any_due_terms, all_due_is, all_due_plain, all_due_unlisted, waiting_take_due_is, waiting_take_due_plain}

@@ -18,13 +18,14 @@ use Rattle.as2_rows.specs.Rows.{whole, whole_or_null, out_row}
 use Rattle.as2_rows.specs.Codes.{attempt_code, detail_code}
 use Rattle.as2_rows.specs.Contents.{piece_shown}
 use Rattle.as2_rows.specs.Waiting.{WaitingRow}
-use Rattle.as2_store.specs.declared.progress.Progress.{Progress}
+use Rattle.as2_records.specs.declared.progress.Progress.{Progress}
 use Rattle.as2_store.specs.Tables.{store_schema, outbox_table, outbox_tree, outbox_piece_tree}
 use Rattle.as2_store.specs.Stands.{IsWhole, Stands, waiting_row, all_waiting}
 use Rattle.as2_store.specs.Adding.{noted_rows}
 use Rattle.as2_store.specs.Requeuing.{HoldsWaiting, Renewed}
 use Rattle.as2_store.specs.Settling.{without_document}
-use Rattle.as2_store.specs.Progressing.{come_to, set_in, waits_at}
+use Rattle.as2_store.specs.Progressing.{waits_at}
+use Rattle.as2_records.specs.Progressing.{come_to, set_in}
 use Rattle.as2_store.proofs.Statements.{out_set_text}
 use Rattle.as2_store.proofs.Texts.{number_terms, set_project, out_set_is, out_set_plain}
 use Rattle.as2_store.proofs.ForeignKeys.{quiet}

@@ -11,7 +11,7 @@ use Rattle.as2_rows.specs.Summaries.{evidence_in}
 use Rattle.as2_rows.specs.declared.evidence.EvidenceRow.{EvidenceRow}
 use Rattle.as2_store.specs.Tables.{evidence_tree}
 use Rattle.as2_store.specs.Due.{number_row}
-use Rattle.as2_views.specs.Lists.{settled_numbers}
+use Rattle.as2_records.specs.Listing.{settled_numbers}
 use Rattle.as2_store.specs.Stands.{Rests}
 use Rattle.as2_store.proofs.Statements.{settled_text}
 use Rattle.as2_store.proofs.NumberedRows.{given_rise, numbers_rise, ordered_rise}

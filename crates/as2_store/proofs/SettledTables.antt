@@ -33,7 +33,8 @@ use Rattle.as2_store.specs.Stands.{IsWhole, Stands, place, waiting_row, all_wait
 use Rattle.as2_store.specs.Adding.{noted_rows}
 use Rattle.as2_store.specs.Requeuing.{HoldsWaiting, Renewed}
 use Rattle.as2_exchange.specs.Documents.{settled_as}
-use Rattle.as2_store.specs.Settling.{settled_in, without_document}
+use Rattle.as2_store.specs.Settling.{without_document}
+use Rattle.as2_records.specs.Settling.{settled_in}
 use Rattle.as2_store.proofs.Committing.{FollowsEach}
 use Rattle.as2_store.proofs.Unsettled.{some_found, fresh_unsettled}
 use Rattle.as2_store.proofs.MetaRow.{fits_i64}

@@ -35,10 +35,11 @@ use Rattle.as2_exchange.specs.declared.outbox.OutEntry.{OutEntry}
 use Rattle.as2_rows.specs.Rows.{whole, whole_or_null, url_value, digest_value, mic_value, in_columns, out_columns, in_row, out_row, meta_row}
 use Rattle.as2_rows.specs.Codes.{outcome_code, how_code, mdn_code, attempt_code, detail_code}
 use Rattle.as2_rows.specs.Contents.{Piece, pieces, piece_bytes, piece_shown}
-use Rattle.as2_rows.specs.Summaries.{in_summary, in_entry, out_summary, out_entry, evidence_in}
+use Rattle.as2_rows.specs.Summaries.{evidence_in}
+use Rattle.as2_records.specs.Summaries.{in_summary, in_entry, out_summary, out_entry}
 use Rattle.as2_rows.specs.declared.evidence.EvidenceRow.{EvidenceRow}
-use Rattle.as2_rows.specs.declared.inbox.InRow.{InRow}
-use Rattle.as2_rows.specs.declared.outbox.OutRow.{OutRow}
+use Rattle.as2_records.specs.declared.summaries.InRow.{InRow}
+use Rattle.as2_records.specs.declared.summaries.OutRow.{OutRow}
 use Rattle.as2_rows.proofs.Joining.{as_many, bytes_at, one_more, all_taken, pieces_rise}
 use Rattle.as2_store.specs.Stands.{Stands, evidence_rows}
 use Rattle.as2_store.proofs.EntryPieces.{all_pieces, gathers}

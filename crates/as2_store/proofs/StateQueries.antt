@@ -17,8 +17,8 @@ use Rattle.as2_exchange.specs.Views.{is_in, same_state}
 use Rattle.as2_exchange.specs.declared.outbox.OutEntry.{OutEntry}
 use Rattle.as2_rows.specs.Codes.{detail_code}
 use Rattle.as2_rows.specs.Rows.{out_row, out_shown}
-use Rattle.as2_rows.specs.Summaries.{out_summary}
-use Rattle.as2_rows.specs.declared.outbox.OutRow.{OutRow}
+use Rattle.as2_records.specs.Summaries.{out_summary}
+use Rattle.as2_records.specs.declared.summaries.OutRow.{OutRow}
 use Rattle.as2_store.specs.Listing.{detail_in, first_detail, last_detail, state_codes}
 use Rattle.as2_store.specs.Stands.{Rests}
 use Rattle.as2_store.specs.Tables.{outbox_tree}

@@ -24,7 +24,8 @@ use Rattle.as2_rows.specs.Waiting.{WaitingRow, out_kind, in_kind, in_waiting, wa
 use Rattle.as2_store.specs.Tables.{store_schema, waiting_table}
 use Rattle.as2_store.proofs.Statements.{waiting_put_text}
 use Rattle.as2_store.specs.Stands.{place, waiting_row, documents_waiting, all_waiting}
-use Rattle.as2_store.specs.Adding.{Noted, noted_rows, with_received}
+use Rattle.as2_store.specs.Adding.{Noted, noted_rows}
+use Rattle.as2_records.specs.Adding.{with_received}
 use Rattle.as2_store.proofs.NumberedRows.{puts_between}
 use Rattle.as2_store.proofs.Texts.{waiting_put_terms, waiting_put_is, waiting_put_plain}
 

@@ -16,22 +16,6 @@ use Rattle.as2_store.specs.declared.contents.Mailbox.TheVariants.{Inbox, Outbox}
 use Rattle.as2_store.specs.Stands.{HasCounters, HasEntries, waiting_row}
 use Rattle.sqlite.specs.Effect.{Database}
 
--- the state with an entry more in its inbox, under the next number
-abbrev pub with_received : State → InEntry → State
-with_received s e = record s { inbox = s.inbox ++ e ∷ []; next_in = s.next_in + 1 }
-
--- the state once the entry is added, if it has the next number
-abbrev pub added : InEntry → State → Option State
-added e s = if e.number == s.next_in then Some (with_received s e) else None
-
--- the state with a document more in its outbox, under the next number
-abbrev pub with_document : State → OutEntry → State
-with_document s d = record s { outbox = s.outbox ++ d ∷ []; next_out = s.next_out + 1 }
-
--- the state once the document is added, if it has the next number
-abbrev pub added_document : OutEntry → State → Option State
-added_document d s = if d.number == s.next_out then Some (with_document s d) else None
-
 -- the numbers of an entry fit into columns
 pub record Fits (content : List ℕ) (tries : ℕ) (due : Option ℕ) : Type 0 where
   pub length_fits : length content < 2 ^ 63

@@ -6,7 +6,8 @@ use Rattle.as2_exchange.specs.State.{State, empty}
 use Rattle.as2_exchange.specs.declared.fault.StoreFault.{StoreFault}
 use Rattle.as2_exchange.specs.declared.fault.StoreFault.TheVariants.{NotAStore}
 use Rattle.as2_store.specs.Tables.{store_schema}
-use Rattle.as2_store.specs.Stands.{Stands, Rests, IsBlank, MetaSays, adoption_fault, may_come}
+use Rattle.as2_store.specs.Stands.{Stands, Rests, IsBlank, MetaSays, adoption_fault}
+use Rattle.as2_records.specs.Standing.{may_come}
 
 -- a statement inside a transaction: nothing is committed, and nothing is left to a crash that wasn't
 pub record IsInside (old new : Connected) : Type 0 where

@@ -16,10 +16,6 @@ use Rattle.as2_rows.specs.Waiting.{WaitingRow, out_kind, to_hear, to_end}
 use Rattle.as2_store.specs.Stands.{Rests}
 use Rattle.as2_store.specs.Tables.{store_schema, outbox_tree}
 
--- the state that time leaves at this moment
-abbrev pub ticked_in : ℕ → State → Option State
-ticked_in m s = Some (tick m s).1
-
 -- it is how many documents Tick tells
 abbrev pub AreTicked : ℕ → Connected → ℕ → Type 0
 AreTicked m old count = (s : State) → Rests old s → Ticked count ≡ (tick m s).0

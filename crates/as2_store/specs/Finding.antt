@@ -3,20 +3,11 @@ use Rattle.std.specs.Prelude.{◌≡◌, find, ℕ, List, [], ◌∷◌, Option,
 use Rattle.as2_names.specs.Identifiers.{value_of}
 use Rattle.sqlite.specs.Order.{Row}
 use Rattle.as2_exchange.specs.State.{State, document, has_key}
-use Rattle.as2_store.specs.declared.counters.NextNumbers.{NextNumbers}
+use Rattle.as2_records.specs.declared.numbers.NextNumbers.{NextNumbers}
 use Rattle.as2_exchange.specs.declared.inbox.InEntry.{InEntry}
 use Rattle.as2_exchange.specs.declared.outbox.Evidence.{Evidence}
 use Rattle.as2_exchange.specs.declared.outbox.OutEntry.{OutEntry}
 use Rattle.as2_rows.specs.Rows.{evidence_shown}
-
--- what is found is the entry that this sender posted to this receiver under an identifier of this value, if there is one
-abbrev pub IsPostedAs : List ℕ → List ℕ → List ℕ → State → Option InEntry → Type 0
-IsPostedAs sender receiver value s found = found ≡ find (λ e. has_key sender receiver value e.posted) s.inbox
-
--- the numbers that the next entries get
-pub record AreNext (next : NextNumbers) (s : State) : Type 0 where
-  pub receipt : next.receipt ≡ s.next_in
-  pub document : next.document ≡ s.next_out
 
 -- it has an identifier of this value
 abbrev pub has_id : List ℕ → OutEntry → Bool

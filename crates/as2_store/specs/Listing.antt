@@ -10,8 +10,8 @@ use Rattle.as2_exchange.specs.State.{State}
 use Rattle.as2_exchange.specs.Views.{is_in, same_state}
 use Rattle.as2_rows.specs.Codes.{detail_code}
 use Rattle.as2_rows.specs.Rows.{whole}
-use Rattle.as2_rows.specs.Summaries.{out_summary}
-use Rattle.as2_rows.specs.declared.outbox.OutRow.{OutRow}
+use Rattle.as2_records.specs.Summaries.{out_summary}
+use Rattle.as2_records.specs.declared.summaries.OutRow.{OutRow}
 
 -- the detail is one of this state, where one is asked for
 abbrev pub detail_in : Option StateOf → Detail → Bool
@@ -38,7 +38,3 @@ last_detail (Some E) = Overdue
 -- their codes, as a query is given them
 abbrev pub state_codes : Option StateOf → Row
 state_codes wanted = whole (detail_code (first_detail wanted)) ∷ whole (detail_code (last_detail wanted)) ∷ []
-
--- the documents of this state, or all, each as its row has it
-abbrev pub listed : Option StateOf → State → List OutRow
-listed wanted s = map out_summary (filter (is_in wanted) s.outbox)

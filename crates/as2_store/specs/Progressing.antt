@@ -3,15 +3,7 @@ use Rattle.std.specs.Prelude.{ℕ, Option, option_map, IfSome, ◌<◌, ◌^◌}
 use Rattle.as2_exchange.specs.State.{State, document, change_document}
 use Rattle.as2_exchange.specs.declared.outbox.OutEntry.{OutEntry}
 use Rattle.as2_rows.specs.Waiting.{WaitingRow, out_kind}
-use Rattle.as2_store.specs.declared.progress.Progress.{Progress}
-
--- the document once it has come so far
-abbrev pub come_to : Progress → OutEntry → OutEntry
-come_to p d = record d { tries = p.tries; attempt = p.attempt; due = p.due; detail = p.detail }
-
--- the state once the document of this number has come so far, if there is one
-abbrev pub set_in : ℕ → Progress → State → Option State
-set_in n p s = option_map (λ _. change_document s n (come_to p)) (document s n)
+use Rattle.as2_records.specs.declared.progress.Progress.{Progress}
 
 -- what the document of this number waits for once it has come so far
 abbrev pub waits_at : ℕ → Progress → Option WaitingRow

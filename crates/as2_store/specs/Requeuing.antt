@@ -11,10 +11,6 @@ use Rattle.as2_rows.specs.Waiting.{WaitingRow}
 use Rattle.as2_store.specs.Tables.{store_schema, waiting_tree}
 use Rattle.as2_store.specs.Stands.{place, waiting_row}
 
--- the state once the receipt of the entry of this number, if there is one, is to be sent so
-abbrev pub requeued_in : ℕ → ℕ → State → Option State
-requeued_in n m s = Some (change_received s n (requeued m))
-
 -- what waits, in order of the places
 pub record HoldsWaiting (d : Database) (ws : List WaitingRow) : Type 0 where
   pub schema : d.schema ≡ store_schema

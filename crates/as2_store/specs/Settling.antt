@@ -9,13 +9,6 @@ use Rattle.as2_exchange.specs.declared.outbox.Evidence.{Evidence}
 use Rattle.as2_rows.specs.Waiting.{WaitingRow, to_send, to_hear, to_end}
 use Rattle.as2_store.specs.Requeuing.{not_at}
 
--- the state once a receipt settles the document of this number so: one that no receipt has settled, by a detail that a receipt
--- gives
-abbrev pub settled_in : ℕ → Detail → Evidence → State → Option State
-settled_in n detail evidence s =
-    if option_map_or is_settled (document s n) true || not (is_by_receipt detail) then None
-    else Some (change_document s n (settled_as detail evidence))
-
 -- where the row stands of what the document of this number waits for
 abbrev pub place_of : ℕ → ℕ → ℕ
 place_of kind n = kind * end_of_numbers + n

@@ -105,15 +105,6 @@ pub record HasNoRow (d : Database) (schema : Schema) : Type 0 where
 
 -- ---- faults
 
--- a fault of memory, of the disk or of the database itself, which may come from any call
-abbrev pub may_come : StoreFault → Bool
-may_come Memory = true
-may_come Disk = true
-may_come Refused = true
-may_come Full = false
-may_come NotAStore = false
-may_come OtherVersion = false
-
 -- the fault that an error of SQLite is
 abbrev pub fault_by : Error → StoreFault
 fault_by (SqliteFailure code.OutOfMemory) = Memory

@@ -6,7 +6,8 @@ ghost use Rattle.sqlite.specs.State.{HasCleanDisk};
 ghost use Rattle.as2_store.specs.Calls.{IsInside, Writes};
 ghost use Rattle.as2_exchange.specs.State.{State, end_of_numbers};
 ghost use Rattle.as2_store.specs.Stands.{Stands};
-ghost use Rattle.as2_store.specs.Adding.{Fits, IsEntered, added, with_received};
+ghost use Rattle.as2_store.specs.Adding.{Fits, IsEntered};
+ghost use Rattle.as2_records.specs.Adding.{added, with_received};
 
 use crate::contents::{Mailbox, put_pieces};
 use crate::counters::raise_next_receipt;

@@ -7,7 +7,8 @@ ghost use Rattle.sqlite.specs.declared.types.Value.TheVariants.{Text};
 ghost use Rattle.sql_tables.specs.Changes.{IsOutside};
 ghost use Rattle.as2_exchange.specs.declared.fault.StoreFault.TheVariants.{NotAStore};
 ghost use Rattle.as2_rows.specs.Rows.{whole};
-ghost use Rattle.as2_store.specs.Stands.{adoption_fault, may_come};
+ghost use Rattle.as2_store.specs.Stands.{adoption_fault};
+ghost use Rattle.as2_records.specs.Standing.{may_come};
 ghost use Rattle.as2_store.specs.Calls.{Adopts, Commits, IsGivenBack, IsReason};
 
 use crate::fault::fault_of;

@@ -13,16 +13,8 @@ ghost use Rattle.as2_store.specs.Stands.{Rests, MetaSays, HasNoRow, HasCounters}
 
 use crate::numbers::whole;
 use crate::reading::query_all;
+use as2_records::NextNumbers;
 use sqlite::{Alter, Connection, Error, Row, Transaction, params};
-
-/// The numbers that the next entries get. One past 999,999,999,999 is never given.
-#[derive(Clone, Copy, Debug, PartialEq, Eq)]
-pub struct NextNumbers {
-    /// Of the inbox.
-    pub receipt: u64,
-    /// Of the outbox.
-    pub document: u64,
-}
 
 /// Puts in the row, with both counters at the first number.
 pub fn put_meta<S: Alter>(tx: &mut Transaction<'_, S>, first: u64) -> Result<(), Error>

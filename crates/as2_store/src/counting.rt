@@ -10,15 +10,15 @@ ghost use Rattle.as2_mdn.specs.declared.detail.Detail.{Detail as DetailOf};
 ghost use Rattle.as2_exchange.specs.declared.inbox.MdnState.{MdnState as MdnStateOf};
 ghost use Rattle.as2_store.specs.Calls.{Reads};
 ghost use Rattle.as2_store.specs.Counting.{detail_row, details_of, is_awaiting, is_unsent, mdn_row, mdns_of};
-ghost use Rattle.as2_store.specs.Stands.{may_come};
-ghost use Rattle.as2_views.specs.Counting.{counts_of};
+ghost use Rattle.as2_records.specs.Standing.{may_come};
+ghost use Rattle.as2_records.specs.Counting.{counts_of};
 
 use crate::fault::fault_of;
 use crate::reading::query_all;
 use as2_exchange::{MdnState, StoreFault};
 use as2_mdn::{Detail, State as StateOf};
+use as2_records::Counts;
 use as2_rows::{detail_of_code, mdn_of_code};
-use as2_views::Counts;
 use sqlite::{Alter, Connection, Error, Row};
 use std::alloc::Global;
 

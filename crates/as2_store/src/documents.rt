@@ -8,14 +8,16 @@ ghost use Rattle.as2_exchange.specs.declared.outbox.OutEntry.{OutEntry as Docume
 ghost use Rattle.as2_rows.specs.Rows.{out_shown};
 ghost use Rattle.as2_store.specs.Calls.{Reads};
 ghost use Rattle.as2_store.specs.Finding.{evidence_at};
-ghost use Rattle.as2_store.specs.Stands.{Rests, may_come};
+ghost use Rattle.as2_store.specs.Stands.{Rests};
+ghost use Rattle.as2_records.specs.Standing.{may_come};
 
 use crate::contents::out_piece_rows;
 use crate::fault::{fault_of, unread_row};
 use crate::outbox::evidence_rows;
 use as2_exchange::{END_OF_NUMBERS, Evidence, OutEntry, StoreFault};
 use as2_mic::Pieces;
-use as2_rows::{EvidenceRow, OutRow, content_in};
+use as2_records::OutRow;
+use as2_rows::{EvidenceRow, content_in, read_out_row};
 use sqlite::{Alter, Connection, Row};
 use std::alloc::Global;
 
@@ -69,7 +71,7 @@ pub fn shown_document<S: Alter>(
     let Some(row) = rows.first() else {
         return Ok(None);
     };
-    let row = OutRow::read(alloc, row).map_err(unread_row)?;
+    let row = read_out_row(alloc, row).map_err(unread_row)?;
     if row.number >= END_OF_NUMBERS {
         return Err(StoreFault::Refused);
     }

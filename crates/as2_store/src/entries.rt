@@ -7,13 +7,15 @@ ghost use Rattle.as2_exchange.specs.State.{State};
 ghost use Rattle.as2_exchange.specs.declared.inbox.InEntry.{InEntry as Entry};
 ghost use Rattle.as2_rows.specs.Rows.{in_shown};
 ghost use Rattle.as2_store.specs.Calls.{Reads};
-ghost use Rattle.as2_store.specs.Stands.{Rests, may_come};
+ghost use Rattle.as2_store.specs.Stands.{Rests};
+ghost use Rattle.as2_records.specs.Standing.{may_come};
 
 use crate::contents::in_piece_rows;
 use crate::fault::{fault_of, unread_row};
 use as2_exchange::{END_OF_NUMBERS, InEntry, StoreFault};
 use as2_mic::Pieces;
-use as2_rows::{InRow, content_in};
+use as2_records::InRow;
+use as2_rows::{content_in, read_in_row};
 use sqlite::{Alter, Connection, Row};
 use std::alloc::Global;
 
@@ -48,7 +50,7 @@ pub fn shown_entry<S: Alter>(
     let Some(row) = rows.first() else {
         return Ok(None);
     };
-    let row = InRow::read(alloc, row).map_err(unread_row)?;
+    let row = read_in_row(alloc, row).map_err(unread_row)?;
     if row.number >= END_OF_NUMBERS {
         return Err(StoreFault::Refused);
     }

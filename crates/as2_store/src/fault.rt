@@ -1,7 +1,8 @@
 //! What a failure of the database is to the station.
 
 ghost use Rattle.std.specs.Prelude.{◌≡◌, true};
-ghost use Rattle.as2_store.specs.Stands.{fault_by, may_come};
+ghost use Rattle.as2_store.specs.Stands.{fault_by};
+ghost use Rattle.as2_records.specs.Standing.{may_come};
 
 use as2_exchange::StoreFault;
 use as2_rows::RowFault;

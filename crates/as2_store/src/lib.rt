@@ -27,9 +27,6 @@ mod store;
 mod submitting;
 mod waiting;
 
-pub use counters::NextNumbers;
 pub use fault::fault_of;
 pub use laws::one_state_stands;
-pub use owed::MdnProgress;
-pub use progress::Progress;
 pub use store::Store;

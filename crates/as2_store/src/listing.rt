@@ -4,15 +4,17 @@ ghost use Rattle.std.specs.Prelude.{◌≡◌, false, true, if◌then◌else◌,
 ghost use Rattle.sqlite.specs.Held.{state};
 ghost use Rattle.sqlite.specs.State.{HasCleanDisk};
 ghost use Rattle.sqlite.specs.Values.{bound};
-ghost use Rattle.as2_rows.specs.Summaries.{in_summary};
+ghost use Rattle.as2_records.specs.Summaries.{in_summary};
 ghost use Rattle.as2_store.specs.Calls.{Reads};
-ghost use Rattle.as2_store.specs.Listing.{detail_in, first_detail, last_detail, listed, state_codes};
-ghost use Rattle.as2_store.specs.Stands.{may_come};
+ghost use Rattle.as2_store.specs.Listing.{detail_in, first_detail, last_detail, state_codes};
+ghost use Rattle.as2_records.specs.Listing.{listed};
+ghost use Rattle.as2_records.specs.Standing.{may_come};
 
 use crate::fault::{fault_of, unread_row};
 use as2_exchange::{END_OF_NUMBERS, StoreFault};
 use as2_mdn::{Detail, State};
-use as2_rows::{InRow, OutRow, detail_code};
+use as2_records::{InRow, OutRow};
+use as2_rows::{detail_code, read_in_row, read_out_row};
 use sqlite::types::ValueRef;
 use sqlite::{Alter, Connection, params};
 use std::alloc::Global;
@@ -41,7 +43,7 @@ pub fn entries<S: Alter>(conn: &mut Connection<S>, alloc: Global) -> Result<Vec<
         let Some(row) = rows.get() else {
             return Ok(entries);
         };
-        let entry = InRow::read(alloc, row).map_err(unread_row)?;
+        let entry = read_in_row(alloc, row).map_err(unread_row)?;
         match entries.push(entry) {
             Ok(()) => (),
             Err(_) => return Err(StoreFault::Memory),
@@ -122,7 +124,7 @@ fn documents_between<S: Alter>(
         let Some(row) = rows.get() else {
             return Ok(documents);
         };
-        let document = OutRow::read(alloc, row).map_err(unread_row)?;
+        let document = read_out_row(alloc, row).map_err(unread_row)?;
         list_if(&mut documents, wanted, document)?;
     }
     Err(StoreFault::Refused)

@@ -6,10 +6,9 @@ ghost use Rattle.as2_store.specs.Adding.{Fits};
 ghost use Rattle.as2_store.specs.Owing.{FitsMdn};
 ghost use Rattle.as2_store.specs.Progressing.{FitsProgress};
 
-use crate::owed::MdnProgress;
-use crate::progress::Progress;
 use as2_exchange::END_OF_NUMBERS;
 use as2_mic::Pieces;
+use as2_records::{MdnProgress, Progress};
 use std::cmp::min;
 
 /// The greatest number that fits into a column.

@@ -9,26 +9,14 @@ ghost use Rattle.as2_exchange.specs.State.{State, change_received};
 ghost use Rattle.as2_rows.specs.Rows.{in_row};
 ghost use Rattle.as2_store.specs.Tables.{store_schema, inbox_tree};
 ghost use Rattle.as2_store.specs.Stands.{Stands};
-ghost use Rattle.as2_store.specs.Owing.{FitsMdn, owed_as, set_mdn_in};
+ghost use Rattle.as2_store.specs.Owing.{FitsMdn};
+ghost use Rattle.as2_records.specs.Owing.{owed_as, set_mdn_in};
 
 use crate::numbers::{asked, whole, whole_or_none};
 use crate::waiting::answer_for;
-use as2_exchange::{Attempt, MdnState};
+use as2_records::MdnProgress;
 use as2_rows::{attempt_code, mdn_code};
 use sqlite::{Alter, Connection, Error, Transaction, params};
-
-/// How far the receipt for a posted document has come.
-#[derive(Clone, Copy, Debug, PartialEq, Eq)]
-pub struct MdnProgress {
-    /// How it stands.
-    pub mdn: MdnState,
-    /// How often it was tried.
-    pub tries: u64,
-    /// Whether a try is open.
-    pub attempt: Attempt,
-    /// When the next try may begin, in seconds since 1970.
-    pub due: Option<u64>,
-}
 
 /// Sets how far the receipt of the entry of this number has come, and answers how many entries have the number.
 fn set_owed<S: Alter>(

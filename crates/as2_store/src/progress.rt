@@ -9,27 +9,14 @@ ghost use Rattle.as2_exchange.specs.State.{State, change_document};
 ghost use Rattle.as2_rows.specs.Rows.{out_row};
 ghost use Rattle.as2_store.specs.Tables.{store_schema, outbox_tree};
 ghost use Rattle.as2_store.specs.Stands.{Stands};
-ghost use Rattle.as2_store.specs.Progressing.{FitsProgress, come_to, set_in};
+ghost use Rattle.as2_store.specs.Progressing.{FitsProgress};
+ghost use Rattle.as2_records.specs.Progressing.{come_to, set_in};
 
 use crate::numbers::{asked, whole, whole_or_none};
 use crate::waiting::wait_for;
-use as2_exchange::Attempt;
-use as2_mdn::Detail;
+use as2_records::Progress;
 use as2_rows::{attempt_code, detail_code};
 use sqlite::{Alter, Connection, Error, Transaction, params};
-
-/// How far a document has come.
-#[derive(Clone, Copy, Debug, PartialEq, Eq)]
-pub struct Progress {
-    /// How often it was tried.
-    pub tries: u64,
-    /// Whether a try is open.
-    pub attempt: Attempt,
-    /// When the next try may begin, or what is waited for is overdue, in seconds since 1970.
-    pub due: Option<u64>,
-    /// How it stands.
-    pub detail: Detail,
-}
 
 /// Sets how far the document of this number has come, and answers how many documents have the number.
 fn set_progress<S: Alter>(

@@ -4,7 +4,7 @@ ghost use Rattle.std.specs.Prelude.{◌≡◌, false, ℕ, List, map, IfOk};
 ghost use Rattle.sqlite.specs.Held.{state};
 ghost use Rattle.as2_store.specs.Calls.{Reads};
 ghost use Rattle.as2_store.specs.Due.{number_row};
-ghost use Rattle.as2_views.specs.Lists.{settled_numbers};
+ghost use Rattle.as2_records.specs.Listing.{settled_numbers};
 
 use crate::reading::query_all;
 use sqlite::{Alter, Connection, Error, ErrorCode, Row};

@@ -12,7 +12,7 @@ ghost use Rattle.as2_rows.specs.Rows.{out_row};
 ghost use Rattle.as2_store.specs.Tables.{store_schema, outbox_tree};
 ghost use Rattle.as2_store.specs.Stands.{Stands};
 ghost use Rattle.as2_exchange.specs.Documents.{settled_as};
-ghost use Rattle.as2_store.specs.Settling.{settled_in};
+ghost use Rattle.as2_records.specs.Settling.{settled_in};
 
 use crate::numbers::{asked, whole};
 use crate::outbox::put_evidence;

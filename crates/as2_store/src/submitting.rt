@@ -6,14 +6,15 @@ ghost use Rattle.sqlite.specs.State.{HasCleanDisk};
 ghost use Rattle.as2_store.specs.Calls.{IsInside, Writes};
 ghost use Rattle.as2_exchange.specs.State.{State, end_of_numbers};
 ghost use Rattle.as2_store.specs.Stands.{Stands};
-ghost use Rattle.as2_store.specs.Adding.{Fits, IsEntered, added_document, with_document};
+ghost use Rattle.as2_store.specs.Adding.{Fits, IsEntered};
+ghost use Rattle.as2_records.specs.Adding.{added_document, with_document};
 
 use crate::contents::{Mailbox, put_pieces};
 use crate::counters::raise_next_document;
 use crate::outbox::put_out;
-use crate::progress::Progress;
 use crate::waiting::put_out_waiting;
 use as2_exchange::OutEntry;
+use as2_records::Progress;
 use sqlite::{Alter, Connection, Error, Transaction};
 
 /// How far a document has come.

@@ -16,10 +16,9 @@ ghost use Rattle.as2_store.specs.Progressing.{waits_at};
 ghost use Rattle.as2_store.specs.Settling.{place_of, without_document};
 
 use crate::numbers::{whole, whole_or_none};
-use crate::owed::MdnProgress;
-use crate::progress::Progress;
 use as2_exchange::{Attempt, END_OF_NUMBERS, InEntry, MdnState};
 use as2_mdn::Detail;
+use as2_records::{MdnProgress, Progress};
 use as2_rows::Wait;
 use sqlite::{Alter, Error, Transaction, params};
 

@@ -5,6 +5,7 @@ use crate::agreements::AGREEMENTS;
 use crate::texts::{PLAIN, RECEIVED, event_of, is_said, texts};
 use as2_agreement::Agreements;
 use as2_exchange::{Event, StoreFault};
+use as2_kept::Kept;
 use as2_restart::{close, open_at, play_then_close};
 use as2_station::{Filter, Station};
 use as2_store::Store;
@@ -46,13 +47,13 @@ fn is_filled<S: Alter + Drop>(alloc: Global, conn: Connection<S>) -> Result<bool
     requires { conn.in_transaction ≡ false }
 {
     match Store::create(conn, 1) {
-        Ok(store) => takes_post(alloc, &mut Station::new(store)),
+        Ok(store) => takes_post(alloc, &mut Station::new(Kept::new(store))),
         Err(_) => Ok(false),
     }
 }
 
 /// Whether the plain post gets its receipt.
-fn takes_post<S: Alter>(alloc: Global, station: &mut Station<S>) -> Result<bool, Fail> {
+fn takes_post<S: Alter>(alloc: Global, station: &mut Station<Kept<S>>) -> Result<bool, Fail> {
     let settings = texts(alloc)?;
     let agreements = Agreements::read(alloc, AGREEMENTS)?;
     let said = station.step(alloc, &agreements, event_of(alloc, &settings, PLAIN)?);
@@ -66,10 +67,10 @@ fn has_one_entry<S: Alter + Drop>(alloc: Global, conn: Connection<S>) -> Result<
     let Ok(store) = Store::adopt(conn) else {
         return Ok(false);
     };
-    let mut station = Station::new(store);
+    let mut station = Station::new(Kept::new(store));
     let is_repeat = takes_post(alloc, &mut station)?;
     let listed = station.listing(alloc, Filter::Inbox)?;
-    let next = station.into_store().next_numbers()?;
+    let next = station.into_records().into_store().next_numbers()?;
     let is_one = listed.as_str() == "           1 S S Buyer -> Supplier <m1@x>\n";
     Ok(is_repeat && is_one && next.receipt == 2 && next.document == 1)
 }
@@ -110,9 +111,9 @@ fn one_post(alloc: Global) -> Result<Vec<Event>, Fail> {
 }
 
 /// A station over a new store in the file.
-fn station_in(rt: &HostRuntime, file: &str) -> Result<Station<FileStore<File>>, Fail> {
+fn station_in(rt: &HostRuntime, file: &str) -> Result<Station<Kept<FileStore<File>>>, Fail> {
     match Store::create(open_at(rt, file, Unknown)?, 1) {
-        Ok(store) => Ok(Station::new(store)),
+        Ok(store) => Ok(Station::new(Kept::new(store))),
         Err(_) => Err(Fail::new("no store")),
     }
 }

@@ -9,9 +9,11 @@ use Rattle.as2_exchange.specs.Invariants.{AreNumbers}
 use Rattle.as2_exchange.specs.State.{State, is_settled}
 use Rattle.as2_exchange.specs.Tries.{is_due}
 use Rattle.as2_exchange.specs.Views.{is_in, is_under_way, list_in, list_out, outstanding}
-use Rattle.as2_rows.specs.Summaries.{in_summary, out_summary}
-use Rattle.as2_views.specs.Counting.{counts_of, counts_text}
-use Rattle.as2_views.specs.Lists.{Rise, document_numbers, is_outstanding, marked_line, settled_numbers}
+use Rattle.as2_records.specs.Summaries.{in_summary, out_summary}
+use Rattle.as2_records.specs.Counting.{counts_of}
+use Rattle.as2_views.specs.Counting.{counts_text}
+use Rattle.as2_records.specs.Listing.{settled_numbers}
+use Rattle.as2_views.specs.Lists.{Rise, document_numbers, is_outstanding, marked_line}
 use Rattle.as2_views.specs.RowLines.{in_row_line}
 use Rattle.as2_views.proofs.Marks.{kept_rows, lines, marks, rise_kept}
 

@@ -8,8 +8,8 @@ use Rattle.as2_exchange.specs.State.{is_settled}
 use Rattle.as2_exchange.specs.declared.outbox.OutEntry.{OutEntry}
 use Rattle.as2_exchange.specs.Agreement.{Text}
 use Rattle.as2_exchange.specs.Views.{is_in, out_line}
-use Rattle.as2_rows.specs.declared.outbox.OutRow.{OutRow}
-use Rattle.as2_rows.specs.Summaries.{out_summary}
+use Rattle.as2_records.specs.declared.summaries.OutRow.{OutRow}
+use Rattle.as2_records.specs.Summaries.{out_summary}
 use Rattle.as2_views.specs.Lists.{Rise, is_one_of, marked_line}
 use Rattle.as2_views.specs.RowLines.{out_row_line}
 use Rattle.as2_views.proofs.Searching.{above, below}

@@ -1,11 +1,11 @@
 -- Lists of rows: which documents a receipt has settled, and which are outstanding.
 use Rattle.std.specs.Prelude.{ℕ, ◌<◌, ◌==◌, Bool, ◌&&◌, List, [], ◌∷◌, map, ⊤}
-use Rattle.std.specs.List.{AllByRecursion, filter, list_any}
+use Rattle.std.specs.List.{AllByRecursion, list_any}
 use Rattle.as2_exchange.specs.Agreement.{Text}
-use Rattle.as2_exchange.specs.State.{State, is_settled}
+use Rattle.as2_exchange.specs.State.{State}
 use Rattle.as2_exchange.specs.Tries.{is_due}
 use Rattle.as2_exchange.specs.Views.{is_under_way}
-use Rattle.as2_rows.specs.declared.outbox.OutRow.{OutRow}
+use Rattle.as2_records.specs.declared.summaries.OutRow.{OutRow}
 use Rattle.as2_views.specs.RowLines.{out_row_line}
 
 -- each number is below all that stand behind it
@@ -28,7 +28,3 @@ is_outstanding m r = is_under_way r.detail && is_due m r.due
 -- the numbers of the documents
 abbrev pub document_numbers : State → List ℕ
 document_numbers s = map (λ d. d.number) s.outbox
-
--- the numbers of those that a receipt has settled
-abbrev pub settled_numbers : State → List ℕ
-settled_numbers s = map (λ d. d.number) (filter is_settled s.outbox)

@@ -4,23 +4,9 @@ ghost use Rattle.as2_exchange.specs.Views.{count_line};
 ghost use Rattle.as2_views.specs.Counting.{counts_text};
 
 use crate::pieces::{add_number, add_text};
+use as2_records::Counts;
 use as2_text::Memory;
 use std::alloc::AllocError;
-
-/// How much is outstanding.
-#[derive(Clone, Copy, Debug, PartialEq, Eq)]
-pub struct Counts {
-    /// How many documents were submitted of which no try was begun.
-    pub not_sent: u64,
-    /// How many documents have a try open, or due after one that failed.
-    pub in_retry: u64,
-    /// For how many documents a receipt is awaited that comes by a post of its own.
-    pub awaited: u64,
-    /// How many documents are in error.
-    pub in_error: u64,
-    /// How many receipts are to be sent.
-    pub to_send: u64,
-}
 
 /// Appends the line of a count.
 fn add_count(text: &mut Vec<u8>, words: &[u8], count: u64) -> Result<(), AllocError>

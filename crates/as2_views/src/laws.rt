@@ -7,9 +7,11 @@ ghost use Rattle.as2_exchange.specs.declared.inbox.InEntry.{InEntry};
 ghost use Rattle.as2_exchange.specs.declared.outbox.OutEntry.{OutEntry};
 ghost use Rattle.as2_exchange.specs.Tries.{is_due};
 ghost use Rattle.as2_exchange.specs.Views.{in_line, is_in, is_under_way, list_in, list_out, out_line, outstanding};
-ghost use Rattle.as2_rows.specs.Summaries.{in_summary, out_summary};
-ghost use Rattle.as2_views.specs.Counting.{counts_of, counts_text};
-ghost use Rattle.as2_views.specs.Lists.{Rise, document_numbers, is_outstanding, marked_line, settled_numbers};
+ghost use Rattle.as2_records.specs.Summaries.{in_summary, out_summary};
+ghost use Rattle.as2_records.specs.Counting.{counts_of};
+ghost use Rattle.as2_views.specs.Counting.{counts_text};
+ghost use Rattle.as2_records.specs.Listing.{settled_numbers};
+ghost use Rattle.as2_views.specs.Lists.{Rise, document_numbers, is_outstanding, marked_line};
 ghost use Rattle.as2_views.specs.RowLines.{in_row_line, out_row_line};
 
 /// The line of a row is that of its entry, and a row is outstanding where its document is.

@@ -10,7 +10,7 @@ mod lists;
 mod pieces;
 mod rows;
 
-pub use counts::{Counts, add_counts};
+pub use counts::add_counts;
 pub use document::add_document;
 pub use filter::Filter;
 pub use laws::{all_are_listed, lists_of_rows, numbers_rise, rows_give_lines};

@@ -8,7 +8,7 @@ ghost use Rattle.as2_views.specs.RowLines.{in_row_line};
 
 use crate::rows::{add_in_line, add_out_line};
 use as2_mdn::Detail;
-use as2_rows::{InRow, OutRow};
+use as2_records::{InRow, OutRow};
 use as2_text::{Memory, Moment};
 
 /// Appends the lines of received documents, in their order. Memory where it runs out; a part may be appended then.

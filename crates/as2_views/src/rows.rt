@@ -7,7 +7,7 @@ ghost use Rattle.as2_views.specs.RowLines.{in_row_line, out_row_line};
 use crate::pieces::{add_from_to, add_left, add_right, add_text, add_word};
 use as2_exchange::MdnState;
 use as2_mdn::{Outcome, State};
-use as2_rows::{InRow, OutRow};
+use as2_records::{InRow, OutRow};
 use as2_text::Memory;
 
 /// The places of a number, of a count of tries, and of a detail.

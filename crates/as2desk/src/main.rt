@@ -1,15 +1,11 @@
 //! The program `as2desk`: an AS2 station at the command line.
 #![tactic(auto)]
 
-mod file_system;
-mod links;
-mod network;
-
 ghost use Rattle.as2_http.specs.Devices.{Opens};
 
-use crate::file_system::{FileSystem, StoreFiles};
-use crate::network::Sockets;
+use as2_connections::{Sockets, clock};
 use as2_desk::Lines;
+use as2_files::{FileSystem, Starting, StoreFiles};
 use as2_http::Counted;
 use sqlite_disk::Start;
 use sqlite_std_file::Unknown;
@@ -17,19 +13,11 @@ use std::io::{LineWriter, Stderr, Stdin, Stdout};
 use std::marker::Brand;
 use std::process::ExitCode;
 use std::sync::ledger::{Blank, Ledger};
-use std::time::SystemTime;
 use std::{env, io};
-
-/// The seconds since 1970, where the clock can be read and does not stand before.
-fn clock(rt: &HostRuntime) -> Option<u64> {
-    let now = SystemTime::now(rt).ok()?;
-    let since = now.duration_since(SystemTime::UNIX_EPOCH).ok()?;
-    Some(since.as_secs())
-}
 
 /// Runs the command line `words` over the file system, the network and the standard streams, with counts of the calls that are made of
 /// input and output. `start` stands for what the files of its store hold as they are opened; hints and notes of replies go to `hints`. The exit status.
-fn run<S: Start, A: Ledger, B: Ledger, C: Ledger, D: Ledger>(
+fn run<S: Start + Drop, A: Ledger, B: Ledger, C: Ledger, D: Ledger>(
     rt: &HostRuntime,
     words: &[&str],
     start: S,
@@ -47,21 +35,18 @@ fn run<S: Start, A: Ledger, B: Ledger, C: Ledger, D: Ledger>(
     let files = FileSystem { rt };
     let mut input: Counted<Stdin, A, B> = Counted::new(rt.stdin(), reads, failed_reads);
     let mut output: Counted<Stdout, C, D> = Counted::new(rt.stdout(), writes, failed_writes);
-    let (ran, left) = as2_desk::run(
+    let ran = as2_desk::run(
         rt.alloc(),
         words,
         clock(rt),
         &files,
-        &mut StoreFiles::new(files, start),
+        &mut StoreFiles::new(files, Starting { start }),
         &Sockets { rt },
         &mut input,
         &mut output,
         hints,
         &mut rt.stderr(),
     );
-    if let Some((path, store)) = left {
-        files.close(path, store);
-    }
     ran.status
 }
 

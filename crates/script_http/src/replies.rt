@@ -1,7 +1,7 @@
 //! Replies as they are written (RFC 9112, section 4).
 use as2_exchange::{Bytes, HttpAnswer, HttpBody, Line};
-use as2_http::{Form, RequestFault, refusal, write_reply};
 use as2_mdn::{Outcome, ReportOut, write_report};
+use as2_messages::{Form, RequestFault, refusal, write_reply};
 use as2_text::{AsName, Domain, MessageId, Moment};
 use script_lines::{Answer, Trouble};
 

@@ -1,5 +1,5 @@
 //! Requests as they are read (RFC 9112, section 3), whole or in pieces.
-use as2_http::{Method, Parsed, Refused, Request, RequestParser, Target};
+use as2_messages::{Method, Parsed, Refused, Request, RequestParser, Target};
 use as2_text::Once;
 use script_lines::{Answer, Trouble};
 

@@ -5,6 +5,7 @@ use crate::events::event;
 use crate::made::made;
 use as2_agreement::Agreements;
 use as2_exchange::{Answer as Said, END_OF_NUMBERS, Event, StoreFault};
+use as2_kept::Kept;
 use as2_station::Station;
 use as2_store::Store;
 use script_lines::{Answer, Settings, Trouble};
@@ -14,7 +15,7 @@ use sqlite::{Connection, MemStore};
 #[derive(Drop)]
 pub struct Played {
     agreements: Option<Agreements>,
-    station: Option<Station<MemStore>>,
+    station: Option<Station<Kept<MemStore>>>,
 }
 
 /// The connection after these statements.
@@ -109,13 +110,13 @@ fn number_of(settings: &Settings, name: &str, other: u64, answer: &mut Answer) -
 
 /// A station over a new store: its first own number is the text `first`, or 1; before it are as many posts and documents as the text
 /// `held` says.
-fn begun(settings: &Settings, answer: &mut Answer) -> Option<Station<MemStore>> {
+fn begun(settings: &Settings, answer: &mut Answer) -> Option<Station<Kept<MemStore>>> {
     let held = number_of(settings, "held", 0, answer);
     let first = number_of(settings, "first", held.saturating_add(1), answer);
     let agreements = agreements_in(settings.text("agreements").unwrap_or(""), answer)?;
     let store = new_store(first.saturating_sub(held), answer)?;
     let events = filling(settings, held, answer);
-    let mut station = Station::new(store);
+    let mut station = Station::new(Kept::new(store));
     answer.unless_memory(station.play(answer.alloc(), &agreements, events));
     Some(station)
 }
@@ -135,7 +136,7 @@ impl Played {
 
     /// Has the list go on over another store.
     pub fn put(&mut self, store: Store<MemStore>) {
-        self.station = Some(Station::new(store));
+        self.station = Some(Station::new(Kept::new(store)));
     }
 
     /// Has the station begin where there is none yet.
@@ -150,7 +151,7 @@ impl Played {
         &mut self,
         settings: &Settings,
         answer: &mut Answer,
-    ) -> Option<&mut Station<MemStore>> {
+    ) -> Option<&mut Station<Kept<MemStore>>> {
         self.begin(settings, answer);
         self.station.as_mut()
     }
@@ -163,7 +164,7 @@ impl Played {
     ) -> Option<Store<MemStore>> {
         self.begin(settings, answer);
         match self.station.take() {
-            Some(station) => Some(station.into_store()),
+            Some(station) => Some(station.into_records().into_store()),
             None => None,
         }
     }
@@ -185,7 +186,7 @@ impl Played {
         &mut self,
         settings: &Settings,
         answer: &mut Answer,
-    ) -> Option<(&mut Station<MemStore>, &Agreements)> {
+    ) -> Option<(&mut Station<Kept<MemStore>>, &Agreements)> {
         if self.agreements.is_none() {
             self.agree(settings.text("agreements").unwrap_or(""), answer);
         }

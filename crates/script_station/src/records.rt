@@ -4,8 +4,8 @@ use crate::station::state_in;
 use as2_exchange::{Evidence, InEntry, OutEntry, StoreFault};
 use as2_mdn::Detail;
 use as2_mic::Pieces;
-use as2_rows::{InRow, OutRow};
-use as2_store::{NextNumbers, Store};
+use as2_records::{InRow, NextNumbers, OutRow};
+use as2_store::Store;
 use script_lines::Answer;
 use sqlite::MemStore;
 

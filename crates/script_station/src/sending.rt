@@ -6,6 +6,7 @@ use crate::stage::Stage;
 use as2_agreement::Agreements;
 use as2_exchange::{Job, TryAnswer};
 use as2_http::Counted;
+use as2_kept::Kept;
 use as2_sending::{LinkFault, Links, Sent, send};
 use as2_station::Station;
 use as2_text::Moment;
@@ -61,7 +62,7 @@ impl Write for Paper {
 fn sent_counted<L: Ledger, M: Ledger>(
     agreements: &Agreements,
     moment: Moment,
-    station: &mut Station<MemStore>,
+    station: &mut Station<Kept<MemStore>>,
     partners: &mut Partners<'_>,
     paper: &mut Paper,
     writes: Blank,

@@ -4,10 +4,11 @@ use crate::told::{attempt_word, mdn_word, say_due};
 use as2_exchange::{Address, Attempt, Evidence, InEntry, OutEntry, ReceiptDelivery};
 use as2_mdn::ReportMic;
 use as2_mic::{Alg, MicText, Pieces};
+use as2_records::{InRow, OutRow};
 use as2_rows::{
-    EvidenceRow, InRow, OutRow, RowFault, attempt_code, attempt_of_code, content_in, detail_code,
-    detail_of_code, digest_of, how_code, mdn_code, mdn_of_code, mic_of, outcome_code,
-    outcome_of_code, url_of,
+    EvidenceRow, RowFault, attempt_code, attempt_of_code, content_in, detail_code, detail_of_code,
+    digest_of, how_code, mdn_code, mdn_of_code, mic_of, outcome_code, outcome_of_code, read_in_row,
+    read_out_row, url_of,
 };
 use as2_text::{AsName, MessageId, Moment, Url};
 use script_lines::{Answer, Trouble};
@@ -196,7 +197,7 @@ fn read_received(rest: &str, answer: &mut Answer) {
     let Some(row) = row_in(rest, answer) else {
         return;
     };
-    match InRow::read(answer.alloc(), &row) {
+    match read_in_row(answer.alloc(), &row) {
         Ok(row) => say_in_row(answer, &row),
         Err(fault) => say_fault(answer, fault),
     }
@@ -214,7 +215,7 @@ fn say_out_row(answer: &mut Answer, row: &OutRow) {
 /// `read-sent VALUES`: what a row of the outbox is read as.
 fn read_sent(rest: &str, answer: &mut Answer) {
     if let Some(row) = row_in(rest, answer) {
-        match OutRow::read(answer.alloc(), &row) {
+        match read_out_row(answer.alloc(), &row) {
             Ok(row) => say_out_row(answer, &row),
             Err(fault) => say_fault(answer, fault),
         }
@@ -244,14 +245,14 @@ fn read_evidence(rest: &str, answer: &mut Answer) {
 /// The row of the inbox that these values are read as.
 pub fn in_row(text: &str, answer: &mut Answer) -> Option<InRow> {
     let row = row_of(text, answer)?;
-    let read = InRow::read(answer.alloc(), &row);
+    let read = read_in_row(answer.alloc(), &row);
     entry_of(read, "no row of an entry", answer)
 }
 
 /// The row of the outbox that these values are read as.
 pub fn out_row(text: &str, answer: &mut Answer) -> Option<OutRow> {
     let row = row_of(text, answer)?;
-    let read = OutRow::read(answer.alloc(), &row);
+    let read = read_out_row(answer.alloc(), &row);
     entry_of(read, "no row of a document", answer)
 }
 

@@ -2,9 +2,9 @@
 use crate::arguments::{Arguments, parts_of};
 use crate::rows::{evidence_in, in_row, out_row};
 use as2_exchange::OutEntry;
-use as2_rows::{InRow, OutRow};
+use as2_records::{Counts, InRow, OutRow};
 use as2_views::{
-    Counts, add_counts, add_document, add_in_line, add_in_lines, add_out_line, add_out_lines,
+    add_counts, add_document, add_in_line, add_in_lines, add_out_line, add_out_lines,
     keep_outstanding,
 };
 use script_lines::Answer;

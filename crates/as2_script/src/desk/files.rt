@@ -1,7 +1,7 @@
 //! Files in memory: the texts whose names are their paths.
-ghost use Rattle.as2_desk.specs.FileContents.{untold};
+ghost use Rattle.as2_host.specs.FileContents.{untold};
 
-use as2_desk::{FileFault, ReadFiles};
+use as2_host::{FileFault, ReadFiles};
 use script_lines::{Settings, Trouble, bytes_of};
 use std::alloc::Global;
 

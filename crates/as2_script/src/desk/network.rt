@@ -1,13 +1,15 @@
 //! A network in memory, by the texts `connections`, `partner-reply` and `link-fault`.
 use as2_agreement::Agreements;
-use as2_desk::{CannotListen, LinkFault, Links, Listens, Network, Served, Waits};
+use as2_commands::Waits;
 use as2_exchange::{Job, TryAnswer};
-use as2_http::Journal;
+use as2_host::{CannotListen, Listens, Network};
+use as2_http::{Journal, Served};
 use as2_mic::Pieces;
+use as2_records::Records;
+use as2_sending::{LinkFault, Links};
 use as2_station::Station;
 use as2_text::{Head, Memory, Moment};
 use script_lines::{Settings, Trouble, bytes_of, number_in};
-use sqlite::Alter;
 use std::alloc::Global;
 use std::str;
 
@@ -42,12 +44,12 @@ impl Listens for Peers<'_> {
         Ok(text)
     }
 
-    fn serve<S: Alter, J: Journal>(
+    fn serve<K: Records, J: Journal>(
         &mut self,
         _alloc: Global,
         _agreements: &Agreements,
         _moment: Option<Moment>,
-        _station: &mut Station<S>,
+        _station: &mut Station<K>,
         _journal: &mut J,
     ) -> Served {
         let (word, rest) = self.ends.split_once(" ").unwrap_or((self.ends, ""));

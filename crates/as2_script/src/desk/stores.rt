@@ -1,79 +1,138 @@
 //! What stands under each path, by the text `stores`.
-ghost use Rattle.std.specs.Prelude.{◌≡◌, IfOk, false};
-ghost use Rattle.as2_desk.specs.Stores.{untold};
+ghost use Rattle.std.specs.Prelude.{◌≡◌, false, true, IfErr, IfOk, IsTrue};
+ghost use Rattle.sqlite.specs.Held.{state};
+ghost use Rattle.sqlite.specs.Steps.{over_memory};
+ghost use Rattle.as2_exchange.specs.State.{State, empty};
+ghost use Rattle.as2_host.specs.Stores.{fault_in};
+ghost use Rattle.as2_records.specs.Standing.{may_come};
+ghost use Rattle.as2_script.specs.Stores.{Keeps};
+ghost use Rattle.as2_store.specs.Stands.{Rests};
 
-use as2_desk::{FirstNumber, OpenFault, OpenStores, Seen, StoreFault, make_tables};
+use as2_commands::FirstNumber;
+use as2_exchange::StoreFault;
+use as2_host::{OpenFault, OpenStores};
+use as2_kept::{Kept, adopt, in_memory};
 use sqlite::{Connection, MemStore};
 use std::alloc::Global;
 
-/// The stores of a command line.
+/// The stores of a command line: one, which is kept under every path.
 #[derive(Drop)]
 pub struct Stores<'a> {
     /// `broken`: nobody can say what stands there, the disk has a fault. `held`: a database that another process has. `other`: a file
-    /// that is no database. `bare`: a database without tables. `taken`: nothing, until a store is to be made. `kept`: the store that
-    /// the last command line handed back. Else nothing.
+    /// that is no database. `bare`: a database without tables. `taken`: nothing, until a store is to be made. Else nothing.
     pub word: &'a str,
-    /// The store that the last command line handed back.
-    pub kept: Option<Connection<MemStore>>,
+    /// The store that stands there, where one does.
+    pub kept: Option<Kept<MemStore>>,
+    /// Whether one was opened.
+    pub has_opened: bool,
 }
 
-fn in_memory(alloc: Global) -> Result<Connection<MemStore>, OpenFault>
-    ensures { IfOk result (λ c. c.in_transaction ≡ false) }
+/// A database without tables, as a store.
+fn bare(alloc: Global) -> Result<Kept<MemStore>, OpenFault>
+    ensures { IfOk result (λ records. IsTrue (state over_memory records).is_open) }
 {
-    match Connection::open_in_memory(alloc) {
-        Ok(conn) => Ok(conn),
-        Err(_) => Err(OpenFault::Store(StoreFault::Memory)),
+    let Ok(conn) = Connection::open_in_memory(alloc) else {
+        return Err(OpenFault::Store(StoreFault::Memory));
+    };
+    match adopt(conn) {
+        Ok(records) => Ok(records),
+        Err((_, fault)) => Err(OpenFault::Store(fault)),
     }
 }
 
-/// A store that was handed back, unless a transaction is open in it.
-fn at_rest(conn: Connection<MemStore>) -> Result<Connection<MemStore>, OpenFault>
-    ensures { IfOk result (λ c. c.in_transaction ≡ false) }
+/// A new store.
+fn made(alloc: Global, first: FirstNumber) -> Result<Kept<MemStore>, OpenFault>
+    ensures is_open { IfOk result (λ records. IsTrue (state over_memory records).is_open) }
+    ensures fresh { IfOk result (λ records. Rests (state over_memory records) (empty first)) }
+    ensures fault { IfErr result (λ fault. may_come (fault_in fault) ≡ true) }
 {
+    match in_memory(alloc, first.get()) {
+        Ok(records) => Ok(records),
+        Err(fault) => Err(OpenFault::Store(fault)),
+    }
+}
+
+/// A store that was closed, opened again, unless a transaction is open in it.
+fn opened_again(records: Kept<MemStore>) -> Result<Kept<MemStore>, OpenFault>
+    ensures is_open { IfOk result (λ again. IsTrue (state over_memory again).is_open) }
+    ensures same { IfOk result (λ again. (s : State) → Rests (state over_memory records) s → Rests (state over_memory again) s) }
+{
+    let conn = records.into_connection();
     if !conn.is_autocommit() {
         return Err(OpenFault::Store(StoreFault::Disk));
     }
-    Ok(conn)
+    match adopt(conn) {
+        Ok(records) => Ok(records),
+        Err((_, fault)) => Err(OpenFault::Store(fault)),
+    }
+}
+
+/// What stands there by that word, where no store is kept, or a new store.
+fn found(alloc: Global, word: &str, first: FirstNumber) -> Result<Kept<MemStore>, OpenFault>
+    ensures { IfOk result (λ records. IsTrue (state over_memory records).is_open) }
+{
+    match word {
+        "broken" => Err(OpenFault::Store(StoreFault::Disk)),
+        "held" => Err(OpenFault::Held),
+        "other" => Err(OpenFault::Store(StoreFault::NotAStore)),
+        "taken" => Err(OpenFault::Store(StoreFault::Refused)),
+        "bare" => bare(alloc),
+        _ => made(alloc, first),
+    }
+}
+
+/// The store that is kept, or what stands there.
+fn opened(
+    alloc: Global,
+    kept: Option<Kept<MemStore>>,
+    word: &str,
+    first: FirstNumber,
+) -> Result<Kept<MemStore>, OpenFault>
+    ensures { IfOk result (λ records. IsTrue (state over_memory records).is_open × ((s : State) → Keeps kept s → Rests (state over_memory records) s)) }
+{
+    match kept {
+        Some(records) => opened_again(records),
+        None => found(alloc, word, first),
+    }
 }
 
 impl OpenStores for Stores<'_> {
-    type Kind = MemStore;
+    ghost use Rattle.std.specs.Prelude.{⊤};
+    ghost use Rattle.as2_script.specs.Stores.{Keeps, opens_by};
 
-    ghost kept = { λ _ _. untold };
+    type Opened = Kept<MemStore>;
 
-    fn look(&self, _path: &str) -> Result<Seen, OpenFault> {
-        match self.word {
-            "broken" => Err(OpenFault::Store(StoreFault::Disk)),
-            "held" | "bare" => Ok(Seen::Database),
-            "other" => Ok(Seen::Other),
-            "kept" if self.kept.is_some() => Ok(Seen::Database),
-            _ => Ok(Seen::Nothing),
-        }
-    }
+    type InMemory = Kept<MemStore>;
 
-    fn open_store(
-        &mut self,
-        alloc: Global,
-        _path: &str,
-    ) -> Result<Connection<MemStore>, OpenFault> {
-        if self.word == "held" {
-            return Err(OpenFault::Held);
-        }
-        match self.kept.take() {
-            Some(conn) => at_rest(conn),
-            None => in_memory(alloc),
-        }
-    }
+    ghost keeps = { λ it _. Keeps it.kept };
 
-    fn make_store(
+    ghost is_clean = { λ _. ⊤ };
+
+    ghost opens = { λ it. opens_by it.has_opened };
+
+    fn open(
         &mut self,
         alloc: Global,
         _path: &str,
         first: FirstNumber,
-    ) -> Result<Option<Connection<MemStore>>, OpenFault> {
-        if self.word == "taken" {
-            return Ok(None);
+    ) -> Result<Kept<MemStore>, OpenFault> {
+        if self.has_opened {
+            return Err(OpenFault::Held);
         }
-        Ok(Some(make_tables(in_memory(alloc)?, first)?))
+        let records = opened(alloc, self.kept.take(), self.word, first)?;
+        self.has_opened = true;
+        Ok(records)
+    }
+
+    fn open_in_memory(
+        &self,
+        alloc: Global,
+        first: FirstNumber,
+    ) -> Result<Kept<MemStore>, OpenFault> {
+        made(alloc, first)
+    }
+
+    fn close(&mut self, _path: &str, records: Kept<MemStore>) {
+        self.kept = Some(records);
     }
 }

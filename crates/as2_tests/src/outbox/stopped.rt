@@ -5,13 +5,14 @@ use crate::agreements::AGREEMENTS;
 use crate::texts::{event_of, is_said, texts};
 use as2_agreement::Agreements;
 use as2_exchange::Event;
+use as2_kept::Kept;
 use as2_restart::{Stopped, play_then_stop, reopen, stop_and_open};
 use as2_station::{Filter, Station};
 use as2_store::Store;
 use as2_text::Moment;
 use script_lines::Settings;
 use sqlite::{Alter, Connection, FileStore, Options};
-use sqlite_disk::{Files, Fuse, Memory};
+use sqlite_disk::{Disk, Files, Fuse, Memory};
 use std::alloc::Global;
 use std::test::Fail;
 
@@ -39,7 +40,7 @@ trait Stops: Drop {
     /// Over a new store; None where it is stopped before.
     fn begin(alloc: Global, stop: Stop) -> Option<Self>;
 
-    fn station(&mut self) -> &mut Station<Self::Kind>;
+    fn station(&mut self) -> &mut Station<Kept<Self::Kind>>;
 
     /// Stops the computer, and opens what is left.
     fn stopped(self, alloc: Global) -> Option<Self>;
@@ -51,13 +52,16 @@ trait Stops: Drop {
     fn reopened(self, alloc: Global) -> Option<Self>;
 }
 
-/// A station over files in memory, each of which stops after some calls.
+/// A station over two files. It is any disk's, since at one kind of files its end costs the prover much.
 #[derive(Drop)]
-struct Fused {
-    station: Station<FileStore<Fuse<Memory>>>,
+struct InFiles<D: Disk> {
+    station: Station<Kept<FileStore<D>>>,
 }
 
-impl Stops for Fused {
+/// A station over files in memory, each of which stops after some calls.
+type Fused = InFiles<Fuse<Memory>>;
+
+impl Stops for InFiles<Fuse<Memory>> {
     type Kind = FileStore<Fuse<Memory>>;
 
     fn begin(alloc: Global, stop: Stop) -> Option<Fused> {
@@ -69,23 +73,23 @@ impl Stops for Fused {
             return None;
         };
         let store = Store::create(conn, 1).ok()?;
-        Some(Fused {
-            station: Station::new(store),
+        Some(InFiles {
+            station: Station::new(Kept::new(store)),
         })
     }
 
-    fn station(&mut self) -> &mut Station<FileStore<Fuse<Memory>>> {
+    fn station(&mut self) -> &mut Station<Kept<FileStore<Fuse<Memory>>>> {
         &mut self.station
     }
 
     fn stopped(self, alloc: Global) -> Option<Fused> {
-        let Fused { station } = self;
+        let InFiles { station } = self;
         let station = stop_and_open(alloc, station, Options::new(2))?;
-        Some(Fused { station })
+        Some(InFiles { station })
     }
 
     fn played(self, play: &Play, events: Vec<Event>) -> Result<Fused, Fail> {
-        let Fused { station } = self;
+        let InFiles { station } = self;
         let options = Options::new(2);
         let Ok(Stopped { said: _, again }) = play_then_stop(
             play.alloc,
@@ -97,20 +101,20 @@ impl Stops for Fused {
             return Err(Fail::new("no memory"));
         };
         match again {
-            Some(station) => Ok(Fused { station }),
+            Some(station) => Ok(InFiles { station }),
             None => Err(Fail::new("no store is found")),
         }
     }
 
     fn reopened(self, alloc: Global) -> Option<Fused> {
-        let Fused { station } = self;
+        let InFiles { station } = self;
         let station = reopen(alloc, station, Options::new(3))?;
-        Some(Fused { station })
+        Some(InFiles { station })
     }
 }
 
 /// All that a station shows: both listings, what is outstanding, and the first document.
-fn sight<S: Alter>(alloc: Global, station: &mut Station<S>) -> Result<String, Fail> {
+fn sight<S: Alter>(alloc: Global, station: &mut Station<Kept<S>>) -> Result<String, Fail> {
     let Some(moment) = Moment::new(5000) else {
         return Err(Fail::new("no moment"));
     };
@@ -141,7 +145,11 @@ impl Play {
     }
 
     /// Plays the rows, each answered as it says, until one has a fault; how many were answered.
-    fn until_fault<S: Alter>(&self, station: &mut Station<S>, rows: &[Row]) -> Result<usize, Fail> {
+    fn until_fault<S: Alter>(
+        &self,
+        station: &mut Station<Kept<S>>,
+        rows: &[Row],
+    ) -> Result<usize, Fail> {
         for (at, (line, wanted)) in rows.iter().enumerate() {
             let event = event_of(self.alloc, &self.settings, line)?;
             let said = station.step(self.alloc, &self.agreements, event);
@@ -199,7 +207,7 @@ fn go_on<S: Alter>(
     rows: &[Row],
     sights: &[String],
     answered: usize,
-    station: &mut Station<S>,
+    station: &mut Station<Kept<S>>,
 ) -> Result<(), Fail> {
     let done = done_by(&sight(play.alloc, station)?, sights, answered)?;
     let Some(rest) = rows.get(done..) else {
@@ -254,7 +262,7 @@ fn check_stops<F: Stops>(play: &Play, rows: &[Row], of_log: bool) -> Result<(), 
 /// What is seen is the last of these sights.
 fn check_last<S: Alter>(
     alloc: Global,
-    station: &mut Station<S>,
+    station: &mut Station<Kept<S>>,
     sights: &[String],
 ) -> Result<(), Fail> {
     if sights.last() != Some(&sight(alloc, station)?) {

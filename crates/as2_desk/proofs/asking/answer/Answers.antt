@@ -1,5 +1,4 @@
 use Rattle.std.proofs.Common.{◌≡◌, ◌∙◌, Some, sym, subst, ap, string_bytes}
-use Rattle.sqlite.specs.Held.{state}
 use Rattle.as2_exchange.specs.Views.{fetch, outstanding, show}
 use Rattle.as2_exchange.specs.declared.event.Event.TheVariants as event
 use Rattle.as2_views.specs.Filtering.{listing}
@@ -10,45 +9,45 @@ use Rattle.as2_desk.proofs.asking.answer.Goals as goal
 
 pub returns-in-Submit-clause-tells : goal.returns-in-Submit-clause-tells
 returns-in-Submit-clause-tells g c = λ clean.
-    subst (λ (told : Told). TellsFrom c.args.agreements.now c.args.moment c.args.question (state g.S.Store c.args.station.now) (state g.S.Store c.step.new.self) told) (sym c.number_told.ensures)
-    (stepped c.args.agreements.now c.args.moment c.args.question (state g.S.Store c.args.station.now) (state g.S.Store c.step.new.self) clean
+    subst (λ (told : Told). TellsFrom c.args.agreements.now c.args.moment c.args.question (g.K.Records.shows c.args.station.now) (g.K.Records.shows c.step.new.self) told) (sym c.number_told.ensures)
+    (stepped c.args.agreements.now c.args.moment c.args.question (g.K.Records.shows c.args.station.now) (g.K.Records.shows c.step.new.self) clean
     (event.Submit c.in-Submit.from c.in-Submit.to c.in-Submit.content c.args.moment)
     (λ s. ap (λ (q : Question). told_by c.args.agreements.now c.args.moment q s) c.in-Submit.is)
     (submit_number c.args.agreements.now c.in-Submit.from c.in-Submit.to c.in-Submit.content c.args.moment) c.step.result c.step.ensures.taken)
 
 pub returns-in-Tick-clause-tells : goal.returns-in-Tick-clause-tells
 returns-in-Tick-clause-tells g c = λ clean.
-    subst (λ (told : Told). TellsFrom c.args.agreements.now c.args.moment c.args.question (state g.S.Store c.args.station.now) (state g.S.Store c.step-in-Tick.new.self) told) (sym c.number_told-in-Tick.ensures)
-    (stepped c.args.agreements.now c.args.moment c.args.question (state g.S.Store c.args.station.now) (state g.S.Store c.step-in-Tick.new.self) clean
+    subst (λ (told : Told). TellsFrom c.args.agreements.now c.args.moment c.args.question (g.K.Records.shows c.args.station.now) (g.K.Records.shows c.step-in-Tick.new.self) told) (sym c.number_told-in-Tick.ensures)
+    (stepped c.args.agreements.now c.args.moment c.args.question (g.K.Records.shows c.args.station.now) (g.K.Records.shows c.step-in-Tick.new.self) clean
     (event.Tick c.args.moment)
     (λ s. ap (λ (q : Question). told_by c.args.agreements.now c.args.moment q s) c.in-Tick.is)
     (tick_number c.args.agreements.now c.args.moment) c.step-in-Tick.result c.step-in-Tick.ensures.taken)
 
 pub returns-in-Listing-clause-tells : goal.returns-in-Listing-clause-tells
 returns-in-Listing-clause-tells g c = λ clean.
-    subst (λ (told : Told). TellsFrom c.args.agreements.now c.args.moment c.args.question (state g.S.Store c.args.station.now) (state g.S.Store c.listing.new.self) told) (sym c.read_told.ensures)
-    (read c.args.agreements.now c.args.moment c.args.question (state g.S.Store c.args.station.now) (state g.S.Store c.listing.new.self) clean string_bytes (listing c.in-Listing.filter)
+    subst (λ (told : Told). TellsFrom c.args.agreements.now c.args.moment c.args.question (g.K.Records.shows c.args.station.now) (g.K.Records.shows c.listing.new.self) told) (sym c.read_told.ensures)
+    (read c.args.agreements.now c.args.moment c.args.question (g.K.Records.shows c.args.station.now) (g.K.Records.shows c.listing.new.self) clean string_bytes (listing c.in-Listing.filter)
     (λ s. ap (λ (q : Question). told_by c.args.agreements.now c.args.moment q s) c.in-Listing.is)
     c.listing.result c.listing.ensures.listing c.listing.ensures.fault)
 
 pub returns-in-Outstanding-clause-tells : goal.returns-in-Outstanding-clause-tells
 returns-in-Outstanding-clause-tells g c = λ clean.
-    subst (λ (told : Told). TellsFrom c.args.agreements.now c.args.moment c.args.question (state g.S.Store c.args.station.now) (state g.S.Store c.outstanding.new.self) told) (sym c.read_told-in-Outstanding.ensures)
-    (read c.args.agreements.now c.args.moment c.args.question (state g.S.Store c.args.station.now) (state g.S.Store c.outstanding.new.self) clean string_bytes (λ s. outstanding s c.args.moment)
+    subst (λ (told : Told). TellsFrom c.args.agreements.now c.args.moment c.args.question (g.K.Records.shows c.args.station.now) (g.K.Records.shows c.outstanding.new.self) told) (sym c.read_told-in-Outstanding.ensures)
+    (read c.args.agreements.now c.args.moment c.args.question (g.K.Records.shows c.args.station.now) (g.K.Records.shows c.outstanding.new.self) clean string_bytes (λ s. outstanding s c.args.moment)
     (λ s. ap (λ (q : Question). told_by c.args.agreements.now c.args.moment q s) c.in-Outstanding.is)
     c.outstanding.result c.outstanding.ensures.outstanding c.outstanding.ensures.fault)
 
 pub returns-in-Show-clause-tells : goal.returns-in-Show-clause-tells
 returns-in-Show-clause-tells g c = λ clean.
-    subst (λ (told : Told). TellsFrom c.args.agreements.now c.args.moment c.args.question (state g.S.Store c.args.station.now) (state g.S.Store c.show.new.self) told) (sym c.shown_told.ensures)
-    (looked c.args.agreements.now c.args.moment c.args.question (state g.S.Store c.args.station.now) (state g.S.Store c.show.new.self) clean string_bytes (λ s. show s c.in-Show.number)
+    subst (λ (told : Told). TellsFrom c.args.agreements.now c.args.moment c.args.question (g.K.Records.shows c.args.station.now) (g.K.Records.shows c.show.new.self) told) (sym c.shown_told.ensures)
+    (looked c.args.agreements.now c.args.moment c.args.question (g.K.Records.shows c.args.station.now) (g.K.Records.shows c.show.new.self) clean string_bytes (λ s. show s c.in-Show.number)
     (λ s. ap (λ (q : Question). told_by c.args.agreements.now c.args.moment q s) c.in-Show.is)
     c.show.result c.show.ensures.shown c.show.ensures.fault)
 
 pub returns-in-Fetch-clause-tells : goal.returns-in-Fetch-clause-tells
 returns-in-Fetch-clause-tells g c = λ clean.
-    subst (λ (told : Told). TellsFrom c.args.agreements.now c.args.moment c.args.question (state g.S.Store c.args.station.now) (state g.S.Store c.fetch.new.self) told) (sym c.fetched_told.ensures)
-    (looked c.args.agreements.now c.args.moment c.args.question (state g.S.Store c.args.station.now) (state g.S.Store c.fetch.new.self) clean (λ v. v.items) (λ s. fetch s c.in-Fetch.number)
+    subst (λ (told : Told). TellsFrom c.args.agreements.now c.args.moment c.args.question (g.K.Records.shows c.args.station.now) (g.K.Records.shows c.fetch.new.self) told) (sym c.fetched_told.ensures)
+    (looked c.args.agreements.now c.args.moment c.args.question (g.K.Records.shows c.args.station.now) (g.K.Records.shows c.fetch.new.self) clean (λ v. v.items) (λ s. fetch s c.in-Fetch.number)
     (λ s. ap (λ (q : Question). told_by c.args.agreements.now c.args.moment q s) c.in-Fetch.is)
     c.fetch.result c.fetch.ensures.fetched c.fetch.ensures.fault)
 

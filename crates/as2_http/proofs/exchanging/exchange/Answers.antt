@@ -1,4 +1,4 @@
-use Rattle.as2_http.specs.Answering.{IsOpenAnswer}
+use Rattle.as2_messages.specs.Answering.{IsOpenAnswer}
 use Rattle.as2_http.proofs.InputReads.{reads_none}
 use Rattle.as2_http.proofs.exchanging.exchange.Goals as goal
 

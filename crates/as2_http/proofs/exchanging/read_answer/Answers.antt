@@ -1,8 +1,8 @@
 use Rattle.std.proofs.Common.{◌≡◌, ℕ, List, ◌++◌, take, rules, subst, arith}
 use Rattle.std.specs.Io.KnownBytes.{Consumes}
-use Rattle.as2_http.specs.Answering.{BeginsAnswer, IsOpenAnswer}
-use Rattle.as2_http.specs.AnswerPieces.{HasKept, ParsesAnswer}
-use Rattle.as2_http.specs.declared.answer_parser.ParsedAnswer.{ParsedAnswer}
+use Rattle.as2_messages.specs.Answering.{BeginsAnswer, IsOpenAnswer}
+use Rattle.as2_messages.specs.AnswerPieces.{HasKept, ParsesAnswer}
+use Rattle.as2_messages.specs.declared.answer_parser.ParsedAnswer.{ParsedAnswer}
 use Rattle.as2_http.proofs.AnswerReads.{answer_arrives, awaits_none, awaits_on, failed_needed, gets, holds_all, was_needed}
 use Rattle.as2_http.proofs.InputReads.{reads_none}
 use Rattle.as2_http.proofs.exchanging.read_answer.Goals as goal

@@ -1,11 +1,10 @@
 use Rattle.std.proofs.Common.{◌≡◌, true, false, ℕ, List, [], ◌++◌, drop, Some, sym, rules, subst, arith}
 use Rattle.std.proofs.lemmas.List.{nil_from_length}
-use Rattle.sqlite.specs.Held.{state}
 use Rattle.as2_http.specs.Notes.{spoken}
-use Rattle.as2_http.specs.Parsing.{Parses, EndsRequest}
-use Rattle.as2_http.specs.Requests.{IsRefused}
+use Rattle.as2_messages.specs.Parsing.{Parses, EndsRequest}
+use Rattle.as2_messages.specs.Requests.{IsRefused}
 use Rattle.as2_http.specs.Streams.{AnswersPiece}
-use Rattle.as2_http.specs.declared.parser.Parsed.{Parsed}
+use Rattle.as2_messages.specs.declared.parser.Parsed.{Parsed}
 use Rattle.as2_http.specs.declared.stream.Served.{Served}
 use Rattle.as2_framing.proofs.Feeding.{rest_of}
 use Rattle.as2_http.proofs.Streaming.{Proceeds, begins_piece, proceeds_on, piece_open, piece_taken, piece_last, piece_cut, piece_refused, piece_refusal_cut, piece_unread, replied_whole}
@@ -16,7 +15,7 @@ loop-rest-init g c = (
   λ clean. clean,
   omega arith,
   c.requires.held,
-  λ clean s rests held left taken. begins_piece c.args.agreements.now c.args.moment s held c.args.piece.now left c.args.parser.now (state g.S.Store c.args.station.now) (spoken (g.W.Sink.written c.args.sink.now) (g.J.Journal.noted c.args.journal.now)) rests taken,
+  λ clean s rests held left taken. begins_piece c.args.agreements.now c.args.moment s held c.args.piece.now left c.args.parser.now (g.K.Records.shows c.args.station.now) (spoken (g.W.Sink.written c.args.sink.now) (g.J.Journal.noted c.args.journal.now)) rests taken,
 )
 
 pub returns-in-Ok-Open-clause-answered : goal.returns-in-Ok-Open-clause-answered
@@ -24,7 +23,7 @@ returns-in-Ok-Open-clause-answered g c = λ clean s rests held left taken.
     let w = c.loop-rest.invariant.3 clean s rests held left taken in
     let rest = c.loop-rest.rest.now in
     let told = subst (λ (p : Parsed). Parses c.feed.new.self w.held rest p) c.in-Ok-Open.field-0-is (c.in-Ok-Open.ensures w.held w.taken) in
-    piece_open c.args.agreements.now c.args.moment s (held ++ c.args.piece.now ++ left) rest left c.loop-rest.parser c.feed.new.self (state g.S.Store c.loop-rest.station)
+    piece_open c.args.agreements.now c.args.moment s (held ++ c.args.piece.now ++ left) rest left c.loop-rest.parser c.feed.new.self (g.K.Records.shows c.loop-rest.station)
     (spoken (g.W.Sink.written c.args.sink.now) (g.J.Journal.noted c.args.journal.now)) (spoken (g.W.Sink.written c.loop-rest.sink) (g.J.Journal.noted c.loop-rest.journal)) w told.1
 
 pub returns-in-Err-reply-clause-answered : goal.returns-in-Err-reply-clause-answered
@@ -38,8 +37,8 @@ returns-in-Err-reply-clause-answered g c = λ clean s rests held left taken.
     let now = spoken (g.W.Sink.written c.loop-rest.sink) (g.J.Journal.noted c.loop-rest.journal) in
     let later = spoken (g.W.Sink.written c.reply.new.sink) (g.J.Journal.noted c.reply.new.journal) in
     let text = held ++ c.args.piece.now ++ left in
-    subst (λ (end : Served). AnswersPiece c.args.agreements.now c.args.moment s text left c.feed.new.self (state g.S.Store c.reply.new.station) before later (Some end)) (sym c.end_by.ensures.end)
-    (piece_cut c.args.agreements.now c.args.moment s text rest (drop n rest) left c.loop-rest.parser c.feed.new.self (state g.S.Store c.loop-rest.station) (state g.S.Store c.reply.new.station)
+    subst (λ (end : Served). AnswersPiece c.args.agreements.now c.args.moment s text left c.feed.new.self (g.K.Records.shows c.reply.new.station) before later (Some end)) (sym c.end_by.ensures.end)
+    (piece_cut c.args.agreements.now c.args.moment s text rest (drop n rest) left c.loop-rest.parser c.feed.new.self (g.K.Records.shows c.loop-rest.station) (g.K.Records.shows c.reply.new.station)
     before now later r c.reply.result c.in-Err-reply.fault w e.begins c.in-Err-reply.is (c.reply.ensures.replied clean w.mid w.rests))
 
 pub returns-then-last-clause-answered : goal.returns-then-last-clause-answered
@@ -54,8 +53,8 @@ returns-then-last-clause-answered g c = λ clean s rests held left taken.
     let later = spoken (g.W.Sink.written c.reply.new.sink) (g.J.Journal.noted c.reply.new.journal) in
     let ends : r.last ≡ true = search rules in
     piece_last c.args.agreements.now c.args.moment s (held ++ c.args.piece.now ++ left) rest (drop n rest) left c.loop-rest.parser c.feed.new.self
-    (state g.S.Store c.loop-rest.station) (state g.S.Store c.reply.new.station) before now later r w e.begins
-    (replied_whole c.args.agreements.now c.args.moment w.mid r (state g.S.Store c.reply.new.station) now later c.reply.result c.in_default.field-0 c.in_default.is
+    (g.K.Records.shows c.loop-rest.station) (g.K.Records.shows c.reply.new.station) before now later r w e.begins
+    (replied_whole c.args.agreements.now c.args.moment w.mid r (g.K.Records.shows c.reply.new.station) now later c.reply.result c.in_default.field-0 c.in_default.is
     (c.reply.ensures.replied clean w.mid w.rests)) ends
 
 pub loop-rest-preserved : goal.loop-rest-preserved
@@ -77,10 +76,10 @@ loop-rest-preserved g c =
           let w = c.loop-rest.invariant.3 (c.reply.ensures.clean clean) s rests held left taken in
           let e : EndsRequest c.feed.new.self w.held rest r n = subst (λ (p : Parsed). Parses c.feed.new.self w.held rest p) c.in-Ok-Request.field-0-is (c.in-Ok-Request.ensures w.held w.taken) in
           let go : r.last ≡ false = search rules in
-          subst (λ (t : List ℕ). Proceeds c.args.agreements.now c.args.moment s (held ++ c.args.piece.now ++ left) t left c.feed.new.self (state g.S.Store c.reply.new.station) before later) (sym (rest_of n rest))
+          subst (λ (t : List ℕ). Proceeds c.args.agreements.now c.args.moment s (held ++ c.args.piece.now ++ left) t left c.feed.new.self (g.K.Records.shows c.reply.new.station) before later) (sym (rest_of n rest))
           (proceeds_on c.args.agreements.now c.args.moment s (held ++ c.args.piece.now ++ left) rest (drop n rest) left c.loop-rest.parser c.feed.new.self
-          (state g.S.Store c.loop-rest.station) (state g.S.Store c.reply.new.station) before now later r w e.begins e.empty
-          (replied_whole c.args.agreements.now c.args.moment w.mid r (state g.S.Store c.reply.new.station) now later c.reply.result c.in_default.field-0 c.in_default.is
+          (g.K.Records.shows c.loop-rest.station) (g.K.Records.shows c.reply.new.station) before now later r w e.begins e.empty
+          (replied_whole c.args.agreements.now c.args.moment w.mid r (g.K.Records.shows c.reply.new.station) now later c.reply.result c.in_default.field-0 c.in_default.is
           (c.reply.ensures.replied clean w.mid w.rests)) go),
     )
 
@@ -89,7 +88,7 @@ returns-in-Ok-clause-answered g c = λ clean s rests held left taken.
     let w = c.loop-rest.invariant.3 clean s rests held left taken in
     let rest = c.loop-rest.rest.now in
     let e : IsRefused (w.held ++ rest) c.in-Ok-Refused.refused = subst (λ (p : Parsed). Parses c.feed.new.self w.held rest p) c.in-Ok-Refused.field-0-is (c.in-Ok-Refused.ensures w.held w.taken) in
-    piece_refused c.args.agreements.now c.args.moment s (held ++ c.args.piece.now ++ left) rest left c.loop-rest.parser c.feed.new.self (state g.S.Store c.loop-rest.station)
+    piece_refused c.args.agreements.now c.args.moment s (held ++ c.args.piece.now ++ left) rest left c.loop-rest.parser c.feed.new.self (g.K.Records.shows c.loop-rest.station)
     (spoken (g.W.Sink.written c.args.sink.now) (g.J.Journal.noted c.args.journal.now)) (spoken (g.W.Sink.written c.loop-rest.sink) (g.J.Journal.noted c.loop-rest.journal)) (spoken (g.W.Sink.written c.refuse.new.sink) (g.J.Journal.noted c.refuse.new.journal)) c.in-Ok-Refused.refused
     c.refuse.result c.in-Ok.field-0 w e c.in-Ok.is c.refuse.ensures.sends c.refuse.ensures.noted
 
@@ -101,17 +100,17 @@ returns-in-Err-refuse-clause-answered g c = λ clean s rests held left taken.
     let before = spoken (g.W.Sink.written c.args.sink.now) (g.J.Journal.noted c.args.journal.now) in
     let later = spoken (g.W.Sink.written c.refuse.new.sink) (g.J.Journal.noted c.refuse.new.journal) in
     let text = held ++ c.args.piece.now ++ left in
-    subst (λ (end : Served). AnswersPiece c.args.agreements.now c.args.moment s text left c.feed.new.self (state g.S.Store c.loop-rest.station) before later (Some end)) (sym c.end_by-in-Err-refuse.ensures.end)
-    (piece_refusal_cut c.args.agreements.now c.args.moment s text rest left c.loop-rest.parser c.feed.new.self (state g.S.Store c.loop-rest.station)
+    subst (λ (end : Served). AnswersPiece c.args.agreements.now c.args.moment s text left c.feed.new.self (g.K.Records.shows c.loop-rest.station) before later (Some end)) (sym c.end_by-in-Err-refuse.ensures.end)
+    (piece_refusal_cut c.args.agreements.now c.args.moment s text rest left c.loop-rest.parser c.feed.new.self (g.K.Records.shows c.loop-rest.station)
     before (spoken (g.W.Sink.written c.loop-rest.sink) (g.J.Journal.noted c.loop-rest.journal)) later c.in-Ok-Refused.refused
     c.refuse.result c.in-Err-refuse.fault w e c.in-Err-refuse.is c.refuse.ensures.sends c.refuse.ensures.noted)
 
 pub returns-in-Err-clause-answered : goal.returns-in-Err-clause-answered
 returns-in-Err-clause-answered g c = λ clean s rests held left taken.
-    piece_unread c.args.agreements.now c.args.moment s (held ++ c.args.piece.now ++ left) c.loop-rest.rest.now left c.loop-rest.parser c.feed.new.self (state g.S.Store c.loop-rest.station)
+    piece_unread c.args.agreements.now c.args.moment s (held ++ c.args.piece.now ++ left) c.loop-rest.rest.now left c.loop-rest.parser c.feed.new.self (g.K.Records.shows c.loop-rest.station)
     (spoken (g.W.Sink.written c.args.sink.now) (g.J.Journal.noted c.args.journal.now)) (spoken (g.W.Sink.written c.loop-rest.sink) (g.J.Journal.noted c.loop-rest.journal)) (c.loop-rest.invariant.3 clean s rests held left taken)
 
 pub returns-clause-answered : goal.returns-clause-answered
 returns-clause-answered g c = λ clean s rests held left taken.
-    piece_taken c.args.agreements.now c.args.moment s (held ++ c.args.piece.now ++ left) c.loop-rest.rest.now left c.loop-rest.parser (state g.S.Store c.loop-rest.station)
+    piece_taken c.args.agreements.now c.args.moment s (held ++ c.args.piece.now ++ left) c.loop-rest.rest.now left c.loop-rest.parser (g.K.Records.shows c.loop-rest.station)
     (spoken (g.W.Sink.written c.args.sink.now) (g.J.Journal.noted c.args.journal.now)) (spoken (g.W.Sink.written c.loop-rest.sink) (g.J.Journal.noted c.loop-rest.journal)) (c.loop-rest.invariant.3 clean s rests held left taken) (nil_from_length c.loop-rest.rest.now (search rules))

@@ -1,20 +1,17 @@
 use Rattle.std.proofs.Common.{ℕ, List, ◌++◌, ◌≤◌, length}
-use Rattle.sqlite.specs.Held.{state}
-use Rattle.sqlite.specs.State.{HasCleanDisk}
 use Rattle.as2_exchange.specs.State.{State}
-use Rattle.as2_store.specs.Stands.{Rests}
 use Rattle.as2_http.specs.Notes.{spoken}
-use Rattle.as2_http.specs.Parsing.{HasTaken}
+use Rattle.as2_messages.specs.Parsing.{HasTaken}
 use Rattle.as2_http.proofs.Streaming.{Proceeds}
 use Rattle.as2_http.proofs.stream.answer_piece.Given as goal
 
 abbrev pub invariant-loop-rest : goal.invariant-loop-rest
 invariant-loop-rest g l =
-    (HasCleanDisk (state g.S.Store l.station) → HasCleanDisk (state g.S.Store l.fn.station))
+    ((g.K.Records.shows l.station).IsClean → (g.K.Records.shows l.fn.station).IsClean)
     × (g.W.Sink.failed l.fn.sink ≤ g.W.Sink.failed l.sink)
     × ((held : List ℕ) × HasTaken l.parser held)
-    × (HasCleanDisk (state g.S.Store l.station) → (s : State) → Rests (state g.S.Store l.fn.station) s → (held left : List ℕ) → HasTaken l.fn.parser held
-    → Proceeds l.agreements l.moment s (held ++ l.piece ++ left) l.rest left l.parser (state g.S.Store l.station) (spoken (g.W.Sink.written l.fn.sink) (g.J.Journal.noted l.fn.journal)) (spoken (g.W.Sink.written l.sink) (g.J.Journal.noted l.journal)))
+    × ((g.K.Records.shows l.station).IsClean → (s : State) → (g.K.Records.shows l.fn.station).Rests s → (held left : List ℕ) → HasTaken l.fn.parser held
+    → Proceeds l.agreements l.moment s (held ++ l.piece ++ left) l.rest left l.parser (g.K.Records.shows l.station) (spoken (g.W.Sink.written l.fn.sink) (g.J.Journal.noted l.fn.journal)) (spoken (g.W.Sink.written l.sink) (g.J.Journal.noted l.journal)))
 
 abbrev pub decreases-loop-rest : goal.decreases-loop-rest
 decreases-loop-rest g l = length l.rest

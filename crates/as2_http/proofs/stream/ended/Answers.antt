@@ -1,5 +1,5 @@
 use Rattle.std.proofs.Common.{true, false, rules}
-use Rattle.as2_http.proofs.Parsing.{told_blank}
+use Rattle.as2_messages.proofs.Parsing.{told_blank}
 use Rattle.as2_http.proofs.stream.ended.Goals as goal
 
 pub returns-then-is_blank-clause-closed : goal.returns-then-is_blank-clause-closed

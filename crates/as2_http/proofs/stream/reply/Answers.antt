@@ -1,7 +1,6 @@
 use Rattle.std.proofs.Common.{◌++◌, Bool, false, subst}
 use Rattle.std.proofs.KnownBytes.{Appends-trans}
 use Rattle.std.specs.Io.KnownBytes.{Appends}
-use Rattle.sqlite.specs.Held.{state}
 use Rattle.as2_exchange.specs.declared.answer.HttpAnswer.{HttpAnswer}
 use Rattle.as2_http.specs.Notes.{closing, head_told, opening}
 use Rattle.as2_http.specs.Responses.{IsSafe, answer_of}
@@ -18,7 +17,7 @@ returns-clause-replied g c = λ clean s rests.
       response = c.respond-response.result;
       left = left.0;
       rests = left.1;
-      responds = responds_unsaid c.args.agreements.now c.args.moment s c.args.request c.respond-response.result (IsSafe (state g.S.Store c.respond-response.new.station)) left.0 left.2;
+      responds = responds_unsaid c.args.agreements.now c.args.moment s c.args.request c.respond-response.result (IsSafe (g.K.Records.shows c.respond-response.new.station)) left.0 left.2;
       sends = subst (λ h. sends h (answer_of c.respond-response.result)) c.is_head.ensures (subst (sends c.is_head.result) c.answer-answer.ensures c.send.ensures.sends);
       noted = Appends-trans (g.J.Journal.noted c.args.journal.now) (g.J.Journal.noted c.note_request.new.journal) (g.J.Journal.noted c.note_status.new.journal)
           (opening c.args.moment ++ head_told c.args.request.fields) (closing (answer_of c.respond-response.result).status) c.note_request.ensures

@@ -1,10 +1,7 @@
 use Rattle.std.proofs.Common.{◌≡◌, ◌+◌, ◌≤◌, ℕ, List, Some, vec_len}
-use Rattle.sqlite.specs.Held.{state}
-use Rattle.sqlite.specs.State.{HasCleanDisk}
 use Rattle.as2_exchange.specs.State.{State}
-use Rattle.as2_store.specs.Stands.{Rests}
 use Rattle.as2_http.specs.Notes.{spoken}
-use Rattle.as2_http.specs.Parsing.{HasTaken}
+use Rattle.as2_messages.specs.Parsing.{HasTaken}
 use Rattle.as2_http.specs.InputReads.{read_limit}
 use Rattle.as2_http.specs.StreamReads.{BetweenReads}
 use Rattle.as2_http.proofs.Serving.{TakenSoFar}
@@ -12,12 +9,12 @@ use Rattle.as2_http.proofs.stream.serve_stream.Given as goal
 
 abbrev pub invariant-loop : goal.invariant-loop
 invariant-loop g l =
-    (HasCleanDisk (state g.S.Store l.station) → HasCleanDisk (state g.S.Store l.fn.station))
+    ((g.K.Records.shows l.station).IsClean → (g.K.Records.shows l.fn.station).IsClean)
     × (vec_len l.buffer ≡ read_limit)
     × (g.R.Source.calls l.source ≡ g.R.Source.calls l.fn.source + l.counter)
     × (g.R.Source.failed l.fn.source ≤ g.R.Source.failed l.source)
     × (g.W.Sink.failed l.fn.sink ≤ g.W.Sink.failed l.sink)
     × ((held : List ℕ) × HasTaken l.parser held)
-    × (HasCleanDisk (state g.S.Store l.station) → (s : State) → Rests (state g.S.Store l.fn.station) s → (input : List ℕ) → g.R.Source.left l.fn.source ≡ Some input
-    → BetweenReads l.agreements l.moment s input l.parser (state g.S.Store l.station) (g.R.Source.left l.source) (spoken (g.W.Sink.written l.fn.sink) (g.J.Journal.noted l.fn.journal)) (spoken (g.W.Sink.written l.sink) (g.J.Journal.noted l.journal)) (g.R.Source.calls l.fn.source) (g.R.Source.calls l.source))
-    × (HasCleanDisk (state g.S.Store l.station) → (s : State) → Rests (state g.S.Store l.fn.station) s → TakenSoFar l.agreements l.moment s (state g.S.Store l.station))
+    × ((g.K.Records.shows l.station).IsClean → (s : State) → (g.K.Records.shows l.fn.station).Rests s → (input : List ℕ) → g.R.Source.left l.fn.source ≡ Some input
+    → BetweenReads l.agreements l.moment s input l.parser (g.K.Records.shows l.station) (g.R.Source.left l.source) (spoken (g.W.Sink.written l.fn.sink) (g.J.Journal.noted l.fn.journal)) (spoken (g.W.Sink.written l.sink) (g.J.Journal.noted l.journal)) (g.R.Source.calls l.fn.source) (g.R.Source.calls l.source))
+    × ((g.K.Records.shows l.station).IsClean → (s : State) → (g.K.Records.shows l.fn.station).Rests s → TakenSoFar l.agreements l.moment s (g.K.Records.shows l.station))

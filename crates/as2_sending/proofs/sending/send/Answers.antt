@@ -1,10 +1,7 @@
-use Rattle.std.proofs.Common.{Bool, ◌≡◌, true, refl, subst}
+use Rattle.std.proofs.Common.{Bool, ◌≡◌, true, refl}
 use Rattle.std.proofs.KnownBytes.{Appends-nil}
 use Rattle.std.specs.Bool.{⊤}
 use Rattle.std.specs.Io.KnownBytes.{Appends}
-use Rattle.sqlite.specs.Held.{state}
-use Rattle.as2_exchange.specs.Agreement.{Text}
-use Rattle.as2_sending.specs.Turns.{TurnsTo}
 use Rattle.as2_exchange.specs.declared.fault.StoreFault.TheVariants.{Refused}
 use Rattle.as2_sending.proofs.Turning.{joined, sends_first, sends_on, sends_ended, sends_given_up}
 use Rattle.as2_sending.proofs.sending.send.Goals as goal
@@ -14,7 +11,7 @@ loop-init g c = (
   λ clean. clean,
   λ clean s rests.
       let hinted = g.E.Write.contents c.args.hints.now in
-      sends_first c.args.agreements.now c.args.moment s (state g.S.Store c.args.station.now) (g.W.Sink.written c.args.output.now)
+      sends_first c.args.agreements.now c.args.moment s (g.K.Records.shows c.args.station.now) (g.W.Sink.written c.args.output.now)
       (λ text. true ≡ true → Appends hinted hinted text) (λ _. Appends-nil hinted) rests,
 )
 
@@ -25,14 +22,14 @@ returns-in-Err-clause-sends g c = λ clean s rests.
     let first = g.E.Write.contents c.args.hints.now in
     let mid = g.E.Write.contents c.loop.hints in
     let last = g.E.Write.contents c.take_turn.new.hints in
-    sends_ended Bool c.args.agreements.now c.args.moment s (state g.S.Store c.loop.station) (state g.S.Store c.take_turn.new.station)
+    sends_ended Bool c.args.agreements.now c.args.moment s (g.K.Records.shows c.loop.station) (g.K.Records.shows c.take_turn.new.station)
     (g.W.Sink.written c.args.output.now) (g.W.Sink.written c.loop.output) (g.W.Sink.written c.take_turn.new.output)
     _ _ _ (joined (c.loop.told ≡ true) ⊤ (c.loop.told ≡ true) first mid last (λ told. (told, tt)))
     c.in-Err.end w (c.in-Err.ensures.turned clean w.mid w.rests)
 
 pub returns-clause-sends : goal.returns-clause-sends
 returns-clause-sends g c = λ clean s rests.
-    sends_given_up c.args.agreements.now c.args.moment s (state g.S.Store c.loop.station) (g.W.Sink.written c.args.output.now) (g.W.Sink.written c.loop.output) _ Refused refl (c.loop.invariant.1 clean s rests)
+    sends_given_up c.args.agreements.now c.args.moment s (g.K.Records.shows c.loop.station) (g.W.Sink.written c.args.output.now) (g.W.Sink.written c.loop.output) _ Refused refl (c.loop.invariant.1 clean s rests)
 
 pub loop-preserved : goal.loop-preserved
 loop-preserved g c = (
@@ -44,9 +41,9 @@ loop-preserved g c = (
       let first = g.E.Write.contents c.args.hints.now in
       let mid = g.E.Write.contents c.loop.hints in
       let last = g.E.Write.contents c.take_turn.new.hints in
-      let d = state g.S.Store c.take_turn.new.station in
+      let d = g.K.Records.shows c.take_turn.new.station in
       let w = c.loop.invariant.1 (c.take_turn.ensures.clean clean) s rests in
-      sends_on Bool A c.args.moment s (state g.S.Store c.loop.station) d (g.W.Sink.written c.args.output.now) now later
+      sends_on Bool A c.args.moment s (g.K.Records.shows c.loop.station) d (g.W.Sink.written c.args.output.now) now later
       _ _ _ (joined (c.loop.told ≡ true) (c.in-Ok.hinted ≡ true) (c.both-told.result ≡ true) first mid last c.both-told.ensures)
       c.in-Ok.hinted w (c.in-Ok.ensures.turned clean w.mid w.rests),
 )

@@ -1,5 +1,4 @@
 use Rattle.std.proofs.Common.{◌≡◌, None, Some, sym, subst}
-use Rattle.sqlite.specs.Held.{state}
 use Rattle.as2_exchange.specs.Step.{step}
 use Rattle.as2_exchange.specs.declared.event.Event.{Event}
 use Rattle.as2_sending.specs.Turns.{BeginsTo}
@@ -9,7 +8,7 @@ use Rattle.as2_sending.proofs.turns.begin.Goals as goal
 pub returns-in-Ok-clause-begun : goal.returns-in-Ok-clause-begun
 returns-in-Ok-clause-begun g c = λ clean s rests is.
     let A = c.args.agreements.now in
-    let new = state g.S.Store c.step.new.self in
+    let new = g.K.Records.shows c.step.new.self in
     let left = c.in-Ok.ensures.taken.does.answered clean s rests tt in
     subst (BeginsTo A c.args.moment s c.args.what new) (sym c.handed.ensures)
     (begins_to A c.args.moment s c.args.what new c.in-Ok.answer left.next is
@@ -19,5 +18,5 @@ pub returns-in-Err-clause-begun : goal.returns-in-Err-clause-begun
 returns-in-Err-clause-begun g c = λ clean s rests is.
     let A = c.args.agreements.now in
     let left = c.in-Err.ensures.taken.does.failed clean s rests tt in
-    begin_fails A c.args.moment s c.args.what (state g.S.Store c.step.new.self) c.in-Err.fault is
+    begin_fails A c.args.moment s c.args.what (g.K.Records.shows c.step.new.self) c.in-Err.fault is
     (left.0, λ full. subst (λ (e : Event). step A s e ≡ None) c.begin_event.ensures (left.1 full)) c.in-Err.ensures.taken.does.fault

@@ -1,10 +1,8 @@
-use Rattle.std.proofs.Common.{Bool, IfOk, ◌≡◌, ◌∙◌, ℕ, Err, true, rules, sym, subst}
+use Rattle.std.proofs.Common.{Bool, IfOk, ◌≡◌, ◌∙◌, Err, true, rules, sym, subst}
 use Rattle.std.proofs.KnownBytes.{Appends-nil}
 use Rattle.std.specs.Bool.{⊤}
 use Rattle.std.specs.Io.KnownBytes.{Appends}
-use Rattle.sqlite.specs.Held.{state}
 use Rattle.as2_http.specs.Sending.{AppendsPart}
-use Rattle.as2_exchange.specs.Agreement.{Text}
 use Rattle.as2_sending.specs.Hints.{hint_if}
 use Rattle.as2_sending.specs.Turns.{TurnsTo}
 use Rattle.as2_sending.specs.declared.hints.Why.{Why}
@@ -15,7 +13,7 @@ pub returns-in_err-became-clause-turned : goal.returns-in_err-became-clause-turn
 returns-in_err-became-clause-turned g c = λ clean s rests is.
     let begun = c.in_ok-job.ensures.begun (c.close.ensures.clean clean) s rests is in
     let closed = c.in_err-became.ensures.closed clean s begun.0 c.in_ok-job.job begun.1 begun.2 in
-    let new = state g.S.Store c.close.new.station in
+    let new = g.K.Records.shows c.close.new.station in
     let now = g.W.Sink.written c.args.output.now in
     let hinted = g.E.Write.contents c.args.hints.now in
     let end : c.from_residual-in_err-became.result ≡ Err c.in_err-became.field-0.0 = search rules in
@@ -30,7 +28,7 @@ returns-in-Ok-clause-turned g c = λ clean s rests is.
     let later = g.E.Write.contents c.is_hinted.new.hints in
     let begun = c.in_ok-job.ensures.begun (c.close.ensures.clean clean) s rests is in
     let closed = c.in_ok-became.ensures.closed clean s begun.0 c.in_ok-job.job begun.1 begun.2 in
-    turn_told Bool c.args.agreements.now c.args.moment s c.args.what c.exchange-got.result c.fault.result c.in_ok-job.job begun.0 (state g.S.Store c.close.new.station) before after
+    turn_told Bool c.args.agreements.now c.args.moment s c.args.what c.exchange-got.result c.fault.result c.in_ok-job.job begun.0 (g.K.Records.shows c.close.new.station) before after
     (λ text. c.is_hinted.result ≡ true → Appends hinted later text) c.in_ok-became.became c.is_hinted.result
     begun.1 closed (subst (Appends before after) (c.as_bytes.ensures.value ∙ c.as_str.ensures.value ∙ c.line.ensures) c.in-Ok.ensures.whole)
     (subst (λ (why : Why). c.is_hinted.result ≡ true → Appends hinted later (hint_if c.args.what c.in_ok-became.became why)) c.why_of-why.ensures c.is_hinted.ensures)
@@ -43,6 +41,6 @@ returns-clause-turned g c = λ clean s rests is.
     let begun = c.in_ok-job.ensures.begun (c.close.ensures.clean clean) s rests is in
     let closed = c.in_ok-became.ensures.closed clean s begun.0 c.in_ok-job.job begun.1 begun.2 in
     let part = subst (AppendsPart before after) (c.as_bytes.ensures.value ∙ c.as_str.ensures.value ∙ c.line.ensures) c.in-Err.ensures.part in
-    turn_untold Bool c.args.agreements.now c.args.moment s c.args.what c.exchange-got.result c.fault.result c.in_ok-job.job begun.0 (state g.S.Store c.close.new.station) before after
+    turn_untold Bool c.args.agreements.now c.args.moment s c.args.what c.exchange-got.result c.fault.result c.in_ok-job.job begun.0 (g.K.Records.shows c.close.new.station) before after
     (λ text. ⊤ → Appends hinted hinted text) c.in_ok-became.became part.part part.missing
     begun.1 closed part.cut part.appended (λ _. Appends-nil hinted)

@@ -3,31 +3,31 @@ use Rattle.as2_exchange.specs.Documents.{closed}
 use Rattle.as2_station.specs.Closing.{ended}
 use Rattle.as2_station.proofs.Acting.{acts_alike, leaves}
 use Rattle.as2_station.proofs.Closed.{closes, no_open_try, not_agreed, settled_before}
-use Rattle.as2_station.proofs.Doing.{as_machine, at_once}
+use Rattle.as2_station.proofs.Doing.{as_machine, over_open}
 use Rattle.as2_station.proofs.closing.close_found.Goals as goal
 
 pub returns-in-Err : goal.returns-in-Err
 returns-in-Err g c = record {
   taken =
       let d = c.args.entry.now in
-      at_once _ _ _ _ _ _ (λ clean asks. c.requires.open clean)
-      (λ clean s rests found. ap Some (leaves s d _ (rests.stands (c.requires.open clean)) found _ _ (not_agreed c.args.agreements.now c.args.answer c.args.moment d c.in-Err.reason c.in-Err.ensures.refused)));
+      over_open _ _ _ _ _ _ c.requires.open
+      (λ clean s stands found. ap Some (leaves s d stands found _ _ (not_agreed c.args.agreements.now c.args.answer c.args.moment d c.in-Err.reason c.in-Err.ensures.refused)));
 }
 
 pub returns-then-is_some : goal.returns-then-is_some
 returns-then-is_some g c = record {
   taken =
       let d = c.args.entry.now in
-      at_once _ _ _ _ _ _ (λ clean asks. c.requires.open clean)
-      (λ clean s rests found. ap Some (leaves s d _ (rests.stands (c.requires.open clean)) found _ _ (settled_before c.args.agreements.now c.args.answer c.args.moment d c.in-Ok.partner.now c.in-Ok.ensures.agreed (sym c.if-is_some.ensures))));
+      over_open _ _ _ _ _ _ c.requires.open
+      (λ clean s stands found. ap Some (leaves s d stands found _ _ (settled_before c.args.agreements.now c.args.answer c.args.moment d c.in-Ok.partner.now c.in-Ok.ensures.agreed (sym c.if-is_some.ensures))));
 }
 
 pub returns-then-is_idle : goal.returns-then-is_idle
 returns-then-is_idle g c = record {
   taken =
       let d = c.args.entry.now in
-      at_once _ _ _ _ _ _ (λ clean asks. c.requires.open clean)
-      (λ clean s rests found. ap Some (leaves s d _ (rests.stands (c.requires.open clean)) found _ _ (no_open_try c.args.agreements.now c.args.answer c.args.moment d c.in-Ok.partner.now c.in-Ok.ensures.agreed (sym c.if-is_some.ensures) (sym c.if-is_idle.ensures))));
+      over_open _ _ _ _ _ _ c.requires.open
+      (λ clean s stands found. ap Some (leaves s d stands found _ _ (no_open_try c.args.agreements.now c.args.answer c.args.moment d c.in-Ok.partner.now c.in-Ok.ensures.agreed (sym c.if-is_some.ensures) (sym c.if-is_idle.ensures))));
 }
 
 pub returns : goal.returns
@@ -36,5 +36,5 @@ returns g c = record {
       let d = c.args.entry.now in
       let same = c.in_ok-end.ensures ∙ sym (closes c.args.agreements.now c.args.answer c.args.moment d c.in-Ok.partner.now c.in-Ok.ensures.agreed (sym c.if-is_some.ensures) (sym c.if-is_idle.ensures)) in
       as_machine _ _ _ _ _ _ _ _ _ c.requires.open
-      (λ s stands found. (found, ap Some (acts_alike s d _ stands found (ended c.in_ok-end.end) (closed c.args.agreements.now c.args.answer c.args.moment) same))) c.end_try.ensures.taken;
+      (λ s stands found. (found, ap Some (acts_alike s d stands found (ended c.in_ok-end.end) (closed c.args.agreements.now c.args.answer c.args.moment) same))) c.end_try.ensures.taken;
 }

@@ -4,23 +4,23 @@ use Rattle.as2_exchange.specs.Recording.{report}
 use Rattle.as2_exchange.specs.declared.answer.Answer.TheVariants.{Job}
 use Rattle.as2_station.proofs.ActingIn.{leaves_in}
 use Rattle.as2_station.proofs.OwedTries.{begins_mdn, no_try, not_agreed}
-use Rattle.as2_station.proofs.Doing.{at_once, never_full, passed_on, written, unwritten}
+use Rattle.as2_station.proofs.Doing.{over_open, never_full, passed_on, written, unwritten}
 use Rattle.as2_station.proofs.owed.begin_found.Goals as goal
 
 pub returns-in-Err : goal.returns-in-Err
 returns-in-Err g c = record {
   taken =
       let e = c.args.entry.now in
-      at_once _ _ _ _ _ _ (λ clean asks. c.requires.open clean)
-      (λ clean s rests found. ap Some (leaves_in s e _ (rests.stands (c.requires.open clean)) found _ _ (not_agreed c.args.agreements.now c.args.moment e c.in-Err.reason c.in-Err.ensures.refused)));
+      over_open _ _ _ _ _ _ c.requires.open
+      (λ clean s stands found. ap Some (leaves_in s e stands found _ _ (not_agreed c.args.agreements.now c.args.moment e c.in-Err.reason c.in-Err.ensures.refused)));
 }
 
 pub returns-in-Some : goal.returns-in-Some
 returns-in-Some g c = record {
   taken =
       let e = c.args.entry.now in
-      at_once _ _ _ _ _ _ (λ clean asks. c.requires.open clean)
-      (λ clean s rests found. ap Some (leaves_in s e _ (rests.stands (c.requires.open clean)) found _ _ (no_try c.args.agreements.now c.args.moment e c.in-Ok.partner.now c.in-Some.reason c.in-Ok.ensures.agreed (sym c.try_refusal.ensures ∙ c.in-Some.is))));
+      over_open _ _ _ _ _ _ c.requires.open
+      (λ clean s stands found. ap Some (leaves_in s e stands found _ _ (no_try c.args.agreements.now c.args.moment e c.in-Ok.partner.now c.in-Some.reason c.in-Ok.ensures.agreed (sym c.try_refusal.ensures ∙ c.in-Some.is))));
 }
 
 pub returns-in_err-set_mdn : goal.returns-in_err-set_mdn
@@ -31,7 +31,7 @@ returns-in_err-set_mdn g c = record {
       let p = c.in-Ok.partner.now in
       passed_on _ _ _ _ _ _ _ _ c.from_residual-in_err-set_mdn.ensures.0 c.from_residual-in_err-set_mdn.ensures.1
       (unwritten _ _ _ _ _ _ _ _ (Job (receipt_job e.posted.how (report A e.number e.posted)))
-      (λ s t db stands found is counter. begins_mdn A c.args.moment s t db e p stands found c.in-Ok.ensures.agreed (sym c.try_refusal.ensures ∙ c.in_default.is) (rw c.tried-progress.ensures at is))
+      (λ s t stands found is counter. begins_mdn A c.args.moment s t e p stands found c.in-Ok.ensures.agreed (sym c.try_refusal.ensures ∙ c.in_default.is) (rw c.tried-progress.ensures at is))
       (inr c.in_err-set_mdn.ensures.fault) (λ s found full. never_full _ c.in_err-set_mdn.ensures.fault full) c.in_err-set_mdn.ensures.set);
 }
 
@@ -42,6 +42,6 @@ returns g c = record {
       let e = c.args.entry.now in
       let p = c.in-Ok.partner.now in
       written _ _ _ _ _ _ _ _ _
-      (λ s t db stands found is counter. rw c.in_ok-job.ensures.job (begins_mdn A c.args.moment s t db e p stands found c.in-Ok.ensures.agreed (sym c.try_refusal.ensures ∙ c.in_default.is) (rw c.tried-progress.ensures at is)))
+      (λ s t stands found is counter. rw c.in_ok-job.ensures.job (begins_mdn A c.args.moment s t e p stands found c.in-Ok.ensures.agreed (sym c.try_refusal.ensures ∙ c.in_default.is) (rw c.tried-progress.ensures at is)))
       c.in_ok-set_mdn.ensures.set;
 }

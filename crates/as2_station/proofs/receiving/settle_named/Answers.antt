@@ -6,7 +6,7 @@ use Rattle.as2_exchange.proofs.Standing.{verdict_range}
 use Rattle.as2_posts.specs.Openings.{receipt_by}
 use Rattle.as2_exchange.specs.declared.answer.HttpBody.TheVariants.{Nothing}
 use Rattle.as2_exchange.specs.Documents.{settled_as}
-use Rattle.as2_station.proofs.Doing.{at_once, never_full, passed_on, written, unwritten}
+use Rattle.as2_station.proofs.Doing.{over_open, never_full, passed_on, written, unwritten}
 use Rattle.as2_station.proofs.Reaching.{settles}
 use Rattle.as2_station.proofs.receiving.settle_named.Goals as goal
 
@@ -14,14 +14,14 @@ pub returns-then-not-is_for : goal.returns-then-not-is_for
 unfolding settle
 returns-then-not-is_for g c = record {
   taken = λ A.
-      rw c.answer.ensures (at_once _ _ _ _ _ _ (λ clean asks. c.requires.open clean) (λ clean s rests named. rw (named, sym (c.if-not-is_for.ensures c.args.body)) refl));
+      rw c.answer.ensures (over_open _ _ _ _ _ _ c.requires.open (λ clean s stands named. rw (named, sym (c.if-not-is_for.ensures c.args.body)) refl));
 }
 
 pub returns-then-is_some : goal.returns-then-is_some
 unfolding settle
 returns-then-is_some g c = record {
   taken = λ A.
-      rw c.taken.ensures (at_once _ _ _ _ _ _ (λ clean asks. c.requires.open clean) (λ clean s rests named. rw (named, sym (c.if-not-is_for.ensures c.args.body), sym c.if-is_some.ensures) refl));
+      rw c.taken.ensures (over_open _ _ _ _ _ _ c.requires.open (λ clean s stands named. rw (named, sym (c.if-not-is_for.ensures c.args.body), sym c.if-is_some.ensures) refl));
 }
 
 pub returns-in_err-settle : goal.returns-in_err-settle
@@ -34,8 +34,8 @@ returns-in_err-settle g c = record {
       let same : now d ≡ settled c.args.moment r d = rw (c.verdict_pieces-detail.ensures, c.in_ok-evidence.ensures c.args.receipt.now) refl in
       passed_on _ _ _ _ _ _ _ _ c.from_residual-in_err-settle.ensures.0 c.from_residual-in_err-settle.ensures.1
       (unwritten _ _ _ _ _ _ _ _ (http 200 Nothing)
-      (λ s t db stands named is counter.
-      settles s t db c.args.moment r d _ _ stands named (sym (c.if-not-is_for.ensures c.args.body)) (sym c.if-is_some.ensures) (rw c.verdict_pieces-detail.ensures (verdict_range c.args.receipt.now d.content)) same is)
+      (λ s t stands named is counter.
+      settles s t c.args.moment r d _ _ stands named (sym (c.if-not-is_for.ensures c.args.body)) (sym c.if-is_some.ensures) (rw c.verdict_pieces-detail.ensures (verdict_range c.args.receipt.now d.content)) same is)
       (inr c.in_err-settle.ensures.fault)
       (λ s named full. never_full _ c.in_err-settle.ensures.fault full)
       c.in_err-settle.ensures.settled);
@@ -50,7 +50,7 @@ returns g c = record {
       let now = settled_as c.verdict_pieces-detail.result c.in_ok-evidence.evidence in
       let same : now d ≡ settled c.args.moment r d = rw (c.verdict_pieces-detail.ensures, c.in_ok-evidence.ensures c.args.receipt.now) refl in
       rw c.taken-2.ensures (written _ _ _ _ _ _ _ _ _
-      (λ s t db stands named is counter.
-      settles s t db c.args.moment r d _ _ stands named (sym (c.if-not-is_for.ensures c.args.body)) (sym c.if-is_some.ensures) (rw c.verdict_pieces-detail.ensures (verdict_range c.args.receipt.now d.content)) same is)
+      (λ s t stands named is counter.
+      settles s t c.args.moment r d _ _ stands named (sym (c.if-not-is_for.ensures c.args.body)) (sym c.if-is_some.ensures) (rw c.verdict_pieces-detail.ensures (verdict_range c.args.receipt.now d.content)) same is)
       c.in_ok-settle.ensures.settled);
 }

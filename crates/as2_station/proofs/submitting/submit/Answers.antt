@@ -24,7 +24,7 @@ returns-in_err-add_out-clause-taken g c =
     after_read _ _ _ _ _ (λ s. n ≡ s.next_out) _ _ _ _ _ (λ s known next. next.document) c.in_ok-number.ensures.numbers
     (passed_on _ _ _ _ _ _ _ _ c.from_residual-in_err-add_out.ensures.0 c.from_residual-in_err-add_out.ensures.1
     (unwritten _ _ _ _ _ _ _ _ (Submitted n)
-    (λ s t db stands known is counter. submits c.args.agreements.now s t c.args.organization c.args.partner c.args.content c.args.moment n fine known (rw (c.new_document.ensures, c.in_ok-id.ensures.id) at is) counter.1)
+    (λ s t stands known is counter. submits c.args.agreements.now s t c.args.organization c.args.partner c.args.content c.args.moment n fine known (rw (c.new_document.ensures, c.in_ok-id.ensures.id) at is) counter.1)
     c.in_err-add_out.ensures.fault (λ s known full. none_left c.args.agreements.now s c.args.organization c.args.partner c.args.content c.args.moment n fine known (rw c.new_document.ensures at (c.in_err-add_out.ensures.full full))) c.in_err-add_out.ensures.added))
 
 pub returns-clause-taken : goal.returns-clause-taken
@@ -34,5 +34,5 @@ returns-clause-taken g c =
     let fine : submit_refusal c.args.agreements.now c.args.organization c.args.partner c.args.content ≡ None = sym c.refusal_of.ensures ∙ c.in_default.is in
     after_read _ _ _ _ _ (λ s. n ≡ s.next_out) _ _ _ _ _ (λ s known next. next.document) c.in_ok-number.ensures.numbers
     (written _ _ _ _ _ _ _ _ _
-    (λ s t db stands known is counter. submits c.args.agreements.now s t c.args.organization c.args.partner c.args.content c.args.moment n fine known (rw (c.new_document.ensures, c.in_ok-id.ensures.id) at is) counter.1)
+    (λ s t stands known is counter. submits c.args.agreements.now s t c.args.organization c.args.partner c.args.content c.args.moment n fine known (rw (c.new_document.ensures, c.in_ok-id.ensures.id) at is) counter.1)
     c.in_ok-add_out.ensures.added)

@@ -1,7 +1,6 @@
 use Rattle.std.proofs.Common.{◌≡◌}
-use Rattle.as2_store.specs.Listing.{listed}
-use Rattle.as2_store.proofs.Querying.{read_bad, read_ok, read_then}
-use Rattle.as2_views.specs.Lists.{settled_numbers}
+use Rattle.as2_records.specs.Listing.{listed, settled_numbers}
+use Rattle.as2_records.proofs.Following.{read_bad, read_ok, read_then}
 use Rattle.as2_station.specs.declared.viewing.Marked.{Marked}
 use Rattle.as2_exchange.specs.State.{State}
 use Rattle.as2_station.proofs.viewing.documents.Goals as goal

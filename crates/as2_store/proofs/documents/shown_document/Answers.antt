@@ -3,7 +3,7 @@ use Rattle.as2_exchange.specs.State.{State}
 use Rattle.as2_exchange.specs.declared.outbox.Evidence.{Evidence}
 use Rattle.as2_exchange.specs.declared.outbox.OutEntry.{OutEntry}
 use Rattle.as2_rows.specs.Rows.{out_shown}
-use Rattle.as2_rows.specs.Summaries.{out_summary, out_entry}
+use Rattle.as2_records.specs.Summaries.{out_summary, out_entry}
 use Rattle.as2_store.specs.Finding.{evidence_at}
 use Rattle.as2_store.proofs.QueriedRows.{none_first, some_first}
 use Rattle.as2_store.proofs.OutboxQueries.{document_is, own_evidence}
@@ -22,8 +22,8 @@ returns-clause-found g c =
     (read_then _ _ P _ _ _ c.in_ok-content.content (Ok c.in_ok-evidence.evidence) (λ s b r content evidence p all.
     let got : slice_get c.args.rows.now 0 ≡ Some c.in-Some.row.now = search rules in
     let it = some_first out_shown p s.outbox c.args.rows.now c.in-Some.row.now all got in
-    let same : c.read.result ≡ Ok c.in_ok-row.row = told_ok _ _ _ _ c.map_err.ensures.cases c.in_ok-row.was in
-    let read = rw same at c.read.ensures.read in
+    let same : c.read_out_row.result ≡ Ok c.in_ok-row.row = told_ok _ _ _ _ c.map_err.ensures.cases c.in_ok-row.was in
+    let read = rw same at c.read_out_row.ensures.read in
     let summary : c.in_ok-row.row ≡ out_summary it.0 = read it.0 it.2 in
     let number = ap (λ x. x.number) summary in
     ap Some (document_is c.in_ok-row.row c.in_ok-content.content b it.0 summary (content p it.0 it.1 number) (evidence p it.0 it.1 number)) ∙ sym it.1) c.in_ok-content.ensures.content

@@ -5,7 +5,7 @@ use Rattle.sqlite.specs.declared.error.Error.TheVariants.{SqliteFailure}
 use Rattle.sqlite.specs.declared.error.ErrorCode.TheVariants.{OutOfMemory}
 use Rattle.as2_exchange.specs.declared.answer.Answer.TheVariants.{Ticked}
 use Rattle.as2_store.specs.Calls.{IsInside, Writes}
-use Rattle.as2_store.specs.Expiring.{ticked_in}
+use Rattle.as2_records.specs.Expiring.{ticked_in}
 use Rattle.as2_store.proofs.TransactionEnds.{undone}
 use Rattle.as2_store.proofs.Committing.{inside_then, commits, gives_up, fails_to_commit}
 use Rattle.as2_store.proofs.PassedDocuments.{all_counted}

@@ -7,8 +7,8 @@ use Rattle.as2_rows.specs.Rows.{out_shown}
 use Rattle.as2_exchange.specs.State.{State}
 use Rattle.as2_exchange.specs.Views.{is_in}
 use Rattle.as2_exchange.specs.declared.fault.StoreFault.TheVariants.{Memory}
-use Rattle.as2_rows.specs.Summaries.{out_summary}
-use Rattle.as2_rows.specs.declared.outbox.OutRow.{OutRow}
+use Rattle.as2_records.specs.Summaries.{out_summary}
+use Rattle.as2_records.specs.declared.summaries.OutRow.{OutRow}
 use Rattle.as2_store.specs.Calls.{Reads}
 use Rattle.as2_store.proofs.ListedRows.{all_given, leaves_nothing, lists, lists_none, none_listed, one_more, rests_still, still_nothing}
 use Rattle.as2_store.proofs.Querying.{read_bad, told_ok}
@@ -100,8 +100,8 @@ rows-preserved g c =
     let now = c.advance.new.self.conn.now in
     let moved = c.in-Ok-advance.ensures in
     let some : row_if c.advance.new.self.has_row now ≡ Some c.in-Some.row.now = rw c.in-Some.is at (sym c.get.ensures) in
-    let told : c.read.result ≡ Ok c.in_ok-document.document = told_ok _ _ _ _ c.map_err.ensures.cases c.in_ok-document.was in
-    let read = rw told at c.read.ensures.read in (
+    let told : c.read_out_row.result ≡ Ok c.in_ok-document.document = told_ok _ _ _ _ c.map_err.ensures.cases c.in_ok-document.was in
+    let read = rw told at c.read_out_row.ensures.read in (
       c.advance.ensures.same_reference ∙ c.rows.invariant.0,
       c.advance.ensures.mode c.rows.invariant.1,
       still_nothing old mid (state g.S.Store now) c.rows.invariant.2 c.advance.ensures.survives,

@@ -5,7 +5,7 @@ use Rattle.sqlite.specs.State.{HasCleanDisk, Survives}
 use Rattle.as2_exchange.specs.State.{State}
 use Rattle.as2_exchange.specs.Views.{is_in}
 use Rattle.as2_rows.specs.Rows.{out_shown}
-use Rattle.as2_rows.specs.Summaries.{out_summary}
+use Rattle.as2_records.specs.Summaries.{out_summary}
 use Rattle.as2_store.specs.Calls.{Commits}
 use Rattle.as2_store.specs.Stands.{Rests}
 use Rattle.as2_store.proofs.ListedRows.{HasListed}

@@ -5,8 +5,8 @@ use Rattle.sql_tables.proofs.Inside.{fails_to_query}
 use Rattle.as2_rows.specs.Rows.{in_shown}
 use Rattle.as2_exchange.specs.State.{State}
 use Rattle.as2_exchange.specs.declared.fault.StoreFault.TheVariants.{Memory}
-use Rattle.as2_rows.specs.Summaries.{in_summary}
-use Rattle.as2_rows.specs.declared.inbox.InRow.{InRow}
+use Rattle.as2_records.specs.Summaries.{in_summary}
+use Rattle.as2_records.specs.declared.summaries.InRow.{InRow}
 use Rattle.as2_store.specs.Calls.{Reads}
 use Rattle.as2_store.proofs.InboxQueries.{lists_all, one_more_entry}
 use Rattle.as2_store.proofs.ListedRows.{all_given, leaves_nothing, lists, lists_none, none_listed, one_more, rests_still, still_nothing}
@@ -97,8 +97,8 @@ rows-preserved g c =
     let now = c.advance.new.self.conn.now in
     let moved = c.in-Ok-advance.ensures in
     let some : row_if c.advance.new.self.has_row now ≡ Some c.in-Some.row.now = rw c.in-Some.is at (sym c.get.ensures) in
-    let told : c.read.result ≡ Ok c.in_ok-entry.entry = told_ok _ _ _ _ c.map_err.ensures.cases c.in_ok-entry.was in
-    let read = rw told at c.read.ensures.read in
+    let told : c.read_in_row.result ≡ Ok c.in_ok-entry.entry = told_ok _ _ _ _ c.map_err.ensures.cases c.in_ok-entry.was in
+    let read = rw told at c.read_in_row.ensures.read in
     let pushed : c.push.new.self.items ≡ c.rows.entries.items ++ c.in_ok-entry.entry ∷ [] = search rules in (
       c.advance.ensures.same_reference ∙ c.rows.invariant.0,
       c.advance.ensures.mode c.rows.invariant.1,

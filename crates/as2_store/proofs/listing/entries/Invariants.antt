@@ -3,7 +3,7 @@ use Rattle.sqlite.specs.Held.{state}
 use Rattle.sqlite.specs.State.{HasCleanDisk, Survives}
 use Rattle.as2_exchange.specs.State.{State}
 use Rattle.as2_rows.specs.Rows.{in_shown}
-use Rattle.as2_rows.specs.Summaries.{in_summary}
+use Rattle.as2_records.specs.Summaries.{in_summary}
 use Rattle.as2_store.specs.Calls.{Commits}
 use Rattle.as2_store.specs.Stands.{Rests}
 use Rattle.as2_store.proofs.ListedRows.{HasListed}

@@ -1,6 +1,6 @@
 use Rattle.std.proofs.Common.{true, rules, ◌≡◌, subst, arith, Ok}
 use Rattle.sqlite.specs.Held.{state}
-use Rattle.as2_store.specs.Owing.{set_mdn_in}
+use Rattle.as2_records.specs.Owing.{set_mdn_in}
 use Rattle.as2_store.specs.Calls.{IsInside, Writes}
 use Rattle.as2_store.proofs.TransactionEnds.{undone}
 use Rattle.as2_store.proofs.Committing.{inside_then, commits, gives_up, fails_to_commit}

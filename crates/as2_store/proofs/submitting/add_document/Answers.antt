@@ -2,7 +2,7 @@ use Rattle.std.proofs.Common.{refl, false, true, rules, ◌≡◌, subst, arith,
 use Rattle.sqlite.specs.Held.{state}
 use Rattle.sqlite.specs.State.{HasCleanDisk, Shows}
 use Rattle.sqlite.specs.declared.error.Error.TheVariants.{QueryReturnedNoRows}
-use Rattle.as2_store.specs.Adding.{added_document}
+use Rattle.as2_records.specs.Adding.{added_document}
 use Rattle.as2_store.specs.Calls.{IsInside, Writes}
 use Rattle.as2_store.proofs.TransactionEnds.{undone}
 use Rattle.as2_store.proofs.Committing.{inside_then, commits, gives_up, fails_to_commit}

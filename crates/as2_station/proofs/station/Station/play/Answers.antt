@@ -12,12 +12,12 @@ events-preserved g c =
     let longer = ap length pushed ∙ length-append c.events.said.items (c.step.result ∷ []) in
     let shorter = ap length next in
     let more = ap (λ l. c.events.yielded ++ l) next ∙ sym (append_assoc c.events.yielded (c.in-Some.event ∷ []) c.next.new.self.rest.items) in
-    let taken = taken_more g.S.Store c.args.agreements.now c.events.yielded c.events.said.items c.in-Some.event c.step.result c.args.self.now c.events.self c.step.new.self was.4 c.step.ensures.taken c.step.ensures.of_head c.step.ensures.submitted in (
+    let taken = taken_more g.R.Records.shows c.args.agreements.now c.events.yielded c.events.said.items c.in-Some.event c.step.result c.args.self.now c.events.self c.step.new.self was.4 c.step.ensures.taken c.step.ensures.of_head c.step.ensures.submitted in (
       was.0,
       was.1 ∙ more,
       longer ∙ ap (λ n. n + 1) was.2 ∙ sym (length-append c.events.yielded (c.in-Some.event ∷ [])),
       omega (arith),
-      subst (λ rs. Taken g.S.Store c.args.agreements.now (c.events.yielded ++ c.in-Some.event ∷ []) rs c.args.self.now c.step.new.self) (sym pushed) taken,
+      subst (λ rs. Taken g.R.Records.shows c.args.agreements.now (c.events.yielded ++ c.in-Some.event ∷ []) rs c.args.self.now c.step.new.self) (sym pushed) taken,
     )
 
 pub returns-clause-each : goal.returns-clause-each
@@ -25,12 +25,12 @@ returns-clause-each g c =
     let was = c.events.invariant in
     let rest : c.events.event-iterator.rest.items ≡ [] = nothing_left _ (omega (arith, c.in-None.ensures.steps.0, c.events.event-iterator.rest.ok)) in
     let whole : c.events.yielded ≡ c.args.events.items = sym (was.1 ∙ ap (λ l. c.events.yielded ++ l) rest ∙ append-nil c.events.yielded) in
-    subst (λ es. Taken g.S.Store c.args.agreements.now es c.events.said.items c.args.self.now c.events.self) whole was.4
+    subst (λ es. Taken g.R.Records.shows c.args.agreements.now es c.events.said.items c.args.self.now c.events.self) whole was.4
 
 pub returns-clause-played : goal.returns-clause-played
 returns-clause-played g c =
     let was = c.events.invariant in
     let rest : c.events.event-iterator.rest.items ≡ [] = nothing_left _ (omega (arith, c.in-None.ensures.steps.0, c.events.event-iterator.rest.ok)) in
     let whole : c.events.yielded ≡ c.args.events.items = sym (was.1 ∙ ap (λ l. c.events.yielded ++ l) rest ∙ append-nil c.events.yielded) in
-    subst (λ es. Plays g.S.Store c.args.agreements.now es c.events.said.items c.args.self.now c.events.self) whole
-    (taken_plays g.S.Store c.args.agreements.now c.events.yielded c.events.said.items c.args.self.now c.events.self was.4)
+    subst (λ es. Plays g.R.Records.shows c.args.agreements.now es c.events.said.items c.args.self.now c.events.self) whole
+    (taken_plays g.R.Records.shows c.args.agreements.now c.events.yielded c.events.said.items c.args.self.now c.events.self was.4)

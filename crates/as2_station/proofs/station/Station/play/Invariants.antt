@@ -8,4 +8,4 @@ invariant-events g l =
     × (l.fn.events.items ≡ l.yielded ++ l.event-iterator.rest.items)
     × (length l.said.items ≡ length l.yielded)
     × (vec_len l.said + length l.event-iterator.rest.items ≤ vec_capacity l.said)
-    × Taken g.S.Store l.agreements l.yielded l.said.items l.fn.self l.self
+    × Taken g.R.Records.shows l.agreements l.yielded l.said.items l.fn.self l.self

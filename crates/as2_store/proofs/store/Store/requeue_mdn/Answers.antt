@@ -1,6 +1,6 @@
 use Rattle.std.proofs.Common.{ap}
 use Rattle.sqlite.specs.Held.{state}
-use Rattle.as2_store.specs.Requeuing.{requeued_in}
+use Rattle.as2_records.specs.Requeuing.{requeued_in}
 use Rattle.as2_store.proofs.Committing.{write_of, write_told}
 use Rattle.as2_store.proofs.store.Store.requeue_mdn.Goals as goal
 

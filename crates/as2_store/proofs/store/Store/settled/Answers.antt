@@ -1,6 +1,6 @@
 use Rattle.std.proofs.Common.{◌∙◌, ap}
 use Rattle.sqlite.specs.Held.{state}
-use Rattle.as2_views.specs.Lists.{settled_numbers}
+use Rattle.as2_records.specs.Listing.{settled_numbers}
 use Rattle.as2_store.proofs.Querying.{mapped, read_of, read_told}
 use Rattle.as2_store.proofs.store.Store.settled.Goals as goal
 

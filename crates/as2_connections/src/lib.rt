@@ -1,0 +1,9 @@
+//! Connections over TCP: those that are served, and those to partners.
+#![tactic(auto)]
+
+mod links;
+mod network;
+mod wall_clock;
+
+pub use network::Sockets;
+pub use wall_clock::clock;

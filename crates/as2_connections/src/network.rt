@@ -1,0 +1,194 @@
+//! The network: connections over TCP that are served.
+ghost use Rattle.std.specs.Prelude.{◌≡◌, ℕ, List, Some};
+ghost use Rattle.as2_http.specs.Devices.{Opens};
+ghost use Rattle.as2_http.specs.Notes.{spoken};
+ghost use Rattle.as2_http.specs.StreamReads.{RunsPosts};
+ghost use Rattle.as2_exchange.specs.State.{State};
+ghost use Rattle.as2_connections.specs.Inputs.{ServesInput};
+
+use crate::links::Connections;
+use crate::wall_clock::clock;
+use as2_agreement::Agreements;
+use as2_commands::Waits;
+use as2_host::{CannotListen, Listens, Network};
+use as2_http::{Counted, Journal, Served, serve_stream};
+use as2_records::Records;
+use as2_sockets::{Limits, TimedStream};
+use as2_station::Station;
+use as2_text::{Memory, Moment};
+use std::alloc::Global;
+use std::io;
+use std::io::{Read, Write};
+use std::marker::Brand;
+use std::net::{SocketAddr, TcpListener, TcpStream};
+use std::sync::ledger::{Blank, Ledger};
+
+/// A connection with its limits.
+pub(crate) type Stream<'a> = TimedStream<'a, TcpStream, HostRuntime>;
+
+/// The sockets of this machine.
+#[derive(Clone, Copy)]
+pub struct Sockets<'a> {
+    pub rt: &'a HostRuntime,
+}
+
+/// A socket that listens.
+#[derive(Drop)]
+pub struct ListeningSocket<'a> {
+    rt: &'a HostRuntime,
+    socket: TcpListener,
+    address: SocketAddr,
+    limits: Limits,
+}
+
+/// Serves the requests of a reader, with counts of the calls that are made of it and of the writer: how they ended, and the writer.
+fn serve_counted<
+    K: Records,
+    J: Journal,
+    R: Read + Drop,
+    W: Write,
+    A: Ledger,
+    B: Ledger,
+    C: Ledger,
+    D: Ledger,
+>(
+    alloc: Global,
+    agreements: &Agreements,
+    moment: Moment,
+    station: &mut Station<K>,
+    reader: R,
+    writer: W,
+    journal: &mut J,
+    reads: Blank,
+    failed_reads: Blank,
+    writes: Blank,
+    failed_writes: Blank,
+) -> (Served, W)
+    requires reads { Opens reads.name reads.parts A.name A.parts }
+    requires failed_reads { Opens failed_reads.name failed_reads.parts B.name B.parts }
+    requires writes { Opens writes.name writes.parts C.name C.parts }
+    requires failed_writes { Opens failed_writes.name failed_writes.parts D.name D.parts }
+    ensures clean { (K.shows station.new).IsClean → (K.shows station.old).IsClean }
+    ensures serves { (K.shows station.new).IsClean → (s : State) → (K.shows station.old).Rests s
+        → (input : List ℕ) → R.remaining reader ≡ Some input → (t : State) × (K.shows station.new).Rests t
+        × ServesInput agreements.now moment s t input (spoken (W.contents writer) (J.noted journal.old)) (spoken (W.contents result.1) (J.noted journal.new)) result.0 }
+    ensures posts { (K.shows station.new).IsClean → (s : State) → (K.shows station.old).Rests s
+        → (t : State) × (K.shows station.new).Rests t × RunsPosts agreements.now moment s t }
+{
+    let mut source: Counted<R, A, B> = Counted::new(reader, reads, failed_reads);
+    let mut sink: Counted<W, C, D> = Counted::new(writer, writes, failed_writes);
+    let end = serve_stream(
+        alloc,
+        agreements,
+        moment,
+        station,
+        &mut source,
+        &mut sink,
+        journal,
+    );
+    (end, sink.into_inner())
+}
+
+/// Serves the requests of a connection.
+fn serve_connection<K: Records, J: Journal>(
+    alloc: Global,
+    agreements: &Agreements,
+    moment: Moment,
+    station: &mut Station<K>,
+    reader: Stream<'_>,
+    writer: Stream<'_>,
+    journal: &mut J,
+) -> Served
+    ensures clean { (K.shows station.new).IsClean → (K.shows station.old).IsClean }
+    ensures posts { (K.shows station.new).IsClean → (s : State) → (K.shows station.old).Rests s
+        → (t : State) × (K.shows station.new).Rests t × RunsPosts agreements.now moment s t }
+{
+    let (end, writer) = serve_counted::<K, J, Stream, Stream, Brand, Brand, Brand, Brand>(
+        alloc,
+        agreements,
+        moment,
+        station,
+        reader,
+        writer,
+        journal,
+        Blank::new(1),
+        Blank::new(1),
+        Blank::new(1),
+        Blank::new(1),
+    );
+    if end == Served::BadFraming {
+        // the peer may still be sending, and is to read why it was refused
+        writer.linger();
+    }
+    end
+}
+
+impl<'a> ListeningSocket<'a> {
+    /// Accepts one connection: its two ends, and the clock's reading then.
+    fn accept(&self) -> io::Result<(Stream<'a>, Stream<'a>)> {
+        let (stream, _) = self.socket.accept()?;
+        let reader = TimedStream::new(stream, self.rt, self.limits)?;
+        let writer = reader.try_clone()?;
+        Ok((reader, writer))
+    }
+}
+
+impl Listens for ListeningSocket<'_> {
+    fn address(&self, alloc: Global) -> Result<String, Memory> {
+        match self.address.to_string(alloc) {
+            Ok(text) => Ok(text),
+            Err(_) => Err(Memory),
+        }
+    }
+
+    fn serve<K: Records, J: Journal>(
+        &mut self,
+        alloc: Global,
+        agreements: &Agreements,
+        moment: Option<Moment>,
+        station: &mut Station<K>,
+        journal: &mut J,
+    ) -> Served {
+        let Ok((reader, writer)) = self.accept() else {
+            return Served::ReadFault;
+        };
+        let moment = match moment {
+            Some(moment) => moment,
+            None => match clock(self.rt).and_then(Moment::new) {
+                Some(moment) => moment,
+                None => return Served::ReadFault,
+            },
+        };
+        serve_connection(alloc, agreements, moment, station, reader, writer, journal)
+    }
+}
+
+impl<'a> Network for Sockets<'a> {
+    type Listener = ListeningSocket<'a>;
+
+    type Links = Connections<'a>;
+
+    fn listen(
+        &self,
+        _alloc: Global,
+        address: &str,
+        waits: Waits,
+    ) -> Result<ListeningSocket<'a>, CannotListen> {
+        let Ok(socket) = TcpListener::bind(self.rt, address) else {
+            return Err(CannotListen);
+        };
+        let Ok(address) = socket.local_addr() else {
+            return Err(CannotListen);
+        };
+        Ok(ListeningSocket {
+            rt: self.rt,
+            socket,
+            address,
+            limits: Limits::of_seconds(waits.seconds),
+        })
+    }
+
+    fn links(&self, waits: Waits) -> Connections<'a> {
+        Connections::new(self.rt, waits)
+    }
+}

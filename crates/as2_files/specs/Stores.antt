@@ -1,0 +1,35 @@
+-- The files of one store: what they hold, before they are opened and once they are closed.
+use Rattle.std.specs.Prelude.{ℕ, Bool, true, false, Option, Some, None, IsTrue, ⊤}
+use Rattle.sqlite.specs.State.{State as Connected, HasCleanDisk}
+use Rattle.sqlite_disk.specs.declared.Disk.{Ghosts}
+use Rattle.sqlite_wal.specs.Reads.{AreClean}
+use Rattle.sqlite_wal.specs.Recovery.{Image}
+use Rattle.as2_exchange.specs.State.{State}
+use Rattle.as2_restart.specs.Files.{AreClosed}
+use Rattle.as2_store.specs.Files.{HoldsState}
+use Rattle.as2_store.specs.Stands.{Rests}
+use Rattle.as2_files.specs.declared.stores.End.{End}
+use Rattle.as2_files.specs.declared.stores.End.TheVariants.{Closed, Left}
+
+-- a store was found in files that held that: where all that is read is what had been written, it is open, and stands for what they held
+abbrev pub IsFound : Image → Connected → Type 0
+IsFound image c = HasCleanDisk c → IsTrue c.is_open × ((s : State) → HoldsState image s → Rests c s)
+
+module _ {D : Type 0} (g : Ghosts D) where
+  -- the tables in them stand for that state: by what they held as they were opened, until they are closed; of those of a store that
+  -- couldn't be closed nothing is told
+  abbrev pub Keeps : Image → Option (End D) → State → Type 0
+  Keeps image None s = HoldsState image s
+  Keeps image (Some (Closed files)) s = AreClosed g files s
+  Keeps image (Some (Left files)) s = ⊤
+
+  -- until they were closed, all that was read of them is what had been written
+  abbrev pub IsCleanEnd : Option (End D) → Type 0
+  IsCleanEnd None = ⊤
+  IsCleanEnd (Some (Closed files)) = AreClean g files.log files.db
+  IsCleanEnd (Some (Left files)) = AreClean g files.log files.db
+
+-- how many stores were opened
+abbrev pub opens_by : Bool → ℕ
+opens_by true = 1
+opens_by false = 0

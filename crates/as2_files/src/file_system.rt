@@ -1,0 +1,164 @@
+//! The file system: stores are looked at before they are opened, made under another name and then given their own, and closed
+//! into their one file.
+
+use crate::closing::{opening_fault, with_tables};
+use crate::fronts::{PAGE, Seen, has_mark, lists_no_meta, may_be_store};
+use as2_commands::FirstNumber;
+use as2_exchange::StoreFault;
+use as2_host::OpenFault;
+use sqlite::{Connection, Options};
+use sqlite_disk::Disk;
+use sqlite_std_file::{OpenError, Unknown};
+use std::alloc::{AllocError, Global};
+use std::hash::{BuildHasher, RandomState};
+use std::io::{ErrorKind, Read};
+use std::{fs, io};
+
+const REFUSED: OpenFault = OpenFault::Store(StoreFault::Refused);
+
+const MEMORY: OpenFault = OpenFault::Store(StoreFault::Memory);
+
+const DISK: OpenFault = OpenFault::Store(StoreFault::Disk);
+
+/// The file system.
+#[derive(Clone, Copy)]
+pub struct FileSystem<'a> {
+    pub rt: &'a HostRuntime,
+}
+
+/// What a failed call of the file system is to a store.
+fn fault_of(error: io::Error) -> OpenFault {
+    match error.kind() {
+        ErrorKind::OutOfMemory => MEMORY,
+        _ => REFUSED,
+    }
+}
+
+/// Why files can't be had.
+fn unlocked(error: OpenError) -> OpenFault {
+    match error {
+        OpenError::Busy => OpenFault::Held,
+        OpenError::OutOfMemory => MEMORY,
+        _ => REFUSED,
+    }
+}
+
+/// The path with that behind it. One that begins with `file:` is a path too.
+fn named(alloc: Global, path: &str, behind: &str) -> Result<String, AllocError> {
+    let mut name = String::new(alloc);
+    if path.starts_with("file:") {
+        name.push_str("./")?;
+    }
+    name.push_str(path)?;
+    name.push_str(behind)?;
+    Ok(name)
+}
+
+impl FileSystem<'_> {
+    /// The name of the file of that path, with that behind it.
+    pub(crate) fn name(&self, path: &str, behind: &str) -> Result<String, OpenFault> {
+        named(self.rt.alloc(), path, behind).map_err(|_| MEMORY)
+    }
+
+    /// Whether something stands at that name, be it a link to nothing.
+    fn is_there(&self, name: &str) -> Result<bool, OpenFault> {
+        match fs::symlink_metadata(self.rt, name) {
+            Ok(_) => Ok(true),
+            Err(error) if error.kind() == ErrorKind::NotFound => Ok(false),
+            Err(error) => Err(fault_of(error)),
+        }
+    }
+
+    /// The name of the log of the store that stands under that path: it lies beside the file, where a link leads.
+    fn log_of(&self, path: &str) -> Result<String, OpenFault> {
+        let real = fs::canonicalize(self.rt, &self.name(path, "")?).map_err(fault_of)?;
+        self.name(real.as_str(), "-wal")
+    }
+
+    /// Takes a file away; what isn't there needs no taking away.
+    fn remove(&self, name: &str) {
+        let _ = fs::remove_file(self.rt, name);
+    }
+
+    /// A random number, for the salts of a log.
+    fn seed(&self) -> Result<u64, OpenFault> {
+        Ok(RandomState::new(self.rt).map_err(fault_of)?.hash_one(&0u8))
+    }
+
+    /// What stands under that path: a database where the file begins with SQLite's mark, and may be a store.
+    fn look(&self, path: &str) -> Result<Seen, OpenFault> {
+        let file = match fs::File::open(self.rt, &self.name(path, "")?) {
+            Ok(file) => file,
+            Err(error) if error.kind() == ErrorKind::NotFound => return Ok(Seen::Nothing),
+            Err(error) => return Err(fault_of(error)),
+        };
+        let mut front = Vec::new(self.rt.alloc());
+        file.take(PAGE as u64)
+            .read_to_end(&mut front)
+            .map_err(fault_of)?;
+        if !has_mark(&front) {
+            return Ok(Seen::Other);
+        }
+        if lists_no_meta(&front) && !self.is_there(&self.log_of(path)?)? {
+            return Ok(Seen::Other);
+        }
+        Ok(Seen::Database)
+    }
+
+    /// Whether a store may stand under that path.
+    fn is_store(&self, path: &str) -> Result<bool, OpenFault> {
+        may_be_store(self.look(path)?).map_err(OpenFault::Store)
+    }
+
+    /// Makes a store whole under that path, and closes it; whether it was made, and nothing stood there by now.
+    fn make_closed(
+        &self,
+        alloc: Global,
+        path: &str,
+        first: FirstNumber,
+    ) -> Result<bool, OpenFault> {
+        let name = self.name(path, "")?;
+        let draft = self.name(path, ".new")?;
+        let draft_log = self.name(path, ".new-wal")?;
+        let mut files = match sqlite_std_file::open(self.rt, &draft, Unknown) {
+            Ok(files) => files,
+            Err(error) => return Err(unlocked(error)),
+        };
+        if self.is_there(&name)? {
+            self.remove(&draft_log);
+            self.remove(&draft);
+            return Ok(false);
+        }
+        files.log.set_len(0).map_err(|_| DISK)?;
+        files.db.set_len(0).map_err(|_| DISK)?;
+        let options = Options::new(self.seed()?);
+        let files = match Connection::open_files_with(alloc, files, options, true) {
+            Ok(conn) => with_tables(conn, first)?,
+            Err((error, _)) => return Err(opening_fault(error)),
+        };
+        self.remove(&draft_log);
+        fs::rename(self.rt, &draft, &name).map_err(fault_of)?;
+        drop(files);
+        Ok(true)
+    }
+
+    /// Sees that a store stands under that path: where nothing does, one is made that begins with `first`. Gives the name of its file.
+    pub(crate) fn make_sure(
+        &self,
+        alloc: Global,
+        path: &str,
+        first: FirstNumber,
+    ) -> Result<String, OpenFault> {
+        if self.is_store(path)? || self.make_closed(alloc, path, first)? || self.is_store(path)? {
+            return self.name(path, "");
+        }
+        Err(REFUSED)
+    }
+
+    /// Takes away the log of the store that was closed into the file of that path. It is locked meanwhile.
+    pub(crate) fn remove_log(&self, path: &str) {
+        if let Ok(log) = self.log_of(path) {
+            self.remove(&log);
+        }
+    }
+}

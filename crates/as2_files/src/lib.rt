@@ -1,0 +1,13 @@
+//! Files of the file system: those that are read, and stores.
+#![tactic(auto)]
+
+mod closing;
+mod file_system;
+mod fronts;
+mod opening;
+mod reading;
+mod stores;
+
+pub use file_system::FileSystem;
+pub use opening::{OpenFiles, Starting};
+pub use stores::StoreFiles;

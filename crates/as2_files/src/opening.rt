@@ -1,0 +1,53 @@
+//! The two files of a store, as they are opened.
+ghost use Rattle.std.specs.Prelude.{◌≡◌, false, IfOk};
+ghost use Rattle.sqlite.specs.Files.{file_state};
+ghost use Rattle.sqlite.specs.State.{HasCleanDisk};
+ghost use Rattle.sqlite_wal.specs.Files.{image_at};
+ghost use Rattle.sqlite_wal.specs.Recovery.{Image};
+ghost use Rattle.as2_exchange.specs.State.{State};
+ghost use Rattle.as2_store.specs.Files.{HoldsState};
+ghost use Rattle.as2_store.specs.Stands.{Rests};
+
+use as2_restart::open_at;
+use sqlite::{Connection, Error, FileStore};
+use sqlite_disk::{Disk, Start};
+use sqlite_std_file::FileFrom;
+
+/// What opens the two files of a store.
+pub trait OpenFiles {
+    /// What they lie on.
+    type Disk: Disk + Drop;
+
+    // what they hold as they are opened
+    ghost image: { Image };
+
+    /// Opens the two files at a path, and makes those that are missing.
+    fn open_files(
+        self,
+        rt: &HostRuntime,
+        path: &str,
+    ) -> Result<Connection<FileStore<Self::Disk>>, Error>
+        ensures autocommit { IfOk result (λ c. c.in_transaction ≡ false) }
+        ensures found { IfOk result (λ c. HasCleanDisk (file_state c) → (s : State) → HoldsState image s → Rests (file_state c) s) };
+}
+
+/// Files of the operating system. `start` stands for what they hold as they are opened, which no code can read.
+#[derive(Drop)]
+pub struct Starting<S> {
+    /// What they hold.
+    pub start: S,
+}
+
+impl<S: Start + Drop> OpenFiles for Starting<S> {
+    type Disk = FileFrom<S>;
+
+    ghost image = { image_at S.Start };
+
+    fn open_files(
+        self,
+        rt: &HostRuntime,
+        path: &str,
+    ) -> Result<Connection<FileStore<FileFrom<S>>>, Error> {
+        open_at(rt, path, self.start)
+    }
+}

@@ -1,0 +1,3 @@
+pub mod FileContents
+pub mod Stores
+pub mod Serving

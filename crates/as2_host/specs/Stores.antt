@@ -1,0 +1,33 @@
+-- What the opening of a store comes to.
+use Rattle.std.specs.Prelude.{◌≡◌, ℕ, Result, Ok, Err, IsTrue, true, ⊤}
+use Rattle.as2_exchange.specs.State.{State, empty}
+use Rattle.as2_exchange.specs.declared.fault.StoreFault.{StoreFault}
+use Rattle.as2_exchange.specs.declared.fault.StoreFault.TheVariants.{Refused}
+use Rattle.as2_records.specs.Standing.{Medium, Standing, may_come}
+use Rattle.as2_host.specs.declared.stores.OpenFault.{OpenFault}
+use Rattle.as2_host.specs.declared.stores.OpenFault.TheVariants as open_fault
+
+-- the fault of a store that it is: a file that another process has open can't be had
+abbrev pub fault_in : OpenFault → StoreFault
+fault_in open_fault.Held = Refused
+fault_in (open_fault.Store fault) = fault
+
+-- how many stores were opened by that
+abbrev pub opens_of : {A E : Type 0} → Result A E → ℕ
+opens_of (Ok records) = 1
+opens_of (Err fault) = 0
+
+module _ {A : Type 0} {M : Medium} (shows : A → Standing M) where
+  -- whatever happens to them, records return what was written
+  abbrev pub IsFaithful : Type 0
+  IsFaithful = (records : A) → (shows records).IsClean
+
+  -- records were opened: on a medium that has returned what was written, they are open, and stand for what was kept
+  abbrev pub Finds : (State → Type 0) → Result A OpenFault → Type 0
+  Finds Keeps (Ok records) = (shows records).IsClean → IsTrue (shows records).is_open × ((s : State) → Keeps s → (shows records).Rests s)
+  Finds Keeps (Err fault) = ⊤
+
+  -- new records were opened, without entries and with this first number; or a fault came that may come of any call
+  abbrev pub BeginsNew : ℕ → Result A OpenFault → Type 0
+  BeginsNew first (Ok records) = IsFaithful × IsTrue (shows records).is_open × (shows records).Rests (empty first)
+  BeginsNew first (Err fault) = may_come (fault_in fault) ≡ true

@@ -1,0 +1,10 @@
+//! What a command line asks of its host: files, stores of records, and a network.
+#![tactic(auto)]
+
+mod files;
+mod network;
+mod stores;
+
+pub use files::{FileFault, ReadFiles};
+pub use network::{CannotListen, Listens, Network};
+pub use stores::{OpenFault, OpenStores};

@@ -1,0 +1,56 @@
+//! Stores of records, opened and closed by a path.
+ghost use Rattle.std.specs.Prelude.{◌≡◌, ◌+◌, ℕ, List};
+ghost use Rattle.as2_exchange.specs.State.{State};
+ghost use Rattle.as2_host.specs.Stores.{BeginsNew, Finds, opens_of};
+
+use as2_commands::FirstNumber;
+use as2_exchange::StoreFault;
+use as2_records::Records;
+use std::alloc::Global;
+
+/// Why no store is open.
+#[derive(Clone, Copy, Debug, PartialEq, Eq)]
+pub enum OpenFault {
+    /// Another process has the file open.
+    Held,
+    /// The store has this fault.
+    Store(StoreFault),
+}
+
+/// Stores of records that are opened by a path.
+pub trait OpenStores {
+    /// The records of a path.
+    type Opened: Records + Drop;
+
+    /// Records that no path has. They end with the program.
+    type InMemory: Records + Drop;
+
+    // what is kept under that path stands for that state
+    ghost keeps: { Self → List ℕ → State → Type 0 };
+
+    // so far all that was read is what had been written
+    ghost is_clean: { Self → Type 0 };
+
+    // how many stores were opened
+    ghost opens: { Self → ℕ };
+
+    /// Opens the records that are kept under that path. Where nothing stands there, records are made, which begin with `first`.
+    fn open(
+        &mut self,
+        alloc: Global,
+        path: &str,
+        first: FirstNumber,
+    ) -> Result<Self::Opened, OpenFault>
+        ensures found { Finds Self.Opened.shows (keeps self.old path.now) result }
+        ensures counted { opens self.new ≡ opens self.old + opens_of result };
+
+    /// Opens new records in memory, which begin with `first`.
+    fn open_in_memory(&self, alloc: Global, first: FirstNumber) -> Result<Self::InMemory, OpenFault>
+        ensures { BeginsNew Self.InMemory.shows first result };
+
+    /// Closes records, which are kept under that path from then on.
+    fn close(&mut self, path: &str, records: Self::Opened)
+        ensures clean { is_clean self.new → (Self.Opened.shows records).IsClean }
+        ensures kept { is_clean self.new → (s : State) → (Self.Opened.shows records).Rests s → keeps self.new path.now s }
+        ensures counted { opens self.new ≡ opens self.old };
+}

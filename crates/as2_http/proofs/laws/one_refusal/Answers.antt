@@ -1,5 +1,0 @@
-use Rattle.as2_http.proofs.Alone.{refuses_in_one_way}
-use Rattle.as2_http.proofs.laws.one_refusal.Goals as goal
-
-pub returns : goal.returns
-returns c = refuses_in_one_way

@@ -1,5 +1,0 @@
-use Rattle.as2_http.proofs.Alone.{begins_with_one}
-use Rattle.as2_http.proofs.laws.one_request.Goals as goal
-
-pub returns : goal.returns
-returns c = begins_with_one

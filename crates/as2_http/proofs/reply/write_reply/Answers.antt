@@ -1,5 +1,0 @@
-use Rattle.std.proofs.Common.{rules}
-use Rattle.as2_http.proofs.reply.write_reply.Goals as goal
-
-pub returns : goal.returns
-returns c = (c.date_of.result, c.date_of.ensures, search rules)

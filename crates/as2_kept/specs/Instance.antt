@@ -1,0 +1,32 @@
+-- The records of a connection, as a station takes them.
+use Rattle.std.proofs.Common.{◌≡◌, ◌∙◌, IsTrue, ap, sym, subst}
+use Rattle.sqlite_trees.specs.Tree.{Trees}
+use Rattle.sqlite.specs.Effect.{Database}
+use Rattle.sqlite.specs.State.{State as Connected, HasCleanDisk}
+use Rattle.as2_exchange.specs.State.{State}
+use Rattle.as2_store.specs.Stands.{Rests}
+use Rattle.as2_store.specs.Calls.{Keeps}
+use Rattle.as2_store.proofs.Committing.{keeps_of}
+use Rattle.as2_records.specs.Standing.{Medium, Standing}
+use Rattle.as2_records.specs.Calls.{Lasts}
+
+-- they lie in tables; a stop leaves trees
+abbrev pub tables : Medium
+tables = record { Left = Trees; keeps = Keeps; keeps_counted = λ left s it. record { receipts = it.receipts; documents = it.documents } }
+
+-- a connection, as records
+abbrev pub standing : Connected → Standing tables
+standing c = record {
+  IsClean = HasCleanDisk c;
+  is_open = c.is_open;
+  IsShielded = c.IsShielded;
+  Rests = Rests c;
+  may_leave = c.may_leave;
+  counted = λ opened s rests. record { receipts = (rests.stands opened).receipts; documents = (rests.stands opened).documents };
+}
+
+-- what they stand for lasts, since over an open connection a stop leaves what is committed
+pub lasting : (c : Connected) → ((db : Trees) → IsTrue c.is_open → c.may_leave db → db ≡ c.committed.trees) → IsTrue c.is_open → (s : State) → Rests c s → Lasts {M = tables} (standing c) s
+lasting c settled opened s rests = record {
+  each = λ db may. subst (λ (t : Trees). Keeps t s) (sym (settled db opened may ∙ ap (λ (d : Database). d.trees) (rests.committed opened))) (keeps_of c.now s (rests.stands opened));
+}

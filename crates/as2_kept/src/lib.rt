@@ -1,0 +1,162 @@
+//! The records in SQLite, as a station takes them.
+#![tactic(auto)]
+
+mod opening;
+
+ghost use Rattle.std.specs.Prelude.{◌≡◌};
+
+use as2_exchange::{Evidence, InEntry, OutEntry, StoreFault};
+use as2_mdn::{Detail, State};
+use as2_records::{Counts, InRow, MdnProgress, NextNumbers, OutRow, Progress, Records};
+use as2_store::Store;
+use as2_text::{AsName, Moment};
+pub use opening::{adopt, create, in_memory};
+use sqlite::{Alter, Connection};
+use std::alloc::Global;
+use std::marker::Model;
+
+/// Records over a connection.
+#[derive(Drop)]
+pub struct Kept<S: Alter> {
+    store: Store<S>,
+}
+
+impl<S: Alter> Model for Kept<S> {
+    ghost use Rattle.sqlite.specs.Held.{Held, held_code};
+
+    ghost Value = { Held S };
+
+    ghost coded = { held_code S.code };
+
+    ghost view = { λ s. s.store };
+}
+
+impl<S: Alter> Kept<S> {
+    /// The records of this store.
+    pub fn new(store: Store<S>) -> Kept<S>
+        ensures { result ≡ store }
+    {
+        Kept { store }
+    }
+
+    /// Gives the records back as the connection that they are in.
+    pub fn into_connection(self) -> Connection<S>
+        ensures { result ≡ self }
+    {
+        self.into_store().into_connection()
+    }
+
+    /// Gives the store back.
+    pub fn into_store(self) -> Store<S>
+        ensures { result ≡ self }
+    {
+        let Kept { store } = self;
+        store
+    }
+}
+
+impl<S: Alter> Records for Kept<S> {
+    ghost use Rattle.sqlite.specs.Held.{state};
+    ghost use Rattle.as2_kept.specs.Instance.{lasting, standing, tables};
+
+    ghost medium = { tables };
+
+    ghost shows = { λ c. standing (state S.Store c) };
+
+    fn next_numbers(&mut self) -> Result<NextNumbers, StoreFault> {
+        self.store.next_numbers()
+    }
+
+    fn add_in(&mut self, entry: &InEntry) -> Result<(), StoreFault> {
+        self.store.add_in(entry)
+    }
+
+    fn add_out(&mut self, entry: &OutEntry) -> Result<(), StoreFault> {
+        self.store.add_out(entry)
+    }
+
+    fn requeue_mdn(&mut self, number: u64, moment: Moment) -> Result<(), StoreFault> {
+        self.store.requeue_mdn(number, moment)
+    }
+
+    fn set_mdn(&mut self, number: u64, progress: MdnProgress) -> Result<(), StoreFault> {
+        self.store.set_mdn(number, progress)
+    }
+
+    fn expire(&mut self, moment: Moment) -> Result<u64, StoreFault> {
+        self.store.expire(moment)
+    }
+
+    fn set_out(&mut self, number: u64, progress: Progress) -> Result<(), StoreFault> {
+        self.store.set_out(number, progress)
+    }
+
+    fn settle(
+        &mut self,
+        number: u64,
+        detail: Detail,
+        evidence: &Evidence,
+    ) -> Result<(), StoreFault> {
+        self.store.settle(number, detail, evidence)
+    }
+
+    fn find_in(
+        &mut self,
+        alloc: Global,
+        sender: &AsName,
+        receiver: &AsName,
+        id_value: &str,
+    ) -> Result<Option<InEntry>, StoreFault> {
+        self.store.find_in(alloc, sender, receiver, id_value)
+    }
+
+    fn find_in_number(
+        &mut self,
+        alloc: Global,
+        number: u64,
+    ) -> Result<Option<InEntry>, StoreFault> {
+        self.store.find_in_number(alloc, number)
+    }
+
+    fn find_out(&mut self, alloc: Global, number: u64) -> Result<Option<OutEntry>, StoreFault> {
+        self.store.find_out(alloc, number)
+    }
+
+    fn find_out_by_id(
+        &mut self,
+        alloc: Global,
+        id_value: &[u8],
+    ) -> Result<Option<OutEntry>, StoreFault> {
+        self.store.find_out_by_id(alloc, id_value)
+    }
+
+    fn due_out(&mut self, moment: Moment) -> Result<Option<u64>, StoreFault> {
+        self.store.due_out(moment)
+    }
+
+    fn due_mdn(&mut self, moment: Moment) -> Result<Option<u64>, StoreFault> {
+        self.store.due_mdn(moment)
+    }
+
+    fn list_out(
+        &mut self,
+        alloc: Global,
+        wanted: Option<State>,
+    ) -> Result<Vec<OutRow>, StoreFault> {
+        self.store.list_out(alloc, wanted)
+    }
+
+    fn list_in(&mut self, alloc: Global) -> Result<Vec<InRow>, StoreFault> {
+        self.store.list_in(alloc)
+    }
+
+    fn settled(&mut self, alloc: Global) -> Result<Vec<u64>, StoreFault> {
+        self.store.settled(alloc)
+    }
+
+    fn counts(&mut self, alloc: Global) -> Result<Counts, StoreFault> {
+        self.store.counts(alloc)
+    }
+
+    ghost rests_last = { λ c opened s rests. lasting _ (λ db opened may. S.Store.settled c.store db opened may) opened s rests };
+}

@@ -1,0 +1,38 @@
+-- What calls that succeed say of lists.
+use Rattle.std.proofs.Common.{◌≡◌, Some, Option, Ok, refl, sym, subst}
+use Rattle.as2_exchange.specs.State.{State}
+use Rattle.as2_records.specs.Standing.{IsCounted}
+use Rattle.as2_records.specs.Calls.{Reads, Writes}
+use Rattle.as2_lists.specs.Standing.{memory, standing}
+
+pub reads_ok : {A E : Type 0} (fits : State → A → Type 0) (s : State) (a : A) → (IsCounted s → fits s a) → Reads {M = memory} {A = A} {E = E} fits (standing s) (standing s) (Ok a)
+reads_ok fits s a fit = record {
+  clean = λ clean. clean;
+  was_open = λ clean. refl;
+  is_open = λ clean. refl;
+  answer = λ clean t rests. subst (λ u. fits u a) (sym rests.same) (fit (subst IsCounted rests.same rests.counted));
+  same = λ clean t rests. rests;
+  crash = record { shield = λ is. is; crash = λ clean left may. absurd may };
+}
+
+-- what a state is taken to, and that this is counted
+pub record Takes (next : State → Option State) (s t : State) : Type 0 where
+  pub is : next s ≡ Some t
+  pub counted : IsCounted t
+
+pub writes_ok : {A E : Type 0} (next : State → Option State) (s t : State) (a : A) → (IsCounted s → Takes next s t) → Writes {M = memory} {A = A} {E = E} next (standing s) (standing t) (Ok a)
+writes_ok next s t a takes = record {
+  clean = λ clean. clean;
+  was_open = λ clean. refl;
+  is_open = λ clean. refl;
+  done = λ clean u rests.
+      let it : Takes next s t = takes (subst IsCounted rests.same rests.counted) in
+      record {
+        state = t;
+        is = subst (λ v. next v ≡ Some t) (sym rests.same) it.is;
+        rests = record { same = λ i. t; counted = it.counted };
+        lasts = record { each = λ left may. absurd may };
+      };
+  failed = λ clean. tt;
+  crash = record { shield = λ is. is; crash = λ clean left may. absurd may };
+}

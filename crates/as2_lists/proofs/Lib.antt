@@ -1,0 +1,7 @@
+pub mod Calls
+pub mod Changed
+pub mod Copied
+pub mod Counted
+pub mod Leasts
+pub mod Passing
+pub mod Writing

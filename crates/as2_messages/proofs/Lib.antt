@@ -1,0 +1,9 @@
+pub mod Judging
+pub mod Framed
+pub mod Parsing
+pub mod Alone
+pub mod Dated
+pub mod Phrases
+pub mod AnswerHeads
+pub mod Answered
+pub mod OneAnswer

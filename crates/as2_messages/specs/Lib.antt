@@ -1,0 +1,9 @@
+pub mod Framing
+pub mod Requests
+pub mod Laws
+pub mod Parsing
+pub mod Reading
+pub mod Replies
+pub mod Answering
+pub mod AnswerPieces
+pub mod AnswerLaws

@@ -1,0 +1,12 @@
+pub mod Standing
+pub mod Calls
+pub mod Adding
+pub mod Counting
+pub mod Summaries
+pub mod Expiring
+pub mod Finding
+pub mod Listing
+pub mod Owing
+pub mod Progressing
+pub mod Requeuing
+pub mod Settling

@@ -1,0 +1,159 @@
+//! What a station asks of its records.
+
+ghost use Rattle.std.specs.Prelude.{◌≡◌, ◌⊎◌, ◌≤◌, map, None, true, Err, IfOk, IfErr, IsTrue};
+ghost use Rattle.as2_exchange.specs.State.{State as Kept, document, document_named, end_of_numbers, received};
+ghost use Rattle.as2_exchange.specs.Views.{due_documents, due_receipts, least};
+ghost use Rattle.as2_exchange.specs.declared.fault.StoreFault.TheVariants.{Full};
+ghost use Rattle.as2_records.specs.Summaries.{in_summary};
+ghost use Rattle.as2_records.specs.Counting.{counts_of};
+ghost use Rattle.as2_records.specs.Adding.{added, added_document};
+ghost use Rattle.as2_records.specs.Calls.{Lasts, Reads, Writes};
+ghost use Rattle.as2_records.specs.Expiring.{AreTicked, ticked_in};
+ghost use Rattle.as2_records.specs.Finding.{AreNext, IsPostedAs};
+ghost use Rattle.as2_records.specs.Listing.{listed, settled_numbers};
+ghost use Rattle.as2_records.specs.Owing.{set_mdn_in};
+ghost use Rattle.as2_records.specs.Progressing.{set_in};
+ghost use Rattle.as2_records.specs.Requeuing.{requeued_in};
+ghost use Rattle.as2_records.specs.Settling.{settled_in};
+ghost use Rattle.as2_records.specs.Standing.{Medium, Standing, may_come};
+
+use crate::counts::Counts;
+use crate::numbers::NextNumbers;
+use crate::progress::{MdnProgress, Progress};
+use crate::summaries::{InRow, OutRow};
+use as2_exchange::{Evidence, InEntry, OutEntry, StoreFault};
+use as2_mdn::{Detail, State};
+use as2_text::{AsName, Moment};
+use std::alloc::Global;
+
+/// The records of a station.
+pub trait Records {
+    // What they lie on.
+    ghost medium: { Medium };
+
+    // What they show.
+    ghost shows: { Self → Standing medium };
+
+    /// The numbers that the next entries get.
+    fn next_numbers(&mut self) -> Result<NextNumbers, StoreFault>
+        ensures numbers { Reads (λ s next. AreNext next s) (shows self.old) (shows self.new) result }
+        ensures fault { IfErr result (λ f. may_come f ≡ true) };
+
+    /// Adds an entry to the inbox under the next number of a receipt, as `next_numbers` gives it. Answers Full exactly where the
+    /// number is past 999,999,999,999; Refused where it isn't the next; Memory, Disk or Refused. A fault leaves the state.
+    fn add_in(&mut self, entry: &InEntry) -> Result<(), StoreFault>
+        ensures added { Writes (added entry.now) (shows self.old) (shows self.new) result }
+        ensures full { IfErr result (λ f. f ≡ Full → end_of_numbers ≤ entry.now.number) }
+        ensures full_alone { end_of_numbers ≤ entry.now.number → result ≡ Err Full }
+        ensures fault { IfErr result (λ f. (f ≡ Full) ⊎ (may_come f ≡ true)) };
+
+    /// Adds a document that no receipt has settled to the outbox under the next number of a document, as `next_numbers` gives it.
+    /// Answers Full exactly where the number is past 999,999,999,999; Refused where it isn't the next, or another document has
+    /// an identifier of its value; Memory, Disk or Refused. A fault leaves the state.
+    fn add_out(&mut self, entry: &OutEntry) -> Result<(), StoreFault>
+        requires unsettled { entry.now.evidence ≡ None }
+        ensures added { Writes (added_document entry.now) (shows self.old) (shows self.new) result }
+        ensures full { IfErr result (λ f. f ≡ Full → end_of_numbers ≤ entry.now.number) }
+        ensures full_alone { end_of_numbers ≤ entry.now.number → result ≡ Err Full }
+        ensures fault { IfErr result (λ f. (f ≡ Full) ⊎ (may_come f ≡ true)) };
+
+    /// Sets the receipt of the entry of the inbox of this number, if there is one, to be sent from this moment on, with all
+    /// tries left. Answers Memory, Disk or Refused, and then the state stays.
+    fn requeue_mdn(&mut self, number: u64, moment: Moment) -> Result<(), StoreFault>
+        ensures requeued { Writes (requeued_in number moment) (shows self.old) (shows self.new) result }
+        ensures fault { IfErr result (λ f. may_come f ≡ true) };
+
+    /// Sets how far the receipt of the entry of the inbox of this number, if there is one, has come. Answers Memory, Disk or
+    /// Refused, and then the state stays.
+    fn set_mdn(&mut self, number: u64, progress: MdnProgress) -> Result<(), StoreFault>
+        ensures set { Writes (set_mdn_in number progress) (shows self.old) (shows self.new) result }
+        ensures fault { IfErr result (λ f. may_come f ≡ true) };
+
+    /// Time passes: each document whose receipt is overdue at this moment passes into `Overdue`, and each whose last try is into
+    /// `TriesUsed`. Answers how many there are; Memory, Disk or Refused, and then the state stays.
+    fn expire(&mut self, moment: Moment) -> Result<u64, StoreFault>
+        ensures passed { Writes (ticked_in moment) (shows self.old) (shows self.new) result }
+        ensures counted { (shows self.new).IsClean → IfOk result (AreTicked moment (shows self.old)) }
+        ensures fault { IfErr result (λ f. may_come f ≡ true) };
+
+    /// Sets how far the document of this number has come. Answers Refused where no document has the number; Memory, Disk or
+    /// Refused; and then the state stays.
+    fn set_out(&mut self, number: u64, progress: Progress) -> Result<(), StoreFault>
+        ensures set { Writes (set_in number progress) (shows self.old) (shows self.new) result }
+        ensures fault { IfErr result (λ f. may_come f ≡ true) };
+
+    /// Settles the document of this number by a receipt: it gets this detail and this evidence, no try of it is open, and
+    /// nothing of it waits any more. Answers Refused where no document has the number, where a receipt has settled it, and where
+    /// no receipt gives the detail; Memory, Disk or Refused; and then the state stays.
+    fn settle(&mut self, number: u64, detail: Detail, evidence: &Evidence) -> Result<(), StoreFault>
+        ensures settled { Writes (settled_in number detail evidence.now) (shows self.old) (shows self.new) result }
+        ensures fault { IfErr result (λ f. may_come f ≡ true) };
+
+    /// The entry of the inbox that this sender posted to this receiver under an identifier of this value, if there is one.
+    fn find_in(
+        &mut self,
+        alloc: Global,
+        sender: &AsName,
+        receiver: &AsName,
+        id_value: &str,
+    ) -> Result<Option<InEntry>, StoreFault>
+        ensures found { Reads (IsPostedAs sender.now receiver.now id_value.now) (shows self.old) (shows self.new) result }
+        ensures fault { IfErr result (λ f. may_come f ≡ true) };
+
+    /// The entry of the inbox of this number, if there is one.
+    fn find_in_number(&mut self, alloc: Global, number: u64) -> Result<Option<InEntry>, StoreFault>
+        ensures found { Reads (λ s found. found ≡ received s number) (shows self.old) (shows self.new) result }
+        ensures fault { IfErr result (λ f. may_come f ≡ true) };
+
+    /// The document of this number, if there is one, with its content and its evidence. Answers Memory, Disk or Refused.
+    fn find_out(&mut self, alloc: Global, number: u64) -> Result<Option<OutEntry>, StoreFault>
+        ensures found { Reads (λ s found. found ≡ document s number) (shows self.old) (shows self.new) result }
+        ensures fault { IfErr result (λ f. may_come f ≡ true) };
+
+    /// The document of the outbox with an identifier of this value, if there is one, with its content and its evidence.
+    /// Answers Memory, Disk or Refused.
+    fn find_out_by_id(
+        &mut self,
+        alloc: Global,
+        id_value: &[u8],
+    ) -> Result<Option<OutEntry>, StoreFault>
+        ensures found { Reads (λ s found. found ≡ document_named s id_value.now) (shows self.old) (shows self.new) result }
+        ensures fault { IfErr result (λ f. may_come f ≡ true) };
+
+    /// The least number of the documents of which a try may begin at this moment, if there is one. Answers Memory, Disk or
+    /// Refused.
+    fn due_out(&mut self, moment: Moment) -> Result<Option<u64>, StoreFault>
+        ensures due { Reads (λ s number. number ≡ least (due_documents s moment)) (shows self.old) (shows self.new) result }
+        ensures fault { IfErr result (λ f. may_come f ≡ true) };
+
+    /// The least number of the receipts of which a try may begin at this moment, if there is one. Answers Memory, Disk or
+    /// Refused.
+    fn due_mdn(&mut self, moment: Moment) -> Result<Option<u64>, StoreFault>
+        ensures due { Reads (λ s number. number ≡ least (due_receipts s moment)) (shows self.old) (shows self.new) result }
+        ensures fault { IfErr result (λ f. may_come f ≡ true) };
+
+    /// The documents of that state, or all, in order of number, each with the length of its content in place of the content,
+    /// and without its evidence. Answers Memory, Disk or Refused.
+    fn list_out(&mut self, alloc: Global, wanted: Option<State>) -> Result<Vec<OutRow>, StoreFault>
+        ensures documents { Reads (λ s documents. documents.items ≡ listed wanted s) (shows self.old) (shows self.new) result }
+        ensures fault { IfErr result (λ f. may_come f ≡ true) };
+
+    /// The entries of the inbox in order of number, each with the length of its content in place of the content. Answers
+    /// Memory, Disk or Refused.
+    fn list_in(&mut self, alloc: Global) -> Result<Vec<InRow>, StoreFault>
+        ensures entries { Reads (λ s entries. entries.items ≡ map in_summary s.inbox) (shows self.old) (shows self.new) result }
+        ensures fault { IfErr result (λ f. may_come f ≡ true) };
+
+    /// The numbers of the documents that a receipt has settled, in order. Answers Memory, Disk or Refused.
+    fn settled(&mut self, alloc: Global) -> Result<Vec<u64>, StoreFault>
+        ensures numbers { Reads (λ s numbers. numbers.items ≡ settled_numbers s) (shows self.old) (shows self.new) result }
+        ensures fault { IfErr result (λ f. may_come f ≡ true) };
+
+    /// How much is outstanding. Answers Memory, Disk or Refused.
+    fn counts(&mut self, alloc: Global) -> Result<Counts, StoreFault>
+        ensures counts { Reads (λ s counts. counts ≡ counts_of s) (shows self.old) (shows self.new) result }
+        ensures fault { IfErr result (λ f. may_come f ≡ true) };
+
+    // What open records stand for lasts, whatever stops the computer.
+    ghost rests_last: { (c : Self) → IsTrue (shows c).is_open → (s : Kept) → (shows c).Rests s → Lasts (shows c) s };
+}

@@ -1,0 +1,17 @@
+-- What is kept of the stores of a script.
+use Rattle.std.specs.Prelude.{ℕ, Bool, true, false, Option, Some, None}
+use Rattle.sqlite.specs.Held.{Held, state}
+use Rattle.sqlite_trees.specs.declared.memory.MemStore.{MemStore}
+use Rattle.sqlite.specs.Steps.{over_memory}
+use Rattle.as2_exchange.specs.State.{State}
+use Rattle.as2_store.specs.Stands.{Rests}
+
+-- the tables of the store that is kept stand for that state
+abbrev pub Keeps : Option (Held MemStore) → State → Type 0
+Keeps None s = ⊥
+Keeps (Some c) s = Rests (state over_memory c) s
+
+-- how many stores were opened
+abbrev pub opens_by : Bool → ℕ
+opens_by true = 1
+opens_by false = 0

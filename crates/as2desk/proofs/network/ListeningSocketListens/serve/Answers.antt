@@ -1,8 +1,0 @@
-use Rattle.as2desk.proofs.Untouched.{serves_none}
-use Rattle.as2desk.proofs.network.ListeningSocketListens.serve.Goals as goal
-
-pub returns-in_default-clause-serves : goal.returns-in_default-clause-serves
-returns-in_default-clause-serves g c = λ clean s rests. (s, rests, serves_none c.args.agreements.now c.args.moment s)
-
-pub returns-in-None-and_then-clause-serves : goal.returns-in-None-and_then-clause-serves
-returns-in-None-and_then-clause-serves g c = λ clean s rests. (s, rests, serves_none c.args.agreements.now c.args.moment s)
