@@ -1,3 +1,4 @@
 pub mod Lines
 pub mod Hints
+pub mod Exchanges
 pub mod Turns

@@ -21,6 +21,7 @@ use Rattle.as2_exchange.specs.declared.next.Next.{Next}
 use Rattle.as2_exchange.specs.declared.next.Next.TheVariants.{Receipt, Document}
 use Rattle.as2_records.specs.Standing.{may_come}
 use Rattle.as2_station.specs.Theorem.{EndsByHistory}
+use Rattle.as2_sending.specs.Exchanges.{Exchange, exchanges}
 use Rattle.as2_sending.specs.Hints.{hint_if, why_of}
 use Rattle.as2_sending.specs.Lines.{answer_of, line, lines}
 use Rattle.as2_sending.specs.declared.links.LinkFault.{LinkFault}
@@ -49,6 +50,10 @@ pub record Turn : Type 0 where
   pub got : TryAnswer
   pub fault : LinkFault
   pub became : Became
+
+-- what went over the link
+abbrev pub exchanged_by : Turn → Exchange
+exchanged_by x = record { job = x.job; got = x.got }
 
 -- why it failed, where it did
 abbrev pub hint_of : Turn → Text
@@ -112,8 +117,9 @@ Ends A m s last t text sent.Unwritten = IsUntold A m s last t text
 -- ---- all of it
 
 -- Turns were taken one after the other, and then sending ended so. The events are a run of the machine, what stands of each document
--- then is its history, what was written is the lines of the turns, and what was hinted (Hinted) why each failed that did.
-pub record Sends (A : Agreements) (m : ℕ) (s t : State) (before after : Option (List ℕ)) (Hinted : Text → Type 0) (end : Sent) : Type 0 where
+-- then is its history, and what was written is the lines of the turns. What was hinted, and what went over the links (Seen), is why
+-- each turn failed that did, and the jobs that were handed out, each with the outcome that was taken; of the last events too.
+pub record Sends (A : Agreements) (m : ℕ) (s t : State) (before after : Option (List ℕ)) (Seen : Text → List Exchange → Type 0) (end : Sent) : Type 0 where
   pub done : List Turn
   pub mid : State
   pub all : TakesAll A m s done mid
@@ -123,7 +129,7 @@ pub record Sends (A : Agreements) (m : ℕ) (s t : State) (before after : Option
   pub run : Run A s (events m done ++ last) t
   pub by_history : EndsByHistory A s (events m done ++ last) t
   pub written : Appends before after (lines (events m done) ++ rest)
-  pub hinted : Hinted (hints done)
+  pub seen : Seen (hints done) (exchanges (events m done ++ last))
 
 -- ---- one turn
 
@@ -142,17 +148,17 @@ came AlreadySettled = Ok became.AlreadySettled
 came (Refused reason) = Err (sent.Refused reason)
 came other = Err (sent.Failed fault.Refused)
 
--- what is next begins, and the records rest on the state that it leaves; or sending ends with it
+-- what is next begins, and the records rest on the state that it leaves; or sending ends with it, and nothing goes over a link
 abbrev pub BeginsTo : {M : Medium} → Agreements → ℕ → State → Next → Standing M → Result Job Sent → Type 0
 BeginsTo A m s what c (Ok job) = (mid : State) × Begins A m s what job mid × c.Rests mid
-BeginsTo A m s what c (Err end) = (last : Trace) × (t : State) × Ends A m s last t [] end × c.Rests t
+BeginsTo A m s what c (Err end) = (last : Trace) × (t : State) × Ends A m s last t [] end × c.Rests t × (exchanges last ≡ [])
 
 -- the outcome of what has begun is taken, which leaves mid behind; or sending ends with it
-abbrev pub ClosesTo : {M : Medium} → Agreements → ℕ → State → Next → TryAnswer → State → Standing M → Result Became Sent → Type 0
-ClosesTo A m s what got mid c (Ok became) = (t : State) × (step A mid (outcome_of what got m) ≡ Some (answer_of became, t)) × c.Rests t
-ClosesTo A m s what got mid c (Err end) = (last : Trace) × (t : State) × Ends A m s last t [] end × c.Rests t
+abbrev pub ClosesTo : {M : Medium} → Agreements → ℕ → State → Next → Exchange → State → Standing M → Result Became Sent → Type 0
+ClosesTo A m s what x mid c (Ok became) = (t : State) × (step A mid (outcome_of what x.got m) ≡ Some (answer_of became, t)) × c.Rests t
+ClosesTo A m s what x mid c (Err end) = (last : Trace) × (t : State) × Ends A m s last t [] end × c.Rests t × (exchanges last ≡ x ∷ [])
 
--- a turn is taken whole, with its line and its hint; or sending ends with it, and nothing is hinted
-abbrev pub TurnsTo : {M : Medium} {U : Type 0} → Agreements → ℕ → State → Standing M → Option (List ℕ) → Option (List ℕ) → (Text → Type 0) → Result U Sent → Type 0
-TurnsTo A m s c before after Hinted (Ok done) = (x : Turn) × (t : State) × Takes A m s x t × c.Rests t × Appends before after (line x.what x.became) × Hinted (hint_of x)
-TurnsTo A m s c before after Hinted (Err end) = (last : Trace) × (t : State) × (text : Text) × Ends A m s last t text end × c.Rests t × Appends before after text × Hinted []
+-- a turn is taken whole, with its line, its hint and its exchange; or sending ends with it, and nothing is hinted
+abbrev pub TurnsTo : {M : Medium} {U : Type 0} → Agreements → ℕ → State → Standing M → Option (List ℕ) → Option (List ℕ) → (Text → List Exchange → Type 0) → Result U Sent → Type 0
+TurnsTo A m s c before after Seen (Ok done) = (x : Turn) × (t : State) × Takes A m s x t × c.Rests t × Appends before after (line x.what x.became) × Seen (hint_of x) (exchanged_by x ∷ [])
+TurnsTo A m s c before after Seen (Err end) = (last : Trace) × (t : State) × (text : Text) × Ends A m s last t text end × c.Rests t × Appends before after text × Seen [] (exchanges last)

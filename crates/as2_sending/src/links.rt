@@ -1,4 +1,7 @@
 //! Links to partners.
+ghost use Rattle.as2_exchange.specs.declared.answer.Job.{Job as TheJob};
+ghost use Rattle.as2_exchange.specs.declared.event.TryAnswer.{TryAnswer as TheAnswer};
+
 use as2_exchange::{Job, TryAnswer};
 use std::alloc::Global;
 
@@ -23,9 +26,13 @@ pub enum LinkFault {
 
 /// What opens links to partners.
 pub trait Links {
+    // links answer so to a job, and are as those then
+    ghost answers: { Self → TheJob → TheAnswer → Self → Type 0 };
+
     /// Opens a link to the authority of the job, sends the job's request over it, and gives what was answered. Whatever goes
     /// wrong is no answer.
-    fn exchange(&mut self, alloc: Global, job: &Job) -> TryAnswer;
+    fn exchange(&mut self, alloc: Global, job: &Job) -> TryAnswer
+        ensures { answers self.old job.now result self.new };
 
     /// Why the last exchange brought no answer, where it brought none.
     fn fault(&self) -> LinkFault;

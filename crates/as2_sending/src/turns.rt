@@ -4,6 +4,7 @@ ghost use Rattle.std.specs.Io.KnownBytes.{Appends};
 ghost use Rattle.as2_exchange.specs.declared.answer.Job.{Job as HandedJob};
 ghost use Rattle.as2_exchange.specs.State.{State};
 ghost use Rattle.as2_exchange.specs.Views.{next};
+ghost use Rattle.as2_sending.specs.Exchanges.{Exchanges};
 ghost use Rattle.as2_sending.specs.Turns.{Begins, BeginsTo, ClosesTo, TurnsTo, begin_of, came, handed, outcome_of};
 
 use crate::hints::{is_hinted, why_of};
@@ -103,7 +104,7 @@ fn close<K: Records>(
 ) -> Result<Became, Sent>
     ensures clean { (K.shows station.new).IsClean → (K.shows station.old).IsClean }
     ensures closed { (K.shows station.new).IsClean → (s mid : State) (job : HandedJob) → Begins agreements.now moment s what job mid → (K.shows station.old).Rests mid
-        → ClosesTo agreements.now moment s what got mid (K.shows station.new) result }
+        → ClosesTo agreements.now moment s what (record { job = job; got = got }) mid (K.shows station.new) result }
 {
     match station.step(alloc, agreements, outcome_event(what, got, moment)) {
         Ok(answer) => came(answer),
@@ -126,7 +127,7 @@ fn turn<K: Records, L: Links, W: Sink, E: Write>(
     ensures clean { (K.shows station.new).IsClean → (K.shows station.old).IsClean }
     ensures turned { (K.shows station.new).IsClean → (s : State) → (K.shows station.old).Rests s → next s moment ≡ Some what
         → TurnsTo agreements.now moment s (K.shows station.new) (W.written output.old) (W.written output.new)
-        (λ text. IfOk result (λ told. told ≡ true) → Appends (E.contents hints.old) (E.contents hints.new) text) result }
+        (λ text made. (IfOk result (λ told. told ≡ true) → Appends (E.contents hints.old) (E.contents hints.new) text) × Exchanges L.answers links.old made links.new) result }
 {
     let job = begin(alloc, agreements, moment, station, what)?;
     let got = links.exchange(alloc, &job);
@@ -152,7 +153,7 @@ pub(crate) fn take_turn<K: Records, L: Links, W: Sink, E: Write>(
     ensures clean { (K.shows station.new).IsClean → (K.shows station.old).IsClean }
     ensures turned { (K.shows station.new).IsClean → (s : State) → (K.shows station.old).Rests s
         → TurnsTo agreements.now moment s (K.shows station.new) (W.written output.old) (W.written output.new)
-        (λ text. IfOk result (λ told. told ≡ true) → Appends (E.contents hints.old) (E.contents hints.new) text) result }
+        (λ text made. (IfOk result (λ told. told ≡ true) → Appends (E.contents hints.old) (E.contents hints.new) text) × Exchanges L.answers links.old made links.new) result }
 {
     match station.next(moment) {
         Ok(Some(what)) => turn(

@@ -3,6 +3,7 @@ use Rattle.std.proofs.KnownBytes.{Appends-nil}
 use Rattle.std.specs.Bool.{⊤}
 use Rattle.std.specs.Io.KnownBytes.{Appends}
 use Rattle.as2_exchange.specs.declared.fault.StoreFault.TheVariants.{Refused}
+use Rattle.as2_sending.specs.Exchanges.{Exchanges}
 use Rattle.as2_sending.proofs.Turning.{joined, sends_first, sends_on, sends_ended, sends_given_up}
 use Rattle.as2_sending.proofs.sending.send.Goals as goal
 
@@ -12,7 +13,7 @@ loop-init g c = (
   λ clean s rests.
       let hinted = g.E.Write.contents c.args.hints.now in
       sends_first c.args.agreements.now c.args.moment s (g.K.Records.shows c.args.station.now) (g.W.Sink.written c.args.output.now)
-      (λ text. true ≡ true → Appends hinted hinted text) (λ _. Appends-nil hinted) rests,
+      (λ text made. (true ≡ true → Appends hinted hinted text) × Exchanges g.L.Links.answers c.args.links.now made c.args.links.now) (λ _. Appends-nil hinted, refl) rests,
 )
 
 pub returns-in-Err-clause-sends : goal.returns-in-Err-clause-sends
@@ -24,7 +25,7 @@ returns-in-Err-clause-sends g c = λ clean s rests.
     let last = g.E.Write.contents c.take_turn.new.hints in
     sends_ended Bool c.args.agreements.now c.args.moment s (g.K.Records.shows c.loop.station) (g.K.Records.shows c.take_turn.new.station)
     (g.W.Sink.written c.args.output.now) (g.W.Sink.written c.loop.output) (g.W.Sink.written c.take_turn.new.output)
-    _ _ _ (joined (c.loop.told ≡ true) ⊤ (c.loop.told ≡ true) first mid last (λ told. (told, tt)))
+    _ _ _ (joined g.L.Links.answers (c.loop.told ≡ true) ⊤ (c.loop.told ≡ true) first mid last c.args.links.now c.loop.links c.take_turn.new.links (λ told. (told, tt)))
     c.in-Err.end w (c.in-Err.ensures.turned clean w.mid w.rests)
 
 pub returns-clause-sends : goal.returns-clause-sends
@@ -44,6 +45,6 @@ loop-preserved g c = (
       let d = g.K.Records.shows c.take_turn.new.station in
       let w = c.loop.invariant.1 (c.take_turn.ensures.clean clean) s rests in
       sends_on Bool A c.args.moment s (g.K.Records.shows c.loop.station) d (g.W.Sink.written c.args.output.now) now later
-      _ _ _ (joined (c.loop.told ≡ true) (c.in-Ok.hinted ≡ true) (c.both-told.result ≡ true) first mid last c.both-told.ensures)
+      _ _ _ (joined g.L.Links.answers (c.loop.told ≡ true) (c.in-Ok.hinted ≡ true) (c.both-told.result ≡ true) first mid last c.args.links.now c.loop.links c.take_turn.new.links c.both-told.ensures)
       c.in-Ok.hinted w (c.in-Ok.ensures.turned clean w.mid w.rests),
 )

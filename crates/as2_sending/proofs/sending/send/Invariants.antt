@@ -1,6 +1,7 @@
 use Rattle.std.proofs.Common.{◌≡◌, true}
 use Rattle.std.specs.Io.KnownBytes.{Appends}
 use Rattle.as2_exchange.specs.State.{State}
+use Rattle.as2_sending.specs.Exchanges.{Exchanges}
 use Rattle.as2_sending.proofs.Turning.{SentSoFar}
 use Rattle.as2_sending.proofs.sending.send.Given as goal
 
@@ -9,4 +10,4 @@ invariant-loop g l =
     ((g.K.Records.shows l.station).IsClean → (g.K.Records.shows l.fn.station).IsClean)
     × ((g.K.Records.shows l.station).IsClean → (s : State) → (g.K.Records.shows l.fn.station).Rests s
     → SentSoFar l.agreements l.moment s (g.K.Records.shows l.station) (g.W.Sink.written l.fn.output) (g.W.Sink.written l.output)
-    (λ text. l.told ≡ true → Appends (g.E.Write.contents l.fn.hints) (g.E.Write.contents l.hints) text))
+    (λ text made. (l.told ≡ true → Appends (g.E.Write.contents l.fn.hints) (g.E.Write.contents l.hints) text) × Exchanges g.L.Links.answers l.fn.links made l.links))

@@ -10,7 +10,7 @@ returns-in-Ok-clause-closed g c = λ clean s mid job begins rests.
     let A = c.args.agreements.now in
     let new = g.K.Records.shows c.step.new.self in
     let left = c.in-Ok.ensures.taken.does.answered clean mid rests tt in
-    subst (ClosesTo A c.args.moment s c.args.what c.args.got mid new) (sym c.came.ensures)
+    subst (ClosesTo A c.args.moment s c.args.what (record { job = job; got = c.args.got }) mid new) (sym c.came.ensures)
     (closes_to A c.args.moment s c.args.what c.args.got job mid new c.in-Ok.answer left.next begins
     (subst (λ (e : Event). step A mid e ≡ Some (c.in-Ok.answer, left.next)) c.outcome_event.ensures left.step) left.rests)
 
