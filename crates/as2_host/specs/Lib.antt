@@ -1,3 +1,4 @@
 pub mod FileContents
 pub mod Stores
 pub mod Serving
+pub mod Networks

@@ -1,7 +1,9 @@
 //! The network, as far as the program uses it.
-ghost use Rattle.std.specs.Prelude.{ℕ, Option};
+ghost use Rattle.std.specs.Prelude.{◌≡◌, ℕ, List, Option, IfErr, IfOk, string_bytes};
 ghost use Rattle.as2_exchange.specs.State.{State};
+ghost use Rattle.as2_commands.specs.declared.tasks.Waits.{Waits as TheWaits};
 ghost use Rattle.as2_host.specs.Serving.{ServesOne};
+ghost use Rattle.as2_http.specs.declared.stream.Served.{Served as TheEnd};
 
 use as2_agreement::Agreements;
 use as2_commands::Waits;
@@ -18,8 +20,15 @@ pub struct CannotListen;
 
 /// What listens at an address.
 pub trait Listens {
+    // where it listens, as text
+    ghost bound: { Self → List ℕ };
+
+    // a connection that it accepted ended so, and it is as that then
+    ghost ended: { Self → TheEnd → Self → Type 0 };
+
     /// Where it listens, as text.
-    fn address(&self, alloc: Global) -> Result<String, Memory>;
+    fn address(&self, alloc: Global) -> Result<String, Memory>
+        ensures { IfOk result (λ text. string_bytes text ≡ bound self.now) };
 
     /// Accepts one connection and has the station answer its requests, at this moment, or where none is given at the one
     /// that the clock tells then. Each reply is noted in the journal. An accept that fails is a `ReadFault`.
@@ -31,6 +40,7 @@ pub trait Listens {
         station: &mut Station<K>,
         journal: &mut J,
     ) -> Served
+        ensures ended { ended self.old result self.new }
         ensures clean { (K.shows station.new).IsClean → (K.shows station.old).IsClean }
         ensures serves { (K.shows station.new).IsClean → (s : State) → (K.shows station.old).Rests s
             → (t : State) × (K.shows station.new).Rests t × ServesOne agreements.now moment s t };
@@ -42,14 +52,26 @@ pub trait Network {
 
     type Links: Links + Drop;
 
+    // that listener was to listen at that address, with these waits
+    ghost listens: { Self → List ℕ → TheWaits → Self.Listener → Type 0 };
+
+    // nothing can listen at that address, with these waits
+    ghost refuses: { Self → List ℕ → TheWaits → Type 0 };
+
+    // these links were to be opened with these waits
+    ghost opens: { Self → TheWaits → Self.Links → Type 0 };
+
     /// Listens at that address.
     fn listen(
         &self,
         alloc: Global,
         address: &str,
         waits: Waits,
-    ) -> Result<Self::Listener, CannotListen>;
+    ) -> Result<Self::Listener, CannotListen>
+        ensures listener { IfOk result (listens self.now address.now waits) }
+        ensures none { IfErr result (λ _. refuses self.now address.now waits) };
 
     /// What opens links to partners.
-    fn links(&self, waits: Waits) -> Self::Links;
+    fn links(&self, waits: Waits) -> Self::Links
+        ensures { opens self.now waits result };
 }
