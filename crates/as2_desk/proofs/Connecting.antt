@@ -9,7 +9,9 @@ use Rattle.as2_exchange.specs.State.{State}
 use Rattle.as2_http.specs.declared.stream.Served.{Served}
 use Rattle.as2_commands.specs.Requests.{Serving}
 use Rattle.as2_desk.proofs.HandedBack.{each_known}
+use Rattle.as2_host.specs.Networks.{EndsEach, Listening}
 use Rattle.as2_desk.specs.Endings.{Ends}
+use Rattle.as2_desk.specs.Observed.{Outcome}
 use Rattle.as2_desk.specs.Refusals.{error_line}
 use Rattle.as2_desk.specs.Statuses.{done, refused}
 use Rattle.as2_desk.specs.declared.refusal.CommandFault.TheVariants.{CannotWrite}
@@ -18,15 +20,16 @@ use Rattle.as2_desk.specs.Connections.{ServesCount, listening_line, ServesConnec
 use Rattle.as2_host.specs.Serving.{ServesOne}
 
 -- n connections were served, and their lines written
-pub record HasServed {M : Medium} (A : AgreedValues) (given : Option ℕ) (n : ℕ) (old new : Standing M) (written now : Option (List ℕ)) : Type 0 where
+pub record HasServed {M : Medium} (A : AgreedValues) (given : Option ℕ) (n : ℕ) (old new : Standing M) (Ended : List Served → Type 0) (written now : Option (List ℕ)) : Type 0 where
   pub clean : new.IsClean → old.IsClean
   pub ends : List Served
+  pub ended : Ended ends
   pub all : length ends ≡ n
   pub serves : new.IsClean → (s : State) → old.Rests s → (t : State) × new.Rests t × ServesEach A given ends s t
   pub lines : Appends written now (connection_lines ends)
 
-pub none_served : {M : Medium} (A : AgreedValues) (given : Option ℕ) (c : Standing M) (written : Option (List ℕ)) → HasServed A given 0 c c written written
-none_served A given c written = record { clean = λ h. h; ends = []; all = refl; serves = λ clean s rests. (s, rests, refl); lines = Appends-nil written }
+pub none_served : {M : Medium} (A : AgreedValues) (given : Option ℕ) (c : Standing M) (Ended : List Served → Type 0) (written : Option (List ℕ)) → Ended [] → HasServed A given 0 c c Ended written written
+none_served A given c Ended written none = record { clean = λ h. h; ends = []; ended = none; all = refl; serves = λ clean s rests. (s, rests, refl); lines = Appends-nil written }
 
 serves_more : (A : AgreedValues) (given : Option ℕ) (ends : List Served) (end : Served) (s mid t : State) → ServesEach A given ends s mid → ServesOne A given mid t → ServesEach A given (ends ++ end ∷ []) s t
 serves_more A given [] end s mid t same one = (t, subst (λ (x : State). ServesOne A given x t) same one, refl)
@@ -35,8 +38,9 @@ serves_more A given (e ∷ ends) end s mid t each one = (each.0, each.1, serves_
 lines_more : (ends : List Served) (end : Served) → connection_lines (ends ++ end ∷ []) ≡ connection_lines ends ++ connection_line end
 lines_more ends end = flat_map-append connection_line ends (end ∷ []) ∙ ap (λ (x : List ℕ). connection_lines ends ++ x) (append-nil (connection_line end))
 
-module _ {M : Medium} (A : AgreedValues) (given : Option ℕ) (n : ℕ) (old mid new : Standing M) (w x y : Option (List ℕ)) (so_far : HasServed A given n old mid w x) (clean : new.IsClean → mid.IsClean) where
-  with_next : {V F : Type 0} (r : Result V F) (next : ServesNext A given mid new x y r) → new.IsClean → (s : State) → old.Rests s
+module _ {M : Medium} (A : AgreedValues) (given : Option ℕ) (n : ℕ) (old mid new : Standing M) (w x y : Option (List ℕ)) (Before Then : List Served → Type 0) (Next : Served → Type 0)
+    (so_far : HasServed A given n old mid Before w x) (clean : new.IsClean → mid.IsClean) (join : (ends : List Served) (end : Served) → Before ends → Next end → Then (ends ++ end ∷ [])) where
+  with_next : {V F : Type 0} (r : Result V F) (next : ServesNext A given mid new Next x y r) → new.IsClean → (s : State) → old.Rests s
       → (t : State) × new.Rests t × ServesEach A given (so_far.ends ++ next.end ∷ []) s t
   with_next r next is_clean s rests =
       let before = so_far.serves (clean is_clean) s rests in
@@ -46,34 +50,37 @@ module _ {M : Medium} (A : AgreedValues) (given : Option ℕ) (n : ℕ) (old mid
   more : (end : Served) → length (so_far.ends ++ end ∷ []) ≡ n + 1
   more end = length-append so_far.ends (end ∷ []) ∙ ap (λ k. k + 1) so_far.all
 
-  pub one_more : {V F : Type 0} (v : V) → ServesNext {V = V} {F = F} A given mid new x y (Ok v) → HasServed A given (n + 1) old new w y
+  pub one_more : {V F : Type 0} (v : V) → ServesNext {V = V} {F = F} A given mid new Next x y (Ok v) → HasServed A given (n + 1) old new Then w y
   one_more v next = record {
     clean = λ h. so_far.clean (clean h);
     ends = so_far.ends ++ next.end ∷ [];
+    ended = join so_far.ends next.end so_far.ended next.ended;
     all = more next.end;
     serves = with_next (Ok v) next;
     lines = subst (Appends w y) (sym (lines_more so_far.ends next.end)) (Appends-trans w x y (connection_lines so_far.ends) (connection_line next.end) so_far.lines next.line);
   }
 
-  cut_at : {V F G : Type 0} (count : ℕ) (f : F) (g : G) → n < count → ServesNext {V = V} {F = F} A given mid new x y (Err f) → ServesConnections {V = V} {F = G} A given count old new w y (Err g)
+  cut_at : {V F G : Type 0} (count : ℕ) (f : F) (g : G) → n < count → ServesNext {V = V} {F = F} A given mid new Next x y (Err f) → ServesConnections {V = V} {F = G} A given count old new Then w y (Err g)
   cut_at count f g below next = record {
     clean = λ h. so_far.clean (clean h);
     ends = so_far.ends ++ next.end ∷ [];
+    ended = join so_far.ends next.end so_far.ended next.ended;
     serves = with_next (Err f) next;
     within = let is = more next.end in omega (arith, is, below);
     all = tt;
     lines = tt;
   }
 
-  pub cut : {V F G : Type 0} (count : ℕ) (f : F) (r : Result V G) → IsErr r → n < count → ServesNext {V = V} {F = F} A given mid new x y (Err f) → ServesConnections {V = V} {F = G} A given count old new w y r
+  pub cut : {V F G : Type 0} (count : ℕ) (f : F) (r : Result V G) → IsErr r → n < count → ServesNext {V = V} {F = F} A given mid new Next x y (Err f) → ServesConnections {V = V} {F = G} A given count old new Then w y r
   cut count f (Ok v) fails below next = absurd cc
   cut count f (Err g) fails below next = cut_at count f g below next
 
-pub all_served : {M : Medium} {V F : Type 0} (A : AgreedValues) (given : Option ℕ) (n count : ℕ) (old new : Standing M) (w x : Option (List ℕ)) (v : V) → n ≡ count → HasServed A given n old new w x
-    → ServesConnections {V = V} {F = F} A given count old new w x (Ok v)
-all_served A given n count old new w x v is so_far = record {
+pub all_served : {M : Medium} {V F : Type 0} (A : AgreedValues) (given : Option ℕ) (n count : ℕ) (old new : Standing M) (Ended : List Served → Type 0) (w x : Option (List ℕ)) (v : V) → n ≡ count → HasServed A given n old new Ended w x
+    → ServesConnections {V = V} {F = F} A given count old new Ended w x (Ok v)
+all_served A given n count old new Ended w x v is so_far = record {
   clean = so_far.clean;
   ends = so_far.ends;
+  ended = so_far.ended;
   serves = so_far.serves;
   within = let all = so_far.all in omega (arith, all, is);
   all = so_far.all ∙ is;
@@ -87,26 +94,31 @@ pub behind_ok : {V F : Type 0} (a b d : Option (List ℕ)) (xs ys zs : List ℕ)
 behind_ok a b d xs ys zs (Ok v) is first then = Appends-trans a b d xs zs first (subst (Appends b d) is then)
 behind_ok a b d xs ys zs (Err f) is first then = tt
 
-module _ {M : Medium} (A : AgreedValues) (serving : Serving) (given : Option ℕ) (count : ℕ) (known : Option State) (Unwritten : Type 0) (old new : Standing M)
-    (written now : Option (List ℕ)) (Said : List ℕ → Type 0) (ran : Ran) (address : List ℕ) (is_given : given ≡ serving.moment) (is_count : count ≡ serving.count)
-    (stood : IfSome known (λ s. new.IsClean × old.Rests s)) where
-  each : {V F : Type 0} (r : Result V F) (all : ServesConnections {V = V} {F = F} A given count old new written now r)
-      → IfSome known (λ s. (t : State) × new.Rests t × ServesEach A serving.moment all.ends s t)
+module _ {M : Medium} (A : AgreedValues) (serving : Serving) (given : Option ℕ) (count : ℕ) (known : Option State) (o : Outcome) (old new : Standing M)
+    (Ended : List Served → Type 0) (l : Listening) (ran : Ran) (address : List ℕ) (is_given : given ≡ serving.moment) (is_count : count ≡ serving.count)
+    (stood : IfSome known (λ s. new.IsClean × old.Rests s)) (left : (t : State) → new.Rests t → o.Left t) (awaited : (ends : List Served) → Ended ends → l.Awaited address ends) where
+  each : {V F : Type 0} (r : Result V F) (all : ServesConnections {V = V} {F = F} A given count old new Ended o.written o.now r)
+      → IfSome known (λ s. (t : State) × o.Left t × ServesEach A serving.moment all.ends s t)
   each r all = each_known _ _ known stood (λ s it.
-      subst (λ (m : Option ℕ). (t : State) × new.Rests t × ServesEach A m all.ends s t) is_given (all.serves it.0 s it.1))
+      let served = all.serves it.0 s it.1 in
+      (served.0, left served.0 served.1, subst (λ (m : Option ℕ). ServesEach A m all.ends s served.0) is_given served.2))
 
-  pub all_told : {V F : Type 0} (v : V) → ServesConnections {V = V} {F = F} A given count old new written now (Ok v) → Ends done (listening_line address) Said ran
-      → ServesCount A serving known Unwritten (λ t. new.Rests t) written now Said ran
+  pub all_told : {V F : Type 0} (v : V) → ServesConnections {V = V} {F = F} A given count old new Ended o.written o.now (Ok v) → Ends done (listening_line address) o.Said ran → ServesCount A serving known o l ran
   all_told v all told = record {
     ends = all.ends;
     serves = each (Ok v) all;
-    told = inr (inl (record { address = address; all = all.all ∙ is_count; lines = all.lines; told = told }));
+    told = inr (inl (record { address = address; awaited = awaited all.ends all.ended; all = all.all ∙ is_count; lines = all.lines; told = told }));
   }
 
-  pub cut_told : {V F : Type 0} (r : Result V F) → ServesConnections {V = V} {F = F} A given count old new written now r → Ends refused (listening_line address ++ error_line CannotWrite) Said ran
-      → ServesCount A serving known Unwritten (λ t. new.Rests t) written now Said ran
+  pub cut_told : {V F : Type 0} (r : Result V F) → ServesConnections {V = V} {F = F} A given count old new Ended o.written o.now r → Ends refused (listening_line address ++ error_line CannotWrite) o.Said ran
+      → ServesCount A serving known o l ran
   cut_told r all told = record {
     ends = all.ends;
     serves = each r all;
-    told = inr (inr (record { address = address; within = subst (λ (n : ℕ). length all.ends ≤ n) is_count all.within; told = told }));
+    told = inr (inr (record { address = address; awaited = awaited all.ends all.ended; within = subst (λ (n : ℕ). length all.ends ≤ n) is_count all.within; told = told }));
   }
+
+-- one more connection of a listener
+pub ends_more : {L : Type 0} (ended : L → Served → L → Type 0) (first second third : L) (ends : List Served) (end : Served) → EndsEach ended first ends second → ended second end third → EndsEach ended first (ends ++ end ∷ []) third
+ends_more ended first second third [] end same one = (third, subst (λ l. ended l end third) same one, refl)
+ends_more ended first second third (x ∷ ends) end all one = (all.0, all.1, ends_more ended all.0 second third ends end all.2 one)

@@ -1,8 +1,8 @@
 -- What is known of the state that is left.
-use Rattle.std.proofs.Common.{ℕ, List, Option, Some, None, IfSome}
+use Rattle.std.proofs.Common.{ℕ, Option, Some, None, IfSome}
 use Rattle.as2_agreement.specs.Agreements.{AgreedValues}
 use Rattle.as2_exchange.specs.State.{State}
-use Rattle.as2_http.specs.Notes.{Spoken}
+use Rattle.as2_desk.specs.Observed.{Input, Outcome}
 use Rattle.as2_desk.specs.Posting.{Posts}
 use Rattle.as2_desk.specs.declared.status.Ran.{Ran}
 
@@ -18,11 +18,17 @@ both_known P Q R (Some s) p q f = f s p q
 abbrev pub SaysAgain : Option State → (State → Type 0) → (State → Type 0) → Type 0
 SaysAgain known Left Later = IfSome known (λ s. (t : State) → Left t → Later t)
 
-pub posts_left : (A : AgreedValues) (moment : ℕ) (known : Option State) (before after : Option (List ℕ)) (calls later_calls : ℕ) (Left Later : State → Type 0) (written now : Spoken) (Said : List ℕ → Type 0) (ran : Ran)
-    → SaysAgain known Left Later → Posts A moment known before after calls later_calls Left written now Said ran → Posts A moment known before after calls later_calls Later written now Said ran
-posts_left A moment known before after calls later_calls Left Later written now Said ran again it = record {
+-- what is written, with another state that is left
+abbrev pub leaving : Outcome → (State → Type 0) → Outcome
+leaving o Left = record o { Left = Left }
+
+pub posts_left : (A : AgreedValues) (moment : ℕ) (known : Option State) (input : Input) (o : Outcome) (Left : State → Type 0) (ran : Ran)
+    → SaysAgain known Left o.Left → Posts A moment known input (leaving o Left) ran → Posts A moment known input o ran
+posts_left A moment known input o Left ran again it = record {
+  noted = it.noted;
+  new = it.new;
   end = it.end;
   posts = both_known _ _ _ known again it.posts (λ s later left. (left.0, later left.0 left.1, left.2));
-  serves = both_known _ _ _ known again it.serves (λ s later serves input is. let served = serves input is in (served.0, later served.0 served.1, served.2));
+  serves = both_known _ _ _ known again it.serves (λ s later serves text is. let served = serves text is in (served.0, later served.0 served.1, served.2));
   told = it.told;
 }

@@ -8,7 +8,7 @@ use Rattle.as2_host.specs.Stores.{BeginsNew, Finds, fault_in, opens_of}
 use Rattle.as2_host.specs.declared.stores.OpenFault.{OpenFault}
 use Rattle.as2_commands.specs.declared.tasks.RunOptions.{RunOptions}
 use Rattle.as2_desk.proofs.HandedBack.{each_known}
-use Rattle.as2_desk.proofs.Working.{does_left}
+use Rattle.as2_desk.proofs.Working.{does_left, observing}
 use Rattle.as2_desk.specs.Endings.{EndsRefused}
 use Rattle.as2_desk.specs.Observed.{Observed, Stored}
 use Rattle.as2_desk.specs.Runs.{Goes}
@@ -27,16 +27,16 @@ each_left (Some l) Clean Rests Keeps Later kept f = λ clean t rests. f t (kept 
 module _ {A : Type 0} {M : Medium} (shows : A → Standing M) (agreements : AgreedValues) (options : RunOptions) (w : Work) (o : Observed) (stored : Stored) (ran : Ran) where
   -- no records could be opened, and that was told
   abbrev pub Failed : Option A → Result A OpenFault → Type 0
-  Failed last r = IfErr r (λ fault. (last ≡ None) × o.Unread × o.Unwritten × EndsRefused (Store fault) o.Said ran)
+  Failed last r = IfErr r (λ fault. (last ≡ None) × o.Unread × o.outcome.Unwritten × EndsRefused (Store fault) o.outcome.Said ran)
 
   -- the work was done over records that were opened, and they were given back
   abbrev pub Done : Option A → Result A OpenFault → Type 0
   Done last r = IfOk r (λ opened. IsSomeAnd last (λ l. ((shows l).IsClean → (shows opened).IsClean)
-      × ((known : Option State) → IfSome known (λ s. (shows l).IsClean × (shows opened).Rests s) → Does agreements options.moment w known (record o { Left = λ t. (shows l).Rests t }) ran)))
+      × ((known : Option State) → IfSome known (λ s. (shows l).IsClean × (shows opened).Rests s) → Does agreements options.moment w known (observing o (λ t. (shows l).Rests t)) ran)))
 
   -- over new records in memory
   pub goes_in_memory : (last : Option A) (r : Result A OpenFault) → BeginsNew shows options.first r → Failed last r → Done last r → is_in_memory stored.path ≡ true → stored.Unopened → stored.Opened
-      → ((s : State) → stored.Begins options.first s → s ≡ empty options.first) → ((t : State) → o.Left t) → Goes agreements options (Ok w) o stored ran
+      → ((s : State) → stored.Begins options.first s → s ≡ empty options.first) → ((t : State) → o.outcome.Left t) → Goes agreements options (Ok w) o stored ran
   goes_in_memory last (Err fault) may failed done is unopened opened begins left =
       inl (unopened, failed.1, failed.2, record { fault = fault; known = subst (λ (b : Bool). ByPlace b (may_come (fault_in fault) ≡ true) ⊤) (sym is) may; told = failed.3 })
   goes_in_memory None (Ok records) new failed done is unopened opened begins left = absurd done
@@ -49,7 +49,7 @@ module _ {A : Type 0} {M : Medium} (shows : A → Standing M) (agreements : Agre
   -- over the records that are kept under the path
   pub goes_kept : (last : Option A) (r : Result A OpenFault) (Clean : Type 0) (Keeps : State → Type 0) (before now : ℕ) → Finds shows Keeps r → Failed last r → Done last r → is_in_memory stored.path ≡ false
       → now ≡ before + opens_of r → (now ≡ before → stored.Unopened) → (now ≡ before + 1 → stored.Opened) → ((s : State) → stored.Begins options.first s → Keeps s × Clean)
-      → IfSome last (λ l. Clean → (shows l).IsClean) → IfSome last (λ l. Clean → (t : State) → (shows l).Rests t → o.Left t) → Goes agreements options (Ok w) o stored ran
+      → IfSome last (λ l. Clean → (shows l).IsClean) → IfSome last (λ l. Clean → (t : State) → (shows l).Rests t → o.outcome.Left t) → Goes agreements options (Ok w) o stored ran
   goes_kept last (Err fault) Clean Keeps before now found failed done is counted unopened opened begins clean left =
       inl (unopened (omega (arith, counted)), failed.1, failed.2, record { fault = fault; known = subst (λ (b : Bool). ByPlace b (may_come (fault_in fault) ≡ true) ⊤) (sym is) tt; told = failed.3 })
   goes_kept None (Ok records) Clean Keeps before now found failed done is counted unopened opened begins clean left = absurd done

@@ -4,10 +4,10 @@ pub mod Hints
 pub mod Places
 pub mod Refusals
 pub mod Stores
+pub mod Observed
 pub mod Endings
 pub mod FileAgreements
 pub mod FileDocuments
-pub mod Observed
 pub mod Checks
 pub mod Posting
 pub mod Questions

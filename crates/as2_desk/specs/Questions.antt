@@ -1,6 +1,4 @@
--- What is asked of the station once, and what is told of its answer. Of the streams these are told: that nothing was written
--- (Unwritten), what standard output held and holds (written, now), and which text was written on standard error (Said); of the
--- store that it is handed back (Back), and for which states its tables stand then (Left).
+-- What is asked of the station once, and what is told of its answer.
 use Rattle.std.specs.Prelude.{◌≡◌, ◌⊎◌, ℕ, List, ◌++◌, Bool, true, false, Option, Some, None, Result, Ok, Err, IfSome, codes, decimal, option_map, string_bytes, ⊤}
 use Rattle.std.specs.Io.KnownBytes.{Appends}
 use Rattle.as2_agreement.specs.Agreements.{AgreedValues}
@@ -19,6 +17,7 @@ use Rattle.as2_station.specs.Heads.{submit_refusal}
 use Rattle.as2_records.specs.Standing.{may_come}
 use Rattle.as2_views.specs.Filtering.{listing}
 use Rattle.as2_desk.specs.Endings.{Ends, EndsRefused}
+use Rattle.as2_desk.specs.Observed.{Outcome}
 use Rattle.as2_desk.specs.Statuses.{done}
 use Rattle.as2_desk.specs.declared.asking.Printed.{Printed}
 use Rattle.as2_desk.specs.declared.asking.Printed.TheVariants.{Number, Words, Content}
@@ -121,12 +120,11 @@ Prints (Ok text) Unwritten written now Said ran = (Appends written now text × E
 Prints (Err refusal) Unwritten written now Said ran = Unwritten × EndsRefused refusal Said ran
 
 -- Something was told: why it is refused, where that takes no store; or a fault of the store, of those that may come; or an
--- answer. Where the state is known that the tables stood for, it is what is told there, and what is handed back stands for the
--- state that is left.
-pub record Asks (agreements : AgreedValues) (moment : ℕ) (question : Question) (known : Option State) (Unwritten : Type 0) (Left : State → Type 0)
-    (written now : Option (List ℕ)) (Said : List ℕ → Type 0) (ran : Ran) : Type 0 where
+-- answer. Where the state is known that the records stood for, it is what is told there, and what is left stands for the state
+-- that this leaves.
+pub record Asks (agreements : AgreedValues) (moment : ℕ) (question : Question) (known : Option State) (o : Outcome) (ran : Ran) : Type 0 where
   pub told : Told
   pub refused : (reason : Refusal) → refusal_to agreements question ≡ Some reason → told ≡ Err (Station reason)
   pub fault : FaultMayCome question told
-  pub tells : IfSome known (λ s. (t : State) × Left t × Tells agreements moment question s t told)
-  pub prints : Prints told Unwritten written now Said ran
+  pub tells : IfSome known (λ s. (t : State) × o.Left t × Tells agreements moment question s t told)
+  pub prints : Prints told o.Unwritten o.written o.now o.Said ran

@@ -24,20 +24,20 @@ Counts agreements written now Said ran =
 
 -- nothing was read, written or done to the stores
 abbrev pub LeavesAll : Observed → Stored → Type 0
-LeavesAll o stored = stored.Untouched × o.Unread × o.Unwritten
+LeavesAll o stored = stored.Untouched × o.Unread × o.outcome.Unwritten
 
 -- Without a document the refusal is told, and nothing is done. Where no store can be opened that is told. Else the work is done,
 -- from the state that the store began with, where one is known.
 abbrev pub Goes : AgreedValues → RunOptions → Begun → Observed → Stored → Ran → Type 0
-Goes agreements options (Err refusal) o stored ran = LeavesAll o stored × EndsRefused refusal o.Said ran
+Goes agreements options (Err refusal) o stored ran = LeavesAll o stored × EndsRefused refusal o.outcome.Said ran
 Goes agreements options (Ok work) o stored ran =
-    (stored.Unopened × o.Unread × o.Unwritten × Fails stored.path o.Said ran)
+    (stored.Unopened × o.Unread × o.outcome.Unwritten × Fails stored.path o.outcome.Said ran)
     ⊎ (stored.Opened × ((known : Option State) → IfSome known (stored.Begins options.first) → Does agreements options.moment work known o ran))
 
 -- over agreements and a store the task is done; without any of them the refusal is told, and nothing is done. Counting needs no store.
 abbrev pub Comes : (List ℕ → Content) → Opened → Task → Observed → Stored → Ran → Type 0
-Comes contents (Err refusal) task o stored ran = LeavesAll o stored × EndsRefused refusal o.Said ran
-Comes contents (Ok agreements) Check o stored ran = stored.Untouched × o.Unread × Counts agreements o.written o.now o.Said ran
+Comes contents (Err refusal) task o stored ran = LeavesAll o stored × EndsRefused refusal o.outcome.Said ran
+Comes contents (Ok agreements) Check o stored ran = stored.Untouched × o.Unread × Counts agreements o.outcome.written o.outcome.now o.outcome.Said ran
 Comes contents (Ok agreements) (Run options command) o stored ran = (begun : Begun) × IsWork contents command begun × Goes agreements options begun o stored ran
 
 -- the file of that path comes to agreements or to a refusal, and the task to what follows from them

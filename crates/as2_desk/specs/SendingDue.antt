@@ -1,10 +1,12 @@
 -- What sending comes to, and how that is told.
-use Rattle.std.specs.Prelude.{ℕ, List, Option, IfSome, codes, ⊤}
+use Rattle.std.specs.Prelude.{ℕ, List, Option, IfSome, codes}
 use Rattle.as2_agreement.specs.Agreements.{AgreedValues}
 use Rattle.as2_exchange.specs.State.{State}
 use Rattle.as2_desk.specs.Endings.{Ends, EndsRefused}
+use Rattle.as2_desk.specs.Observed.{Outcome}
 use Rattle.as2_desk.specs.Statuses.{done}
 use Rattle.as2_desk.specs.declared.refusal.CommandFault.TheVariants.{CannotWrite, Station, Store}
+use Rattle.as2_sending.specs.Exchanges.{Exchange}
 use Rattle.as2_sending.specs.Turns.{Sends}
 use Rattle.as2_sending.specs.declared.sent.Sent.{Sent}
 use Rattle.as2_sending.specs.declared.sent.Sent.TheVariants as sent
@@ -18,10 +20,9 @@ TellsSent (sent.Refused reason) Said ran = EndsRefused (Station reason) Said ran
 TellsSent (sent.Failed fault) Said ran = EndsRefused (Store (open_fault.Store fault)) Said ran
 TellsSent sent.Unwritten Said ran = EndsRefused CannotWrite Said ran
 
--- Where the state is known that the tables stood for, what was due was sent from it, and what is handed back stands for the
--- state that is left.
-pub record SendsDue (agreements : AgreedValues) (moment : ℕ) (known : Option State) (Left : State → Type 0)
-    (written now : Option (List ℕ)) (Said : List ℕ → Type 0) (ran : Ran) : Type 0 where
+-- Where the state is known that the records stood for, what was due was sent from it, and what is left stands for the state that
+-- this led to; and what went over the links (Exchanged) are its jobs, each with the outcome that was taken.
+pub record SendsDue (agreements : AgreedValues) (moment : ℕ) (known : Option State) (o : Outcome) (Exchanged : List Exchange → Type 0) (ran : Ran) : Type 0 where
   pub end : Sent
-  pub sends : IfSome known (λ s. (t : State) × Left t × Sends agreements moment s t written now (λ text. ⊤) end)
-  pub told : TellsSent end Said ran
+  pub sends : IfSome known (λ s. (t : State) × o.Left t × Sends agreements moment s t o.written o.now (λ text made. Exchanged made) end)
+  pub told : TellsSent end o.Said ran

@@ -3,7 +3,6 @@ use Rattle.std.specs.Prelude.{◌≡◌, ◌+◌, ℕ, List, Option, Result, Ok,
 use Rattle.as2_agreement.specs.Agreements.{AgreedValues}
 use Rattle.as2_exchange.specs.State.{State, content_limit}
 use Rattle.as2_desk.specs.Connections.{ServesCount}
-use Rattle.as2_http.specs.Notes.{spoken}
 use Rattle.as2_host.specs.FileContents.{Content, front}
 use Rattle.as2_desk.specs.FileDocuments.{Document, HasDocument}
 use Rattle.as2_desk.specs.Observed.{Observed}
@@ -42,11 +41,10 @@ IsWork contents (command.Serve serving) begun = begun ≡ Ok (work.Serve serving
 
 -- it is done, at this moment; no other command than `post` reads the input
 abbrev pub Does : AgreedValues → ℕ → Work → Option State → Observed → Ran → Type 0
-Does agreements moment (work.Post logs) known o ran =
-    (noted new : Option (List ℕ)) × Posts agreements moment known o.before o.after o.calls o.later o.Left (spoken o.written noted) (spoken o.now new) o.Said ran
-Does agreements moment (work.Ask question) known o ran = o.Unread × Asks agreements moment question known o.Unwritten o.Left o.written o.now o.Said ran
-Does agreements moment (work.Send waits) known o ran = o.Unread × SendsDue agreements moment known o.Left o.written o.now o.Said ran
-Does agreements moment (work.Serve serving) known o ran = o.Unread × ServesCount agreements serving known o.Unwritten o.Left o.written o.now o.Said ran
+Does agreements moment (work.Post logs) known o ran = Posts agreements moment known o.input o.outcome ran
+Does agreements moment (work.Ask question) known o ran = o.Unread × Asks agreements moment question known o.outcome ran
+Does agreements moment (work.Send waits) known o ran = o.Unread × SendsDue agreements moment known o.outcome (o.Exchanged waits) ran
+Does agreements moment (work.Serve serving) known o ran = o.Unread × ServesCount agreements serving known o.outcome (o.listening serving) ran
 
 -- it sends
 abbrev pub SendsWork : Work → Type 0

@@ -5,6 +5,7 @@ ghost use Rattle.as2_exchange.specs.State.{State};
 ghost use Rattle.as2_exchange.specs.declared.answer.Refusal.{Refusal as TheRefusal};
 ghost use Rattle.as2_station.specs.Traces.{said as saying};
 ghost use Rattle.as2_desk.specs.Endings.{EndsRefused};
+ghost use Rattle.as2_desk.specs.Observed.{outcome_of};
 ghost use Rattle.as2_desk.specs.Questions.{Asks, FaultMayCome, Prints, Tells, looked_up, number_line, number_told, printed_text, read_told, refusal_to, told_as};
 ghost use Rattle.as2_desk.specs.Statuses.{done, failed, refused};
 ghost use Rattle.as2_desk.specs.declared.refusal.CommandFault.TheVariants.{Station as Refusing, Store as Failing};
@@ -146,8 +147,7 @@ pub(crate) fn ask<K: Records, W: Sink, E: Write>(
     ensures status { (result.status ≡ done) ⊎ ((result.status ≡ refused) ⊎ (result.status ≡ failed)) }
     ensures clean { (K.shows station.new).IsClean → (K.shows station.old).IsClean }
     ensures asks { (known : Option State) → IfSome known (λ s. (K.shows station.new).IsClean × (K.shows station.old).Rests s)
-        → Asks agreements.now moment question known (output.new ≡ output.old) (λ t. (K.shows station.new).Rests t)
-        (W.written output.old) (W.written output.new) (Appends (E.contents errors.old) (E.contents errors.new)) result }
+        → Asks agreements.now moment question known (outcome_of W.written E.contents output.old output.new errors.old errors.new (λ t. (K.shows station.new).Rests t)) result }
     ensures store { result.status ≡ failed → (output.new ≡ output.old)
         × ((fault : TheFault) × EndsRefused (Failing fault) (Appends (E.contents errors.old) (E.contents errors.new)) result) }
 {

@@ -6,7 +6,9 @@ ghost use Rattle.clap.specs.Words.{kind_of};
 ghost use Rattle.clap.specs.declared.error.kind.ErrorKind.TheVariants.{OutOfMemory};
 ghost use Rattle.as2_commands.specs.CommandLine.{AsksForHelp, IsHelp};
 ghost use Rattle.as2_commands.specs.Options.{Gives, GivesNone};
+ghost use Rattle.as2_host.specs.Networks.{ExchangedOver, listening_of};
 ghost use Rattle.as2_desk.specs.Endings.{EndsRefused, Stopped};
+ghost use Rattle.as2_desk.specs.Observed.{input_of, outcome_of, stored_of};
 ghost use Rattle.as2_desk.specs.Runs.{Comes, IsSending, Runs};
 ghost use Rattle.as2_desk.specs.Statuses.{done, failed, faulty, refused};
 ghost use Rattle.as2_desk.specs.Stores.{Begins, Leaves, is_in_memory, opens_at};
@@ -63,24 +65,13 @@ pub fn run<
         → Gives (texts words.entry.now) clock path store task
         → Runs (F.content files.now) path task
         (record {
-          before = R.left input.old;
-          after = R.left input.new;
-          calls = R.calls input.old;
-          later = R.calls input.new;
+          input = input_of R.left R.calls input.old input.new;
           Unread = input.new ≡ input.old;
-          written = W.written output.old;
-          now = W.written output.new;
-          Unwritten = output.new ≡ output.old;
-          Said = Appends (E.contents errors.old) (E.contents errors.new);
-          Left = Leaves store (O.keeps stores.new store);
+          outcome = outcome_of W.written E.contents output.old output.new errors.old errors.new (Leaves store (O.keeps stores.new store));
+          Exchanged = ExchangedOver N.opens N.Links.answers network.now;
+          listening = listening_of N.listens N.refuses N.Listener.bound N.Listener.ended network.now;
         })
-        (record {
-          path = store;
-          Untouched = stores.new ≡ stores.old;
-          Unopened = O.opens stores.new ≡ O.opens stores.old;
-          Opened = O.opens stores.new ≡ O.opens stores.old + opens_at (is_in_memory store);
-          Begins = λ first s. Begins store first (O.is_clean stores.new) (O.keeps stores.old store) s;
-        }) result
+        (stored_of O.keeps O.is_clean O.opens stores.old stores.new store) result
         ⊎ ((stores.new ≡ stores.old) × (input.new ≡ input.old) × (output.new ≡ output.old)
         × EndsRefused Memory (Appends (E.contents errors.old) (E.contents errors.new)) result) }
     // A store in memory leaves the others as they were.
@@ -138,24 +129,13 @@ fn carry_out<
     ensures status { (result.status ≡ done) ⊎ ((result.status ≡ refused) ⊎ (result.status ≡ failed)) }
     ensures comes { Comes (F.content files.now) agreed options.entry.task
         (record {
-          before = R.left input.old;
-          after = R.left input.new;
-          calls = R.calls input.old;
-          later = R.calls input.new;
+          input = input_of R.left R.calls input.old input.new;
           Unread = input.new ≡ input.old;
-          written = W.written output.old;
-          now = W.written output.new;
-          Unwritten = output.new ≡ output.old;
-          Said = Appends (E.contents errors.old) (E.contents errors.new);
-          Left = Leaves options.entry.store.now (O.keeps stores.new options.entry.store.now);
+          outcome = outcome_of W.written E.contents output.old output.new errors.old errors.new (Leaves options.entry.store.now (O.keeps stores.new options.entry.store.now));
+          Exchanged = ExchangedOver N.opens N.Links.answers network.now;
+          listening = listening_of N.listens N.refuses N.Listener.bound N.Listener.ended network.now;
         })
-        (record {
-          path = options.entry.store.now;
-          Untouched = stores.new ≡ stores.old;
-          Unopened = O.opens stores.new ≡ O.opens stores.old;
-          Opened = O.opens stores.new ≡ O.opens stores.old + opens_at (is_in_memory options.entry.store.now);
-          Begins = λ first s. Begins options.entry.store.now first (O.is_clean stores.new) (O.keeps stores.old options.entry.store.now) s;
-        }) result }
+        (stored_of O.keeps O.is_clean O.opens stores.old stores.new options.entry.store.now) result }
     ensures memory { options.entry.store.now ≡ codes ":memory:" → stores.new ≡ stores.old }
     ensures store { result.status ≡ failed → Stopped (IsSending options.entry.task) (input.new ≡ input.old) (output.new ≡ output.old)
         (Appends (E.contents errors.old) (E.contents errors.new)) result }

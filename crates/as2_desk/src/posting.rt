@@ -5,6 +5,7 @@ ghost use Rattle.as2_exchange.specs.State.{State};
 ghost use Rattle.as2_desk.specs.Endings.{Ends};
 ghost use Rattle.as2_http.specs.Notes.{spoken};
 ghost use Rattle.as2_http.specs.StreamReads.{RunsPosts, Serves};
+ghost use Rattle.as2_desk.specs.Observed.{input_of, outcome_of};
 ghost use Rattle.as2_desk.specs.Posting.{Posts, if_noted};
 ghost use Rattle.as2_desk.specs.Refusals.{end_line};
 ghost use Rattle.as2_desk.specs.Statuses.{done, exit_status, refused};
@@ -69,10 +70,9 @@ pub(crate) fn post<K: Records, R: Source, W: Sink, H: Journal, E: Write>(
     ensures status { (result.status ≡ done) ⊎ (result.status ≡ refused) }
     ensures clean { (K.shows station.new).IsClean → (K.shows station.old).IsClean }
     ensures posts { (known : Option State) → IfSome known (λ s. (K.shows station.new).IsClean × (K.shows station.old).Rests s)
-        → Posts agreements.now moment known (R.left input.old) (R.left input.new) (R.calls input.old) (R.calls input.new)
-        (λ t. (K.shows station.new).Rests t)
-        (spoken (W.written output.old) (if_noted logs (H.noted hints.old))) (spoken (W.written output.new) (if_noted logs (H.noted hints.new)))
-        (Appends (E.contents errors.old) (E.contents errors.new)) result }
+        → (it : Posts agreements.now moment known (input_of R.left R.calls input.old input.new)
+        (outcome_of W.written E.contents output.old output.new errors.old errors.new (λ t. (K.shows station.new).Rests t)) result)
+        × (it.noted ≡ if_noted logs (H.noted hints.old)) × (it.new ≡ if_noted logs (H.noted hints.new)) }
     ensures silent { logs ≡ false → hints.new ≡ hints.old }
 {
     let end = serve_input(

@@ -3,6 +3,8 @@ ghost use Rattle.std.specs.Prelude.{◌≡◌, ◌⊎◌, Option, IfSome};
 ghost use Rattle.std.specs.Io.KnownBytes.{Appends};
 ghost use Rattle.as2_exchange.specs.State.{State};
 ghost use Rattle.as2_desk.specs.Endings.{EndsRefused};
+ghost use Rattle.as2_desk.specs.Observed.{outcome_of};
+ghost use Rattle.as2_sending.specs.Exchanges.{Exchanges};
 ghost use Rattle.as2_desk.specs.SendingDue.{SendsDue, TellsSent};
 ghost use Rattle.as2_desk.specs.Statuses.{done, failed, refused};
 ghost use Rattle.as2_desk.specs.declared.refusal.CommandFault.TheVariants.{Store as Failing};
@@ -34,8 +36,8 @@ pub(crate) fn send_due<K: Records, L: Links, W: Sink, H: Write, E: Write>(
     ensures status { (result.status ≡ done) ⊎ ((result.status ≡ refused) ⊎ (result.status ≡ failed)) }
     ensures clean { (K.shows station.new).IsClean → (K.shows station.old).IsClean }
     ensures sends { (known : Option State) → IfSome known (λ s. (K.shows station.new).IsClean × (K.shows station.old).Rests s)
-        → SendsDue agreements.now moment known (λ t. (K.shows station.new).Rests t)
-        (W.written output.old) (W.written output.new) (Appends (E.contents errors.old) (E.contents errors.new)) result }
+        → SendsDue agreements.now moment known (outcome_of W.written E.contents output.old output.new errors.old errors.new (λ t. (K.shows station.new).Rests t))
+        (λ made. Exchanges L.answers links.old made links.new) result }
     ensures store { result.status ≡ failed
         → (fault : TheFault) × EndsRefused (Failing fault) (Appends (E.contents errors.old) (E.contents errors.new)) result }
 {

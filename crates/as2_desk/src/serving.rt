@@ -2,6 +2,8 @@
 ghost use Rattle.std.specs.Prelude.{◌≡◌, ◌⊎◌, ◌++◌, codes, Option, IfSome, OnOk, true};
 ghost use Rattle.std.specs.Io.KnownBytes.{Appends};
 ghost use Rattle.as2_exchange.specs.State.{State};
+ghost use Rattle.as2_host.specs.Networks.{EndsEach, listening_of};
+ghost use Rattle.as2_desk.specs.Observed.{outcome_of};
 ghost use Rattle.as2_desk.specs.Connections.{ServesConnections, ServesCount, ServesNext, connection_line, listening_line};
 ghost use Rattle.as2_desk.specs.Statuses.{done, refused};
 
@@ -52,7 +54,7 @@ fn serve_next<K: Records, L: Listens, W: Sink, H: Journal>(
 ) -> Result<(), DeviceFault>
     ensures clean { (K.shows station.new).IsClean → (K.shows station.old).IsClean }
     ensures serves { ServesNext agreements.now moment.now (K.shows station.old) (K.shows station.new)
-        (W.written output.old) (W.written output.new) result }
+        (λ end. L.ended listener.old end listener.new) (W.written output.old) (W.written output.new) result }
 {
     let end = listener.serve(alloc, agreements, *moment, station, hints);
     write_connection(end, output)
@@ -70,7 +72,7 @@ fn serve_connections<K: Records, L: Listens, W: Sink, H: Journal>(
     hints: &mut H,
 ) -> Result<(), DeviceFault>
     ensures { ServesConnections agreements.now moment count (K.shows station.old) (K.shows station.new)
-        (W.written output.old) (W.written output.new) result }
+        (λ ends. EndsEach L.ended listener.old ends listener.new) (W.written output.old) (W.written output.new) result }
 {
     for served in 0..count {
         let _ = served;
@@ -93,8 +95,8 @@ pub(crate) fn serve<K: Records, N: Network, W: Sink, H: Journal, E: Write>(
     ensures status { (result.status ≡ done) ⊎ (result.status ≡ refused) }
     ensures clean { (K.shows station.new).IsClean → (K.shows station.old).IsClean }
     ensures serves { (known : Option State) → IfSome known (λ s. (K.shows station.new).IsClean × (K.shows station.old).Rests s)
-        → ServesCount agreements.now serving.entry known (output.new ≡ output.old) (λ t. (K.shows station.new).Rests t)
-        (W.written output.old) (W.written output.new) (Appends (E.contents errors.old) (E.contents errors.new)) result }
+        → ServesCount agreements.now serving.entry known (outcome_of W.written E.contents output.old output.new errors.old errors.new (λ t. (K.shows station.new).Rests t))
+        (listening_of N.listens N.refuses N.Listener.bound N.Listener.ended network.now serving.entry) result }
 {
     let Ok(mut listener) = network.listen(alloc, serving.address, serving.waits) else {
         return refuse(CommandFault::CannotListen, errors);

@@ -2,7 +2,9 @@
 ghost use Rattle.std.specs.Prelude.{◌≡◌, ◌+◌, ◌⊎◌, Option, Ok, None, codes, IfErr, IfOk, IfSome, IsSomeAnd};
 ghost use Rattle.std.specs.Io.KnownBytes.{Appends};
 ghost use Rattle.as2_exchange.specs.State.{State};
+ghost use Rattle.as2_host.specs.Networks.{ExchangedOver, listening_of};
 ghost use Rattle.as2_desk.specs.Endings.{EndsRefused, Stopped};
+ghost use Rattle.as2_desk.specs.Observed.{input_of, outcome_of, stored_of};
 ghost use Rattle.as2_desk.specs.Runs.{Goes};
 ghost use Rattle.as2_desk.specs.Statuses.{done, failed, refused};
 ghost use Rattle.as2_desk.specs.Stores.{Begins, Leaves, is_in_memory, opens_at};
@@ -84,16 +86,11 @@ fn do_at<K: Records, N: Network, R: Source, W: Sink, H: Write + Journal, E: Writ
     ensures clean { (K.shows station.new).IsClean → (K.shows station.old).IsClean }
     ensures does { (known : Option State) → IfSome known (λ s. (K.shows station.new).IsClean × (K.shows station.old).Rests s)
         → Does agreements.now moment work.entry known (record {
-          before = R.left input.old;
-          after = R.left input.new;
-          calls = R.calls input.old;
-          later = R.calls input.new;
+          input = input_of R.left R.calls input.old input.new;
           Unread = input.new ≡ input.old;
-          written = W.written output.old;
-          now = W.written output.new;
-          Unwritten = output.new ≡ output.old;
-          Said = Appends (E.contents errors.old) (E.contents errors.new);
-          Left = λ t. (K.shows station.new).Rests t;
+          outcome = outcome_of W.written E.contents output.old output.new errors.old errors.new (λ t. (K.shows station.new).Rests t);
+          Exchanged = ExchangedOver N.opens N.Links.answers network.now;
+          listening = listening_of N.listens N.refuses N.Listener.bound N.Listener.ended network.now;
         }) result }
     ensures store { result.status ≡ failed → Stopped (SendsWork work.entry) (input.new ≡ input.old) (output.new ≡ output.old)
         (Appends (E.contents errors.old) (E.contents errors.new)) result }
@@ -134,16 +131,11 @@ fn do_over<K: Records + Drop, N: Network, R: Source, W: Sink, H: Write + Journal
     ensures does { IfOk records (λ opened. IsSomeAnd result.1 (λ last. ((K.shows last).IsClean → (K.shows opened).IsClean)
         × ((known : Option State) → IfSome known (λ s. (K.shows last).IsClean × (K.shows opened).Rests s)
         → Does agreements.now moment work.entry known (record {
-          before = R.left input.old;
-          after = R.left input.new;
-          calls = R.calls input.old;
-          later = R.calls input.new;
+          input = input_of R.left R.calls input.old input.new;
           Unread = input.new ≡ input.old;
-          written = W.written output.old;
-          now = W.written output.new;
-          Unwritten = output.new ≡ output.old;
-          Said = Appends (E.contents errors.old) (E.contents errors.new);
-          Left = λ t. (K.shows last).Rests t;
+          outcome = outcome_of W.written E.contents output.old output.new errors.old errors.new (λ t. (K.shows last).Rests t);
+          Exchanged = ExchangedOver N.opens N.Links.answers network.now;
+          listening = listening_of N.listens N.refuses N.Listener.bound N.Listener.ended network.now;
         }) result.0))) }
     ensures store { result.0.status ≡ failed → Stopped (SendsWork work.entry) (input.new ≡ input.old) (output.new ≡ output.old)
         (Appends (E.contents errors.old) (E.contents errors.new)) result.0 }
@@ -202,23 +194,12 @@ pub(crate) fn work_over<
 ) -> Ran
     ensures status { (result.status ≡ done) ⊎ ((result.status ≡ refused) ⊎ (result.status ≡ failed)) }
     ensures goes { Goes agreements.now options (Ok work.entry) (record {
-      before = R.left input.old;
-      after = R.left input.new;
-      calls = R.calls input.old;
-      later = R.calls input.new;
+      input = input_of R.left R.calls input.old input.new;
       Unread = input.new ≡ input.old;
-      written = W.written output.old;
-      now = W.written output.new;
-      Unwritten = output.new ≡ output.old;
-      Said = Appends (E.contents errors.old) (E.contents errors.new);
-      Left = Leaves path.now (O.keeps stores.new path.now);
-    }) (record {
-      path = path.now;
-      Untouched = stores.new ≡ stores.old;
-      Unopened = O.opens stores.new ≡ O.opens stores.old;
-      Opened = O.opens stores.new ≡ O.opens stores.old + opens_at (is_in_memory path.now);
-      Begins = λ first s. Begins path.now first (O.is_clean stores.new) (O.keeps stores.old path.now) s;
-    }) result }
+      outcome = outcome_of W.written E.contents output.old output.new errors.old errors.new (Leaves path.now (O.keeps stores.new path.now));
+      Exchanged = ExchangedOver N.opens N.Links.answers network.now;
+      listening = listening_of N.listens N.refuses N.Listener.bound N.Listener.ended network.now;
+    }) (stored_of O.keeps O.is_clean O.opens stores.old stores.new path.now) result }
     ensures memory { path.now ≡ codes ":memory:" → stores.new ≡ stores.old }
     ensures store { result.status ≡ failed → Stopped (SendsWork work.entry) (input.new ≡ input.old) (output.new ≡ output.old)
         (Appends (E.contents errors.old) (E.contents errors.new)) result }

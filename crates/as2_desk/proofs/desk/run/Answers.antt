@@ -1,10 +1,11 @@
 use Rattle.std.proofs.Common.{◌≡◌, ◌+◌, ◌⊎◌, ◌∙◌, codes, sym, arith, inl, inr, refl}
-use Rattle.std.specs.Io.KnownBytes.{Appends}
+use Rattle.as2_host.specs.Networks.{ExchangedOver, listening_of}
 use Rattle.clap.specs.Walk.{Text, texts}
 use Rattle.as2_commands.proofs.Given.{given_one}
+use Rattle.as2_desk.specs.Observed.{input_of, outcome_of, stored_of}
 use Rattle.as2_desk.specs.Runs.{Runs}
 use Rattle.as2_desk.specs.Statuses.{faulty, refused}
-use Rattle.as2_desk.specs.Stores.{Begins, Leaves, is_in_memory, opens_at}
+use Rattle.as2_desk.specs.Stores.{Leaves}
 use Rattle.as2_commands.specs.declared.tasks.Task.{Task}
 use Rattle.as2_desk.proofs.desk.run.Goals as goal
 
@@ -22,24 +23,13 @@ returns-in-Ok-clause-runs g c = λ path store task gives.
     inl (given_one (texts c.args.words.now) c.args.clock read.agreements.now path read.store.now store read.task task
     (λ (p b : Text) (t : Task). Runs (g.F.ReadFiles.content c.args.files.now) p t
     (record {
-      before = g.R.Source.left c.args.input.now;
-      after = g.R.Source.left c.carry_out-done.new.input;
-      calls = g.R.Source.calls c.args.input.now;
-      later = g.R.Source.calls c.carry_out-done.new.input;
+      input = input_of g.R.Source.left g.R.Source.calls c.args.input.now c.carry_out-done.new.input;
       Unread = c.carry_out-done.new.input ≡ c.args.input.now;
-      written = g.W.Sink.written c.args.output.now;
-      now = g.W.Sink.written c.carry_out-done.new.output;
-      Unwritten = c.carry_out-done.new.output ≡ c.args.output.now;
-      Said = Appends (g.E.Write.contents c.args.errors.now) (g.E.Write.contents c.carry_out-done.new.errors);
-      Left = Leaves b (g.O.OpenStores.keeps is b);
+      outcome = outcome_of g.W.Sink.written g.E.Write.contents c.args.output.now c.carry_out-done.new.output c.args.errors.now c.carry_out-done.new.errors (Leaves b (g.O.OpenStores.keeps is b));
+      Exchanged = ExchangedOver g.N.Network.opens g.N.Links.Links.answers c.args.network.now;
+      listening = listening_of g.N.Network.listens g.N.Network.refuses g.N.Listener.Listens.bound g.N.Listener.Listens.ended c.args.network.now;
     })
-    (record {
-      path = b;
-      Untouched = is ≡ was;
-      Unopened = g.O.OpenStores.opens is ≡ g.O.OpenStores.opens was;
-      Opened = g.O.OpenStores.opens is ≡ g.O.OpenStores.opens was + opens_at (is_in_memory b);
-      Begins = λ first s. Begins b first (g.O.OpenStores.is_clean is) (g.O.OpenStores.keeps was b) s;
-    }) c.carry_out-done.result)
+    (stored_of g.O.OpenStores.keeps g.O.OpenStores.is_clean g.O.OpenStores.opens was is b) c.carry_out-done.result)
     c.in-Ok.ensures.given gives (record { opened = c.agreements_in-agreed.result.0; opens = c.agreements_in-agreed.ensures; comes = c.carry_out-done.ensures.comes }))
 
 pub returns-in-Ok-clause-memory : goal.returns-in-Ok-clause-memory

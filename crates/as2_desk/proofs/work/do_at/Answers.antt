@@ -1,9 +1,19 @@
-use Rattle.as2_desk.specs.Posting.{if_noted}
+use Rattle.std.proofs.Common.{refl}
+use Rattle.as2_desk.proofs.HandedBack.{each_known}
+use Rattle.as2_desk.proofs.Unhinted.{unhinted}
 use Rattle.as2_desk.proofs.work.do_at.Goals as goal
 
 pub returns-in-Post-clause-does : goal.returns-in-Post-clause-does
-returns-in-Post-clause-does g c = rw c.in-Post.is (λ known stood. (
-  if_noted c.in-Post.logs (g.H.Journal.noted c.args.hints.now),
-  if_noted c.in-Post.logs (g.H.Journal.noted c.post.new.hints),
-  c.post.ensures.posts known stood,
-))
+returns-in-Post-clause-does g c = rw c.in-Post.is (λ known stood. (c.post.ensures.posts known stood).0)
+
+-- the links were opened here, and it is they that were sent over
+pub returns-in-Send-clause-does : goal.returns-in-Send-clause-does
+returns-in-Send-clause-does g c = rw c.in-Send.is (λ known stood.
+    let it = c.send_due.ensures.sends known stood in (
+      refl,
+      record {
+        end = it.end;
+        sends = each_known _ _ known it.sends (λ s w. (w.0, w.1, unhinted _ _ _ _ _ _ _ _ _ (λ text made all. (c.links-links.result, c.send_due.new.links, c.links-links.ensures, all)) w.2));
+        told = it.told;
+      },
+    ))

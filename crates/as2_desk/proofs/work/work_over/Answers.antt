@@ -1,8 +1,9 @@
 use Rattle.std.proofs.Common.{◌≡◌, ◌+◌, ◌∙◌, Bool, true, false, refl, sym, subst, arith}
 use Rattle.std.specs.Bool.{⊤}
-use Rattle.std.specs.Io.KnownBytes.{Appends}
+use Rattle.as2_host.specs.Networks.{ExchangedOver, listening_of}
 use Rattle.as2_exchange.specs.State.{State, empty}
 use Rattle.as2_desk.proofs.Opening.{each_left, goes_in_memory, goes_kept}
+use Rattle.as2_desk.specs.Observed.{input_of, outcome_of, stored_of}
 use Rattle.as2_desk.specs.Stores.{Begins, ByPlace, Leaves, is_in_memory, opens_at}
 use Rattle.as2_desk.proofs.work.work_over.Goals as goal
 
@@ -16,24 +17,13 @@ returns-then-eq-clause-goes g c =
     let is : is_in_memory path ≡ true = sym c.eq.ensures ∙ c.if-eq.true in
     goes_in_memory g.O.InMemory.Records.shows c.args.agreements.now c.args.options c.args.work
     (record {
-      before = g.R.Source.left c.args.input.now;
-      after = g.R.Source.left c.do_over.new.input;
-      calls = g.R.Source.calls c.args.input.now;
-      later = g.R.Source.calls c.do_over.new.input;
+      input = input_of g.R.Source.left g.R.Source.calls c.args.input.now c.do_over.new.input;
       Unread = c.do_over.new.input ≡ c.args.input.now;
-      written = g.W.Sink.written c.args.output.now;
-      now = g.W.Sink.written c.do_over.new.output;
-      Unwritten = c.do_over.new.output ≡ c.args.output.now;
-      Said = Appends (g.E.Write.contents c.args.errors.now) (g.E.Write.contents c.do_over.new.errors);
-      Left = Leaves path (g.O.OpenStores.keeps stores path);
+      outcome = outcome_of g.W.Sink.written g.E.Write.contents c.args.output.now c.do_over.new.output c.args.errors.now c.do_over.new.errors (Leaves path (g.O.OpenStores.keeps stores path));
+      Exchanged = ExchangedOver g.N.Network.opens g.N.Links.Links.answers c.args.network.now;
+      listening = listening_of g.N.Network.listens g.N.Network.refuses g.N.Listener.Listens.bound g.N.Listener.Listens.ended c.args.network.now;
     })
-    (record {
-      path = path;
-      Untouched = stores ≡ stores;
-      Unopened = opens ≡ opens;
-      Opened = opens ≡ opens + opens_at (is_in_memory path);
-      Begins = λ n s. Begins path n (g.O.OpenStores.is_clean stores) (g.O.OpenStores.keeps stores path) s;
-    })
+    (stored_of g.O.OpenStores.keeps g.O.OpenStores.is_clean g.O.OpenStores.opens stores stores path)
     c.do_over.result.0 c.do_over.result.1 c.open_in_memory-records.result c.open_in_memory-records.ensures c.do_over.ensures.fails c.do_over.ensures.does is
     refl (subst (λ (b : Bool). opens ≡ opens + opens_at b) (sym is) (omega arith))
     (λ s from. subst (λ (b : Bool). ByPlace b (s ≡ empty first) (g.O.OpenStores.keeps stores path s × g.O.OpenStores.is_clean stores)) is from)
@@ -52,24 +42,13 @@ returns-clause-goes g c =
     let is : is_in_memory path ≡ false = sym c.eq.ensures ∙ c.if-eq.false in
     goes_kept g.O.Opened.Records.shows c.args.agreements.now c.args.options c.args.work
     (record {
-      before = g.R.Source.left c.args.input.now;
-      after = g.R.Source.left c.do_over-left.new.input;
-      calls = g.R.Source.calls c.args.input.now;
-      later = g.R.Source.calls c.do_over-left.new.input;
+      input = input_of g.R.Source.left g.R.Source.calls c.args.input.now c.do_over-left.new.input;
       Unread = c.do_over-left.new.input ≡ c.args.input.now;
-      written = g.W.Sink.written c.args.output.now;
-      now = g.W.Sink.written c.do_over-left.new.output;
-      Unwritten = c.do_over-left.new.output ≡ c.args.output.now;
-      Said = Appends (g.E.Write.contents c.args.errors.now) (g.E.Write.contents c.do_over-left.new.errors);
-      Left = Leaves path (g.O.OpenStores.keeps stores path);
+      outcome = outcome_of g.W.Sink.written g.E.Write.contents c.args.output.now c.do_over-left.new.output c.args.errors.now c.do_over-left.new.errors (Leaves path (g.O.OpenStores.keeps stores path));
+      Exchanged = ExchangedOver g.N.Network.opens g.N.Links.Links.answers c.args.network.now;
+      listening = listening_of g.N.Network.listens g.N.Network.refuses g.N.Listener.Listens.bound g.N.Listener.Listens.ended c.args.network.now;
     })
-    (record {
-      path = path;
-      Untouched = stores ≡ was;
-      Unopened = opens ≡ opened;
-      Opened = opens ≡ opened + opens_at (is_in_memory path);
-      Begins = λ n s. Begins path n Clean (g.O.OpenStores.keeps was path) s;
-    })
+    (stored_of g.O.OpenStores.keeps g.O.OpenStores.is_clean g.O.OpenStores.opens was stores path)
     c.do_over-left.result.0 c.do_over-left.result.1 c.open-records.result Clean (g.O.OpenStores.keeps was path) opened opens
     c.open-records.ensures.found c.do_over-left.ensures.fails c.do_over-left.ensures.does is
     (c.close_in.ensures.counted ∙ c.open-records.ensures.counted) (λ same. same) (λ more. subst (λ (b : Bool). opens ≡ opened + opens_at b) (sym is) more)
