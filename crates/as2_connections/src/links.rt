@@ -1,5 +1,5 @@
 //! Links to partners over TCP, and why one brought no answer.
-ghost use Rattle.std.specs.Prelude.{◌≡◌, ℕ, List, Some, true, IsTrue};
+ghost use Rattle.std.specs.Prelude.{◌≡◌, ℕ, List, Some, true, IsTrue, ⊤};
 ghost use Rattle.std.specs.Io.KnownBytes.{Appends};
 ghost use Rattle.as2_http.specs.Devices.{Opens};
 ghost use Rattle.as2_http.specs.Sending.{AppendsPart};
@@ -128,7 +128,9 @@ fn unanswered(last: Option<ErrorKind>, waits: Waits) -> LinkFault {
 
 impl<'a> Connections<'a> {
     /// Links whose peers are waited for so long.
-    pub fn new(rt: &'a HostRuntime, waits: Waits) -> Connections<'a> {
+    pub fn new(rt: &'a HostRuntime, waits: Waits) -> Connections<'a>
+        ensures { result.waits ≡ waits }
+    {
         Connections {
             rt,
             waits,
@@ -154,6 +156,8 @@ impl<'a> Connections<'a> {
 }
 
 impl Links for Connections<'_> {
+    ghost answers = { λ _ _ _ _. ⊤ };
+
     fn exchange(&mut self, alloc: Global, job: &Job) -> TryAnswer {
         let (reader, writer) = match self.open(job) {
             Ok(ends) => ends,

@@ -1,5 +1,5 @@
 //! The network: connections over TCP that are served.
-ghost use Rattle.std.specs.Prelude.{◌≡◌, ℕ, List, Some};
+ghost use Rattle.std.specs.Prelude.{◌≡◌, ℕ, List, Some, ⊤};
 ghost use Rattle.as2_http.specs.Devices.{Opens};
 ghost use Rattle.as2_http.specs.Notes.{spoken};
 ghost use Rattle.as2_http.specs.StreamReads.{RunsPosts};
@@ -134,6 +134,12 @@ impl<'a> ListeningSocket<'a> {
 }
 
 impl Listens for ListeningSocket<'_> {
+    ghost use Rattle.std.specs.Net.Text.{socket_text};
+
+    ghost bound = { λ l. socket_text l.address };
+
+    ghost ended = { λ _ _ _. ⊤ };
+
     fn address(&self, alloc: Global) -> Result<String, Memory> {
         match self.address.to_string(alloc) {
             Ok(text) => Ok(text),
@@ -164,9 +170,18 @@ impl Listens for ListeningSocket<'_> {
 }
 
 impl<'a> Network for Sockets<'a> {
+    ghost use Rattle.std.specs.Duration.{as_nanos};
+    ghost use Rattle.as2_sockets.specs.Waits.{nanoseconds};
+
     type Listener = ListeningSocket<'a>;
 
     type Links = Connections<'a>;
+
+    ghost listens = { λ _ _ waits l. as_nanos l.limits.wait ≡ nanoseconds waits.seconds };
+
+    ghost refuses = { λ _ _ _. ⊤ };
+
+    ghost opens = { λ _ waits l. l.waits ≡ waits };
 
     fn listen(
         &self,
