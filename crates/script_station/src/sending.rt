@@ -27,6 +27,10 @@ struct Partners<'a> {
 }
 
 impl Links for Partners<'_> {
+    ghost use Rattle.std.specs.Prelude.{⊤};
+
+    ghost answers = { λ _ _ _ _. ⊤ };
+
     fn exchange(&mut self, _alloc: Global, job: &Job) -> TryAnswer {
         self.asked.say(", ");
         self.asked.say_bytes(job.authority.as_slice());
