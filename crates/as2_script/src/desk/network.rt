@@ -38,6 +38,12 @@ fn end_named(word: &str) -> Served {
 }
 
 impl Listens for Peers<'_> {
+    ghost use Rattle.std.specs.Prelude.{codes, ⊤};
+
+    ghost bound = { λ _. codes "127.0.0.1:8080" };
+
+    ghost ended = { λ _ _ _. ⊤ };
+
     fn address(&self, alloc: Global) -> Result<String, Memory> {
         let mut text = String::new(alloc);
         text.push_str("127.0.0.1:8080")?;
@@ -108,6 +114,10 @@ fn reply_of(alloc: Global, text: &str) -> Result<TryAnswer, Trouble> {
 }
 
 impl Links for Peers<'_> {
+    ghost use Rattle.std.specs.Prelude.{⊤};
+
+    ghost answers = { λ _ _ _ _. ⊤ };
+
     fn exchange(&mut self, alloc: Global, _job: &Job) -> TryAnswer {
         match self.settings.text("partner-reply") {
             Some(text) => reply_of(alloc, text).unwrap_or(TryAnswer::NoAnswer),
@@ -134,9 +144,17 @@ fn link_fault(word: &str) -> LinkFault {
 }
 
 impl<'a> Network for Peers<'a> {
+    ghost use Rattle.std.specs.Prelude.{⊤};
+
     type Listener = Peers<'a>;
 
     type Links = Peers<'a>;
+
+    ghost listens = { λ _ _ _ _. ⊤ };
+
+    ghost refuses = { λ _ _ _. ⊤ };
+
+    ghost opens = { λ _ _ _. ⊤ };
 
     fn listen(
         &self,
