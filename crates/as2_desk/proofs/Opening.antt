@@ -12,7 +12,7 @@ use Rattle.as2_desk.proofs.Working.{does_left, observing}
 use Rattle.as2_desk.specs.Endings.{EndsRefused}
 use Rattle.as2_desk.specs.Observed.{Observed, Stored}
 use Rattle.as2_desk.specs.Runs.{Goes}
-use Rattle.as2_desk.specs.Stores.{ByPlace, is_in_memory, opens_at}
+use Rattle.as2_desk.specs.Stores.{ByPlace, is_in_memory}
 use Rattle.as2_desk.specs.Works.{Does}
 use Rattle.as2_desk.specs.declared.refusal.CommandFault.TheVariants.{Store}
 use Rattle.as2_desk.specs.declared.status.Ran.{Ran}

@@ -33,7 +33,8 @@ abbrev pub listening_line : List ℕ → List ℕ
 listening_line address = codes "listening: " ++ (address ++ codes "\n")
 
 -- One more connection was served, which ended so (Ended), and its line was written where it could be.
-pub record ServesNext {M : Medium} {V F : Type 0} (A : AgreedValues) (given : Option ℕ) (old new : Standing M) (Ended : Served → Type 0) (written now : Option (List ℕ)) (r : Result V F) : Type 0 where
+pub record ServesNext {M : Medium} {V F : Type 0} (A : AgreedValues) (given : Option ℕ) (old new : Standing M)
+    (Ended : Served → Type 0) (written now : Option (List ℕ)) (r : Result V F) : Type 0 where
   pub end : Served
   pub ended : Ended end
   pub serves : new.IsClean → (s : State) → old.Rests s → (t : State) × new.Rests t × ServesOne A given s t
@@ -41,7 +42,8 @@ pub record ServesNext {M : Medium} {V F : Type 0} (A : AgreedValues) (given : Op
 
 -- Connections with these ends (Ended) were served, one after the other: as many as that, and a line written for each, or fewer where a line
 -- couldn't be written.
-pub record ServesConnections {M : Medium} {V F : Type 0} (A : AgreedValues) (given : Option ℕ) (count : ℕ) (old new : Standing M) (Ended : List Served → Type 0) (written now : Option (List ℕ)) (r : Result V F) : Type 0 where
+pub record ServesConnections {M : Medium} {V F : Type 0} (A : AgreedValues) (given : Option ℕ) (count : ℕ) (old new : Standing M)
+    (Ended : List Served → Type 0) (written now : Option (List ℕ)) (r : Result V F) : Type 0 where
   pub clean : new.IsClean → old.IsClean
   pub ends : List Served
   pub ended : Ended ends

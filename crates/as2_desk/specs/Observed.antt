@@ -59,7 +59,13 @@ module _ {R : Type 0} (left : R → Option (List ℕ)) (calls : R → ℕ) where
 -- of two writers, before and behind
 module _ {W E : Type 0} (written : W → Option (List ℕ)) (contents : E → Option (List ℕ)) where
   abbrev pub outcome_of : W → W → E → E → (State → Type 0) → Outcome
-  outcome_of old new errors said Left = record { written = written old; now = written new; Unwritten = new ≡ old; Said = Appends (contents errors) (contents said); Left = Left }
+  outcome_of old new errors said Left = record {
+    written = written old;
+    now = written new;
+    Unwritten = new ≡ old;
+    Said = Appends (contents errors) (contents said);
+    Left = Left;
+  }
 
 -- of stores, before and behind, and the path of the one that is asked for
 module _ {O : Type 0} (keeps : O → List ℕ → State → Type 0) (is_clean : O → Type 0) (opens : O → ℕ) where

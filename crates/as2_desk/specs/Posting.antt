@@ -25,5 +25,6 @@ pub record Posts (agreements : AgreedValues) (moment : ℕ) (known : Option Stat
   pub end : Served
   pub posts : IfSome known (λ s. (t : State) × o.Left t × RunsPosts agreements moment s t)
   pub serves : IfSome known (λ s. (text : List ℕ) → input.before ≡ Some text
-      → (t : State) × o.Left t × Serves agreements moment s t text input.after (spoken o.written noted) (spoken o.now new) input.calls input.later end)
+      → (t : State) × o.Left t
+      × Serves agreements moment s t text input.after (spoken o.written noted) (spoken o.now new) input.calls input.later end)
   pub told : Ends (exit_status end) (end_line end) o.Said ran

@@ -1,5 +1,5 @@
 -- What the program comes to where the words ask for something.
-use Rattle.std.specs.Prelude.{◌≡◌, ◌⊎◌, ℕ, List, Option, IfSome, Ok, Err, ⊤}
+use Rattle.std.specs.Prelude.{◌⊎◌, ℕ, List, Option, IfSome, Ok, Err, ⊤}
 use Rattle.std.specs.Io.KnownBytes.{Appends}
 use Rattle.as2_agreement.specs.Agreements.{AgreedValues}
 use Rattle.as2_exchange.specs.State.{State}

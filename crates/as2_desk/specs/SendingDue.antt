@@ -22,7 +22,8 @@ TellsSent sent.Unwritten Said ran = EndsRefused CannotWrite Said ran
 
 -- Where the state is known that the records stood for, what was due was sent from it, and what is left stands for the state that
 -- this led to; and what went over the links (Exchanged) are its jobs, each with the outcome that was taken.
-pub record SendsDue (agreements : AgreedValues) (moment : ℕ) (known : Option State) (o : Outcome) (Exchanged : List Exchange → Type 0) (ran : Ran) : Type 0 where
+pub record SendsDue (agreements : AgreedValues) (moment : ℕ) (known : Option State) (o : Outcome)
+    (Exchanged : List Exchange → Type 0) (ran : Ran) : Type 0 where
   pub end : Sent
   pub sends : IfSome known (λ s. (t : State) × o.Left t × Sends agreements moment s t o.written o.now (λ text made. Exchanged made) end)
   pub told : TellsSent end o.Said ran

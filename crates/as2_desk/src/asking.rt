@@ -147,7 +147,8 @@ pub(crate) fn ask<K: Records, W: Sink, E: Write>(
     ensures status { (result.status ≡ done) ⊎ ((result.status ≡ refused) ⊎ (result.status ≡ failed)) }
     ensures clean { (K.shows station.new).IsClean → (K.shows station.old).IsClean }
     ensures asks { (known : Option State) → IfSome known (λ s. (K.shows station.new).IsClean × (K.shows station.old).Rests s)
-        → Asks agreements.now moment question known (outcome_of W.written E.contents output.old output.new errors.old errors.new (λ t. (K.shows station.new).Rests t)) result }
+        → Asks agreements.now moment question known
+        (outcome_of W.written E.contents output.old output.new errors.old errors.new (λ t. (K.shows station.new).Rests t)) result }
     ensures store { result.status ≡ failed → (output.new ≡ output.old)
         × ((fault : TheFault) × EndsRefused (Failing fault) (Appends (E.contents errors.old) (E.contents errors.new)) result) }
 {

@@ -1,5 +1,5 @@
 //! A command line, run.
-ghost use Rattle.std.specs.Prelude.{◌≡◌, ◌≢◌, ◌+◌, ◌⊎◌, ℕ, List, codes};
+ghost use Rattle.std.specs.Prelude.{◌≡◌, ◌≢◌, ◌⊎◌, ℕ, List, codes};
 ghost use Rattle.std.specs.Io.KnownBytes.{Appends};
 ghost use Rattle.clap.specs.Walk.{texts};
 ghost use Rattle.clap.specs.Words.{kind_of};
@@ -11,7 +11,7 @@ ghost use Rattle.as2_desk.specs.Endings.{EndsRefused, Stopped};
 ghost use Rattle.as2_desk.specs.Observed.{input_of, outcome_of, stored_of};
 ghost use Rattle.as2_desk.specs.Runs.{Comes, IsSending, Runs};
 ghost use Rattle.as2_desk.specs.Statuses.{done, failed, faulty, refused};
-ghost use Rattle.as2_desk.specs.Stores.{Begins, Leaves, is_in_memory, opens_at};
+ghost use Rattle.as2_desk.specs.Stores.{Leaves};
 ghost use Rattle.as2_commands.specs.declared.tasks.Task.{Task as TheTask};
 ghost use Rattle.as2_desk.specs.declared.refusal.CommandFault.TheVariants.{Memory};
 
@@ -85,7 +85,8 @@ pub fn run<
     // A faulty command line reads and writes nothing, and opens nothing.
     ensures untouched { result.status ≡ faulty → (input.new ≡ input.old) × (output.new ≡ output.old) × (stores.new ≡ stores.old) }
     // A store with a fault is told, and nothing is read or written then; what was sent before stands, with its lines.
-    ensures store { result.status ≡ failed → Stopped ((path store : List ℕ) × (task : TheTask) × Gives (texts words.entry.now) clock path store task × IsSending task) (input.new ≡ input.old) (output.new ≡ output.old)
+    ensures store { result.status ≡ failed → Stopped
+        ((path store : List ℕ) × (task : TheTask) × Gives (texts words.entry.now) clock path store task × IsSending task) (input.new ≡ input.old) (output.new ≡ output.old)
         (Appends (E.contents errors.old) (E.contents errors.new)) result }
 {
     match options_in(alloc, words, clock) {
@@ -131,7 +132,8 @@ fn carry_out<
         (record {
           input = input_of R.left R.calls input.old input.new;
           Unread = input.new ≡ input.old;
-          outcome = outcome_of W.written E.contents output.old output.new errors.old errors.new (Leaves options.entry.store.now (O.keeps stores.new options.entry.store.now));
+          outcome = outcome_of W.written E.contents output.old output.new errors.old errors.new
+              (Leaves options.entry.store.now (O.keeps stores.new options.entry.store.now));
           Exchanged = ExchangedOver N.opens N.Links.answers network.now;
           listening = listening_of N.listens N.refuses N.Listener.bound N.Listener.ended network.now;
         })

@@ -36,7 +36,8 @@ pub(crate) fn send_due<K: Records, L: Links, W: Sink, H: Write, E: Write>(
     ensures status { (result.status ≡ done) ⊎ ((result.status ≡ refused) ⊎ (result.status ≡ failed)) }
     ensures clean { (K.shows station.new).IsClean → (K.shows station.old).IsClean }
     ensures sends { (known : Option State) → IfSome known (λ s. (K.shows station.new).IsClean × (K.shows station.old).Rests s)
-        → SendsDue agreements.now moment known (outcome_of W.written E.contents output.old output.new errors.old errors.new (λ t. (K.shows station.new).Rests t))
+        → SendsDue agreements.now moment known
+        (outcome_of W.written E.contents output.old output.new errors.old errors.new (λ t. (K.shows station.new).Rests t))
         (λ made. Exchanges L.answers links.old made links.new) result }
     ensures store { result.status ≡ failed
         → (fault : TheFault) × EndsRefused (Failing fault) (Appends (E.contents errors.old) (E.contents errors.new)) result }

@@ -95,7 +95,8 @@ pub(crate) fn serve<K: Records, N: Network, W: Sink, H: Journal, E: Write>(
     ensures status { (result.status ≡ done) ⊎ (result.status ≡ refused) }
     ensures clean { (K.shows station.new).IsClean → (K.shows station.old).IsClean }
     ensures serves { (known : Option State) → IfSome known (λ s. (K.shows station.new).IsClean × (K.shows station.old).Rests s)
-        → ServesCount agreements.now serving.entry known (outcome_of W.written E.contents output.old output.new errors.old errors.new (λ t. (K.shows station.new).Rests t))
+        → ServesCount agreements.now serving.entry known
+        (outcome_of W.written E.contents output.old output.new errors.old errors.new (λ t. (K.shows station.new).Rests t))
         (listening_of N.listens N.refuses N.Listener.bound N.Listener.ended network.now serving.entry) result }
 {
     let Ok(mut listener) = network.listen(alloc, serving.address, serving.waits) else {

@@ -1,5 +1,5 @@
 //! What a command does over the store.
-ghost use Rattle.std.specs.Prelude.{◌≡◌, ◌+◌, ◌⊎◌, Option, Ok, None, codes, IfErr, IfOk, IfSome, IsSomeAnd};
+ghost use Rattle.std.specs.Prelude.{◌≡◌, ◌⊎◌, Option, Ok, None, codes, IfErr, IfOk, IfSome, IsSomeAnd};
 ghost use Rattle.std.specs.Io.KnownBytes.{Appends};
 ghost use Rattle.as2_exchange.specs.State.{State};
 ghost use Rattle.as2_host.specs.Networks.{ExchangedOver, listening_of};
@@ -7,7 +7,7 @@ ghost use Rattle.as2_desk.specs.Endings.{EndsRefused, Stopped};
 ghost use Rattle.as2_desk.specs.Observed.{input_of, outcome_of, stored_of};
 ghost use Rattle.as2_desk.specs.Runs.{Goes};
 ghost use Rattle.as2_desk.specs.Statuses.{done, failed, refused};
-ghost use Rattle.as2_desk.specs.Stores.{Begins, Leaves, is_in_memory, opens_at};
+ghost use Rattle.as2_desk.specs.Stores.{Leaves};
 ghost use Rattle.as2_desk.specs.Works.{Does, IsWork, SendsWork};
 ghost use Rattle.as2_desk.specs.declared.refusal.CommandFault.TheVariants.{Store as Failing};
 

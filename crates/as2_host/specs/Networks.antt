@@ -29,7 +29,8 @@ module _ {Network Listener : Type 0} (listens : Network → List ℕ → Waits �
   listening_of network serving = record {
     Refused = refuses network serving.address serving.waits;
     Opened = (first : Listener) × listens network serving.address serving.waits first;
-    Awaited = λ address ends. (first : Listener) × (last : Listener) × listens network serving.address serving.waits first × (address ≡ bound first) × EndsEach ended first ends last;
+    Awaited = λ address ends. (first : Listener) × (last : Listener)
+        × listens network serving.address serving.waits first × (address ≡ bound first) × EndsEach ended first ends last;
   }
 
 module _ {Network Links : Type 0} (opens : Network → Waits → Links → Type 0) (answers : Links → Job → TryAnswer → Links → Type 0) where

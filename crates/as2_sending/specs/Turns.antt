@@ -119,7 +119,8 @@ Ends A m s last t text sent.Unwritten = IsUntold A m s last t text
 -- Turns were taken one after the other, and then sending ended so. The events are a run of the machine, what stands of each document
 -- then is its history, and what was written is the lines of the turns. What was hinted, and what went over the links (Seen), is why
 -- each turn failed that did, and the jobs that were handed out, each with the outcome that was taken; of the last events too.
-pub record Sends (A : Agreements) (m : ℕ) (s t : State) (before after : Option (List ℕ)) (Seen : Text → List Exchange → Type 0) (end : Sent) : Type 0 where
+pub record Sends (A : Agreements) (m : ℕ) (s t : State) (before after : Option (List ℕ))
+    (Seen : Text → List Exchange → Type 0) (end : Sent) : Type 0 where
   pub done : List Turn
   pub mid : State
   pub all : TakesAll A m s done mid
@@ -159,6 +160,9 @@ ClosesTo A m s what x mid c (Ok became) = (t : State) × (step A mid (outcome_of
 ClosesTo A m s what x mid c (Err end) = (last : Trace) × (t : State) × Ends A m s last t [] end × c.Rests t × (exchanges last ≡ x ∷ [])
 
 -- a turn is taken whole, with its line, its hint and its exchange; or sending ends with it, and nothing is hinted
-abbrev pub TurnsTo : {M : Medium} {U : Type 0} → Agreements → ℕ → State → Standing M → Option (List ℕ) → Option (List ℕ) → (Text → List Exchange → Type 0) → Result U Sent → Type 0
-TurnsTo A m s c before after Seen (Ok done) = (x : Turn) × (t : State) × Takes A m s x t × c.Rests t × Appends before after (line x.what x.became) × Seen (hint_of x) (exchanged_by x ∷ [])
-TurnsTo A m s c before after Seen (Err end) = (last : Trace) × (t : State) × (text : Text) × Ends A m s last t text end × c.Rests t × Appends before after text × Seen [] (exchanges last)
+abbrev pub TurnsTo : {M : Medium} {U : Type 0} → Agreements → ℕ → State → Standing M → Option (List ℕ) → Option (List ℕ)
+    → (Text → List Exchange → Type 0) → Result U Sent → Type 0
+TurnsTo A m s c before after Seen (Ok done) =
+    (x : Turn) × (t : State) × Takes A m s x t × c.Rests t × Appends before after (line x.what x.became) × Seen (hint_of x) (exchanged_by x ∷ [])
+TurnsTo A m s c before after Seen (Err end) =
+    (last : Trace) × (t : State) × (text : Text) × Ends A m s last t text end × c.Rests t × Appends before after text × Seen [] (exchanges last)

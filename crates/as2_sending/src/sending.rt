@@ -47,7 +47,8 @@ pub fn send<K: Records, L: Links, W: Sink, E: Write>(
     ensures sends { (K.shows station.new).IsClean → (s : State) → (K.shows station.old).Rests s
         → (t : State) × (K.shows station.new).Rests t
         × Sends agreements.now moment s t (W.written output.old) (W.written output.new)
-        (λ text made. (result.told ≡ true → Appends (E.contents hints.old) (E.contents hints.new) text) × Exchanges L.answers links.old made links.new) result.end }
+        (λ text made. (result.told ≡ true → Appends (E.contents hints.old) (E.contents hints.new) text)
+        × Exchanges L.answers links.old made links.new) result.end }
 {
     let mut told = true;
     for _ in 0..TURNS {

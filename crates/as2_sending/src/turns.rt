@@ -127,7 +127,8 @@ fn turn<K: Records, L: Links, W: Sink, E: Write>(
     ensures clean { (K.shows station.new).IsClean → (K.shows station.old).IsClean }
     ensures turned { (K.shows station.new).IsClean → (s : State) → (K.shows station.old).Rests s → next s moment ≡ Some what
         → TurnsTo agreements.now moment s (K.shows station.new) (W.written output.old) (W.written output.new)
-        (λ text made. (IfOk result (λ told. told ≡ true) → Appends (E.contents hints.old) (E.contents hints.new) text) × Exchanges L.answers links.old made links.new) result }
+        (λ text made. (IfOk result (λ told. told ≡ true) → Appends (E.contents hints.old) (E.contents hints.new) text)
+        × Exchanges L.answers links.old made links.new) result }
 {
     let job = begin(alloc, agreements, moment, station, what)?;
     let got = links.exchange(alloc, &job);
@@ -153,7 +154,8 @@ pub(crate) fn take_turn<K: Records, L: Links, W: Sink, E: Write>(
     ensures clean { (K.shows station.new).IsClean → (K.shows station.old).IsClean }
     ensures turned { (K.shows station.new).IsClean → (s : State) → (K.shows station.old).Rests s
         → TurnsTo agreements.now moment s (K.shows station.new) (W.written output.old) (W.written output.new)
-        (λ text made. (IfOk result (λ told. told ≡ true) → Appends (E.contents hints.old) (E.contents hints.new) text) × Exchanges L.answers links.old made links.new) result }
+        (λ text made. (IfOk result (λ told. told ≡ true) → Appends (E.contents hints.old) (E.contents hints.new) text)
+        × Exchanges L.answers links.old made links.new) result }
 {
     match station.next(moment) {
         Ok(Some(what)) => turn(

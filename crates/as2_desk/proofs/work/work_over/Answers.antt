@@ -1,10 +1,10 @@
 use Rattle.std.proofs.Common.{◌≡◌, ◌+◌, ◌∙◌, Bool, true, false, refl, sym, subst, arith}
 use Rattle.std.specs.Bool.{⊤}
 use Rattle.as2_host.specs.Networks.{ExchangedOver, listening_of}
-use Rattle.as2_exchange.specs.State.{State, empty}
+use Rattle.as2_exchange.specs.State.{empty}
 use Rattle.as2_desk.proofs.Opening.{each_left, goes_in_memory, goes_kept}
 use Rattle.as2_desk.specs.Observed.{input_of, outcome_of, stored_of}
-use Rattle.as2_desk.specs.Stores.{Begins, ByPlace, Leaves, is_in_memory, opens_at}
+use Rattle.as2_desk.specs.Stores.{ByPlace, Leaves, is_in_memory, opens_at}
 use Rattle.as2_desk.proofs.work.work_over.Goals as goal
 
 -- the store is in memory
