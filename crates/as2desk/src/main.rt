@@ -5,9 +5,8 @@ ghost use Rattle.as2_http.specs.Devices.{Opens};
 
 use as2_connections::{Sockets, clock};
 use as2_desk::Lines;
-use as2_files::{FileSystem, Starting, StoreFiles};
+use as2_files::{FileSystem, OpenFiles, Starting, StoreFiles};
 use as2_http::Counted;
-use sqlite_disk::Start;
 use sqlite_std_file::Unknown;
 use std::io::{LineWriter, Stderr, Stdin, Stdout};
 use std::marker::Brand;
@@ -16,11 +15,12 @@ use std::sync::ledger::{Blank, Ledger};
 use std::{env, io};
 
 /// Runs the command line `words` over the file system, the network and the standard streams, with counts of the calls that are made of
-/// input and output. `start` stands for what the files of its store hold as they are opened; hints and notes of replies go to `hints`. The exit status.
-fn run<S: Start + Drop, A: Ledger, B: Ledger, C: Ledger, D: Ledger>(
+/// input and output. `opener` opens the files of its store; it is any one, since at one kind of files the call of the desk costs the prover too
+/// much. Hints and notes of replies go to `hints`. The exit status.
+fn run<F: OpenFiles + Drop, A: Ledger, B: Ledger, C: Ledger, D: Ledger>(
     rt: &HostRuntime,
     words: &[&str],
-    start: S,
+    opener: F,
     hints: &mut Lines<LineWriter<Stderr>>,
     reads: Blank,
     failed_reads: Blank,
@@ -40,7 +40,7 @@ fn run<S: Start + Drop, A: Ledger, B: Ledger, C: Ledger, D: Ledger>(
         words,
         clock(rt),
         &files,
-        &mut StoreFiles::new(files, Starting { start }),
+        &mut StoreFiles::new(files, opener),
         &Sockets { rt },
         &mut input,
         &mut output,
@@ -66,10 +66,10 @@ fn main(rt: HostRuntime) -> io::Result<ExitCode> {
     let mut hints = Lines {
         inner: LineWriter::new(rt.alloc(), rt.stderr())?,
     };
-    let status = run::<Unknown, Brand, Brand, Brand, Brand>(
+    let status = run::<Starting<Unknown>, Brand, Brand, Brand, Brand>(
         &rt,
         texts.as_slice(),
-        Unknown,
+        Starting { start: Unknown },
         &mut hints,
         Blank::new(1),
         Blank::new(1),
