@@ -3,10 +3,13 @@
 
 Each list is played over two stations at once, one with its records in SQLite and one with its records in lists, both in memory. What
 they answer to each event and to each read has to be the same, byte by byte. The program in tests/differential/ does that; this writes
-the lists as scripts (docs/SCRIPTS.md), runs the program by `rt try` over a copy of the repository, and tells what it found. The files
-of the program end in .rattle, since `rt ci` refuses a file .rt that belongs to no crate; in the copy they end in .rt.
+the lists as scripts (docs/SCRIPTS.md), builds the program in a copy of the crates that it stands on, has it play the lists, and tells what
+it found. The files of the program end in .rattle, since `rt ci` refuses a file .rt that belongs to no crate; in the copy they end in .rt.
 
-A list takes about a second, most of it over SQLite, and the building of the program some minutes before.
+Where these crates stand proved in crates/*/out and no source is newer, the program is proved over them and built by `rt run`, and several
+processes play the lists side by side. The proof takes about five minutes, and a list one or two milliseconds. The program then stays in
+.git/differential, if .git is a folder, and is built anew where `rt` finds that something has changed. Where one of the crates isn't proved,
+nor is the program: `rt try` builds it with checks, in a minute or two, and plays the lists one after the other, each in half a second or more.
 
 The list of a seed is always the same. SEED (1 if not given) is the seed of the first list, and each further list has the next one; so
 `differential.py 17 1` plays the list of seed 17 alone. LISTS is 10,000 if not given. A list has 5 to 40 events, with reads between
@@ -16,13 +19,16 @@ that are posted or answered, receipts that are owed, and moments that mostly ris
     --control   takes one event over SQLite alone: that has to be found out, or the status is 1
     --answers   tells how often each answer came to each event, over SQLite alone
     --write     prints the lists, and runs nothing
+    --jobs N    how many processes play the lists of a proved program; if not given, one a processor, and at most 4
 
 The last line says how many lists and lines were compared, how many lists differ, and how long it took. The first ten of these are
 told with their seed. The status is 1 where a list differs, or where the program didn't get to the end."""
 import argparse
 import base64
 import collections
+import concurrent.futures
 import hashlib
+import os
 import pathlib
 import random
 import re
@@ -33,6 +39,11 @@ import tempfile
 import time
 
 TOP = pathlib.Path(__file__).resolve().parent.parent
+sys.path.insert(0, str(TOP / "tools"))
+sys.dont_write_bytecode = True
+import build  # tools/build.py: which crates stand on which, and whether they are proved
+
+PROGRAM = "differential"
 DATA = TOP / "crates" / "as2_script" / "data"
 TEXTS = ["plain.texts", "station.texts", "alone.texts", "replies.texts"]
 USES = (
@@ -41,6 +52,7 @@ USES = (
 )
 LISTS_A_FILE = 20
 SECONDS = 600
+MOST_JOBS = 4
 
 LAST_MOMENT = 253402300799
 LAST_NUMBER = 999999999999
@@ -102,7 +114,7 @@ class Writer:
         # Lines of posts, keys of received documents, numbers of owed receipts, documents with partner and content, and begun ones.
         self.posts, self.keys, self.owed, self.documents, self.begun, self.begun_owed = [], [], [], [], [], []
         self.is_agreed = True
-        # How seldom a content is long: the records in SQLite take a second for one.
+        # How seldom a content is long: under `rt try` the records in SQLite take a second for one.
         self.seldom = self.random.choice([10] + [200] * 9)
 
     def one_in(self, count):
@@ -298,16 +310,33 @@ class List:
         return "".join(f"{line}\n" for line in [f"= {self.seed}", *self.lines])
 
 
-def copied(folder):
-    """Copies what the program is built from, and gives it a line in crates.txt."""
+def below():
+    """Returns the crates that the program stands on, the lowest first."""
+    uses = build.crates_of(TOP / "crates.txt")
+    uses[PROGRAM] = [it for it in USES.split() if it in uses]
+    return build.below(PROGRAM, uses)
+
+
+def are_proved(crates):
+    """Whether all of these stand proved in their folders out/, and no source is newer."""
+    uses = build.crates_of(TOP / "crates.txt")
+    return all(build.Task(it, uses, "").is_done() for it in crates)
+
+
+def copied(folder, crates, parts):
+    """Copies these parts of the crates, and the program, with a crates.txt of these alone."""
     shutil.copy(TOP / "HANDLES", folder / "HANDLES")
-    shutil.copytree(TOP / "crates", folder / "crates", ignore=shutil.ignore_patterns("out", "must-fail", "data"))
-    source = folder / "crates" / "differential" / "src"
+    for crate in crates:
+        for part in parts:
+            if (TOP / "crates" / crate / part).is_dir():
+                build.link_tree(TOP / "crates" / crate / part, folder / "crates" / crate / part)
+    source = folder / "crates" / PROGRAM / "src"
     source.mkdir(parents=True)
     for file in (TOP / "tests" / "differential").glob("*.rattle"):
         shutil.copy(file, source / f"{file.stem}.rt")
-    crates = (TOP / "crates.txt").read_text(encoding="utf-8")
-    (folder / "crates.txt").write_text(f"{crates}differential: {USES}\n", encoding="utf-8")
+    listed = (TOP / "crates.txt").read_text(encoding="utf-8").splitlines(keepends=True)
+    some = [it for it in listed if it.partition(":")[0].strip() in crates]
+    (folder / "crates.txt").write_text("".join([*some, f"{PROGRAM}: {USES}\n"]), encoding="utf-8")
 
 
 def files_of(lists):
@@ -315,18 +344,56 @@ def files_of(lists):
     return {f"{at:05}": lists[at:at + LISTS_A_FILE] for at in range(0, len(lists), LISTS_A_FILE)}
 
 
-def printed_of(files):
-    """Plays the files, each by a run of its own, and gives what was printed of each, as soon as it was played to the end."""
-    with tempfile.TemporaryDirectory(prefix="differential-") as name, tempfile.TemporaryFile("w+", errors="replace") as said:
-        folder = pathlib.Path(name)
-        copied(folder)
-        (folder / "lists").mkdir()
-        for name, some in files.items():
-            (folder / "lists" / name).write_text("".join(it.text() for it in some), encoding="utf-8")
-        words = ["rt", "try", "--seconds", str(SECONDS), "--cases", str(folder / "lists")]
-        for name in TEXTS:
-            words += ["--data", f"{name}={DATA / name}"]
-        how = {"cwd": folder / "crates" / "differential", "stdout": subprocess.PIPE, "stderr": said, "text": True, "errors": "replace"}
+def run_of(words, folder, **how):
+    """Runs a command in a folder without input, and returns what came of it, with what it wrote."""
+    how |= {"stdin": subprocess.DEVNULL, "capture_output": True, "text": True, "errors": "replace", "check": False}
+    return subprocess.run(words, cwd=folder, **how)
+
+
+def built(place, jobs):
+    """Proves and builds the program, unless it was kept and `rt` finds nothing changed, and returns whether it stands."""
+    made, git = place / "out", TOP / ".git"
+    if (git / PROGRAM).is_dir():
+        shutil.copytree(git / PROGRAM, made)
+    run = run_of(["rt", "run", "--jobs", str(jobs)], place)
+    if run.returncode != 0:
+        print(f"rt run: status {run.returncode}: {(run.stdout + run.stderr)[-2000:]}", flush=True)
+        return False
+    if git.is_dir():
+        shutil.copytree(made, git / PROGRAM, ignore=shutil.ignore_patterns("incremental", "*.o"), dirs_exist_ok=True)
+    return True
+
+
+def by_proved(folder, files, jobs):
+    """Builds the program, and gives what it prints of each file in lists/ that it plays to the end, each in a process of its own."""
+    place = folder / "crates" / PROGRAM
+    if not built(place, jobs):
+        return
+    for name in TEXTS:
+        shutil.copy(DATA / name, folder / "lists" / name)
+
+    def play(name):
+        try:
+            run = run_of([place / "out" / PROGRAM, *TEXTS, name], folder / "lists", timeout=SECONDS)
+        except subprocess.TimeoutExpired:
+            return "", f"no end in {SECONDS} s"
+        return run.stdout, f"status {run.returncode}: {run.stderr[-2000:]}"
+
+    with concurrent.futures.ThreadPoolExecutor(jobs) as pool:
+        for name, (printed, ended) in zip(files, pool.map(play, files)):
+            if re.search("^all: ", printed, re.M):
+                yield name, printed
+            else:
+                print(f"the lists from {files[name][0].seed} on were not played to the end: {ended}", flush=True)
+
+
+def by_tried(folder):
+    """Builds the program with checks and unproved, and gives what it prints of each file in lists/, as soon as it is played to the end."""
+    words = ["rt", "try", "--seconds", str(SECONDS), "--cases", str(folder / "lists")]
+    for name in TEXTS:
+        words += ["--data", f"{name}={DATA / name}"]
+    with tempfile.TemporaryFile("w+", errors="replace") as said:
+        how = {"cwd": folder / "crates" / PROGRAM, "stdout": subprocess.PIPE, "stderr": said, "text": True, "errors": "replace"}
         with subprocess.Popen([*words, "--", *TEXTS, "{}"], **how) as run:
             printed = ""
             for line in run.stdout:
@@ -338,6 +405,21 @@ def printed_of(files):
         said.seek(0)
         if run.returncode != 0:
             print(f"rt try: status {run.returncode}: {said.read()[-2000:]}", flush=True)
+
+
+def printed_of(files, jobs):
+    """Plays the files, each by a run of its own, and gives what was printed of each that was played to the end."""
+    with tempfile.TemporaryDirectory(prefix="differential-") as name:
+        folder, crates = pathlib.Path(name), below()
+        (folder / "lists").mkdir()
+        for name, some in files.items():
+            (folder / "lists" / name).write_text("".join(it.text() for it in some), encoding="utf-8")
+        if are_proved(crates):
+            copied(folder, crates, [*build.PARTS, "out/rlib"])
+            yield from by_proved(folder, files, jobs)
+        else:
+            copied(folder, crates, build.PARTS)
+            yield from by_tried(folder)
 
 
 def differing(some, printed):
@@ -353,11 +435,11 @@ def differing(some, printed):
 class Found(dict):
     """The lists that differ, each with its lines that do, and how many lists and lines were compared."""
 
-    def __init__(self, lists, tells=False):
+    def __init__(self, lists, jobs, tells=False):
         super().__init__()
         self.lists, self.lines, self.wanted, began = 0, 0, len(lists), time.monotonic()
         files = files_of(lists)
-        for name, printed in printed_of(files):
+        for name, printed in printed_of(files, jobs):
             rows = sum(it.rows() for it in files[name])
             if int(re.search(r"^all: (\d+) rows", printed, re.M)[1]) != rows:
                 print(f"the lists from {files[name][0].seed} on were not read as they are written", flush=True)
@@ -390,30 +472,30 @@ def kind_of(line):
     return f"{name}: {answer}"
 
 
-def answers(lists):
+def answers(lists, jobs):
     """Tells how often each answer came to each event, and returns 0 if all lists were played."""
     for it in lists:
         it.told_alone()
-    found = Found(lists)
+    found = Found(lists, jobs)
     kinds = collections.Counter(kind_of(line) for lines in found.values() for line in lines)
     for kind, count in sorted(kinds.items()):
         print(f"{count:7} {kind[:150]}")
     return 0 if found.is_whole() else 1
 
 
-def control():
+def control(jobs):
     """Spoils the second of three lists, and returns 0 if that one alone is found."""
     lists = [List(seed) for seed in (1, 2, 3)]
     lists[1].spoiled()
-    found = Found(lists)
+    found = Found(lists, jobs)
     is_well = found.is_whole() and list(found) == [lists[1]]
     print("the control was found out" if is_well else "THE CONTROL WAS NOT FOUND OUT", flush=True)
     return 0 if is_well else 1
 
 
-def compare(lists):
+def compare(lists, jobs):
     """Compares on these lists, tells what differs, and returns 0 if nothing does."""
-    found = Found(lists, tells=True)
+    found = Found(lists, jobs, tells=True)
     return 0 if found.is_whole() and not found else 1
 
 
@@ -424,14 +506,18 @@ def main():
     words.add_argument("--control", action="store_true", help="spoil a list, which has to be found out")
     words.add_argument("--answers", action="store_true", help="tell how often each answer came")
     words.add_argument("--write", action="store_true", help="print the lists, and run nothing")
+    jobs = min(MOST_JOBS, len(os.sched_getaffinity(0)))
+    words.add_argument("--jobs", type=int, default=jobs, metavar="N", help="how many processes play the lists of a proved program")
     given = words.parse_args()
+    if given.jobs < 1:
+        words.error("--jobs: at least 1")
     if given.control:
-        return control()
+        return control(given.jobs)
     lists = [List(seed) for seed in range(given.seed, given.seed + given.lists)]
     if given.write:
         sys.stdout.write("".join(it.text() for it in lists))
         return 0
-    return answers(lists) if given.answers else compare(lists)
+    return answers(lists, given.jobs) if given.answers else compare(lists, given.jobs)
 
 
 sys.exit(main())

@@ -14,11 +14,12 @@ ghost use Rattle.as2_files.specs.Stores.{IsCleanEnd, IsFound, Keeps};
 use crate::closing::opening_fault;
 use crate::file_system::FileSystem;
 use crate::opening::OpenFiles;
+use crate::records::FileRecords;
 use as2_commands::FirstNumber;
 use as2_host::{OpenFault, OpenStores};
 use as2_kept::{Kept, adopt, in_memory};
 use as2_restart::close;
-use sqlite::{FileStore, MemStore};
+use sqlite::MemStore;
 use sqlite_disk::{Disk, Files};
 use std::alloc::Global;
 
@@ -45,25 +46,25 @@ fn open_with<F: OpenFiles>(
     rt: &HostRuntime,
     opener: F,
     name: &str,
-) -> Result<Kept<FileStore<F::Disk>>, OpenFault>
-    ensures { IfOk result (λ records. IsFound F.image (file_state records)) }
+) -> Result<FileRecords<F::Disk>, OpenFault>
+    ensures { IfOk result (λ records. IsFound F.image (file_state records.kept)) }
 {
     let conn = match opener.open_files(rt, name) {
         Ok(conn) => conn,
         Err(error) => return Err(opening_fault(error)),
     };
     match adopt(conn) {
-        Ok(records) => Ok(records),
+        Ok(kept) => Ok(FileRecords { kept }),
         Err((_, fault)) => Err(OpenFault::Store(fault)),
     }
 }
 
 /// Closes a store into its files.
-fn ended<D: Disk + Drop>(records: Kept<FileStore<D>>) -> End<D>
-    ensures clean { IsCleanEnd D.Disk (Some result) → HasCleanDisk (file_state records) }
-    ensures kept { IsCleanEnd D.Disk (Some result) → (image : Image) (s : State) → Rests (file_state records) s → Keeps D.Disk image (Some result) s }
+fn ended<D: Disk + Drop>(records: FileRecords<D>) -> End<D>
+    ensures clean { IsCleanEnd D.Disk (Some result) → HasCleanDisk (file_state records.kept) }
+    ensures kept { IsCleanEnd D.Disk (Some result) → (image : Image) (s : State) → Rests (file_state records.kept) s → Keeps D.Disk image (Some result) s }
 {
-    match close(records.into_connection()) {
+    match close(records.kept.into_connection()) {
         Ok(files) => End::Closed(files),
         Err((_, files)) => End::Left(files),
     }
@@ -96,7 +97,7 @@ impl<'a, F: OpenFiles + Drop> StoreFiles<'a, F> {
 impl<F: OpenFiles + Drop> OpenStores for StoreFiles<'_, F> {
     ghost use Rattle.as2_files.specs.Stores.{opens_by};
 
-    type Opened = Kept<FileStore<F::Disk>>;
+    type Opened = FileRecords<F::Disk>;
 
     type InMemory = Kept<MemStore>;
 
@@ -111,7 +112,7 @@ impl<F: OpenFiles + Drop> OpenStores for StoreFiles<'_, F> {
         alloc: Global,
         path: &str,
         first: FirstNumber,
-    ) -> Result<Kept<FileStore<F::Disk>>, OpenFault> {
+    ) -> Result<FileRecords<F::Disk>, OpenFault> {
         if self.has_opened {
             return Err(OpenFault::Held);
         }
@@ -135,7 +136,7 @@ impl<F: OpenFiles + Drop> OpenStores for StoreFiles<'_, F> {
         new_in_memory(alloc, first)
     }
 
-    fn close(&mut self, path: &str, records: Kept<FileStore<F::Disk>>) {
+    fn close(&mut self, path: &str, records: FileRecords<F::Disk>) {
         let end = ended(records);
         if let End::Closed(_) = end {
             self.files.remove_log(path);
