@@ -8,8 +8,8 @@ use Rattle.as2_exchange.specs.State.{State}
 use Rattle.as2_restart.specs.Files.{AreClosed}
 use Rattle.as2_store.specs.Files.{HoldsState}
 use Rattle.as2_store.specs.Stands.{Rests}
-use Rattle.as2_files.specs.declared.stores.End.{End}
-use Rattle.as2_files.specs.declared.stores.End.TheVariants.{Closed, Left}
+use Rattle.as2_files.specs.declared.keeping.End.{End}
+use Rattle.as2_files.specs.declared.keeping.End.TheVariants.{Closed, Left}
 
 -- a store was found in files that held that: where all that is read is what had been written, it is open, and stands for what they held
 abbrev pub IsFound : Image → Connected → Type 0

@@ -4,12 +4,12 @@
 mod closing;
 mod file_system;
 mod fronts;
+mod keeping;
 mod opening;
 mod reading;
-mod records;
 mod stores;
 
 pub use file_system::FileSystem;
+pub use keeping::{End, InFiles, KeepFiles};
 pub use opening::{OpenFiles, Starting};
-pub use records::FileRecords;
 pub use stores::StoreFiles;

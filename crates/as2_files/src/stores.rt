@@ -1,73 +1,31 @@
 //! The store of a path, in its files.
-ghost use Rattle.std.specs.Prelude.{◌≡◌, true, Some, IfErr, IfOk, IsTrue};
-ghost use Rattle.sqlite.specs.Files.{file_state};
+ghost use Rattle.std.specs.Prelude.{◌≡◌, true, IfErr, IfOk, IsTrue};
 ghost use Rattle.sqlite.specs.Held.{state};
-ghost use Rattle.sqlite.specs.State.{HasCleanDisk};
 ghost use Rattle.sqlite.specs.Steps.{over_memory};
-ghost use Rattle.sqlite_wal.specs.Recovery.{Image};
-ghost use Rattle.as2_exchange.specs.State.{State, empty};
+ghost use Rattle.as2_exchange.specs.State.{empty};
 ghost use Rattle.as2_host.specs.Stores.{fault_in};
 ghost use Rattle.as2_records.specs.Standing.{may_come};
 ghost use Rattle.as2_store.specs.Stands.{Rests};
-ghost use Rattle.as2_files.specs.Stores.{IsCleanEnd, IsFound, Keeps};
+ghost use Rattle.as2_files.specs.Stores.{IsCleanEnd, Keeps};
 
-use crate::closing::opening_fault;
 use crate::file_system::FileSystem;
-use crate::opening::OpenFiles;
-use crate::records::FileRecords;
+use crate::keeping::{End, KeepFiles};
 use as2_commands::FirstNumber;
 use as2_host::{OpenFault, OpenStores};
-use as2_kept::{Kept, adopt, in_memory};
-use as2_restart::close;
+use as2_kept::{Kept, in_memory};
+use as2_records::Records;
 use sqlite::MemStore;
-use sqlite_disk::{Disk, Files};
 use std::alloc::Global;
-
-/// How a store was closed.
-#[derive(Drop)]
-pub(crate) enum End<D: Disk + Drop> {
-    /// Into these files.
-    Closed(Files<D>),
-    /// It couldn't be, and these are its files. All stands in their log, as it stood.
-    Left(Files<D>),
-}
+use std::marker::PhantomData;
 
 /// The files of one store, which are opened once.
 #[derive(Drop)]
-pub struct StoreFiles<'a, F: OpenFiles + Drop> {
+pub struct StoreFiles<'a, R: Records + Drop, K: KeepFiles<R> + Drop> {
     files: FileSystem<'a>,
-    opener: Option<F>,
+    keeper: Option<K>,
     has_opened: bool,
-    end: Option<End<F::Disk>>,
-}
-
-/// The store in the files of that name.
-fn open_with<F: OpenFiles>(
-    rt: &HostRuntime,
-    opener: F,
-    name: &str,
-) -> Result<FileRecords<F::Disk>, OpenFault>
-    ensures { IfOk result (λ records. IsFound F.image (file_state records.kept)) }
-{
-    let conn = match opener.open_files(rt, name) {
-        Ok(conn) => conn,
-        Err(error) => return Err(opening_fault(error)),
-    };
-    match adopt(conn) {
-        Ok(kept) => Ok(FileRecords { kept }),
-        Err((_, fault)) => Err(OpenFault::Store(fault)),
-    }
-}
-
-/// Closes a store into its files.
-fn ended<D: Disk + Drop>(records: FileRecords<D>) -> End<D>
-    ensures clean { IsCleanEnd D.Disk (Some result) → HasCleanDisk (file_state records.kept) }
-    ensures kept { IsCleanEnd D.Disk (Some result) → (image : Image) (s : State) → Rests (file_state records.kept) s → Keeps D.Disk image (Some result) s }
-{
-    match close(records.kept.into_connection()) {
-        Ok(files) => End::Closed(files),
-        Err((_, files)) => End::Left(files),
-    }
+    end: Option<End<K::Disk>>,
+    records: PhantomData<R>,
 }
 
 /// New records in memory, which begin with `first`.
@@ -82,37 +40,33 @@ fn new_in_memory(alloc: Global, first: FirstNumber) -> Result<Kept<MemStore>, Op
     }
 }
 
-impl<'a, F: OpenFiles + Drop> StoreFiles<'a, F> {
+impl<'a, R: Records + Drop, K: KeepFiles<R> + Drop> StoreFiles<'a, R, K> {
     /// They weren't opened yet.
-    pub fn new(files: FileSystem<'a>, opener: F) -> StoreFiles<'a, F> {
+    pub fn new(files: FileSystem<'a>, keeper: K) -> StoreFiles<'a, R, K> {
         StoreFiles {
             files,
-            opener: Some(opener),
+            keeper: Some(keeper),
             has_opened: false,
             end: None,
+            records: PhantomData,
         }
     }
 }
 
-impl<F: OpenFiles + Drop> OpenStores for StoreFiles<'_, F> {
+impl<R: Records + Drop, K: KeepFiles<R> + Drop> OpenStores for StoreFiles<'_, R, K> {
     ghost use Rattle.as2_files.specs.Stores.{opens_by};
 
-    type Opened = FileRecords<F::Disk>;
+    type Opened = R;
 
     type InMemory = Kept<MemStore>;
 
-    ghost keeps = { λ it path s. Keeps F.Disk.Disk F.image it.end s };
+    ghost keeps = { λ it path s. Keeps K.Disk.Disk K.image it.end s };
 
-    ghost is_clean = { λ it. IsCleanEnd F.Disk.Disk it.end };
+    ghost is_clean = { λ it. IsCleanEnd K.Disk.Disk it.end };
 
     ghost opens = { λ it. opens_by it.has_opened };
 
-    fn open(
-        &mut self,
-        alloc: Global,
-        path: &str,
-        first: FirstNumber,
-    ) -> Result<FileRecords<F::Disk>, OpenFault> {
+    fn open(&mut self, alloc: Global, path: &str, first: FirstNumber) -> Result<R, OpenFault> {
         if self.has_opened {
             return Err(OpenFault::Held);
         }
@@ -120,10 +74,10 @@ impl<F: OpenFiles + Drop> OpenStores for StoreFiles<'_, F> {
             return Err(OpenFault::Held);
         };
         let name = self.files.make_sure(alloc, path, first)?;
-        let Some(opener) = self.opener.take() else {
+        let Some(keeper) = self.keeper.take() else {
             return Err(OpenFault::Held);
         };
-        let records = open_with(self.files.rt, opener, &name)?;
+        let records = keeper.open_records(self.files.rt, &name)?;
         self.has_opened = true;
         Ok(records)
     }
@@ -136,8 +90,8 @@ impl<F: OpenFiles + Drop> OpenStores for StoreFiles<'_, F> {
         new_in_memory(alloc, first)
     }
 
-    fn close(&mut self, path: &str, records: FileRecords<F::Disk>) {
-        let end = ended(records);
+    fn close(&mut self, path: &str, records: R) {
+        let end = K::close_records(records);
         if let End::Closed(_) = end {
             self.files.remove_log(path);
         }

@@ -1,4 +1,4 @@
-use Rattle.as2_files.proofs.stores.ended.Goals as goal
+use Rattle.as2_files.proofs.keeping.ended.Goals as goal
 
 -- the files that were closed hold what the store stood for
 pub returns-in-Ok-clause-kept : goal.returns-in-Ok-clause-kept
