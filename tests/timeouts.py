@@ -78,6 +78,8 @@ class Server:
         assert line.startswith("listening: "), line
         host, port = line[len("listening: "):].strip().rsplit(":", 1)
         self.address = (host, int(port))
+        # a line of each reply comes there: unread, a pipe holds 64 KiB of them, and then the program waits
+        threading.Thread(target=self.run.stderr.read, daemon=True).start()
 
     def is_served(self):
         """Whether the plain post is answered with 200."""
@@ -89,7 +91,8 @@ class Server:
 
     def ends(self):
         """How its connections ended, as it tells."""
-        lines = self.run.communicate(timeout=WHOLE + SLACK)[0].splitlines()
+        lines = self.run.stdout.read().splitlines()
+        self.run.wait(timeout=WHOLE + SLACK)
         return [line[len("connection: "):] for line in lines if line.startswith("connection: ")]
 
 

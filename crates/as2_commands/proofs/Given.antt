@@ -6,7 +6,7 @@ use Rattle.as2_names.specs.Names.{Spells}
 use Rattle.as2_names.proofs.Spelled.{again}
 use Rattle.as2_mdn.specs.declared.detail.State.{State}
 use Rattle.as2_mdn.specs.declared.detail.State.TheVariants as state
-use Rattle.as2_exchange.specs.Views.{state_text}
+use Rattle.as2_views.specs.Layout.{state_text}
 use Rattle.as2_views.specs.declared.filter.Filter.{Filter}
 use Rattle.as2_views.specs.declared.filter.Filter.TheVariants.{Outbox, Inbox}
 use Rattle.as2_commands.specs.CommandLine.{command_in, option_values}

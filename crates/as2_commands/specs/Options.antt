@@ -4,7 +4,7 @@ use Rattle.std.specs.Str.Parse.{IsNumeral, digits_value, without_leading_plus}
 use Rattle.as2_names.specs.Moments.{last_moment}
 use Rattle.as2_names.specs.Names.{Spells}
 use Rattle.as2_exchange.specs.State.{end_of_numbers}
-use Rattle.as2_exchange.specs.Views.{state_text}
+use Rattle.as2_views.specs.Layout.{state_text}
 use Rattle.as2_views.specs.declared.filter.Filter.{Filter}
 use Rattle.as2_views.specs.declared.filter.Filter.TheVariants.{Outbox, Inbox}
 use Rattle.clap.specs.Words.{Row, Text, first_of, one_of}

@@ -2,7 +2,7 @@
 ghost use Rattle.std.specs.Prelude.{◌≡◌, ◌↔◌, ◌<◌, ◌≤◌, ◌^◌, ◌-◌, ℕ, List, codes, Option, Some, None, option_map, IfOk, IfErr};
 ghost use Rattle.as2_names.specs.Moments.{last_moment};
 ghost use Rattle.as2_exchange.specs.State.{end_of_numbers};
-ghost use Rattle.as2_exchange.specs.Views.{state_text};
+ghost use Rattle.as2_views.specs.Layout.{state_text};
 ghost use Rattle.as2_mdn.specs.declared.detail.State.{State as TheState};
 ghost use Rattle.as2_views.specs.declared.filter.Filter.{Filter as TheFilter};
 ghost use Rattle.clap.specs.Words.{first_of, found_of, one_of, rows_of, subcommand_rows_of};

@@ -25,6 +25,8 @@ pub fn options_in<'a>(
     ensures given { IfOk result (λ o. Gives (texts words.entry.now) clock o.agreements.now o.store.now o.task) }
     // Words that ask for something are read, unless memory is wanting.
     ensures none { IfErr result (λ e. kind_of e ≢ OutOfMemory → GivesNone (texts words.entry.now) clock) }
+    // Words that are no such command line get a fault of theirs, which may be that they ask for the help or the version.
+    ensures kind { IfErr result (λ e. faults (texts words.entry.now) ≢ [] → HasKind (faults (texts words.entry.now)) e) }
     // The help and the version are for those who ask for them.
     ensures help { IfErr result (λ e. IsHelp (kind_of e) → AsksForHelp (texts words.entry.now)) }
 {
@@ -41,6 +43,7 @@ fn asked_by<'a>(
     requires { app_of command.old ≡ command_line }
     ensures given { IfOk result (λ o. Gives (texts words.entry.now) clock o.agreements.now o.store.now o.task) }
     ensures none { IfErr result (λ e. kind_of e ≢ OutOfMemory → GivesNone (texts words.entry.now) clock) }
+    ensures kind { IfErr result (λ e. faults (texts words.entry.now) ≢ [] → HasKind (faults (texts words.entry.now)) e) }
     ensures help { IfErr result (λ e. IsHelp (kind_of e) → AsksForHelp (texts words.entry.now)) }
 {
     let found = parse(command, words)?;

@@ -1,5 +1,5 @@
 //! Links to partners over TCP, and why one brought no answer.
-ghost use Rattle.std.specs.Prelude.{◌≡◌, ℕ, List, Some, true, IsTrue, ⊤};
+ghost use Rattle.std.specs.Prelude.{◌≡◌, ℕ, List, Some, true, IsTrue};
 ghost use Rattle.std.specs.Io.KnownBytes.{Appends};
 ghost use Rattle.as2_http.specs.Devices.{Opens};
 ghost use Rattle.as2_http.specs.Sending.{AppendsPart};
@@ -156,7 +156,9 @@ impl<'a> Connections<'a> {
 }
 
 impl Links for Connections<'_> {
-    ghost answers = { λ _ _ _ _. ⊤ };
+    ghost use Rattle.std.specs.Prelude.{◌≡◌};
+
+    ghost answers = { λ old _ _ new. new.waits ≡ old.waits };
 
     fn exchange(&mut self, alloc: Global, job: &Job) -> TryAnswer {
         let (reader, writer) = match self.open(job) {

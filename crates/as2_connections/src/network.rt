@@ -134,11 +134,12 @@ impl<'a> ListeningSocket<'a> {
 }
 
 impl Listens for ListeningSocket<'_> {
+    ghost use Rattle.std.specs.Prelude.{◌≡◌};
     ghost use Rattle.std.specs.Net.Text.{socket_text};
 
     ghost bound = { λ l. socket_text l.address };
 
-    ghost ended = { λ _ _ _. ⊤ };
+    ghost ended = { λ old _ new. (new.limits ≡ old.limits) × (new.address ≡ old.address) };
 
     fn address(&self, alloc: Global) -> Result<String, Memory> {
         match self.address.to_string(alloc) {
@@ -170,14 +171,16 @@ impl Listens for ListeningSocket<'_> {
 }
 
 impl<'a> Network for Sockets<'a> {
-    ghost use Rattle.std.specs.Duration.{as_nanos};
+    ghost use Rattle.std.specs.Prelude.{◌*◌, min};
+    ghost use Rattle.std.specs.Duration.{as_nanos, max_nanos};
     ghost use Rattle.as2_sockets.specs.Waits.{nanoseconds};
 
     type Listener = ListeningSocket<'a>;
 
     type Links = Connections<'a>;
 
-    ghost listens = { λ _ _ waits l. as_nanos l.limits.wait ≡ nanoseconds waits.seconds };
+    ghost listens = { λ _ _ waits l. (as_nanos l.limits.wait ≡ nanoseconds waits.seconds)
+        × (as_nanos l.limits.whole ≡ min (10 * nanoseconds waits.seconds) max_nanos) };
 
     ghost refuses = { λ _ _ _. ⊤ };
 

@@ -1,14 +1,11 @@
 -- What is told of what the station said.
-use Rattle.std.proofs.Common.{◌≡◌, ◌⊎◌, inl, inr, ◌∙◌, ℕ, List, Bool, true, false, not, Option, Some, None, Result, Ok, Err, IfErr, IfSome, option_map, refl, sym, ap, subst, if◌then◌else◌, is_some, nat_le, nat_lt, length}
+use Rattle.std.proofs.Common.{◌≡◌, ◌⊎◌, inl, inr, ◌∙◌, ℕ, List, true, Option, Some, None, Result, Ok, Err, IfErr, option_map, refl, sym, ap, subst}
 use Rattle.std.specs.Bool.{⊤}
 use Rattle.as2_records.specs.Standing.{Medium, Standing}
 use Rattle.as2_agreement.specs.Agreements.{AgreedValues}
-use Rattle.as2_exchange.specs.Agreement.{is_organization, partner_of}
 use Rattle.as2_exchange.specs.declared.event.Event.{Event}
-use Rattle.as2_exchange.specs.Documents.{submit, tick}
-use Rattle.as2_exchange.specs.State.{State, content_limit, end_of_numbers}
+use Rattle.as2_exchange.specs.State.{State}
 use Rattle.as2_exchange.specs.declared.answer.Refusal.{Refusal}
-use Rattle.as2_exchange.specs.declared.answer.Refusal.TheVariants.{UnknownOrganization, UnknownPartner, TooLarge}
 use Rattle.as2_exchange.specs.Step.{step}
 use Rattle.as2_exchange.specs.declared.answer.Answer.{Answer}
 use Rattle.as2_exchange.specs.declared.answer.Answer.TheVariants as answer
@@ -16,21 +13,21 @@ use Rattle.as2_exchange.specs.declared.event.Event.TheVariants as event
 use Rattle.as2_exchange.specs.declared.fault.StoreFault.{StoreFault}
 use Rattle.as2_exchange.specs.declared.fault.StoreFault.TheVariants.{Full}
 use Rattle.as2_station.specs.Heads.{submit_refusal}
+use Rattle.as2_station.specs.Said.{said_to_submit}
 use Rattle.as2_station.specs.Steps.{RefusesSubmit, TakesEvent}
-use Rattle.as2_station.specs.Traces.{said}
+use Rattle.as2_station.specs.Theorem.{said_as}
 use Rattle.as2_records.specs.Calls.{Reads}
 use Rattle.as2_records.specs.Standing.{may_come}
-use Rattle.as2_desk.specs.Questions.{FaultMayCome, Tells, Told, found_told, is_event, looked_up, number_told, read_told, told_by, told_by_step}
+use Rattle.as2_desk.specs.Questions.{EndsBy, FaultMayCome, IsToldOf, Tells, Told, found_told, is_event, looked_up, number_line, read_told, told_by, told_by_step, told_of}
 use Rattle.as2_desk.specs.declared.asking.Question.{Question}
 use Rattle.as2_desk.specs.declared.refusal.CommandFault.TheVariants.{Station}
 use Rattle.as2_host.specs.declared.stores.OpenFault.TheVariants as open_fault
 
--- a number, or a refusal
-abbrev pub IsNumber : Answer → Type 0
-IsNumber (answer.Submitted n) = ⊤
-IsNumber (answer.Ticked n) = ⊤
-IsNumber (answer.Refused reason) = ⊤
-IsNumber other = ⊥
+-- an event is by history, and that is told of what was said to it
+pub ends_by : {M : Medium} {X : Type 0} (A : AgreedValues) (e : Event) (tell : X → Answer) (old new : Standing M) (r : Result X StoreFault) (told : Told) → TakesEvent A e tell old new r → IsToldOf (said_as tell r) told
+    → new.IsClean → (s : State) → old.Rests s → (t : State) × new.Rests t × EndsBy A e s t told
+ends_by A e tell old new r told takes is clean s rests =
+    let by = takes.by_history clean s rests in (by.0, by.1, (said_as tell r, is, by.2))
 
 -- a fault that may come of any call isn't Full
 never_full : (f : StoreFault) → may_come f ≡ true → open_fault.Store f ≡ open_fault.Store Full → ⊥
@@ -46,23 +43,29 @@ looked_may q text (Ok (Some v)) may = tt
 looked_may q text (Ok None) may = tt
 looked_may q text (Err f) may = inr may
 
+-- of an answer no fault of the store is told
+answer_may : (q : Question) (x : Answer) (told : Told) → told_of x ≡ Some told → FaultMayCome q told
+answer_may q (answer.Submitted n) told is = let same : Ok (number_line n) ≡ told = cc in subst (FaultMayCome q) same tt
+answer_may q (answer.Ticked n) told is = let same : Ok (number_line n) ≡ told = cc in subst (FaultMayCome q) same tt
+answer_may q (answer.Refused reason) told is = let same : Err (Station reason) ≡ told = cc in subst (FaultMayCome q) same tt
+answer_may q (answer.Http h) told is = absurd cc
+answer_may q (answer.Job j) told is = absurd cc
+answer_may q (answer.Settled d) told is = absurd cc
+answer_may q answer.Delivered told is = absurd cc
+answer_may q answer.TryFailed told is = absurd cc
+answer_may q answer.AlreadySettled told is = absurd cc
+
 -- .. or of an event
-pub stepped_may : (q : Question) → is_event q ≡ true → (r : Result Answer StoreFault) → IfErr r (λ f. (f ≡ Full) ⊎ (may_come f ≡ true)) → FaultMayCome q (number_told (said r))
-stepped_may q is (Ok (answer.Submitted n)) may = tt
-stepped_may q is (Ok (answer.Ticked n)) may = tt
-stepped_may q is (Ok (answer.Refused reason)) may = tt
-stepped_may q is (Ok (answer.Http h)) may = inr refl
-stepped_may q is (Ok (answer.Job j)) may = inr refl
-stepped_may q is (Ok (answer.Settled d)) may = inr refl
-stepped_may q is (Ok answer.Delivered) may = inr refl
-stepped_may q is (Ok answer.TryFailed) may = inr refl
-stepped_may q is (Ok answer.AlreadySettled) may = inr refl
-stepped_may q is (Err f) may = elim may [ inl full ↦ inl (full, is) | inr other ↦ inr other ]
+pub event_may : {X : Type 0} (q : Question) → is_event q ≡ true → (tell : X → Answer) (r : Result X StoreFault) (told : Told) → IsToldOf (said_as tell r) told → IfErr r (λ f. (f ≡ Full) ⊎ (may_come f ≡ true)) → FaultMayCome q told
+event_may q is tell (Ok a) told it may = answer_may q (tell a) told it
+event_may q is tell (Err f) told it may = subst (FaultMayCome q) (sym it) (elim may [ inl full ↦ inl (full, is) | inr other ↦ inr other ])
 
 -- a submission that is refused is told so
-pub submission_refused : {H : Type 0} (A : AgreedValues) (from to content : List ℕ) (m : ℕ) (old new : H) (r : Result Answer StoreFault) → RefusesSubmit A (event.Submit from to content m) old new r
-    → (reason : Refusal) → submit_refusal A from to content ≡ Some reason → number_told (said r) ≡ Err (Station reason)
-submission_refused A from to content m old new r refuses reason is = ap (λ (x : Result Answer StoreFault). number_told (said x)) (refuses.answer from to content m reason refl is)
+pub submission_refused : {H : Type 0} (A : AgreedValues) (from to content : List ℕ) (m : ℕ) (old new : H) (r : Result (Result ℕ Refusal) StoreFault) (told : Told) → RefusesSubmit A (event.Submit from to content m) Err old new r
+    → IsToldOf (said_as said_to_submit r) told → (reason : Refusal) → submit_refusal A from to content ≡ Some reason → told ≡ Err (Station reason)
+submission_refused A from to content m old new r told refuses it reason is =
+    let said : Some (Err (Station reason)) ≡ Some told = subst (λ (x : Result (Result ℕ Refusal) StoreFault). IsToldOf (said_as said_to_submit x) told) (refuses.answer from to content m reason refl is) it in
+    cc
 
 abbrev pub TellsFrom : {M : Medium} → AgreedValues → ℕ → Question → Standing M → Standing M → Told → Type 0
 TellsFrom A m q old new told = (s : State) → old.Rests s → (t : State) × new.Rests t × Tells A m q s t told
@@ -88,34 +91,23 @@ module _ {M : Medium} (A : AgreedValues) (m : ℕ) (q : Question) (old new : Sta
   )
   looked text view is (Err f) reads may = λ s rests. (s, reads.same clean s rests, (refl, λ full. absurd (never_full f may full)))
 
-  -- the answer to an event that is answered with a number
-  pub stepped : (e : Event) → ((s : State) → told_by A m q s ≡ told_by_step (step A s e)) → ((s : State) → IfSome (step A s e) (λ came. IsNumber came.0))
-      → (r : Result Answer StoreFault) → TakesEvent A e (λ a. a) old new r → TellsFrom A m q old new (number_told (said r))
-  stepped e is numbers (Ok (answer.Submitted n)) takes = λ s rests. let left = takes.does.answered clean s rests tt in (left.next, left.rests, is s ∙ ap told_by_step left.step)
-  stepped e is numbers (Ok (answer.Ticked n)) takes = λ s rests. let left = takes.does.answered clean s rests tt in (left.next, left.rests, is s ∙ ap told_by_step left.step)
-  stepped e is numbers (Ok (answer.Refused reason)) takes = λ s rests. let left = takes.does.answered clean s rests tt in (left.next, left.rests, is s ∙ ap told_by_step left.step)
-  stepped e is numbers (Ok (answer.Http h)) takes = λ s rests. let left = takes.does.answered clean s rests tt in absurd (subst (λ (o : Option (Answer × State)). IfSome o (λ came. IsNumber came.0)) left.step (numbers s))
-  stepped e is numbers (Ok (answer.Job j)) takes = λ s rests. let left = takes.does.answered clean s rests tt in absurd (subst (λ (o : Option (Answer × State)). IfSome o (λ came. IsNumber came.0)) left.step (numbers s))
-  stepped e is numbers (Ok (answer.Settled d)) takes = λ s rests. let left = takes.does.answered clean s rests tt in absurd (subst (λ (o : Option (Answer × State)). IfSome o (λ came. IsNumber came.0)) left.step (numbers s))
-  stepped e is numbers (Ok answer.Delivered) takes = λ s rests. let left = takes.does.answered clean s rests tt in absurd (subst (λ (o : Option (Answer × State)). IfSome o (λ came. IsNumber came.0)) left.step (numbers s))
-  stepped e is numbers (Ok answer.TryFailed) takes = λ s rests. let left = takes.does.answered clean s rests tt in absurd (subst (λ (o : Option (Answer × State)). IfSome o (λ came. IsNumber came.0)) left.step (numbers s))
-  stepped e is numbers (Ok answer.AlreadySettled) takes = λ s rests. let left = takes.does.answered clean s rests tt in absurd (subst (λ (o : Option (Answer × State)). IfSome o (λ came. IsNumber came.0)) left.step (numbers s))
-  stepped e is numbers (Err f) takes = λ s rests. let left = takes.does.failed clean s rests tt in
-      (s, left.0, (refl, λ full. let none : step A s e ≡ None = left.1 (let it : f ≡ Full = cc in it) in is s ∙ ap told_by_step none))
+  answered_tells : (s t : State) (x : Answer) (told : Told) → told_of x ≡ Some told → told_by A m q s ≡ Some (told, t) → Tells A m q s t told
+  answered_tells s t (answer.Submitted n) told is by = let same : Ok (number_line n) ≡ told = cc in subst (Tells A m q s t) same (subst (λ (y : Told). told_by A m q s ≡ Some (y, t)) (sym same) by)
+  answered_tells s t (answer.Ticked n) told is by = let same : Ok (number_line n) ≡ told = cc in subst (Tells A m q s t) same (subst (λ (y : Told). told_by A m q s ≡ Some (y, t)) (sym same) by)
+  answered_tells s t (answer.Refused reason) told is by = let same : Err (Station reason) ≡ told = cc in subst (Tells A m q s t) same (subst (λ (y : Told). told_by A m q s ≡ Some (y, t)) (sym same) by)
+  answered_tells s t (answer.Http h) told is by = absurd cc
+  answered_tells s t (answer.Job j) told is by = absurd cc
+  answered_tells s t (answer.Settled d) told is by = absurd cc
+  answered_tells s t answer.Delivered told is by = absurd cc
+  answered_tells s t answer.TryFailed told is by = absurd cc
+  answered_tells s t answer.AlreadySettled told is by = absurd cc
 
--- a document that is handed in is answered with a number, or refused
-handed_in : (organization partner large used : Bool) (s t : State) (n : ℕ)
-    → IfSome {T = Answer × State} (if not organization then Some (answer.Refused UnknownOrganization, s) else if not partner then Some (answer.Refused UnknownPartner, s) else if large then Some (answer.Refused TooLarge, s) else if used then None else Some (answer.Submitted n, t)) (λ came. IsNumber came.0)
-handed_in false partner large used s t n = tt
-handed_in true false large used s t n = tt
-handed_in true true true used s t n = tt
-handed_in true true false true s t n = tt
-handed_in true true false false s t n = tt
-
-pub submit_number : (A : AgreedValues) (from to content : List ℕ) (m : ℕ) (s : State) → IfSome (step A s (event.Submit from to content m)) (λ came. IsNumber came.0)
-unfolding submit
-submit_number A from to content m s = handed_in (is_organization A from) (is_some (partner_of A to)) (nat_lt content_limit (length content)) (nat_le end_of_numbers s.next_out) s _ s.next_out
-
-pub tick_number : (A : AgreedValues) (m : ℕ) (s : State) → IfSome (step A s (event.Tick m)) (λ came. IsNumber came.0)
-unfolding tick
-tick_number A m s = tt
+  -- the answer to an event
+  pub stepped : {X : Type 0} (e : Event) → ((s : State) → told_by A m q s ≡ told_by_step (step A s e)) → (tell : X → Answer) (r : Result X StoreFault) (told : Told) → IsToldOf (said_as tell r) told
+      → TakesEvent A e tell old new r → TellsFrom A m q old new told
+  stepped e is tell (Ok a) told it takes = λ s rests.
+      let left = takes.does.answered clean s rests tt in
+      (left.next, left.rests, answered_tells s left.next (tell a) told it (is s ∙ ap told_by_step left.step ∙ ap (option_map (λ (x : Told). (x, left.next))) it))
+  stepped e is tell (Err f) told it takes = λ s rests.
+      let left = takes.does.failed clean s rests tt in
+      (s, left.0, subst (Tells A m q s s) (sym it) (refl, λ full. let none : step A s e ≡ None = left.1 (let is : f ≡ Full = cc in is) in is s ∙ ap told_by_step none))

@@ -28,6 +28,7 @@ posts_left A moment known input o Left ran again it = record {
   noted = it.noted;
   new = it.new;
   end = it.end;
+  cause = it.cause;
   posts = both_known _ _ _ known again it.posts (λ s later left. (left.0, later left.0 left.1, left.2));
   serves = both_known _ _ _ known again it.serves (λ s later serves text is. let served = serves text is in (served.0, later served.0 served.1, served.2));
   told = it.told;

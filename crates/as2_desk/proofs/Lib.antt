@@ -5,3 +5,4 @@ mod Answering
 mod Connecting
 mod Working
 mod Unhinted
+mod Saying

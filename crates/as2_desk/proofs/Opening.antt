@@ -1,6 +1,5 @@
 -- What the opening of a store comes to, and what is done behind it.
-use Rattle.std.proofs.Common.{◌≡◌, ◌+◌, ℕ, Bool, true, false, Option, Some, None, IfSome, IsSomeAnd, Result, Ok, Err, IfOk, IfErr, inl, inr, sym, subst, arith}
-use Rattle.std.specs.Bool.{⊤}
+use Rattle.std.proofs.Common.{◌≡◌, ◌+◌, ℕ, true, Option, Some, None, IfSome, IsSomeAnd, Result, Ok, Err, IfOk, IfErr, inl, inr, sym, subst, arith}
 use Rattle.as2_agreement.specs.Agreements.{AgreedValues}
 use Rattle.as2_exchange.specs.State.{State, empty}
 use Rattle.as2_records.specs.Standing.{Medium, Standing, may_come}
@@ -12,7 +11,6 @@ use Rattle.as2_desk.proofs.Working.{does_left, observing}
 use Rattle.as2_desk.specs.Endings.{EndsRefused}
 use Rattle.as2_desk.specs.Observed.{Observed, Stored}
 use Rattle.as2_desk.specs.Runs.{Goes}
-use Rattle.as2_desk.specs.Stores.{ByPlace, is_in_memory}
 use Rattle.as2_desk.specs.Works.{Does}
 use Rattle.as2_desk.specs.declared.refusal.CommandFault.TheVariants.{Store}
 use Rattle.as2_desk.specs.declared.status.Ran.{Ran}
@@ -27,7 +25,7 @@ each_left (Some l) Clean Rests Keeps Later kept f = λ clean t rests. f t (kept 
 module _ {A : Type 0} {M : Medium} (shows : A → Standing M) (agreements : AgreedValues) (options : RunOptions) (w : Work) (o : Observed) (stored : Stored) (ran : Ran) where
   -- no records could be opened, and that was told
   abbrev pub Failed : Option A → Result A OpenFault → Type 0
-  Failed last r = IfErr r (λ fault. (last ≡ None) × o.Unread × o.outcome.Unwritten × EndsRefused (Store fault) o.outcome.Said ran)
+  Failed last r = IfErr r (λ fault. (last ≡ None) × o.input.Untouched × o.outcome.output.Untouched × EndsRefused (Store fault) o.outcome.errors ran)
 
   -- the work was done over records that were opened, and they were given back
   abbrev pub Done : Option A → Result A OpenFault → Type 0
@@ -35,25 +33,25 @@ module _ {A : Type 0} {M : Medium} (shows : A → Standing M) (agreements : Agre
       × ((known : Option State) → IfSome known (λ s. (shows l).IsClean × (shows opened).Rests s) → Does agreements options.moment w known (observing o (λ t. (shows l).Rests t)) ran)))
 
   -- over new records in memory
-  pub goes_in_memory : (last : Option A) (r : Result A OpenFault) → BeginsNew shows options.first r → Failed last r → Done last r → is_in_memory stored.path ≡ true → stored.Unopened → stored.Opened
+  pub goes_in_memory : (last : Option A) (r : Result A OpenFault) → BeginsNew shows options.first r → Failed last r → Done last r → ((fault : OpenFault) → may_come (fault_in fault) ≡ true → stored.Fails fault) → stored.Unopened → stored.Kept → stored.Opened
       → ((s : State) → stored.Begins options.first s → s ≡ empty options.first) → ((t : State) → o.outcome.Left t) → Goes agreements options (Ok w) o stored ran
-  goes_in_memory last (Err fault) may failed done is unopened opened begins left =
-      inl (unopened, failed.1, failed.2, record { fault = fault; known = subst (λ (b : Bool). ByPlace b (may_come (fault_in fault) ≡ true) ⊤) (sym is) may; told = failed.3 })
-  goes_in_memory None (Ok records) new failed done is unopened opened begins left = absurd done
-  goes_in_memory (Some l) (Ok records) new failed done is unopened opened begins left = inr (
+  goes_in_memory last (Err fault) may failed done fails unopened kept opened begins left =
+      inl (unopened, kept, failed.1, failed.2, record { fault = fault; cause = fails fault may; told = failed.3 })
+  goes_in_memory None (Ok records) new failed done fails unopened kept opened begins left = absurd done
+  goes_in_memory (Some l) (Ok records) new failed done fails unopened kept opened begins left = inr (
     opened,
     λ known from. does_left agreements options.moment w known o (λ t. (shows l).Rests t) ran (each_known _ _ known from (λ s b t rests. left t))
         (done.1 known (each_known _ _ known from (λ s b. (new.0 l, subst (λ (x : State). (shows records).Rests x) (sym (begins s b)) new.2)))),
   )
 
   -- over the records that are kept under the path
-  pub goes_kept : (last : Option A) (r : Result A OpenFault) (Clean : Type 0) (Keeps : State → Type 0) (before now : ℕ) → Finds shows Keeps r → Failed last r → Done last r → is_in_memory stored.path ≡ false
+  pub goes_kept : (last : Option A) (r : Result A OpenFault) (Clean : Type 0) (Keeps : State → Type 0) (before now : ℕ) → Finds shows Keeps r → Failed last r → Done last r → (last ≡ None → IfErr r (λ fault. stored.Kept × stored.Fails fault))
       → now ≡ before + opens_of r → (now ≡ before → stored.Unopened) → (now ≡ before + 1 → stored.Opened) → ((s : State) → stored.Begins options.first s → Keeps s × Clean)
       → IfSome last (λ l. Clean → (shows l).IsClean) → IfSome last (λ l. Clean → (t : State) → (shows l).Rests t → o.outcome.Left t) → Goes agreements options (Ok w) o stored ran
-  goes_kept last (Err fault) Clean Keeps before now found failed done is counted unopened opened begins clean left =
-      inl (unopened (omega (arith, counted)), failed.1, failed.2, record { fault = fault; known = subst (λ (b : Bool). ByPlace b (may_come (fault_in fault) ≡ true) ⊤) (sym is) tt; told = failed.3 })
-  goes_kept None (Ok records) Clean Keeps before now found failed done is counted unopened opened begins clean left = absurd done
-  goes_kept (Some l) (Ok records) Clean Keeps before now found failed done is counted unopened opened begins clean left = inr (
+  goes_kept last (Err fault) Clean Keeps before now found failed done same counted unopened opened begins clean left =
+      inl (unopened (omega (arith, counted)), (same failed.0).0, failed.1, failed.2, record { fault = fault; cause = (same failed.0).1; told = failed.3 })
+  goes_kept None (Ok records) Clean Keeps before now found failed done same counted unopened opened begins clean left = absurd done
+  goes_kept (Some l) (Ok records) Clean Keeps before now found failed done same counted unopened opened begins clean left = inr (
     opened counted,
     λ known from. does_left agreements options.moment w known o (λ t. (shows l).Rests t) ran (each_known _ _ known from (λ s b. left (begins s b).1))
         (done.1 known (each_known _ _ known from (λ s b. let k = begins s b in (clean k.1, (found (done.0 (clean k.1))).1 s k.0)))),

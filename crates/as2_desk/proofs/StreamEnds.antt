@@ -1,23 +1,24 @@
 -- What is said of the end of a stream.
-use Rattle.std.proofs.Common.{◌≡◌, ℕ, List, refl, arith}
+use Rattle.std.proofs.Common.{◌≡◌, refl, arith}
 use Rattle.as2_desk.specs.Refusals.{end_line, error_line}
 use Rattle.as2_desk.specs.Endings.{Ends}
 use Rattle.as2_desk.specs.Statuses.{done, failed, refused, exit_status}
 use Rattle.as2_http.specs.declared.stream.Served.{Served}
 use Rattle.as2_http.specs.declared.stream.Served.TheVariants.{Closed, Truncated, BadFraming, ReadFault, WriteFault, Memory, TooLong}
 use Rattle.as2_desk.specs.declared.refusal.CommandFault.TheVariants.{Stream}
+use Rattle.as2_desk.specs.Written.{Written}
 use Rattle.as2_desk.specs.declared.status.Ran.{Ran}
 
 -- an end that isn't in good order is told as a refusal
-pub told_end : (end : Served) (Said : List ℕ → Type 0) (ran : Ran) → (end ≡ Closed → ⊥)
-    → Ends refused (error_line (Stream end)) Said ran → Ends (exit_status end) (end_line end) Said ran
-told_end Closed Said ran other e = absurd (other refl)
-told_end Truncated Said ran other e = e
-told_end BadFraming Said ran other e = e
-told_end ReadFault Said ran other e = e
-told_end WriteFault Said ran other e = e
-told_end Memory Said ran other e = e
-told_end TooLong Said ran other e = e
+pub told_end : (end : Served) (errors : Written) (ran : Ran) → (end ≡ Closed → ⊥)
+    → Ends refused (error_line (Stream end)) errors ran → Ends (exit_status end) (end_line end) errors ran
+told_end Closed errors ran other e = absurd (other refl)
+told_end Truncated errors ran other e = e
+told_end BadFraming errors ran other e = e
+told_end ReadFault errors ran other e = e
+told_end WriteFault errors ran other e = e
+told_end Memory errors ran other e = e
+told_end TooLong errors ran other e = e
 
 done_is_not_failed : done ≡ failed → ⊥
 done_is_not_failed is = omega arith

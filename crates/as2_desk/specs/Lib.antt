@@ -4,6 +4,7 @@ pub mod Hints
 pub mod Places
 pub mod Refusals
 pub mod Stores
+pub mod Written
 pub mod Observed
 pub mod Endings
 pub mod FileAgreements

@@ -1,24 +1,26 @@
 -- What is asked of the station once, and what is told of its answer.
-use Rattle.std.specs.Prelude.{◌≡◌, ◌⊎◌, ℕ, List, ◌++◌, Bool, true, false, Option, Some, None, Result, Ok, Err, IfSome, codes, decimal, option_map, string_bytes, ⊤}
-use Rattle.std.specs.Io.KnownBytes.{Appends}
+use Rattle.std.specs.Prelude.{◌≡◌, ◌⊎◌, ℕ, List, ◌++◌, Bool, true, false, [], ◌∷◌, Option, Some, None, Result, Ok, Err, IfSome, codes, decimal, option_map, string_bytes, ⊤}
 use Rattle.as2_agreement.specs.Agreements.{AgreedValues}
 use Rattle.as2_exchange.specs.State.{State}
 use Rattle.as2_exchange.specs.Step.{step}
-use Rattle.as2_exchange.specs.Views.{fetch, outstanding, show}
+use Rattle.as2_views.specs.Texts.{fetch, outstanding, show}
 use Rattle.as2_exchange.specs.declared.answer.Answer.{Answer}
 use Rattle.as2_exchange.specs.declared.answer.Answer.TheVariants.{Submitted, Ticked, Refused}
 use Rattle.as2_exchange.specs.declared.answer.Refusal.{Refusal}
 use Rattle.as2_exchange.specs.declared.answer.Refusal.TheVariants.{NoSuchNumber}
+use Rattle.as2_exchange.specs.declared.event.Event.{Event}
 use Rattle.as2_exchange.specs.declared.event.Event.TheVariants as event
 use Rattle.as2_exchange.specs.declared.fault.StoreFault.TheVariants as store_fault
 use Rattle.as2_exchange.specs.Run.{Said as Saying, Answered, Failed}
 use Rattle.as2_exchange.specs.declared.fault.StoreFault.{StoreFault}
 use Rattle.as2_station.specs.Heads.{submit_refusal}
+use Rattle.as2_station.specs.Theorem.{EndsByHistory}
 use Rattle.as2_records.specs.Standing.{may_come}
 use Rattle.as2_views.specs.Filtering.{listing}
 use Rattle.as2_desk.specs.Endings.{Ends, EndsRefused}
 use Rattle.as2_desk.specs.Observed.{Outcome}
 use Rattle.as2_desk.specs.Statuses.{done}
+use Rattle.as2_desk.specs.Written.{Breaks, Writes, Written}
 use Rattle.as2_desk.specs.declared.asking.Printed.{Printed}
 use Rattle.as2_desk.specs.declared.asking.Printed.TheVariants.{Number, Words, Content}
 use Rattle.as2_desk.specs.declared.asking.Question.{Question}
@@ -54,13 +56,10 @@ told_of (Ticked n) = Some (Ok (number_line n))
 told_of (Refused reason) = Some (Err (Station reason))
 told_of other = None
 
--- what is told of what was said to such an event
-abbrev pub number_told : Saying → Told
-number_told (Answered (Submitted n)) = Ok (number_line n)
-number_told (Answered (Ticked n)) = Ok (number_line n)
-number_told (Answered (Refused reason)) = Err (Station reason)
-number_told (Answered other) = Err (Store (open_fault.Store store_fault.Refused))
-number_told (Failed fault) = Err (Store (open_fault.Store fault))
+-- that is told of what was said to such an event
+abbrev pub IsToldOf : Saying → Told → Type 0
+IsToldOf (Answered answer) told = told_of answer ≡ Some told
+IsToldOf (Failed fault) told = told ≡ Err (Store (open_fault.Store fault))
 
 -- the text, where an entry has the number
 abbrev pub found_told : Option (List ℕ) → Told
@@ -114,17 +113,29 @@ FaultMayCome q (Err (Store open_fault.Held)) = ⊥
 FaultMayCome q (Err (Store (open_fault.Store fault))) = ((fault ≡ store_fault.Full) × (is_event q ≡ true)) ⊎ (may_come fault ≡ true)
 FaultMayCome q told = ⊤
 
--- the text is written, once, or that couldn't be done; or one line says why there is none, and nothing is written
-abbrev pub Prints : Told → Type 0 → Option (List ℕ) → Option (List ℕ) → (List ℕ → Type 0) → Ran → Type 0
-Prints (Ok text) Unwritten written now Said ran = (Appends written now text × Ends done (codes "") Said ran) ⊎ EndsRefused CannotWrite Said ran
-Prints (Err refusal) Unwritten written now Said ran = Unwritten × EndsRefused refusal Said ran
+-- what stands of each document then is its history, by that event and what was said to it, of which that is told
+abbrev pub EndsBy : AgreedValues → Event → State → State → Told → Type 0
+EndsBy A e s t told = (said : Saying) × IsToldOf said told × EndsByHistory A s ((e, said) ∷ []) t
+
+-- .. where it is an event
+abbrev pub EndsByEvent : AgreedValues → ℕ → Question → State → State → Told → Type 0
+EndsByEvent A m (Submit from to content) s t told = EndsBy A (event.Submit from to content m) s t told
+EndsByEvent A m Tick s t told = EndsBy A (event.Tick m) s t told
+EndsByEvent A m other s t told = ⊤
+
+-- the text is written, once; or a write failed, of the text a part is written, and one line says so; or one line says why there is
+-- none, and nothing is written
+abbrev pub Prints : Told → Written → Written → Ran → Type 0
+Prints (Ok text) output errors ran = (Writes output text × Ends done (codes "") errors ran) ⊎ (Breaks output text × EndsRefused CannotWrite errors ran)
+Prints (Err refusal) output errors ran = output.Untouched × EndsRefused refusal errors ran
 
 -- Something was told: why it is refused, where that takes no store; or a fault of the store, of those that may come; or an
 -- answer. Where the state is known that the records stood for, it is what is told there, and what is left stands for the state
--- that this leaves.
+-- that this leaves, and for the history of the event, where it is one.
 pub record Asks (agreements : AgreedValues) (moment : ℕ) (question : Question) (known : Option State) (o : Outcome) (ran : Ran) : Type 0 where
   pub told : Told
   pub refused : (reason : Refusal) → refusal_to agreements question ≡ Some reason → told ≡ Err (Station reason)
   pub fault : FaultMayCome question told
   pub tells : IfSome known (λ s. (t : State) × o.Left t × Tells agreements moment question s t told)
-  pub prints : Prints told o.Unwritten o.written o.now o.Said ran
+  pub by_history : IfSome known (λ s. (t : State) × o.Left t × EndsByEvent agreements moment question s t told)
+  pub prints : Prints told o.output o.errors ran

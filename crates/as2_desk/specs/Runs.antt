@@ -1,6 +1,5 @@
 -- What the program comes to where the words ask for something.
 use Rattle.std.specs.Prelude.{◌⊎◌, ℕ, List, Option, IfSome, Ok, Err, ⊤}
-use Rattle.std.specs.Io.KnownBytes.{Appends}
 use Rattle.as2_agreement.specs.Agreements.{AgreedValues}
 use Rattle.as2_exchange.specs.State.{State}
 use Rattle.as2_host.specs.FileContents.{Content}
@@ -10,6 +9,7 @@ use Rattle.as2_desk.specs.FileAgreements.{Opened, Opens}
 use Rattle.as2_desk.specs.Observed.{Observed, Stored}
 use Rattle.as2_desk.specs.Statuses.{done}
 use Rattle.as2_desk.specs.Works.{Begun, Does, IsWork}
+use Rattle.as2_desk.specs.Written.{Breaks, Writes, Written}
 use Rattle.as2_desk.specs.declared.refusal.CommandFault.TheVariants.{CannotWrite, Memory}
 use Rattle.as2_desk.specs.declared.status.Ran.{Ran}
 use Rattle.as2_commands.specs.declared.tasks.RunOptions.{RunOptions}
@@ -17,27 +17,29 @@ use Rattle.as2_commands.specs.declared.tasks.Task.{Task}
 use Rattle.as2_commands.specs.declared.tasks.Task.TheVariants.{Check, Run}
 use Rattle.as2_commands.specs.declared.tasks.Command.TheVariants.{Send}
 
--- the members were counted on standard output, and what to be warned of is said; or that couldn't be written, or memory for it was wanting
-abbrev pub Counts : AgreedValues → Option (List ℕ) → Option (List ℕ) → (List ℕ → Type 0) → Ran → Type 0
-Counts agreements written now Said ran =
-    (Appends written now (counts_line agreements) × Ends done (warnings agreements) Said ran) ⊎ (EndsRefused CannotWrite Said ran ⊎ EndsRefused Memory Said ran)
+-- the members were counted on standard output, and what to be warned of is said; or a write failed behind a part of that line; or
+-- memory for it was wanting, and nothing is written
+abbrev pub Counts : AgreedValues → Written → Written → Ran → Type 0
+Counts agreements output errors ran =
+    (Writes output (counts_line agreements) × Ends done (warnings agreements) errors ran)
+    ⊎ ((Breaks output (counts_line agreements) × EndsRefused CannotWrite errors ran) ⊎ (output.Untouched × EndsRefused Memory errors ran))
 
 -- nothing was read, written or done to the stores
 abbrev pub LeavesAll : Observed → Stored → Type 0
-LeavesAll o stored = stored.Untouched × o.Unread × o.outcome.Unwritten
+LeavesAll o stored = stored.Untouched × o.input.Untouched × o.outcome.output.Untouched
 
--- Without a document the refusal is told, and nothing is done. Where no store can be opened that is told. Else the work is done,
+-- Without a document the refusal is told, and nothing is done. Where its store can't be opened that is told, and what was kept is kept. Else the work is done,
 -- from the state that the store began with, where one is known.
 abbrev pub Goes : AgreedValues → RunOptions → Begun → Observed → Stored → Ran → Type 0
-Goes agreements options (Err refusal) o stored ran = LeavesAll o stored × EndsRefused refusal o.outcome.Said ran
+Goes agreements options (Err refusal) o stored ran = LeavesAll o stored × EndsRefused refusal o.outcome.errors ran
 Goes agreements options (Ok work) o stored ran =
-    (stored.Unopened × o.Unread × o.outcome.Unwritten × Fails stored.path o.outcome.Said ran)
+    (stored.Unopened × stored.Kept × o.input.Untouched × o.outcome.output.Untouched × Fails stored.Fails o.outcome.errors ran)
     ⊎ (stored.Opened × ((known : Option State) → IfSome known (stored.Begins options.first) → Does agreements options.moment work known o ran))
 
 -- over agreements and a store the task is done; without any of them the refusal is told, and nothing is done. Counting needs no store.
 abbrev pub Comes : (List ℕ → Content) → Opened → Task → Observed → Stored → Ran → Type 0
-Comes contents (Err refusal) task o stored ran = LeavesAll o stored × EndsRefused refusal o.outcome.Said ran
-Comes contents (Ok agreements) Check o stored ran = stored.Untouched × o.Unread × Counts agreements o.outcome.written o.outcome.now o.outcome.Said ran
+Comes contents (Err refusal) task o stored ran = LeavesAll o stored × EndsRefused refusal o.outcome.errors ran
+Comes contents (Ok agreements) Check o stored ran = stored.Untouched × o.input.Untouched × Counts agreements o.outcome.output o.outcome.errors ran
 Comes contents (Ok agreements) (Run options command) o stored ran = (begun : Begun) × IsWork contents command begun × Goes agreements options begun o stored ran
 
 -- the file of that path comes to agreements or to a refusal, and the task to what follows from them

@@ -15,20 +15,20 @@ abbrev pub ByPlace : Bool → Type 0 → Type 0 → Type 0
 ByPlace true InMemory Kept = InMemory
 ByPlace false InMemory Kept = Kept
 
--- the store begins with that state: one in memory with no entry, and this first number; another with what is kept (Keeps), on a
--- medium that returned what was written until the store was closed (Clean)
-abbrev pub Begins : List ℕ → ℕ → Type 0 → (State → Type 0) → State → Type 0
-Begins path first Clean Keeps s = ByPlace (is_in_memory path) (s ≡ empty first) (Keeps s × Clean)
+-- the store begins with that state: one in memory with no entry, and this first number; another with what is kept, or is made with
+-- that number (Keeps), on a medium that returned what was written until the store was closed (Clean)
+abbrev pub Begins : List ℕ → ℕ → Type 0 → (ℕ → State → Type 0) → State → Type 0
+Begins path first Clean Keeps s = ByPlace (is_in_memory path) (s ≡ empty first) (Keeps first s × Clean)
 
--- that state is kept once the store is closed (Keeps); one in memory is kept nowhere
-abbrev pub Leaves : List ℕ → (State → Type 0) → State → Type 0
-Leaves path Keeps s = ByPlace (is_in_memory path) ⊤ (Keeps s)
+-- that state is kept once the store is closed, whatever number is given from then on (Keeps); one in memory is kept nowhere
+abbrev pub Leaves : List ℕ → (ℕ → State → Type 0) → State → Type 0
+Leaves path Keeps s = ByPlace (is_in_memory path) ⊤ ((first : ℕ) → Keeps first s)
 
 -- how many stores are opened for that path, beside one in memory
 abbrev pub opens_at : Bool → ℕ
 opens_at true = 0
 opens_at false = 1
 
--- why no store is open: in memory, a fault that may come of any call
-abbrev pub IsFaultAt : List ℕ → OpenFault → Type 0
-IsFaultAt path fault = ByPlace (is_in_memory path) (may_come (fault_in fault) ≡ true) ⊤
+-- why no store is open: in memory, a fault that may come of any call; else that for which what is kept can't be opened (Fails)
+abbrev pub IsFaultAt : List ℕ → (OpenFault → Type 0) → OpenFault → Type 0
+IsFaultAt path Fails fault = ByPlace (is_in_memory path) (may_come (fault_in fault) ≡ true) (Fails fault)

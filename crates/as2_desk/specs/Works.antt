@@ -42,9 +42,9 @@ IsWork contents (command.Serve serving) begun = begun ≡ Ok (work.Serve serving
 -- it is done, at this moment; no other command than `post` reads the input
 abbrev pub Does : AgreedValues → ℕ → Work → Option State → Observed → Ran → Type 0
 Does agreements moment (work.Post logs) known o ran = Posts agreements moment known o.input o.outcome ran
-Does agreements moment (work.Ask question) known o ran = o.Unread × Asks agreements moment question known o.outcome ran
-Does agreements moment (work.Send waits) known o ran = o.Unread × SendsDue agreements moment known o.outcome (o.Exchanged waits) ran
-Does agreements moment (work.Serve serving) known o ran = o.Unread × ServesCount agreements serving known o.outcome (o.listening serving) ran
+Does agreements moment (work.Ask question) known o ran = o.input.Untouched × Asks agreements moment question known o.outcome ran
+Does agreements moment (work.Send waits) known o ran = o.input.Untouched × SendsDue agreements moment known o.outcome (o.Exchanged waits) ran
+Does agreements moment (work.Serve serving) known o ran = o.input.Untouched × ServesCount agreements serving known o.outcome (o.listening serving) ran
 
 -- it sends
 abbrev pub SendsWork : Work → Type 0

@@ -1,30 +1,32 @@
 //! What is asked of the station once, and what is printed of its answer.
-ghost use Rattle.std.specs.Prelude.{◌≡◌, ◌⊎◌, OnOk, Option, Some, Err, IfSome, string_bytes};
-ghost use Rattle.std.specs.Io.KnownBytes.{Appends};
+ghost use Rattle.std.specs.Prelude.{◌≡◌, ◌⊎◌, Option, Some, Err, IfSome, string_bytes};
 ghost use Rattle.as2_exchange.specs.State.{State};
 ghost use Rattle.as2_exchange.specs.declared.answer.Refusal.{Refusal as TheRefusal};
-ghost use Rattle.as2_station.specs.Traces.{said as saying};
+ghost use Rattle.as2_exchange.specs.declared.answer.Answer.TheVariants.{Ticked};
+ghost use Rattle.as2_station.specs.Said.{said_to_submit};
+ghost use Rattle.as2_station.specs.Theorem.{said_as};
 ghost use Rattle.as2_desk.specs.Endings.{EndsRefused};
-ghost use Rattle.as2_desk.specs.Observed.{outcome_of};
-ghost use Rattle.as2_desk.specs.Questions.{Asks, FaultMayCome, Prints, Tells, looked_up, number_line, number_told, printed_text, read_told, refusal_to, told_as};
+ghost use Rattle.as2_desk.specs.Observed.{errors_of, outcome_of};
+ghost use Rattle.as2_desk.specs.Questions.{Asks, EndsByEvent, FaultMayCome, IsToldOf, Prints, Tells, looked_up, number_line, printed_text, read_told, refusal_to, told_as};
 ghost use Rattle.as2_desk.specs.Statuses.{done, failed, refused};
+ghost use Rattle.as2_desk.specs.Written.{WritesBy, written_of};
 ghost use Rattle.as2_desk.specs.declared.refusal.CommandFault.TheVariants.{Station as Refusing, Store as Failing};
 ghost use Rattle.as2_host.specs.declared.stores.OpenFault.{OpenFault as TheFault};
 
+use crate::console::Console;
+use crate::lines::joined;
 use crate::refusal::{CommandFault, refuse};
 use crate::status::{DONE, Ran};
-use as2_agreement::Agreements;
-use as2_exchange::{Answer, Event, Refusal, StoreFault};
+use crate::terms::Terms;
+use as2_exchange::{Refusal, StoreFault};
 use as2_host::OpenFault;
 use as2_http::{DeviceFault, Sink, push_all};
 use as2_mic::Pieces;
 use as2_records::Records;
-use as2_station::Station;
-use as2_text::{AsName, Moment};
+use as2_station::{NewDocument, Station, Submitted};
+use as2_text::AsName;
 use as2_views::Filter;
 use itoa::Buffer;
-use std::alloc::Global;
-use std::io::Write;
 
 /// What is asked of the station once.
 #[derive(Drop)]
@@ -58,14 +60,23 @@ pub(crate) enum Printed {
     Content(Vec<u8>),
 }
 
-/// The number or the count that is answered, or why there is none. To what is asked here no other answer comes.
-fn number_told(said: Result<Answer, StoreFault>) -> Result<Printed, CommandFault>
-    ensures { told_as result ≡ number_told (saying said) }
+/// The number of a document that was handed in, or why there is none.
+fn submitted_told(said: Result<Submitted, StoreFault>) -> Result<Printed, CommandFault>
+    ensures { IsToldOf (said_as said_to_submit said) (told_as result) }
 {
     match said {
-        Ok(Answer::Submitted(number) | Answer::Ticked(number)) => Ok(Printed::Number(number)),
-        Ok(Answer::Refused(reason)) => Err(CommandFault::Station(reason)),
-        Ok(_) => Err(CommandFault::Store(OpenFault::Store(StoreFault::Refused))),
+        Ok(Ok(number)) => Ok(Printed::Number(number)),
+        Ok(Err(reason)) => Err(CommandFault::Station(reason)),
+        Err(fault) => Err(CommandFault::Store(OpenFault::Store(fault))),
+    }
+}
+
+/// The count of documents that were given up, or why there is none.
+fn ticked_told(said: Result<u64, StoreFault>) -> Result<Printed, CommandFault>
+    ensures { IsToldOf (said_as Ticked said) (told_as result) }
+{
+    match said {
+        Ok(count) => Ok(Printed::Number(count)),
         Err(fault) => Err(CommandFault::Store(OpenFault::Store(fault))),
     }
 }
@@ -104,89 +115,79 @@ fn fetched_told(said: Result<Option<Vec<u8>>, StoreFault>) -> Result<Printed, Co
 
 /// Asks the station once.
 fn answer<K: Records>(
-    alloc: Global,
-    agreements: &Agreements,
-    moment: Moment,
+    terms: &Terms<'_>,
     station: &mut Station<K>,
     question: Question,
 ) -> Result<Printed, CommandFault>
-    ensures refused { (reason : TheRefusal) → refusal_to agreements.now question ≡ Some reason → told_as result ≡ Err (Refusing reason) }
+    ensures refused { (reason : TheRefusal) → refusal_to terms.now.agreements.now question ≡ Some reason → told_as result ≡ Err (Refusing reason) }
     ensures fault { FaultMayCome question (told_as result) }
     ensures clean { (K.shows station.new).IsClean → (K.shows station.old).IsClean }
     ensures tells { (K.shows station.new).IsClean → (s : State) → (K.shows station.old).Rests s
-        → (t : State) × (K.shows station.new).Rests t × Tells agreements.now moment question s t (told_as result) }
+        → (t : State) × (K.shows station.new).Rests t × Tells terms.now.agreements.now terms.now.moment question s t (told_as result) }
+    ensures by_history { (K.shows station.new).IsClean → (s : State) → (K.shows station.old).Rests s
+        → (t : State) × (K.shows station.new).Rests t × EndsByEvent terms.now.agreements.now terms.now.moment question s t (told_as result) }
 {
     match question {
         Question::Submit { from, to, content } => {
-            let event = Event::Submit {
+            let document = NewDocument {
                 organization: from,
                 partner: to,
                 content,
-                moment,
             };
-            number_told(station.step(alloc, agreements, event))
+            submitted_told(station.submit(terms.alloc, terms.agreements, document, terms.moment))
         }
-        Question::Tick => number_told(station.step(alloc, agreements, Event::Tick { moment })),
-        Question::Listing(filter) => read_told(station.listing(alloc, filter)),
-        Question::Outstanding => read_told(station.outstanding(alloc, moment)),
-        Question::Show(number) => shown_told(station.show(alloc, number)),
-        Question::Fetch(number) => fetched_told(station.fetch(alloc, number)),
+        Question::Tick => ticked_told(station.tick(terms.agreements, terms.moment)),
+        Question::Listing(filter) => read_told(station.listing(terms.alloc, filter)),
+        Question::Outstanding => read_told(station.outstanding(terms.alloc, terms.moment)),
+        Question::Show(number) => shown_told(station.show(terms.alloc, number)),
+        Question::Fetch(number) => fetched_told(station.fetch(terms.alloc, number)),
     }
 }
 
 /// Asks the station once, and prints its answer.
-pub(crate) fn ask<K: Records, W: Sink, E: Write>(
-    alloc: Global,
-    agreements: &Agreements,
-    moment: Moment,
+pub(crate) fn ask<K: Records, R, W: Sink, H, E: Sink>(
+    terms: &Terms<'_>,
     station: &mut Station<K>,
     question: Question,
-    output: &mut W,
-    errors: &mut E,
+    console: &mut Console<R, W, H, E>,
 ) -> Ran
     ensures status { (result.status ≡ done) ⊎ ((result.status ≡ refused) ⊎ (result.status ≡ failed)) }
+    ensures unread { console.new.input ≡ console.old.input }
     ensures clean { (K.shows station.new).IsClean → (K.shows station.old).IsClean }
     ensures asks { (known : Option State) → IfSome known (λ s. (K.shows station.new).IsClean × (K.shows station.old).Rests s)
-        → Asks agreements.now moment question known
-        (outcome_of W.written E.contents output.old output.new errors.old errors.new (λ t. (K.shows station.new).Rests t)) result }
-    ensures store { result.status ≡ failed → (output.new ≡ output.old)
-        × ((fault : TheFault) × EndsRefused (Failing fault) (Appends (E.contents errors.old) (E.contents errors.new)) result) }
+        → Asks terms.now.agreements.now terms.now.moment question known (outcome_of W.Sink E.Sink console.old console.new (λ t. (K.shows station.new).Rests t)) result }
+    ensures store { result.status ≡ failed → (console.new.output ≡ console.old.output)
+        × ((fault : TheFault) × EndsRefused (Failing fault) (errors_of E.Sink console.old console.new) result) }
 {
-    let told = answer(alloc, agreements, moment, station, question);
-    print(told, output, errors)
-}
-
-/// Writes a number in decimal digits, and LF.
-fn write_number<W: Sink>(number: u64, output: &mut W) -> Result<(), DeviceFault>
-    ensures { OnOk result (Appends (W.written output.old) (W.written output.new) (number_line number)) }
-{
-    let mut digits = Buffer::new();
-    push_all(output, digits.format(number).as_bytes())?;
-    push_all(output, b"\n")
+    let told = answer(terms, station, question);
+    print(told, &mut console.output, &mut console.errors)
 }
 
 /// Writes what is to be printed.
 fn write_printed<W: Sink>(printed: Printed, output: &mut W) -> Result<(), DeviceFault>
-    ensures { OnOk result (Appends (W.written output.old) (W.written output.new) (printed_text printed)) }
+    ensures { WritesBy result (written_of W.Sink output.old output.new) (printed_text printed) }
 {
     match printed {
-        Printed::Number(number) => write_number(number, output),
+        Printed::Number(number) => {
+            let mut digits = Buffer::new();
+            let line = joined(digits.format(number), "\n", "");
+            push_all(output, line.as_str().as_bytes())
+        }
         Printed::Words(text) => push_all(output, text.as_bytes()),
         Printed::Content(bytes) => push_all(output, &bytes),
     }
 }
 
 /// Prints what was answered, or says why nothing is.
-fn print<W: Sink, E: Write>(
+fn print<W: Sink, E: Sink>(
     told: Result<Printed, CommandFault>,
     output: &mut W,
     errors: &mut E,
 ) -> Ran
     ensures status { (result.status ≡ done) ⊎ ((result.status ≡ refused) ⊎ (result.status ≡ failed)) }
-    ensures prints { Prints (told_as told) (output.new ≡ output.old)
-        (W.written output.old) (W.written output.new) (Appends (E.contents errors.old) (E.contents errors.new)) result }
+    ensures prints { Prints (told_as told) (written_of W.Sink output.old output.new) (written_of E.Sink errors.old errors.new) result }
     ensures store { result.status ≡ failed → (output.new ≡ output.old)
-        × ((fault : TheFault) × EndsRefused (Failing fault) (Appends (E.contents errors.old) (E.contents errors.new)) result) }
+        × ((fault : TheFault) × EndsRefused (Failing fault) (written_of E.Sink errors.old errors.new) result) }
 {
     let printed = match told {
         Ok(printed) => printed,

@@ -1,17 +1,16 @@
 //! The command `check`: how many members agreements have, and what to be warned of.
-ghost use Rattle.std.specs.Prelude.{◌≡◌, ◌⊎◌, IfOk, string_bytes, option_map, true};
-ghost use Rattle.std.specs.Io.KnownBytes.{Appends};
+ghost use Rattle.std.specs.Prelude.{◌≡◌, ◌⊎◌, IfOk, string_bytes};
 ghost use Rattle.as2_desk.specs.Checks.{counts_line, is_elsewhere, warnings};
 ghost use Rattle.as2_desk.specs.Runs.{Counts};
 ghost use Rattle.as2_desk.specs.Statuses.{done, refused};
+ghost use Rattle.as2_desk.specs.Written.{WritesIf, written_of};
 
-use crate::refusal::{CommandFault, refuse};
+use crate::refusal::{CommandFault, is_said, refuse};
 use crate::status::{DONE, Ran};
 use as2_agreement::Agreements;
 use as2_http::{Sink, push_all};
 use as2_text::Url;
 use std::alloc::{AllocError, Global};
-use std::io::Write;
 
 const WARNING: &str = "warning: return_url has not the path /as2; receipts sent there get 404\n";
 
@@ -36,23 +35,22 @@ fn returns_elsewhere(agreements: &Agreements) -> bool
     }
 }
 
-/// Writes what there is to be warned of, and tells whether that could be written.
-fn are_warned<E: Write>(agreements: &Agreements, errors: &mut E) -> bool
-    ensures { result ≡ true → Appends (E.contents errors.old) (E.contents errors.new) (warnings agreements.now) }
+/// Says what there is to be warned of, and tells whether that could be said.
+fn are_warned<E: Sink>(agreements: &Agreements, errors: &mut E) -> bool
+    ensures { WritesIf result (written_of E.Sink errors.old errors.new) (warnings agreements.now) }
 {
-    !returns_elsewhere(agreements) || errors.write_all(WARNING.as_bytes()).is_ok()
+    !returns_elsewhere(agreements) || is_said(WARNING, errors)
 }
 
 /// Tells how many organizations and partners there are.
-pub(crate) fn check<W: Sink, E: Write>(
+pub(crate) fn check<W: Sink, E: Sink>(
     alloc: Global,
     agreements: &Agreements,
     output: &mut W,
     errors: &mut E,
 ) -> Ran
     ensures status { (result.status ≡ done) ⊎ (result.status ≡ refused) }
-    ensures counts { Counts agreements.now (W.written output.old) (W.written output.new)
-        (Appends (E.contents errors.old) (E.contents errors.new)) result }
+    ensures counts { Counts agreements.now (written_of W.Sink output.old output.new) (written_of E.Sink errors.old errors.new) result }
 {
     let Ok(line) = counts(alloc, agreements) else {
         return refuse(CommandFault::Memory, errors);

@@ -5,10 +5,12 @@
 mod agreed;
 mod asking;
 mod check;
+mod console;
 mod desk;
 mod documents;
 mod escaping;
 mod hints;
+mod lines;
 mod noting;
 mod places;
 mod posting;
@@ -16,8 +18,10 @@ mod refusal;
 mod sending;
 mod serving;
 mod status;
+mod terms;
 mod work;
 
+pub use console::{Console, Host};
 pub use desk::run;
 pub use noting::Lines;
 pub use status::Ran;

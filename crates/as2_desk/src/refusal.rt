@@ -1,19 +1,18 @@
 //! Why something was refused, in one line on standard error.
-ghost use Rattle.std.specs.Prelude.{◌≡◌, ◌⊎◌, OnOk, true};
-ghost use Rattle.std.specs.Io.KnownBytes.{Appends};
+ghost use Rattle.std.specs.Prelude.{◌≡◌, ◌⊎◌, ◌≤◌, length, false, true};
 ghost use Rattle.as2_desk.specs.Refusals.{agreements_line, error_line, refusal_name, refusal_status, refused_line, store_fault_name, store_lines};
 ghost use Rattle.as2_desk.specs.Endings.{EndsRefused};
 ghost use Rattle.as2_desk.specs.Statuses.{failed, refused};
+ghost use Rattle.as2_desk.specs.Written.{WritesIf, written_of};
 ghost use Rattle.as2_desk.specs.declared.refusal.CommandFault.TheVariants.{Store as Failing};
 ghost use Rattle.as2_host.specs.declared.stores.OpenFault.{OpenFault as TheFault};
 
+use crate::lines::{Line, joined};
 use crate::status::{FAILED, REFUSED, Ran, end_name};
 use as2_agreement::AgreementFault;
 use as2_exchange::{Refusal, StoreFault};
 use as2_host::OpenFault;
-use as2_http::Served;
-use std::io;
-use std::io::Write;
+use as2_http::{Served, Sink, push_all};
 
 /// Why what was asked for isn't done.
 #[derive(Clone, Copy, Debug, PartialEq, Eq)]
@@ -48,7 +47,8 @@ pub(crate) fn refusal_status(refusal: CommandFault) -> u8
 
 /// The name of a fault, as it is spelled in `StoreFault`.
 fn store_fault_name(fault: StoreFault) -> &'static str
-    ensures { result.now ≡ store_fault_name fault }
+    ensures name { result.now ≡ store_fault_name fault }
+    ensures short { length result.now ≤ 20 }
 {
     match fault {
         StoreFault::Memory => "Memory",
@@ -62,7 +62,8 @@ fn store_fault_name(fault: StoreFault) -> &'static str
 
 /// The name of a refusal, as it is spelled in `Refusal`.
 fn refusal_name(refusal: Refusal) -> &'static str
-    ensures { result.now ≡ refusal_name refusal }
+    ensures name { result.now ≡ refusal_name refusal }
+    ensures short { length result.now ≤ 20 }
 {
     match refusal {
         Refusal::UnknownOrganization => "UnknownOrganization",
@@ -76,83 +77,88 @@ fn refusal_name(refusal: Refusal) -> &'static str
     }
 }
 
-/// Writes `refused: NAME`.
-fn say_refused<E: Write>(name: &str, errors: &mut E) -> io::Result<()>
-    ensures { OnOk result (Appends (E.contents errors.old) (E.contents errors.new) (refused_line name.now)) }
+/// `refused: NAME`.
+fn refused_line(name: &str) -> Line
+    requires { length name.now ≤ 20 }
+    ensures { result.bytes ≡ refused_line name.now }
 {
-    write!(errors, "refused: {name}\n")
+    joined("refused: ", name, "\n")
 }
 
-/// Writes `agreements: NAME`, and the key where the fault has one.
-fn say_agreements<E: Write>(fault: AgreementFault, errors: &mut E) -> io::Result<()>
-    ensures { OnOk result (Appends (E.contents errors.old) (E.contents errors.new) (agreements_line fault)) }
+/// `agreements: NAME`, and the key where the fault has one.
+fn agreements_line(fault: AgreementFault) -> Line
+    ensures { result.bytes ≡ agreements_line fault }
 {
-    let name = fault.name();
-    match fault.key() {
-        None => write!(errors, "agreements: {name}\n"),
-        Some(key) => write!(errors, "agreements: {name} {key}\n"),
+    let mut line = joined("agreements: ", fault.name(), "");
+    if let Some(key) = fault.key() {
+        line.push_str(" ");
+        line.push_str(key.name());
     }
+    line.push_str("\n");
+    line
 }
 
-/// Writes `store: NAME`, and behind it what may help.
-fn say_store<E: Write>(fault: OpenFault, errors: &mut E) -> io::Result<()>
-    ensures { OnOk result (Appends (E.contents errors.old) (E.contents errors.new) (store_lines fault)) }
+/// `store: NAME`, and behind it what may help.
+fn store_lines(fault: OpenFault) -> Line
+    ensures { result.bytes ≡ store_lines fault }
 {
     match fault {
-        OpenFault::Held => write!(
-            errors,
-            "store: Refused\nhint: another process has the file open\n"
+        OpenFault::Held => joined(
+            "store: ",
+            "Refused",
+            "\nhint: another process has the file open\n",
         ),
-        OpenFault::Store(fault) => {
-            let name = store_fault_name(fault);
-            write!(errors, "store: {name}\n")
-        }
+        OpenFault::Store(fault) => joined("store: ", store_fault_name(fault), "\n"),
     }
 }
 
-/// Writes the line of a refusal.
-fn say<E: Write>(refusal: CommandFault, errors: &mut E) -> io::Result<()>
-    ensures { OnOk result (Appends (E.contents errors.old) (E.contents errors.new) (error_line refusal)) }
+/// The line of a refusal.
+fn error_line(refusal: CommandFault) -> Line
+    ensures { result.bytes ≡ error_line refusal }
 {
     match refusal {
-        CommandFault::CannotRead => say_refused("CannotRead", errors),
-        CommandFault::CannotWrite => say_refused("CannotWrite", errors),
-        CommandFault::Memory => say_refused("Memory", errors),
-        CommandFault::Agreements(fault) => say_agreements(fault, errors),
-        CommandFault::Store(fault) => say_store(fault, errors),
-        CommandFault::Stream(end) => say_refused(end_name(end), errors),
-        CommandFault::Station(reason) => say_refused(refusal_name(reason), errors),
-        CommandFault::CannotListen => say_refused("CannotListen", errors),
+        CommandFault::CannotRead => refused_line("CannotRead"),
+        CommandFault::CannotWrite => refused_line("CannotWrite"),
+        CommandFault::Memory => refused_line("Memory"),
+        CommandFault::Agreements(fault) => agreements_line(fault),
+        CommandFault::Store(fault) => store_lines(fault),
+        CommandFault::Stream(end) => refused_line(end_name(end)),
+        CommandFault::Station(reason) => refused_line(refusal_name(reason)),
+        CommandFault::CannotListen => refused_line("CannotListen"),
     }
 }
 
-/// Says why something was refused, and whether that could be said: where not, there is nobody else to say it to.
-pub(crate) fn is_said<E: Write>(refusal: CommandFault, errors: &mut E) -> bool
-    ensures { result ≡ true → Appends (E.contents errors.old) (E.contents errors.new) (error_line refusal) }
+/// Says a text, and tells whether that could be done: where not, there is nobody else to say it to.
+pub(crate) fn is_said<E: Sink>(text: &str, errors: &mut E) -> bool
+    ensures said { WritesIf result (written_of E.Sink errors.old errors.new) text.now }
+    ensures counted { E.failed errors.old ≤ E.failed errors.new }
 {
-    say(refusal, errors).is_ok()
+    push_all(errors, text.as_bytes()).is_ok()
 }
 
 /// Says that something was refused.
-pub(crate) fn refuse<E: Write>(refusal: CommandFault, errors: &mut E) -> Ran
-    ensures told { EndsRefused refusal (Appends (E.contents errors.old) (E.contents errors.new)) result }
+pub(crate) fn refuse<E: Sink>(refusal: CommandFault, errors: &mut E) -> Ran
+    ensures told { EndsRefused refusal (written_of E.Sink errors.old errors.new) result }
     ensures status { (result.status ≡ refused) ⊎ (result.status ≡ failed) }
     ensures store { result.status ≡ failed → (fault : TheFault) × (refusal ≡ Failing fault) }
 {
     Ran {
         status: refusal_status(refusal),
-        told: is_said(refusal, errors),
+        told: is_said(error_line(refusal).as_str(), errors),
     }
 }
 
-/// Says that something was refused, behind what was said before, if that was: `told`.
-pub(crate) fn refuse_behind<E: Write>(told: bool, refusal: CommandFault, errors: &mut E) -> Ran
+/// Says that something was refused, behind what was said before. Where that couldn't be said (`told`), no more is.
+pub(crate) fn refuse_behind<E: Sink>(told: bool, refusal: CommandFault, errors: &mut E) -> Ran
     ensures status { result.status ≡ refusal_status refusal }
-    ensures told { result.told ≡ true → (told ≡ true) × Appends (E.contents errors.old) (E.contents errors.new) (error_line refusal) }
+    ensures told { told ≡ true → WritesIf result.told (written_of E.Sink errors.old errors.new) (error_line refusal) }
+    ensures untold { told ≡ false → (result.told ≡ false) × (errors.new ≡ errors.old) }
 {
-    let ran = refuse(refusal, errors);
-    Ran {
-        status: ran.status,
-        told: told && ran.told,
+    if !told {
+        return Ran {
+            status: refusal_status(refusal),
+            told,
+        };
     }
+    refuse(refusal, errors)
 }

@@ -1,123 +1,110 @@
 //! The command `serve`: connections, one after the other.
-ghost use Rattle.std.specs.Prelude.{◌≡◌, ◌⊎◌, ◌++◌, codes, Option, IfSome, OnOk, true};
-ghost use Rattle.std.specs.Io.KnownBytes.{Appends};
+ghost use Rattle.std.specs.Prelude.{◌≡◌, ◌≤◌, ◌⊎◌, IfOk, Option, IfSome, string_bytes};
 ghost use Rattle.as2_exchange.specs.State.{State};
 ghost use Rattle.as2_host.specs.Networks.{EndsEach, listening_of};
-ghost use Rattle.as2_desk.specs.Observed.{outcome_of};
+ghost use Rattle.as2_desk.specs.Observed.{outcome_of, output_of};
 ghost use Rattle.as2_desk.specs.Connections.{ServesConnections, ServesCount, ServesNext, connection_line, listening_line};
 ghost use Rattle.as2_desk.specs.Statuses.{done, refused};
 
-use crate::refusal::{CommandFault, refuse, refuse_behind};
+use crate::console::Console;
+use crate::lines::{Line, joined};
+use crate::refusal::{CommandFault, is_said, refuse, refuse_behind};
 use crate::status::{DONE, Ran, end_name};
-use as2_agreement::Agreements;
+use crate::terms::Terms;
 use as2_commands::Serving;
 use as2_host::{Listens, Network};
 use as2_http::{DeviceFault, Journal, Served, Sink, push_all};
 use as2_records::Records;
 use as2_station::Station;
-use as2_text::Moment;
+use as2_text::{Memory, Moment};
 use std::alloc::Global;
-use std::io::Write;
 
-/// Writes a name, and LF.
-fn write_name<W: Sink>(name: &str, output: &mut W) -> Result<(), DeviceFault>
-    ensures { OnOk result (Appends (W.written output.old) (W.written output.new) (name.now ++ codes "\n")) }
+/// `connection: END`.
+fn connection_line(end: Served) -> Line
+    ensures { result.bytes ≡ connection_line end }
 {
-    push_all(output, name.as_bytes())?;
-    push_all(output, b"\n")
+    joined("connection: ", end_name(end), "\n")
 }
 
-/// Writes `connection: END`.
-fn write_connection<W: Sink>(end: Served, output: &mut W) -> Result<(), DeviceFault>
-    ensures { OnOk result (Appends (W.written output.old) (W.written output.new) (connection_line end)) }
+/// `listening: ADDRESS`.
+fn listening_line<L: Listens>(alloc: Global, listener: &L) -> Result<String, Memory>
+    ensures { IfOk result (λ line. string_bytes line ≡ listening_line (L.bound listener.now)) }
 {
-    push_all(output, b"connection: ")?;
-    write_name(end_name(end), output)
-}
-
-/// Says where connections are awaited, and whether that could be said.
-fn says_listening<E: Write>(address: &str, errors: &mut E) -> bool
-    ensures { result ≡ true → Appends (E.contents errors.old) (E.contents errors.new) (listening_line address.now) }
-{
-    write!(errors, "listening: {address}\n").is_ok()
+    let address = listener.address(alloc)?;
+    format!(in alloc; "listening: {address}\n").map_err(|_| Memory)
 }
 
 /// Serves the next connection, notes its replies, and writes its line once it has ended.
-fn serve_next<K: Records, L: Listens, W: Sink, H: Journal>(
-    alloc: Global,
-    agreements: &Agreements,
+fn serve_next<K: Records, L: Listens, R, W: Sink, H: Journal, E>(
+    terms: &Terms<'_>,
     moment: &Option<Moment>,
     station: &mut Station<K>,
     listener: &mut L,
-    output: &mut W,
-    hints: &mut H,
+    console: &mut Console<R, W, H, E>,
 ) -> Result<(), DeviceFault>
+    ensures streams { (console.new.input ≡ console.old.input) × (console.new.errors ≡ console.old.errors) }
     ensures clean { (K.shows station.new).IsClean → (K.shows station.old).IsClean }
-    ensures serves { ServesNext agreements.now moment.now (K.shows station.old) (K.shows station.new)
-        (λ end. L.ended listener.old end listener.new) (W.written output.old) (W.written output.new) result }
+    ensures counted { W.failed console.old.output ≤ W.failed console.new.output }
+    ensures serves { ServesNext terms.now.agreements.now moment.now (K.shows station.old) (K.shows station.new)
+        (λ end. L.ended listener.old end listener.new) (output_of W.Sink console.old console.new) result }
 {
-    let end = listener.serve(alloc, agreements, *moment, station, hints);
-    write_connection(end, output)
+    let end = listener.serve(
+        terms.alloc,
+        terms.agreements,
+        *moment,
+        station,
+        &mut console.hints,
+    );
+    push_all(
+        &mut console.output,
+        connection_line(end).as_str().as_bytes(),
+    )
 }
 
 /// Serves so many connections, one after the other, and writes a line for each as soon as it has ended.
-fn serve_connections<K: Records, L: Listens, W: Sink, H: Journal>(
-    alloc: Global,
-    agreements: &Agreements,
-    count: u64,
-    moment: Option<Moment>,
+fn serve_connections<K: Records, L: Listens, R, W: Sink, H: Journal, E>(
+    terms: &Terms<'_>,
+    serving: &Serving<'_>,
     station: &mut Station<K>,
     listener: &mut L,
-    output: &mut W,
-    hints: &mut H,
+    console: &mut Console<R, W, H, E>,
 ) -> Result<(), DeviceFault>
-    ensures { ServesConnections agreements.now moment count (K.shows station.old) (K.shows station.new)
-        (λ ends. EndsEach L.ended listener.old ends listener.new) (W.written output.old) (W.written output.new) result }
+    ensures streams { (console.new.input ≡ console.old.input) × (console.new.errors ≡ console.old.errors) }
+    ensures serves { ServesConnections terms.now.agreements.now serving.now.moment serving.now.count (K.shows station.old) (K.shows station.new)
+        (λ ends. EndsEach L.ended listener.old ends listener.new) (output_of W.Sink console.old console.new) result }
 {
-    for served in 0..count {
+    for served in 0..serving.count {
         let _ = served;
-        serve_next(alloc, agreements, &moment, station, listener, output, hints)?;
+        serve_next(terms, &serving.moment, station, listener, console)?;
     }
     Ok(())
 }
 
 /// Serves connections at an address.
-pub(crate) fn serve<K: Records, N: Network, W: Sink, H: Journal, E: Write>(
-    alloc: Global,
-    agreements: &Agreements,
+pub(crate) fn serve<K: Records, N: Network, R, W: Sink, H: Journal, E: Sink>(
+    terms: &Terms<'_>,
     serving: Serving<'_>,
     station: &mut Station<K>,
     network: &N,
-    output: &mut W,
-    hints: &mut H,
-    errors: &mut E,
+    console: &mut Console<R, W, H, E>,
 ) -> Ran
     ensures status { (result.status ≡ done) ⊎ (result.status ≡ refused) }
+    ensures unread { console.new.input ≡ console.old.input }
     ensures clean { (K.shows station.new).IsClean → (K.shows station.old).IsClean }
     ensures serves { (known : Option State) → IfSome known (λ s. (K.shows station.new).IsClean × (K.shows station.old).Rests s)
-        → ServesCount agreements.now serving.entry known
-        (outcome_of W.written E.contents output.old output.new errors.old errors.new (λ t. (K.shows station.new).Rests t))
+        → ServesCount terms.now.agreements.now serving.entry known
+        (outcome_of W.Sink E.Sink console.old console.new (λ t. (K.shows station.new).Rests t))
         (listening_of N.listens N.refuses N.Listener.bound N.Listener.ended network.now serving.entry) result }
 {
-    let Ok(mut listener) = network.listen(alloc, serving.address, serving.waits) else {
-        return refuse(CommandFault::CannotListen, errors);
+    let Ok(mut listener) = network.listen(terms.alloc, serving.address, serving.waits) else {
+        return refuse(CommandFault::CannotListen, &mut console.errors);
     };
-    let Ok(address) = listener.address(alloc) else {
-        return refuse(CommandFault::Memory, errors);
+    let Ok(line) = listening_line(terms.alloc, &listener) else {
+        return refuse(CommandFault::Memory, &mut console.errors);
     };
-    let told = says_listening(address.as_str(), errors);
-    let Serving { count, moment, .. } = serving;
-    match serve_connections(
-        alloc,
-        agreements,
-        count,
-        moment,
-        station,
-        &mut listener,
-        output,
-        hints,
-    ) {
+    let told = is_said(line.as_str(), &mut console.errors);
+    match serve_connections(terms, &serving, station, &mut listener, console) {
         Ok(()) => Ran { status: DONE, told },
-        Err(DeviceFault) => refuse_behind(told, CommandFault::CannotWrite, errors),
+        Err(DeviceFault) => refuse_behind(told, CommandFault::CannotWrite, &mut console.errors),
     }
 }

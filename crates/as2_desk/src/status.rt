@@ -1,5 +1,5 @@
 //! How an end is told to a shell: by the exit status, and by a name.
-ghost use Rattle.std.specs.Prelude.{◌≡◌};
+ghost use Rattle.std.specs.Prelude.{◌≡◌, ◌≤◌, length};
 ghost use Rattle.as2_desk.specs.Statuses.{end_name};
 
 use as2_http::Served;
@@ -24,7 +24,8 @@ pub(crate) const FAILED: u8 = 3;
 
 /// The name of `end`, as it is spelled in `Served`.
 pub(crate) fn end_name(end: Served) -> &'static str
-    ensures { result.now ≡ end_name end }
+    ensures name { result.now ≡ end_name end }
+    ensures short { length result.now ≤ 20 }
 {
     match end {
         Served::Closed => "Closed",

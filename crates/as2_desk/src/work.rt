@@ -1,10 +1,9 @@
 //! What a command does over the store.
-ghost use Rattle.std.specs.Prelude.{◌≡◌, ◌⊎◌, Option, Ok, None, codes, IfErr, IfOk, IfSome, IsSomeAnd};
-ghost use Rattle.std.specs.Io.KnownBytes.{Appends};
+ghost use Rattle.std.specs.Prelude.{◌≡◌, ◌⊎◌, ℕ, Option, Ok, None, codes, IfErr, IfOk, IfSome, IsSomeAnd};
 ghost use Rattle.as2_exchange.specs.State.{State};
 ghost use Rattle.as2_host.specs.Networks.{ExchangedOver, listening_of};
 ghost use Rattle.as2_desk.specs.Endings.{EndsRefused, Stopped};
-ghost use Rattle.as2_desk.specs.Observed.{input_of, outcome_of, stored_of};
+ghost use Rattle.as2_desk.specs.Observed.{errors_of, input_of, outcome_of, output_of, stored_of};
 ghost use Rattle.as2_desk.specs.Runs.{Goes};
 ghost use Rattle.as2_desk.specs.Statuses.{done, failed, refused};
 ghost use Rattle.as2_desk.specs.Stores.{Leaves};
@@ -12,19 +11,19 @@ ghost use Rattle.as2_desk.specs.Works.{Does, IsWork, SendsWork};
 ghost use Rattle.as2_desk.specs.declared.refusal.CommandFault.TheVariants.{Store as Failing};
 
 use crate::asking::{Question, ask};
+use crate::console::{Console, Host};
 use crate::documents::document_in;
 use crate::posting::post;
 use crate::refusal::{CommandFault, refuse};
 use crate::sending::send_due;
 use crate::serving::serve;
 use crate::status::Ran;
-use as2_agreement::Agreements;
-use as2_commands::{Command, RunOptions, Serving, Waits};
+use crate::terms::{NamedStore, Terms};
+use as2_commands::{Command, Serving, Waits};
 use as2_host::{Network, OpenFault, OpenStores, ReadFiles};
 use as2_http::{Journal, Sink, Source};
 use as2_records::Records;
 use as2_station::Station;
-use as2_text::Moment;
 use std::alloc::Global;
 use std::io::Write;
 
@@ -70,100 +69,77 @@ pub(crate) fn work_of<'a, F: ReadFiles>(
 }
 
 /// Does the work at the station.
-fn do_at<K: Records, N: Network, R: Source, W: Sink, H: Write + Journal, E: Write>(
-    alloc: Global,
-    agreements: &Agreements,
-    moment: Moment,
+fn do_at<K: Records, N: Network, R: Source, W: Sink, H: Write + Journal, E: Sink>(
+    terms: &Terms<'_>,
     work: Work<'_>,
     station: &mut Station<K>,
     network: &N,
-    input: &mut R,
-    output: &mut W,
-    hints: &mut H,
-    errors: &mut E,
+    console: &mut Console<R, W, H, E>,
 ) -> Ran
     ensures status { (result.status ≡ done) ⊎ ((result.status ≡ refused) ⊎ (result.status ≡ failed)) }
     ensures clean { (K.shows station.new).IsClean → (K.shows station.old).IsClean }
     ensures does { (known : Option State) → IfSome known (λ s. (K.shows station.new).IsClean × (K.shows station.old).Rests s)
-        → Does agreements.now moment work.entry known (record {
-          input = input_of R.left R.calls input.old input.new;
-          Unread = input.new ≡ input.old;
-          outcome = outcome_of W.written E.contents output.old output.new errors.old errors.new (λ t. (K.shows station.new).Rests t);
+        → Does terms.now.agreements.now terms.now.moment work.entry known (record {
+          input = input_of R.Source console.old console.new;
+          outcome = outcome_of W.Sink E.Sink console.old console.new (λ t. (K.shows station.new).Rests t);
           Exchanged = ExchangedOver N.opens N.Links.answers network.now;
           listening = listening_of N.listens N.refuses N.Listener.bound N.Listener.ended network.now;
         }) result }
-    ensures store { result.status ≡ failed → Stopped (SendsWork work.entry) (input.new ≡ input.old) (output.new ≡ output.old)
-        (Appends (E.contents errors.old) (E.contents errors.new)) result }
+    ensures store { result.status ≡ failed → Stopped (SendsWork work.entry) (input_of R.Source console.old console.new)
+        (output_of W.Sink console.old console.new) (errors_of E.Sink console.old console.new) result }
 {
     match work {
-        Work::Post(logs) => post(
-            alloc, agreements, moment, station, logs, input, output, hints, errors,
-        ),
-        Work::Ask(question) => ask(alloc, agreements, moment, station, question, output, errors),
+        Work::Post(logs) => post(terms, station, logs, console),
+        Work::Ask(question) => ask(terms, station, question, console),
         Work::Send(waits) => {
             let mut links = network.links(waits);
-            send_due(
-                alloc, agreements, moment, station, &mut links, output, hints, errors,
-            )
+            send_due(terms, station, &mut links, console)
         }
-        Work::Serve(serving) => serve(
-            alloc, agreements, serving, station, network, output, hints, errors,
-        ),
+        Work::Serve(serving) => serve(terms, serving, station, network, console),
     }
 }
 
 /// Does the work, where there are records to do it over, and gives them back.
-fn do_over<K: Records + Drop, N: Network, R: Source, W: Sink, H: Write + Journal, E: Write>(
-    alloc: Global,
-    agreements: &Agreements,
-    moment: Moment,
+fn do_over<K: Records + Drop, N: Network, R: Source, W: Sink, H: Write + Journal, E: Sink>(
+    terms: &Terms<'_>,
     work: Work<'_>,
     records: Result<K, OpenFault>,
     network: &N,
-    input: &mut R,
-    output: &mut W,
-    hints: &mut H,
-    errors: &mut E,
+    console: &mut Console<R, W, H, E>,
 ) -> (Ran, Option<K>)
     ensures status { (result.0.status ≡ done) ⊎ ((result.0.status ≡ refused) ⊎ (result.0.status ≡ failed)) }
-    ensures fails { IfErr records (λ fault. (result.1 ≡ None) × (input.new ≡ input.old) × (output.new ≡ output.old)
-        × EndsRefused (Failing fault) (Appends (E.contents errors.old) (E.contents errors.new)) result.0) }
+    ensures fails { IfErr records (λ fault. (result.1 ≡ None) × (console.new.input ≡ console.old.input) × (console.new.output ≡ console.old.output)
+        × EndsRefused (Failing fault) (errors_of E.Sink console.old console.new) result.0) }
     ensures does { IfOk records (λ opened. IsSomeAnd result.1 (λ last. ((K.shows last).IsClean → (K.shows opened).IsClean)
         × ((known : Option State) → IfSome known (λ s. (K.shows last).IsClean × (K.shows opened).Rests s)
-        → Does agreements.now moment work.entry known (record {
-          input = input_of R.left R.calls input.old input.new;
-          Unread = input.new ≡ input.old;
-          outcome = outcome_of W.written E.contents output.old output.new errors.old errors.new (λ t. (K.shows last).Rests t);
+        → Does terms.now.agreements.now terms.now.moment work.entry known (record {
+          input = input_of R.Source console.old console.new;
+          outcome = outcome_of W.Sink E.Sink console.old console.new (λ t. (K.shows last).Rests t);
           Exchanged = ExchangedOver N.opens N.Links.answers network.now;
           listening = listening_of N.listens N.refuses N.Listener.bound N.Listener.ended network.now;
         }) result.0))) }
-    ensures store { result.0.status ≡ failed → Stopped (SendsWork work.entry) (input.new ≡ input.old) (output.new ≡ output.old)
-        (Appends (E.contents errors.old) (E.contents errors.new)) result.0 }
+    ensures store { result.0.status ≡ failed → Stopped (SendsWork work.entry) (input_of R.Source console.old console.new)
+        (output_of W.Sink console.old console.new) (errors_of E.Sink console.old console.new) result.0 }
 {
     let records = match records {
         Ok(records) => records,
-        Err(fault) => return (refuse(CommandFault::Store(fault), errors), None),
+        Err(fault) => {
+            return (
+                refuse(CommandFault::Store(fault), &mut console.errors),
+                None,
+            );
+        }
     };
     let mut station = Station::new(records);
-    let ran = do_at(
-        alloc,
-        agreements,
-        moment,
-        work,
-        &mut station,
-        network,
-        input,
-        output,
-        hints,
-        errors,
-    );
+    let ran = do_at(terms, work, &mut station, network, console);
     (ran, Some(station.into_records()))
 }
 
 /// Closes the records of that path, where they were opened.
 fn close_in<O: OpenStores>(stores: &mut O, path: &str, records: Option<O::Opened>)
     ensures clean { IfSome records (λ last. O.is_clean stores.new → (O.Opened.shows last).IsClean) }
-    ensures kept { IfSome records (λ last. O.is_clean stores.new → (t : State) → (O.Opened.shows last).Rests t → O.keeps stores.new path.now t) }
+    ensures kept { IfSome records (λ last. O.is_clean stores.new → (t : State) → (O.Opened.shows last).Rests t → (number : ℕ) → O.keeps stores.new path.now number t) }
+    ensures none { records ≡ None → stores.new ≡ stores.old }
     ensures counted { O.opens stores.new ≡ O.opens stores.old }
 {
     if let Some(records) = records {
@@ -171,51 +147,41 @@ fn close_in<O: OpenStores>(stores: &mut O, path: &str, records: Option<O::Opened
     }
 }
 
-/// Does the work over the store of that path, which is opened and closed.
+/// Does the work over the store that is named, which is opened and closed.
 pub(crate) fn work_over<
+    F,
     O: OpenStores,
     N: Network,
     R: Source,
     W: Sink,
     H: Write + Journal,
-    E: Write,
+    E: Sink,
 >(
-    alloc: Global,
-    agreements: &Agreements,
-    options: RunOptions,
+    terms: &Terms<'_>,
+    store: NamedStore<'_>,
     work: Work<'_>,
-    path: &str,
-    stores: &mut O,
-    network: &N,
-    input: &mut R,
-    output: &mut W,
-    hints: &mut H,
-    errors: &mut E,
+    host: &mut Host<F, O, N>,
+    console: &mut Console<R, W, H, E>,
 ) -> Ran
     ensures status { (result.status ≡ done) ⊎ ((result.status ≡ refused) ⊎ (result.status ≡ failed)) }
-    ensures goes { Goes agreements.now options (Ok work.entry) (record {
-      input = input_of R.left R.calls input.old input.new;
-      Unread = input.new ≡ input.old;
-      outcome = outcome_of W.written E.contents output.old output.new errors.old errors.new (Leaves path.now (O.keeps stores.new path.now));
-      Exchanged = ExchangedOver N.opens N.Links.answers network.now;
-      listening = listening_of N.listens N.refuses N.Listener.bound N.Listener.ended network.now;
-    }) (stored_of O.keeps O.is_clean O.opens stores.old stores.new path.now) result }
-    ensures memory { path.now ≡ codes ":memory:" → stores.new ≡ stores.old }
-    ensures store { result.status ≡ failed → Stopped (SendsWork work.entry) (input.new ≡ input.old) (output.new ≡ output.old)
-        (Appends (E.contents errors.old) (E.contents errors.new)) result }
+    ensures goes { Goes terms.now.agreements.now (record { first = store.entry.first; moment = terms.now.moment }) (Ok work.entry) (record {
+      input = input_of R.Source console.old console.new;
+      outcome = outcome_of W.Sink E.Sink console.old console.new (Leaves store.entry.path.now (O.keeps host.new.stores store.entry.path.now));
+      Exchanged = ExchangedOver N.opens N.Links.answers host.old.network;
+      listening = listening_of N.listens N.refuses N.Listener.bound N.Listener.ended host.old.network;
+    }) (stored_of O.OpenStores host.old.stores host.new.stores store.entry.path.now) result }
+    ensures memory { store.entry.path.now ≡ codes ":memory:" → host.new.stores ≡ host.old.stores }
+    ensures store { result.status ≡ failed → Stopped (SendsWork work.entry) (input_of R.Source console.old console.new)
+        (output_of W.Sink console.old console.new) (errors_of E.Sink console.old console.new) result }
 {
-    let RunOptions { first, moment } = options;
+    let NamedStore { path, first } = store;
     if path == ":memory:" {
-        let records = stores.open_in_memory(alloc, first);
-        let (ran, _) = do_over(
-            alloc, agreements, moment, work, records, network, input, output, hints, errors,
-        );
+        let records = host.stores.open_in_memory(terms.alloc, first);
+        let (ran, _) = do_over(terms, work, records, &host.network, console);
         return ran;
     }
-    let records = stores.open(alloc, path, first);
-    let (ran, left) = do_over(
-        alloc, agreements, moment, work, records, network, input, output, hints, errors,
-    );
-    close_in(stores, path, left);
+    let records = host.stores.open(terms.alloc, path, first);
+    let (ran, left) = do_over(terms, work, records, &host.network, console);
+    close_in(&mut host.stores, path, left);
     ran
 }

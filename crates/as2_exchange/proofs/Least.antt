@@ -3,7 +3,7 @@ use Rattle.std.proofs.Common.{◌≡◌, ℕ, ◌≤◌, Bool, true, false, ◌|
 use Rattle.std.specs.Prelude.{◌==◌, nat_le, if◌then◌else◌}
 use Rattle.std.specs.List.{AllByRecursion, list_any}
 use Rattle.std.proofs.lemmas.Bool.Decides.{nat_tests}
-use Rattle.as2_exchange.specs.Views.{IsLeast, IsNext, least, smaller, next, next_of, due_receipts, due_documents}
+use Rattle.as2_exchange.specs.Due.{IsLeast, IsNext, least, smaller, next, next_of, due_receipts, due_documents}
 use Rattle.as2_exchange.specs.State.{State}
 use Rattle.as2_exchange.proofs.Decisions.{same_number}
 use Rattle.as2_exchange.proofs.Lists.{all_weaken}

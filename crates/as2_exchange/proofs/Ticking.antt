@@ -10,7 +10,7 @@ use Rattle.as2_exchange.specs.Events.{Answer, Ticked, Tick}
 use Rattle.as2_exchange.specs.Documents.{passes_at, passed, passes_into, tick}
 use Rattle.as2_exchange.specs.Step.{step}
 use Rattle.as2_exchange.specs.Tries.{is_due}
-use Rattle.as2_exchange.specs.Views.{is_given_up, given_up}
+use Rattle.as2_exchange.specs.Progress.{is_given_up, given_up}
 
 one_if : Bool → ℕ
 one_if b = if b then 1 else 0

@@ -1,5 +1,5 @@
 -- Worked rows of each refusal of an event, and of each turn that a document or a receipt takes.
-use Rattle.std.proofs.Common.{◌≡◌, ℕ, [], ◌∷◌, Option, Some, None, refl}
+use Rattle.std.proofs.Common.{◌≡◌, ℕ, true, false, [], ◌∷◌, Option, Some, None, refl}
 use Rattle.std.specs.Prelude.{codes}
 use Rattle.as2_names.specs.Blanks.{without_blanks}
 use Rattle.as2_names.specs.Identifiers.{value_of as bare}
@@ -8,12 +8,14 @@ use Rattle.as2_exchange.specs.Agreement.{Text, Agreements}
 use Rattle.as2_exchange.specs.Detail.{Detail, New, Sending, Awaiting, Retry, Processed, NoReceiptAsked, TriesUsed, Overdue, Attempt, Idle, Running, Last, Used, MdnState, Unasked, Pending, Sent}
 use Rattle.as2_exchange.specs.Readings.{ReceiptDelivery, NoReceipt, Sync, Async, document_job, receipt_job as receipt_sent, names_of, type_of, report_in, named_by, value_of}
 use Rattle.as2_exchange.specs.State.{State, InEntry, OutEntry, Evidence, empty}
-use Rattle.as2_exchange.specs.Events.{Begin, Outcome, Answer, NoAnswer, Reply, Job, Settled, Delivered, TryFailed, AlreadySettled, Submitted, Ticked, Refused, UnknownOrganization, UnknownPartner, NoSuchNumber, NotDue, AllSettled, NoOpenTry, TriesUsedUp}
+use Rattle.as2_exchange.specs.Events.{Post, Begin, Outcome, Answer, Nothing, NoAnswer, Reply, Job, Settled, Delivered, TryFailed, AlreadySettled, Submitted, Ticked, Refused, UnknownOrganization, UnknownPartner, NoSuchNumber, NotDue, AllSettled, NoOpenTry, TriesUsedUp}
 use Rattle.as2_exchange.specs.Documents.{begun, closed, submit, tick}
+use Rattle.as2_exchange.specs.Lines.{http}
 use Rattle.as2_exchange.specs.OwedReceipts.{mdn_begun, mdn_closed}
-use Rattle.as2_exchange.specs.Recording.{requeued_by_repeat, first_entry, report}
+use Rattle.as2_exchange.specs.Receipts.{is_success}
+use Rattle.as2_exchange.specs.Recording.{answer_to, record_post, requeued_by_repeat, first_entry, report}
 use Rattle.as2_exchange.specs.Step.{step}
-use Rattle.as2_exchange.proofs.Fixture.{buyer, fixture, abc, receipt_head, receipt_body, q, q_for_2, q_type_text, q_names, q_typed, q_read, q_says, document_of, m1, sha1_text}
+use Rattle.as2_exchange.proofs.Fixture.{buyer, fixture, abc, receipt_head, receipt_body, q, q_for_2, q_type_text, q_names, q_typed, q_read, q_says, document_of, post_head, return_head, p1_from_depot, m1, sha1_text}
 use Rattle.as2_exchange.proofs.Rows.{play, submit_to, job_1, no_head, return_address, due_1}
 
 -- ---- a Begin and an Outcome: which refusal is first
@@ -86,6 +88,10 @@ failures : ((closed fixture NoAnswer 1000 (standing 1 Running (Some 1030) Sendin
     × ((closed fixture NoAnswer 1000 (standing 2 Last None TriesUsed None)).1 ≡ standing 2 Idle None TriesUsed None)
 unfolding closed
 failures = (refl, refl, refl)
+
+-- 200 to 299 are the statuses of success
+statuses_of_success : (is_success 199 ≡ false) × (is_success 200 ≡ true) × (is_success 299 ≡ true) × (is_success 300 ≡ false)
+statuses_of_success = (refl, refl, refl, refl)
 
 -- whatever an answer with another status brings, the try failed
 other_statuses : ((closed fixture (Reply 404 (receipt_head (codes "Buyer")) q) 1000 (standing 1 Running (Some 1030) Sending None)) ≡ (TryFailed, standing 1 Idle (Some 1030) Retry None))
@@ -173,6 +179,11 @@ first_kept : (first_entry 1 1000 (document_of (codes "Depot") m1 abc later sha1_
     × (first_entry 1 1000 (document_of (codes "Depot") m1 abc Sync sha1_text) ≡ entry_asked Sync Sent 0 Idle None)
     × (first_entry 1 1000 (document_of (codes "Depot") m1 abc NoReceipt sha1_text) ≡ entry_asked NoReceipt Unasked 0 Idle None)
 first_kept = (refl, refl, refl)
+
+-- the inbox then has that entry
+first_added : play (λ s. s.inbox) (empty 1) (Post (post_head (codes "Depot") m1 return_head) abc 1000 ∷ []) ≡ Some (http 202 Nothing ∷ [], entry_asked later Pending 0 Idle (Some 1000) ∷ [])
+unfolding play record_post answer_to value_of bare
+first_added = rw p1_from_depot refl
 
 -- a repeat queues a receipt again that was sent, or is on or past its last try
 queued_by_repeat : (requeued_by_repeat 2000 (entry_asked later Sent 1 Idle None) ≡ entry_asked later Pending 0 Idle (Some 2000))

@@ -1,7 +1,12 @@
 -- The files of one store: what they hold, before they are opened and once they are closed.
 use Rattle.std.specs.Prelude.{ℕ, Bool, true, false, Option, Some, None, IsTrue, ⊤}
+use Rattle.sqlite.specs.Closing.{HoldsAlone}
+use Rattle.sqlite.specs.Files.{image_of}
 use Rattle.sqlite.specs.State.{State as Connected, HasCleanDisk}
 use Rattle.sqlite_disk.specs.declared.Disk.{Ghosts}
+use Rattle.sqlite_disk.specs.declared.Files.{Files}
+use Rattle.sqlite_trees.specs.Tree.{Trees}
+use Rattle.sqlite_wal.specs.Files.{outcomes}
 use Rattle.sqlite_wal.specs.Reads.{AreClean}
 use Rattle.sqlite_wal.specs.Recovery.{Image}
 use Rattle.as2_exchange.specs.State.{State}
@@ -28,6 +33,15 @@ module _ {D : Type 0} (g : Ghosts D) where
   IsCleanEnd None = ⊤
   IsCleanEnd (Some (Closed files)) = AreClean g files.log files.db
   IsCleanEnd (Some (Left files)) = AreClean g files.log files.db
+
+-- of files into which a store was closed
+abbrev pub IfClosed : {D : Type 0} → (Files D → Type 0) → End D → Type 0
+IfClosed P (Closed files) = P files
+IfClosed P (Left files) = ⊤
+
+-- where all that is read is what had been written, the database file does without its log, as both read now and after a crash
+abbrev pub NeedsNoLog : {D : Type 0} → Ghosts D → Files D → Type 0
+NeedsNoLog g files = AreClean g files.log files.db → (db : Trees) × HoldsAlone (image_of g files) db × ((image : Image) → outcomes g files.log files.db image → HoldsAlone image db)
 
 -- how many stores were opened
 abbrev pub opens_by : Bool → ℕ

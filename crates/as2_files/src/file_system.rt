@@ -1,5 +1,6 @@
 //! The file system: stores are looked at before they are opened, made under another name and then given their own, and closed
 //! into their one file.
+ghost use Rattle.as2_files.specs.Stores.{NeedsNoLog};
 
 use crate::closing::{opening_fault, with_tables};
 use crate::fronts::{PAGE, Seen, has_mark, lists_no_meta, may_be_store};
@@ -7,7 +8,7 @@ use as2_commands::FirstNumber;
 use as2_exchange::StoreFault;
 use as2_host::OpenFault;
 use sqlite::{Connection, Options};
-use sqlite_disk::Disk;
+use sqlite_disk::{Disk, Files};
 use sqlite_std_file::{OpenError, Unknown};
 use std::alloc::{AllocError, Global};
 use std::hash::{BuildHasher, RandomState};
@@ -155,8 +156,10 @@ impl FileSystem<'_> {
         Err(REFUSED)
     }
 
-    /// Takes away the log of the store that was closed into the file of that path. It is locked meanwhile.
-    pub(crate) fn remove_log(&self, path: &str) {
+    /// Takes away the log of the store that was closed into these files, of that path, which do without it. They are locked meanwhile.
+    pub(crate) fn remove_log<D: Disk>(&self, path: &str, _files: &Files<D>)
+        requires { NeedsNoLog D.Disk _files.now }
+    {
         if let Ok(log) = self.log_of(path) {
             self.remove(&log);
         }

@@ -6,7 +6,7 @@ ghost use Rattle.sqlite_wal.specs.Recovery.{Image};
 ghost use Rattle.as2_exchange.specs.State.{State};
 ghost use Rattle.as2_store.specs.Files.{HoldsState};
 ghost use Rattle.as2_store.specs.Stands.{Rests};
-ghost use Rattle.as2_files.specs.Stores.{IsCleanEnd, IsFound, Keeps};
+ghost use Rattle.as2_files.specs.Stores.{IfClosed, IsCleanEnd, IsFound, Keeps, NeedsNoLog};
 
 use crate::closing::opening_fault;
 use crate::opening::OpenFiles;
@@ -26,8 +26,7 @@ pub enum End<D: Disk + Drop> {
     Left(Files<D>),
 }
 
-/// What opens records in the two files of a path, and closes them. The records are a parameter: of an associated type the prover compares
-/// each method by itself where the type becomes one kind of records, and meets its limit.
+/// What opens records in the two files of a path, and closes them. The records are a parameter; `docs/DECISIONS.md` says what was tried.
 pub trait KeepFiles<R: Records> {
     /// What the files lie on.
     type Disk: Disk + Drop;
@@ -43,7 +42,8 @@ pub trait KeepFiles<R: Records> {
     /// Closes the records into their files.
     fn close_records(records: R) -> End<Self::Disk>
         ensures clean { IsCleanEnd Self.Disk.Disk (Some result) → (R.Records.shows records).IsClean }
-        ensures kept { IsCleanEnd Self.Disk.Disk (Some result) → (s : State) → (R.Records.shows records).Rests s → Keeps Self.Disk.Disk image (Some result) s };
+        ensures kept { IsCleanEnd Self.Disk.Disk (Some result) → (s : State) → (R.Records.shows records).Rests s → Keeps Self.Disk.Disk image (Some result) s }
+        ensures alone { IfClosed (NeedsNoLog Self.Disk.Disk) result };
 }
 
 /// A store in SQLite's two files, which are opened so.
@@ -53,8 +53,9 @@ pub struct InFiles<F> {
     pub opener: F,
 }
 
-/// The store in the files of that name.
-fn open_with<F: OpenFiles>(
+/// Opens the store in the two files of that name. Where all that is read is what had been written, its tables stand for what the files
+/// held. Held where another process has them open; NotAStore where they hold no store; else the fault of SQLite.
+pub fn open_in_files<F: OpenFiles>(
     rt: &HostRuntime,
     opener: F,
     name: &str,
@@ -71,10 +72,11 @@ fn open_with<F: OpenFiles>(
     }
 }
 
-/// Closes a store into its files.
-fn ended<D: Disk + Drop>(records: Kept<FileStore<D>>) -> End<D>
+/// Closes a store into its two files, which hold then what its tables stood for, the database file alone, too.
+pub fn close_into_files<D: Disk + Drop>(records: Kept<FileStore<D>>) -> End<D>
     ensures clean { IsCleanEnd D.Disk (Some result) → HasCleanDisk (file_state records) }
     ensures kept { IsCleanEnd D.Disk (Some result) → (image : Image) (s : State) → Rests (file_state records) s → Keeps D.Disk image (Some result) s }
+    ensures alone { IfClosed (NeedsNoLog D.Disk) result }
 {
     match close(records.into_connection()) {
         Ok(files) => End::Closed(files),
@@ -92,10 +94,10 @@ impl<F: OpenFiles + Drop> KeepFiles<Kept<FileStore<F::Disk>>> for InFiles<F> {
         rt: &HostRuntime,
         name: &str,
     ) -> Result<Kept<FileStore<F::Disk>>, OpenFault> {
-        open_with(rt, self.opener, name)
+        open_in_files(rt, self.opener, name)
     }
 
     fn close_records(records: Kept<FileStore<F::Disk>>) -> End<F::Disk> {
-        ended(records)
+        close_into_files(records)
     }
 }

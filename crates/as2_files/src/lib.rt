@@ -10,6 +10,6 @@ mod reading;
 mod stores;
 
 pub use file_system::FileSystem;
-pub use keeping::{End, InFiles, KeepFiles};
+pub use keeping::{End, InFiles, KeepFiles, close_into_files, open_in_files};
 pub use opening::{OpenFiles, Starting};
 pub use stores::StoreFiles;

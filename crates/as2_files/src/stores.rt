@@ -54,13 +54,16 @@ impl<'a, R: Records + Drop, K: KeepFiles<R> + Drop> StoreFiles<'a, R, K> {
 }
 
 impl<R: Records + Drop, K: KeepFiles<R> + Drop> OpenStores for StoreFiles<'_, R, K> {
+    ghost use Rattle.std.specs.Prelude.{⊤};
     ghost use Rattle.as2_files.specs.Stores.{opens_by};
 
     type Opened = R;
 
     type InMemory = Kept<MemStore>;
 
-    ghost keeps = { λ it path s. Keeps K.Disk.Disk K.image it.end s };
+    ghost keeps = { λ it path number s. Keeps K.Disk.Disk K.image it.end s };
+
+    ghost fails = { λ it path fault. ⊤ };
 
     ghost is_clean = { λ it. IsCleanEnd K.Disk.Disk it.end };
 
@@ -92,8 +95,8 @@ impl<R: Records + Drop, K: KeepFiles<R> + Drop> OpenStores for StoreFiles<'_, R,
 
     fn close(&mut self, path: &str, records: R) {
         let end = K::close_records(records);
-        if let End::Closed(_) = end {
-            self.files.remove_log(path);
+        if let End::Closed(files) = &end {
+            self.files.remove_log(path, files);
         }
         self.end = Some(end);
     }

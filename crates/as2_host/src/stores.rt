@@ -1,7 +1,8 @@
 //! Stores of records, opened and closed by a path.
-ghost use Rattle.std.specs.Prelude.{◌≡◌, ◌+◌, ℕ, List};
+ghost use Rattle.std.specs.Prelude.{◌≡◌, ◌+◌, ℕ, List, IfErr};
 ghost use Rattle.as2_exchange.specs.State.{State};
 ghost use Rattle.as2_host.specs.Stores.{BeginsNew, Finds, opens_of};
+ghost use Rattle.as2_host.specs.declared.stores.OpenFault.{OpenFault as TheFault};
 
 use as2_commands::FirstNumber;
 use as2_exchange::StoreFault;
@@ -25,8 +26,11 @@ pub trait OpenStores {
     /// Records that no path has. They end with the program.
     type InMemory: Records + Drop;
 
-    // what is kept under that path stands for that state
-    ghost keeps: { Self → List ℕ → State → Type 0 };
+    // what is kept under that path stands for that state; where nothing stands there, what is made that begins with this number
+    ghost keeps: { Self → List ℕ → ℕ → State → Type 0 };
+
+    // what is kept under that path can't be opened, for that fault
+    ghost fails: { Self → List ℕ → TheFault → Type 0 };
 
     // so far all that was read is what had been written
     ghost is_clean: { Self → Type 0 };
@@ -41,7 +45,9 @@ pub trait OpenStores {
         path: &str,
         first: FirstNumber,
     ) -> Result<Self::Opened, OpenFault>
-        ensures found { Finds Self.Opened.shows (keeps self.old path.now) result }
+        ensures found { Finds Self.Opened.shows (keeps self.old path.now first) result }
+        ensures fault { IfErr result (λ fault. fails self.old path.now fault) }
+        ensures same { IfErr result (λ fault. (number : ℕ) (s : State) → keeps self.old path.now number s → keeps self.new path.now number s) }
         ensures counted { opens self.new ≡ opens self.old + opens_of result };
 
     /// Opens new records in memory, which begin with `first`.
@@ -51,6 +57,6 @@ pub trait OpenStores {
     /// Closes records, which are kept under that path from then on.
     fn close(&mut self, path: &str, records: Self::Opened)
         ensures clean { is_clean self.new → (Self.Opened.shows records).IsClean }
-        ensures kept { is_clean self.new → (s : State) → (Self.Opened.shows records).Rests s → keeps self.new path.now s }
+        ensures kept { is_clean self.new → (s : State) → (Self.Opened.shows records).Rests s → (number : ℕ) → keeps self.new path.now number s }
         ensures counted { opens self.new ≡ opens self.old };
 }

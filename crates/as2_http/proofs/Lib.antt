@@ -1,6 +1,7 @@
 pub mod TakenPosts
 pub mod Unsaid
 pub mod Pushing
+mod Faults
 pub mod Noting
 pub mod Streaming
 pub mod InputReads

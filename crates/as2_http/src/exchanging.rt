@@ -1,5 +1,5 @@
 //! A request is sent, and one answer is read.
-ghost use Rattle.std.specs.Prelude.{◌≡◌, ◌+◌, ◌≤◌, List, ℕ, Some, IsTrue};
+ghost use Rattle.std.specs.Prelude.{◌≡◌, ◌+◌, ◌<◌, ◌≤◌, List, ℕ, Some, IsTrue};
 ghost use Rattle.std.specs.Io.KnownBytes.{Appends};
 ghost use Rattle.as2_messages.specs.Answering.{Gets, IsOpenAnswer, is_answered};
 ghost use Rattle.as2_messages.specs.AnswerPieces.{HasKept};
@@ -72,7 +72,9 @@ pub fn exchange<R: Source, W: Sink>(
 ) -> TryAnswer
     // What was written is the request of the job, or the front of it.
     ensures written { AppendsPart (W.written sink.old) (W.written sink.new) job.now.bytes }
-    // An answer is read only behind the whole request.
+    // Nothing is read where the request couldn't be written.
+    ensures unread { W.failed sink.old < W.failed sink.new → R.calls source.new ≡ R.calls source.old }
+    // An answer is told only where the whole request was written.
     ensures whole { IsTrue (is_answered result) → Appends (W.written sink.old) (W.written sink.new) job.now.bytes }
     // The answer is that of the whole input: never a part of its body.
     ensures answer { (input : List ℕ) → R.left source.old ≡ Some input → Gets input result }

@@ -19,7 +19,8 @@ pub fn pull<R: Source>(source: &mut R, buffer: &mut Vec<u8>) -> Option<usize>
     ensures kept { result ≡ None → Keeps (R.left source.old) (R.left source.new) }
     ensures calls { R.calls source.new ≡ R.calls source.old + 1 }
     ensures failed { result ≡ None → R.failed source.old < R.failed source.new }
-    ensures counted { R.failed source.old ≤ R.failed source.new }
+    ensures sound { IfSome result (λ n. R.failed source.new ≡ R.failed source.old) }
+    ensures once { R.failed source.new ≤ R.failed source.old + 1 }
 {
     match source.pull(buffer) {
         Ok(count) => Some(count),

@@ -1,5 +1,5 @@
 //! Replies, as they are written.
-ghost use Rattle.std.specs.Prelude.{◌≡◌, ◌<◌, ◌≤◌, Err, OnOk, OnErr};
+ghost use Rattle.std.specs.Prelude.{◌≡◌, ◌+◌, ◌<◌, ◌≤◌, Err, OnOk, OnErr};
 ghost use Rattle.std.specs.Io.KnownBytes.{Appends};
 ghost use Rattle.as2_exchange.specs.Lines.{refusal};
 ghost use Rattle.as2_messages.specs.Replies.{refusal_line};
@@ -24,9 +24,11 @@ pub enum SendFault {
 /// Writes all the bytes, or the first of them.
 pub fn push_all<W: Sink>(sink: &mut W, bytes: &[u8]) -> Result<(), DeviceFault>
     ensures whole { OnOk result (Appends (W.written sink.old) (W.written sink.new) bytes.now) }
+    ensures sound { OnOk result (W.failed sink.new ≡ W.failed sink.old) }
     ensures part { OnErr result (AppendsPart (W.written sink.old) (W.written sink.new) bytes.now) }
     ensures failed { OnErr result (W.failed sink.old < W.failed sink.new) }
     ensures counted { W.failed sink.old ≤ W.failed sink.new }
+    ensures once { W.failed sink.new ≤ W.failed sink.old + 1 }
 {
     let mut rest = bytes;
     while !rest.is_empty() {
@@ -49,12 +51,16 @@ pub fn send<W: Sink>(
 ) -> Result<(), SendFault>
     ensures sends { Sends moment form answer.now (W.written sink.old) (W.written sink.new) result }
     ensures failed { result ≡ Err Write → W.failed sink.old < W.failed sink.new }
-    ensures counted { W.failed sink.old ≤ W.failed sink.new }
+    ensures sound { ¬ (result ≡ Err Write) → W.failed sink.new ≡ W.failed sink.old }
+    ensures once { W.failed sink.new ≤ W.failed sink.old + 1 }
 {
     let Ok(text) = write_reply(alloc, moment, form, answer) else {
         return Err(SendFault::Memory);
     };
-    push_all(sink, &text).map_err(|_| SendFault::Write)
+    match push_all(sink, &text) {
+        Ok(()) => Ok(()),
+        Err(_) => Err(SendFault::Write),
+    }
 }
 
 /// Writes the reply that says why no request begins there.
@@ -67,7 +73,8 @@ pub fn send_refusal<W: Sink>(
     ensures sends { Sends moment (refusal_form refused) (refusal (refusal_line refused.reason))
         (W.written sink.old) (W.written sink.new) result }
     ensures failed { result ≡ Err Write → W.failed sink.old < W.failed sink.new }
-    ensures counted { W.failed sink.old ≤ W.failed sink.new }
+    ensures sound { ¬ (result ≡ Err Write) → W.failed sink.new ≡ W.failed sink.old }
+    ensures once { W.failed sink.new ≤ W.failed sink.old + 1 }
 {
     let form = Form {
         closes: true,

@@ -68,7 +68,8 @@ fn refuse<W: Sink, J: Journal>(
         (W.written sink.old) (W.written sink.new) result }
     ensures noted { Appends (J.noted journal.old) (J.noted journal.new) (refusal_note moment refused.reason) }
     ensures failed { result ≡ Err Write → W.failed sink.old < W.failed sink.new }
-    ensures counted { W.failed sink.old ≤ W.failed sink.new }
+    ensures sound { ¬ (result ≡ Err Write) → W.failed sink.new ≡ W.failed sink.old }
+    ensures once { W.failed sink.new ≤ W.failed sink.old + 1 }
 {
     note_refusal(moment, refused.reason, journal);
     send_refusal(alloc, moment, refused, sink)
@@ -88,7 +89,8 @@ fn reply<K: Records, W: Sink, J: Journal>(
     ensures replied { (K.shows station.new).IsClean → (s : State) → (K.shows station.old).Rests s
         → Replied agreements.now moment s request (K.shows station.new) (spoken (W.written sink.old) (J.noted journal.old)) (spoken (W.written sink.new) (J.noted journal.new)) result }
     ensures failed { result ≡ Err Write → W.failed sink.old < W.failed sink.new }
-    ensures counted { W.failed sink.old ≤ W.failed sink.new }
+    ensures sound { ¬ (result ≡ Err Write) → W.failed sink.new ≡ W.failed sink.old }
+    ensures once { W.failed sink.new ≤ W.failed sink.old + 1 }
 {
     let form = Form {
         closes: false,
@@ -119,7 +121,8 @@ fn answer_piece<K: Records, W: Sink, J: Journal>(
         → AnswersPiece agreements.now moment s (held ++ piece.now ++ left) left parser.new (K.shows station.new)
         (spoken (W.written sink.old) (J.noted journal.old)) (spoken (W.written sink.new) (J.noted journal.new)) result }
     ensures failed { result ≡ Some WriteFault → W.failed sink.old < W.failed sink.new }
-    ensures counted { W.failed sink.old ≤ W.failed sink.new }
+    ensures sound { ¬ (result ≡ Some WriteFault) → W.failed sink.new ≡ W.failed sink.old }
+    ensures once { W.failed sink.new ≤ W.failed sink.old + 1 }
     ensures of_piece { IfSome result (λ end. may_end_piece end ≡ true) }
     ensures open { result ≡ None → (held : List ℕ) × HasTaken parser.new held }
 {
@@ -191,8 +194,10 @@ fn answer_next<K: Records, R: Source, W: Sink, J: Journal>(
     ensures read_fault { result ≡ Some ReadFault → R.failed source.old < R.failed source.new }
     ensures write_fault { result ≡ Some WriteFault → W.failed sink.old < W.failed sink.new }
     ensures short { ¬ (result ≡ Some TooLong) }
-    ensures failed_reads { R.failed source.old ≤ R.failed source.new }
-    ensures failed_writes { W.failed sink.old ≤ W.failed sink.new }
+    ensures sound_reads { ¬ (result ≡ Some ReadFault) → R.failed source.new ≡ R.failed source.old }
+    ensures sound_writes { ¬ (result ≡ Some WriteFault) → W.failed sink.new ≡ W.failed sink.old }
+    ensures once_read { R.failed source.new ≤ R.failed source.old + 1 }
+    ensures once_written { W.failed sink.new ≤ W.failed sink.old + 1 }
 {
     let Some(count) = pull(source, buffer) else {
         return Some(Served::ReadFault);
@@ -228,6 +233,11 @@ pub fn serve_stream<K: Records, R: Source, W: Sink, J: Journal>(
     ensures reads { R.calls source.new ≤ R.calls source.old + 100000 }
     ensures read_fault { result ≡ ReadFault → R.failed source.old < R.failed source.new }
     ensures write_fault { result ≡ WriteFault → W.failed sink.old < W.failed sink.new }
+    // A call that fails is told, and is the last of its device.
+    ensures sound_reads { ¬ (result ≡ ReadFault) → R.failed source.new ≡ R.failed source.old }
+    ensures sound_writes { ¬ (result ≡ WriteFault) → W.failed sink.new ≡ W.failed sink.old }
+    ensures once_read { R.failed source.new ≤ R.failed source.old + 1 }
+    ensures once_written { W.failed sink.new ≤ W.failed sink.old + 1 }
     ensures too_long { result ≡ TooLong → R.calls source.new ≡ R.calls source.old + 100000 }
 {
     let mut buffer = Vec::new(alloc);

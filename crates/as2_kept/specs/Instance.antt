@@ -1,29 +1,45 @@
 -- The records of a connection, as a station takes them.
-use Rattle.std.proofs.Common.{◌≡◌, ◌∙◌, IsTrue, ap, sym, subst}
+use Rattle.std.proofs.Common.{◌≡◌, ◌∙◌, Bool, true, false, IsTrue, ap, sym, subst}
+use Rattle.std.proofs.lemmas.Bool.{both_ways, true_from_ne_false}
 use Rattle.sqlite_trees.specs.Tree.{Trees}
+use Rattle.sqlite_trees.specs.View.{doubt}
+use Rattle.sqlite_trees.proofs.Doubt.{no_doubt}
 use Rattle.sqlite.specs.Effect.{Database}
 use Rattle.sqlite.specs.State.{State as Connected, HasCleanDisk}
 use Rattle.as2_exchange.specs.State.{State}
 use Rattle.as2_store.specs.Stands.{Rests}
 use Rattle.as2_store.specs.Calls.{Keeps}
+use Rattle.as2_store.specs.Tables.{store_schema}
 use Rattle.as2_store.proofs.Committing.{keeps_of}
+use Rattle.as2_store.proofs.Single.{one_state}
 use Rattle.as2_records.specs.Standing.{Medium, Standing}
 use Rattle.as2_records.specs.Calls.{Lasts}
 
 -- they lie in tables; a stop leaves trees
 abbrev pub tables : Medium
-tables = record { Left = Trees; keeps = Keeps; keeps_counted = λ left s it. record { receipts = it.receipts; documents = it.documents } }
+tables = record {
+  Remains = Trees;
+  keeps = Keeps;
+  keeps_counted = λ left s it. record { receipts = it.receipts; documents = it.documents };
+  keeps_one = λ left s t it also. one_state (record { schema = store_schema; trees = left }) s t it also;
+  is_lasting = true;
+}
 
 -- a connection, as records
 abbrev pub standing : Connected → Standing tables
 standing c = record {
   IsClean = HasCleanDisk c;
   is_open = c.is_open;
+  faults = c.faults;
   IsShielded = c.IsShielded;
   Rests = Rests c;
   may_leave = c.may_leave;
   counted = λ opened s rests. record { receipts = (rests.stands opened).receipts; documents = (rests.stands opened).documents };
 }
+
+-- an open connection is clean, since one that isn't shows as shut
+pub clean_if_open : (clean opened : Bool) → (clean ≡ false → opened ≡ false) → IsTrue opened → doubt clean ≡ 0
+clean_if_open clean opened shut is = no_doubt clean (true_from_ne_false clean (λ dirty. both_ways opened (shut dirty) is))
 
 -- what they stand for lasts, since over an open connection a stop leaves what is committed
 pub lasting : (c : Connected) → ((db : Trees) → IsTrue c.is_open → c.may_leave db → db ≡ c.committed.trees) → IsTrue c.is_open → (s : State) → Rests c s → Lasts {M = tables} (standing c) s

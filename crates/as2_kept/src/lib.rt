@@ -57,7 +57,7 @@ impl<S: Alter> Kept<S> {
 
 impl<S: Alter> Records for Kept<S> {
     ghost use Rattle.sqlite.specs.Held.{state};
-    ghost use Rattle.as2_kept.specs.Instance.{lasting, standing, tables};
+    ghost use Rattle.as2_kept.specs.Instance.{clean_if_open, lasting, standing, tables};
 
     ghost medium = { tables };
 
@@ -157,6 +157,10 @@ impl<S: Alter> Records for Kept<S> {
     fn counts(&mut self, alloc: Global) -> Result<Counts, StoreFault> {
         self.store.counts(alloc)
     }
+
+    ghost open_is_clean = { λ c opened. clean_if_open _ _ (λ dirty. S.Store.shut_if_dirty c.store dirty) opened };
+
+    ghost stop_leaves = { λ lasting c opened. (_, S.Store.stays c.store opened) };
 
     ghost rests_last = { λ c opened s rests. lasting _ (λ db opened may. S.Store.settled c.store db opened may) opened s rests };
 }

@@ -1,9 +1,13 @@
 -- What calls that succeed say of lists.
-use Rattle.std.proofs.Common.{◌≡◌, Some, Option, Ok, refl, sym, subst}
+use Rattle.std.proofs.Common.{◌≡◌, inl, Some, Option, Ok, refl, sym, subst, arith}
 use Rattle.as2_exchange.specs.State.{State}
 use Rattle.as2_records.specs.Standing.{IsCounted}
-use Rattle.as2_records.specs.Calls.{Reads, Writes}
+use Rattle.as2_records.specs.Calls.{Reads, Survives, Writes}
 use Rattle.as2_lists.specs.Standing.{memory, standing}
+
+-- lists never fail, and nothing of them is left
+stays_open : (s t : State) (P : ⊥ → Type 0) → Survives {M = memory} (standing s) (standing t) P
+stays_open s t P = record { counts = omega arith; closes = λ clean opened. inl refl; shield = λ is. is; crash = λ clean left may. absurd may }
 
 pub reads_ok : {A E : Type 0} (fits : State → A → Type 0) (s : State) (a : A) → (IsCounted s → fits s a) → Reads {M = memory} {A = A} {E = E} fits (standing s) (standing s) (Ok a)
 reads_ok fits s a fit = record {
@@ -12,7 +16,7 @@ reads_ok fits s a fit = record {
   is_open = λ clean. refl;
   answer = λ clean t rests. subst (λ u. fits u a) (sym rests.same) (fit (subst IsCounted rests.same rests.counted));
   same = λ clean t rests. rests;
-  crash = record { shield = λ is. is; crash = λ clean left may. absurd may };
+  crash = stays_open s s _;
 }
 
 -- what a state is taken to, and that this is counted
@@ -31,8 +35,7 @@ writes_ok next s t a takes = record {
         state = t;
         is = subst (λ v. next v ≡ Some t) (sym rests.same) it.is;
         rests = record { same = λ i. t; counted = it.counted };
-        lasts = record { each = λ left may. absurd may };
       };
   failed = λ clean. tt;
-  crash = record { shield = λ is. is; crash = λ clean left may. absurd may };
+  crash = stays_open s t _;
 }

@@ -4,7 +4,7 @@ use Rattle.std.specs.Prelude.{nat_lt, nat_le, if◌then◌else◌, option_map}
 use Rattle.std.specs.List.{IsDistinct, filter, find}
 use Rattle.std.proofs.lemmas.Bool.Decides.{nat_tests}
 use Rattle.as2_exchange.specs.State.{State}
-use Rattle.as2_exchange.specs.Views.{due_documents, due_receipts, is_due_document, is_due_receipt, least, smaller}
+use Rattle.as2_exchange.specs.Due.{due_documents, due_receipts, is_due_document, is_due_receipt, least, smaller}
 use Rattle.as2_exchange.specs.declared.inbox.InEntry.{InEntry}
 use Rattle.as2_exchange.specs.declared.outbox.OutEntry.{OutEntry}
 use Rattle.as2_exchange.proofs.Finds.{all_found}

@@ -16,7 +16,7 @@ use Rattle.as2_mdn.specs.declared.detail.Detail.{Detail}
 use Rattle.as2_records.specs.Adding.{added, added_document, with_received, with_document}
 use Rattle.as2_records.specs.Calls.{Writes}
 use Rattle.as2_records.specs.Expiring.{ticked_in}
-use Rattle.as2_records.specs.Progressing.{come_to, set_in}
+use Rattle.as2_records.specs.Progressing.{come_to, set_out_in}
 use Rattle.as2_records.specs.Settling.{settled_in}
 use Rattle.as2_records.specs.Standing.{IsCounted}
 use Rattle.as2_records.specs.declared.progress.Progress.{Progress}
@@ -59,8 +59,8 @@ takes_owed s n f items kept new counted = subst (λ (l : List InEntry). Takes (�
 })
 
 pub takes_set : (s : State) (n : ℕ) (p : Progress) (items : List OutEntry) → is_some (document s n) ≡ true → items ≡ map (λ d. if d.number == n then come_to p d else d) s.outbox → IsCounted s
-    → Takes (set_in n p) s (record s { outbox = items })
-takes_set s n p items there new counted = subst (λ (l : List OutEntry). Takes (set_in n p) s (record s { outbox = l })) (sym new) (record {
+    → Takes (set_out_in n p) s (record s { outbox = items })
+takes_set s n p items there new counted = subst (λ (l : List OutEntry). Takes (set_out_in n p) s (record s { outbox = l })) (sym new) (record {
   is = ap (option_map (λ (d : OutEntry). change_document s n (come_to p))) (is_some_value (document s n) there).1;
   counted = one_document_counted s n (come_to p) (λ d. refl) counted;
 })

@@ -3,7 +3,7 @@
 ghost use Rattle.std.specs.Prelude.{◌≡◌, ◌==◌, [], ◌∷◌, ◌++◌, if◌then◌else◌, map, find, IfOk, OnOk, OnErr, count_by, is_some, option_map};
 ghost use Rattle.as2_exchange.specs.OwedReceipts.{is_pending};
 ghost use Rattle.as2_exchange.specs.State.{has_key, same_key};
-ghost use Rattle.as2_exchange.specs.Views.{is_due_receipt};
+ghost use Rattle.as2_exchange.specs.Due.{is_due_receipt};
 ghost use Rattle.as2_records.specs.Owing.{owed_as};
 ghost use Rattle.as2_records.specs.Summaries.{in_summary};
 

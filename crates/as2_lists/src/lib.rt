@@ -10,6 +10,3 @@ mod outbox;
 mod rows;
 
 pub use lists::Lists;
-
-#[cfg(test)]
-mod tests;

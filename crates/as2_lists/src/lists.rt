@@ -49,6 +49,7 @@ impl Lists {
 }
 
 impl Records for Lists {
+    ghost use Rattle.std.proofs.Common.{sym, true≢false};
     ghost use Rattle.as2_lists.specs.Standing.{memory, standing};
 
     ghost medium = { memory };
@@ -195,6 +196,10 @@ impl Records for Lists {
             to_send: inbox::pending(&self.inbox),
         })
     }
+
+    ghost open_is_clean = { λ c opened. tt };
+
+    ghost stop_leaves = { λ lasting. absurd (true≢false (sym lasting)) };
 
     ghost rests_last = { λ c opened s rests. record { each = λ left may. absurd may } };
 }

@@ -8,7 +8,8 @@ ghost use Rattle.as2_exchange.specs.Documents.{passed, passes_at, passes_into, s
 ghost use Rattle.as2_exchange.specs.Invariants.{is_by_receipt};
 ghost use Rattle.as2_exchange.specs.Readings.{value_of};
 ghost use Rattle.as2_exchange.specs.State.{is_settled};
-ghost use Rattle.as2_exchange.specs.Views.{is_awaited, is_due_document, is_in, is_new, may_begin};
+ghost use Rattle.as2_exchange.specs.Due.{is_due_document, may_begin};
+ghost use Rattle.as2_exchange.specs.Progress.{is_awaited, is_in, is_new};
 ghost use Rattle.as2_records.specs.Progressing.{come_to};
 ghost use Rattle.as2_records.specs.Summaries.{out_summary};
 

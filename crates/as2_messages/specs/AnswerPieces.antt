@@ -1,5 +1,5 @@
 -- What is kept of a text whose answer isn't whole yet, and what a piece more tells (RFC 9112, section 2.1).
-use Rattle.std.specs.Prelude.{◌≡◌, ℕ, ◌≤◌, List, [], ◌++◌, length, Option, Some, None, ⊤}
+use Rattle.std.specs.Prelude.{IsTrue, ◌≡◌, ℕ, ◌≤◌, List, [], ◌++◌, length, Option, Some, None, ⊤}
 use Rattle.httparse.specs.Grammar.{ResponseHead, status_code}
 use Rattle.as2_messages.specs.Answering.{IsAnswerHead, body_end, FramesAnswer, BeginsAnswer, AnswerIn, IsCutAnswer, IsOpenAnswer, IsNoAnswer}
 use Rattle.as2_framing.specs.BodyPieces.{HoldsBody, IsMissing}
@@ -52,6 +52,10 @@ HasKeptBy head (Some a) text = IsMissingEnd a.missing × AwaitsAnswer a text []
 
 abbrev pub HasKept : AnswerParser → List ℕ → Type 0
 HasKept p text = HasKeptBy p.head p.awaited text
+
+-- memory for an answer wasn't there
+abbrev pub IsSpent : AnswerParser → Type 0
+IsSpent p = IsTrue p.is_spent
 
 -- what an awaited answer is with the rest of the text
 abbrev pub Takes : List ℕ → Taken → Type 0

@@ -1,5 +1,5 @@
 -- What is kept of a text whose request isn't whole yet, and what a piece more tells (RFC 9112, section 2.1).
-use Rattle.std.specs.Prelude.{◌≡◌, ℕ, ◌<◌, ◌≤◌, Bool, true, false, List, [], ◌++◌, length, drop, Option, Some, None, Ok, ⊤}
+use Rattle.std.specs.Prelude.{◌≡◌, ℕ, ◌<◌, ◌≤◌, Bool, true, false, List, [], ◌++◌, length, drop, Option, Some, None, Ok, IsTrue, ⊤}
 use Rattle.as2_framing.specs.BodyPieces.{HoldsBody, IsMissing}
 use Rattle.as2_framing.specs.declared.body.BodyFraming.{BodyFraming}
 use Rattle.as2_framing.specs.declared.chunked.BodyPiece.{BodyPiece}
@@ -54,6 +54,10 @@ HasTakenBy head (Some a) text = HoldsHead head [] × IsMissing a.missing × Awai
 
 abbrev pub HasTaken : RequestParser → List ℕ → Type 0
 HasTaken p text = HasTakenBy p.head p.awaited text
+
+-- memory for a request wasn't there
+abbrev pub IsSpent : RequestParser → Type 0
+IsSpent p = IsTrue p.is_spent
 
 -- the head of a request is there, in the text or with so many bytes of the piece, and the rest of the piece is to be taken
 pub record Framed (head : HeadBytes) (a : Awaited) (text bytes : List ℕ) (from : ℕ) : Type 0 where

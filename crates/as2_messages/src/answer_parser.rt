@@ -1,7 +1,7 @@
 //! The answer that bytes begin with which come in any pieces (RFC 9112, section 2.1). No reader is known here.
-ghost use Rattle.std.specs.Prelude.{◌≡◌, ◌≤◌, List, ℕ, [], ◌++◌, length, drop, None, IfOk};
+ghost use Rattle.std.specs.Prelude.{◌≡◌, ◌≤◌, List, ℕ, [], ◌++◌, length, drop, None, IfOk, OnErr, IsErr};
 ghost use Rattle.as2_framing.specs.HeadPieces.{EndsHead};
-ghost use Rattle.as2_messages.specs.AnswerPieces.{AwaitsAnswer, EndsAnswer, HasKept, HoldsEnd, ParsesAnswer, Takes};
+ghost use Rattle.as2_messages.specs.AnswerPieces.{AwaitsAnswer, EndsAnswer, HasKept, HoldsEnd, IsSpent, ParsesAnswer, Takes};
 
 use crate::answer_head::{BodyEnd, JudgedAnswer, judge_answer};
 use crate::request::NotJudged;
@@ -121,6 +121,7 @@ pub struct AnswerParser {
     alloc: Global,
     head: HeadBytes,
     awaited: Option<AwaitedAnswer>,
+    is_spent: bool,
 }
 
 impl AnswerParser {
@@ -132,6 +133,7 @@ impl AnswerParser {
             alloc,
             head: HeadBytes::new(alloc),
             awaited: None,
+            is_spent: false,
         }
     }
 
@@ -176,8 +178,27 @@ impl AnswerParser {
     }
 
     /// Takes the next piece. Each byte of a head is looked at once to find its end, and each of a body copied once. Behind a
-    /// whole answer, and where there is none, nothing more is to be given. Memory means that memory for the answer wasn't there.
+    /// whole answer, and where there is none, nothing more is to be given. Memory means that memory for the answer wasn't there,
+    /// now or before: from then on nothing is taken.
     pub fn feed(&mut self, bytes: &[u8]) -> Result<ParsedAnswer, Memory>
+        ensures parses { IfOk result (λ p. (text : List ℕ) → HasKept self.old text → ParsesAnswer self.new (text ++ bytes.now) p) }
+        ensures spent { OnErr result (IsSpent self.new) }
+        ensures over { IsSpent self.old → IsErr result }
+    {
+        if self.is_spent {
+            return Err(Memory);
+        }
+        match self.take_piece(bytes) {
+            Ok(parsed) => Ok(parsed),
+            Err(Memory) => {
+                self.is_spent = true;
+                Err(Memory)
+            }
+        }
+    }
+
+    /// Takes the next piece.
+    fn take_piece(&mut self, bytes: &[u8]) -> Result<ParsedAnswer, Memory>
         ensures { IfOk result (λ p. (text : List ℕ) → HasKept self.old text → ParsesAnswer self.new (text ++ bytes.now) p) }
     {
         if let Some(awaited) = self.awaited.take() {

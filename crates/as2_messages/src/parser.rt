@@ -1,9 +1,9 @@
 //! The request that bytes begin with which come in any pieces (RFC 9112, section 2.1). No reader is known here.
-ghost use Rattle.std.specs.Prelude.{◌≡◌, ◌≤◌, List, ℕ, [], ◌++◌, length, drop, None, IfOk, IfErr};
+ghost use Rattle.std.specs.Prelude.{◌≡◌, ◌≤◌, List, ℕ, [], ◌++◌, length, drop, None, IfOk, IfErr, OnErr, IsErr};
 ghost use Rattle.as2_framing.specs.HeadText.{HasHeadText};
 ghost use Rattle.as2_framing.specs.ChunkPieces.{BodyWithin};
 ghost use Rattle.as2_framing.specs.HeadPieces.{EndsHead};
-ghost use Rattle.as2_messages.specs.Parsing.{Awaits, FeedsRequest, Framed, HasTaken, RefusesHead, Parses, TellsBlank, refused_for};
+ghost use Rattle.as2_messages.specs.Parsing.{Awaits, FeedsRequest, Framed, HasTaken, IsSpent, RefusesHead, Parses, TellsBlank, refused_for};
 
 use crate::framing::{Refused, RequestFault};
 use crate::request::{NotJudged, Request, judge};
@@ -100,6 +100,7 @@ pub struct RequestParser {
     alloc: Global,
     head: HeadBytes,
     awaited: Option<Awaited>,
+    is_spent: bool,
 }
 
 impl RequestParser {
@@ -111,6 +112,7 @@ impl RequestParser {
             alloc,
             head: HeadBytes::new(alloc),
             awaited: None,
+            is_spent: false,
         }
     }
 
@@ -149,8 +151,26 @@ impl RequestParser {
 
     /// Takes the next piece. Each byte of a head is looked at once to find its end, and each of a body copied once. Behind a
     /// request the rest of the piece is to be given again, as the first of what follows; behind a refusal nothing more.
-    /// Memory means that memory for the request wasn't there.
+    /// Memory means that memory for the request wasn't there, now or before: from then on nothing is taken.
     pub fn feed(&mut self, bytes: &[u8]) -> Result<Parsed, Memory>
+        ensures parses { IfOk result (λ p. (text : List ℕ) → HasTaken self.old text → Parses self.new text bytes.now p) }
+        ensures spent { OnErr result (IsSpent self.new) }
+        ensures over { IsSpent self.old → IsErr result }
+    {
+        if self.is_spent {
+            return Err(Memory);
+        }
+        match self.take_piece(bytes) {
+            Ok(parsed) => Ok(parsed),
+            Err(Memory) => {
+                self.is_spent = true;
+                Err(Memory)
+            }
+        }
+    }
+
+    /// Takes the next piece.
+    fn take_piece(&mut self, bytes: &[u8]) -> Result<Parsed, Memory>
         ensures { IfOk result (λ p. (text : List ℕ) → HasTaken self.old text → Parses self.new text bytes.now p) }
     {
         if let Some(awaited) = self.awaited.take() {

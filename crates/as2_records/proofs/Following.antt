@@ -1,5 +1,5 @@
 -- How calls follow each other.
-use Rattle.std.proofs.Common.{◌≡◌, inl, inr, Some, Result, Ok, Err, IfOk, OnOk, IsErr, IsTrue, subst}
+use Rattle.std.proofs.Common.{◌≡◌, inl, inr, Some, Result, Ok, Err, IfOk, OnOk, IsErr, IsTrue, subst, arith}
 use Rattle.std.proofs.lemmas.Result.{IfOk-weaker}
 use Rattle.as2_exchange.specs.State.{State}
 use Rattle.as2_records.specs.Standing.{Medium, Standing, IsCounted}
@@ -7,18 +7,25 @@ use Rattle.as2_records.specs.Calls.{Reads, Survives, Commits}
 
 -- ---- what a stop leaves
 
-pub survives_same : {M : Medium} (c : Standing M) (P : M.Left → Type 0) → Survives c c P
-survives_same c P = record { shield = λ is. is; crash = λ clean left may. inl may }
+pub survives_same : {M : Medium} (c : Standing M) (P : M.Remains → Type 0) → Survives c c P
+survives_same c P = record { counts = omega arith; closes = λ clean opened. inl opened; shield = λ is. is; crash = λ clean left may. inl may }
 
-pub survives_weaker : {M : Medium} (a b : Standing M) (P R : M.Left → Type 0) → (b.IsClean → (left : M.Left) → P left → R left) → Survives a b P → Survives a b R
+pub survives_weaker : {M : Medium} (a b : Standing M) (P R : M.Remains → Type 0) → (b.IsClean → (left : M.Remains) → P left → R left) → Survives a b P → Survives a b R
 survives_weaker a b P R f one = record {
+  counts = one.counts;
+  closes = one.closes;
   shield = one.shield;
   crash = λ clean left h. elim (one.crash clean left h) [ inl first ↦ inl first | inr made ↦ inr (f clean left made) ];
 }
 
-pub survives_then : {M : Medium} (a b c : Standing M) (P Q R : M.Left → Type 0) → (c.IsClean → b.IsClean) → (c.IsClean → (left : M.Left) → P left → R left) → (c.IsClean → (left : M.Left) → Q left → R left)
+pub survives_then : {M : Medium} (a b c : Standing M) (P Q R : M.Remains → Type 0) → (c.IsClean → b.IsClean) → (c.IsClean → (left : M.Remains) → P left → R left) → (c.IsClean → (left : M.Remains) → Q left → R left)
     → Survives a b P → Survives b c Q → Survives a c R
 survives_then a b c P Q R was f g one two = record {
+  counts = omega (arith, one.counts, two.counts);
+  closes = λ clean opened. elim (one.closes (was clean) opened) [
+    | inl still ↦ elim (two.closes clean still) [ inl last ↦ inl last | inr fault ↦ inr (omega (arith, one.counts, fault)) ]
+    | inr fault ↦ inr (omega (arith, two.counts, fault))
+  ];
   shield = λ h. two.shield (one.shield h);
   crash = λ clean left h. elim (two.crash clean left h) [
     | inl earlier ↦ elim (one.crash (was clean) left earlier) [ inl first ↦ inl first | inr made ↦ inr (f clean left made) ]

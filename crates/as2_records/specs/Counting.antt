@@ -3,7 +3,7 @@ use Rattle.std.specs.Prelude.{Some, count_by}
 use Rattle.as2_mdn.specs.declared.detail.State.TheVariants.{R, E}
 use Rattle.as2_exchange.specs.OwedReceipts.{is_pending}
 use Rattle.as2_exchange.specs.State.{State}
-use Rattle.as2_exchange.specs.Views.{is_awaited, is_in, is_new}
+use Rattle.as2_exchange.specs.Progress.{is_awaited, is_in, is_new}
 use Rattle.as2_records.specs.declared.counts.Counts.{Counts}
 
 -- the counts of a state

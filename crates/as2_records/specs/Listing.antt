@@ -2,7 +2,7 @@
 use Rattle.std.specs.Prelude.{ℕ, List, map, filter, Option}
 use Rattle.as2_mdn.specs.declared.detail.State.{State as StateOf}
 use Rattle.as2_exchange.specs.State.{State, is_settled}
-use Rattle.as2_exchange.specs.Views.{is_in}
+use Rattle.as2_exchange.specs.Progress.{is_in}
 use Rattle.as2_records.specs.Summaries.{out_summary}
 use Rattle.as2_records.specs.declared.summaries.OutRow.{OutRow}
 

@@ -9,5 +9,5 @@ abbrev pub come_to : Progress → OutEntry → OutEntry
 come_to p d = record d { tries = p.tries; attempt = p.attempt; due = p.due; detail = p.detail }
 
 -- the state once the document of this number has come so far, if there is one
-abbrev pub set_in : ℕ → Progress → State → Option State
-set_in n p s = option_map (λ _. change_document s n (come_to p)) (document s n)
+abbrev pub set_out_in : ℕ → Progress → State → Option State
+set_out_in n p s = option_map (λ _. change_document s n (come_to p)) (document s n)

@@ -1,5 +1,5 @@
 -- What records show of themselves, whatever they lie on.
-use Rattle.std.specs.Prelude.{Bool, true, false, IsTrue, map}
+use Rattle.std.specs.Prelude.{◌≡◌, ℕ, ◌+◌, ◌-◌, ◌^◌, ◌≤◌, min, Bool, true, false, IsTrue, map}
 use Rattle.as2_exchange.specs.State.{State}
 use Rattle.as2_exchange.specs.Invariants.{IsCounter, AreNumbers}
 use Rattle.as2_exchange.specs.declared.fault.StoreFault.{StoreFault}
@@ -13,23 +13,32 @@ pub record IsCounted (s : State) : Type 0 where
 -- what records lie on
 pub record Medium : Type 1 where
   -- what a stop of the computer may leave
-  pub Left : Type 0
-  -- it stands for this state
-  pub keeps : Left → State → Type 0
-  pub keeps_counted : (left : Left) (s : State) → keeps left s → IsCounted s
+  pub Remains : Type 0
+  -- what is left stands for this state, and for no other
+  pub keeps : Remains → State → Type 0
+  pub keeps_counted : (left : Remains) (s : State) → keeps left s → IsCounted s
+  pub keeps_one : (left : Remains) (s t : State) → keeps left s → keeps left t → s ≡ t
+  -- a stop of the computer leaves something of open records, as the law `stop_leaves` says; memory alone keeps nothing over a stop
+  pub is_lasting : Bool
 
 -- records at one moment
 pub record Standing (M : Medium) : Type 1 where
   -- so far the medium has returned what was written
   pub IsClean : Type 0
   pub is_open : Bool
+  -- how many times the medium has failed or refused
+  pub faults : ℕ
   -- each later read is tested against a digest
   pub IsShielded : Type 0
   -- outside a call they stand for this state, unless a fault has shut them
   pub Rests : State → Type 0
   -- what an open after a stop at this moment may find
-  pub may_leave : M.Left → Type 0
+  pub may_leave : M.Remains → Type 0
   pub counted : IsTrue is_open → (s : State) → Rests s → IsCounted s
+
+-- the count of faults rose, unless it is at the top of a `u64`
+abbrev pub MoreFaults : ℕ → ℕ → Type 0
+MoreFaults old new = min (old + 1) (2 ^ 64 - 1) ≤ new
 
 -- a fault of memory, of the medium or of the records themselves, which may come from any call
 abbrev pub may_come : StoreFault → Bool

@@ -1,8 +1,9 @@
 //! What a station asks of its records.
 
-ghost use Rattle.std.specs.Prelude.{◌≡◌, ◌⊎◌, ◌≤◌, map, None, true, Err, IfOk, IfErr, IsTrue};
-ghost use Rattle.as2_exchange.specs.State.{State as Kept, document, document_named, end_of_numbers, received};
-ghost use Rattle.as2_exchange.specs.Views.{due_documents, due_receipts, least};
+ghost use Rattle.std.specs.Prelude.{◌≡◌, ◌⊎◌, ◌≤◌, map, None, true, false, Err, IfOk, IfErr, IsTrue};
+ghost use Rattle.as2_exchange.specs.State.{State as MachineState, document, document_named, end_of_numbers, received};
+ghost use Rattle.as2_exchange.specs.Invariants.{is_by_receipt};
+ghost use Rattle.as2_exchange.specs.Due.{due_documents, due_receipts, least};
 ghost use Rattle.as2_exchange.specs.declared.fault.StoreFault.TheVariants.{Full};
 ghost use Rattle.as2_records.specs.Summaries.{in_summary};
 ghost use Rattle.as2_records.specs.Counting.{counts_of};
@@ -12,7 +13,7 @@ ghost use Rattle.as2_records.specs.Expiring.{AreTicked, ticked_in};
 ghost use Rattle.as2_records.specs.Finding.{AreNext, IsPostedAs};
 ghost use Rattle.as2_records.specs.Listing.{listed, settled_numbers};
 ghost use Rattle.as2_records.specs.Owing.{set_mdn_in};
-ghost use Rattle.as2_records.specs.Progressing.{set_in};
+ghost use Rattle.as2_records.specs.Progressing.{set_out_in};
 ghost use Rattle.as2_records.specs.Requeuing.{requeued_in};
 ghost use Rattle.as2_records.specs.Settling.{settled_in};
 ghost use Rattle.as2_records.specs.Standing.{Medium, Standing, may_come};
@@ -40,21 +41,23 @@ pub trait Records {
         ensures fault { IfErr result (λ f. may_come f ≡ true) };
 
     /// Adds an entry to the inbox under the next number of a receipt, as `next_numbers` gives it. Answers Full exactly where the
-    /// number is past 999,999,999,999; Refused where it isn't the next; Memory, Disk or Refused. A fault leaves the state.
+    /// number is past 999,999,999,999, and then touches nothing; Refused where it isn't the next; Memory, Disk or Refused. A fault leaves the state.
     fn add_in(&mut self, entry: &InEntry) -> Result<(), StoreFault>
         ensures added { Writes (added entry.now) (shows self.old) (shows self.new) result }
         ensures full { IfErr result (λ f. f ≡ Full → end_of_numbers ≤ entry.now.number) }
         ensures full_alone { end_of_numbers ≤ entry.now.number → result ≡ Err Full }
+        ensures full_same { end_of_numbers ≤ entry.now.number → self.new ≡ self.old }
         ensures fault { IfErr result (λ f. (f ≡ Full) ⊎ (may_come f ≡ true)) };
 
     /// Adds a document that no receipt has settled to the outbox under the next number of a document, as `next_numbers` gives it.
-    /// Answers Full exactly where the number is past 999,999,999,999; Refused where it isn't the next, or another document has
-    /// an identifier of its value; Memory, Disk or Refused. A fault leaves the state.
+    /// Answers Full exactly where the number is past 999,999,999,999, and then touches nothing; Refused where it isn't the next, or
+    /// another document has an identifier of its value; Memory, Disk or Refused. A fault leaves the state.
     fn add_out(&mut self, entry: &OutEntry) -> Result<(), StoreFault>
         requires unsettled { entry.now.evidence ≡ None }
         ensures added { Writes (added_document entry.now) (shows self.old) (shows self.new) result }
         ensures full { IfErr result (λ f. f ≡ Full → end_of_numbers ≤ entry.now.number) }
         ensures full_alone { end_of_numbers ≤ entry.now.number → result ≡ Err Full }
+        ensures full_same { end_of_numbers ≤ entry.now.number → self.new ≡ self.old }
         ensures fault { IfErr result (λ f. (f ≡ Full) ⊎ (may_come f ≡ true)) };
 
     /// Sets the receipt of the entry of the inbox of this number, if there is one, to be sent from this moment on, with all
@@ -76,10 +79,11 @@ pub trait Records {
         ensures counted { (shows self.new).IsClean → IfOk result (AreTicked moment (shows self.old)) }
         ensures fault { IfErr result (λ f. may_come f ≡ true) };
 
-    /// Sets how far the document of this number has come. Answers Refused where no document has the number; Memory, Disk or
-    /// Refused; and then the state stays.
+    /// Sets how far the document of this number has come, by a detail that no receipt gives. Answers Refused where no document
+    /// has the number; Memory, Disk or Refused; and then the state stays.
     fn set_out(&mut self, number: u64, progress: Progress) -> Result<(), StoreFault>
-        ensures set { Writes (set_in number progress) (shows self.old) (shows self.new) result }
+        requires no_receipt { is_by_receipt progress.detail ≡ false }
+        ensures set { Writes (set_out_in number progress) (shows self.old) (shows self.new) result }
         ensures fault { IfErr result (λ f. may_come f ≡ true) };
 
     /// Settles the document of this number by a receipt: it gets this detail and this evidence, no try of it is open, and
@@ -154,6 +158,12 @@ pub trait Records {
         ensures counts { Reads (λ s counts. counts ≡ counts_of s) (shows self.old) (shows self.new) result }
         ensures fault { IfErr result (λ f. may_come f ≡ true) };
 
+    // So far the medium of open records has returned what was written.
+    ghost open_is_clean: { (c : Self) → IsTrue (shows c).is_open → (shows c).IsClean };
+
+    // Of open records a stop leaves something, where the medium lasts.
+    ghost stop_leaves: { IsTrue medium.is_lasting → (c : Self) → IsTrue (shows c).is_open → (left : medium.Remains) × (shows c).may_leave left };
+
     // What open records stand for lasts, whatever stops the computer.
-    ghost rests_last: { (c : Self) → IsTrue (shows c).is_open → (s : Kept) → (shows c).Rests s → Lasts (shows c) s };
+    ghost rests_last: { (c : Self) → IsTrue (shows c).is_open → (s : MachineState) → (shows c).Rests s → Lasts (shows c) s };
 }

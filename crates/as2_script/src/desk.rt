@@ -8,23 +8,26 @@ mod files;
 mod network;
 mod stores;
 
-use as2_desk::{Lines, run};
+use as2_desk::{Console, Host, Lines, run};
 use as2_http::Counted;
 use as2_kept::Kept;
 use files::Files;
 use network::Peers;
+use script_lines::Answer;
 use script_player::{Ended, Given, Input, Paper, Runs};
 use sqlite::MemStore;
 use std::alloc::Global;
+use std::cell::RefCell;
 use std::marker::Brand;
 use std::sync::ledger::{Blank, Ledger};
 use stores::Stores;
 
-/// The store that was closed last, and what the last command line left of its input.
+/// The store that was closed last, what the last command line left of its input, and what it gave to the network.
 #[derive(Drop)]
 pub struct Desk {
     kept: Option<Kept<MemStore>>,
     unread: (usize, usize),
+    given: Option<Answer>,
 }
 
 /// Whether the first of the parts has a byte, and all of them are left.
@@ -41,65 +44,90 @@ fn joined(mut bytes: Vec<u8>, others: &[u8]) -> Vec<u8> {
     bytes
 }
 
+/// Counts of a stream that aren't opened yet: of its calls, and of those that failed.
+#[derive(Drop)]
+struct Counts {
+    calls: Blank,
+    failed: Blank,
+}
+
 /// Runs the command line with counts of the calls that are made of its streams: what it comes to, and what it leaves of its input.
-fn run_counted<A: Ledger, B: Ledger, C: Ledger, D: Ledger>(
+fn run_counted<A: Ledger, B: Ledger, C: Ledger, D: Ledger, E: Ledger, F: Ledger>(
     alloc: Global,
     given: &Given<'_>,
-    stores: &mut Stores<'_>,
-    reads: Blank,
-    failed_reads: Blank,
-    writes: Blank,
-    failed_writes: Blank,
+    host: &mut Host<Files<'_>, Stores<'_>, Peers<'_>>,
+    reads: Counts,
+    writes: Counts,
+    says: Counts,
 ) -> (Ended, (usize, usize))
-    requires reads { Opens reads.name reads.parts A.name A.parts }
-    requires failed_reads { Opens failed_reads.name failed_reads.parts B.name B.parts }
-    requires writes { Opens writes.name writes.parts C.name C.parts }
-    requires failed_writes { Opens failed_writes.name failed_writes.parts D.name D.parts }
+    requires reads { Opens reads.calls.name reads.calls.parts A.name A.parts }
+    requires failed_reads { Opens reads.failed.name reads.failed.parts B.name B.parts }
+    requires writes { Opens writes.calls.name writes.calls.parts C.name C.parts }
+    requires failed_writes { Opens writes.failed.name writes.failed.parts D.name D.parts }
+    requires says { Opens says.calls.name says.calls.parts E.name E.parts }
+    requires failed_says { Opens says.failed.name says.failed.parts F.name F.parts }
 {
-    let files = Files {
-        settings: given.settings,
-    };
-    let peers = Peers::new(given.settings);
     let input = Input::new(given.parts.as_slice(), given.calls.reads);
-    let mut input: Counted<Input<'_>, A, B> = Counted::new(input, reads, failed_reads);
     let output = Paper::new(alloc, given.calls.writes);
-    let mut output: Counted<Paper, C, D> = Counted::new(output, writes, failed_writes);
-    let mut hints = Lines {
-        inner: Paper::new(alloc, given.calls.errors),
+    let errors = Paper::new(alloc, given.calls.errors);
+    let mut console: Console<
+        Counted<Input<'_>, A, B>,
+        Counted<Paper, C, D>,
+        Lines<Paper>,
+        Counted<Paper, E, F>,
+    > = Console {
+        input: Counted::new(input, reads.calls, reads.failed),
+        output: Counted::new(output, writes.calls, writes.failed),
+        hints: Lines {
+            inner: Paper::new(alloc, given.calls.errors),
+        },
+        errors: Counted::new(errors, says.calls, says.failed),
     };
-    let mut errors = Paper::new(alloc, given.calls.errors);
     let ran = run(
         alloc,
         given.words.as_slice(),
         given.clock,
-        &files,
-        stores,
-        &peers,
-        &mut input,
-        &mut output,
-        &mut hints,
-        &mut errors,
+        host,
+        &mut console,
     );
+    let Console {
+        input,
+        output,
+        hints,
+        errors,
+    } = console;
     let unread = input.into_inner().left();
     let ended = Ended {
         status: ran.status,
         told: ran.told,
         output: output.into_inner().bytes,
-        errors: joined(hints.inner.bytes, errors.bytes.as_slice()),
+        errors: joined(hints.inner.bytes, errors.into_inner().bytes.as_slice()),
         is_unread: are_unread(given.parts.as_slice(), unread),
     };
     (ended, unread)
 }
 
-fn run_over(alloc: Global, given: &Given<'_>, stores: &mut Stores<'_>) -> (Ended, (usize, usize)) {
-    run_counted::<Brand, Brand, Brand, Brand>(
+fn run_over(
+    alloc: Global,
+    given: &Given<'_>,
+    host: &mut Host<Files<'_>, Stores<'_>, Peers<'_>>,
+) -> (Ended, (usize, usize)) {
+    run_counted::<Brand, Brand, Brand, Brand, Brand, Brand>(
         alloc,
         given,
-        stores,
-        Blank::new(1),
-        Blank::new(1),
-        Blank::new(1),
-        Blank::new(1),
+        host,
+        Counts {
+            calls: Blank::new(1),
+            failed: Blank::new(1),
+        },
+        Counts {
+            calls: Blank::new(1),
+            failed: Blank::new(1),
+        },
+        Counts {
+            calls: Blank::new(1),
+            failed: Blank::new(1),
+        },
     )
 }
 
@@ -108,6 +136,7 @@ impl Desk {
         Desk {
             kept: None,
             unread: (0, 0),
+            given: None,
         }
     }
 }
@@ -122,18 +151,34 @@ impl Runs for Desk {
         } else {
             (None, last)
         };
-        let mut stores = Stores {
-            word,
-            kept,
-            has_opened: false,
+        let to_network = RefCell::new(Answer::new(alloc));
+        let mut host = Host {
+            files: Files {
+                settings: given.settings,
+            },
+            stores: Stores {
+                word,
+                kept,
+                has_opened: false,
+            },
+            network: Peers::new(given.settings, &to_network),
         };
-        let (ended, unread) = run_over(alloc, given, &mut stores);
+        let (ended, unread) = run_over(alloc, given, &mut host);
+        let Host { stores, .. } = host;
         self.unread = unread;
-        self.kept = stores.kept.take().or(aside);
+        self.kept = stores.kept.or(aside);
+        self.given = Some(to_network.into_inner());
         ended
     }
 
     fn unread(&self) -> (usize, usize) {
         self.unread
+    }
+
+    fn given_to_network(&self) -> &[u8] {
+        match &self.given {
+            Some(given) => given.bytes.as_slice(),
+            None => &[],
+        }
     }
 }

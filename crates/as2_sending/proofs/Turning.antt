@@ -10,10 +10,10 @@ use Rattle.as2_exchange.specs.Agreement.{Agreements, Text}
 use Rattle.as2_exchange.specs.Run.{Trace, Run, Answered}
 use Rattle.as2_exchange.specs.State.{State}
 use Rattle.as2_exchange.specs.Step.{step}
-use Rattle.as2_exchange.specs.Views.{next}
-use Rattle.as2_exchange.specs.declared.answer.Answer.{Answer}
-use Rattle.as2_exchange.specs.declared.answer.Answer.TheVariants.{Http, Submitted, Job as Handed, Settled, Delivered, TryFailed, AlreadySettled, Ticked, Refused}
+use Rattle.as2_exchange.specs.Due.{next}
+use Rattle.as2_exchange.specs.declared.answer.Answer.TheVariants.{Job as Handed, Refused}
 use Rattle.as2_exchange.specs.declared.answer.Job.{Job}
+use Rattle.as2_exchange.specs.declared.answer.Refusal.{Refusal}
 use Rattle.as2_exchange.specs.declared.event.TryAnswer.{TryAnswer}
 use Rattle.as2_exchange.specs.declared.fault.StoreFault.{StoreFault}
 use Rattle.as2_exchange.specs.declared.fault.StoreFault.TheVariants.{Full}
@@ -22,28 +22,36 @@ use Rattle.as2_exchange.specs.declared.next.Next.TheVariants.{Receipt, Document}
 use Rattle.as2_records.specs.Standing.{may_come}
 use Rattle.as2_sending.specs.Exchanges.{Exchange, Exchanges, exchange_of, exchanges}
 use Rattle.as2_sending.specs.Hints.{hint_if, why_of}
-use Rattle.as2_sending.specs.Lines.{answer_of, line, lines, line_of}
+use Rattle.as2_sending.specs.Lines.{line, lines, line_of}
+use Rattle.as2_station.specs.Heads.{asks_store}
+use Rattle.as2_station.specs.Said.{answer_of, begin_of, outcome_of}
 use Rattle.as2_station.proofs.ByHistory.{ends_by_history}
-use Rattle.as2_sending.specs.Turns.{Turn, Begins, Takes, TakesAll, begin_of, outcome_of, events, Ends, IsRefused, HasFailed, at_begin_refused, at_outcome_refused, at_next_failed, at_begin_failed, at_outcome_failed, Sends, BeginsTo, ClosesTo, TurnsTo, handed, came, exchanged_by, hint_of, hints}
+use Rattle.as2_http.specs.Responses.{IsSafe}
+use Rattle.as2_sending.specs.Turns.{Turn, Begins, Takes, TakesAll, events, Ends, IsRefused, HasFailed, at_begin_refused, at_outcome_refused, at_next_failed, at_begin_failed, at_outcome_failed, Sends, BeginsTo, ClosesTo, TurnsTo, exchanged_by, hint_of, hints}
 use Rattle.as2_sending.specs.declared.links.LinkFault.{LinkFault}
 use Rattle.as2_sending.specs.declared.sent.Sent.{Sent}
 use Rattle.as2_sending.specs.declared.sent.Sent.TheVariants as sent
-use Rattle.as2_sending.specs.declared.telling.Became.{Became}
-use Rattle.as2_sending.specs.declared.telling.Became.TheVariants as became
-use Rattle.as2_sending.proofs.Answering.{begin_says, outcome_says, begin_answered, outcome_answered}
+use Rattle.as2_station.specs.declared.said.Became.{Became}
+use Rattle.as2_station.specs.declared.said.Became.TheVariants as became
+use Rattle.as2_sending.proofs.Answering.{begin_answered, outcome_answered}
+
+-- ---- the records are asked
+
+pub begin_asks : (A : Agreements) (m : ℕ) (what : Next) → asks_store A (begin_of what m) ≡ true
+begin_asks A m (Receipt n) = refl
+begin_asks A m (Document n) = refl
+
+pub outcome_asks : (A : Agreements) (m : ℕ) (what : Next) (got : TryAnswer) → asks_store A (outcome_of what got m) ≡ true
+outcome_asks A m (Receipt n) got = refl
+outcome_asks A m (Document n) got = refl
 
 -- ---- a begin
 
-pub begins_to : {M : Medium} (A : Agreements) (m : ℕ) (s : State) (what : Next) (c : Standing M) (a : Answer) (t : State) → next s m ≡ Some what → step A s (begin_of what m) ≡ Some (a, t) → c.Rests t → BeginsTo A m s what c (handed a)
-begins_to A m s what c (Handed job) t is h rests = (t, record { is_next = is; begun = h }, rests)
-begins_to A m s what c (Refused r) t is h rests = (_, t, (at_begin_refused what is h refl, refl), rests, refl)
-begins_to A m s what c (Http x) t is h rests = absurd (false≢true (begin_says A m s what (Http x) t h))
-begins_to A m s what c (Submitted n) t is h rests = absurd (false≢true (begin_says A m s what (Submitted n) t h))
-begins_to A m s what c (Settled d) t is h rests = absurd (false≢true (begin_says A m s what (Settled d) t h))
-begins_to A m s what c Delivered t is h rests = absurd (false≢true (begin_says A m s what Delivered t h))
-begins_to A m s what c TryFailed t is h rests = absurd (false≢true (begin_says A m s what TryFailed t h))
-begins_to A m s what c AlreadySettled t is h rests = absurd (false≢true (begin_says A m s what AlreadySettled t h))
-begins_to A m s what c (Ticked n) t is h rests = absurd (false≢true (begin_says A m s what (Ticked n) t h))
+pub begins_to : {M : Medium} (A : Agreements) (m : ℕ) (s : State) (what : Next) (c : Standing M) (job : Job) (t : State) → next s m ≡ Some what → step A s (begin_of what m) ≡ Some (Handed job, t) → c.Rests t → IsSafe c t → BeginsTo A m s what c (Ok job)
+begins_to A m s what c job t is h rests safe = (t, record { is_next = is; begun = h }, rests, safe)
+
+pub begin_refused : {M : Medium} (A : Agreements) (m : ℕ) (s : State) (what : Next) (c : Standing M) (reason : Refusal) (t : State) → next s m ≡ Some what → step A s (begin_of what m) ≡ Some (Refused reason, t) → c.Rests t → BeginsTo A m s what c (Err (sent.Refused reason))
+begin_refused A m s what c reason t is h rests = (_, t, (at_begin_refused what is h refl, refl), rests, refl)
 
 -- a fault that is not Full
 may_be : (f : StoreFault) → (f ≡ Full → ⊥) → (f ≡ Full) ⊎ (may_come f ≡ true) → may_come f ≡ true
@@ -63,17 +71,13 @@ one_exchange (Document n) job got m = refl
 one_made : (what : Next) (job : Job) (got : TryAnswer) (m : ℕ) → exchange_of (Answered (Handed job)) (outcome_of what got m) ++ [] ≡ record { job = job; got = got } ∷ []
 one_made what job got m = append-nil (exchange_of (Answered (Handed job)) (outcome_of what got m)) ∙ one_exchange what job got m
 
-pub closes_to : {M : Medium} (A : Agreements) (m : ℕ) (s : State) (what : Next) (got : TryAnswer) (job : Job) (mid : State) (c : Standing M) (a : Answer) (t : State) → Begins A m s what job mid → step A mid (outcome_of what got m) ≡ Some (a, t) → c.Rests t
-    → ClosesTo A m s what (record { job = job; got = got }) mid c (came a)
-closes_to A m s what got job mid c (Settled d) t b h rests = (t, h, rests)
-closes_to A m s what got job mid c Delivered t b h rests = (t, h, rests)
-closes_to A m s what got job mid c TryFailed t b h rests = (t, h, rests)
-closes_to A m s what got job mid c AlreadySettled t b h rests = (t, h, rests)
-closes_to A m s what got job mid c (Refused r) t b h rests = (_, t, (at_outcome_refused what job got mid b h refl, refl), rests, one_made what job got m)
-closes_to A m s what got job mid c (Http x) t b h rests = absurd (false≢true (outcome_says A m mid what got (Http x) t h))
-closes_to A m s what got job mid c (Submitted n) t b h rests = absurd (false≢true (outcome_says A m mid what got (Submitted n) t h))
-closes_to A m s what got job mid c (Handed j) t b h rests = absurd (false≢true (outcome_says A m mid what got (Handed j) t h))
-closes_to A m s what got job mid c (Ticked n) t b h rests = absurd (false≢true (outcome_says A m mid what got (Ticked n) t h))
+pub closes_to : {M : Medium} (A : Agreements) (m : ℕ) (s : State) (what : Next) (got : TryAnswer) (job : Job) (mid : State) (c : Standing M) (became : Became) (t : State) → step A mid (outcome_of what got m) ≡ Some (answer_of became, t) → c.Rests t → IsSafe c t
+    → ClosesTo A m s what (record { job = job; got = got }) mid c (Ok became)
+closes_to A m s what got job mid c became t h rests safe = (t, h, rests, safe)
+
+pub outcome_refused : {M : Medium} (A : Agreements) (m : ℕ) (s : State) (what : Next) (got : TryAnswer) (job : Job) (mid : State) (c : Standing M) (reason : Refusal) (t : State) → Begins A m s what job mid → step A mid (outcome_of what got m) ≡ Some (Refused reason, t) → c.Rests t
+    → ClosesTo A m s what (record { job = job; got = got }) mid c (Err (sent.Refused reason))
+outcome_refused A m s what got job mid c reason t b h rests = (_, t, (at_outcome_refused what job got mid b h refl, refl), rests, one_made what job got m)
 
 pub outcome_fails : {M : Medium} (A : Agreements) (m : ℕ) (s : State) (what : Next) (got : TryAnswer) (job : Job) (mid : State) (c : Standing M) (f : StoreFault) → Begins A m s what job mid
     → c.Rests mid × (f ≡ Full → step A mid (outcome_of what got m) ≡ None) → (f ≡ Full) ⊎ (may_come f ≡ true) → ClosesTo A m s what (record { job = job; got = got }) mid c (Err (sent.Failed f))

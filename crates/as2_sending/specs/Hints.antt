@@ -16,8 +16,8 @@ use Rattle.as2_sending.specs.declared.hints.Why.{Why}
 use Rattle.as2_sending.specs.declared.hints.Why.TheVariants as why
 use Rattle.as2_sending.specs.declared.links.LinkFault.{LinkFault}
 use Rattle.as2_sending.specs.declared.links.LinkFault.TheVariants as link
-use Rattle.as2_sending.specs.declared.telling.Became.{Became}
-use Rattle.as2_sending.specs.declared.telling.Became.TheVariants as became
+use Rattle.as2_station.specs.declared.said.Became.{Became}
+use Rattle.as2_station.specs.declared.said.Became.TheVariants as became
 
 -- the kind of body that a media type tells, where the text was one
 abbrev pub kind_if : Result Media TypeFault → Option Kind

@@ -7,11 +7,11 @@ use Rattle.as2_exchange.specs.declared.event.Event.TheVariants.{Outcome, Outcome
 use Rattle.as2_exchange.specs.declared.answer.Answer.{Answer}
 use Rattle.as2_exchange.specs.declared.answer.Answer.TheVariants.{Settled, Delivered, TryFailed, AlreadySettled}
 use Rattle.as2_exchange.specs.Run.{Trace, Answered, Failed}
-use Rattle.as2_exchange.specs.Views.{state_text}
+use Rattle.as2_views.specs.Layout.{state_text}
 use Rattle.as2_exchange.specs.declared.next.Next.{Next}
 use Rattle.as2_exchange.specs.declared.next.Next.TheVariants.{Receipt, Document}
-use Rattle.as2_sending.specs.declared.telling.Became.{Became}
-use Rattle.as2_sending.specs.declared.telling.Became.TheVariants as became
+use Rattle.as2_station.specs.declared.said.Became.{Became}
+use Rattle.as2_station.specs.declared.said.Became.TheVariants as became
 
 -- what became of a try, as an outcome is answered; any other answer says of none
 abbrev pub became_by : Answer → Option Became
@@ -20,13 +20,6 @@ became_by Delivered = Some became.Delivered
 became_by TryFailed = Some became.TryFailed
 became_by AlreadySettled = Some became.AlreadySettled
 became_by other = None
-
--- .. and the answer that says so
-abbrev pub answer_of : Became → Answer
-answer_of (became.Settled detail) = Settled detail
-answer_of became.Delivered = Delivered
-answer_of became.TryFailed = TryFailed
-answer_of became.AlreadySettled = AlreadySettled
 
 -- in words; a receipt that settles a document says how it stands now
 abbrev pub words : Became → Text

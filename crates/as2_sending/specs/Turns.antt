@@ -7,7 +7,7 @@ use Rattle.as2_exchange.specs.Agreement.{Agreements, Text}
 use Rattle.as2_exchange.specs.Run.{Trace, Answered, Failed, Run}
 use Rattle.as2_exchange.specs.State.{State}
 use Rattle.as2_exchange.specs.Step.{step}
-use Rattle.as2_exchange.specs.Views.{next}
+use Rattle.as2_exchange.specs.Due.{next}
 use Rattle.as2_exchange.specs.declared.answer.Answer.{Answer}
 use Rattle.as2_exchange.specs.declared.answer.Answer.TheVariants.{Job as Handed, Settled, Delivered, TryFailed, AlreadySettled, Refused}
 use Rattle.as2_exchange.specs.declared.answer.Job.{Job}
@@ -20,27 +20,19 @@ use Rattle.as2_exchange.specs.declared.fault.StoreFault.TheVariants as fault
 use Rattle.as2_exchange.specs.declared.next.Next.{Next}
 use Rattle.as2_exchange.specs.declared.next.Next.TheVariants.{Receipt, Document}
 use Rattle.as2_records.specs.Standing.{may_come}
+use Rattle.as2_station.specs.Said.{answer_of, begin_of, outcome_of}
 use Rattle.as2_station.specs.Theorem.{EndsByHistory}
+use Rattle.as2_http.specs.Responses.{IsSafe}
 use Rattle.as2_sending.specs.Exchanges.{Exchange, exchanges}
 use Rattle.as2_sending.specs.Hints.{hint_if, why_of}
-use Rattle.as2_sending.specs.Lines.{answer_of, line, lines}
+use Rattle.as2_sending.specs.Lines.{line, lines}
 use Rattle.as2_sending.specs.declared.links.LinkFault.{LinkFault}
 use Rattle.as2_sending.specs.declared.sent.Sent.{Sent}
 use Rattle.as2_sending.specs.declared.sent.Sent.TheVariants as sent
-use Rattle.as2_sending.specs.declared.telling.Became.{Became}
-use Rattle.as2_sending.specs.declared.telling.Became.TheVariants as became
+use Rattle.as2_station.specs.declared.said.Became.{Became}
+use Rattle.as2_station.specs.declared.said.Became.TheVariants as became
 
 -- ---- a turn
-
--- a try of it begins at this moment
-abbrev pub begin_of : Next → ℕ → Event
-begin_of (Receipt n) m = BeginMdn n m
-begin_of (Document n) m = Begin n m
-
--- the try of it got that
-abbrev pub outcome_of : Next → TryAnswer → ℕ → Event
-outcome_of (Receipt n) got m = OutcomeMdn n got m
-outcome_of (Document n) got m = Outcome n got m
 
 -- what is tried, the request that is handed to the link, what the link answers, and why it brings no answer, where it brings none;
 -- and what becomes of the try
@@ -134,29 +126,16 @@ pub record Sends (A : Agreements) (m : ℕ) (s t : State) (before after : Option
 
 -- ---- one turn
 
--- the request that the answer to a begin hands out, or how sending ends with it
-abbrev pub handed : Answer → Result Job Sent
-handed (Handed job) = Ok job
-handed (Refused reason) = Err (sent.Refused reason)
-handed other = Err (sent.Failed fault.Refused)
-
--- what became of a try by the answer to its outcome, or how sending ends with it
-abbrev pub came : Answer → Result Became Sent
-came (Settled detail) = Ok (became.Settled detail)
-came Delivered = Ok became.Delivered
-came TryFailed = Ok became.TryFailed
-came AlreadySettled = Ok became.AlreadySettled
-came (Refused reason) = Err (sent.Refused reason)
-came other = Err (sent.Failed fault.Refused)
-
--- what is next begins, and the records rest on the state that it leaves; or sending ends with it, and nothing goes over a link
+-- what is next begins, and the records rest on the state that it leaves, which lasts before its request goes over a link; or sending
+-- ends with it, and nothing goes over a link
 abbrev pub BeginsTo : {M : Medium} → Agreements → ℕ → State → Next → Standing M → Result Job Sent → Type 0
-BeginsTo A m s what c (Ok job) = (mid : State) × Begins A m s what job mid × c.Rests mid
+BeginsTo A m s what c (Ok job) = (mid : State) × Begins A m s what job mid × c.Rests mid × IsSafe c mid
 BeginsTo A m s what c (Err end) = (last : Trace) × (t : State) × Ends A m s last t [] end × c.Rests t × (exchanges last ≡ [])
 
--- the outcome of what has begun is taken, which leaves mid behind; or sending ends with it
+-- the outcome of what has begun is taken, which leaves mid behind, and what this leaves lasts before its line is written; or
+-- sending ends with it
 abbrev pub ClosesTo : {M : Medium} → Agreements → ℕ → State → Next → Exchange → State → Standing M → Result Became Sent → Type 0
-ClosesTo A m s what x mid c (Ok became) = (t : State) × (step A mid (outcome_of what x.got m) ≡ Some (answer_of became, t)) × c.Rests t
+ClosesTo A m s what x mid c (Ok became) = (t : State) × (step A mid (outcome_of what x.got m) ≡ Some (answer_of became, t)) × c.Rests t × IsSafe c t
 ClosesTo A m s what x mid c (Err end) = (last : Trace) × (t : State) × Ends A m s last t [] end × c.Rests t × (exchanges last ≡ x ∷ [])
 
 -- a turn is taken whole, with its line, its hint and its exchange; or sending ends with it, and nothing is hinted

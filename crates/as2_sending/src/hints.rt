@@ -7,8 +7,9 @@ ghost use Rattle.as2_sending.specs.Hints.{hint, hint_if, kind_among, kind_read, 
 ghost use Rattle.as2_sending.specs.Lines.{subject};
 
 use crate::links::LinkFault;
-use crate::telling::{Became, subject};
+use crate::telling::subject;
 use as2_exchange::{Next, TryAnswer};
+use as2_station::Became;
 use as2_text::{Head, Kind, MediaType, Once};
 use std::io;
 use std::io::Write;

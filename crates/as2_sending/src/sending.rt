@@ -1,9 +1,10 @@
 //! What is due is sent.
-ghost use Rattle.std.specs.Prelude.{◌≡◌, true};
+ghost use Rattle.std.specs.Prelude.{◌≡◌, ◌<◌, true};
 ghost use Rattle.std.specs.Io.KnownBytes.{Appends};
 ghost use Rattle.as2_exchange.specs.State.{State};
 ghost use Rattle.as2_sending.specs.Exchanges.{Exchanges};
 ghost use Rattle.as2_sending.specs.Turns.{Sends};
+ghost use Rattle.as2_sending.specs.declared.sent.Sent.TheVariants.{Unwritten};
 
 use crate::links::Links;
 use crate::sent::{Sending, Sent};
@@ -49,6 +50,8 @@ pub fn send<K: Records, L: Links, W: Sink, E: Write>(
         × Sends agreements.now moment s t (W.written output.old) (W.written output.new)
         (λ text made. (result.told ≡ true → Appends (E.contents hints.old) (E.contents hints.new) text)
         × Exchanges L.answers links.old made links.new) result.end }
+    // It ends for a line that couldn't be written only where a write failed.
+    ensures unwritten { result.end ≡ Unwritten → W.failed output.old < W.failed output.new }
 {
     let mut told = true;
     for _ in 0..TURNS {

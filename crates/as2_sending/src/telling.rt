@@ -1,26 +1,14 @@
 //! The line of a try.
 ghost use Rattle.std.specs.Prelude.{◌≡◌, ◌+◌, ◌≤◌, ◌++◌, length};
-ghost use Rattle.as2_exchange.specs.Views.{state_text};
+ghost use Rattle.as2_views.specs.Layout.{state_text};
 ghost use Rattle.as2_mdn.specs.Details.{name_of};
 ghost use Rattle.as2_sending.specs.Lines.{line, subject, words};
 
 use arrayvec::ArrayString;
 use as2_exchange::Next;
-use as2_mdn::{Detail, State};
+use as2_mdn::State;
+use as2_station::Became;
 use itoa::Buffer;
-
-/// What became of a try.
-#[derive(Clone, Copy, Debug, PartialEq, Eq)]
-pub enum Became {
-    /// A receipt has settled the document so.
-    Settled(Detail),
-    /// The document or the receipt arrived.
-    Delivered,
-    /// It failed.
-    TryFailed,
-    /// What was tried had been settled before.
-    AlreadySettled,
-}
 
 /// The longest line has 58 bytes, and a number that itoa writes is known to have 40 at most.
 type Line = ArrayString<128>;

@@ -1,6 +1,6 @@
 -- What the end of a try makes of a document that is found.
-use Rattle.std.proofs.Common.{◌≡◌, ◌∙◌, ℕ, ◌+◌, ◌||◌, not, Bool, true, false, Option, option_map, option_and_then, Some, None, Ok, Err, refl, sym, ap}
-use Rattle.std.specs.Prelude.{if◌then◌else◌}
+use Rattle.std.proofs.Common.{◌≡◌, ◌∙◌, ℕ, ◌+◌, ◌||◌, not, Bool, true, false, Option, option_map, option_and_then, Some, None, Ok, Err, refl, sym, ap, subst}
+use Rattle.std.specs.Prelude.{if◌then◌else◌, ⊤}
 use Rattle.std.specs.Option.{option_map_or}
 use Rattle.as2_exchange.specs.Agreement.{Agreements, Partner, Asked, NoReceipt, Sync, Async}
 use Rattle.as2_exchange.specs.Documents.{closed, closed_by, delivered, failed_try, if_for, settled_as}
@@ -20,15 +20,21 @@ use Rattle.as2_exchange.specs.declared.outbox.Evidence.{Evidence}
 use Rattle.as2_exchange.specs.declared.outbox.OutEntry.{OutEntry}
 use Rattle.as2_mdn.specs.declared.detail.Detail.{Detail}
 use Rattle.as2_mdn.specs.declared.detail.Detail.TheVariants.{Retry, TriesUsed}
-use Rattle.as2_records.specs.Progressing.{come_to, set_in}
+use Rattle.as2_records.specs.Progressing.{come_to, set_out_in}
 use Rattle.as2_records.specs.Settling.{settled_in}
 use Rattle.as2_records.specs.declared.progress.Progress.{Progress}
-use Rattle.as2_station.specs.Closing.{after_failure, ended, settled_by, without_receipt}
+use Rattle.as2_station.specs.Closing.{LeavesUnsettled, after_failure, ended, settled_by, without_receipt}
 use Rattle.as2_station.specs.Trying.{agreed_partner}
+use Rattle.as2_station.specs.declared.closing.End.{End}
 use Rattle.as2_station.specs.declared.closing.End.TheVariants as ending
 use Rattle.as2_station.proofs.Acting.{acts_agreed, refused_agreed}
 
 -- ---- how it ends
+
+-- a document that no receipt settled gets no detail that a receipt alone gives
+abbrev IsUnsettled : Answer → OutEntry → Type 0
+IsUnsettled (Settled detail) d = ⊤
+IsUnsettled other d = is_by_receipt d.detail ≡ false
 
 module _ (p : Partner) (m : ℕ) (d : OutEntry) where
   -- a try that failed
@@ -49,6 +55,37 @@ module _ (p : Partner) (m : ℕ) (d : OutEntry) where
       by Async = refl
       by NoReceipt = refl
       by Sync = fails
+
+  fails_unsettled : IsUnsettled (failed_try p m d).0 (failed_try p m d).1
+  fails_unsettled = by (is_last d.attempt)
+    where
+      tried : Bool → Answer × OutEntry
+      tried last = if last then (TryFailed, record d { attempt = Idle; due = None; detail = TriesUsed }) else (TryFailed, record d { attempt = Idle; due = Some (m + p.retry_seconds); detail = Retry })
+
+      by : (last : Bool) → IsUnsettled (tried last).0 (tried last).1
+      by true = refl
+      by false = refl
+
+  closes_unsettled : (got : TryAnswer) (o : Option ReceivedReceipt) → IsUnsettled (closed_by p got m d o).0 (closed_by p got m d o).1
+  closes_unsettled got (Some r) = tt
+  closes_unsettled got None = by (is_delivery got)
+    where
+      by_terms : (asked : Asked) → IsUnsettled (delivered asked p m d).0 (delivered asked p m d).1
+      by_terms Async = refl
+      by_terms NoReceipt = refl
+      by_terms Sync = fails_unsettled
+
+      left : Bool → Answer × OutEntry
+      left success = if success then delivered p.receipt p m d else failed_try p m d
+
+      by : (success : Bool) → IsUnsettled (left success).0 (left success).1
+      by true = by_terms p.receipt
+      by false = fails_unsettled
+
+  pub leaves_unsettled : (got : TryAnswer) (o : Option ReceivedReceipt) (end : End) → ended end d ≡ closed_by p got m d o → LeavesUnsettled end
+  leaves_unsettled got o (ending.ByReceipt detail evidence) is = tt
+  leaves_unsettled got o (ending.Delivered progress) is = subst (λ (x : Answer × OutEntry). IsUnsettled x.0 x.1) (sym is) (closes_unsettled got o)
+  leaves_unsettled got o (ending.Failed progress) is = subst (λ (x : Answer × OutEntry). IsUnsettled x.0 x.1) (sym is) (closes_unsettled got o)
 
   -- the receipt for it, or none
   pub closes_by_receipt : (got : TryAnswer) (o : Option ReceivedReceipt) (x : Answer × OutEntry) → option_map (settled_by m d) o ≡ Some x → closed_by p got m d o ≡ x
@@ -94,7 +131,7 @@ module _ (s t : State) (d : OutEntry) (found : document s d.number ≡ Some d) w
       by false is = cc
 
   -- it comes so far
-  pub ends_at : (act : OutEntry → Answer × OutEntry) (a : Answer) (progress : Progress) → ((e : OutEntry) → act e ≡ (a, come_to progress e)) → set_in d.number progress s ≡ Some t → Some (on_document s d.number act) ≡ Some (a, t)
+  pub ends_at : (act : OutEntry → Answer × OutEntry) (a : Answer) (progress : Progress) → ((e : OutEntry) → act e ≡ (a, come_to progress e)) → set_out_in d.number progress s ≡ Some t → Some (on_document s d.number act) ≡ Some (a, t)
   ends_at act a progress acts is =
       let left : Some (change_document s d.number (come_to progress)) ≡ Some t = ap (option_map (λ _. change_document s d.number (come_to progress))) (sym found) ∙ is in
       let there : change_document s d.number (come_to progress) ≡ t = cc in

@@ -14,7 +14,7 @@ use Rattle.as2_records.specs.Calls.{Commits, KeepsNext, Reads, Writes}
 use Rattle.as2_records.proofs.Following.{survives_same}
 use Rattle.as2_station.specs.Steps.{Does, Left, Machine, MayLeave}
 
-next_kept : (M : Medium) (left : M.Left) (s : State) → KeepsNext M left (Some s) → M.keeps left s
+next_kept : (M : Medium) (left : M.Remains) (s : State) → KeepsNext M left (Some s) → M.keeps left s
 next_kept M left s it = subst (M.keeps left) (let same : it.state ≡ s = (let i = it.is in cc) in same) it.keeps
 
 pub never_full : {X : Type 0} (f : StoreFault) → may_come f ≡ true → f ≡ Full → X

@@ -1,7 +1,7 @@
 -- What is to be sent next: a receipt is asked for first, and then a document.
 use Rattle.std.proofs.Common.{◌≡◌, ◌∙◌, ℕ, Option, option_map, Some, None, Result, Ok, Err, IsErr, refl, sym, ap, subst}
 use Rattle.as2_records.specs.Standing.{Medium, Standing}
-use Rattle.as2_exchange.specs.Views.{IsNext, due_documents, due_receipts, least, next, next_of}
+use Rattle.as2_exchange.specs.Due.{IsNext, due_documents, due_receipts, least, next, next_of}
 use Rattle.as2_exchange.specs.declared.fault.StoreFault.{StoreFault}
 use Rattle.as2_exchange.specs.declared.next.Next.{Next}
 use Rattle.as2_exchange.specs.declared.next.Next.TheVariants.{Document, Receipt}

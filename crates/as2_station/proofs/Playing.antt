@@ -1,12 +1,13 @@
 -- One event more, and the run of all.
-use Rattle.std.proofs.Common.{◌≡◌, List, [], ◌∷◌, ◌++◌, length, Result, Ok, Err, refl, sym, subst, arith}
+use Rattle.std.proofs.Common.{◌≡◌, ℕ, List, [], ◌∷◌, ◌++◌, length, Result, Ok, Err, refl, sym, ap, subst, arith}
 use Rattle.as2_records.specs.Standing.{Medium, Standing}
 use Rattle.as2_exchange.specs.Agreement.{Agreements}
 use Rattle.as2_exchange.specs.declared.event.Event.{Event}
 use Rattle.as2_exchange.specs.declared.answer.Answer.{Answer}
-use Rattle.as2_exchange.specs.declared.answer.Answer.TheVariants.{Http}
-use Rattle.as2_exchange.specs.declared.answer.HttpAnswer.{HttpAnswer}
+use Rattle.as2_exchange.specs.declared.answer.Answer.TheVariants.{Http, Refused}
+use Rattle.as2_exchange.specs.declared.answer.Refusal.{Refusal}
 use Rattle.as2_exchange.specs.declared.fault.StoreFault.{StoreFault}
+use Rattle.as2_station.specs.Said.{said_to_submit}
 use Rattle.as2_station.specs.Steps.{RefusesSubmit, TakesEvent, TakesHead}
 use Rattle.as2_station.specs.Traces.{Plays, Taken, trace}
 use Rattle.as2_exchange.specs.Run.{Run}
@@ -14,7 +15,7 @@ use Rattle.as2_station.proofs.ByHistory.{ends_by_history}
 
 module _ {H : Type 0} {M : Medium} (shows : H → Standing M) (A : Agreements) where
   pub taken_more : (es : List Event) (rs : List (Result Answer StoreFault)) (e : Event) (r : Result Answer StoreFault) (old mid new : H) → Taken shows A es rs old mid → TakesEvent A e (λ a. a) (shows mid) (shows new) r
-      → TakesHead A e Http mid new r → RefusesSubmit A e mid new r → Taken shows A (es ++ e ∷ []) (rs ++ r ∷ []) old new
+      → TakesHead A e Http mid new r → RefusesSubmit A e Refused mid new r → Taken shows A (es ++ e ∷ []) (rs ++ r ∷ []) old new
   taken_more [] [] e r old mid new same one head refuses = subst (λ h. Taken shows A (e ∷ []) (r ∷ []) h new) same (new, one, head, refuses, refl)
   taken_more [] (q ∷ rs) e r old mid new none one head refuses = absurd none
   taken_more (x ∷ es) [] e r old mid new none one head refuses = absurd none
@@ -41,23 +42,16 @@ module _ {H : Type 0} {M : Medium} (shows : H → Standing M) (A : Agreements) w
       let run : Run A s (trace (x ∷ es) (Err f ∷ rs)) later.end = (now.1, later.run) in
       record { end = later.end; run = run; by_history = ends_by_history A s (trace (x ∷ es) (Err f ∷ rs)) later.end run; rests = later.rests }
 
--- what takes a post takes the event
-pub as_event : {M : Medium} (A : Agreements) (e : Event) (old new : Standing M) (a : HttpAnswer) → TakesEvent A e Http old new (Ok a) → TakesEvent A e (λ a. a) old new (Ok (Http a))
-as_event A e old new a it = record {
-  does = record { clean = it.does.clean; is_open = it.does.is_open; answered = it.does.answered; failed = it.does.failed; fault = it.does.fault; crash = it.does.crash };
-  by_history = it.by_history;
-  lasts = it.lasts;
-  whole = it.whole;
-}
-
-pub as_failed : {M : Medium} (A : Agreements) (e : Event) (old new : Standing M) (f : StoreFault) → TakesEvent A e Http old new (Err f) → TakesEvent A e (λ a. a) old new (Err f)
-as_failed A e old new f it = record {
-  does = record { clean = it.does.clean; is_open = it.does.is_open; answered = it.does.answered; failed = it.does.failed; fault = it.does.fault; crash = it.does.crash };
-  by_history = it.by_history;
-  lasts = it.lasts;
-  whole = it.whole;
-}
-
 pub nothing_left : {X : Type 0} (xs : List X) → length xs ≡ 0 → xs ≡ []
 nothing_left [] none = refl
 nothing_left (x ∷ xs) none = absurd (omega (arith, none))
+
+-- what refuses a submission refuses the event
+pub refuses_event : {H : Type 0} (A : Agreements) (e : Event) (old new : H) (x : Result ℕ Refusal) → RefusesSubmit A e Err old new (Ok x) → RefusesSubmit A e Refused old new (Ok (said_to_submit x))
+refuses_event A e old new x it = record {
+  answer = λ organization partner content moment reason is refused.
+      let told = it.answer organization partner content moment reason is refused in
+      let same : x ≡ Err reason = cc in
+      ap (λ (y : Result ℕ Refusal). Ok (said_to_submit y)) same;
+  same = it.same;
+}

@@ -1,5 +1,5 @@
 -- Time passes, as a step of the machine.
-use Rattle.std.proofs.Common.{◌≡◌, ◌∙◌, inr, ℕ, Some, Ok, Err, true, sym, ap}
+use Rattle.std.proofs.Common.{◌≡◌, ◌∙◌, inr, ℕ, Some, Result, Ok, Err, IfOk, IfErr, true, sym, ap}
 use Rattle.as2_records.specs.Standing.{Medium, Standing}
 use Rattle.as2_records.specs.Calls.{Survives}
 use Rattle.as2_records.proofs.Following.{survives_weaker}
@@ -21,7 +21,7 @@ module _ {M : Medium} (m : ℕ) (old new : Standing M) where
     stands = λ s rests known. inr (may.stands s rests);
   }) it
 
-  pub ticks : (count : ℕ) → Writes {A = ℕ} {E = StoreFault} (ticked_in m) old new (Ok count) → (new.IsClean → AreTicked m old count) → Does (λ s. Some (tick m s)) always (true ≡ true) (λ (a : Answer). a) old new (Ok (Ticked count))
+  pub ticks : (count : ℕ) → Writes {A = ℕ} {E = StoreFault} (ticked_in m) old new (Ok count) → (new.IsClean → AreTicked m old count) → Does (λ s. Some (tick m s)) always (true ≡ true) Ticked old new (Ok count)
   ticks count it counted = record {
     clean = it.clean;
     is_open = λ clean _. it.is_open clean;
@@ -34,7 +34,7 @@ module _ {M : Medium} (m : ℕ) (old new : Standing M) where
     crash = leaves it.crash;
   }
 
-  pub fails_to_tick : (f : StoreFault) → may_come f ≡ true → Writes {A = ℕ} {E = StoreFault} (ticked_in m) old new (Err f) → Does (λ s. Some (tick m s)) always (true ≡ true) (λ (a : Answer). a) old new (Err f)
+  pub fails_to_tick : (f : StoreFault) → may_come f ≡ true → Writes {A = ℕ} {E = StoreFault} (ticked_in m) old new (Err f) → Does (λ s. Some (tick m s)) always (true ≡ true) Ticked old new (Err f)
   fails_to_tick f may it = record {
     clean = it.clean;
     is_open = λ clean. tt;
@@ -43,3 +43,7 @@ module _ {M : Medium} (m : ℕ) (old new : Standing M) where
     fault = inr may;
     crash = leaves it.crash;
   }
+
+  pub ticked : (r : Result ℕ StoreFault) → Writes (ticked_in m) old new r → IfErr r (λ f. may_come f ≡ true) → (new.IsClean → IfOk r (AreTicked m old)) → Does (λ s. Some (tick m s)) always (true ≡ true) Ticked old new r
+  ticked (Ok count) it may counted = ticks count it counted
+  ticked (Err f) it may counted = fails_to_tick f may it

@@ -4,7 +4,7 @@ use Rattle.std.specs.List.{filter, flat_map}
 use Rattle.as2_records.specs.Standing.{Medium, Standing}
 use Rattle.as2_mdn.specs.declared.detail.State.{State as StateOf}
 use Rattle.as2_exchange.specs.State.{State}
-use Rattle.as2_exchange.specs.Views.{list_in, list_out, outstanding}
+use Rattle.as2_views.specs.Texts.{list_in, list_out, outstanding}
 use Rattle.as2_exchange.specs.declared.fault.StoreFault.{StoreFault}
 use Rattle.as2_records.specs.Summaries.{in_summary, out_summary}
 use Rattle.as2_records.specs.declared.summaries.InRow.{InRow}

@@ -1,7 +1,8 @@
 -- How a try of a document ends, and what that makes of the document.
-use Rattle.std.specs.Prelude.{ℕ, ◌+◌, Some, None, if◌then◌else◌}
+use Rattle.std.specs.Prelude.{◌≡◌, ℕ, ◌+◌, false, Some, None, if◌then◌else◌, ⊤}
 use Rattle.as2_exchange.specs.Agreement.{Partner, Asked, NoReceipt, Sync, Async}
 use Rattle.as2_exchange.specs.Documents.{settled, settled_as}
+use Rattle.as2_exchange.specs.Invariants.{is_by_receipt}
 use Rattle.as2_exchange.specs.Posts.{ReceivedReceipt}
 use Rattle.as2_exchange.specs.Readings.{verdict}
 use Rattle.as2_exchange.specs.Tries.{is_last}
@@ -27,6 +28,12 @@ abbrev pub without_receipt : Asked → Partner → ℕ → OutEntry → End
 without_receipt Async p m d = ending.Delivered (record { tries = d.tries; attempt = Idle; due = Some (m + p.overdue_seconds); detail = Awaiting })
 without_receipt NoReceipt p m d = ending.Delivered (record { tries = d.tries; attempt = Idle; due = None; detail = NoReceiptAsked })
 without_receipt Sync p m d = ending.Failed (after_failure p m d)
+
+-- where no receipt came, the document gets no detail that a receipt alone gives
+abbrev pub LeavesUnsettled : End → Type 0
+LeavesUnsettled (ending.ByReceipt detail evidence) = ⊤
+LeavesUnsettled (ending.Delivered progress) = is_by_receipt progress.detail ≡ false
+LeavesUnsettled (ending.Failed progress) = is_by_receipt progress.detail ≡ false
 
 -- what is answered, and what the end makes of the document
 abbrev pub ended : End → OutEntry → Answer × OutEntry

@@ -17,7 +17,7 @@ use Rattle.as2_exchange.specs.Lines.{refusal}
 use Rattle.as2_exchange.specs.State.{State, received_as}
 use Rattle.as2_posts.specs.Answers.{has_kept_mic}
 use Rattle.as2_exchange.specs.declared.answer.Answer.{Answer}
-use Rattle.as2_exchange.specs.declared.answer.Answer.TheVariants.{Http, Refused}
+use Rattle.as2_exchange.specs.declared.answer.Answer.TheVariants.{Http}
 use Rattle.as2_exchange.specs.declared.answer.Refusal.{Refusal}
 use Rattle.as2_exchange.specs.declared.fault.StoreFault.{StoreFault}
 use Rattle.as2_exchange.specs.declared.fault.StoreFault.TheVariants.{Full}
@@ -42,7 +42,7 @@ left_by machine s = option_map (λ (came : Answer × State). came.1) (machine s)
 
 -- what a call may leave to a crash beside what was left before: over open records, the state that they rested on,
 -- or the one that the machine leaves
-pub record MayLeave {M : Medium} (machine : Machine) (given : State → Type 0) (old : Standing M) (left : M.Left) : Type 0 where
+pub record MayLeave {M : Medium} (machine : Machine) (given : State → Type 0) (old : Standing M) (left : M.Remains) : Type 0 where
   pub was_open : IsTrue old.is_open
   pub stands : (s : State) → old.Rests s → given s → M.keeps left s ⊎ KeepsNext M left (left_by machine s)
 
@@ -87,6 +87,6 @@ pub record TakesHead {A H : Type 0} (agreed : Agreements) (event : Event) (told 
   pub same : (head : Head) (body : List ℕ) (moment : ℕ) (line : Line) → event ≡ Post head body moment → reading agreed head body ≡ Refuses line → is_of_head line ≡ true → new ≡ old
 
 -- a document that is refused gets its refusal, whatever memory and the records do, and nothing else happens
-pub record RefusesSubmit {H : Type 0} (agreed : Agreements) (event : Event) (old new : H) (r : Result Answer StoreFault) : Type 0 where
-  pub answer : (organization partner content : Text) (moment : ℕ) (reason : Refusal) → event ≡ Submit organization partner content moment → submit_refusal agreed organization partner content ≡ Some reason → r ≡ Ok (Refused reason)
+pub record RefusesSubmit {A H : Type 0} (agreed : Agreements) (event : Event) (told : Refusal → A) (old new : H) (r : Result A StoreFault) : Type 0 where
+  pub answer : (organization partner content : Text) (moment : ℕ) (reason : Refusal) → event ≡ Submit organization partner content moment → submit_refusal agreed organization partner content ≡ Some reason → r ≡ Ok (told reason)
   pub same : (organization partner content : Text) (moment : ℕ) (reason : Refusal) → event ≡ Submit organization partner content moment → submit_refusal agreed organization partner content ≡ Some reason → new ≡ old

@@ -37,7 +37,7 @@ use Rattle.as2_exchange.specs.Readings.{Head, named_by, value_of}
 use Rattle.as2_exchange.specs.Run.{Said, Answered, Failed, IsOutOfNumbers, Trace, Run, accepted}
 use Rattle.as2_exchange.specs.State.{State, document, empty, is_settled, lasting, received}
 use Rattle.as2_exchange.specs.Step.{is_refusal, step}
-use Rattle.as2_exchange.specs.Views.{given_up}
+use Rattle.as2_exchange.specs.Progress.{given_up}
 use Rattle.as2_exchange.specs.declared.inbox.InEntry.{InEntry}
 use Rattle.as2_exchange.specs.declared.inbox.MdnState.TheVariants.{Pending}
 use Rattle.as2_exchange.specs.declared.outbox.OutEntry.{OutEntry}

@@ -6,7 +6,7 @@ use Rattle.as2_exchange.specs.Run.{Said, Answered, Failed, Trace, Run}
 use Rattle.as2_exchange.specs.State.{State}
 use Rattle.as2_exchange.specs.declared.event.Event.{Event}
 use Rattle.as2_exchange.specs.declared.answer.Answer.{Answer}
-use Rattle.as2_exchange.specs.declared.answer.Answer.TheVariants.{Http}
+use Rattle.as2_exchange.specs.declared.answer.Answer.TheVariants.{Http, Refused}
 use Rattle.as2_exchange.specs.declared.fault.StoreFault.{StoreFault}
 use Rattle.as2_station.specs.Steps.{RefusesSubmit, TakesEvent, TakesHead}
 use Rattle.as2_station.specs.Theorem.{EndsByHistory}
@@ -37,4 +37,4 @@ abbrev pub Taken : {H : Type 0} {M : Medium} → (H → Standing M) → Agreemen
 Taken shows A [] [] old new = new ≡ old
 Taken shows A [] (r ∷ rs) old new = ⊥
 Taken shows A (e ∷ es) [] old new = ⊥
-Taken {H} {M} shows A (e ∷ es) (r ∷ rs) old new = (mid : H) × TakesEvent A e (λ a. a) (shows old) (shows mid) r × TakesHead A e Http old mid r × RefusesSubmit A e old mid r × Taken shows A es rs mid new
+Taken {H} {M} shows A (e ∷ es) (r ∷ rs) old new = (mid : H) × TakesEvent A e (λ a. a) (shows old) (shows mid) r × TakesHead A e Http old mid r × RefusesSubmit A e Refused old mid r × Taken shows A es rs mid new

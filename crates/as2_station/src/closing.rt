@@ -9,13 +9,15 @@ ghost use Rattle.as2_exchange.specs.declared.event.TryAnswer.TheVariants.{Reply}
 ghost use Rattle.as2_exchange.specs.Step.{on_document};
 ghost use Rattle.as2_exchange.specs.Tries.{is_idle};
 ghost use Rattle.as2_posts.specs.Openings.{receipt_as};
-ghost use Rattle.as2_station.specs.Closing.{after_failure, ended, settled_by, without_receipt};
+ghost use Rattle.as2_station.specs.Closing.{LeavesUnsettled, after_failure, ended, settled_by, without_receipt};
+ghost use Rattle.as2_station.specs.Said.{said_to_outcome};
 ghost use Rattle.as2_station.specs.Steps.{Does, always};
 
 use crate::agreed::agreed_partner;
 use crate::receipts::{bears, evidence_of};
+use crate::said::{Became, Ended};
 use as2_agreement::{Agreements, Asked, Partner};
-use as2_exchange::{Answer, Attempt, Evidence, OutEntry, Refusal, StoreFault, TryAnswer};
+use as2_exchange::{Attempt, Evidence, OutEntry, Refusal, StoreFault, TryAnswer};
 use as2_mdn::{Detail, read_report, verdict_pieces};
 use as2_mic::Pieces;
 use as2_posts::{Opened, open_answer};
@@ -162,22 +164,23 @@ fn end_of(
 }
 
 /// Writes how the try of the document has ended.
-fn end_try<R: Records>(records: &mut R, entry: &OutEntry, end: End) -> Result<Answer, StoreFault>
+fn end_try<R: Records>(records: &mut R, entry: &OutEntry, end: End) -> Result<Ended, StoreFault>
+    requires unsettled { LeavesUnsettled end }
     requires open { (R.shows records.old).IsClean → IsTrue (R.shows records.old).is_open }
-    ensures taken { Does (λ s. Some (on_document s entry.now.number (ended end))) (λ s. document s entry.now.number ≡ Some entry.now) (true ≡ true) (λ a. a) (R.shows records.old) (R.shows records.new) result }
+    ensures taken { Does (λ s. Some (on_document s entry.now.number (ended end))) (λ s. document s entry.now.number ≡ Some entry.now) (true ≡ true) said_to_outcome (R.shows records.old) (R.shows records.new) result }
 {
     match end {
         End::ByReceipt { detail, evidence } => {
             records.settle(entry.number, detail, &evidence)?;
-            Ok(Answer::Settled(detail))
+            Ok(Ok(Became::Settled(detail)))
         }
         End::Delivered(progress) => {
             records.set_out(entry.number, progress)?;
-            Ok(Answer::Delivered)
+            Ok(Ok(Became::Delivered))
         }
         End::Failed(progress) => {
             records.set_out(entry.number, progress)?;
-            Ok(Answer::TryFailed)
+            Ok(Ok(Became::TryFailed))
         }
     }
 }
@@ -190,19 +193,19 @@ fn close_found<R: Records>(
     entry: &OutEntry,
     answer: TryAnswer,
     moment: Moment,
-) -> Result<Answer, StoreFault>
+) -> Result<Ended, StoreFault>
     requires open { (R.shows records.old).IsClean → IsTrue (R.shows records.old).is_open }
-    ensures taken { Does (λ s. Some (on_document s entry.now.number (closed agreements.now answer moment))) (λ s. document s entry.now.number ≡ Some entry.now) (true ≡ true) (λ a. a) (R.shows records.old) (R.shows records.new) result }
+    ensures taken { Does (λ s. Some (on_document s entry.now.number (closed agreements.now answer moment))) (λ s. document s entry.now.number ≡ Some entry.now) (true ≡ true) said_to_outcome (R.shows records.old) (R.shows records.new) result }
 {
     let partner = match agreed_partner(agreements, &entry.organization, &entry.partner) {
         Ok(partner) => partner,
-        Err(reason) => return Ok(Answer::Refused(reason)),
+        Err(reason) => return Ok(Err(reason)),
     };
     if entry.evidence.is_some() {
-        return Ok(Answer::AlreadySettled);
+        return Ok(Ok(Became::AlreadySettled));
     }
     if is_idle(entry.attempt) {
-        return Ok(Answer::Refused(Refusal::NoOpenTry));
+        return Ok(Err(Refusal::NoOpenTry));
     }
     let end = end_of(alloc, partner, entry, answer, moment)?;
     end_try(records, entry, end)
@@ -216,11 +219,11 @@ pub fn close<R: Records>(
     number: u64,
     answer: TryAnswer,
     moment: Moment,
-) -> Result<Answer, StoreFault>
-    ensures taken { Does (λ s. Some (on_document s number (closed agreements.now answer moment))) always (true ≡ true) (λ a. a) (R.shows records.old) (R.shows records.new) result }
+) -> Result<Ended, StoreFault>
+    ensures taken { Does (λ s. Some (on_document s number (closed agreements.now answer moment))) always (true ≡ true) said_to_outcome (R.shows records.old) (R.shows records.new) result }
 {
     match records.find_out(alloc, number)? {
         Some(document) => close_found(records, alloc, agreements, &document, answer, moment),
-        None => Ok(Answer::Refused(Refusal::NoSuchNumber)),
+        None => Ok(Err(Refusal::NoSuchNumber)),
     }
 }

@@ -6,13 +6,15 @@ ghost use Rattle.as2_exchange.specs.Receipts.{is_delivery};
 ghost use Rattle.as2_exchange.specs.State.{received};
 ghost use Rattle.as2_exchange.specs.Step.{on_received};
 ghost use Rattle.as2_station.specs.OwedTries.{end_answer, mdn_ended, mdn_tried, mdn_try_refusal};
+ghost use Rattle.as2_station.specs.Said.{answer_of, said_to_begin, said_to_outcome};
 ghost use Rattle.as2_station.specs.Steps.{Does, always};
 
 use crate::agreed::agreed_partner;
 use crate::closing::is_success;
+use crate::said::{Became, Begun, Ended};
 use crate::trying::is_early;
 use as2_agreement::{Agreements, Partner};
-use as2_exchange::{Answer, Attempt, InEntry, MdnState, Refusal, StoreFault, TryAnswer};
+use as2_exchange::{Attempt, InEntry, MdnState, Refusal, StoreFault, TryAnswer};
 use as2_posts::receipt_job;
 use as2_records::{MdnProgress, Records};
 use as2_text::Moment;
@@ -71,21 +73,21 @@ fn begin_found<R: Records>(
     agreements: &Agreements,
     entry: &InEntry,
     moment: Moment,
-) -> Result<Answer, StoreFault>
+) -> Result<Begun, StoreFault>
     requires open { (R.shows records.old).IsClean → IsTrue (R.shows records.old).is_open }
-    ensures taken { Does (λ s. Some (on_received s entry.now.number (mdn_begun agreements.now moment))) (λ s. received s entry.now.number ≡ Some entry.now) (true ≡ true) (λ a. a) (R.shows records.old) (R.shows records.new) result }
+    ensures taken { Does (λ s. Some (on_received s entry.now.number (mdn_begun agreements.now moment))) (λ s. received s entry.now.number ≡ Some entry.now) (true ≡ true) said_to_begin (R.shows records.old) (R.shows records.new) result }
 {
     let partner = match agreed_partner(agreements, &entry.posted.receiver, &entry.posted.sender) {
         Ok(partner) => partner,
-        Err(reason) => return Ok(Answer::Refused(reason)),
+        Err(reason) => return Ok(Err(reason)),
     };
     if let Some(reason) = try_refusal(partner, entry, moment) {
-        return Ok(Answer::Refused(reason));
+        return Ok(Err(reason));
     }
     let progress = tried(partner, entry, moment);
     let job = receipt_job(alloc, agreements, entry.number, &entry.posted)?;
     records.set_mdn(entry.number, progress)?;
-    Ok(Answer::Job(job))
+    Ok(Ok(job))
 }
 
 /// Begins a try of the receipt of the entry of this number.
@@ -95,12 +97,12 @@ pub fn begin_mdn<R: Records>(
     agreements: &Agreements,
     number: u64,
     moment: Moment,
-) -> Result<Answer, StoreFault>
-    ensures taken { Does (λ s. Some (on_received s number (mdn_begun agreements.now moment))) always (true ≡ true) (λ a. a) (R.shows records.old) (R.shows records.new) result }
+) -> Result<Begun, StoreFault>
+    ensures taken { Does (λ s. Some (on_received s number (mdn_begun agreements.now moment))) always (true ≡ true) said_to_begin (R.shows records.old) (R.shows records.new) result }
 {
     match records.find_in_number(alloc, number)? {
         Some(entry) => begin_found(records, alloc, agreements, &entry, moment),
-        None => Ok(Answer::Refused(Refusal::NoSuchNumber)),
+        None => Ok(Err(Refusal::NoSuchNumber)),
     }
 }
 
@@ -145,14 +147,14 @@ fn after_try(partner: &Partner, entry: &InEntry, delivered: bool, moment: Moment
     }
 }
 
-/// What is answered where a try has ended by an answer of success, or without one.
-fn end_answer(delivered: bool) -> Answer
-    ensures { result ≡ end_answer delivered }
+/// What became of a try that has ended by an answer of success, or without one.
+fn end_became(delivered: bool) -> Became
+    ensures { answer_of result ≡ end_answer delivered }
 {
     if delivered {
-        Answer::Delivered
+        Became::Delivered
     } else {
-        Answer::TryFailed
+        Became::TryFailed
     }
 }
 
@@ -163,23 +165,23 @@ fn close_found<R: Records>(
     entry: &InEntry,
     answer: &TryAnswer,
     moment: Moment,
-) -> Result<Answer, StoreFault>
+) -> Result<Ended, StoreFault>
     requires open { (R.shows records.old).IsClean → IsTrue (R.shows records.old).is_open }
-    ensures taken { Does (λ s. Some (on_received s entry.now.number (mdn_closed agreements.now answer.now moment))) (λ s. received s entry.now.number ≡ Some entry.now) (true ≡ true) (λ a. a) (R.shows records.old) (R.shows records.new) result }
+    ensures taken { Does (λ s. Some (on_received s entry.now.number (mdn_closed agreements.now answer.now moment))) (λ s. received s entry.now.number ≡ Some entry.now) (true ≡ true) said_to_outcome (R.shows records.old) (R.shows records.new) result }
 {
     let partner = match agreed_partner(agreements, &entry.posted.receiver, &entry.posted.sender) {
         Ok(partner) => partner,
-        Err(reason) => return Ok(Answer::Refused(reason)),
+        Err(reason) => return Ok(Err(reason)),
     };
     if !is_pending(entry) {
-        return Ok(Answer::AlreadySettled);
+        return Ok(Ok(Became::AlreadySettled));
     }
     if is_shut(entry.attempt) {
-        return Ok(Answer::Refused(Refusal::NoOpenTry));
+        return Ok(Err(Refusal::NoOpenTry));
     }
     let delivered = is_delivery(answer);
     records.set_mdn(entry.number, after_try(partner, entry, delivered, moment))?;
-    Ok(end_answer(delivered))
+    Ok(Ok(end_became(delivered)))
 }
 
 /// Takes the outcome of a try of the receipt of the entry of this number.
@@ -190,11 +192,11 @@ pub fn close_mdn<R: Records>(
     number: u64,
     answer: TryAnswer,
     moment: Moment,
-) -> Result<Answer, StoreFault>
-    ensures taken { Does (λ s. Some (on_received s number (mdn_closed agreements.now answer moment))) always (true ≡ true) (λ a. a) (R.shows records.old) (R.shows records.new) result }
+) -> Result<Ended, StoreFault>
+    ensures taken { Does (λ s. Some (on_received s number (mdn_closed agreements.now answer moment))) always (true ≡ true) said_to_outcome (R.shows records.old) (R.shows records.new) result }
 {
     match records.find_in_number(alloc, number)? {
         Some(entry) => close_found(records, agreements, &entry, &answer, moment),
-        None => Ok(Answer::Refused(Refusal::NoSuchNumber)),
+        None => Ok(Err(Refusal::NoSuchNumber)),
     }
 }

@@ -1,12 +1,14 @@
 //! The station, event by event.
-ghost use Rattle.std.specs.Prelude.{◌≡◌, IfOk, IfErr, OnErr, option_map, string_bytes, true};
-ghost use Rattle.as2_exchange.specs.declared.event.Event.TheVariants.{Post};
-ghost use Rattle.as2_exchange.specs.declared.answer.Answer.TheVariants.{Http};
-ghost use Rattle.as2_exchange.specs.Views.{IsNext, fetch, next, outstanding, show};
+ghost use Rattle.std.specs.Prelude.{◌≡◌, Err, IfOk, IfErr, OnErr, option_map, string_bytes, true};
+ghost use Rattle.as2_exchange.specs.declared.event.Event.TheVariants.{Post, Submit, Tick};
+ghost use Rattle.as2_exchange.specs.declared.answer.Answer.TheVariants.{Http, Refused, Ticked};
+ghost use Rattle.as2_exchange.specs.Due.{IsNext, next};
+ghost use Rattle.as2_views.specs.Texts.{fetch, outstanding, show};
 ghost use Rattle.as2_views.specs.Filtering.{listing};
 ghost use Rattle.as2_records.specs.Calls.{Reads};
 ghost use Rattle.as2_records.specs.Standing.{may_come};
 ghost use Rattle.as2_posts.specs.Openings.{reading_by};
+ghost use Rattle.as2_station.specs.Said.{begin_of, outcome_of, said_to_begin, said_to_outcome, said_to_submit};
 ghost use Rattle.as2_station.specs.Steps.{ClashesWhole, RefusesSubmit, TakesEvent, TakesHead, TakesPost, always};
 ghost use Rattle.as2_station.specs.Traces.{Plays, Taken};
 
@@ -14,12 +16,15 @@ use crate::closing::close;
 use crate::owed::{begin_mdn, close_mdn};
 use crate::receiving::receive;
 use crate::recording::record;
+use crate::said::{
+    Begun, Ended, NewDocument, Submitted, said_to_begin, said_to_outcome, said_to_submit,
+};
 use crate::submitting::submit;
 use crate::ticking::tick;
 use crate::trying::begin;
 use crate::viewing;
 use as2_agreement::Agreements;
-use as2_exchange::{Answer, Event, HttpAnswer, Next, StoreFault};
+use as2_exchange::{Answer, Event, HttpAnswer, Next, StoreFault, TryAnswer};
 use as2_mic::Pieces;
 use as2_posts::{Opened, document, open};
 use as2_records::Records;
@@ -100,11 +105,81 @@ impl<R: Records> Station<R> {
         }
     }
 
-    /// Takes an event. A post is taken as `post` takes it. A document is taken in under the next number; one that is refused takes
-    /// neither memory nor the records. A try begins once it is committed; its outcome settles the document by the receipt that came in
-    /// the answer, or says when to try again; a receipt that is sent later is tried likewise. As time passes, what waited too
-    /// long is given up. A fault of the records may come in place of any other answer, and nothing is changed then; Full where no
-    /// number is left.
+    /// Takes a document in for a partner, under the next number. One that is refused takes neither memory nor the records. A fault of
+    /// theirs may come in place of any other answer, and nothing is changed then; Full where no number is left.
+    pub fn submit(
+        &mut self,
+        alloc: Global,
+        agreements: &Agreements,
+        document: NewDocument,
+        moment: Moment,
+    ) -> Result<Submitted, StoreFault>
+        ensures taken { TakesEvent agreements.now (Submit document.organization document.partner document.content moment) said_to_submit (R.shows self.old) (R.shows self.new) result }
+        ensures refused { RefusesSubmit agreements.now (Submit document.organization document.partner document.content moment) Err self.old self.new result }
+    {
+        submit(&mut self.records, alloc, agreements, document, moment)
+    }
+
+    /// Begins a try of a receipt or a document: it is committed before its request is handed out. A fault of the records may come in
+    /// place of any other answer, and nothing is changed then.
+    pub fn begin(
+        &mut self,
+        alloc: Global,
+        agreements: &Agreements,
+        what: Next,
+        moment: Moment,
+    ) -> Result<Begun, StoreFault>
+        ensures taken { TakesEvent agreements.now (begin_of what moment) said_to_begin (R.shows self.old) (R.shows self.new) result }
+    {
+        match what {
+            Next::Receipt(number) => {
+                begin_mdn(&mut self.records, alloc, agreements, number, moment)
+            }
+            Next::Document(number) => begin(&mut self.records, alloc, agreements, number, moment),
+        }
+    }
+
+    /// Takes the outcome of a try of a receipt or a document: the receipt that came in the answer settles the document, or it is
+    /// said when to try again. A fault of the records may come in place of any other answer, and nothing is changed then.
+    pub fn close(
+        &mut self,
+        alloc: Global,
+        agreements: &Agreements,
+        what: Next,
+        answer: TryAnswer,
+        moment: Moment,
+    ) -> Result<Ended, StoreFault>
+        ensures taken { TakesEvent agreements.now (outcome_of what answer moment) said_to_outcome (R.shows self.old) (R.shows self.new) result }
+    {
+        match what {
+            Next::Receipt(number) => close_mdn(
+                &mut self.records,
+                alloc,
+                agreements,
+                number,
+                answer,
+                moment,
+            ),
+            Next::Document(number) => close(
+                &mut self.records,
+                alloc,
+                agreements,
+                number,
+                answer,
+                moment,
+            ),
+        }
+    }
+
+    /// Takes that this moment has come: what waited too long is given up. Answers how many documents were. A fault of the records
+    /// may come in its place, and nothing is changed then.
+    pub fn tick(&mut self, agreements: &Agreements, moment: Moment) -> Result<u64, StoreFault>
+        ensures taken { TakesEvent agreements.now (Tick moment) Ticked (R.shows self.old) (R.shows self.new) result }
+    {
+        tick(&mut self.records, moment)
+    }
+
+    /// Takes an event of any kind, as the call for its kind does.
     pub fn step(
         &mut self,
         alloc: Global,
@@ -113,7 +188,7 @@ impl<R: Records> Station<R> {
     ) -> Result<Answer, StoreFault>
         ensures taken { TakesEvent agreements.now event (λ a. a) (R.shows self.old) (R.shows self.new) result }
         ensures of_head { TakesHead agreements.now event Http self.old self.new result }
-        ensures submitted { RefusesSubmit agreements.now event self.old self.new result }
+        ensures submitted { RefusesSubmit agreements.now event Refused self.old self.new result }
     {
         match event {
             Event::Post { head, body, moment } => {
@@ -124,32 +199,39 @@ impl<R: Records> Station<R> {
                 partner,
                 content,
                 moment,
-            } => submit(
-                &mut self.records,
-                alloc,
-                agreements,
-                organization,
-                partner,
-                content,
-                moment,
-            ),
+            } => {
+                let document = NewDocument {
+                    organization,
+                    partner,
+                    content,
+                };
+                Ok(said_to_submit(self.submit(alloc, agreements, document, moment)?))
+            }
             Event::Begin { number, moment } => {
-                begin(&mut self.records, alloc, agreements, number, moment)
+                let what = Next::Document(number);
+                Ok(said_to_begin(self.begin(alloc, agreements, what, moment)?))
             }
             Event::Outcome {
                 number,
                 answer,
                 moment,
-            } => close(&mut self.records, alloc, agreements, number, answer, moment),
+            } => {
+                let what = Next::Document(number);
+                Ok(said_to_outcome(self.close(alloc, agreements, what, answer, moment)?))
+            }
             Event::BeginMdn { number, moment } => {
-                begin_mdn(&mut self.records, alloc, agreements, number, moment)
+                let what = Next::Receipt(number);
+                Ok(said_to_begin(self.begin(alloc, agreements, what, moment)?))
             }
             Event::OutcomeMdn {
                 number,
                 answer,
                 moment,
-            } => close_mdn(&mut self.records, alloc, agreements, number, answer, moment),
-            Event::Tick { moment } => tick(&mut self.records, moment),
+            } => {
+                let what = Next::Receipt(number);
+                Ok(said_to_outcome(self.close(alloc, agreements, what, answer, moment)?))
+            }
+            Event::Tick { moment } => Ok(Answer::Ticked(self.tick(agreements, moment)?)),
         }
     }
 

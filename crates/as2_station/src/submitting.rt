@@ -1,15 +1,16 @@
 //! Documents that are handed in for a partner: each gets the next number.
-ghost use Rattle.std.specs.Prelude.{◌≡◌, None, Some, Ok, is_none, true};
+ghost use Rattle.std.specs.Prelude.{◌≡◌, None, Some, Ok, Err, is_none, true};
 ghost use Rattle.as2_exchange.specs.Documents.{submit};
-ghost use Rattle.as2_exchange.specs.declared.answer.Answer.TheVariants.{Refused};
 ghost use Rattle.as2_exchange.specs.declared.answer.Refusal.{Refusal as TheRefusal};
 ghost use Rattle.as2_mdn.specs.declared.detail.Detail.TheVariants.{New};
 ghost use Rattle.as2_exchange.specs.declared.attempt.Attempt.TheVariants.{Idle};
 ghost use Rattle.as2_station.specs.Heads.{submit_refusal};
+ghost use Rattle.as2_station.specs.Said.{said_to_submit};
 ghost use Rattle.as2_station.specs.Steps.{Does, always};
 
+use crate::said::{NewDocument, Submitted};
 use as2_agreement::Agreements;
-use as2_exchange::{Answer, Attempt, CONTENT_LIMIT, OutEntry, Refusal, StoreFault};
+use as2_exchange::{Attempt, CONTENT_LIMIT, OutEntry, Refusal, StoreFault};
 use as2_mdn::Detail;
 use as2_mic::Pieces;
 use as2_posts::out_id;
@@ -70,20 +71,23 @@ pub fn submit<R: Records>(
     records: &mut R,
     alloc: Global,
     agreements: &Agreements,
-    organization: AsName,
-    partner: AsName,
-    content: Pieces,
+    document: NewDocument,
     moment: Moment,
-) -> Result<Answer, StoreFault>
-    ensures taken { Does (λ s. submit agreements.now s organization partner content moment) always (is_none (submit_refusal agreements.now organization partner content) ≡ true) (λ a. a) (R.shows records.old) (R.shows records.new) result }
-    ensures refused { (reason : TheRefusal) → submit_refusal agreements.now organization partner content ≡ Some reason → result ≡ Ok (Refused reason) }
-    ensures same { (reason : TheRefusal) → submit_refusal agreements.now organization partner content ≡ Some reason → records.new ≡ records.old }
+) -> Result<Submitted, StoreFault>
+    ensures taken { Does (λ s. submit agreements.now s document.organization document.partner document.content moment) always (is_none (submit_refusal agreements.now document.organization document.partner document.content) ≡ true) said_to_submit (R.shows records.old) (R.shows records.new) result }
+    ensures refused { (reason : TheRefusal) → submit_refusal agreements.now document.organization document.partner document.content ≡ Some reason → result ≡ Ok (Err reason) }
+    ensures same { (reason : TheRefusal) → submit_refusal agreements.now document.organization document.partner document.content ≡ Some reason → records.new ≡ records.old }
 {
+    let NewDocument {
+        organization,
+        partner,
+        content,
+    } = document;
     if let Some(reason) = refusal_of(agreements, &organization, &partner, &content) {
-        return Ok(Answer::Refused(reason));
+        return Ok(Err(reason));
     }
     let number = records.next_numbers()?.document;
     let id = out_id(alloc, agreements, number)?;
     records.add_out(&new_document(number, organization, partner, id, content, moment))?;
-    Ok(Answer::Submitted(number))
+    Ok(Ok(number))
 }

@@ -1,7 +1,7 @@
 //! Texts of what is listed and shown.
 ghost use Rattle.std.specs.Prelude.{◌≡◌, ◌++◌, IfOk, IfErr, string_bytes, true};
 ghost use Rattle.std.specs.List.{filter, flat_map};
-ghost use Rattle.as2_exchange.specs.Views.{shown_words};
+ghost use Rattle.as2_views.specs.Texts.{shown_words};
 ghost use Rattle.as2_records.specs.Standing.{may_come};
 ghost use Rattle.as2_views.specs.Counting.{counts_text};
 ghost use Rattle.as2_views.specs.Lists.{Rise, is_outstanding, marked_line};

@@ -5,12 +5,14 @@ ghost use Rattle.as2_exchange.specs.Documents.{begun, waits};
 ghost use Rattle.as2_exchange.specs.State.{document};
 ghost use Rattle.as2_exchange.specs.Step.{on_document};
 ghost use Rattle.as2_exchange.specs.Tries.{is_early};
+ghost use Rattle.as2_station.specs.Said.{said_to_begin};
 ghost use Rattle.as2_station.specs.Steps.{Does, always};
 ghost use Rattle.as2_station.specs.Trying.{tried, try_refusal};
 
 use crate::agreed::agreed_partner;
+use crate::said::Begun;
 use as2_agreement::{Agreements, Partner};
-use as2_exchange::{Answer, Attempt, OutEntry, Refusal, StoreFault};
+use as2_exchange::{Attempt, OutEntry, Refusal, StoreFault};
 use as2_mdn::Detail;
 use as2_posts::document_job;
 use as2_records::{Progress, Records};
@@ -80,16 +82,16 @@ fn begin_found<R: Records>(
     agreements: &Agreements,
     entry: &OutEntry,
     moment: Moment,
-) -> Result<Answer, StoreFault>
+) -> Result<Begun, StoreFault>
     requires open { (R.shows records.old).IsClean → IsTrue (R.shows records.old).is_open }
-    ensures taken { Does (λ s. Some (on_document s entry.now.number (begun agreements.now moment))) (λ s. document s entry.now.number ≡ Some entry.now) (true ≡ true) (λ a. a) (R.shows records.old) (R.shows records.new) result }
+    ensures taken { Does (λ s. Some (on_document s entry.now.number (begun agreements.now moment))) (λ s. document s entry.now.number ≡ Some entry.now) (true ≡ true) said_to_begin (R.shows records.old) (R.shows records.new) result }
 {
     let partner = match agreed_partner(agreements, &entry.organization, &entry.partner) {
         Ok(partner) => partner,
-        Err(reason) => return Ok(Answer::Refused(reason)),
+        Err(reason) => return Ok(Err(reason)),
     };
     if let Some(reason) = try_refusal(partner, entry, moment) {
-        return Ok(Answer::Refused(reason));
+        return Ok(Err(reason));
     }
     let progress = tried(partner, entry, moment);
     let job = document_job(
@@ -101,7 +103,7 @@ fn begin_found<R: Records>(
         &entry.content,
     )?;
     records.set_out(entry.number, progress)?;
-    Ok(Answer::Job(job))
+    Ok(Ok(job))
 }
 
 /// Begins a try of the document of this number.
@@ -111,11 +113,11 @@ pub fn begin<R: Records>(
     agreements: &Agreements,
     number: u64,
     moment: Moment,
-) -> Result<Answer, StoreFault>
-    ensures taken { Does (λ s. Some (on_document s number (begun agreements.now moment))) always (true ≡ true) (λ a. a) (R.shows records.old) (R.shows records.new) result }
+) -> Result<Begun, StoreFault>
+    ensures taken { Does (λ s. Some (on_document s number (begun agreements.now moment))) always (true ≡ true) said_to_begin (R.shows records.old) (R.shows records.new) result }
 {
     match records.find_out(alloc, number)? {
         Some(document) => begin_found(records, alloc, agreements, &document, moment),
-        None => Ok(Answer::Refused(Refusal::NoSuchNumber)),
+        None => Ok(Err(Refusal::NoSuchNumber)),
     }
 }

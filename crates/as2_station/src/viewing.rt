@@ -1,6 +1,6 @@
 //! What is seen of the records: listings, what is outstanding, one document in full, the content of a received one.
 ghost use Rattle.std.specs.Prelude.{◌≡◌, IfErr, option_map, string_bytes, true};
-ghost use Rattle.as2_exchange.specs.Views.{fetch, list_in, list_out, outstanding, show};
+ghost use Rattle.as2_views.specs.Texts.{fetch, list_in, list_out, outstanding, show};
 ghost use Rattle.as2_records.specs.Calls.{Reads};
 ghost use Rattle.as2_records.specs.Listing.{listed, settled_numbers};
 ghost use Rattle.as2_records.specs.Standing.{may_come};

@@ -7,7 +7,7 @@ use Rattle.as2_mdn.specs.declared.detail.Detail.{Detail}
 use Rattle.as2_mdn.specs.declared.detail.Detail.TheVariants.{New, Sending, Awaiting, Retry, Processed, NoReceiptAsked, Warning, NoMic, UnknownMic, NotProcessed, ErrorModifier, MicDiffers, TriesUsed, Overdue}
 use Rattle.as2_exchange.specs.State.{State}
 use Rattle.as2_exchange.specs.Tries.{is_due}
-use Rattle.as2_exchange.specs.Views.{due_documents, due_receipts, is_due_document, is_due_receipt, may_begin, mdn_may_begin}
+use Rattle.as2_exchange.specs.Due.{due_documents, due_receipts, is_due_document, is_due_receipt, may_begin, mdn_may_begin}
 use Rattle.as2_exchange.specs.declared.attempt.Attempt.{Attempt}
 use Rattle.as2_exchange.specs.declared.attempt.Attempt.TheVariants.{Idle, Running, Last, Used}
 use Rattle.as2_exchange.specs.declared.inbox.InEntry.{InEntry}

@@ -22,7 +22,7 @@ use Rattle.sql_tables.proofs.Inside.{shown_open}
 use Rattle.sql_tables.proofs.Queries.{by_number, numbers_at_least, numbers_at_most, numbers_below, numbers_equal, null_at_most, none_passes, shows_entries}
 use Rattle.as2_exchange.specs.State.{State, end_of_numbers}
 use Rattle.as2_exchange.specs.Tries.{is_due}
-use Rattle.as2_exchange.specs.Views.{least, smaller}
+use Rattle.as2_exchange.specs.Due.{least, smaller}
 use Rattle.as2_exchange.specs.declared.inbox.InEntry.{InEntry}
 use Rattle.as2_exchange.specs.declared.outbox.OutEntry.{OutEntry}
 use Rattle.as2_exchange.proofs.Lists.{all_weaken}

@@ -34,4 +34,4 @@ mod Unsettled
 mod SetTables
 mod PassedDocuments
 mod PassedTables
-mod Single
+pub mod Single

@@ -25,7 +25,7 @@ use Rattle.as2_store.specs.Adding.{noted_rows}
 use Rattle.as2_store.specs.Requeuing.{HoldsWaiting, Renewed}
 use Rattle.as2_store.specs.Settling.{without_document}
 use Rattle.as2_store.specs.Progressing.{waits_at}
-use Rattle.as2_records.specs.Progressing.{come_to, set_in}
+use Rattle.as2_records.specs.Progressing.{come_to, set_out_in}
 use Rattle.as2_store.proofs.Statements.{out_set_text}
 use Rattle.as2_store.proofs.Texts.{number_terms, set_project, out_set_is, out_set_plain}
 use Rattle.as2_store.proofs.ForeignKeys.{quiet}
@@ -85,7 +85,7 @@ pub comes_further : {S : Type 0} (g : Ghosts S) (old : Held S) (one last : Conne
     → (HasCleanDisk one → (s : State) → Stands (state g old).now s
     → Changed (state g (record old { in_transaction = true })) one store_schema outbox_tree (map out_row (change_document s w (come_to p)).outbox) × (count ≡ length (filter (λ (d : OutEntry). d.number == w) s.outbox)))
     → (HasCleanDisk last → (ws : List WaitingRow) → HoldsWaiting one.now ws → Renewed one last (noted_rows (waits_at w p) (map waiting_row (without_document w ws))))
-    → HasCleanDisk last → FollowsEach g old last (set_in n p)
+    → HasCleanDisk last → FollowsEach g old last (set_out_in n p)
 comes_further g old one last n w p beyond within count some was opened set renewed clean =
     let begun = state g (record old { in_transaction = true }) in
     record {
@@ -98,10 +98,10 @@ comes_further g old one last n w p beyond within count some was opened set renew
           let place = split out_number w s.outbox (numbers_rise out_number s.next_out s.outbox stood.documents.1) many in
           let waits : HoldsWaiting one.now (all_waiting s) = record { schema = first.0.schema_is; rows = first.0.others.1.1.1.1.1.1.0 (λ e. omega arith) ∙ stood.entries.waits; in_order = places_in_order begun.now s stood } in
           let stands = stands_set begun one last s w p stood place first.0 (renewed clean (all_waiting s) waits) in
-          subst (λ k. (t : State) × (set_in k p s ≡ Some t) × Stands last.now t) (same_number (given begun s w found.0 stood found.1)) (change_document s w (come_to p), found_next s w p found.0 found.1, stands);
+          subst (λ k. (t : State) × (set_out_in k p s ≡ Some t) × Stands last.now t) (same_number (given begun s w found.0 stood found.1)) (change_document s w (come_to p), found_next s w p found.0 found.1, stands);
     }
   where
-    found_next : (s : State) (k : ℕ) (p : Progress) (d : OutEntry) → document s k ≡ Some d → set_in k p s ≡ Some (change_document s k (come_to p))
+    found_next : (s : State) (k : ℕ) (p : Progress) (d : OutEntry) → document s k ≡ Some d → set_out_in k p s ≡ Some (change_document s k (come_to p))
     found_next s k p d found = rw found refl
 
     same_number : w < end_of_numbers → w ≡ n

@@ -13,7 +13,7 @@ use Rattle.as2_mdn.specs.declared.detail.Detail.TheVariants.{New, Sending, Await
 use Rattle.as2_mdn.specs.declared.detail.State.{State as StateOf}
 use Rattle.as2_mdn.specs.declared.detail.State.TheVariants.{P, R, S, W, E}
 use Rattle.as2_exchange.specs.State.{State}
-use Rattle.as2_exchange.specs.Views.{is_in, same_state}
+use Rattle.as2_exchange.specs.Progress.{is_in, same_state}
 use Rattle.as2_exchange.specs.declared.outbox.OutEntry.{OutEntry}
 use Rattle.as2_rows.specs.Codes.{detail_code}
 use Rattle.as2_rows.specs.Rows.{out_row, out_shown}

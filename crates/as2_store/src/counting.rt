@@ -4,7 +4,7 @@ ghost use Rattle.std.specs.Prelude.{◌≡◌, false, ℕ, List, count_by, map, 
 ghost use Rattle.sqlite.specs.Held.{state};
 ghost use Rattle.as2_exchange.specs.OwedReceipts.{is_pending};
 ghost use Rattle.as2_exchange.specs.State.{State};
-ghost use Rattle.as2_exchange.specs.Views.{same_state};
+ghost use Rattle.as2_exchange.specs.Progress.{same_state};
 ghost use Rattle.as2_mdn.specs.Details.{state_of};
 ghost use Rattle.as2_mdn.specs.declared.detail.Detail.{Detail as DetailOf};
 ghost use Rattle.as2_exchange.specs.declared.inbox.MdnState.{MdnState as MdnStateOf};

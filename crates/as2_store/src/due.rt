@@ -2,7 +2,7 @@
 
 ghost use Rattle.std.specs.Prelude.{◌≡◌, [], false, Option, ℕ, IfOk};
 ghost use Rattle.sqlite.specs.Held.{state};
-ghost use Rattle.as2_exchange.specs.Views.{least};
+ghost use Rattle.as2_exchange.specs.Due.{least};
 ghost use Rattle.as2_rows.specs.Waiting.{kind_code};
 ghost use Rattle.as2_store.specs.Calls.{Reads};
 ghost use Rattle.as2_store.specs.Due.{due_numbers, number_rows};

@@ -10,7 +10,7 @@ ghost use Rattle.as2_rows.specs.Rows.{out_row};
 ghost use Rattle.as2_store.specs.Tables.{store_schema, outbox_tree};
 ghost use Rattle.as2_store.specs.Stands.{Stands};
 ghost use Rattle.as2_store.specs.Progressing.{FitsProgress};
-ghost use Rattle.as2_records.specs.Progressing.{come_to, set_in};
+ghost use Rattle.as2_records.specs.Progressing.{come_to, set_out_in};
 
 use crate::numbers::{asked, whole, whole_or_none};
 use crate::waiting::wait_for;
@@ -52,7 +52,7 @@ pub fn set<S: Alter>(conn: &mut Connection<S>, number: u64, progress: Progress) 
     requires autocommit { conn.old.in_transaction ≡ false }
     requires fits { FitsProgress progress }
     ensures autocommit { conn.new.in_transaction ≡ false }
-    ensures set { Writes (set_in number progress) (state S.Store conn.old) (state S.Store conn.new) result }
+    ensures set { Writes (set_out_in number progress) (state S.Store conn.old) (state S.Store conn.new) result }
 {
     let wanted = asked(number);
     let mut tx = conn.transaction();

@@ -4,7 +4,7 @@ ghost use Rattle.std.specs.Prelude.{◌≡◌, ◌⊎◌, ◌<◌, ◌≤◌, �
 ghost use Rattle.sqlite.specs.Held.{state};
 ghost use Rattle.sqlite.specs.State.{HasCleanDisk};
 ghost use Rattle.as2_exchange.specs.State.{State, empty, end_of_numbers, document, document_named, received};
-ghost use Rattle.as2_exchange.specs.Views.{due_documents, due_receipts, least};
+ghost use Rattle.as2_exchange.specs.Due.{due_documents, due_receipts, least};
 ghost use Rattle.as2_exchange.specs.declared.fault.StoreFault.TheVariants.{Full};
 ghost use Rattle.as2_records.specs.Summaries.{in_summary};
 ghost use Rattle.as2_records.specs.Counting.{counts_of};
@@ -16,7 +16,7 @@ ghost use Rattle.as2_records.specs.Expiring.{ticked_in};
 ghost use Rattle.as2_store.specs.Finding.{evidence_at};
 ghost use Rattle.as2_records.specs.Finding.{AreNext, IsPostedAs};
 ghost use Rattle.as2_records.specs.Owing.{set_mdn_in};
-ghost use Rattle.as2_records.specs.Progressing.{set_in};
+ghost use Rattle.as2_records.specs.Progressing.{set_out_in};
 ghost use Rattle.as2_records.specs.Requeuing.{requeued_in};
 ghost use Rattle.as2_records.specs.Settling.{settled_in};
 ghost use Rattle.as2_records.specs.Standing.{may_come};
@@ -119,11 +119,12 @@ impl<S: Alter> Store<S> {
     }
 
     /// Adds an entry to the inbox under the next number of a receipt, as `next_numbers` gives it. Answers Full exactly where the
-    /// number is past 999,999,999,999; Refused where it isn't the next; Memory, Disk or Refused. A fault leaves the state.
+    /// number is past 999,999,999,999, and then touches nothing; Refused where it isn't the next; Memory, Disk or Refused. A fault leaves the state.
     pub fn add_in(&mut self, entry: &InEntry) -> Result<(), StoreFault>
         ensures added { Writes (added entry.now) (state S.Store self.old) (state S.Store self.new) result }
         ensures full { IfErr result (λ f. f ≡ Full → end_of_numbers ≤ entry.now.number) }
         ensures full_alone { end_of_numbers ≤ entry.now.number → result ≡ Err Full }
+        ensures full_same { end_of_numbers ≤ entry.now.number → self.new ≡ self.old }
         ensures fault { IfErr result (λ f. (f ≡ Full) ⊎ (may_come f ≡ true)) }
     {
         if entry.number >= END_OF_NUMBERS {
@@ -136,13 +137,14 @@ impl<S: Alter> Store<S> {
     }
 
     /// Adds a document that no receipt has settled to the outbox under the next number of a document, as `next_numbers` gives it.
-    /// Answers Full exactly where the number is past 999,999,999,999; Refused where it isn't the next, or another document has
-    /// an identifier of its value; Memory, Disk or Refused. A fault leaves the state.
+    /// Answers Full exactly where the number is past 999,999,999,999, and then touches nothing; Refused where it isn't the next, or
+    /// another document has an identifier of its value; Memory, Disk or Refused. A fault leaves the state.
     pub fn add_out(&mut self, entry: &OutEntry) -> Result<(), StoreFault>
         requires unsettled { entry.now.evidence ≡ None }
         ensures added { Writes (added_document entry.now) (state S.Store self.old) (state S.Store self.new) result }
         ensures full { IfErr result (λ f. f ≡ Full → end_of_numbers ≤ entry.now.number) }
         ensures full_alone { end_of_numbers ≤ entry.now.number → result ≡ Err Full }
+        ensures full_same { end_of_numbers ≤ entry.now.number → self.new ≡ self.old }
         ensures fault { IfErr result (λ f. (f ≡ Full) ⊎ (may_come f ≡ true)) }
     {
         if END_OF_NUMBERS <= entry.number {
@@ -194,7 +196,7 @@ impl<S: Alter> Store<S> {
     /// Sets how far the document of this number has come. Answers Refused where no document has the number; Memory, Disk or
     /// Refused; and then the state stays.
     pub fn set_out(&mut self, number: u64, progress: Progress) -> Result<(), StoreFault>
-        ensures set { Writes (set_in number progress) (state S.Store self.old) (state S.Store self.new) result }
+        ensures set { Writes (set_out_in number progress) (state S.Store self.old) (state S.Store self.new) result }
         ensures fault { IfErr result (λ f. may_come f ≡ true) }
     {
         if !fits_progress(progress) {

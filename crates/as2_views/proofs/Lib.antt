@@ -2,3 +2,4 @@ mod Chains
 pub mod Listings
 pub mod Marks
 mod Searching
+mod TextRows

@@ -8,7 +8,8 @@ use Rattle.as2_mdn.specs.declared.detail.State.{State as StateOf}
 use Rattle.as2_exchange.specs.Invariants.{AreNumbers}
 use Rattle.as2_exchange.specs.State.{State, is_settled}
 use Rattle.as2_exchange.specs.Tries.{is_due}
-use Rattle.as2_exchange.specs.Views.{is_in, is_under_way, list_in, list_out, outstanding}
+use Rattle.as2_exchange.specs.Progress.{is_in, is_under_way}
+use Rattle.as2_views.specs.Texts.{list_in, list_out, outstanding}
 use Rattle.as2_records.specs.Summaries.{in_summary, out_summary}
 use Rattle.as2_records.specs.Counting.{counts_of}
 use Rattle.as2_views.specs.Counting.{counts_text}

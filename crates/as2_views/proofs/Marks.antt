@@ -7,7 +7,8 @@ use Rattle.std.proofs.lemmas.Bool.Decides.{nat_tests}
 use Rattle.as2_exchange.specs.State.{is_settled}
 use Rattle.as2_exchange.specs.declared.outbox.OutEntry.{OutEntry}
 use Rattle.as2_exchange.specs.Agreement.{Text}
-use Rattle.as2_exchange.specs.Views.{is_in, out_line}
+use Rattle.as2_exchange.specs.Progress.{is_in}
+use Rattle.as2_views.specs.Texts.{out_line}
 use Rattle.as2_records.specs.declared.summaries.OutRow.{OutRow}
 use Rattle.as2_records.specs.Summaries.{out_summary}
 use Rattle.as2_views.specs.Lists.{Rise, is_one_of, marked_line}

@@ -1,7 +1,7 @@
 -- The five counts of what is outstanding, as a text.
 use Rattle.std.specs.Prelude.{◌++◌, codes}
 use Rattle.as2_exchange.specs.Agreement.{Text}
-use Rattle.as2_exchange.specs.Views.{count_line}
+use Rattle.as2_views.specs.Layout.{count_line}
 use Rattle.as2_records.specs.declared.counts.Counts.{Counts}
 
 -- a line for each

@@ -1,7 +1,7 @@
 -- The listing that is asked for.
 use Rattle.as2_exchange.specs.Agreement.{Text}
 use Rattle.as2_exchange.specs.State.{State}
-use Rattle.as2_exchange.specs.Views.{list_in, list_out}
+use Rattle.as2_views.specs.Texts.{list_in, list_out}
 use Rattle.as2_views.specs.declared.filter.Filter.{Filter}
 use Rattle.as2_views.specs.declared.filter.Filter.TheVariants.{Inbox, Outbox}
 

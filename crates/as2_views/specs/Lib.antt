@@ -1,5 +1,7 @@
 pub mod Counting
 pub mod Filtering
+pub mod Layout
 pub mod Lists
 pub mod Pieces
 pub mod RowLines
+pub mod Texts

@@ -4,7 +4,7 @@ use Rattle.std.specs.List.{AllByRecursion, list_any}
 use Rattle.as2_exchange.specs.Agreement.{Text}
 use Rattle.as2_exchange.specs.State.{State}
 use Rattle.as2_exchange.specs.Tries.{is_due}
-use Rattle.as2_exchange.specs.Views.{is_under_way}
+use Rattle.as2_exchange.specs.Progress.{is_under_way}
 use Rattle.as2_records.specs.declared.summaries.OutRow.{OutRow}
 use Rattle.as2_views.specs.RowLines.{out_row_line}
 

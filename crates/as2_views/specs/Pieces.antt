@@ -6,7 +6,7 @@ use Rattle.as2_mdn.specs.declared.detail.Detail.{Detail}
 use Rattle.as2_exchange.specs.Agreement.{Text}
 use Rattle.as2_exchange.specs.declared.outbox.OutEntry.{OutEntry}
 use Rattle.as2_exchange.specs.declared.outbox.Evidence.{Evidence}
-use Rattle.as2_exchange.specs.Views.{due_text, evidence_text, named_line, state_text}
+use Rattle.as2_views.specs.Layout.{due_text, evidence_text, named_line, state_text}
 
 -- a name and what parts it from its value
 abbrev pub label : Text → Text

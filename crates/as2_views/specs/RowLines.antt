@@ -3,7 +3,7 @@ use Rattle.std.specs.Prelude.{Bool, ◌++◌, codes, decimal}
 use Rattle.as2_mdn.specs.Details.{state_of, name_of}
 use Rattle.as2_exchange.specs.Agreement.{Text}
 use Rattle.as2_exchange.specs.Readings.{is_processed}
-use Rattle.as2_exchange.specs.Views.{from_to, kept_mark, left_in, mdn_mark, processed_mark, right_in, state_text}
+use Rattle.as2_views.specs.Layout.{from_to, kept_mark, left_in, mdn_mark, processed_mark, right_in, state_text}
 use Rattle.as2_records.specs.declared.summaries.InRow.{InRow}
 use Rattle.as2_records.specs.declared.summaries.OutRow.{OutRow}
 

@@ -1,6 +1,6 @@
 //! The counts of what is outstanding.
 ghost use Rattle.std.specs.Prelude.{◌≡◌, ◌++◌, OnOk};
-ghost use Rattle.as2_exchange.specs.Views.{count_line};
+ghost use Rattle.as2_views.specs.Layout.{count_line};
 ghost use Rattle.as2_views.specs.Counting.{counts_text};
 
 use crate::pieces::{add_number, add_text};

@@ -1,7 +1,8 @@
 //! One document, in full.
 ghost use Rattle.std.specs.Prelude.{◌≡◌, ◌++◌, codes, decimal, option_map, Some, OnOk};
 ghost use Rattle.as2_names.specs.Names.{spelling};
-ghost use Rattle.as2_exchange.specs.Views.{due_text, evidence_text, named_line, shown_words};
+ghost use Rattle.as2_views.specs.Layout.{due_text, evidence_text, named_line};
+ghost use Rattle.as2_views.specs.Texts.{shown_words};
 ghost use Rattle.as2_views.specs.Pieces.{label, names_text, receipt_line, size_text, standing_text, tries_text};
 
 use crate::pieces::{add_name, add_number, add_text, add_word};

@@ -2,7 +2,7 @@
 ghost use Rattle.std.specs.Prelude.{◌≡◌, ◌++◌, OnOk};
 ghost use Rattle.std.specs.List.{filter, flat_map};
 ghost use Rattle.as2_exchange.specs.Tries.{is_due};
-ghost use Rattle.as2_exchange.specs.Views.{is_under_way};
+ghost use Rattle.as2_exchange.specs.Progress.{is_under_way};
 ghost use Rattle.as2_views.specs.Lists.{Rise, is_one_of, is_outstanding, marked_line};
 ghost use Rattle.as2_views.specs.RowLines.{in_row_line};
 

@@ -2,7 +2,7 @@
 ghost use Rattle.std.specs.Prelude.{◌≡◌, ◌≤◌, ◌++◌, codes, decimal, replicate, OnOk};
 ghost use Rattle.as2_names.specs.Ascii.{space};
 ghost use Rattle.as2_names.specs.Names.{spelling};
-ghost use Rattle.as2_exchange.specs.Views.{from_to, left_in, right_in};
+ghost use Rattle.as2_views.specs.Layout.{from_to, left_in, right_in};
 
 use as2_text::AsName;
 use itoa::Buffer;

@@ -1,7 +1,7 @@
 //! Lines of rows.
 ghost use Rattle.std.specs.Prelude.{◌≡◌, ◌++◌, OnOk};
 ghost use Rattle.as2_exchange.specs.Readings.{is_processed};
-ghost use Rattle.as2_exchange.specs.Views.{kept_mark, mdn_mark, processed_mark, state_text};
+ghost use Rattle.as2_views.specs.Layout.{kept_mark, mdn_mark, processed_mark, state_text};
 ghost use Rattle.as2_views.specs.RowLines.{in_row_line, out_row_line};
 
 use crate::pieces::{add_from_to, add_left, add_right, add_text, add_word};

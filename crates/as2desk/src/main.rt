@@ -4,7 +4,7 @@
 ghost use Rattle.as2_http.specs.Devices.{Opens};
 
 use as2_connections::{Sockets, clock};
-use as2_desk::Lines;
+use as2_desk::{Console, Host, Lines};
 use as2_files::{FileSystem, InFiles, KeepFiles, OpenFiles, Starting, StoreFiles};
 use as2_host::OpenStores;
 use as2_http::Counted;
@@ -19,39 +19,51 @@ use std::process::ExitCode;
 use std::sync::ledger::{Blank, Ledger};
 use std::{env, io};
 
+/// Counts of a stream that aren't opened yet: of its calls, and of those that failed.
+#[derive(Drop)]
+struct Counts {
+    calls: Blank,
+    failed: Blank,
+}
+
 /// Runs the command line `words` over these stores, the file system, the network and the standard streams, with counts of the calls that are
-/// made of input and output. The stores are any, since over one kind of files this call of the desk costs the prover too much. Hints and notes of
-/// replies go to `hints`. The exit status.
-fn run<O: OpenStores, A: Ledger, B: Ledger, C: Ledger, D: Ledger>(
+/// made of input, output and errors. The stores are any, since over one kind of files this call of the desk costs the prover too much. Hints and
+/// notes of replies go to `hints`. The exit status, and the stores, since only where their kind is known can they be let go.
+fn run<O: OpenStores, A: Ledger, B: Ledger, C: Ledger, D: Ledger, E: Ledger, G: Ledger>(
     rt: &HostRuntime,
     words: &[&str],
-    stores: &mut O,
-    hints: &mut Lines<LineWriter<Stderr>>,
-    reads: Blank,
-    failed_reads: Blank,
-    writes: Blank,
-    failed_writes: Blank,
-) -> u8
-    requires reads { Opens reads.name reads.parts A.name A.parts }
-    requires failed_reads { Opens failed_reads.name failed_reads.parts B.name B.parts }
-    requires writes { Opens writes.name writes.parts C.name C.parts }
-    requires failed_writes { Opens failed_writes.name failed_writes.parts D.name D.parts }
+    stores: O,
+    hints: Lines<LineWriter<Stderr>>,
+    reads: Counts,
+    writes: Counts,
+    says: Counts,
+) -> (u8, O)
+    requires reads { Opens reads.calls.name reads.calls.parts A.name A.parts }
+    requires failed_reads { Opens reads.failed.name reads.failed.parts B.name B.parts }
+    requires writes { Opens writes.calls.name writes.calls.parts C.name C.parts }
+    requires failed_writes { Opens writes.failed.name writes.failed.parts D.name D.parts }
+    requires says { Opens says.calls.name says.calls.parts E.name E.parts }
+    requires failed_says { Opens says.failed.name says.failed.parts G.name G.parts }
 {
-    let mut input: Counted<Stdin, A, B> = Counted::new(rt.stdin(), reads, failed_reads);
-    let mut output: Counted<Stdout, C, D> = Counted::new(rt.stdout(), writes, failed_writes);
-    let ran = as2_desk::run(
-        rt.alloc(),
-        words,
-        clock(rt),
-        &FileSystem { rt },
-        stores,
-        &Sockets { rt },
-        &mut input,
-        &mut output,
+    let mut console: Console<
+        Counted<Stdin, A, B>,
+        Counted<Stdout, C, D>,
+        Lines<LineWriter<Stderr>>,
+        Counted<Stderr, E, G>,
+    > = Console {
+        input: Counted::new(rt.stdin(), reads.calls, reads.failed),
+        output: Counted::new(rt.stdout(), writes.calls, writes.failed),
         hints,
-        &mut rt.stderr(),
-    );
-    ran.status
+        errors: Counted::new(rt.stderr(), says.calls, says.failed),
+    };
+    let mut host = Host {
+        files: FileSystem { rt },
+        stores,
+        network: Sockets { rt },
+    };
+    let ran = as2_desk::run(rt.alloc(), words, clock(rt), &mut host, &mut console);
+    let Host { stores, .. } = host;
+    (ran.status, stores)
 }
 
 /// Runs the command line `words` over the stores that `keeper` opens. It is any one, so that this call and the next are two steps for the prover.
@@ -59,19 +71,28 @@ fn run_over_stores<R: Records + Drop, K: KeepFiles<R> + Drop>(
     rt: &HostRuntime,
     words: &[&str],
     keeper: K,
-    hints: &mut Lines<LineWriter<Stderr>>,
+    hints: Lines<LineWriter<Stderr>>,
 ) -> u8 {
-    let mut stores: StoreFiles<'_, R, K> = StoreFiles::new(FileSystem { rt }, keeper);
-    run::<StoreFiles<'_, R, K>, Brand, Brand, Brand, Brand>(
+    let stores: StoreFiles<'_, R, K> = StoreFiles::new(FileSystem { rt }, keeper);
+    let (status, _stores) = run::<StoreFiles<'_, R, K>, Brand, Brand, Brand, Brand, Brand, Brand>(
         rt,
         words,
-        &mut stores,
+        stores,
         hints,
-        Blank::new(1),
-        Blank::new(1),
-        Blank::new(1),
-        Blank::new(1),
-    )
+        Counts {
+            calls: Blank::new(1),
+            failed: Blank::new(1),
+        },
+        Counts {
+            calls: Blank::new(1),
+            failed: Blank::new(1),
+        },
+        Counts {
+            calls: Blank::new(1),
+            failed: Blank::new(1),
+        },
+    );
+    status
 }
 
 /// Runs the command line `words` over stores in SQLite's files, on any disk, which `keeper` opens.
@@ -79,7 +100,7 @@ fn run_over_kept<D: Disk + Drop, K: KeepFiles<Kept<FileStore<D>>> + Drop>(
     rt: &HostRuntime,
     words: &[&str],
     keeper: K,
-    hints: &mut Lines<LineWriter<Stderr>>,
+    hints: Lines<LineWriter<Stderr>>,
 ) -> u8 {
     run_over_stores::<Kept<FileStore<D>>, K>(rt, words, keeper, hints)
 }
@@ -89,7 +110,7 @@ fn run_over_files<F: OpenFiles + Drop>(
     rt: &HostRuntime,
     words: &[&str],
     opener: F,
-    hints: &mut Lines<LineWriter<Stderr>>,
+    hints: Lines<LineWriter<Stderr>>,
 ) -> u8 {
     run_over_kept::<F::Disk, InFiles<F>>(rt, words, InFiles { opener }, hints)
 }
@@ -107,14 +128,9 @@ fn main(rt: HostRuntime) -> io::Result<ExitCode> {
     for word in &words {
         texts.push(word.as_str())?;
     }
-    let mut hints = Lines {
+    let hints = Lines {
         inner: LineWriter::new(rt.alloc(), rt.stderr())?,
     };
-    let status = run_over_files(
-        &rt,
-        texts.as_slice(),
-        Starting { start: Unknown },
-        &mut hints,
-    );
+    let status = run_over_files(&rt, texts.as_slice(), Starting { start: Unknown }, hints);
     Ok(ExitCode::from(status))
 }

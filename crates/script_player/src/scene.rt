@@ -31,4 +31,7 @@ pub trait Runs {
 
     /// What the last command line left of standard input: bytes of the part that was read last, and parts behind it.
     fn unread(&self) -> (usize, usize);
+
+    /// What the last command line gave to the network, in lines.
+    fn given_to_network(&self) -> &[u8];
 }

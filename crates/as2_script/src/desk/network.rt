@@ -1,4 +1,4 @@
-//! A network in memory, by the texts `connections`, `partner-reply` and `link-fault`.
+//! A network in memory, by the texts `connections`, `partner-reply` and `link-fault`. It notes what it is given.
 use as2_agreement::Agreements;
 use as2_commands::Waits;
 use as2_exchange::{Job, TryAnswer};
@@ -9,8 +9,9 @@ use as2_records::Records;
 use as2_sending::{LinkFault, Links};
 use as2_station::Station;
 use as2_text::{Head, Memory, Moment};
-use script_lines::{Settings, Trouble, bytes_of, number_in};
+use script_lines::{Answer, Settings, Trouble, bytes_of, number_in};
 use std::alloc::Global;
+use std::cell::RefCell;
 use std::str;
 
 /// A network in memory.
@@ -19,13 +20,41 @@ pub struct Peers<'a> {
     settings: &'a Settings,
     /// How the connections end that come, each without a request. Where there are none, no address can be listened on.
     ends: &'a str,
+    /// The wait of a listener or of links, in seconds.
+    wait: u64,
+    /// What was given: an address to listen at, or the partner of a request with the request behind it, each with its wait.
+    given: &'a RefCell<Answer>,
 }
 
 impl<'a> Peers<'a> {
-    pub fn new(settings: &'a Settings) -> Peers<'a> {
+    pub fn new(settings: &'a Settings, given: &'a RefCell<Answer>) -> Peers<'a> {
         Peers {
             settings,
             ends: settings.text("connections").unwrap_or(""),
+            wait: 0,
+            given,
+        }
+    }
+
+    /// The same, with this wait.
+    fn waiting(&self, waits: Waits) -> Peers<'a> {
+        Peers {
+            settings: self.settings,
+            ends: self.ends,
+            wait: waits.seconds,
+            given: self.given,
+        }
+    }
+
+    /// Notes what is given.
+    fn note(&self, verb: &str, place: &[u8], bytes: &[u8]) {
+        if let Ok(mut given) = self.given.try_borrow_mut() {
+            given.say(verb);
+            given.say_bytes(place);
+            given.say(", wait ");
+            given.say_number(self.wait);
+            given.say(" s\n");
+            given.say_bytes(bytes);
         }
     }
 }
@@ -118,7 +147,8 @@ impl Links for Peers<'_> {
 
     ghost answers = { λ _ _ _ _. ⊤ };
 
-    fn exchange(&mut self, alloc: Global, _job: &Job) -> TryAnswer {
+    fn exchange(&mut self, alloc: Global, job: &Job) -> TryAnswer {
+        self.note("to ", job.authority.as_slice(), job.bytes.as_slice());
         match self.settings.text("partner-reply") {
             Some(text) => reply_of(alloc, text).unwrap_or(TryAnswer::NoAnswer),
             None => TryAnswer::NoAnswer,
@@ -159,16 +189,18 @@ impl<'a> Network for Peers<'a> {
     fn listen(
         &self,
         _alloc: Global,
-        _address: &str,
-        _waits: Waits,
+        address: &str,
+        waits: Waits,
     ) -> Result<Peers<'a>, CannotListen> {
+        let peers = self.waiting(waits);
+        peers.note("at ", address.as_bytes(), b"");
         if self.ends.is_empty() {
             return Err(CannotListen);
         }
-        Ok(*self)
+        Ok(peers)
     }
 
-    fn links(&self, _waits: Waits) -> Peers<'a> {
-        *self
+    fn links(&self, waits: Waits) -> Peers<'a> {
+        self.waiting(waits)
     }
 }

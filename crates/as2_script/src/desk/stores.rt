@@ -12,6 +12,7 @@ use as2_commands::FirstNumber;
 use as2_exchange::StoreFault;
 use as2_host::{OpenFault, OpenStores};
 use as2_kept::{Kept, adopt, in_memory};
+use as2_records::Records;
 use sqlite::{Connection, MemStore};
 use std::alloc::Global;
 
@@ -52,18 +53,15 @@ fn made(alloc: Global, first: FirstNumber) -> Result<Kept<MemStore>, OpenFault>
     }
 }
 
-/// A store that was closed, opened again, unless a transaction is open in it.
-fn opened_again(records: Kept<MemStore>) -> Result<Kept<MemStore>, OpenFault>
+/// Records that were closed, opened again: they can be read. Else they are given back.
+fn opened_again(mut records: Kept<MemStore>) -> Result<Kept<MemStore>, (Kept<MemStore>, StoreFault)>
     ensures is_open { IfOk result (λ again. IsTrue (state over_memory again).is_open) }
     ensures same { IfOk result (λ again. (s : State) → Rests (state over_memory records) s → Rests (state over_memory again) s) }
+    ensures given_back { IfErr result (λ e. (s : State) → Rests (state over_memory records) s → Rests (state over_memory e.0) s) }
 {
-    let conn = records.into_connection();
-    if !conn.is_autocommit() {
-        return Err(OpenFault::Store(StoreFault::Disk));
-    }
-    match adopt(conn) {
-        Ok(records) => Ok(records),
-        Err((_, fault)) => Err(OpenFault::Store(fault)),
+    match records.next_numbers() {
+        Ok(_) => Ok(records),
+        Err(fault) => Err((records, fault)),
     }
 }
 
@@ -81,18 +79,25 @@ fn found(alloc: Global, word: &str, first: FirstNumber) -> Result<Kept<MemStore>
     }
 }
 
-/// The store that is kept, or what stands there.
+/// The store that is kept, or what stands there. What is kept is given back where it can't be opened.
 fn opened(
     alloc: Global,
     kept: Option<Kept<MemStore>>,
     word: &str,
     first: FirstNumber,
-) -> Result<Kept<MemStore>, OpenFault>
-    ensures { IfOk result (λ records. IsTrue (state over_memory records).is_open × ((s : State) → Keeps kept s → Rests (state over_memory records) s)) }
+) -> Result<Kept<MemStore>, (Option<Kept<MemStore>>, OpenFault)>
+    ensures found { IfOk result (λ records. IsTrue (state over_memory records).is_open × ((s : State) → Keeps kept s → Rests (state over_memory records) s)) }
+    ensures given_back { IfErr result (λ e. (s : State) → Keeps kept s → Keeps e.0 s) }
 {
     match kept {
-        Some(records) => opened_again(records),
-        None => found(alloc, word, first),
+        Some(records) => match opened_again(records) {
+            Ok(records) => Ok(records),
+            Err((records, fault)) => Err((Some(records), OpenFault::Store(fault))),
+        },
+        None => match found(alloc, word, first) {
+            Ok(records) => Ok(records),
+            Err(fault) => Err((None, fault)),
+        },
     }
 }
 
@@ -104,7 +109,9 @@ impl OpenStores for Stores<'_> {
 
     type InMemory = Kept<MemStore>;
 
-    ghost keeps = { λ it _. Keeps it.kept };
+    ghost keeps = { λ it path number. Keeps it.kept };
+
+    ghost fails = { λ it path fault. ⊤ };
 
     ghost is_clean = { λ _. ⊤ };
 
@@ -119,9 +126,16 @@ impl OpenStores for Stores<'_> {
         if self.has_opened {
             return Err(OpenFault::Held);
         }
-        let records = opened(alloc, self.kept.take(), self.word, first)?;
-        self.has_opened = true;
-        Ok(records)
+        match opened(alloc, self.kept.take(), self.word, first) {
+            Ok(records) => {
+                self.has_opened = true;
+                Ok(records)
+            }
+            Err((kept, fault)) => {
+                self.kept = kept;
+                Err(fault)
+            }
+        }
     }
 
     fn open_in_memory(

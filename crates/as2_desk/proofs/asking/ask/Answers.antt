@@ -8,5 +8,6 @@ returns-clause-asks g c = λ known stood. record {
   refused = c.answer-told.ensures.refused;
   fault = c.answer-told.ensures.fault;
   tells = each_known _ _ known stood (λ s it. c.answer-told.ensures.tells it.0 s it.1);
+  by_history = each_known _ _ known stood (λ s it. c.answer-told.ensures.by_history it.0 s it.1);
   prints = c.print.ensures.prints;
 }

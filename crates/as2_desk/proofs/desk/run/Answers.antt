@@ -13,30 +13,29 @@ use Rattle.as2_desk.proofs.desk.run.Goals as goal
 pub returns-in-Ok-clause-unread : goal.returns-in-Ok-clause-unread
 returns-in-Ok-clause-unread g c = λ none.
     let read = c.in-Ok.options in
-    absurd {A = (c.carry_out-done.new.input ≡ c.args.input.now) × (c.carry_out-done.new.stores ≡ c.args.stores.now)} (none read.agreements.now read.store.now read.task c.in-Ok.ensures.given)
+    absurd {A = (c.carry_out-done.new.console.input ≡ c.args.console.now.input) × (c.carry_out-done.new.host.stores ≡ c.args.host.now.stores)} (none read.agreements.now read.store.now read.task c.in-Ok.ensures.given)
 
 pub returns-in-Ok-clause-runs : goal.returns-in-Ok-clause-runs
 returns-in-Ok-clause-runs g c = λ path store task gives.
     let read = c.in-Ok.options in
-    let was = c.args.stores.now in
-    let is = c.carry_out-done.new.stores in
+    let was = c.args.host.now.stores in
+    let is = c.carry_out-done.new.host.stores in
     inl (given_one (texts c.args.words.now) c.args.clock read.agreements.now path read.store.now store read.task task
-    (λ (p b : Text) (t : Task). Runs (g.F.ReadFiles.content c.args.files.now) p t
+    (λ (p b : Text) (t : Task). Runs (g.F.ReadFiles.content c.args.host.now.files) p t
     (record {
-      input = input_of g.R.Source.left g.R.Source.calls c.args.input.now c.carry_out-done.new.input;
-      Unread = c.carry_out-done.new.input ≡ c.args.input.now;
-      outcome = outcome_of g.W.Sink.written g.E.Write.contents c.args.output.now c.carry_out-done.new.output c.args.errors.now c.carry_out-done.new.errors (Leaves b (g.O.OpenStores.keeps is b));
-      Exchanged = ExchangedOver g.N.Network.opens g.N.Links.Links.answers c.args.network.now;
-      listening = listening_of g.N.Network.listens g.N.Network.refuses g.N.Listener.Listens.bound g.N.Listener.Listens.ended c.args.network.now;
+      input = input_of g.R.Source c.args.console.now c.carry_out-done.new.console;
+      outcome = outcome_of g.W.Sink g.E.Sink c.args.console.now c.carry_out-done.new.console (Leaves b (g.O.OpenStores.keeps is b));
+      Exchanged = ExchangedOver g.N.Network.opens g.N.Links.Links.answers c.args.host.now.network;
+      listening = listening_of g.N.Network.listens g.N.Network.refuses g.N.Listener.Listens.bound g.N.Listener.Listens.ended c.args.host.now.network;
     })
-    (stored_of g.O.OpenStores.keeps g.O.OpenStores.is_clean g.O.OpenStores.opens was is b) c.carry_out-done.result)
+    (stored_of g.O.OpenStores was is b) c.carry_out-done.result)
     c.in-Ok.ensures.given gives (record { opened = c.agreements_in-agreed.result.0; opens = c.agreements_in-agreed.ensures; comes = c.carry_out-done.ensures.comes }))
 
 pub returns-in-Ok-clause-memory : goal.returns-in-Ok-clause-memory
 returns-in-Ok-clause-memory g c = λ path task gives.
     let read = c.in-Ok.options in
     given_one (texts c.args.words.now) c.args.clock read.agreements.now path read.store.now (codes ":memory:") read.task task
-    (λ (p b : Text) (t : Task). b ≡ codes ":memory:" → c.carry_out-done.new.stores ≡ c.args.stores.now)
+    (λ (p b : Text) (t : Task). b ≡ codes ":memory:" → c.carry_out-done.new.host.stores ≡ c.args.host.now.stores)
     c.in-Ok.ensures.given gives c.carry_out-done.ensures.memory refl
 
 -- here memory was wanting, since the words ask for something
@@ -56,4 +55,8 @@ returns-in-Err-clause-runs g c = λ path store task gives. elim c.tell.ensures.m
 pub returns-in-Ok-clause-none : goal.returns-in-Ok-clause-none
 returns-in-Ok-clause-none g c = λ none _.
     let read = c.in-Ok.options in
-    absurd {A = ((c.carry_out-done.result.status ≡ faulty) ⊎ (c.carry_out-done.result.status ≡ refused)) × (c.carry_out-done.new.output ≡ c.args.output.now)} (none read.agreements.now read.store.now read.task c.in-Ok.ensures.given)
+    absurd (none read.agreements.now read.store.now read.task c.in-Ok.ensures.given)
+
+-- they don't ask for the help or the version, so neither was found
+pub returns-in-Err-clause-none : goal.returns-in-Err-clause-none
+returns-in-Err-clause-none g c = λ none other. c.tell.ensures.fault (λ is_help. other (c.in-Err.ensures.help is_help))

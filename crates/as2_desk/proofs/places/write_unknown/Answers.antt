@@ -1,7 +1,7 @@
 use Rattle.std.proofs.Common.{List, ℕ, ◌++◌, codes, refl, string_bytes, subst}
 use Rattle.std.proofs.KnownBytes.{Appends-trans}
 use Rattle.std.specs.Io.KnownBytes.{Appends}
-use Rattle.as2_desk.proofs.Connecting.{behind_ok}
+use Rattle.as2_desk.proofs.Saying.{behind_ok}
 use Rattle.as2_desk.specs.Escapes.{escaped}
 use Rattle.as2_desk.proofs.places.write_unknown.Goals as goal
 

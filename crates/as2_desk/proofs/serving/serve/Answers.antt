@@ -1,12 +1,13 @@
-use Rattle.std.proofs.Common.{[], ◌∙◌, ap, inl, inr, refl, subst}
-use Rattle.std.proofs.KnownBytes.{Appends-trans}
+use Rattle.std.proofs.Common.{[], ◌∙◌, inl, inr, refl, subst, sym}
 use Rattle.as2_commands.specs.Requests.{Serving}
 use Rattle.as2_host.specs.Networks.{EndsEach, listening_of}
 use Rattle.as2_desk.proofs.HandedBack.{each_known}
 use Rattle.as2_desk.proofs.Connecting.{all_told, cut_told}
+use Rattle.as2_desk.proofs.Saying.{said_behind}
 use Rattle.as2_desk.specs.Connections.{listening_line}
 use Rattle.as2_desk.specs.Observed.{outcome_of}
 use Rattle.as2_desk.specs.Refusals.{error_line}
+use Rattle.as2_desk.specs.Written.{WritesIf, written_of}
 use Rattle.as2_desk.specs.declared.refusal.CommandFault.TheVariants.{CannotWrite}
 use Rattle.as2_desk.proofs.serving.serve.Goals as goal
 
@@ -21,14 +22,14 @@ returns-in_default-clause-serves g c = λ known stood. record {
   });
 }
 
-pub returns-in_default-address-clause-serves : goal.returns-in_default-address-clause-serves
-returns-in_default-address-clause-serves g c = λ known stood. record {
+pub returns-in_default-listening_line-clause-serves : goal.returns-in_default-listening_line-clause-serves
+returns-in_default-listening_line-clause-serves g c = λ known stood. record {
   ends = [];
   serves = each_known _ _ known stood (λ s it. (s, it.1, refl));
   told = inl (record {
     none = refl;
     unwritten = refl;
-    told = inr ((c.in-Ok.listener, subst (λ (v : Serving). g.N.Network.listens c.args.network.now v.address v.waits c.in-Ok.listener) c.serving.view_is c.in-Ok.ensures.listener), c.refuse-in_default-address.ensures.told);
+    told = inr ((c.in-Ok.listener, subst (λ (v : Serving). g.N.Network.listens c.args.network.now v.address v.waits c.in-Ok.listener) c.serving.view_is c.in-Ok.ensures.listener), c.refuse-in_default-listening_line.ensures.told);
   });
 }
 
@@ -37,27 +38,42 @@ returns-in-Ok-serve_connections-clause-serves g c = λ known stood.
     let new = g.K.Records.shows c.serve_connections.new.station in
     let first = c.in-Ok.listener in
     let last = c.serve_connections.new.listener in
-    all_told _ c.args.serving c.serving.inside.moment c.serving.inside.count known
-    (outcome_of g.W.Sink.written g.E.Write.contents c.args.output.now c.serve_connections.new.output c.args.errors.now c.says_listening-told.new.errors (λ t. new.Rests t))
+    let address = g.N.Listener.Listens.bound first in
+    let streams = c.serve_connections.ensures.streams in
+    let listened = subst (λ (v : Serving). g.N.Network.listens c.args.network.now v.address v.waits first) c.serving.view_is c.in-Ok.ensures.listener in
+    let said = subst (WritesIf c.is_said-told.result (written_of g.E.Sink c.args.console.now.errors c.is_said-told.new.errors)) (c.as_str.ensures.value ∙ c.in-Ok-listening_line.ensures) c.is_said-told.ensures.said in
+    all_told _ c.args.serving c.args.serving.moment c.args.serving.count known
+    (outcome_of g.W.Sink g.E.Sink c.args.console.now c.serve_connections.new.console (λ t. new.Rests t))
     (g.K.Records.shows c.args.station.now) new (λ ends. EndsEach g.N.Listener.Listens.ended first ends last)
-    (listening_of g.N.Network.listens g.N.Network.refuses g.N.Listener.Listens.bound g.N.Listener.Listens.ended c.args.network.now c.args.serving) _ c.as_str.result.now
-    (ap (λ (v : Serving). v.moment) c.serving.view_is) (ap (λ (v : Serving). v.count) c.serving.view_is) stood (λ t rests. rests)
-    (λ ends all. (first, last, subst (λ (v : Serving). g.N.Network.listens c.args.network.now v.address v.waits first) c.serving.view_is c.in-Ok.ensures.listener, c.as_str.ensures.value ∙ c.in-Ok-address.ensures, all))
-    c.in-Ok-serve_connections.field-0 c.in-Ok-serve_connections.ensures (record { ended = refl; said = c.says_listening-told.ensures })
+    (listening_of g.N.Network.listens g.N.Network.refuses g.N.Listener.Listens.bound g.N.Listener.Listens.ended c.args.network.now c.args.serving) _ address
+    refl refl stood (λ t rests. rests)
+    (λ ends all. (first, last, listened, refl, all))
+    c.in-Ok-serve_connections.field-0 c.in-Ok-serve_connections.ensures.serves (record {
+      ended = refl;
+      said = subst (λ (e : g.row.E.Denot). WritesIf c.is_said-told.result (written_of g.E.Sink c.args.console.now.errors e) (listening_line address)) (sym streams.1) said;
+    })
 
 pub returns-clause-serves : goal.returns-clause-serves
 returns-clause-serves g c = λ known stood.
     let new = g.K.Records.shows c.serve_connections.new.station in
     let first = c.in-Ok.listener in
     let last = c.serve_connections.new.listener in
-    cut_told _ c.args.serving c.serving.inside.moment c.serving.inside.count known
-    (outcome_of g.W.Sink.written g.E.Write.contents c.args.output.now c.serve_connections.new.output c.args.errors.now c.refuse_behind.new.errors (λ t. new.Rests t))
+    let address = g.N.Listener.Listens.bound first in
+    let streams = c.serve_connections.ensures.streams in
+    let listened = subst (λ (v : Serving). g.N.Network.listens c.args.network.now v.address v.waits first) c.serving.view_is c.in-Ok.ensures.listener in
+    let said = subst (WritesIf c.is_said-told.result (written_of g.E.Sink c.args.console.now.errors c.is_said-told.new.errors)) (c.as_str.ensures.value ∙ c.in-Ok-listening_line.ensures) c.is_said-told.ensures.said in
+    let old = c.args.console.now.errors in
+    let mid = c.is_said-told.new.errors in
+    let end = c.refuse_behind.new.errors in
+    cut_told _ c.args.serving c.args.serving.moment c.args.serving.count known
+    (outcome_of g.W.Sink g.E.Sink c.args.console.now (record c.serve_connections.new.console { errors = end }) (λ t. new.Rests t))
     (g.K.Records.shows c.args.station.now) new (λ ends. EndsEach g.N.Listener.Listens.ended first ends last)
-    (listening_of g.N.Network.listens g.N.Network.refuses g.N.Listener.Listens.bound g.N.Listener.Listens.ended c.args.network.now c.args.serving) _ c.as_str.result.now
-    (ap (λ (v : Serving). v.moment) c.serving.view_is) (ap (λ (v : Serving). v.count) c.serving.view_is) stood (λ t rests. rests)
-    (λ ends all. (first, last, subst (λ (v : Serving). g.N.Network.listens c.args.network.now v.address v.waits first) c.serving.view_is c.in-Ok.ensures.listener, c.as_str.ensures.value ∙ c.in-Ok-address.ensures, all))
-    c.serve_connections.result c.serve_connections.ensures (record {
+    (listening_of g.N.Network.listens g.N.Network.refuses g.N.Listener.Listens.bound g.N.Listener.Listens.ended c.args.network.now c.args.serving) _ address
+    refl refl stood (λ t rests. rests)
+    (λ ends all. (first, last, listened, refl, all))
+    c.in-Err.field-0 c.in-Err.ensures.serves (record {
       ended = c.refuse_behind.ensures.status;
-      said = λ told. let both = c.refuse_behind.ensures.told told in
-          Appends-trans _ _ _ (listening_line c.as_str.result.now) (error_line CannotWrite) (c.says_listening-told.ensures both.0) both.1;
+      said = said_behind g.E.Sink old mid end (listening_line address) (error_line CannotWrite) c.is_said-told.result c.refuse_behind.result.told said c.is_said-told.ensures.counted
+          (λ is. subst (λ (e : g.row.E.Denot). WritesIf c.refuse_behind.result.told (written_of g.E.Sink e end) (error_line CannotWrite)) streams.1 (c.refuse_behind.ensures.told is))
+          (λ is. let none = c.refuse_behind.ensures.untold is in (none.0, none.1 ∙ streams.1));
     })

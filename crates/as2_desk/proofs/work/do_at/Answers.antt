@@ -10,10 +10,11 @@ returns-in-Post-clause-does g c = rw c.in-Post.is (λ known stood. (c.post.ensur
 pub returns-in-Send-clause-does : goal.returns-in-Send-clause-does
 returns-in-Send-clause-does g c = rw c.in-Send.is (λ known stood.
     let it = c.send_due.ensures.sends known stood in (
-      refl,
+      c.send_due.ensures.unread,
       record {
         end = it.end;
         sends = each_known _ _ known it.sends (λ s w. (w.0, w.1, unhinted _ _ _ _ _ _ _ _ _ (λ text made all. (c.links-links.result, c.send_due.new.links, c.links-links.ensures, all)) w.2));
+        unwritten = it.unwritten;
         told = it.told;
       },
     ))

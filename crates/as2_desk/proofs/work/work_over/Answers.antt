@@ -1,7 +1,11 @@
-use Rattle.std.proofs.Common.{◌≡◌, ◌+◌, ◌∙◌, Bool, true, false, refl, sym, subst, arith}
+use Rattle.std.proofs.Common.{◌≡◌, ◌+◌, ◌∙◌, ℕ, Bool, true, false, List, Result, Ok, Err, IfErr, refl, sym, subst, arith}
 use Rattle.std.specs.Bool.{⊤}
 use Rattle.as2_host.specs.Networks.{ExchangedOver, listening_of}
-use Rattle.as2_exchange.specs.State.{empty}
+use Rattle.as2_host.specs.Stores.{fault_in}
+use Rattle.as2_host.specs.declared.stores.OpenFault.{OpenFault}
+use Rattle.as2_host.specs.declared.stores.OpenStores.{Ghosts as Stores}
+use Rattle.as2_records.specs.Standing.{may_come}
+use Rattle.as2_exchange.specs.State.{State, empty}
 use Rattle.as2_desk.proofs.Opening.{each_left, goes_in_memory, goes_kept}
 use Rattle.as2_desk.specs.Observed.{input_of, outcome_of, stored_of}
 use Rattle.as2_desk.specs.Stores.{ByPlace, Leaves, is_in_memory, opens_at}
@@ -10,48 +14,58 @@ use Rattle.as2_desk.proofs.work.work_over.Goals as goal
 -- the store is in memory
 pub returns-then-eq-clause-goes : goal.returns-then-eq-clause-goes
 returns-then-eq-clause-goes g c =
-    let path = c.args.path.now in
-    let first = c.args.options.first in
-    let stores = c.args.stores.now in
+    let path = c.args.store.path.now in
+    let first = c.args.store.first in
+    let stores = c.args.host.now.stores in
     let opens = g.O.OpenStores.opens stores in
     let is : is_in_memory path ≡ true = sym c.eq.ensures ∙ c.if-eq.true in
-    goes_in_memory g.O.InMemory.Records.shows c.args.agreements.now c.args.options c.args.work
+    goes_in_memory g.O.InMemory.Records.shows c.args.terms.now.agreements.now (record { first = c.args.store.first; moment = c.args.terms.now.moment }) c.args.work
     (record {
-      input = input_of g.R.Source.left g.R.Source.calls c.args.input.now c.do_over.new.input;
-      Unread = c.do_over.new.input ≡ c.args.input.now;
-      outcome = outcome_of g.W.Sink.written g.E.Write.contents c.args.output.now c.do_over.new.output c.args.errors.now c.do_over.new.errors (Leaves path (g.O.OpenStores.keeps stores path));
-      Exchanged = ExchangedOver g.N.Network.opens g.N.Links.Links.answers c.args.network.now;
-      listening = listening_of g.N.Network.listens g.N.Network.refuses g.N.Listener.Listens.bound g.N.Listener.Listens.ended c.args.network.now;
+      input = input_of g.R.Source c.args.console.now c.do_over.new.console;
+      outcome = outcome_of g.W.Sink g.E.Sink c.args.console.now c.do_over.new.console (Leaves path (g.O.OpenStores.keeps stores path));
+      Exchanged = ExchangedOver g.N.Network.opens g.N.Links.Links.answers c.args.host.now.network;
+      listening = listening_of g.N.Network.listens g.N.Network.refuses g.N.Listener.Listens.bound g.N.Listener.Listens.ended c.args.host.now.network;
     })
-    (stored_of g.O.OpenStores.keeps g.O.OpenStores.is_clean g.O.OpenStores.opens stores stores path)
-    c.do_over.result.0 c.do_over.result.1 c.open_in_memory-records.result c.open_in_memory-records.ensures c.do_over.ensures.fails c.do_over.ensures.does is
-    refl (subst (λ (b : Bool). opens ≡ opens + opens_at b) (sym is) (omega arith))
-    (λ s from. subst (λ (b : Bool). ByPlace b (s ≡ empty first) (g.O.OpenStores.keeps stores path s × g.O.OpenStores.is_clean stores)) is from)
-    (λ t. subst (λ (b : Bool). ByPlace b ⊤ (g.O.OpenStores.keeps stores path t)) (sym is) tt)
+    (stored_of g.O.OpenStores stores stores path)
+    c.do_over.result.0 c.do_over.result.1 c.open_in_memory-records.result c.open_in_memory-records.ensures c.do_over.ensures.fails c.do_over.ensures.does
+    (λ fault may. subst (λ (b : Bool). ByPlace b (may_come (fault_in fault) ≡ true) (g.O.OpenStores.fails stores path fault)) (sym is) may)
+    refl (λ number s kept. kept) (subst (λ (b : Bool). opens ≡ opens + opens_at b) (sym is) (omega arith))
+    (λ s from. subst (λ (b : Bool). ByPlace b (s ≡ empty first) (g.O.OpenStores.keeps stores path first s × g.O.OpenStores.is_clean stores)) is from)
+    (λ t. subst (λ (b : Bool). ByPlace b ⊤ ((number : ℕ) → g.O.OpenStores.keeps stores path number t)) (sym is) tt)
+
+-- no records could be opened: the stores are as the opening left them
+not_opened : {O A Opened InMemory : Type 0} (g : Stores O Opened InMemory) (was opened is : O) (path : List ℕ) (r : Result A OpenFault) → is_in_memory path ≡ false
+    → IfErr r (λ fault. g.fails was path fault) → IfErr r (λ fault. (number : ℕ) (s : State) → g.keeps was path number s → g.keeps opened path number s)
+    → is ≡ opened → IfErr r (λ fault. (stored_of g was is path).Kept × (stored_of g was is path).Fails fault)
+not_opened g was opened is path (Ok records) away fails same left = tt
+not_opened g was opened is path (Err fault) away fails same left = (
+  λ number s kept. subst (λ o. g.keeps o path number s) (sym left) (same number s kept),
+  subst (λ (b : Bool). ByPlace b (may_come (fault_in fault) ≡ true) (g.fails was path fault)) (sym away) fails,
+)
 
 -- it is kept under its path
 pub returns-clause-goes : goal.returns-clause-goes
 returns-clause-goes g c =
-    let path = c.args.path.now in
-    let first = c.args.options.first in
-    let was = c.args.stores.now in
+    let path = c.args.store.path.now in
+    let first = c.args.store.first in
+    let was = c.args.host.now.stores in
     let stores = c.close_in.new.stores in
     let opened = g.O.OpenStores.opens was in
     let opens = g.O.OpenStores.opens stores in
     let Clean = g.O.OpenStores.is_clean stores in
     let is : is_in_memory path ≡ false = sym c.eq.ensures ∙ c.if-eq.false in
-    goes_kept g.O.Opened.Records.shows c.args.agreements.now c.args.options c.args.work
+    goes_kept g.O.Opened.Records.shows c.args.terms.now.agreements.now (record { first = c.args.store.first; moment = c.args.terms.now.moment }) c.args.work
     (record {
-      input = input_of g.R.Source.left g.R.Source.calls c.args.input.now c.do_over-left.new.input;
-      Unread = c.do_over-left.new.input ≡ c.args.input.now;
-      outcome = outcome_of g.W.Sink.written g.E.Write.contents c.args.output.now c.do_over-left.new.output c.args.errors.now c.do_over-left.new.errors (Leaves path (g.O.OpenStores.keeps stores path));
-      Exchanged = ExchangedOver g.N.Network.opens g.N.Links.Links.answers c.args.network.now;
-      listening = listening_of g.N.Network.listens g.N.Network.refuses g.N.Listener.Listens.bound g.N.Listener.Listens.ended c.args.network.now;
+      input = input_of g.R.Source c.args.console.now c.do_over-left.new.console;
+      outcome = outcome_of g.W.Sink g.E.Sink c.args.console.now c.do_over-left.new.console (Leaves path (g.O.OpenStores.keeps stores path));
+      Exchanged = ExchangedOver g.N.Network.opens g.N.Links.Links.answers c.args.host.now.network;
+      listening = listening_of g.N.Network.listens g.N.Network.refuses g.N.Listener.Listens.bound g.N.Listener.Listens.ended c.args.host.now.network;
     })
-    (stored_of g.O.OpenStores.keeps g.O.OpenStores.is_clean g.O.OpenStores.opens was stores path)
-    c.do_over-left.result.0 c.do_over-left.result.1 c.open-records.result Clean (g.O.OpenStores.keeps was path) opened opens
-    c.open-records.ensures.found c.do_over-left.ensures.fails c.do_over-left.ensures.does is
+    (stored_of g.O.OpenStores was stores path)
+    c.do_over-left.result.0 c.do_over-left.result.1 c.open-records.result Clean (g.O.OpenStores.keeps was path first) opened opens
+    c.open-records.ensures.found c.do_over-left.ensures.fails c.do_over-left.ensures.does
+    (λ none. not_opened g.O.OpenStores was c.open-records.new.self stores path c.open-records.result is c.open-records.ensures.fault c.open-records.ensures.same (c.close_in.ensures.none none))
     (c.close_in.ensures.counted ∙ c.open-records.ensures.counted) (λ same. same) (λ more. subst (λ (b : Bool). opens ≡ opened + opens_at b) (sym is) more)
-    (λ s from. subst (λ (b : Bool). ByPlace b (s ≡ empty first) (g.O.OpenStores.keeps was path s × Clean)) is from)
+    (λ s from. subst (λ (b : Bool). ByPlace b (s ≡ empty first) (g.O.OpenStores.keeps was path first s × Clean)) is from)
     c.close_in.ensures.clean
-    (each_left c.do_over-left.result.1 Clean (λ l t. (g.O.Opened.Records.shows l).Rests t) (g.O.OpenStores.keeps stores path) (Leaves path (g.O.OpenStores.keeps stores path)) c.close_in.ensures.kept (λ t keeps. subst (λ (b : Bool). ByPlace b ⊤ (g.O.OpenStores.keeps stores path t)) (sym is) keeps))
+    (each_left c.do_over-left.result.1 Clean (λ l t. (g.O.Opened.Records.shows l).Rests t) (λ t. (number : ℕ) → g.O.OpenStores.keeps stores path number t) (Leaves path (g.O.OpenStores.keeps stores path)) c.close_in.ensures.kept (λ t keeps. subst (λ (b : Bool). ByPlace b ⊤ ((number : ℕ) → g.O.OpenStores.keeps stores path number t)) (sym is) keeps))

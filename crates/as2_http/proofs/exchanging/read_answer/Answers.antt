@@ -52,7 +52,7 @@ returns-in-Ok-Answer-clause-answer g c = λ input known.
     (answer_arrives input c.loop.parser (g.R.Source.left c.loop.source) (g.R.Source.left c.pull.new.source) (g.R.Source.calls c.args.source.now) (g.R.Source.calls c.loop.source)
     (take c.in-Some.count c.pull.new.buffer.items) a w c.in-Some.ensures.given
     (subst (λ (s : List ℕ). (rest : List ℕ) × BeginsAnswer (w.reads.read ++ take c.in-Some.count s) a.status a.fields a.body rest) c.deref.ensures.value
-    (subst (λ (p : ParsedAnswer). ParsesAnswer c.feed.new.self (w.reads.read ++ take c.in-Some.count c.deref.result.now) p) c.in-Ok-Answer.field-0-is (c.in-Ok-Answer.ensures w.reads.read w.holds))))
+    (subst (λ (p : ParsedAnswer). ParsesAnswer c.feed.new.self (w.reads.read ++ take c.in-Some.count c.deref.result.now) p) c.in-Ok-Answer.field-0-is (c.in-Ok-Answer.ensures.parses w.reads.read w.holds))))
 
 pub returns-in-Ok-Answer-clause-needed : goal.returns-in-Ok-Answer-clause-needed
 returns-in-Ok-Answer-clause-needed g c = λ input known.
@@ -68,7 +68,7 @@ loop-preserved g c = (
       awaits_on input c.loop.parser c.feed.new.self (g.R.Source.left c.loop.source) (g.R.Source.left c.pull.new.source) (g.R.Source.calls c.args.source.now) (g.R.Source.calls c.loop.source) (g.R.Source.calls c.pull.new.source)
       (take c.in-Some.count c.pull.new.buffer.items) w c.in-Some.ensures.given (search rules) c.pull.ensures.calls
       (subst (λ (s : List ℕ). HasKept c.feed.new.self (w.reads.read ++ take c.in-Some.count s)) c.deref.ensures.value
-      (subst (λ (p : ParsedAnswer). ParsesAnswer c.feed.new.self (w.reads.read ++ take c.in-Some.count c.deref.result.now) p) c.in-Ok-Open.field-0-is (c.in-Ok-Open.ensures w.reads.read w.holds)).1),
+      (subst (λ (p : ParsedAnswer). ParsesAnswer c.feed.new.self (w.reads.read ++ take c.in-Some.count c.deref.result.now) p) c.in-Ok-Open.field-0-is (c.in-Ok-Open.ensures.parses w.reads.read w.holds)).1),
   search rules,
   search rules,
 )

@@ -1,4 +1,4 @@
-use Rattle.std.proofs.Common.{◌≡◌, true, false, ℕ, List, [], ◌++◌, drop, Some, sym, rules, subst, arith}
+use Rattle.std.proofs.Common.{◌≡◌, ◌∙◌, true, false, ℕ, List, [], ◌++◌, drop, Some, sym, rules, subst, arith}
 use Rattle.std.proofs.lemmas.List.{nil_from_length}
 use Rattle.as2_http.specs.Notes.{spoken}
 use Rattle.as2_messages.specs.Parsing.{Parses, EndsRequest}
@@ -7,6 +7,7 @@ use Rattle.as2_http.specs.Streams.{AnswersPiece}
 use Rattle.as2_messages.specs.declared.parser.Parsed.{Parsed}
 use Rattle.as2_http.specs.declared.stream.Served.{Served}
 use Rattle.as2_framing.proofs.Feeding.{rest_of}
+use Rattle.as2_http.proofs.Faults.{cut_sound, sent_sound}
 use Rattle.as2_http.proofs.Streaming.{Proceeds, begins_piece, proceeds_on, piece_open, piece_taken, piece_last, piece_cut, piece_refused, piece_refusal_cut, piece_unread, replied_whole}
 use Rattle.as2_http.proofs.stream.answer_piece.Goals as goal
 
@@ -22,7 +23,7 @@ pub returns-in-Ok-Open-clause-answered : goal.returns-in-Ok-Open-clause-answered
 returns-in-Ok-Open-clause-answered g c = λ clean s rests held left taken.
     let w = c.loop-rest.invariant.3 clean s rests held left taken in
     let rest = c.loop-rest.rest.now in
-    let told = subst (λ (p : Parsed). Parses c.feed.new.self w.held rest p) c.in-Ok-Open.field-0-is (c.in-Ok-Open.ensures w.held w.taken) in
+    let told = subst (λ (p : Parsed). Parses c.feed.new.self w.held rest p) c.in-Ok-Open.field-0-is (c.in-Ok-Open.ensures.parses w.held w.taken) in
     piece_open c.args.agreements.now c.args.moment s (held ++ c.args.piece.now ++ left) rest left c.loop-rest.parser c.feed.new.self (g.K.Records.shows c.loop-rest.station)
     (spoken (g.W.Sink.written c.args.sink.now) (g.J.Journal.noted c.args.journal.now)) (spoken (g.W.Sink.written c.loop-rest.sink) (g.J.Journal.noted c.loop-rest.journal)) w told.1
 
@@ -32,7 +33,7 @@ returns-in-Err-reply-clause-answered g c = λ clean s rests held left taken.
     let rest = c.loop-rest.rest.now in
     let r = c.in-Ok-Request.request in
     let n = c.in-Ok-Request.used in
-    let e : EndsRequest c.feed.new.self w.held rest r n = subst (λ (p : Parsed). Parses c.feed.new.self w.held rest p) c.in-Ok-Request.field-0-is (c.in-Ok-Request.ensures w.held w.taken) in
+    let e : EndsRequest c.feed.new.self w.held rest r n = subst (λ (p : Parsed). Parses c.feed.new.self w.held rest p) c.in-Ok-Request.field-0-is (c.in-Ok-Request.ensures.parses w.held w.taken) in
     let before = spoken (g.W.Sink.written c.args.sink.now) (g.J.Journal.noted c.args.journal.now) in
     let now = spoken (g.W.Sink.written c.loop-rest.sink) (g.J.Journal.noted c.loop-rest.journal) in
     let later = spoken (g.W.Sink.written c.reply.new.sink) (g.J.Journal.noted c.reply.new.journal) in
@@ -47,7 +48,7 @@ returns-then-last-clause-answered g c = λ clean s rests held left taken.
     let rest = c.loop-rest.rest.now in
     let r = c.in-Ok-Request.request in
     let n = c.in-Ok-Request.used in
-    let e : EndsRequest c.feed.new.self w.held rest r n = subst (λ (p : Parsed). Parses c.feed.new.self w.held rest p) c.in-Ok-Request.field-0-is (c.in-Ok-Request.ensures w.held w.taken) in
+    let e : EndsRequest c.feed.new.self w.held rest r n = subst (λ (p : Parsed). Parses c.feed.new.self w.held rest p) c.in-Ok-Request.field-0-is (c.in-Ok-Request.ensures.parses w.held w.taken) in
     let before = spoken (g.W.Sink.written c.args.sink.now) (g.J.Journal.noted c.args.journal.now) in
     let now = spoken (g.W.Sink.written c.loop-rest.sink) (g.J.Journal.noted c.loop-rest.journal) in
     let later = spoken (g.W.Sink.written c.reply.new.sink) (g.J.Journal.noted c.reply.new.journal) in
@@ -66,15 +67,15 @@ loop-rest-preserved g c =
     let now = spoken (g.W.Sink.written c.loop-rest.sink) (g.J.Journal.noted c.loop-rest.journal) in
     let later = spoken (g.W.Sink.written c.reply.new.sink) (g.J.Journal.noted c.reply.new.journal) in (
       λ clean. c.loop-rest.invariant.0 (c.reply.ensures.clean clean),
-      omega (arith, c.loop-rest.invariant.1, c.reply.ensures.counted),
+      sent_sound c.reply.result c.in_default.field-0 (g.W.Sink.failed c.reply.new.sink ≡ g.W.Sink.failed c.loop-rest.sink) c.in_default.is c.reply.ensures.sound ∙ c.loop-rest.invariant.1,
       (
         [],
         (let e : EndsRequest c.feed.new.self c.loop-rest.invariant.2.0 rest r n =
-            subst (λ (p : Parsed). Parses c.feed.new.self c.loop-rest.invariant.2.0 rest p) c.in-Ok-Request.field-0-is (c.in-Ok-Request.ensures c.loop-rest.invariant.2.0 c.loop-rest.invariant.2.1) in e.empty),
+            subst (λ (p : Parsed). Parses c.feed.new.self c.loop-rest.invariant.2.0 rest p) c.in-Ok-Request.field-0-is (c.in-Ok-Request.ensures.parses c.loop-rest.invariant.2.0 c.loop-rest.invariant.2.1) in e.empty),
       ),
       λ clean s rests held left taken.
           let w = c.loop-rest.invariant.3 (c.reply.ensures.clean clean) s rests held left taken in
-          let e : EndsRequest c.feed.new.self w.held rest r n = subst (λ (p : Parsed). Parses c.feed.new.self w.held rest p) c.in-Ok-Request.field-0-is (c.in-Ok-Request.ensures w.held w.taken) in
+          let e : EndsRequest c.feed.new.self w.held rest r n = subst (λ (p : Parsed). Parses c.feed.new.self w.held rest p) c.in-Ok-Request.field-0-is (c.in-Ok-Request.ensures.parses w.held w.taken) in
           let go : r.last ≡ false = search rules in
           subst (λ (t : List ℕ). Proceeds c.args.agreements.now c.args.moment s (held ++ c.args.piece.now ++ left) t left c.feed.new.self (g.K.Records.shows c.reply.new.station) before later) (sym (rest_of n rest))
           (proceeds_on c.args.agreements.now c.args.moment s (held ++ c.args.piece.now ++ left) rest (drop n rest) left c.loop-rest.parser c.feed.new.self
@@ -87,7 +88,7 @@ pub returns-in-Ok-clause-answered : goal.returns-in-Ok-clause-answered
 returns-in-Ok-clause-answered g c = λ clean s rests held left taken.
     let w = c.loop-rest.invariant.3 clean s rests held left taken in
     let rest = c.loop-rest.rest.now in
-    let e : IsRefused (w.held ++ rest) c.in-Ok-Refused.refused = subst (λ (p : Parsed). Parses c.feed.new.self w.held rest p) c.in-Ok-Refused.field-0-is (c.in-Ok-Refused.ensures w.held w.taken) in
+    let e : IsRefused (w.held ++ rest) c.in-Ok-Refused.refused = subst (λ (p : Parsed). Parses c.feed.new.self w.held rest p) c.in-Ok-Refused.field-0-is (c.in-Ok-Refused.ensures.parses w.held w.taken) in
     piece_refused c.args.agreements.now c.args.moment s (held ++ c.args.piece.now ++ left) rest left c.loop-rest.parser c.feed.new.self (g.K.Records.shows c.loop-rest.station)
     (spoken (g.W.Sink.written c.args.sink.now) (g.J.Journal.noted c.args.journal.now)) (spoken (g.W.Sink.written c.loop-rest.sink) (g.J.Journal.noted c.loop-rest.journal)) (spoken (g.W.Sink.written c.refuse.new.sink) (g.J.Journal.noted c.refuse.new.journal)) c.in-Ok-Refused.refused
     c.refuse.result c.in-Ok.field-0 w e c.in-Ok.is c.refuse.ensures.sends c.refuse.ensures.noted
@@ -96,7 +97,7 @@ pub returns-in-Err-refuse-clause-answered : goal.returns-in-Err-refuse-clause-an
 returns-in-Err-refuse-clause-answered g c = λ clean s rests held left taken.
     let w = c.loop-rest.invariant.3 clean s rests held left taken in
     let rest = c.loop-rest.rest.now in
-    let e : IsRefused (w.held ++ rest) c.in-Ok-Refused.refused = subst (λ (p : Parsed). Parses c.feed.new.self w.held rest p) c.in-Ok-Refused.field-0-is (c.in-Ok-Refused.ensures w.held w.taken) in
+    let e : IsRefused (w.held ++ rest) c.in-Ok-Refused.refused = subst (λ (p : Parsed). Parses c.feed.new.self w.held rest p) c.in-Ok-Refused.field-0-is (c.in-Ok-Refused.ensures.parses w.held w.taken) in
     let before = spoken (g.W.Sink.written c.args.sink.now) (g.J.Journal.noted c.args.journal.now) in
     let later = spoken (g.W.Sink.written c.refuse.new.sink) (g.J.Journal.noted c.refuse.new.journal) in
     let text = held ++ c.args.piece.now ++ left in
@@ -114,3 +115,21 @@ pub returns-clause-answered : goal.returns-clause-answered
 returns-clause-answered g c = λ clean s rests held left taken.
     piece_taken c.args.agreements.now c.args.moment s (held ++ c.args.piece.now ++ left) c.loop-rest.rest.now left c.loop-rest.parser (g.K.Records.shows c.loop-rest.station)
     (spoken (g.W.Sink.written c.args.sink.now) (g.J.Journal.noted c.args.journal.now)) (spoken (g.W.Sink.written c.loop-rest.sink) (g.J.Journal.noted c.loop-rest.journal)) (c.loop-rest.invariant.3 clean s rests held left taken) (nil_from_length c.loop-rest.rest.now (search rules))
+
+-- each write that failed is told
+
+pub returns-in-Err-reply-clause-sound : goal.returns-in-Err-reply-clause-sound
+returns-in-Err-reply-clause-sound g c = λ told.
+    cut_sound c.reply.result c.in-Err-reply.fault c.end_by.result (g.W.Sink.failed c.reply.new.sink ≡ g.W.Sink.failed c.loop-rest.sink) c.in-Err-reply.is c.end_by.ensures.end c.reply.ensures.sound told ∙ c.loop-rest.invariant.1
+
+pub returns-then-last-clause-sound : goal.returns-then-last-clause-sound
+returns-then-last-clause-sound g c = λ told.
+    sent_sound c.reply.result c.in_default.field-0 (g.W.Sink.failed c.reply.new.sink ≡ g.W.Sink.failed c.loop-rest.sink) c.in_default.is c.reply.ensures.sound ∙ c.loop-rest.invariant.1
+
+pub returns-in-Ok-clause-sound : goal.returns-in-Ok-clause-sound
+returns-in-Ok-clause-sound g c = λ told.
+    sent_sound c.refuse.result c.in-Ok.field-0 (g.W.Sink.failed c.refuse.new.sink ≡ g.W.Sink.failed c.loop-rest.sink) c.in-Ok.is c.refuse.ensures.sound ∙ c.loop-rest.invariant.1
+
+pub returns-in-Err-refuse-clause-sound : goal.returns-in-Err-refuse-clause-sound
+returns-in-Err-refuse-clause-sound g c = λ told.
+    cut_sound c.refuse.result c.in-Err-refuse.fault c.end_by-in-Err-refuse.result (g.W.Sink.failed c.refuse.new.sink ≡ g.W.Sink.failed c.loop-rest.sink) c.in-Err-refuse.is c.end_by-in-Err-refuse.ensures.end c.refuse.ensures.sound told ∙ c.loop-rest.invariant.1

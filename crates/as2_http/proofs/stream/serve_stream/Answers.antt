@@ -1,7 +1,8 @@
-use Rattle.std.proofs.Common.{◌≡◌, [], Option, None, rules, subst, arith}
+use Rattle.std.proofs.Common.{◌≡◌, ◌∙◌, [], Option, Some, None, rules, subst, sym, arith}
 use Rattle.as2_http.specs.Notes.{spoken}
 use Rattle.as2_http.specs.StreamReads.{AnswersNext}
 use Rattle.as2_http.specs.declared.stream.Served.{Served}
+use Rattle.as2_http.specs.declared.stream.Served.TheVariants.{ReadFault, WriteFault}
 use Rattle.as2_http.proofs.Serving.{between_first, runs_none, serves_long, serves_nothing}
 use Rattle.as2_http.proofs.stream.serve_stream.Goals as goal
 
@@ -42,8 +43,8 @@ loop-preserved g c = (
   λ clean. c.loop.invariant.0 (c.answer_next-end.ensures.clean clean),
   c.answer_next-end.ensures.room,
   omega (arith, c.loop.invariant.2, c.answer_next-end.ensures.calls),
-  omega (arith, c.loop.invariant.3, c.answer_next-end.ensures.failed_reads),
-  omega (arith, c.loop.invariant.4, c.answer_next-end.ensures.failed_writes),
+  c.answer_next-end.ensures.sound_reads (λ bad. let e : None ≡ Some ReadFault = sym (search rules) ∙ bad in cc) ∙ c.loop.invariant.3,
+  c.answer_next-end.ensures.sound_writes (λ bad. let e : None ≡ Some WriteFault = sym (search rules) ∙ bad in cc) ∙ c.loop.invariant.4,
   c.answer_next-end.ensures.held (search rules),
   λ clean s rests input known.
       let w = c.loop.invariant.6 (c.answer_next-end.ensures.clean clean) s rests input known in

@@ -1,5 +1,5 @@
 use Rattle.std.proofs.Common.{◌≡◌, map, filter, take}
-use Rattle.as2_exchange.specs.Views.{is_in}
+use Rattle.as2_exchange.specs.Progress.{is_in}
 use Rattle.as2_records.specs.Summaries.{out_summary}
 use Rattle.as2_lists.proofs.outbox.rows.Given as goal
 

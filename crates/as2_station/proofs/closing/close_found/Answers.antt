@@ -2,7 +2,7 @@ use Rattle.std.proofs.Common.{◌∙◌, Some, sym, ap}
 use Rattle.as2_exchange.specs.Documents.{closed}
 use Rattle.as2_station.specs.Closing.{ended}
 use Rattle.as2_station.proofs.Acting.{acts_alike, leaves}
-use Rattle.as2_station.proofs.Closed.{closes, no_open_try, not_agreed, settled_before}
+use Rattle.as2_station.proofs.Closed.{closes, leaves_unsettled, no_open_try, not_agreed, settled_before}
 use Rattle.as2_station.proofs.Doing.{as_machine, over_open}
 use Rattle.as2_station.proofs.closing.close_found.Goals as goal
 
@@ -29,6 +29,9 @@ returns-then-is_idle g c = record {
       over_open _ _ _ _ _ _ c.requires.open
       (λ clean s stands found. ap Some (leaves s d stands found _ _ (no_open_try c.args.agreements.now c.args.answer c.args.moment d c.in-Ok.partner.now c.in-Ok.ensures.agreed (sym c.if-is_some.ensures) (sym c.if-is_idle.ensures))));
 }
+
+pub end_try-requires-clause-unsettled : goal.end_try-requires-clause-unsettled
+end_try-requires-clause-unsettled g c = leaves_unsettled c.in-Ok.partner.now c.args.moment c.args.entry.now c.args.answer _ c.in_ok-end.end c.in_ok-end.ensures
 
 pub returns : goal.returns
 returns g c = record {

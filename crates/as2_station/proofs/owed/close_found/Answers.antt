@@ -49,6 +49,6 @@ returns g c = record {
       let e = c.args.entry.now in
       let got = c.args.answer.now in
       written _ _ _ _ _ _ _ _ _
-      (λ s t stands found is counter. rw (c.end_answer.ensures, c.is_delivery-delivered.ensures) (ends_mdn A got c.args.moment s t e c.in-Ok.partner.now stands found c.in-Ok.ensures.agreed (sym c.if-not-is_pending.ensures) (sym c.if-is_shut.ensures) (rw (c.after_try.ensures, c.is_delivery-delivered.ensures) at is)))
+      (λ s t stands found is counter. rw (c.end_became.ensures, c.is_delivery-delivered.ensures) (ends_mdn A got c.args.moment s t e c.in-Ok.partner.now stands found c.in-Ok.ensures.agreed (sym c.if-not-is_pending.ensures) (sym c.if-is_shut.ensures) (rw (c.after_try.ensures, c.is_delivery-delivered.ensures) at is)))
       c.in_ok-set_mdn.ensures.set;
 }

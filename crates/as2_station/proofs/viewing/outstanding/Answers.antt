@@ -1,5 +1,5 @@
 use Rattle.std.proofs.Common.{◌≡◌, refl, string_bytes}
-use Rattle.as2_exchange.specs.Views.{outstanding}
+use Rattle.as2_views.specs.Texts.{outstanding}
 use Rattle.as2_records.proofs.Following.{read_bad, read_then}
 use Rattle.as2_station.proofs.Viewed.{outstanding_shown}
 use Rattle.as2_station.proofs.viewing.outstanding.Goals as goal

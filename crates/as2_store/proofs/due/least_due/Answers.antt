@@ -1,5 +1,5 @@
 use Rattle.std.proofs.Common.{◌≡◌, ◌∙◌}
-use Rattle.as2_exchange.specs.Views.{least}
+use Rattle.as2_exchange.specs.Due.{least}
 use Rattle.as2_rows.specs.Waiting.{kind_code}
 use Rattle.as2_store.specs.Due.{due_numbers}
 use Rattle.as2_store.proofs.Querying.{read_bad, read_if, read_then}

@@ -5,7 +5,7 @@ use Rattle.sqlite.specs.Values.{bound}
 use Rattle.sql_tables.proofs.Inside.{fails_to_query}
 use Rattle.as2_rows.specs.Rows.{out_shown}
 use Rattle.as2_exchange.specs.State.{State}
-use Rattle.as2_exchange.specs.Views.{is_in}
+use Rattle.as2_exchange.specs.Progress.{is_in}
 use Rattle.as2_exchange.specs.declared.fault.StoreFault.TheVariants.{Memory}
 use Rattle.as2_records.specs.Summaries.{out_summary}
 use Rattle.as2_records.specs.declared.summaries.OutRow.{OutRow}

@@ -3,7 +3,7 @@ use Rattle.sqlite.specs.Held.{state}
 use Rattle.sqlite.specs.Values.{bound}
 use Rattle.sqlite.specs.State.{HasCleanDisk, Survives}
 use Rattle.as2_exchange.specs.State.{State}
-use Rattle.as2_exchange.specs.Views.{is_in}
+use Rattle.as2_exchange.specs.Progress.{is_in}
 use Rattle.as2_rows.specs.Rows.{out_shown}
 use Rattle.as2_records.specs.Summaries.{out_summary}
 use Rattle.as2_store.specs.Calls.{Commits}

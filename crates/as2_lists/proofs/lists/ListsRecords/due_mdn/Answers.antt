@@ -1,7 +1,7 @@
 use Rattle.std.proofs.Common.{◌≡◌, ◌∙◌, List, ap, option_map}
 use Rattle.std.specs.List.{find}
 use Rattle.as2_exchange.specs.State.{State}
-use Rattle.as2_exchange.specs.Views.{due_receipts, is_due_receipt, least}
+use Rattle.as2_exchange.specs.Due.{due_receipts, is_due_receipt, least}
 use Rattle.as2_exchange.specs.declared.inbox.InEntry.{InEntry}
 use Rattle.as2_lists.proofs.Calls.{reads_ok}
 use Rattle.as2_lists.proofs.Leasts.{due_receipt}

@@ -1,5 +1,5 @@
 use Rattle.std.proofs.Common.{◌≡◌, ◌∙◌, Option, option_map, Ok, sym, ap, subst}
-use Rattle.as2_exchange.specs.Views.{next}
+use Rattle.as2_exchange.specs.Due.{next}
 use Rattle.as2_exchange.specs.declared.next.Next.{Next}
 use Rattle.as2_exchange.specs.declared.next.Next.TheVariants.{Document}
 use Rattle.as2_exchange.specs.declared.fault.StoreFault.{StoreFault}

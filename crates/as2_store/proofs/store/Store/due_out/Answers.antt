@@ -1,6 +1,6 @@
 use Rattle.std.proofs.Common.{◌∙◌, ap}
 use Rattle.sqlite.specs.Held.{state}
-use Rattle.as2_exchange.specs.Views.{least}
+use Rattle.as2_exchange.specs.Due.{least}
 use Rattle.as2_store.proofs.DueEntries.{due_are_documents}
 use Rattle.as2_store.proofs.Querying.{read_of, reads_told}
 use Rattle.as2_store.proofs.store.Store.due_out.Goals as goal

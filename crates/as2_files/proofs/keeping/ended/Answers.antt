@@ -1,5 +1,0 @@
-use Rattle.as2_files.proofs.keeping.ended.Goals as goal
-
--- the files that were closed hold what the store stood for
-pub returns-in-Ok-clause-kept : goal.returns-in-Ok-clause-kept
-returns-in-Ok-clause-kept g c = λ honest _ s rests. c.in-Ok.ensures.closed honest s (rw c.into_connection.ensures rests)
