@@ -10,10 +10,12 @@ use Rattle.as2_views.specs.Layout.{state_text}
 use Rattle.as2_views.specs.declared.filter.Filter.{Filter}
 use Rattle.as2_views.specs.declared.filter.Filter.TheVariants.{Outbox, Inbox}
 use Rattle.as2_commands.specs.CommandLine.{command_in, option_values}
-use Rattle.as2_commands.specs.Options.{AsksRun, AsksServe, AsksSubmit, Gives, Lists, is_idle, NameIs, NumberIs, SecondsAre, Tasks, Tell, TellsOption, word_of}
+use Rattle.as2_commands.specs.Options.{AsksRun, AsksServe, AsksSubmit, Gives, Lists, is_idle, NameIs, NumberIs, SecondsAre, Tasks, Tell, TellQuestion, TellsOption, question_word, word_of}
 use Rattle.as2_commands.specs.Requests.{Serving, Submission}
 use Rattle.as2_commands.specs.declared.tasks.Command.{Command}
 use Rattle.as2_commands.specs.declared.tasks.Command.TheVariants as command
+use Rattle.as2_commands.specs.declared.tasks.Question.{Question}
+use Rattle.as2_commands.specs.declared.tasks.Question.TheVariants as question
 use Rattle.as2_commands.specs.declared.tasks.RunOptions.{RunOptions}
 use Rattle.as2_commands.specs.declared.tasks.Task.{Task}
 use Rattle.as2_commands.specs.declared.tasks.Task.TheVariants.{Check, Run}
@@ -98,90 +100,91 @@ mark word = slice_index word 0 * 1000 + slice_index word 2
 apart : (m n : ℕ) → m < n → m ≡ n → ⊥
 apart m n less is = omega (arith, less, is)
 
-command_one : (values own : List Row) (a b : Command) → word_of a ≡ word_of b → Tell values own a → Tell values own b → a ≡ b
+question_one : (own : List Row) (a b : Question Submission) → question_word a ≡ question_word b → TellQuestion own a → TellQuestion own b → a ≡ b
 unfolding mark
-command_one values own (command.Post p) (command.Post q) is x y = ap command.Post (x ∙ sym y)
-command_one values own (command.Post p) (command.Submit t) is x y = absurd (apart 112115 115098 (lit< tt) (ap mark is))
-command_one values own (command.Post p) (command.Send t) is x y = absurd (apart 112115 115110 (lit< tt) (ap mark is))
-command_one values own (command.Post p) command.Tick is x y = absurd (apart 112115 116099 (lit< tt) (ap mark is))
-command_one values own (command.Post p) (command.List t j) is x y = absurd (apart 108115 112115 (lit< tt) (ap mark (sym is)))
-command_one values own (command.Post p) command.Outstanding is x y = absurd (apart 111116 112115 (lit< tt) (ap mark (sym is)))
-command_one values own (command.Post p) (command.Show t) is x y = absurd (apart 112115 115111 (lit< tt) (ap mark is))
-command_one values own (command.Post p) (command.Fetch t) is x y = absurd (apart 102116 112115 (lit< tt) (ap mark (sym is)))
-command_one values own (command.Post p) (command.Serve t) is x y = absurd (apart 112115 115114 (lit< tt) (ap mark is))
-command_one values own (command.Submit s) (command.Post q) is x y = absurd (apart 112115 115098 (lit< tt) (ap mark (sym is)))
-command_one values own (command.Submit s) (command.Submit t) is x y = ap command.Submit (submission_one own s t x y)
-command_one values own (command.Submit s) (command.Send t) is x y = absurd (apart 115098 115110 (lit< tt) (ap mark is))
-command_one values own (command.Submit s) command.Tick is x y = absurd (apart 115098 116099 (lit< tt) (ap mark is))
-command_one values own (command.Submit s) (command.List t j) is x y = absurd (apart 108115 115098 (lit< tt) (ap mark (sym is)))
-command_one values own (command.Submit s) command.Outstanding is x y = absurd (apart 111116 115098 (lit< tt) (ap mark (sym is)))
-command_one values own (command.Submit s) (command.Show t) is x y = absurd (apart 115098 115111 (lit< tt) (ap mark is))
-command_one values own (command.Submit s) (command.Fetch t) is x y = absurd (apart 102116 115098 (lit< tt) (ap mark (sym is)))
-command_one values own (command.Submit s) (command.Serve t) is x y = absurd (apart 115098 115114 (lit< tt) (ap mark is))
-command_one values own (command.Send s) (command.Post q) is x y = absurd (apart 112115 115110 (lit< tt) (ap mark (sym is)))
-command_one values own (command.Send s) (command.Submit t) is x y = absurd (apart 115098 115110 (lit< tt) (ap mark (sym is)))
-command_one values own (command.Send s) (command.Send t) is x y = ap command.Send (waits_one s t (number_one _ s.seconds t.seconds x.number y.number))
-command_one values own (command.Send s) command.Tick is x y = absurd (apart 115110 116099 (lit< tt) (ap mark is))
-command_one values own (command.Send s) (command.List t j) is x y = absurd (apart 108115 115110 (lit< tt) (ap mark (sym is)))
-command_one values own (command.Send s) command.Outstanding is x y = absurd (apart 111116 115110 (lit< tt) (ap mark (sym is)))
-command_one values own (command.Send s) (command.Show t) is x y = absurd (apart 115110 115111 (lit< tt) (ap mark is))
-command_one values own (command.Send s) (command.Fetch t) is x y = absurd (apart 102116 115110 (lit< tt) (ap mark (sym is)))
-command_one values own (command.Send s) (command.Serve t) is x y = absurd (apart 115110 115114 (lit< tt) (ap mark is))
-command_one values own command.Tick (command.Post q) is x y = absurd (apart 112115 116099 (lit< tt) (ap mark (sym is)))
-command_one values own command.Tick (command.Submit t) is x y = absurd (apart 115098 116099 (lit< tt) (ap mark (sym is)))
-command_one values own command.Tick (command.Send t) is x y = absurd (apart 115110 116099 (lit< tt) (ap mark (sym is)))
-command_one values own command.Tick command.Tick is x y = refl
-command_one values own command.Tick (command.List t j) is x y = absurd (apart 108115 116099 (lit< tt) (ap mark (sym is)))
-command_one values own command.Tick command.Outstanding is x y = absurd (apart 111116 116099 (lit< tt) (ap mark (sym is)))
-command_one values own command.Tick (command.Show t) is x y = absurd (apart 115111 116099 (lit< tt) (ap mark (sym is)))
-command_one values own command.Tick (command.Fetch t) is x y = absurd (apart 102116 116099 (lit< tt) (ap mark (sym is)))
-command_one values own command.Tick (command.Serve t) is x y = absurd (apart 115114 116099 (lit< tt) (ap mark (sym is)))
-command_one values own (command.List s i) (command.Post q) is x y = absurd (apart 108115 112115 (lit< tt) (ap mark is))
-command_one values own (command.List s i) (command.Submit t) is x y = absurd (apart 108115 115098 (lit< tt) (ap mark is))
-command_one values own (command.List s i) (command.Send t) is x y = absurd (apart 108115 115110 (lit< tt) (ap mark is))
-command_one values own (command.List s i) command.Tick is x y = absurd (apart 108115 116099 (lit< tt) (ap mark is))
-command_one values own (command.List s i) (command.List t j) is x y =
+question_one own (question.Submit s) (question.Submit t) is x y = ap question.Submit (submission_one own s t x y)
+question_one own (question.Submit s) question.Tick is x y = absurd (apart 115098 116099 (lit< tt) (ap mark is))
+question_one own (question.Submit s) (question.List t j) is x y = absurd (apart 108115 115098 (lit< tt) (ap mark (sym is)))
+question_one own (question.Submit s) question.Outstanding is x y = absurd (apart 111116 115098 (lit< tt) (ap mark (sym is)))
+question_one own (question.Submit s) (question.Show t) is x y = absurd (apart 115098 115111 (lit< tt) (ap mark is))
+question_one own (question.Submit s) (question.Fetch t) is x y = absurd (apart 102116 115098 (lit< tt) (ap mark (sym is)))
+question_one own question.Tick (question.Submit t) is x y = absurd (apart 115098 116099 (lit< tt) (ap mark (sym is)))
+question_one own question.Tick question.Tick is x y = refl
+question_one own question.Tick (question.List t j) is x y = absurd (apart 108115 116099 (lit< tt) (ap mark (sym is)))
+question_one own question.Tick question.Outstanding is x y = absurd (apart 111116 116099 (lit< tt) (ap mark (sym is)))
+question_one own question.Tick (question.Show t) is x y = absurd (apart 115111 116099 (lit< tt) (ap mark (sym is)))
+question_one own question.Tick (question.Fetch t) is x y = absurd (apart 102116 116099 (lit< tt) (ap mark (sym is)))
+question_one own (question.List s i) (question.Submit t) is x y = absurd (apart 108115 115098 (lit< tt) (ap mark is))
+question_one own (question.List s i) question.Tick is x y = absurd (apart 108115 116099 (lit< tt) (ap mark is))
+question_one own (question.List s i) (question.List t j) is x y =
     let same = filter_one _ _ s t x.0 y.0 in
-    ap₂ command.List same (x.1 ∙ ap (λ (f : Filter). is_idle f (first_of (codes "state") own)) same ∙ sym y.1)
-command_one values own (command.List s i) command.Outstanding is x y = absurd (apart 108115 111116 (lit< tt) (ap mark is))
-command_one values own (command.List s i) (command.Show t) is x y = absurd (apart 108115 115111 (lit< tt) (ap mark is))
-command_one values own (command.List s i) (command.Fetch t) is x y = absurd (apart 102116 108115 (lit< tt) (ap mark (sym is)))
-command_one values own (command.List s i) (command.Serve t) is x y = absurd (apart 108115 115114 (lit< tt) (ap mark is))
-command_one values own command.Outstanding (command.Post q) is x y = absurd (apart 111116 112115 (lit< tt) (ap mark is))
-command_one values own command.Outstanding (command.Submit t) is x y = absurd (apart 111116 115098 (lit< tt) (ap mark is))
-command_one values own command.Outstanding (command.Send t) is x y = absurd (apart 111116 115110 (lit< tt) (ap mark is))
-command_one values own command.Outstanding command.Tick is x y = absurd (apart 111116 116099 (lit< tt) (ap mark is))
-command_one values own command.Outstanding (command.List t j) is x y = absurd (apart 108115 111116 (lit< tt) (ap mark (sym is)))
-command_one values own command.Outstanding command.Outstanding is x y = refl
-command_one values own command.Outstanding (command.Show t) is x y = absurd (apart 111116 115111 (lit< tt) (ap mark is))
-command_one values own command.Outstanding (command.Fetch t) is x y = absurd (apart 102116 111116 (lit< tt) (ap mark (sym is)))
-command_one values own command.Outstanding (command.Serve t) is x y = absurd (apart 111116 115114 (lit< tt) (ap mark is))
-command_one values own (command.Show s) (command.Post q) is x y = absurd (apart 112115 115111 (lit< tt) (ap mark (sym is)))
-command_one values own (command.Show s) (command.Submit t) is x y = absurd (apart 115098 115111 (lit< tt) (ap mark (sym is)))
-command_one values own (command.Show s) (command.Send t) is x y = absurd (apart 115110 115111 (lit< tt) (ap mark (sym is)))
-command_one values own (command.Show s) command.Tick is x y = absurd (apart 115111 116099 (lit< tt) (ap mark is))
-command_one values own (command.Show s) (command.List t j) is x y = absurd (apart 108115 115111 (lit< tt) (ap mark (sym is)))
-command_one values own (command.Show s) command.Outstanding is x y = absurd (apart 111116 115111 (lit< tt) (ap mark (sym is)))
-command_one values own (command.Show s) (command.Show t) is x y = ap command.Show (number_one _ s t x.number y.number)
-command_one values own (command.Show s) (command.Fetch t) is x y = absurd (apart 102116 115111 (lit< tt) (ap mark (sym is)))
-command_one values own (command.Show s) (command.Serve t) is x y = absurd (apart 115111 115114 (lit< tt) (ap mark is))
-command_one values own (command.Fetch s) (command.Post q) is x y = absurd (apart 102116 112115 (lit< tt) (ap mark is))
-command_one values own (command.Fetch s) (command.Submit t) is x y = absurd (apart 102116 115098 (lit< tt) (ap mark is))
-command_one values own (command.Fetch s) (command.Send t) is x y = absurd (apart 102116 115110 (lit< tt) (ap mark is))
-command_one values own (command.Fetch s) command.Tick is x y = absurd (apart 102116 116099 (lit< tt) (ap mark is))
-command_one values own (command.Fetch s) (command.List t j) is x y = absurd (apart 102116 108115 (lit< tt) (ap mark is))
-command_one values own (command.Fetch s) command.Outstanding is x y = absurd (apart 102116 111116 (lit< tt) (ap mark is))
-command_one values own (command.Fetch s) (command.Show t) is x y = absurd (apart 102116 115111 (lit< tt) (ap mark is))
-command_one values own (command.Fetch s) (command.Fetch t) is x y = ap command.Fetch (number_one _ s t x.number y.number)
-command_one values own (command.Fetch s) (command.Serve t) is x y = absurd (apart 102116 115114 (lit< tt) (ap mark is))
-command_one values own (command.Serve s) (command.Post q) is x y = absurd (apart 112115 115114 (lit< tt) (ap mark (sym is)))
-command_one values own (command.Serve s) (command.Submit t) is x y = absurd (apart 115098 115114 (lit< tt) (ap mark (sym is)))
+    ap₂ question.List same (x.1 ∙ ap (λ (f : Filter). is_idle f (first_of (codes "state") own)) same ∙ sym y.1)
+question_one own (question.List s i) question.Outstanding is x y = absurd (apart 108115 111116 (lit< tt) (ap mark is))
+question_one own (question.List s i) (question.Show t) is x y = absurd (apart 108115 115111 (lit< tt) (ap mark is))
+question_one own (question.List s i) (question.Fetch t) is x y = absurd (apart 102116 108115 (lit< tt) (ap mark (sym is)))
+question_one own question.Outstanding (question.Submit t) is x y = absurd (apart 111116 115098 (lit< tt) (ap mark is))
+question_one own question.Outstanding question.Tick is x y = absurd (apart 111116 116099 (lit< tt) (ap mark is))
+question_one own question.Outstanding (question.List t j) is x y = absurd (apart 108115 111116 (lit< tt) (ap mark (sym is)))
+question_one own question.Outstanding question.Outstanding is x y = refl
+question_one own question.Outstanding (question.Show t) is x y = absurd (apart 111116 115111 (lit< tt) (ap mark is))
+question_one own question.Outstanding (question.Fetch t) is x y = absurd (apart 102116 111116 (lit< tt) (ap mark (sym is)))
+question_one own (question.Show s) (question.Submit t) is x y = absurd (apart 115098 115111 (lit< tt) (ap mark (sym is)))
+question_one own (question.Show s) question.Tick is x y = absurd (apart 115111 116099 (lit< tt) (ap mark is))
+question_one own (question.Show s) (question.List t j) is x y = absurd (apart 108115 115111 (lit< tt) (ap mark (sym is)))
+question_one own (question.Show s) question.Outstanding is x y = absurd (apart 111116 115111 (lit< tt) (ap mark (sym is)))
+question_one own (question.Show s) (question.Show t) is x y = ap question.Show (number_one _ s t x.number y.number)
+question_one own (question.Show s) (question.Fetch t) is x y = absurd (apart 102116 115111 (lit< tt) (ap mark (sym is)))
+question_one own (question.Fetch s) (question.Submit t) is x y = absurd (apart 102116 115098 (lit< tt) (ap mark is))
+question_one own (question.Fetch s) question.Tick is x y = absurd (apart 102116 116099 (lit< tt) (ap mark is))
+question_one own (question.Fetch s) (question.List t j) is x y = absurd (apart 102116 108115 (lit< tt) (ap mark is))
+question_one own (question.Fetch s) question.Outstanding is x y = absurd (apart 102116 111116 (lit< tt) (ap mark is))
+question_one own (question.Fetch s) (question.Show t) is x y = absurd (apart 102116 115111 (lit< tt) (ap mark is))
+question_one own (question.Fetch s) (question.Fetch t) is x y = ap question.Fetch (number_one _ s t x.number y.number)
+
+no_post : (q : Question Submission) → codes "post" ≡ question_word q → ⊥
+unfolding mark
+no_post (question.Submit s) is = absurd (apart 112115 115098 (lit< tt) (ap mark is))
+no_post question.Tick is = absurd (apart 112115 116099 (lit< tt) (ap mark is))
+no_post (question.List s i) is = absurd (apart 108115 112115 (lit< tt) (ap mark (sym is)))
+no_post question.Outstanding is = absurd (apart 111116 112115 (lit< tt) (ap mark (sym is)))
+no_post (question.Show s) is = absurd (apart 112115 115111 (lit< tt) (ap mark is))
+no_post (question.Fetch s) is = absurd (apart 102116 112115 (lit< tt) (ap mark (sym is)))
+
+no_send : (q : Question Submission) → codes "send" ≡ question_word q → ⊥
+unfolding mark
+no_send (question.Submit s) is = absurd (apart 115098 115110 (lit< tt) (ap mark (sym is)))
+no_send question.Tick is = absurd (apart 115110 116099 (lit< tt) (ap mark is))
+no_send (question.List s i) is = absurd (apart 108115 115110 (lit< tt) (ap mark (sym is)))
+no_send question.Outstanding is = absurd (apart 111116 115110 (lit< tt) (ap mark (sym is)))
+no_send (question.Show s) is = absurd (apart 115110 115111 (lit< tt) (ap mark is))
+no_send (question.Fetch s) is = absurd (apart 102116 115110 (lit< tt) (ap mark (sym is)))
+
+no_serve : (q : Question Submission) → codes "serve" ≡ question_word q → ⊥
+unfolding mark
+no_serve (question.Submit s) is = absurd (apart 115098 115114 (lit< tt) (ap mark (sym is)))
+no_serve question.Tick is = absurd (apart 115114 116099 (lit< tt) (ap mark is))
+no_serve (question.List s i) is = absurd (apart 108115 115114 (lit< tt) (ap mark (sym is)))
+no_serve question.Outstanding is = absurd (apart 111116 115114 (lit< tt) (ap mark (sym is)))
+no_serve (question.Show s) is = absurd (apart 115111 115114 (lit< tt) (ap mark (sym is)))
+no_serve (question.Fetch s) is = absurd (apart 102116 115114 (lit< tt) (ap mark (sym is)))
+
+command_one : (values own : List Row) (a b : Command Submission) → word_of a ≡ word_of b → Tell values own a → Tell values own b → a ≡ b
+unfolding mark
+command_one values own (command.Post s) (command.Post t) is x y = ap command.Post (x ∙ sym y)
+command_one values own (command.Post s) (command.Ask t) is x y = absurd (no_post t is)
+command_one values own (command.Post s) (command.Send t) is x y = absurd (apart 112115 115110 (lit< tt) (ap mark is))
+command_one values own (command.Post s) (command.Serve t) is x y = absurd (apart 112115 115114 (lit< tt) (ap mark is))
+command_one values own (command.Ask s) (command.Post t) is x y = absurd (no_post s (sym is))
+command_one values own (command.Ask s) (command.Ask t) is x y = ap command.Ask (question_one own s t is x y)
+command_one values own (command.Ask s) (command.Send t) is x y = absurd (no_send s (sym is))
+command_one values own (command.Ask s) (command.Serve t) is x y = absurd (no_serve s (sym is))
+command_one values own (command.Send s) (command.Post t) is x y = absurd (apart 112115 115110 (lit< tt) (ap mark (sym is)))
+command_one values own (command.Send s) (command.Ask t) is x y = absurd (no_send t is)
+command_one values own (command.Send s) (command.Send t) is x y = ap command.Send (waits_one s t (number_one _ s.seconds t.seconds x.number y.number))
+command_one values own (command.Send s) (command.Serve t) is x y = absurd (apart 115110 115114 (lit< tt) (ap mark is))
+command_one values own (command.Serve s) (command.Post t) is x y = absurd (apart 112115 115114 (lit< tt) (ap mark (sym is)))
+command_one values own (command.Serve s) (command.Ask t) is x y = absurd (no_serve t is)
 command_one values own (command.Serve s) (command.Send t) is x y = absurd (apart 115110 115114 (lit< tt) (ap mark (sym is)))
-command_one values own (command.Serve s) command.Tick is x y = absurd (apart 115114 116099 (lit< tt) (ap mark is))
-command_one values own (command.Serve s) (command.List t j) is x y = absurd (apart 108115 115114 (lit< tt) (ap mark (sym is)))
-command_one values own (command.Serve s) command.Outstanding is x y = absurd (apart 111116 115114 (lit< tt) (ap mark (sym is)))
-command_one values own (command.Serve s) (command.Show t) is x y = absurd (apart 115111 115114 (lit< tt) (ap mark (sym is)))
-command_one values own (command.Serve s) (command.Fetch t) is x y = absurd (apart 102116 115114 (lit< tt) (ap mark (sym is)))
 command_one values own (command.Serve s) (command.Serve t) is x y = ap command.Serve (serving_one values own s t x y)
 
 run_one : (values : List Row) (clock : Option ℕ) (a b : RunOptions) → AsksRun values clock a → AsksRun values clock b → a ≡ b
@@ -190,16 +193,20 @@ run_one values clock a b x y =
     ∙ ap (λ (m : ℕ). record b { moment = m }) (seconds_one _ clock a.moment b.moment x.seconds y.seconds)
 
 -- `check` is no command over the records
-no_check : (command : Command) → codes "check" ≡ word_of command → ⊥
+no_check_question : (q : Question Submission) → codes "check" ≡ question_word q → ⊥
+unfolding mark
+no_check_question (question.Submit s) is = absurd (apart 99101 115098 (lit< tt) (ap mark is))
+no_check_question question.Tick is = absurd (apart 99101 116099 (lit< tt) (ap mark is))
+no_check_question (question.List s i) is = absurd (apart 99101 108115 (lit< tt) (ap mark is))
+no_check_question question.Outstanding is = absurd (apart 99101 111116 (lit< tt) (ap mark is))
+no_check_question (question.Show s) is = absurd (apart 99101 115111 (lit< tt) (ap mark is))
+no_check_question (question.Fetch s) is = absurd (apart 99101 102116 (lit< tt) (ap mark is))
+
+no_check : (command : Command Submission) → codes "check" ≡ word_of command → ⊥
 unfolding mark
 no_check (command.Post p) is = absurd (apart 99101 112115 (lit< tt) (ap mark is))
-no_check (command.Submit s) is = absurd (apart 99101 115098 (lit< tt) (ap mark is))
+no_check (command.Ask q) is = no_check_question q is
 no_check (command.Send s) is = absurd (apart 99101 115110 (lit< tt) (ap mark is))
-no_check command.Tick is = absurd (apart 99101 116099 (lit< tt) (ap mark is))
-no_check (command.List s i) is = absurd (apart 99101 108115 (lit< tt) (ap mark is))
-no_check command.Outstanding is = absurd (apart 99101 111116 (lit< tt) (ap mark is))
-no_check (command.Show s) is = absurd (apart 99101 115111 (lit< tt) (ap mark is))
-no_check (command.Fetch s) is = absurd (apart 99101 102116 (lit< tt) (ap mark is))
 no_check (command.Serve s) is = absurd (apart 99101 115114 (lit< tt) (ap mark is))
 
 task_one : (values : List Row) (named : Option (Text × List Row)) (clock : Option ℕ) (a b : Task) → Tasks values named clock a → Tasks values named clock b → a ≡ b

@@ -11,7 +11,9 @@ use Rattle.clap.specs.Words.{Row, Text, first_of, one_of}
 use Rattle.as2_commands.specs.CommandLine.{command_in, faults, option_values}
 use Rattle.as2_commands.specs.Requests.{Serving, Submission}
 use Rattle.as2_commands.specs.declared.tasks.Command.{Command}
-use Rattle.as2_commands.specs.declared.tasks.Command.TheVariants.{Post, Submit, Send, Tick, List as Listing, Outstanding, Show, Fetch, Serve}
+use Rattle.as2_commands.specs.declared.tasks.Command.TheVariants.{Post, Ask, Send, Serve}
+use Rattle.as2_commands.specs.declared.tasks.Question.{Question}
+use Rattle.as2_commands.specs.declared.tasks.Question.TheVariants.{Submit, Tick, List as Listing, Outstanding, Show, Fetch}
 use Rattle.as2_commands.specs.declared.tasks.RunOptions.{RunOptions}
 use Rattle.as2_commands.specs.declared.tasks.Task.{Task}
 use Rattle.as2_commands.specs.declared.tasks.Task.TheVariants.{Check, Run}
@@ -86,7 +88,7 @@ is_idle Inbox state = is_some state
 is_idle (Outbox only) state = false
 
 -- .. and whether a state was given in vain
-abbrev pub AsksList : List Row → Command → Type 0
+abbrev pub AsksList : List Row → Question Submission → Type 0
 AsksList own (Listing f idle) = Lists (first_of (codes "kind") own) (first_of (codes "state") own) f × (idle ≡ is_idle f (first_of (codes "state") own))
 AsksList own other = ⊥
 
@@ -102,31 +104,39 @@ abbrev pub is_set : Option Text → Bool
 is_set (Some text) = bytes_eq text (codes "true")
 is_set None = false
 
--- the word for a command
-abbrev pub word_of : Command → Text
+-- the word for a question
+abbrev pub question_word : Question Submission → Text
+question_word (Submit s) = codes "submit"
+question_word Tick = codes "tick"
+question_word (Listing f idle) = codes "list"
+question_word Outstanding = codes "outstanding"
+question_word (Show n) = codes "show"
+question_word (Fetch n) = codes "fetch"
+
+-- .. and for a command
+abbrev pub word_of : Command Submission → Text
 word_of (Post log) = codes "post"
-word_of (Submit s) = codes "submit"
+word_of (Ask question) = question_word question
 word_of (Send w) = codes "send"
-word_of Tick = codes "tick"
-word_of (Listing f idle) = codes "list"
-word_of Outstanding = codes "outstanding"
-word_of (Show n) = codes "show"
-word_of (Fetch n) = codes "fetch"
 word_of (Serve s) = codes "serve"
 
+-- what the values of a question say for it
+abbrev pub TellQuestion : List Row → Question Submission → Type 0
+TellQuestion own (Submit s) = AsksSubmit own s
+TellQuestion own (Listing f idle) = AsksList own (Listing f idle)
+TellQuestion own (Show n) = IsEntry own n
+TellQuestion own (Fetch n) = IsEntry own n
+TellQuestion own _ = ⊤
+
 -- what the values before a command and its own say for it
-abbrev pub Tell : List Row → List Row → Command → Type 0
+abbrev pub Tell : List Row → List Row → Command Submission → Type 0
 Tell values own (Post log) = log ≡ is_set (first_of (codes "log") own)
-Tell values own (Submit s) = AsksSubmit own s
+Tell values own (Ask question) = TellQuestion own question
 Tell values own (Send w) = IsWait own w.seconds
-Tell values own (Listing f idle) = AsksList own (Listing f idle)
-Tell values own (Show n) = IsEntry own n
-Tell values own (Fetch n) = IsEntry own n
 Tell values own (Serve s) = AsksServe values own s
-Tell values own _ = ⊤
 
 -- the command of a word, by the values
-abbrev pub Commands : List Row → Text → List Row → Command → Type 0
+abbrev pub Commands : List Row → Text → List Row → Command Submission → Type 0
 Commands values word own command = (word ≡ word_of command) × Tell values own command
 
 -- what the values and the command ask for; a check needs no moment

@@ -19,7 +19,7 @@ use crate::args::{
 use crate::fault::OptionFault;
 use crate::first_number::FirstNumber;
 use crate::own::CHECK;
-use crate::tasks::{Command, Options, RunOptions, Serving, Submission, Task, Waits};
+use crate::tasks::{Command, Options, Question, RunOptions, Serving, Submission, Task, Waits};
 use as2_exchange::END_OF_NUMBERS;
 use as2_mdn::State;
 use as2_text::{AsName, Moment};
@@ -86,20 +86,20 @@ fn command_of<'a>(
     found: &ArgMatches<'a>,
     word: &str,
     own: &ArgMatches<'a>,
-) -> Result<Command<'a>, OptionFault<'a>>
+) -> Result<Command<'a, Submission<'a>>, OptionFault<'a>>
     ensures given { IfOk result (Commands (rows_of (found_of found.now)) word.now (rows_of (found_of own.now))) }
-    ensures none { IfErr result (λ _. (command : TheCommand)
+    ensures none { IfErr result (λ _. (command : TheCommand TheSubmission)
         → ¬ Commands (rows_of (found_of found.now)) word.now (rows_of (found_of own.now)) command) }
 {
     match word {
         "post" => Ok(Command::Post(is_set(own, LOG))),
-        "submit" => Ok(Command::Submit(submission(own)?)),
+        "submit" => Ok(Command::Ask(Question::Submit(submission(own)?))),
         "send" => Ok(Command::Send(waits(own)?)),
-        "tick" => Ok(Command::Tick),
-        "list" => listing(own),
-        "outstanding" => Ok(Command::Outstanding),
-        "show" => Ok(Command::Show(entry(own)?)),
-        "fetch" => Ok(Command::Fetch(entry(own)?)),
+        "tick" => Ok(Command::Ask(Question::Tick)),
+        "list" => Ok(Command::Ask(listing(own)?)),
+        "outstanding" => Ok(Command::Ask(Question::Outstanding)),
+        "show" => Ok(Command::Ask(Question::Show(entry(own)?))),
+        "fetch" => Ok(Command::Ask(Question::Fetch(entry(own)?))),
         "serve" => Ok(Command::Serve(serving(found, own)?)),
         _ => Err(OptionFault::NoCommand),
     }
@@ -159,13 +159,13 @@ fn entry<'a>(own: &ArgMatches<'a>) -> Result<u64, OptionFault<'a>>
     number_from(own, NUMBER, 1, END_OF_NUMBERS - 1)
 }
 
-/// The command `list`.
-fn listing<'a>(own: &ArgMatches<'a>) -> Result<Command<'a>, OptionFault<'a>>
+/// The question of `list`.
+fn listing<'a>(own: &ArgMatches<'a>) -> Result<Question<Submission<'a>>, OptionFault<'a>>
     ensures given { IfOk result (λ c. AsksList (rows_of (found_of own.now)) c) }
     ensures none { IfErr result (λ _. (f : TheFilter) → ¬ Lists (first_of (codes "kind") (rows_of (found_of own.now))) (first_of (codes "state") (rows_of (found_of own.now))) f) }
 {
     let filter = filter(own)?;
-    Ok(Command::List(filter, is_idle(filter, own)))
+    Ok(Question::List(filter, is_idle(filter, own)))
 }
 
 /// Whether a state is given and isn't looked at.

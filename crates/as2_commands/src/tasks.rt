@@ -60,25 +60,33 @@ impl<'a> Model for Serving<'a> {
     ghost view = { λ s. record { address = s.address.now; count = s.count; waits = s.waits; moment = s.moment } };
 }
 
-/// What is asked of the records.
+/// What is asked of the records once, and answered by a text. `D` is a document that is handed in: a `Submission`, until its file
+/// is read.
 #[derive(Drop)]
-pub enum Command<'a> {
+pub enum Question<D> {
+    /// To take the document in.
+    Submit(D),
+    /// To give up what has waited until the moment.
+    Tick,
+    /// For the lines of entries; and whether a state was given that isn't looked at, since what was received has none.
+    List(Filter, bool),
+    /// For what is outstanding.
+    Outstanding,
+    /// For the document of that number of the outbox: 1 to 999,999,999,999.
+    Show(u64),
+    /// For the content of the document of that number of the inbox: 1 to 999,999,999,999.
+    Fetch(u64),
+}
+
+/// What is to be done over the records.
+#[derive(Drop)]
+pub enum Command<'a, D> {
     /// The requests on standard input are answered; and whether each reply is noted.
     Post(bool),
-    /// A document is handed in.
-    Submit(Submission<'a>),
+    /// The records are asked once.
+    Ask(Question<D>),
     /// What is due is sent.
     Send(Waits),
-    /// Time has come to the moment.
-    Tick,
-    /// Entries are listed; and whether a state was given that isn't looked at, since what was received has none.
-    List(Filter, bool),
-    /// What is outstanding is listed.
-    Outstanding,
-    /// The document of that number of the outbox is shown: 1 to 999,999,999,999.
-    Show(u64),
-    /// The content of the document of that number of the inbox is written: 1 to 999,999,999,999.
-    Fetch(u64),
     /// Connections of partners are served.
     Serve(Serving<'a>),
 }
@@ -88,8 +96,8 @@ pub enum Command<'a> {
 pub enum Task<'a> {
     /// Their members are counted.
     Check,
-    /// The records are asked something.
-    Run(RunOptions, Command<'a>),
+    /// A command is carried out over the records.
+    Run(RunOptions, Command<'a, Submission<'a>>),
 }
 
 /// What a command line says.

@@ -18,8 +18,7 @@ use Rattle.as2_station.specs.Steps.{RefusesSubmit, TakesEvent}
 use Rattle.as2_station.specs.Theorem.{said_as}
 use Rattle.as2_records.specs.Calls.{Reads}
 use Rattle.as2_records.specs.Standing.{may_come}
-use Rattle.as2_desk.specs.Questions.{EndsBy, FaultMayCome, IsToldOf, Tells, Told, found_told, is_event, looked_up, number_line, read_told, told_by, told_by_step, told_of}
-use Rattle.as2_desk.specs.declared.asking.Question.{Question}
+use Rattle.as2_desk.specs.Questions.{Asked, EndsBy, FaultMayCome, IsToldOf, Tells, Told, found_told, is_event, looked_up, number_line, read_told, told_by, told_by_step, told_of}
 use Rattle.as2_desk.specs.declared.refusal.CommandFault.TheVariants.{Station}
 use Rattle.as2_host.specs.declared.stores.OpenFault.TheVariants as open_fault
 
@@ -34,17 +33,17 @@ never_full : (f : StoreFault) → may_come f ≡ true → open_fault.Store f ≡
 never_full f may is = let full : f ≡ Full = cc in let bad : may_come Full ≡ true = subst (λ g. may_come g ≡ true) full may in cc
 
 -- a fault of a text that was read, or of one that only some numbers have
-pub read_may : {V : Type 0} (q : Question) (text : V → List ℕ) (r : Result V StoreFault) → IfErr r (λ f. may_come f ≡ true) → FaultMayCome q (read_told text r)
+pub read_may : {V : Type 0} (q : Asked) (text : V → List ℕ) (r : Result V StoreFault) → IfErr r (λ f. may_come f ≡ true) → FaultMayCome q (read_told text r)
 read_may q text (Ok v) may = tt
 read_may q text (Err f) may = inr may
 
-pub looked_may : {V : Type 0} (q : Question) (text : V → List ℕ) (r : Result (Option V) StoreFault) → IfErr r (λ f. may_come f ≡ true) → FaultMayCome q (looked_up text r)
+pub looked_may : {V : Type 0} (q : Asked) (text : V → List ℕ) (r : Result (Option V) StoreFault) → IfErr r (λ f. may_come f ≡ true) → FaultMayCome q (looked_up text r)
 looked_may q text (Ok (Some v)) may = tt
 looked_may q text (Ok None) may = tt
 looked_may q text (Err f) may = inr may
 
 -- of an answer no fault of the store is told
-answer_may : (q : Question) (x : Answer) (told : Told) → told_of x ≡ Some told → FaultMayCome q told
+answer_may : (q : Asked) (x : Answer) (told : Told) → told_of x ≡ Some told → FaultMayCome q told
 answer_may q (answer.Submitted n) told is = let same : Ok (number_line n) ≡ told = cc in subst (FaultMayCome q) same tt
 answer_may q (answer.Ticked n) told is = let same : Ok (number_line n) ≡ told = cc in subst (FaultMayCome q) same tt
 answer_may q (answer.Refused reason) told is = let same : Err (Station reason) ≡ told = cc in subst (FaultMayCome q) same tt
@@ -56,7 +55,7 @@ answer_may q answer.TryFailed told is = absurd cc
 answer_may q answer.AlreadySettled told is = absurd cc
 
 -- .. or of an event
-pub event_may : {X : Type 0} (q : Question) → is_event q ≡ true → (tell : X → Answer) (r : Result X StoreFault) (told : Told) → IsToldOf (said_as tell r) told → IfErr r (λ f. (f ≡ Full) ⊎ (may_come f ≡ true)) → FaultMayCome q told
+pub event_may : {X : Type 0} (q : Asked) → is_event q ≡ true → (tell : X → Answer) (r : Result X StoreFault) (told : Told) → IsToldOf (said_as tell r) told → IfErr r (λ f. (f ≡ Full) ⊎ (may_come f ≡ true)) → FaultMayCome q told
 event_may q is tell (Ok a) told it may = answer_may q (tell a) told it
 event_may q is tell (Err f) told it may = subst (FaultMayCome q) (sym it) (elim may [ inl full ↦ inl (full, is) | inr other ↦ inr other ])
 
@@ -67,10 +66,10 @@ submission_refused A from to content m old new r told refuses it reason is =
     let said : Some (Err (Station reason)) ≡ Some told = subst (λ (x : Result (Result ℕ Refusal) StoreFault). IsToldOf (said_as said_to_submit x) told) (refuses.answer from to content m reason refl is) it in
     cc
 
-abbrev pub TellsFrom : {M : Medium} → AgreedValues → ℕ → Question → Standing M → Standing M → Told → Type 0
+abbrev pub TellsFrom : {M : Medium} → AgreedValues → ℕ → Asked → Standing M → Standing M → Told → Type 0
 TellsFrom A m q old new told = (s : State) → old.Rests s → (t : State) × new.Rests t × Tells A m q s t told
 
-module _ {M : Medium} (A : AgreedValues) (m : ℕ) (q : Question) (old new : Standing M) (clean : new.IsClean) where
+module _ {M : Medium} (A : AgreedValues) (m : ℕ) (q : Asked) (old new : Standing M) (clean : new.IsClean) where
   -- a text of the state
   pub read : {V : Type 0} (text : V → List ℕ) (view : State → List ℕ) → ((s : State) → told_by A m q s ≡ Some (Ok (view s), s))
       → (r : Result V StoreFault) → Reads (λ s v. text v ≡ view s) old new r → IfErr r (λ f. may_come f ≡ true) → TellsFrom A m q old new (read_told text r)

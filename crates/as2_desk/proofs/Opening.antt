@@ -11,10 +11,9 @@ use Rattle.as2_desk.proofs.Working.{does_left, observing}
 use Rattle.as2_desk.specs.Endings.{EndsRefused}
 use Rattle.as2_desk.specs.Observed.{Observed, Stored}
 use Rattle.as2_desk.specs.Runs.{Goes}
-use Rattle.as2_desk.specs.Works.{Does}
+use Rattle.as2_desk.specs.Works.{Does, Work}
 use Rattle.as2_desk.specs.declared.refusal.CommandFault.TheVariants.{Store}
 use Rattle.as2_desk.specs.declared.status.Ran.{Ran}
-use Rattle.as2_desk.specs.declared.work.Work.{Work}
 
 -- each state that is kept may be said in other words
 pub each_left : {A : Type 0} (last : Option A) (Clean : Type 0) (Rests : A → State → Type 0) (Keeps Later : State → Type 0) → IfSome last (λ l. Clean → (t : State) → Rests l t → Keeps t) → ((t : State) → Keeps t → Later t)

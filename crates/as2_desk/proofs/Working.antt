@@ -8,10 +8,9 @@ use Rattle.as2_commands.specs.Requests.{Serving}
 use Rattle.as2_desk.proofs.HandedBack.{SaysAgain, both_known, leaving, posts_left}
 use Rattle.as2_desk.specs.Connections.{NeverListens, ServesAll, StopsUnwritten}
 use Rattle.as2_desk.specs.Observed.{Observed, Outcome}
-use Rattle.as2_desk.specs.Works.{Does}
+use Rattle.as2_desk.specs.Works.{Does, Work}
 use Rattle.as2_desk.specs.declared.status.Ran.{Ran}
-use Rattle.as2_desk.specs.declared.work.Work.{Work}
-use Rattle.as2_desk.specs.declared.work.Work.TheVariants as work
+use Rattle.as2_commands.specs.declared.tasks.Command.TheVariants as command
 
 -- what is told of connections doesn't say what is left
 serves_left : (serving : Serving) (ends : List Served) (o : Outcome) (Left : State → Type 0) (l : Listening) (ran : Ran)
@@ -28,10 +27,10 @@ observing o Left = record o { outcome = leaving o.outcome Left }
 -- the state may be said in other words
 pub does_left : (A : AgreedValues) (m : ℕ) (w : Work) (known : Option State) (o : Observed) (Left : State → Type 0) (ran : Ran)
     → SaysAgain known Left o.outcome.Left → Does A m w known (observing o Left) ran → Does A m w known o ran
-does_left A m (work.Post logs) known o Left ran again it = posts_left A m known o.input o.outcome Left ran again it
-does_left A m (work.Ask q) known o Left ran again it =
+does_left A m (command.Post logs) known o Left ran again it = posts_left A m known o.input o.outcome Left ran again it
+does_left A m (command.Ask q) known o Left ran again it =
     (it.0, record { told = it.1.told; refused = it.1.refused; fault = it.1.fault; tells = both_known _ _ _ known again it.1.tells (λ s later tells. (tells.0, later tells.0 tells.1, tells.2)); by_history = both_known _ _ _ known again it.1.by_history (λ s later by. (by.0, later by.0 by.1, by.2)); prints = it.1.prints })
-does_left A m (work.Send waits) known o Left ran again it =
+does_left A m (command.Send waits) known o Left ran again it =
     (it.0, record { end = it.1.end; sends = both_known _ _ _ known again it.1.sends (λ s later sends. (sends.0, later sends.0 sends.1, sends.2)); unwritten = it.1.unwritten; told = it.1.told })
-does_left A m (work.Serve serving) known o Left ran again it =
+does_left A m (command.Serve serving) known o Left ran again it =
     (it.0, record { ends = it.1.ends; serves = both_known _ _ _ known again it.1.serves (λ s later serves. (serves.0, later serves.0 serves.1, serves.2)); told = serves_left serving it.1.ends o.outcome Left (o.listening serving) ran it.1.told })

@@ -1,12 +1,14 @@
 -- What may help whoever looks on, a line each.
 use Rattle.std.specs.Prelude.{ℕ, List, [], ◌++◌, Bool, codes, true, if◌then◌else◌}
 use Rattle.as2_commands.specs.declared.tasks.Command.{Command}
-use Rattle.as2_commands.specs.declared.tasks.Command.TheVariants.{List as Listing}
+use Rattle.as2_commands.specs.declared.tasks.Command.TheVariants.{Ask}
+use Rattle.as2_commands.specs.declared.tasks.Question.TheVariants.{List as Listing}
+use Rattle.as2_commands.specs.Requests.{Submission}
 use Rattle.as2_desk.specs.Escapes.{escaped}
 
 -- what is given and not looked at: a state, where what was received is listed
-abbrev pub idle_hint : Command → List ℕ
-idle_hint (Listing filter true) = codes "hint: 'list in' doesn't look at --state\n"
+abbrev pub idle_hint : Command Submission → List ℕ
+idle_hint (Ask (Listing filter true)) = codes "hint: 'list in' doesn't look at --state\n"
 idle_hint other = []
 
 -- which file can't be read

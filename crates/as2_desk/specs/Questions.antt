@@ -15,6 +15,7 @@ use Rattle.as2_exchange.specs.Run.{Said as Saying, Answered, Failed}
 use Rattle.as2_exchange.specs.declared.fault.StoreFault.{StoreFault}
 use Rattle.as2_station.specs.Heads.{submit_refusal}
 use Rattle.as2_station.specs.Theorem.{EndsByHistory}
+use Rattle.as2_station.specs.declared.said.NewDocument.{NewDocument}
 use Rattle.as2_records.specs.Standing.{may_come}
 use Rattle.as2_views.specs.Filtering.{listing}
 use Rattle.as2_desk.specs.Endings.{Ends, EndsRefused}
@@ -23,12 +24,16 @@ use Rattle.as2_desk.specs.Statuses.{done}
 use Rattle.as2_desk.specs.Written.{Breaks, Writes, Written}
 use Rattle.as2_desk.specs.declared.asking.Printed.{Printed}
 use Rattle.as2_desk.specs.declared.asking.Printed.TheVariants.{Number, Words, Content}
-use Rattle.as2_desk.specs.declared.asking.Question.{Question}
-use Rattle.as2_desk.specs.declared.asking.Question.TheVariants.{Submit, Tick, Listing, Outstanding, Show, Fetch}
+use Rattle.as2_commands.specs.declared.tasks.Question.{Question}
+use Rattle.as2_commands.specs.declared.tasks.Question.TheVariants.{Submit, Tick, List as Listing, Outstanding, Show, Fetch}
 use Rattle.as2_desk.specs.declared.refusal.CommandFault.{CommandFault}
 use Rattle.as2_desk.specs.declared.refusal.CommandFault.TheVariants.{CannotWrite, Station, Store}
 use Rattle.as2_desk.specs.declared.status.Ran.{Ran}
 use Rattle.as2_host.specs.declared.stores.OpenFault.TheVariants as open_fault
+
+-- a question, whose document was read
+abbrev pub Asked : Type 0
+Asked = Question NewDocument
 
 -- a number in decimal digits, and LF
 abbrev pub number_line : ℕ → List ℕ
@@ -82,33 +87,33 @@ told_by_step None = None
 told_by_step (Some came) = option_map (λ told. (told, came.1)) (told_of came.0)
 
 -- what the machine and the views answer in a state at this moment, and the state that they leave
-abbrev pub told_by : AgreedValues → ℕ → Question → State → Option (Told × State)
-told_by A m (Submit from to content) s = told_by_step (step A s (event.Submit from to content m))
+abbrev pub told_by : AgreedValues → ℕ → Asked → State → Option (Told × State)
+told_by A m (Submit d) s = told_by_step (step A s (event.Submit d.organization d.partner d.content m))
 told_by A m Tick s = told_by_step (step A s (event.Tick m))
-told_by A m (Listing filter) s = Some (Ok (listing filter s), s)
+told_by A m (Listing filter idle) s = Some (Ok (listing filter s), s)
 told_by A m Outstanding s = Some (Ok (outstanding s m), s)
 told_by A m (Show n) s = Some (found_told (show s n), s)
 told_by A m (Fetch n) s = Some (found_told (fetch s n), s)
 
 -- That is told in the state s, and t is left: what the machine and the views answer there; or a fault of the store, which
 -- changes nothing, and is Full only where no number is left.
-abbrev pub Tells : AgreedValues → ℕ → Question → State → State → Told → Type 0
+abbrev pub Tells : AgreedValues → ℕ → Asked → State → State → Told → Type 0
 Tells A m q s t (Err (Store fault)) = (t ≡ s) × (fault ≡ open_fault.Store store_fault.Full → told_by A m q s ≡ None)
 Tells A m q s t told = told_by A m q s ≡ Some (told, t)
 
 -- why something is refused without the store: a submission, for its sender, its receiver or its size
-abbrev pub refusal_to : AgreedValues → Question → Option Refusal
-refusal_to A (Submit from to content) = submit_refusal A from to content
+abbrev pub refusal_to : AgreedValues → Asked → Option Refusal
+refusal_to A (Submit d) = submit_refusal A d.organization d.partner d.content
 refusal_to A other = None
 
 -- it is an event; the others read, and change nothing
-abbrev pub is_event : Question → Bool
-is_event (Submit from to content) = true
+abbrev pub is_event : Asked → Bool
+is_event (Submit d) = true
 is_event Tick = true
 is_event other = false
 
 -- a fault of the store that is told is one that may come of any call, or Full, which comes of events alone
-abbrev pub FaultMayCome : Question → Told → Type 0
+abbrev pub FaultMayCome : Asked → Told → Type 0
 FaultMayCome q (Err (Store open_fault.Held)) = ⊥
 FaultMayCome q (Err (Store (open_fault.Store fault))) = ((fault ≡ store_fault.Full) × (is_event q ≡ true)) ⊎ (may_come fault ≡ true)
 FaultMayCome q told = ⊤
@@ -118,8 +123,8 @@ abbrev pub EndsBy : AgreedValues → Event → State → State → Told → Type
 EndsBy A e s t told = (said : Saying) × IsToldOf said told × EndsByHistory A s ((e, said) ∷ []) t
 
 -- .. where it is an event
-abbrev pub EndsByEvent : AgreedValues → ℕ → Question → State → State → Told → Type 0
-EndsByEvent A m (Submit from to content) s t told = EndsBy A (event.Submit from to content m) s t told
+abbrev pub EndsByEvent : AgreedValues → ℕ → Asked → State → State → Told → Type 0
+EndsByEvent A m (Submit d) s t told = EndsBy A (event.Submit d.organization d.partner d.content m) s t told
 EndsByEvent A m Tick s t told = EndsBy A (event.Tick m) s t told
 EndsByEvent A m other s t told = ⊤
 
@@ -132,7 +137,7 @@ Prints (Err refusal) output errors ran = output.Untouched × EndsRefused refusal
 -- Something was told: why it is refused, where that takes no store; or a fault of the store, of those that may come; or an
 -- answer. Where the state is known that the records stood for, it is what is told there, and what is left stands for the state
 -- that this leaves, and for the history of the event, where it is one.
-pub record Asks (agreements : AgreedValues) (moment : ℕ) (question : Question) (known : Option State) (o : Outcome) (ran : Ran) : Type 0 where
+pub record Asks (agreements : AgreedValues) (moment : ℕ) (question : Asked) (known : Option State) (o : Outcome) (ran : Ran) : Type 0 where
   pub told : Told
   pub refused : (reason : Refusal) → refusal_to agreements question ≡ Some reason → told ≡ Err (Station reason)
   pub fault : FaultMayCome question told

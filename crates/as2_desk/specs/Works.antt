@@ -2,51 +2,68 @@
 use Rattle.std.specs.Prelude.{◌≡◌, ◌+◌, ℕ, List, Option, Result, Ok, Err, ⊤}
 use Rattle.as2_agreement.specs.Agreements.{AgreedValues}
 use Rattle.as2_exchange.specs.State.{State, content_limit}
+use Rattle.as2_station.specs.declared.said.NewDocument.{NewDocument}
 use Rattle.as2_desk.specs.Connections.{ServesCount}
 use Rattle.as2_host.specs.FileContents.{Content, front}
 use Rattle.as2_desk.specs.FileDocuments.{Document, HasDocument}
 use Rattle.as2_desk.specs.Observed.{Observed}
 use Rattle.as2_desk.specs.Posting.{Posts}
-use Rattle.as2_desk.specs.Questions.{Asks}
+use Rattle.as2_desk.specs.Questions.{Asked, Asks}
 use Rattle.as2_desk.specs.SendingDue.{SendsDue}
 use Rattle.as2_commands.specs.Requests.{Submission}
-use Rattle.as2_desk.specs.declared.asking.Question.TheVariants.{Submit, Tick, Listing, Outstanding, Show, Fetch}
+use Rattle.as2_commands.specs.declared.tasks.Command.{Command}
+use Rattle.as2_commands.specs.declared.tasks.Command.TheVariants.{Post, Ask, Send, Serve}
+use Rattle.as2_commands.specs.declared.tasks.Question.{Question}
+use Rattle.as2_commands.specs.declared.tasks.Question.TheVariants as question
 use Rattle.as2_desk.specs.declared.refusal.CommandFault.{CommandFault}
 use Rattle.as2_desk.specs.declared.status.Ran.{Ran}
-use Rattle.as2_commands.specs.declared.tasks.Command.{Command}
-use Rattle.as2_commands.specs.declared.tasks.Command.TheVariants as command
-use Rattle.as2_desk.specs.declared.work.Work.{Work}
-use Rattle.as2_desk.specs.declared.work.Work.TheVariants as work
 
--- what is done over the store, or the refusal that stands in its place
+-- what is done over the store: a command, whose document was read
+abbrev pub Work : Type 0
+Work = Command NewDocument
+
+-- .. or the refusal that stands in its place
 abbrev pub Begun : Type 0
 Begun = Result Work CommandFault
 
+-- the same of a document alone
+abbrev pub asked_of : Result NewDocument CommandFault → Result Asked CommandFault
+asked_of (Ok document) = Ok (question.Submit document)
+asked_of (Err refusal) = Err refusal
+
 -- a document in hand is handed in
-abbrev pub handing : Submission → Document → Begun
-handing s (Ok content) = Ok (work.Ask (Submit s.from s.to content))
+abbrev pub handing : Submission → Document → Result Asked CommandFault
+handing s (Ok content) = Ok (question.Submit (record { organization = s.from; partner = s.to; content = content }))
 handing s (Err refusal) = Err refusal
 
--- what a command does over the store; of the file of a submission one byte more is read than a content may have
-abbrev pub IsWork : (List ℕ → Content) → Command → Begun → Type 0
-IsWork contents (command.Post logs) begun = begun ≡ Ok (work.Post logs)
-IsWork contents (command.Submit s) begun = (document : Document) × HasDocument (front (content_limit + 1) (contents s.path)) document × (begun ≡ handing s document)
-IsWork contents (command.Send waits) begun = begun ≡ Ok (work.Send waits)
-IsWork contents command.Tick begun = begun ≡ Ok (work.Ask Tick)
-IsWork contents (command.List filter idle) begun = begun ≡ Ok (work.Ask (Listing filter))
-IsWork contents command.Outstanding begun = begun ≡ Ok (work.Ask Outstanding)
-IsWork contents (command.Show n) begun = begun ≡ Ok (work.Ask (Show n))
-IsWork contents (command.Fetch n) begun = begun ≡ Ok (work.Ask (Fetch n))
-IsWork contents (command.Serve serving) begun = begun ≡ Ok (work.Serve serving)
+-- what is asked once the file of a submission is read; of it one byte more is read than a content may have
+abbrev pub IsAsked : (List ℕ → Content) → Question Submission → Result Asked CommandFault → Type 0
+IsAsked contents (question.Submit s) asked = (document : Document) × HasDocument (front (content_limit + 1) (contents s.path)) document × (asked ≡ handing s document)
+IsAsked contents question.Tick asked = asked ≡ Ok question.Tick
+IsAsked contents (question.List filter idle) asked = asked ≡ Ok (question.List filter idle)
+IsAsked contents question.Outstanding asked = asked ≡ Ok question.Outstanding
+IsAsked contents (question.Show n) asked = asked ≡ Ok (question.Show n)
+IsAsked contents (question.Fetch n) asked = asked ≡ Ok (question.Fetch n)
+
+abbrev pub asking : Result Asked CommandFault → Begun
+asking (Ok asked) = Ok (Ask asked)
+asking (Err refusal) = Err refusal
+
+-- the same of a command
+abbrev pub IsWork : (List ℕ → Content) → Command Submission → Begun → Type 0
+IsWork contents (Post logs) begun = begun ≡ Ok (Post logs)
+IsWork contents (Ask question) begun = (asked : Result Asked CommandFault) × IsAsked contents question asked × (begun ≡ asking asked)
+IsWork contents (Send waits) begun = begun ≡ Ok (Send waits)
+IsWork contents (Serve serving) begun = begun ≡ Ok (Serve serving)
 
 -- it is done, at this moment; no other command than `post` reads the input
 abbrev pub Does : AgreedValues → ℕ → Work → Option State → Observed → Ran → Type 0
-Does agreements moment (work.Post logs) known o ran = Posts agreements moment known o.input o.outcome ran
-Does agreements moment (work.Ask question) known o ran = o.input.Untouched × Asks agreements moment question known o.outcome ran
-Does agreements moment (work.Send waits) known o ran = o.input.Untouched × SendsDue agreements moment known o.outcome (o.Exchanged waits) ran
-Does agreements moment (work.Serve serving) known o ran = o.input.Untouched × ServesCount agreements serving known o.outcome (o.listening serving) ran
+Does agreements moment (Post logs) known o ran = Posts agreements moment known o.input o.outcome ran
+Does agreements moment (Ask asked) known o ran = o.input.Untouched × Asks agreements moment asked known o.outcome ran
+Does agreements moment (Send waits) known o ran = o.input.Untouched × SendsDue agreements moment known o.outcome (o.Exchanged waits) ran
+Does agreements moment (Serve serving) known o ran = o.input.Untouched × ServesCount agreements serving known o.outcome (o.listening serving) ran
 
 -- it sends
 abbrev pub SendsWork : Work → Type 0
-SendsWork (work.Send waits) = ⊤
+SendsWork (Send waits) = ⊤
 SendsWork other = ⊥

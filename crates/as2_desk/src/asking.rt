@@ -18,36 +18,13 @@ use crate::lines::joined;
 use crate::refusal::{CommandFault, refuse};
 use crate::status::{DONE, Ran};
 use crate::terms::Terms;
+use as2_commands::Question;
 use as2_exchange::{Refusal, StoreFault};
 use as2_host::OpenFault;
 use as2_http::{DeviceFault, Sink, push_all};
-use as2_mic::Pieces;
 use as2_records::Records;
 use as2_station::{NewDocument, Station, Submitted};
-use as2_text::AsName;
-use as2_views::Filter;
 use itoa::Buffer;
-
-/// What is asked of the station once.
-#[derive(Drop)]
-pub(crate) enum Question {
-    /// To take a document in.
-    Submit {
-        from: AsName,
-        to: AsName,
-        content: Pieces,
-    },
-    /// To give up what has waited too long.
-    Tick,
-    /// For the lines of its entries.
-    Listing(Filter),
-    /// For what is outstanding.
-    Outstanding,
-    /// For the document of that number.
-    Show(u64),
-    /// For the content of the received entry of that number.
-    Fetch(u64),
-}
 
 /// What is printed of an answer.
 #[derive(Drop)]
@@ -117,7 +94,7 @@ fn fetched_told(said: Result<Option<Vec<u8>>, StoreFault>) -> Result<Printed, Co
 fn answer<K: Records>(
     terms: &Terms<'_>,
     station: &mut Station<K>,
-    question: Question,
+    question: Question<NewDocument>,
 ) -> Result<Printed, CommandFault>
     ensures refused { (reason : TheRefusal) → refusal_to terms.now.agreements.now question ≡ Some reason → told_as result ≡ Err (Refusing reason) }
     ensures fault { FaultMayCome question (told_as result) }
@@ -128,16 +105,11 @@ fn answer<K: Records>(
         → (t : State) × (K.shows station.new).Rests t × EndsByEvent terms.now.agreements.now terms.now.moment question s t (told_as result) }
 {
     match question {
-        Question::Submit { from, to, content } => {
-            let document = NewDocument {
-                organization: from,
-                partner: to,
-                content,
-            };
+        Question::Submit(document) => {
             submitted_told(station.submit(terms.alloc, terms.agreements, document, terms.moment))
         }
         Question::Tick => ticked_told(station.tick(terms.agreements, terms.moment)),
-        Question::Listing(filter) => read_told(station.listing(terms.alloc, filter)),
+        Question::List(filter, _) => read_told(station.listing(terms.alloc, filter)),
         Question::Outstanding => read_told(station.outstanding(terms.alloc, terms.moment)),
         Question::Show(number) => shown_told(station.show(terms.alloc, number)),
         Question::Fetch(number) => fetched_told(station.fetch(terms.alloc, number)),
@@ -148,7 +120,7 @@ fn answer<K: Records>(
 pub(crate) fn ask<K: Records, R, W: Sink, H, E: Sink>(
     terms: &Terms<'_>,
     station: &mut Station<K>,
-    question: Question,
+    question: Question<NewDocument>,
     console: &mut Console<R, W, H, E>,
 ) -> Ran
     ensures status { (result.status ≡ done) ⊎ ((result.status ≡ refused) ⊎ (result.status ≡ failed)) }

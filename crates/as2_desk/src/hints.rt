@@ -5,26 +5,26 @@ ghost use Rattle.std.specs.Io.KnownBytes.{Appends};
 ghost use Rattle.as2_desk.specs.Hints.{file_hint, file_hint_if, idle_hint};
 
 use crate::escaping::write_escaped;
-use as2_commands::Command;
+use as2_commands::{Command, Question, Submission};
 use std::io;
 use std::io::Write;
 
 const IDLE_STATE: &str = "hint: 'list in' doesn't look at --state\n";
 
 /// Says what is given and not looked at: a state, where what was received is listed; and whether that could be said.
-pub(crate) fn is_noticed<H: Write>(command: &Command<'_>, hints: &mut H) -> bool
+pub(crate) fn is_noticed<H: Write>(command: &Command<'_, Submission<'_>>, hints: &mut H) -> bool
     ensures { result ≡ true → Appends (H.contents hints.old) (H.contents hints.new) (idle_hint command.now) }
 {
     match command {
-        Command::List(_, true) => hints.write_all(IDLE_STATE.as_bytes()).is_ok(),
+        Command::Ask(Question::List(_, true)) => hints.write_all(IDLE_STATE.as_bytes()).is_ok(),
         _ => true,
     }
 }
 
 /// The path of the file that a command reads; empty where it reads none.
-pub(crate) fn document_path<'a>(command: &Command<'a>) -> &'a str {
+pub(crate) fn document_path<'a>(command: &Command<'a, Submission<'a>>) -> &'a str {
     match command {
-        Command::Submit(submission) => submission.path,
+        Command::Ask(Question::Submit(submission)) => submission.path,
         _ => "",
     }
 }

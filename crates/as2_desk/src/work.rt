@@ -1,16 +1,18 @@
 //! What a command does over the store.
-ghost use Rattle.std.specs.Prelude.{◌≡◌, ◌⊎◌, ℕ, Option, Ok, None, codes, IfErr, IfOk, IfSome, IsSomeAnd};
-ghost use Rattle.as2_exchange.specs.State.{State};
+ghost use Rattle.std.specs.Prelude.{◌≡◌, ◌⊎◌, ◌+◌, ℕ, Option, Ok, None, codes, IfErr, IfOk, IfSome, IsSomeAnd};
+ghost use Rattle.as2_exchange.specs.State.{State, content_limit};
 ghost use Rattle.as2_host.specs.Networks.{ExchangedOver, listening_of};
 ghost use Rattle.as2_desk.specs.Endings.{EndsRefused, Stopped};
 ghost use Rattle.as2_desk.specs.Observed.{errors_of, input_of, outcome_of, output_of, stored_of};
 ghost use Rattle.as2_desk.specs.Runs.{Goes};
 ghost use Rattle.as2_desk.specs.Statuses.{done, failed, refused};
 ghost use Rattle.as2_desk.specs.Stores.{Leaves};
-ghost use Rattle.as2_desk.specs.Works.{Does, IsWork, SendsWork};
+ghost use Rattle.as2_host.specs.FileContents.{front};
+ghost use Rattle.as2_desk.specs.FileDocuments.{Document, HasDocument};
+ghost use Rattle.as2_desk.specs.Works.{Does, IsAsked, IsWork, SendsWork, asked_of, handing};
 ghost use Rattle.as2_desk.specs.declared.refusal.CommandFault.TheVariants.{Store as Failing};
 
-use crate::asking::{Question, ask};
+use crate::asking::ask;
 use crate::console::{Console, Host};
 use crate::documents::document_in;
 use crate::posting::post;
@@ -19,52 +21,65 @@ use crate::sending::send_due;
 use crate::serving::serve;
 use crate::status::Ran;
 use crate::terms::{NamedStore, Terms};
-use as2_commands::{Command, Serving, Waits};
+use as2_commands::{Command, Question, Submission};
 use as2_host::{Network, OpenFault, OpenStores, ReadFiles};
 use as2_http::{Journal, Sink, Source};
 use as2_records::Records;
-use as2_station::Station;
+use as2_station::{NewDocument, Station};
 use std::alloc::Global;
 use std::io::Write;
 
-/// What a command does over the store, once its document is read.
-#[derive(Drop)]
-pub(crate) enum Work<'a> {
-    /// The requests of the input are answered; and whether the replies are noted.
-    Post(bool),
-    /// The station is asked once.
-    Ask(Question),
-    /// What is due is sent.
-    Send(Waits),
-    /// Connections are served.
-    Serve(Serving<'a>),
+/// What is done over the store: a command, whose document was read.
+pub(crate) type Work<'a> = Command<'a, NewDocument>;
+
+/// The document of a submission, whose file is read.
+fn handed<F: ReadFiles>(
+    alloc: Global,
+    files: &F,
+    submission: Submission<'_>,
+) -> Result<NewDocument, CommandFault>
+    ensures { (document : Document) × HasDocument (front (content_limit + 1) (F.content files.now submission.entry.path)) document
+        × (asked_of result ≡ handing submission.entry document) }
+{
+    let content = document_in(alloc, files, submission.path)?;
+    Ok(NewDocument {
+        organization: submission.from,
+        partner: submission.to,
+        content,
+    })
 }
 
-/// What the command does. The document of a submission is read, and no other file.
+/// What is asked, once the file of a submission is read. No other file is.
+fn asked<F: ReadFiles>(
+    alloc: Global,
+    files: &F,
+    question: Question<Submission<'_>>,
+) -> Result<Question<NewDocument>, CommandFault>
+    ensures { IsAsked (F.content files.now) question.entry result }
+{
+    match question {
+        Question::Submit(submission) => Ok(Question::Submit(handed(alloc, files, submission)?)),
+        Question::Tick => Ok(Question::Tick),
+        Question::List(filter, idle) => Ok(Question::List(filter, idle)),
+        Question::Outstanding => Ok(Question::Outstanding),
+        Question::Show(number) => Ok(Question::Show(number)),
+        Question::Fetch(number) => Ok(Question::Fetch(number)),
+    }
+}
+
+/// What the command does, once its document is read.
 pub(crate) fn work_of<'a, F: ReadFiles>(
     alloc: Global,
     files: &F,
-    command: Command<'a>,
+    command: Command<'a, Submission<'a>>,
 ) -> Result<Work<'a>, CommandFault>
     ensures { IsWork (F.content files.now) command.entry result }
 {
     match command {
-        Command::Post(logs) => Ok(Work::Post(logs)),
-        Command::Tick => Ok(Work::Ask(Question::Tick)),
-        Command::List(filter, _) => Ok(Work::Ask(Question::Listing(filter))),
-        Command::Outstanding => Ok(Work::Ask(Question::Outstanding)),
-        Command::Show(number) => Ok(Work::Ask(Question::Show(number))),
-        Command::Fetch(number) => Ok(Work::Ask(Question::Fetch(number))),
-        Command::Send(waits) => Ok(Work::Send(waits)),
-        Command::Serve(serving) => Ok(Work::Serve(serving)),
-        Command::Submit(submission) => {
-            let content = document_in(alloc, files, submission.path)?;
-            Ok(Work::Ask(Question::Submit {
-                from: submission.from,
-                to: submission.to,
-                content,
-            }))
-        }
+        Command::Post(logs) => Ok(Command::Post(logs)),
+        Command::Ask(question) => Ok(Command::Ask(asked(alloc, files, question)?)),
+        Command::Send(waits) => Ok(Command::Send(waits)),
+        Command::Serve(serving) => Ok(Command::Serve(serving)),
     }
 }
 
@@ -89,13 +104,13 @@ fn do_at<K: Records, N: Network, R: Source, W: Sink, H: Write + Journal, E: Sink
         (output_of W.Sink console.old console.new) (errors_of E.Sink console.old console.new) result }
 {
     match work {
-        Work::Post(logs) => post(terms, station, logs, console),
-        Work::Ask(question) => ask(terms, station, question, console),
-        Work::Send(waits) => {
+        Command::Post(logs) => post(terms, station, logs, console),
+        Command::Ask(question) => ask(terms, station, question, console),
+        Command::Send(waits) => {
             let mut links = network.links(waits);
             send_due(terms, station, &mut links, console)
         }
-        Work::Serve(serving) => serve(terms, serving, station, network, console),
+        Command::Serve(serving) => serve(terms, serving, station, network, console),
     }
 }
 

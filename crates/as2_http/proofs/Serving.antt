@@ -277,6 +277,7 @@ serving_ends A moment s input p q c d unread after before now later i j k piece 
         rest = a.rest;
         all = all;
         run = answers_run A moment s a.mid input (w.replies ++ a.replies) a.rest (w.done ++ a.done) all;
+        by_history = ends_by_history A s (events moment (w.done ++ a.done)) a.mid (answers_run A moment s a.mid input (w.replies ++ a.replies) a.rest (w.done ++ a.done) all);
         ends = ends_on A moment w.done a.done a.mid w.replies a.replies a.rest m.left q after before now later a.last end w.go_on w.said a.ends;
         reads = next_read A moment s input p c unread after before now i j k piece w m most is;
       },
@@ -307,6 +308,7 @@ serves_as A moment s input p c unread after before now i j k end w e reads =
         rest = w.held ++ w.reads.left;
         all = all;
         run = answers_run A moment s w.mid input w.replies (w.held ++ w.reads.left) w.done all;
+        by_history = ends_by_history A s (events moment w.done) w.mid (answers_run A moment s w.mid input w.replies (w.held ++ w.reads.left) w.done all);
         ends = e;
         reads = reads;
       },
@@ -363,6 +365,7 @@ serves_nothing A moment s input c unread now calls rests known = (
     rest = input;
     all = (refl, refl, refl);
     run = refl;
+    by_history = ends_by_history A s [] s refl;
     ends = (tt, for_request refl (says_nil now));
     reads = reads_none (NeedsMore A moment s) input unread calls known;
   },

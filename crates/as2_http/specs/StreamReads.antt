@@ -42,7 +42,8 @@ pub record BetweenReads {M : Medium} (A : AgreedValues) (moment : ℕ) (s : Stat
 
 -- ---- the stream
 
--- the requests that the input begins with were answered one after the other, a run of the machine; their replies were written and noted, this end followed, and t is left
+-- the requests that the input begins with were answered one after the other, a run of the machine, and what stands of each document is its history; their replies
+-- were written and noted, this end followed, and t is left
 pub record Serves (A : AgreedValues) (moment : ℕ) (s t : State) (input : List ℕ) (unread : Option (List ℕ)) (before after : Spoken) (calls later : ℕ) (served : Served) : Type 0 where
   pub done : List Exchange
   pub mid : State
@@ -50,6 +51,7 @@ pub record Serves (A : AgreedValues) (moment : ℕ) (s t : State) (input : List 
   pub rest : List ℕ
   pub all : AnswersAll A moment s input done mid replies rest
   pub run : Run A s (events moment done) mid
+  pub by_history : EndsByHistory A s (events moment done) mid
   pub ends : Ends A moment done mid replies rest unread before after t served
   pub reads : ReadsNeeded (NeedsMore A moment s) input unread calls later
 

@@ -233,7 +233,7 @@ pub fn serve_stream<K: Records, R: Source, W: Sink, J: Journal>(
     ensures reads { R.calls source.new ≤ R.calls source.old + 100000 }
     ensures read_fault { result ≡ ReadFault → R.failed source.old < R.failed source.new }
     ensures write_fault { result ≡ WriteFault → W.failed sink.old < W.failed sink.new }
-    // A call that fails is told, and is the last of its device.
+    // A call that fails is told by the end, and of either device one fails at most.
     ensures sound_reads { ¬ (result ≡ ReadFault) → R.failed source.new ≡ R.failed source.old }
     ensures sound_writes { ¬ (result ≡ WriteFault) → W.failed sink.new ≡ W.failed sink.old }
     ensures once_read { R.failed source.new ≤ R.failed source.old + 1 }

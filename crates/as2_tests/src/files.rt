@@ -6,6 +6,7 @@ use crate::texts::{PLAIN, RECEIVED, event_of, is_said, texts};
 use as2_agreement::Agreements;
 use as2_exchange::{Event, StoreFault};
 use as2_kept::Kept;
+use as2_records::Records;
 use as2_restart::{close, open_at, play_then_close};
 use as2_station::{Filter, Station};
 use as2_store::Store;
@@ -53,7 +54,7 @@ fn is_filled<S: Alter + Drop>(alloc: Global, conn: Connection<S>) -> Result<bool
 }
 
 /// Whether the plain post gets its receipt.
-fn takes_post<S: Alter>(alloc: Global, station: &mut Station<Kept<S>>) -> Result<bool, Fail> {
+fn takes_post<K: Records>(alloc: Global, station: &mut Station<K>) -> Result<bool, Fail> {
     let settings = texts(alloc)?;
     let agreements = Agreements::read(alloc, AGREEMENTS)?;
     let said = station.step(alloc, &agreements, event_of(alloc, &settings, PLAIN)?);

@@ -1,6 +1,8 @@
 //! Command lines.
 use crate::arguments::{Arguments, parts_of};
-use as2_commands::{Command, Filter, FirstNumber, Options, Serving, Submission, Task, options_in};
+use as2_commands::{
+    Command, Filter, FirstNumber, Options, Question, Serving, Submission, Task, options_in,
+};
 use clap::Error;
 use script_lines::Answer;
 
@@ -82,23 +84,30 @@ fn say_with(answer: &mut Answer, word: &str, number: u64) {
     answer.say_number(number);
 }
 
-/// Answers with what is asked of the records.
-fn say_command(answer: &mut Answer, command: &Command<'_>) {
-    match command {
-        Command::Post(false) => answer.say("post"),
-        Command::Post(true) => answer.say("post, each reply noted"),
-        Command::Submit(given) => say_submission(answer, given),
-        Command::Send(waits) => say_with(answer, "send", waits.seconds),
-        Command::Tick => answer.say("tick"),
-        Command::List(given, idle) => {
+/// Answers with what is asked of the records once.
+fn say_question(answer: &mut Answer, question: &Question<Submission<'_>>) {
+    match question {
+        Question::Submit(given) => say_submission(answer, given),
+        Question::Tick => answer.say("tick"),
+        Question::List(given, idle) => {
             say_filter(answer, given);
             if *idle {
                 answer.say(", whose state isn't looked at");
             }
         }
-        Command::Outstanding => answer.say("outstanding"),
-        Command::Show(number) => say_with(answer, "show", *number),
-        Command::Fetch(number) => say_with(answer, "fetch", *number),
+        Question::Outstanding => answer.say("outstanding"),
+        Question::Show(number) => say_with(answer, "show", *number),
+        Question::Fetch(number) => say_with(answer, "fetch", *number),
+    }
+}
+
+/// Answers with what is to be done over the records.
+fn say_command(answer: &mut Answer, command: &Command<'_, Submission<'_>>) {
+    match command {
+        Command::Post(false) => answer.say("post"),
+        Command::Post(true) => answer.say("post, each reply noted"),
+        Command::Ask(question) => say_question(answer, question),
+        Command::Send(waits) => say_with(answer, "send", waits.seconds),
         Command::Serve(given) => say_serving(answer, given),
     }
 }

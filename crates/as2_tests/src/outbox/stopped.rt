@@ -6,12 +6,13 @@ use crate::texts::{event_of, is_said, texts};
 use as2_agreement::Agreements;
 use as2_exchange::Event;
 use as2_kept::Kept;
+use as2_records::Records;
 use as2_restart::{Stopped, play_then_stop, reopen, stop_and_open};
 use as2_station::{Filter, Station};
 use as2_store::Store;
 use as2_text::Moment;
 use script_lines::Settings;
-use sqlite::{Alter, Connection, FileStore, Options};
+use sqlite::{Connection, FileStore, Options};
 use sqlite_disk::{Disk, Files, Fuse, Memory};
 use std::alloc::Global;
 use std::test::Fail;
@@ -35,12 +36,12 @@ const NEVER: Stop = Stop {
 /// A station over files that a stop leaves, and that are opened again. The tests go by this alone, since each call at the one kind of
 /// files costs the prover much.
 trait Stops: Drop {
-    type Kind: Alter;
+    type Kind: Records;
 
     /// Over a new store; None where it is stopped before.
     fn begin(alloc: Global, stop: Stop) -> Option<Self>;
 
-    fn station(&mut self) -> &mut Station<Kept<Self::Kind>>;
+    fn station(&mut self) -> &mut Station<Self::Kind>;
 
     /// Stops the computer, and opens what is left.
     fn stopped(self, alloc: Global) -> Option<Self>;
@@ -62,7 +63,7 @@ struct InFiles<D: Disk> {
 type Fused = InFiles<Fuse<Memory>>;
 
 impl Stops for InFiles<Fuse<Memory>> {
-    type Kind = FileStore<Fuse<Memory>>;
+    type Kind = Kept<FileStore<Fuse<Memory>>>;
 
     fn begin(alloc: Global, stop: Stop) -> Option<Fused> {
         let files = Files {
@@ -114,7 +115,7 @@ impl Stops for InFiles<Fuse<Memory>> {
 }
 
 /// All that a station shows: both listings, what is outstanding, and the first document.
-fn sight<S: Alter>(alloc: Global, station: &mut Station<Kept<S>>) -> Result<String, Fail> {
+fn sight<K: Records>(alloc: Global, station: &mut Station<K>) -> Result<String, Fail> {
     let Some(moment) = Moment::new(5000) else {
         return Err(Fail::new("no moment"));
     };
@@ -145,9 +146,9 @@ impl Play {
     }
 
     /// Plays the rows, each answered as it says, until one has a fault; how many were answered.
-    fn until_fault<S: Alter>(
+    fn until_fault<K: Records>(
         &self,
-        station: &mut Station<Kept<S>>,
+        station: &mut Station<K>,
         rows: &[Row],
     ) -> Result<usize, Fail> {
         for (at, (line, wanted)) in rows.iter().enumerate() {
@@ -202,12 +203,12 @@ fn done_by(seen: &String, sights: &[String], answered: usize) -> Result<usize, F
 }
 
 /// Looks at what a stop has left behind so many answered rows, and plays the rest.
-fn go_on<S: Alter>(
+fn go_on<K: Records>(
     play: &Play,
     rows: &[Row],
     sights: &[String],
     answered: usize,
-    station: &mut Station<Kept<S>>,
+    station: &mut Station<K>,
 ) -> Result<(), Fail> {
     let done = done_by(&sight(play.alloc, station)?, sights, answered)?;
     let Some(rest) = rows.get(done..) else {
@@ -260,9 +261,9 @@ fn check_stops<F: Stops>(play: &Play, rows: &[Row], of_log: bool) -> Result<(), 
 }
 
 /// What is seen is the last of these sights.
-fn check_last<S: Alter>(
+fn check_last<K: Records>(
     alloc: Global,
-    station: &mut Station<Kept<S>>,
+    station: &mut Station<K>,
     sights: &[String],
 ) -> Result<(), Fail> {
     if sights.last() != Some(&sight(alloc, station)?) {

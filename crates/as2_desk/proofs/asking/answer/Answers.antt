@@ -5,53 +5,52 @@ use Rattle.as2_exchange.specs.declared.event.Event.TheVariants as event
 use Rattle.as2_station.specs.Said.{said_to_submit}
 use Rattle.as2_views.specs.Filtering.{listing}
 use Rattle.as2_desk.proofs.Answering.{TellsFrom, ends_by, event_may, looked, looked_may, read, read_may, stepped, submission_refused}
-use Rattle.as2_desk.specs.Questions.{EndsByEvent, FaultMayCome, Told, is_event, refusal_to, told_as, told_by}
-use Rattle.as2_desk.specs.declared.asking.Question.{Question}
+use Rattle.as2_desk.specs.Questions.{Asked, EndsByEvent, FaultMayCome, Told, is_event, refusal_to, told_as, told_by}
 use Rattle.as2_desk.proofs.asking.answer.Goals as goal
 
 pub returns-in-Submit-clause-tells : goal.returns-in-Submit-clause-tells
 returns-in-Submit-clause-tells g c = λ clean.
     stepped c.args.terms.now.agreements.now c.args.terms.now.moment c.args.question (g.K.Records.shows c.args.station.now) (g.K.Records.shows c.submit.new.self) clean
-    (event.Submit c.in-Submit.from c.in-Submit.to c.in-Submit.content c.args.terms.now.moment)
-    (λ s. ap (λ (q : Question). told_by c.args.terms.now.agreements.now c.args.terms.now.moment q s) c.in-Submit.is) said_to_submit c.submit.result _ c.submitted_told.ensures c.submit.ensures.taken
+    (event.Submit c.in-Submit.document.organization c.in-Submit.document.partner c.in-Submit.document.content c.args.terms.now.moment)
+    (λ s. ap (λ (q : Asked). told_by c.args.terms.now.agreements.now c.args.terms.now.moment q s) c.in-Submit.is) said_to_submit c.submit.result _ c.submitted_told.ensures c.submit.ensures.taken
 
 pub returns-in-Tick-clause-tells : goal.returns-in-Tick-clause-tells
 returns-in-Tick-clause-tells g c = λ clean.
     stepped c.args.terms.now.agreements.now c.args.terms.now.moment c.args.question (g.K.Records.shows c.args.station.now) (g.K.Records.shows c.tick.new.self) clean (event.Tick c.args.terms.now.moment)
-    (λ s. ap (λ (q : Question). told_by c.args.terms.now.agreements.now c.args.terms.now.moment q s) c.in-Tick.is) Ticked c.tick.result _ c.ticked_told.ensures c.tick.ensures.taken
+    (λ s. ap (λ (q : Asked). told_by c.args.terms.now.agreements.now c.args.terms.now.moment q s) c.in-Tick.is) Ticked c.tick.result _ c.ticked_told.ensures c.tick.ensures.taken
 
-pub returns-in-Listing-clause-tells : goal.returns-in-Listing-clause-tells
-returns-in-Listing-clause-tells g c = λ clean.
+pub returns-in-List-clause-tells : goal.returns-in-List-clause-tells
+returns-in-List-clause-tells g c = λ clean.
     subst (λ (told : Told). TellsFrom c.args.terms.now.agreements.now c.args.terms.now.moment c.args.question (g.K.Records.shows c.args.station.now) (g.K.Records.shows c.listing.new.self) told) (sym c.read_told.ensures)
-    (read c.args.terms.now.agreements.now c.args.terms.now.moment c.args.question (g.K.Records.shows c.args.station.now) (g.K.Records.shows c.listing.new.self) clean string_bytes (listing c.in-Listing.filter)
-    (λ s. ap (λ (q : Question). told_by c.args.terms.now.agreements.now c.args.terms.now.moment q s) c.in-Listing.is)
+    (read c.args.terms.now.agreements.now c.args.terms.now.moment c.args.question (g.K.Records.shows c.args.station.now) (g.K.Records.shows c.listing.new.self) clean string_bytes (listing c.in-List.filter)
+    (λ s. ap (λ (q : Asked). told_by c.args.terms.now.agreements.now c.args.terms.now.moment q s) c.in-List.is)
     c.listing.result c.listing.ensures.listing c.listing.ensures.fault)
 
 pub returns-in-Outstanding-clause-tells : goal.returns-in-Outstanding-clause-tells
 returns-in-Outstanding-clause-tells g c = λ clean.
     subst (λ (told : Told). TellsFrom c.args.terms.now.agreements.now c.args.terms.now.moment c.args.question (g.K.Records.shows c.args.station.now) (g.K.Records.shows c.outstanding.new.self) told) (sym c.read_told-in-Outstanding.ensures)
     (read c.args.terms.now.agreements.now c.args.terms.now.moment c.args.question (g.K.Records.shows c.args.station.now) (g.K.Records.shows c.outstanding.new.self) clean string_bytes (λ s. outstanding s c.args.terms.now.moment)
-    (λ s. ap (λ (q : Question). told_by c.args.terms.now.agreements.now c.args.terms.now.moment q s) c.in-Outstanding.is)
+    (λ s. ap (λ (q : Asked). told_by c.args.terms.now.agreements.now c.args.terms.now.moment q s) c.in-Outstanding.is)
     c.outstanding.result c.outstanding.ensures.outstanding c.outstanding.ensures.fault)
 
 pub returns-in-Show-clause-tells : goal.returns-in-Show-clause-tells
 returns-in-Show-clause-tells g c = λ clean.
     subst (λ (told : Told). TellsFrom c.args.terms.now.agreements.now c.args.terms.now.moment c.args.question (g.K.Records.shows c.args.station.now) (g.K.Records.shows c.show.new.self) told) (sym c.shown_told.ensures)
     (looked c.args.terms.now.agreements.now c.args.terms.now.moment c.args.question (g.K.Records.shows c.args.station.now) (g.K.Records.shows c.show.new.self) clean string_bytes (λ s. show s c.in-Show.number)
-    (λ s. ap (λ (q : Question). told_by c.args.terms.now.agreements.now c.args.terms.now.moment q s) c.in-Show.is)
+    (λ s. ap (λ (q : Asked). told_by c.args.terms.now.agreements.now c.args.terms.now.moment q s) c.in-Show.is)
     c.show.result c.show.ensures.shown c.show.ensures.fault)
 
 pub returns-in-Fetch-clause-tells : goal.returns-in-Fetch-clause-tells
 returns-in-Fetch-clause-tells g c = λ clean.
     subst (λ (told : Told). TellsFrom c.args.terms.now.agreements.now c.args.terms.now.moment c.args.question (g.K.Records.shows c.args.station.now) (g.K.Records.shows c.fetch.new.self) told) (sym c.fetched_told.ensures)
     (looked c.args.terms.now.agreements.now c.args.terms.now.moment c.args.question (g.K.Records.shows c.args.station.now) (g.K.Records.shows c.fetch.new.self) clean (λ v. v.items) (λ s. fetch s c.in-Fetch.number)
-    (λ s. ap (λ (q : Question). told_by c.args.terms.now.agreements.now c.args.terms.now.moment q s) c.in-Fetch.is)
+    (λ s. ap (λ (q : Asked). told_by c.args.terms.now.agreements.now c.args.terms.now.moment q s) c.in-Fetch.is)
     c.fetch.result c.fetch.ensures.fetched c.fetch.ensures.fault)
 
 pub returns-in-Submit-clause-refused : goal.returns-in-Submit-clause-refused
 returns-in-Submit-clause-refused g c = λ reason is.
-    submission_refused c.args.terms.now.agreements.now c.in-Submit.from c.in-Submit.to c.in-Submit.content c.args.terms.now.moment _ _ c.submit.result _ c.submit.ensures.refused c.submitted_told.ensures reason
-    (subst (λ (q : Question). refusal_to c.args.terms.now.agreements.now q ≡ Some reason) c.in-Submit.is is)
+    submission_refused c.args.terms.now.agreements.now c.in-Submit.document.organization c.in-Submit.document.partner c.in-Submit.document.content c.args.terms.now.moment _ _ c.submit.result _ c.submit.ensures.refused c.submitted_told.ensures reason
+    (subst (λ (q : Asked). refusal_to c.args.terms.now.agreements.now q ≡ Some reason) c.in-Submit.is is)
 
 pub returns-in-Submit-clause-fault : goal.returns-in-Submit-clause-fault
 returns-in-Submit-clause-fault g c = event_may c.args.question (ap is_event c.in-Submit.is) said_to_submit c.submit.result _ c.submitted_told.ensures c.submit.ensures.taken.does.fault
@@ -59,8 +58,8 @@ returns-in-Submit-clause-fault g c = event_may c.args.question (ap is_event c.in
 pub returns-in-Tick-clause-fault : goal.returns-in-Tick-clause-fault
 returns-in-Tick-clause-fault g c = event_may c.args.question (ap is_event c.in-Tick.is) Ticked c.tick.result _ c.ticked_told.ensures c.tick.ensures.taken.does.fault
 
-pub returns-in-Listing-clause-fault : goal.returns-in-Listing-clause-fault
-returns-in-Listing-clause-fault g c = subst (FaultMayCome c.args.question) (sym c.read_told.ensures) (read_may c.args.question string_bytes c.listing.result c.listing.ensures.fault)
+pub returns-in-List-clause-fault : goal.returns-in-List-clause-fault
+returns-in-List-clause-fault g c = subst (FaultMayCome c.args.question) (sym c.read_told.ensures) (read_may c.args.question string_bytes c.listing.result c.listing.ensures.fault)
 
 pub returns-in-Outstanding-clause-fault : goal.returns-in-Outstanding-clause-fault
 returns-in-Outstanding-clause-fault g c = subst (FaultMayCome c.args.question) (sym c.read_told-in-Outstanding.ensures) (read_may c.args.question string_bytes c.outstanding.result c.outstanding.ensures.fault)
@@ -74,24 +73,24 @@ returns-in-Fetch-clause-fault g c = subst (FaultMayCome c.args.question) (sym c.
 pub returns-in-Submit-clause-by_history : goal.returns-in-Submit-clause-by_history
 returns-in-Submit-clause-by_history g c = λ clean s rests.
     let told = told_as c.submitted_told.result in
-    let by = ends_by c.args.terms.now.agreements.now (event.Submit c.in-Submit.from c.in-Submit.to c.in-Submit.content c.args.terms.now.moment) said_to_submit (g.K.Records.shows c.args.station.now) (g.K.Records.shows c.submit.new.self) c.submit.result told
+    let by = ends_by c.args.terms.now.agreements.now (event.Submit c.in-Submit.document.organization c.in-Submit.document.partner c.in-Submit.document.content c.args.terms.now.moment) said_to_submit (g.K.Records.shows c.args.station.now) (g.K.Records.shows c.submit.new.self) c.submit.result told
     c.submit.ensures.taken c.submitted_told.ensures clean s rests in
-    (by.0, by.1, subst (λ (q : Question). EndsByEvent c.args.terms.now.agreements.now c.args.terms.now.moment q s by.0 told) (sym c.in-Submit.is) by.2)
+    (by.0, by.1, subst (λ (q : Asked). EndsByEvent c.args.terms.now.agreements.now c.args.terms.now.moment q s by.0 told) (sym c.in-Submit.is) by.2)
 
 pub returns-in-Tick-clause-by_history : goal.returns-in-Tick-clause-by_history
 returns-in-Tick-clause-by_history g c = λ clean s rests.
     let told = told_as c.ticked_told.result in
     let by = ends_by c.args.terms.now.agreements.now (event.Tick c.args.terms.now.moment) Ticked (g.K.Records.shows c.args.station.now) (g.K.Records.shows c.tick.new.self) c.tick.result told c.tick.ensures.taken c.ticked_told.ensures clean s rests in
-    (by.0, by.1, subst (λ (q : Question). EndsByEvent c.args.terms.now.agreements.now c.args.terms.now.moment q s by.0 told) (sym c.in-Tick.is) by.2)
+    (by.0, by.1, subst (λ (q : Asked). EndsByEvent c.args.terms.now.agreements.now c.args.terms.now.moment q s by.0 told) (sym c.in-Tick.is) by.2)
 
-pub returns-in-Listing-clause-by_history : goal.returns-in-Listing-clause-by_history
-returns-in-Listing-clause-by_history g c = λ clean s rests. (s, c.listing.ensures.listing.same clean s rests, subst (λ (q : Question). EndsByEvent c.args.terms.now.agreements.now c.args.terms.now.moment q s s (told_as c.read_told.result)) (sym c.in-Listing.is) tt)
+pub returns-in-List-clause-by_history : goal.returns-in-List-clause-by_history
+returns-in-List-clause-by_history g c = λ clean s rests. (s, c.listing.ensures.listing.same clean s rests, subst (λ (q : Asked). EndsByEvent c.args.terms.now.agreements.now c.args.terms.now.moment q s s (told_as c.read_told.result)) (sym c.in-List.is) tt)
 
 pub returns-in-Outstanding-clause-by_history : goal.returns-in-Outstanding-clause-by_history
-returns-in-Outstanding-clause-by_history g c = λ clean s rests. (s, c.outstanding.ensures.outstanding.same clean s rests, subst (λ (q : Question). EndsByEvent c.args.terms.now.agreements.now c.args.terms.now.moment q s s (told_as c.read_told-in-Outstanding.result)) (sym c.in-Outstanding.is) tt)
+returns-in-Outstanding-clause-by_history g c = λ clean s rests. (s, c.outstanding.ensures.outstanding.same clean s rests, subst (λ (q : Asked). EndsByEvent c.args.terms.now.agreements.now c.args.terms.now.moment q s s (told_as c.read_told-in-Outstanding.result)) (sym c.in-Outstanding.is) tt)
 
 pub returns-in-Show-clause-by_history : goal.returns-in-Show-clause-by_history
-returns-in-Show-clause-by_history g c = λ clean s rests. (s, c.show.ensures.shown.same clean s rests, subst (λ (q : Question). EndsByEvent c.args.terms.now.agreements.now c.args.terms.now.moment q s s (told_as c.shown_told.result)) (sym c.in-Show.is) tt)
+returns-in-Show-clause-by_history g c = λ clean s rests. (s, c.show.ensures.shown.same clean s rests, subst (λ (q : Asked). EndsByEvent c.args.terms.now.agreements.now c.args.terms.now.moment q s s (told_as c.shown_told.result)) (sym c.in-Show.is) tt)
 
 pub returns-in-Fetch-clause-by_history : goal.returns-in-Fetch-clause-by_history
-returns-in-Fetch-clause-by_history g c = λ clean s rests. (s, c.fetch.ensures.fetched.same clean s rests, subst (λ (q : Question). EndsByEvent c.args.terms.now.agreements.now c.args.terms.now.moment q s s (told_as c.fetched_told.result)) (sym c.in-Fetch.is) tt)
+returns-in-Fetch-clause-by_history g c = λ clean s rests. (s, c.fetch.ensures.fetched.same clean s rests, subst (λ (q : Asked). EndsByEvent c.args.terms.now.agreements.now c.args.terms.now.moment q s s (told_as c.fetched_told.result)) (sym c.in-Fetch.is) tt)
