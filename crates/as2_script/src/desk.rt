@@ -9,6 +9,7 @@ mod network;
 mod stores;
 
 use as2_desk::{Console, Host, Lines, run};
+use as2_host::OpenStores;
 use as2_http::Counted;
 use as2_kept::Kept;
 use files::Files;
@@ -52,10 +53,10 @@ struct Counts {
 }
 
 /// Runs the command line with counts of the calls that are made of its streams: what it comes to, and what it leaves of its input.
-fn run_counted<A: Ledger, B: Ledger, C: Ledger, D: Ledger, E: Ledger, F: Ledger>(
+fn run_counted<S: OpenStores, A: Ledger, B: Ledger, C: Ledger, D: Ledger, E: Ledger, F: Ledger>(
     alloc: Global,
     given: &Given<'_>,
-    host: &mut Host<Files<'_>, Stores<'_>, Peers<'_>>,
+    host: &mut Host<Files<'_>, S, Peers<'_>>,
     reads: Counts,
     writes: Counts,
     says: Counts,
@@ -107,12 +108,12 @@ fn run_counted<A: Ledger, B: Ledger, C: Ledger, D: Ledger, E: Ledger, F: Ledger>
     (ended, unread)
 }
 
-fn run_over(
+fn run_over<S: OpenStores>(
     alloc: Global,
     given: &Given<'_>,
-    host: &mut Host<Files<'_>, Stores<'_>, Peers<'_>>,
+    host: &mut Host<Files<'_>, S, Peers<'_>>,
 ) -> (Ended, (usize, usize)) {
-    run_counted::<Brand, Brand, Brand, Brand, Brand, Brand>(
+    run_counted::<S, Brand, Brand, Brand, Brand, Brand, Brand>(
         alloc,
         given,
         host,

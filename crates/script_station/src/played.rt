@@ -6,10 +6,12 @@ use crate::made::made;
 use as2_agreement::Agreements;
 use as2_exchange::{Answer as Said, END_OF_NUMBERS, Event, StoreFault};
 use as2_kept::Kept;
+use as2_records::Records;
 use as2_station::Station;
 use as2_store::Store;
 use script_lines::{Answer, Settings, Trouble};
 use sqlite::{Connection, MemStore};
+use std::alloc::Global;
 
 /// A station under agreements, each once it is asked for.
 #[derive(Drop)]
@@ -108,6 +110,26 @@ fn number_of(settings: &Settings, name: &str, other: u64, answer: &mut Answer) -
     }
 }
 
+/// Has the station take the events.
+fn play_all<K: Records>(
+    station: &mut Station<K>,
+    agreements: &Agreements,
+    events: Vec<Event>,
+    answer: &mut Answer,
+) {
+    answer.unless_memory(station.play(answer.alloc(), agreements, events));
+}
+
+/// What the station says to an event.
+fn said<K: Records>(
+    alloc: Global,
+    station: &mut Station<K>,
+    agreements: &Agreements,
+    event: Event,
+) -> Result<Said, StoreFault> {
+    station.step(alloc, agreements, event)
+}
+
 /// A station over a new store: its first own number is the text `first`, or 1; before it are as many posts and documents as the text
 /// `held` says.
 fn begun(settings: &Settings, answer: &mut Answer) -> Option<Station<Kept<MemStore>>> {
@@ -117,7 +139,7 @@ fn begun(settings: &Settings, answer: &mut Answer) -> Option<Station<Kept<MemSto
     let store = new_store(first.saturating_sub(held), answer)?;
     let events = filling(settings, held, answer);
     let mut station = Station::new(Kept::new(store));
-    answer.unless_memory(station.play(answer.alloc(), &agreements, events));
+    play_all(&mut station, &agreements, events, answer);
     Some(station)
 }
 
@@ -134,9 +156,9 @@ impl Played {
         self.agreements = agreements_in(text, answer);
     }
 
-    /// Has the list go on over another store.
-    pub fn put(&mut self, store: Store<MemStore>) {
-        self.station = Some(Station::new(Kept::new(store)));
+    /// Has the list go on over other records.
+    pub fn put(&mut self, records: Kept<MemStore>) {
+        self.station = Some(Station::new(records));
     }
 
     /// Has the station begin where there is none yet.
@@ -156,15 +178,15 @@ impl Played {
         self.station.as_mut()
     }
 
-    /// The store, taken out of the station.
-    pub fn take_store(
+    /// The records, taken out of the station.
+    pub fn take_records(
         &mut self,
         settings: &Settings,
         answer: &mut Answer,
-    ) -> Option<Store<MemStore>> {
+    ) -> Option<Kept<MemStore>> {
         self.begin(settings, answer);
         match self.station.take() {
-            Some(station) => Some(station.into_records().into_store()),
+            Some(station) => Some(station.into_records()),
             None => None,
         }
     }
@@ -178,7 +200,7 @@ impl Played {
     ) -> Option<Result<Said, StoreFault>> {
         let (station, agreements) = self.ready(settings, answer)?;
         let event = event(settings, line, answer)?;
-        Some(station.step(answer.alloc(), agreements, event))
+        Some(said(answer.alloc(), station, agreements, event))
     }
 
     /// The station and its agreements, each of which begins where there is none yet.

@@ -2,12 +2,11 @@
 use crate::stage::Stage;
 use crate::station::state_in;
 use as2_exchange::{Evidence, InEntry, OutEntry, StoreFault};
+use as2_kept::Kept;
 use as2_mdn::Detail;
 use as2_mic::Pieces;
-use as2_records::{InRow, NextNumbers, OutRow};
-use as2_store::Store;
+use as2_records::{InRow, NextNumbers, OutRow, Records};
 use script_lines::Answer;
-use sqlite::MemStore;
 
 /// Answers with the moment when something is due, or `-`.
 fn say_due(answer: &mut Answer, due: Option<u64>) {
@@ -248,7 +247,6 @@ enum Asked {
     IdentifiedWhole,
     Document,
     Submitted,
-    Evidence,
     Receipt,
 }
 
@@ -266,15 +264,14 @@ fn asked_by(verb: &str) -> Option<Asked> {
         "identified-whole" => Some(Asked::IdentifiedWhole),
         "document" => Some(Asked::Document),
         "submitted" => Some(Asked::Submitted),
-        "evidence" => Some(Asked::Evidence),
         "receipt" => Some(Asked::Receipt),
         _ => None,
     }
 }
 
 /// Answers with the five counts of what is outstanding, in the order in which a station shows them.
-fn look_at_counts(store: &mut Store<MemStore>, answer: &mut Answer) {
-    if let Some(counts) = answer.unless_fault(store.counts(answer.alloc())) {
+fn look_at_counts<K: Records>(records: &mut K, answer: &mut Answer) {
+    if let Some(counts) = answer.unless_fault(records.counts(answer.alloc())) {
         let counts = [
             counts.not_sent,
             counts.in_retry,
@@ -287,54 +284,72 @@ fn look_at_counts(store: &mut Store<MemStore>, answer: &mut Answer) {
 }
 
 /// Answers with the numbers of the documents to partners, of that state or of all.
-fn look_out(store: &mut Store<MemStore>, letter: &str, answer: &mut Answer) {
+fn look_out<K: Records>(records: &mut K, letter: &str, answer: &mut Answer) {
     let state = match letter {
         "" => None,
         letter => state_in(letter, answer),
     };
-    say_outbox(answer, store.list_out(answer.alloc(), state));
+    say_outbox(answer, records.list_out(answer.alloc(), state));
 }
 
 /// Answers with what is asked of that number.
-fn look_at(store: &mut Store<MemStore>, asked: Asked, number: u64, answer: &mut Answer) {
+fn look_at<K: Records>(records: &mut K, asked: Asked, number: u64, answer: &mut Answer) {
     let alloc = answer.alloc();
     match asked {
-        Asked::Evidence => say_settling(answer, store.evidence(alloc, number)),
-        Asked::Receipt => say_receipt(answer, store.find_in_number(alloc, number)),
-        Asked::Submitted => say_found(answer, store.find_out(alloc, number), true),
-        _ => say_found(answer, store.find_out(alloc, number), false),
+        Asked::Receipt => say_receipt(answer, records.find_in_number(alloc, number)),
+        Asked::Submitted => say_found(answer, records.find_out(alloc, number), true),
+        _ => say_found(answer, records.find_out(alloc, number), false),
     }
 }
 
 /// Answers with what is asked.
-fn look(store: &mut Store<MemStore>, asked: Asked, rest: &str, answer: &mut Answer) {
+fn look<K: Records>(records: &mut K, asked: Asked, rest: &str, answer: &mut Answer) {
     let alloc = answer.alloc();
     match asked {
-        Asked::Numbers => say_numbers(answer, store.next_numbers()),
-        Asked::Counts => look_at_counts(store, answer),
-        Asked::Settled => say_settled(answer, store.settled(alloc)),
-        Asked::Inbox => say_inbox(answer, store.list_in(alloc)),
-        Asked::InboxRows => say_inbox_rows(answer, store.list_in(alloc)),
-        Asked::Outbox => look_out(store, rest, answer),
-        Asked::OutboxRows => say_outbox_rows(answer, store.list_out(alloc, None)),
+        Asked::Numbers => say_numbers(answer, records.next_numbers()),
+        Asked::Counts => look_at_counts(records, answer),
+        Asked::Settled => say_settled(answer, records.settled(alloc)),
+        Asked::Inbox => say_inbox(answer, records.list_in(alloc)),
+        Asked::InboxRows => say_inbox_rows(answer, records.list_in(alloc)),
+        Asked::Outbox => look_out(records, rest, answer),
+        Asked::OutboxRows => say_outbox_rows(answer, records.list_out(alloc, None)),
         Asked::Identified => {
-            say_found(answer, store.find_out_by_id(alloc, rest.as_bytes()), false);
+            say_found(
+                answer,
+                records.find_out_by_id(alloc, rest.as_bytes()),
+                false,
+            );
         }
         Asked::IdentifiedWhole => {
-            say_found(answer, store.find_out_by_id(alloc, rest.as_bytes()), true);
+            say_found(answer, records.find_out_by_id(alloc, rest.as_bytes()), true);
         }
-        _ => look_at(store, asked, answer.number_in(rest), answer),
+        _ => look_at(records, asked, answer.number_in(rest), answer),
     }
+}
+
+/// Answers with the evidence of the document of that number, as the store alone tells it.
+fn look_at_evidence(stage: &mut Stage, rest: &str, answer: &mut Answer) {
+    let Some(records) = stage.played.take_records(&stage.settings, answer) else {
+        return;
+    };
+    let mut store = records.into_store();
+    let number = answer.number_in(rest);
+    say_settling(answer, store.evidence(answer.alloc(), number));
+    stage.played.put(Kept::new(store));
 }
 
 /// Answers to the verbs of records; whether it is one.
 pub fn answer(stage: &mut Stage, verb: &str, rest: &str, answer: &mut Answer) -> bool {
+    if verb == "evidence" {
+        look_at_evidence(stage, rest, answer);
+        return true;
+    }
     let Some(asked) = asked_by(verb) else {
         return false;
     };
-    if let Some(mut store) = stage.played.take_store(&stage.settings, answer) {
-        look(&mut store, asked, rest, answer);
-        stage.played.put(store);
+    if let Some(mut records) = stage.played.take_records(&stage.settings, answer) {
+        look(&mut records, asked, rest, answer);
+        stage.played.put(records);
     }
     true
 }

@@ -7,6 +7,7 @@ use as2_agreement::Agreements;
 use as2_exchange::{Job, TryAnswer};
 use as2_http::Counted;
 use as2_kept::Kept;
+use as2_records::Records;
 use as2_sending::{LinkFault, Links, Sent, send};
 use as2_station::Station;
 use as2_text::Moment;
@@ -63,10 +64,10 @@ impl Write for Paper {
 }
 
 /// Sends with counts of the calls that are made of what is written.
-fn sent_counted<L: Ledger, M: Ledger>(
+fn sent_counted<K: Records, L: Ledger, M: Ledger>(
     agreements: &Agreements,
     moment: Moment,
-    station: &mut Station<Kept<MemStore>>,
+    station: &mut Station<K>,
     partners: &mut Partners<'_>,
     paper: &mut Paper,
     writes: Blank,
@@ -120,7 +121,7 @@ pub fn say_sent(stage: &mut Stage, moment: Moment, answer: &mut Answer) {
         bytes: Vec::new(answer.alloc()),
         room,
     };
-    let sent = sent_counted::<Brand, Brand>(
+    let sent = sent_counted::<Kept<MemStore>, Brand, Brand>(
         agreements,
         moment,
         station,

@@ -5,11 +5,10 @@ use crate::sending::say_sent;
 use crate::stage::Stage;
 use crate::told::{say, say_report_bytes};
 use as2_exchange::{Next, StoreFault};
-use as2_kept::Kept;
 use as2_mdn::State;
+use as2_records::Records;
 use as2_station::{Filter, Station};
 use script_lines::Answer;
-use sqlite::MemStore;
 
 /// Answers with what is to be sent next.
 fn say_next(answer: &mut Answer, next: Result<Option<Next>, StoreFault>) {
@@ -73,14 +72,14 @@ fn say_fetched(answer: &mut Answer, fetched: Result<Option<Vec<u8>>, StoreFault>
 }
 
 /// Answers with the listing that is asked for.
-fn list(station: &mut Station<Kept<MemStore>>, rest: &str, answer: &mut Answer) {
+fn list<K: Records>(station: &mut Station<K>, rest: &str, answer: &mut Answer) {
     if let Some(filter) = filter_in(rest, answer) {
         say_text(answer, station.listing(answer.alloc(), filter));
     }
 }
 
 /// Answers with what is to be sent next at a moment, or with what is outstanding then.
-fn look_ahead(station: &mut Station<Kept<MemStore>>, verb: &str, rest: &str, answer: &mut Answer) {
+fn look_ahead<K: Records>(station: &mut Station<K>, verb: &str, rest: &str, answer: &mut Answer) {
     let Some(moment) = moment_in(rest, answer) else {
         return;
     };
@@ -92,7 +91,7 @@ fn look_ahead(station: &mut Station<Kept<MemStore>>, verb: &str, rest: &str, ans
 }
 
 /// Answers with what a station shows.
-fn look(station: &mut Station<Kept<MemStore>>, verb: &str, rest: &str, answer: &mut Answer) {
+fn look<K: Records>(station: &mut Station<K>, verb: &str, rest: &str, answer: &mut Answer) {
     let alloc = answer.alloc();
     match verb {
         "list" => list(station, rest, answer),

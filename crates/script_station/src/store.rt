@@ -4,6 +4,7 @@ ghost use Rattle.std.specs.Prelude.{◌≡◌, false, IfSome};
 use crate::played::{database, executed};
 use crate::records::say_between;
 use crate::stage::Stage;
+use as2_kept::Kept;
 use as2_store::Store;
 use script_lines::Answer;
 use sqlite::types::ValueRef;
@@ -102,8 +103,8 @@ fn connection(
     if matches!(verb, "database" | "make") {
         return database(statements, answer);
     }
-    let store = stage.played.take_store(&stage.settings, answer)?;
-    executed(store.into_connection(), statements, answer)
+    let records = stage.played.take_records(&stage.settings, answer)?;
+    executed(records.into_connection(), statements, answer)
 }
 
 /// The store that a verb leaves in a connection.
@@ -142,7 +143,7 @@ fn go_on(stage: &mut Stage, verb: &str, text: &str, answer: &mut Answer) {
         return;
     };
     if let Some(store) = left(conn, verb, query, answer) {
-        stage.played.put(store);
+        stage.played.put(Kept::new(store));
     }
 }
 

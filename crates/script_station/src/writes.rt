@@ -1,15 +1,14 @@
-//! Calls of the store beside the machine: entries that are put in, found by their key and settled.
+//! Calls of the records beside the machine: entries that are put in, found by their key and settled.
 use crate::events::{add_field, body_of, moment_in, name_in};
 use crate::records::{say_content, say_names, say_owed};
 use crate::stage::Stage;
 use as2_exchange::{Bytes, Evidence, InEntry, Posted, StoreFault};
 use as2_mdn::Detail;
 use as2_posts::{Opened, document, first_entry};
-use as2_store::Store;
+use as2_records::Records;
 use as2_text::{AsName, Head, MediaType, MessageId, Moment};
 use script_lines::{Answer, Trouble};
 use script_values::{say_how, say_mic};
-use sqlite::MemStore;
 
 /// Every detail.
 static DETAILS: [Detail; 14] = [
@@ -109,9 +108,9 @@ fn entry_in(rest: &str, answer: &mut Answer) -> Option<InEntry> {
 }
 
 /// `add NUMBER | IDENTIFIER | CONTENT` puts in the entry of a post by Buyer at 1000.
-fn add(store: &mut Store<MemStore>, rest: &str, answer: &mut Answer) {
+fn add<K: Records>(records: &mut K, rest: &str, answer: &mut Answer) {
     if let Some(entry) = entry_in(rest, answer) {
-        say_done(answer, store.add_in(&entry));
+        say_done(answer, records.add_in(&entry));
     }
 }
 
@@ -126,23 +125,23 @@ fn evidence(answer: &mut Answer) -> Option<Evidence> {
 }
 
 /// `settle NUMBER DETAIL` settles a document at 2000 by a receipt of the bytes `abc`.
-fn settle(store: &mut Store<MemStore>, rest: &str, answer: &mut Answer) {
+fn settle<K: Records>(records: &mut K, rest: &str, answer: &mut Answer) {
     let (number, name) = rest.split_once(" ").unwrap_or((rest, ""));
     let number = answer.number_in(number);
     let Some(detail) = detail_in(name, answer) else {
         return;
     };
     if let Some(evidence) = evidence(answer) {
-        say_done(answer, store.settle(number, detail, &evidence));
+        say_done(answer, records.settle(number, detail, &evidence));
     }
 }
 
 /// `requeue NUMBER MOMENT` has a receipt sent again from that moment on.
-fn requeue(store: &mut Store<MemStore>, rest: &str, answer: &mut Answer) {
+fn requeue<K: Records>(records: &mut K, rest: &str, answer: &mut Answer) {
     let (number, moment) = rest.split_once(" ").unwrap_or((rest, ""));
     if let Some(moment) = moment_in(moment, answer) {
         let number = answer.number_in(number);
-        say_done(answer, store.requeue_mdn(number, moment));
+        say_done(answer, records.requeue_mdn(number, moment));
     }
 }
 
@@ -215,18 +214,18 @@ fn key_in(rest: &str, answer: &mut Answer) -> Option<Key> {
 }
 
 /// `received PARTNER | IDENTIFIER` finds a document of that partner to Supplier by the value of that identifier.
-fn received(store: &mut Store<MemStore>, rest: &str, answer: &mut Answer) {
+fn received<K: Records>(records: &mut K, rest: &str, answer: &mut Answer) {
     if let Some(key) = key_in(rest, answer) {
         let id = key.id.value();
-        let found = store.find_in(answer.alloc(), &key.partner, &key.organization, id);
+        let found = records.find_in(answer.alloc(), &key.partner, &key.organization, id);
         say_found(answer, found);
     }
 }
 
 /// `received-number NUMBER` finds a received document.
-fn received_number(store: &mut Store<MemStore>, rest: &str, answer: &mut Answer) {
+fn received_number<K: Records>(records: &mut K, rest: &str, answer: &mut Answer) {
     let number = answer.number_in(rest);
-    say_found(answer, store.find_in_number(answer.alloc(), number));
+    say_found(answer, records.find_in_number(answer.alloc(), number));
 }
 
 /// Answers with a number that was found.
@@ -237,26 +236,26 @@ fn say_number(answer: &mut Answer, found: Result<Option<u64>, StoreFault>) {
 }
 
 /// Answers with the least number of the documents, or of the receipts, that are due at a moment.
-fn due(store: &mut Store<MemStore>, verb: &str, rest: &str, answer: &mut Answer) {
+fn due<K: Records>(records: &mut K, verb: &str, rest: &str, answer: &mut Answer) {
     let Some(moment) = moment_in(rest, answer) else {
         return;
     };
     if verb == "due-document" {
-        say_number(answer, store.due_out(moment));
+        say_number(answer, records.due_out(moment));
     } else {
-        say_number(answer, store.due_mdn(moment));
+        say_number(answer, records.due_mdn(moment));
     }
 }
 
-/// Answers to one of these verbs over the store.
-fn call(store: &mut Store<MemStore>, verb: &str, rest: &str, answer: &mut Answer) {
+/// Answers to one of these verbs over the records.
+fn call<K: Records>(records: &mut K, verb: &str, rest: &str, answer: &mut Answer) {
     match verb {
-        "add" => add(store, rest, answer),
-        "settle" => settle(store, rest, answer),
-        "requeue" => requeue(store, rest, answer),
-        "received" => received(store, rest, answer),
-        "received-number" => received_number(store, rest, answer),
-        _ => due(store, verb, rest, answer),
+        "add" => add(records, rest, answer),
+        "settle" => settle(records, rest, answer),
+        "requeue" => requeue(records, rest, answer),
+        "received" => received(records, rest, answer),
+        "received-number" => received_number(records, rest, answer),
+        _ => due(records, verb, rest, answer),
     }
 }
 
@@ -274,14 +273,14 @@ fn is_known(verb: &str) -> bool {
     )
 }
 
-/// Answers to the verbs of the store's calls; whether it is one.
+/// Answers to the verbs of calls of the records; whether it is one.
 pub fn answer(stage: &mut Stage, verb: &str, rest: &str, answer: &mut Answer) -> bool {
     if !is_known(verb) {
         return false;
     }
-    if let Some(mut store) = stage.played.take_store(&stage.settings, answer) {
-        call(&mut store, verb, rest, answer);
-        stage.played.put(store);
+    if let Some(mut records) = stage.played.take_records(&stage.settings, answer) {
+        call(&mut records, verb, rest, answer);
+        stage.played.put(records);
     }
     true
 }

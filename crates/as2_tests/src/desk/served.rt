@@ -2,7 +2,10 @@
 ghost use Rattle.as2_http.specs.Devices.{Opens};
 
 use crate::texts::stage;
-use as2_http::{Counted, Served, Unnoted, serve_stream};
+use as2_agreement::Agreements;
+use as2_http::{Counted, Served, Sink, Source, Unnoted, serve_stream};
+use as2_records::Records;
+use as2_station::Station;
 use as2_text::Moment;
 use script_lines::{Answer, Trouble};
 use script_station::Stage;
@@ -17,6 +20,26 @@ use std::test::Fail;
 pub(super) struct Fixture {
     moment: Moment,
     stage: Stage,
+}
+
+/// How the stream ends, over a station of any records.
+fn served<K: Records, R: Source, W: Sink>(
+    alloc: Global,
+    agreements: &Agreements,
+    moment: Moment,
+    station: &mut Station<K>,
+    source: &mut R,
+    sink: &mut W,
+) -> Served {
+    serve_stream(
+        alloc,
+        agreements,
+        moment,
+        station,
+        source,
+        sink,
+        &mut Unnoted,
+    )
 }
 
 impl Fixture {
@@ -53,14 +76,13 @@ impl Fixture {
         let Some((station, agreements)) = ready else {
             return Err(Trouble::Unreadable("no station"));
         };
-        let end = serve_stream(
+        let end = served(
             alloc,
             agreements,
             self.moment,
             station,
             &mut source,
             &mut sink,
-            &mut Unnoted,
         );
         Ok((end, sink.into_inner()))
     }

@@ -1,7 +1,10 @@
 //! A document is sent by `exchange`, and the receipt in its answer settles it.
 use crate::texts::{RECEIPT, RECEIPT_TYPE, stage};
+use as2_agreement::Agreements;
 use as2_exchange::{Answer, Event, Job, TryAnswer};
 use as2_mdn::Detail;
+use as2_records::Records;
+use as2_station::Station;
 use as2_text::Moment;
 use script_http::exchanged;
 use script_lines::Answer as Told;
@@ -49,9 +52,20 @@ impl Begun {
         let Some((station, agreements)) = stage.played.ready(&stage.settings, &mut told) else {
             return Err(Fail::new("no station"));
         };
-        let said = station.step(stage.alloc, agreements, outcome)?;
-        Ok(matches!(said, Answer::Settled(Detail::Processed)) && stands_settled(&mut stage)?)
+        let is_processed = settles(stage.alloc, station, agreements, outcome)?;
+        Ok(is_processed && stands_settled(&mut stage)?)
     }
+}
+
+/// Whether the outcome settles its document as processed. The station is over any records, as all that the tests say needs no more.
+fn settles<K: Records>(
+    alloc: Global,
+    station: &mut Station<K>,
+    agreements: &Agreements,
+    outcome: Event,
+) -> Result<bool, Fail> {
+    let said = station.step(alloc, agreements, outcome)?;
+    Ok(matches!(said, Answer::Settled(Detail::Processed)))
 }
 
 /// It stands as settled by a receipt after one try.
