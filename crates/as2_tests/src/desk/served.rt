@@ -23,7 +23,7 @@ pub(super) struct Fixture {
 }
 
 /// How the stream ends, over a station of any records.
-fn served<K: Records, R: Source, W: Sink>(
+fn stream_end<K: Records, R: Source, W: Sink>(
     alloc: Global,
     agreements: &Agreements,
     moment: Moment,
@@ -76,7 +76,7 @@ impl Fixture {
         let Some((station, agreements)) = ready else {
             return Err(Trouble::Unreadable("no station"));
         };
-        let end = served(
+        let end = stream_end(
             alloc,
             agreements,
             self.moment,
