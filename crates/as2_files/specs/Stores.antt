@@ -10,7 +10,7 @@ use Rattle.sqlite_wal.specs.Files.{outcomes}
 use Rattle.sqlite_wal.specs.Reads.{AreClean}
 use Rattle.sqlite_wal.specs.Recovery.{Image}
 use Rattle.as2_exchange.specs.State.{State}
-use Rattle.as2_restart.specs.Files.{AreClosed}
+use Rattle.as2_storage.specs.Files.{AreClosed}
 use Rattle.as2_store.specs.Files.{HoldsState}
 use Rattle.as2_store.specs.Stands.{Rests}
 use Rattle.as2_files.specs.declared.keeping.End.{End}

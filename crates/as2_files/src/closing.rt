@@ -3,7 +3,7 @@ ghost use Rattle.std.specs.Prelude.{◌≡◌, false, IfOk};
 ghost use Rattle.sqlite.specs.Files.{file_state};
 ghost use Rattle.sqlite_wal.specs.Reads.{AreClean};
 ghost use Rattle.as2_exchange.specs.State.{empty};
-ghost use Rattle.as2_restart.specs.Files.{AreClosed};
+ghost use Rattle.as2_storage.specs.Files.{AreClosed};
 ghost use Rattle.as2_store.specs.Stands.{IsBlank};
 ghost use Rattle.as2_files.specs.Opening.{opening_fault};
 
@@ -11,7 +11,7 @@ use as2_commands::FirstNumber;
 use as2_exchange::StoreFault;
 use as2_host::OpenFault;
 use as2_kept::create;
-use as2_restart::close;
+use as2_storage::close;
 use as2_store::fault_of;
 use sqlite::{Connection, Error, ErrorCode, FileStore};
 use sqlite_disk::{Disk, Files};

@@ -13,7 +13,7 @@ use crate::opening::OpenFiles;
 use as2_host::OpenFault;
 use as2_kept::{Kept, adopt};
 use as2_records::Records;
-use as2_restart::close;
+use as2_storage::close;
 use sqlite::FileStore;
 use sqlite_disk::{Disk, Files};
 

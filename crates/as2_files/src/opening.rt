@@ -8,7 +8,7 @@ ghost use Rattle.as2_exchange.specs.State.{State};
 ghost use Rattle.as2_store.specs.Files.{HoldsState};
 ghost use Rattle.as2_store.specs.Stands.{Rests};
 
-use as2_restart::open_at;
+use as2_storage::open_at;
 use sqlite::{Connection, Error, FileStore};
 use sqlite_disk::{Disk, Start};
 use sqlite_std_file::FileFrom;

@@ -1,11 +1,8 @@
-//! The files of a store: closed, left by a stop, and opened at their path.
-ghost use Rattle.std.specs.Prelude.{◌≡◌, true, false, IfErr, IfOk, IsTrue};
-ghost use Rattle.sqlite.specs.Closing.{IsCopied};
-ghost use Rattle.sqlite.specs.Files.{IsBlankAs, IsOpened, file_state};
-ghost use Rattle.sqlite.specs.Start.{FindsIn};
+//! The files of a station's store: closed, and left by a stop.
+ghost use Rattle.std.specs.Prelude.{IfOk, IsTrue};
+ghost use Rattle.sqlite.specs.Files.{file_state};
 ghost use Rattle.sqlite.specs.State.{HasCleanDisk};
-ghost use Rattle.sqlite_store.specs.FileStore.{view};
-ghost use Rattle.sqlite_wal.specs.Files.{image_at, outcomes};
+ghost use Rattle.sqlite_wal.specs.Files.{outcomes};
 ghost use Rattle.sqlite_wal.specs.Recovery.{Image};
 ghost use Rattle.sqlite_wal.specs.Reads.{AreClean};
 ghost use Rattle.as2_exchange.specs.Agreement.{Agreements};
@@ -13,50 +10,15 @@ ghost use Rattle.as2_exchange.specs.Run.{Trace};
 ghost use Rattle.as2_exchange.specs.State.{State};
 ghost use Rattle.as2_store.specs.Files.{HoldsState};
 ghost use Rattle.as2_store.specs.Stands.{Rests};
-ghost use Rattle.as2_restart.specs.Files.{AreClosed, AreLeft, AreShielded};
+ghost use Rattle.as2_storage.specs.Files.{AreClosed, AreShielded};
+ghost use Rattle.as2_restart.specs.Files.{AreLeft};
 ghost use Rattle.as2_restart.specs.Restarts.{MayLeave};
 
 use as2_kept::Kept;
 use as2_station::Station;
-use sqlite::{Connection, Error, FileFrom, FileStore, Start};
+use as2_storage::close;
+use sqlite::{Error, FileStore};
 use sqlite_disk::{Disk, Files};
-
-/// Opens the two files at a path, and makes those that are missing, whose pages have sums then. `start` stands for what they hold as
-/// they are opened, which no code can read: where that is a state of a store, the connection stands for it. That the path leads to
-/// them no clause says.
-pub fn open_at<S: Start>(
-    rt: &HostRuntime,
-    path: &str,
-    start: S,
-) -> Result<Connection<FileStore<FileFrom<S>>>, Error>
-    ensures autocommit { IfOk result (λ c. c.in_transaction ≡ false) }
-    ensures opened { IfOk result (λ c. HasCleanDisk (file_state c) → IsOpened c) }
-    ensures finds { IfOk result (λ c. HasCleanDisk (file_state c) → FindsIn (image_at S.Start) (file_state c)) }
-    ensures sums { IfOk result (λ c. HasCleanDisk (file_state c) → IsBlankAs true (image_at S.Start) → (view c.store).has_sums ≡ true) }
-    ensures found { IfOk result (λ c. HasCleanDisk (file_state c) → (s : State) → HoldsState (image_at S.Start) s → Rests (file_state c) s) }
-    ensures guarded { IfOk result (λ c. HasCleanDisk (file_state c) → (file_state c).IsShielded) }
-{
-    match Connection::open_from(rt, path, true, start) {
-        Ok(conn) => Ok(conn),
-        Err((error, _)) => Err(error),
-    }
-}
-
-/// Closes a store into its two files, which hold then what its tables stood for. Where that fails the files come with the error, and
-/// what they hold then no clause says.
-pub fn close<D: Disk + Drop>(conn: Connection<FileStore<D>>) -> Result<Files<D>, (Error, Files<D>)>
-    ensures usable { IfOk result (λ files. IsTrue (D.Disk.is_usable files.log) × IsTrue (D.Disk.is_usable files.db)) }
-    ensures copied { IfOk result (λ files. AreClean D.Disk files.log files.db → IsCopied conn files) }
-    ensures closed { IfOk result (λ files. AreClean D.Disk files.log files.db → (s : State) → Rests (file_state conn) s → AreClosed D.Disk files s) }
-    ensures shield { IfOk result (λ files. (file_state conn).IsShielded → AreShielded D.Disk files) }
-    ensures clean { IfOk result (λ files. AreClean D.Disk files.log files.db → HasCleanDisk (file_state conn)) }
-    ensures unclosed { IfErr result (λ e. AreClean D.Disk e.1.log e.1.db → HasCleanDisk (file_state conn)) }
-{
-    match conn.close_files() {
-        Ok(files) => Ok(files),
-        Err((error, store)) => Err((error, store.close())),
-    }
-}
 
 /// Closes a station's store into its two files.
 pub(crate) fn shut<D: Disk + Drop>(

@@ -6,7 +6,7 @@ mod laws;
 mod playing;
 mod reopening;
 
-pub use files::{close, leave, open_at};
+pub use files::leave;
 pub use laws::{one_run, success_stays};
 pub use playing::{Closed, Stopped, play_then_close, play_then_stop};
 pub use reopening::{reopen, stop_and_open};

@@ -12,7 +12,8 @@ use Rattle.sqlite_trees.specs.Tree.{Trees}
 use Rattle.as2_store.specs.Calls.{Keeps}
 use Rattle.as2_store.specs.Stands.{Rests}
 use Rattle.as2_restart.specs.Restarts.{MayLeave}
-use Rattle.as2_restart.proofs.Opening.{found_after, kept}
+use Rattle.as2_storage.proofs.Opening.{kept}
+use Rattle.as2_restart.proofs.Opening.{found_after}
 use Rattle.as2_restart.proofs.files.leave.Goals as goal
 
 pub returns-clause-clean : goal.returns-clause-clean

@@ -2,7 +2,8 @@ use Rattle.std.proofs.Common.{◌∙◌, sym, subst}
 use Rattle.sqlite.specs.State.{HasCleanDisk}
 use Rattle.sqlite.specs.Files.{file_state, image_of}
 use Rattle.as2_restart.specs.Restarts.{IsHeld}
-use Rattle.as2_restart.proofs.Opening.{holds, rests_held}
+use Rattle.as2_storage.proofs.Opening.{rests_held}
+use Rattle.as2_restart.proofs.Opening.{holds}
 use Rattle.as2_restart.proofs.reopening.station_over.Goals as goal
 
 pub returns-in-Ok-adopt-clause-clean : goal.returns-in-Ok-adopt-clause-clean

@@ -4,8 +4,8 @@ use Rattle.sqlite_trees.specs.View.{IsClean}
 use Rattle.sqlite_trees.proofs.Doubt.{no_doubt}
 use Rattle.sqlite_pool.proofs.StateLemmas.{clean_is}
 use Rattle.sqlite_store.specs.FileStore.{view}
-use Rattle.as2_restart.proofs.Opening.{closed}
-use Rattle.as2_restart.proofs.files.close.Goals as goal
+use Rattle.as2_storage.proofs.Opening.{closed}
+use Rattle.as2_storage.proofs.files.close.Goals as goal
 
 pub returns-in-Ok-clause-closed : goal.returns-in-Ok-clause-closed
 returns-in-Ok-clause-closed g c honest s rests = closed c.args.conn c.in-Ok.files s (c.in-Ok.ensures.copied honest) rests

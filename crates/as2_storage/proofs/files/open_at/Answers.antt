@@ -1,7 +1,7 @@
 use Rattle.sqlite_wal.specs.Files.{image_at}
 use Rattle.sqlite.specs.Files.{file_state}
-use Rattle.as2_restart.proofs.Opening.{rests_held}
-use Rattle.as2_restart.proofs.files.open_at.Goals as goal
+use Rattle.as2_storage.proofs.Opening.{rests_held}
+use Rattle.as2_storage.proofs.files.open_at.Goals as goal
 
 pub returns-in-Ok-clause-found : goal.returns-in-Ok-clause-found
 returns-in-Ok-clause-found g c clean s held =

@@ -1,0 +1,25 @@
+-- What the two files of a store hold once it has been closed.
+use Rattle.std.specs.Prelude.{◌≡◌, []}
+use Rattle.sqlite_disk.specs.declared.Disk.{Ghosts}
+use Rattle.sqlite_disk.specs.declared.Files.{Files}
+use Rattle.sqlite_wal.specs.Files.{outcomes}
+use Rattle.sqlite_wal.specs.Recovery.{Image}
+use Rattle.sqlite_store.specs.FileStore.{is_shielded, files as store_files}
+use Rattle.sqlite_store.specs.declared.store.FileStore.{FileStore}
+use Rattle.sqlite.specs.Files.{image_of}
+use Rattle.as2_exchange.specs.State.{State}
+use Rattle.as2_store.specs.Files.{HoldsState}
+
+-- the files hold this state, and the database file does without its log
+pub record Holds (image : Image) (s : State) : Type 0 where
+  pub both : HoldsState image s
+  pub alone : HoldsState (record image { log = [] }) s
+
+-- so they do as they read now, and after a crash
+pub record AreClosed {D : Type 0} (g : Ghosts D) (files : Files D) (s : State) : Type 0 where
+  pub seen : Holds (image_of g files) s
+  pub left : (image : Image) → outcomes g files.log files.db image → Holds image s
+
+-- they are those of a store under the kit's shield: they returned what was written, or a digest has collided
+abbrev pub AreShielded : {D : Type 0} → Ghosts D → Files D → Type 0
+AreShielded {D} g files = (last : FileStore D g) × (store_files last ≡ (files.log, files.db)) × is_shielded last
