@@ -198,13 +198,18 @@ digest_named_ok word a e =
       | inr f ↦
           elim (cases_Bool (bytes_eq word (codes "md5"))) [
             | inl t ↦ (let same : alg.Md5 ≡ a = cc in rw (← same) (same_word word _ t))
-            | inr g ↦ absurd cc
+            | inr g ↦
+                elim (cases_Bool (bytes_eq word (codes "sha-256"))) [
+                  | inl t ↦ (let same : alg.Sha256 ≡ a = cc in rw (← same) (same_word word _ t))
+                  | inr h ↦ absurd cc
+                ]
           ]
     ]
 
 digest_named_again : (a : Alg) → digest_named (alg_name a) ≡ Some a
 digest_named_again alg.Md5 = refl
 digest_named_again alg.Sha1 = refl
+digest_named_again alg.Sha256 = refl
 
 pub digest_ok : (entry : Members) (a : Alg) → agreed_digest entry ≡ Ok a → HasText entry key.Digest (alg_name a)
 digest_ok entry a e =

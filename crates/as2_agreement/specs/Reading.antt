@@ -87,6 +87,7 @@ abbrev pub digest_named : List ℕ → Option Alg
 digest_named word =
     if bytes_eq word (codes "sha1") then Some alg.Sha1
     else if bytes_eq word (codes "md5") then Some alg.Md5
+    else if bytes_eq word (codes "sha-256") then Some alg.Sha256
     else None
 
 abbrev pub agreed_digest : Members → Read Alg

@@ -105,6 +105,7 @@ fn digest_named(word: &str) -> Option<Alg>
     match word {
         "sha1" => Some(Alg::Sha1),
         "md5" => Some(Alg::Md5),
+        "sha-256" => Some(Alg::Sha256),
         _ => None,
     }
 }

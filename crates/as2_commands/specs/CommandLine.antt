@@ -88,6 +88,7 @@ commands =
     ∷ submit
     ∷ command (codes "send") (timeout ∷ [])
     ∷ command (codes "tick") []
+    ∷ command (codes "resend") (entry ∷ [])
     ∷ list
     ∷ command (codes "outstanding") []
     ∷ command (codes "show") (entry ∷ [])

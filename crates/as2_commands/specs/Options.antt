@@ -13,7 +13,7 @@ use Rattle.as2_commands.specs.Requests.{Serving, Submission}
 use Rattle.as2_commands.specs.declared.tasks.Command.{Command}
 use Rattle.as2_commands.specs.declared.tasks.Command.TheVariants.{Post, Ask, Send, Serve}
 use Rattle.as2_commands.specs.declared.tasks.Question.{Question}
-use Rattle.as2_commands.specs.declared.tasks.Question.TheVariants.{Submit, Tick, List as Listing, Outstanding, Show, Fetch}
+use Rattle.as2_commands.specs.declared.tasks.Question.TheVariants.{Submit, Tick, Resend, List as Listing, Outstanding, Show, Fetch}
 use Rattle.as2_commands.specs.declared.tasks.RunOptions.{RunOptions}
 use Rattle.as2_commands.specs.declared.tasks.Task.{Task}
 use Rattle.as2_commands.specs.declared.tasks.Task.TheVariants.{Check, Run}
@@ -108,6 +108,7 @@ is_set None = false
 abbrev pub question_word : Question Submission → Text
 question_word (Submit s) = codes "submit"
 question_word Tick = codes "tick"
+question_word (Resend n) = codes "resend"
 question_word (Listing f idle) = codes "list"
 question_word Outstanding = codes "outstanding"
 question_word (Show n) = codes "show"
@@ -123,6 +124,7 @@ word_of (Serve s) = codes "serve"
 -- what the values of a question say for it
 abbrev pub TellQuestion : List Row → Question Submission → Type 0
 TellQuestion own (Submit s) = AsksSubmit own s
+TellQuestion own (Resend n) = IsEntry own n
 TellQuestion own (Listing f idle) = AsksList own (Listing f idle)
 TellQuestion own (Show n) = IsEntry own n
 TellQuestion own (Fetch n) = IsEntry own n

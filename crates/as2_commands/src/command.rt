@@ -18,6 +18,7 @@ pub(crate) fn command<'a>(alloc: Global) -> Made<'a>
     let line = with_command(line, own::submit(alloc));
     let line = with_command(line, own::send(alloc));
     let line = with_command(line, own::tick(alloc));
+    let line = with_command(line, own::resend(alloc));
     let line = with_command(line, own::list(alloc));
     let line = with_command(line, own::outstanding(alloc));
     let line = with_command(line, own::show(alloc));

@@ -85,6 +85,21 @@ documents are changed. A fault of the store is 'store: NAME', exit status 3, and
 Example:
   as2desk --agreements agreements.toml --store station.db --moment 1060 tick";
 
+pub(crate) const RESEND: &str = "\
+A document in error (state E) that no receipt has settled is queued again: it is due from the moment on,
+has all its tries before it, and keeps its identifier and its content. 'resent N' is printed. The next
+'send' sends it; a receipt for an earlier try still settles it. The moment is that of '--moment', in
+seconds since 1970, or else the clock's.
+
+Refused, with 'refused: NAME' on standard error and exit status 1, are a number that no document has
+(NoSuchNumber), a sender that is no organization of the agreements (UnknownOrganization), a receiver
+that is no partner (UnknownPartner), a document that a receipt has settled (AllSettled) and one that isn't
+in error (NotDue); nothing is changed then. A line that can't be written is CannotWrite, and the document
+is queued. A fault of the store is 'store: NAME', exit status 3, and nothing is changed.
+
+Example:
+  as2desk --agreements agreements.toml --store station.db resend 1";
+
 pub(crate) const LIST: &str = "\
 A line of 'out' has the number, the state, how many tries were begun, 'R' where a receipt is kept, the
 detail, and 'ORGANIZATION -> PARTNER'. The states are P (not sent yet, or the receipt is awaited), R (a

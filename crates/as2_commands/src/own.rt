@@ -22,6 +22,8 @@ pub(crate) const SEND: &str = "send";
 
 pub(crate) const TICK: &str = "tick";
 
+pub(crate) const RESEND: &str = "resend";
+
 pub(crate) const LIST: &str = "list";
 
 pub(crate) const OUTSTANDING: &str = "outstanding";
@@ -79,6 +81,17 @@ pub(crate) fn tick<'a>(alloc: Global) -> Made<'a>
 {
     let about = "Gives up what has waited until now, and prints how many documents that is";
     named(alloc, TICK, about, help::TICK)
+}
+
+pub(crate) fn resend<'a>(alloc: Global) -> Made<'a>
+    ensures { IfOk result (Looks (command (codes "resend") (entry ∷ []))) }
+{
+    let about = "Queues a document that failed, to be sent anew with all its tries";
+    let number = entry(
+        alloc,
+        "Number of a document of the outbox: 1 to 999999999999",
+    );
+    and(named(alloc, RESEND, about, help::RESEND), number)
 }
 
 pub(crate) fn list<'a>(alloc: Global) -> Made<'a>

@@ -96,6 +96,7 @@ fn command_of<'a>(
         "submit" => Ok(Command::Ask(Question::Submit(submission(own)?))),
         "send" => Ok(Command::Send(waits(own)?)),
         "tick" => Ok(Command::Ask(Question::Tick)),
+        "resend" => Ok(Command::Ask(Question::Resend(entry(own)?))),
         "list" => Ok(Command::Ask(listing(own)?)),
         "outstanding" => Ok(Command::Ask(Question::Outstanding)),
         "show" => Ok(Command::Ask(Question::Show(entry(own)?))),

@@ -68,6 +68,8 @@ pub enum Question<D> {
     Submit(D),
     /// To give up what has waited until the moment.
     Tick,
+    /// To send the document of that number of the outbox anew: 1 to 999,999,999,999.
+    Resend(u64),
     /// For the lines of entries; and whether a state was given that isn't looked at, since what was received has none.
     List(Filter, bool),
     /// For what is outstanding.

@@ -5,13 +5,13 @@ use Rattle.as2_exchange.specs.State.{State}
 use Rattle.as2_exchange.specs.Step.{step}
 use Rattle.as2_views.specs.Texts.{fetch, outstanding, show}
 use Rattle.as2_exchange.specs.declared.answer.Answer.{Answer}
-use Rattle.as2_exchange.specs.declared.answer.Answer.TheVariants.{Submitted, Ticked, Refused}
+use Rattle.as2_exchange.specs.declared.answer.Answer.TheVariants.{Submitted, Resent, Ticked, Refused}
 use Rattle.as2_exchange.specs.declared.answer.Refusal.{Refusal}
 use Rattle.as2_exchange.specs.declared.answer.Refusal.TheVariants.{NoSuchNumber}
 use Rattle.as2_exchange.specs.declared.event.Event.{Event}
 use Rattle.as2_exchange.specs.declared.event.Event.TheVariants as event
 use Rattle.as2_exchange.specs.declared.fault.StoreFault.TheVariants as store_fault
-use Rattle.as2_exchange.specs.Run.{Said as Saying, Answered, Failed}
+use Rattle.as2_exchange.specs.Run.{Said as Saying, Answered, Failed, AnEvent}
 use Rattle.as2_exchange.specs.declared.fault.StoreFault.{StoreFault}
 use Rattle.as2_station.specs.Heads.{submit_refusal}
 use Rattle.as2_station.specs.Theorem.{EndsByHistory}
@@ -23,9 +23,9 @@ use Rattle.as2_desk.specs.Observed.{Outcome}
 use Rattle.as2_desk.specs.Statuses.{done}
 use Rattle.as2_desk.specs.Written.{Breaks, Writes, Written}
 use Rattle.as2_desk.specs.declared.asking.Printed.{Printed}
-use Rattle.as2_desk.specs.declared.asking.Printed.TheVariants.{Number, Words, Content}
+use Rattle.as2_desk.specs.declared.asking.Printed.TheVariants.{Number, Requeued, Words, Content}
 use Rattle.as2_commands.specs.declared.tasks.Question.{Question}
-use Rattle.as2_commands.specs.declared.tasks.Question.TheVariants.{Submit, Tick, List as Listing, Outstanding, Show, Fetch}
+use Rattle.as2_commands.specs.declared.tasks.Question.TheVariants.{Submit, Tick, Resend, List as Listing, Outstanding, Show, Fetch}
 use Rattle.as2_desk.specs.declared.refusal.CommandFault.{CommandFault}
 use Rattle.as2_desk.specs.declared.refusal.CommandFault.TheVariants.{CannotWrite, Station, Store}
 use Rattle.as2_desk.specs.declared.status.Ran.{Ran}
@@ -39,9 +39,14 @@ Asked = Question NewDocument
 abbrev pub number_line : ℕ → List ℕ
 number_line n = decimal n ++ codes "\n"
 
+-- the line of a document that is to be sent anew: `resent N`
+abbrev pub resent_line : ℕ → List ℕ
+resent_line n = codes "resent " ++ number_line n
+
 -- the bytes that are printed
 abbrev pub printed_text : Printed → List ℕ
 printed_text (Number n) = number_line n
+printed_text (Requeued n) = resent_line n
 printed_text (Words text) = string_bytes text
 printed_text (Content bytes) = bytes.items
 
@@ -54,17 +59,23 @@ abbrev pub told_as : Result Printed CommandFault → Told
 told_as (Ok printed) = Ok (printed_text printed)
 told_as (Err refusal) = Err refusal
 
--- the number of an answer, or its refusal; to what is asked here no other comes
-abbrev pub told_of : Answer → Option Told
-told_of (Submitted n) = Some (Ok (number_line n))
-told_of (Ticked n) = Some (Ok (number_line n))
-told_of (Refused reason) = Some (Err (Station reason))
-told_of other = None
+-- of a document that is to be sent anew, where that was asked
+abbrev pub told_of_resend : Asked → Option Told
+told_of_resend (Resend n) = Some (Ok (resent_line n))
+told_of_resend other = None
+
+-- the number of an answer to what was asked, or its refusal; to what is asked here no other comes
+abbrev pub told_of : Asked → Answer → Option Told
+told_of q (Submitted n) = Some (Ok (number_line n))
+told_of q Resent = told_of_resend q
+told_of q (Ticked n) = Some (Ok (number_line n))
+told_of q (Refused reason) = Some (Err (Station reason))
+told_of q other = None
 
 -- that is told of what was said to such an event
-abbrev pub IsToldOf : Saying → Told → Type 0
-IsToldOf (Answered answer) told = told_of answer ≡ Some told
-IsToldOf (Failed fault) told = told ≡ Err (Store (open_fault.Store fault))
+abbrev pub IsToldOf : Asked → Saying → Told → Type 0
+IsToldOf q (Answered answer) told = told_of q answer ≡ Some told
+IsToldOf q (Failed fault) told = told ≡ Err (Store (open_fault.Store fault))
 
 -- the text, where an entry has the number
 abbrev pub found_told : Option (List ℕ) → Told
@@ -81,15 +92,16 @@ abbrev pub looked_up : {V : Type 0} → (V → List ℕ) → Result (Option V) S
 looked_up text (Ok v) = found_told (option_map text v)
 looked_up text (Err fault) = Err (Store (open_fault.Store fault))
 
--- the number of an answer with the state that is left; nothing where the number that is needed is used up
-abbrev pub told_by_step : Option (Answer × State) → Option (Told × State)
-told_by_step None = None
-told_by_step (Some came) = option_map (λ told. (told, came.1)) (told_of came.0)
+-- what is told of an answer, with the state that is left; nothing where the number that is needed is used up
+abbrev pub told_by_step : Asked → Option (Answer × State) → Option (Told × State)
+told_by_step q None = None
+told_by_step q (Some came) = option_map (λ told. (told, came.1)) (told_of q came.0)
 
 -- what the machine and the views answer in a state at this moment, and the state that they leave
 abbrev pub told_by : AgreedValues → ℕ → Asked → State → Option (Told × State)
-told_by A m (Submit d) s = told_by_step (step A s (event.Submit d.organization d.partner d.content m))
-told_by A m Tick s = told_by_step (step A s (event.Tick m))
+told_by A m (Submit d) s = told_by_step (Submit d) (step A s (event.Submit d.organization d.partner d.content m))
+told_by A m Tick s = told_by_step Tick (step A s (event.Tick m))
+told_by A m (Resend n) s = told_by_step (Resend n) (step A s (event.Resend n m))
 told_by A m (Listing filter idle) s = Some (Ok (listing filter s), s)
 told_by A m Outstanding s = Some (Ok (outstanding s m), s)
 told_by A m (Show n) s = Some (found_told (show s n), s)
@@ -110,6 +122,7 @@ refusal_to A other = None
 abbrev pub is_event : Asked → Bool
 is_event (Submit d) = true
 is_event Tick = true
+is_event (Resend n) = true
 is_event other = false
 
 -- a fault of the store that is told is one that may come of any call, or Full, which comes of events alone
@@ -119,13 +132,14 @@ FaultMayCome q (Err (Store (open_fault.Store fault))) = ((fault ≡ store_fault.
 FaultMayCome q told = ⊤
 
 -- what stands of each document then is its history, by that event and what was said to it, of which that is told
-abbrev pub EndsBy : AgreedValues → Event → State → State → Told → Type 0
-EndsBy A e s t told = (said : Saying) × IsToldOf said told × EndsByHistory A s ((e, said) ∷ []) t
+abbrev pub EndsBy : AgreedValues → Asked → Event → State → State → Told → Type 0
+EndsBy A q e s t told = (said : Saying) × IsToldOf q said told × EndsByHistory A s (AnEvent e said ∷ []) t
 
 -- .. where it is an event
 abbrev pub EndsByEvent : AgreedValues → ℕ → Asked → State → State → Told → Type 0
-EndsByEvent A m (Submit d) s t told = EndsBy A (event.Submit d.organization d.partner d.content m) s t told
-EndsByEvent A m Tick s t told = EndsBy A (event.Tick m) s t told
+EndsByEvent A m (Submit d) s t told = EndsBy A (Submit d) (event.Submit d.organization d.partner d.content m) s t told
+EndsByEvent A m Tick s t told = EndsBy A Tick (event.Tick m) s t told
+EndsByEvent A m (Resend n) s t told = EndsBy A (Resend n) (event.Resend n m) s t told
 EndsByEvent A m other s t told = ⊤
 
 -- the text is written, once; or a write failed, of the text a part is written, and one line says so; or one line says why there is

@@ -1,7 +1,7 @@
 -- The store of a command line: the one that is kept under its path, or one in memory.
 use Rattle.std.specs.Prelude.{◌≡◌, ℕ, List, Bool, true, false, codes, ⊤}
 use Rattle.std.specs.Str.{bytes_eq}
-use Rattle.as2_exchange.specs.State.{State, empty}
+use Rattle.as2_exchange.specs.State.{LaterVersion, State, empty}
 use Rattle.as2_records.specs.Standing.{may_come}
 use Rattle.as2_host.specs.Stores.{fault_in}
 use Rattle.as2_host.specs.declared.stores.OpenFault.{OpenFault}
@@ -18,7 +18,7 @@ ByPlace false InMemory Kept = Kept
 -- the store begins with that state: one in memory with no entry, and this first number; another with what is kept, or is made with
 -- that number (Keeps), on a medium that returned what was written until the store was closed (Clean)
 abbrev pub Begins : List ℕ → ℕ → Type 0 → (ℕ → State → Type 0) → State → Type 0
-Begins path first Clean Keeps s = ByPlace (is_in_memory path) (s ≡ empty first) (Keeps first s × Clean)
+Begins path first Clean Keeps s = ByPlace (is_in_memory path) (s ≡ empty (LaterVersion 0) first) (Keeps first s × Clean)
 
 -- that state is kept once the store is closed, whatever number is given from then on (Keeps); one in memory is kept nowhere
 abbrev pub Leaves : List ℕ → (ℕ → State → Type 0) → State → Type 0

@@ -40,6 +40,7 @@ handing s (Err refusal) = Err refusal
 abbrev pub IsAsked : (List ℕ → Content) → Question Submission → Result Asked CommandFault → Type 0
 IsAsked contents (question.Submit s) asked = (document : Document) × HasDocument (front (content_limit + 1) (contents s.path)) document × (asked ≡ handing s document)
 IsAsked contents question.Tick asked = asked ≡ Ok question.Tick
+IsAsked contents (question.Resend n) asked = asked ≡ Ok (question.Resend n)
 IsAsked contents (question.List filter idle) asked = asked ≡ Ok (question.List filter idle)
 IsAsked contents question.Outstanding asked = asked ≡ Ok question.Outstanding
 IsAsked contents (question.Show n) asked = asked ≡ Ok (question.Show n)

@@ -3,11 +3,12 @@ ghost use Rattle.std.specs.Prelude.{◌≡◌, ◌⊎◌, Option, Some, Err, IfS
 ghost use Rattle.as2_exchange.specs.State.{State};
 ghost use Rattle.as2_exchange.specs.declared.answer.Refusal.{Refusal as TheRefusal};
 ghost use Rattle.as2_exchange.specs.declared.answer.Answer.TheVariants.{Ticked};
-ghost use Rattle.as2_station.specs.Said.{said_to_submit};
+ghost use Rattle.as2_station.specs.Said.{said_to_resend, said_to_submit};
 ghost use Rattle.as2_station.specs.Theorem.{said_as};
 ghost use Rattle.as2_desk.specs.Endings.{EndsRefused};
 ghost use Rattle.as2_desk.specs.Observed.{errors_of, outcome_of};
-ghost use Rattle.as2_desk.specs.Questions.{Asks, EndsByEvent, FaultMayCome, IsToldOf, Prints, Tells, looked_up, number_line, printed_text, read_told, refusal_to, told_as};
+ghost use Rattle.as2_commands.specs.declared.tasks.Question.TheVariants.{Resend};
+ghost use Rattle.as2_desk.specs.Questions.{Asked, Asks, EndsByEvent, FaultMayCome, IsToldOf, Prints, Tells, looked_up, number_line, printed_text, read_told, refusal_to, told_as};
 ghost use Rattle.as2_desk.specs.Statuses.{done, failed, refused};
 ghost use Rattle.as2_desk.specs.Written.{WritesBy, written_of};
 ghost use Rattle.as2_desk.specs.declared.refusal.CommandFault.TheVariants.{Station as Refusing, Store as Failing};
@@ -23,7 +24,7 @@ use as2_exchange::{Refusal, StoreFault};
 use as2_host::OpenFault;
 use as2_http::{DeviceFault, Sink, push_all};
 use as2_records::Records;
-use as2_station::{NewDocument, Station, Submitted};
+use as2_station::{NewDocument, Resent, Station, Submitted};
 use itoa::Buffer;
 
 /// What is printed of an answer.
@@ -31,6 +32,8 @@ use itoa::Buffer;
 pub(crate) enum Printed {
     /// A number or a count, and LF. It takes no memory, so that what was done is told.
     Number(u64),
+    /// The number of a document that is to be sent anew, behind a word, and LF. It takes no memory either.
+    Requeued(u64),
     /// A text.
     Words(String),
     /// The content of a document.
@@ -39,7 +42,7 @@ pub(crate) enum Printed {
 
 /// The number of a document that was handed in, or why there is none.
 fn submitted_told(said: Result<Submitted, StoreFault>) -> Result<Printed, CommandFault>
-    ensures { IsToldOf (said_as said_to_submit said) (told_as result) }
+    ensures { (asked : Asked) → IsToldOf asked (said_as said_to_submit said) (told_as result) }
 {
     match said {
         Ok(Ok(number)) => Ok(Printed::Number(number)),
@@ -50,10 +53,21 @@ fn submitted_told(said: Result<Submitted, StoreFault>) -> Result<Printed, Comman
 
 /// The count of documents that were given up, or why there is none.
 fn ticked_told(said: Result<u64, StoreFault>) -> Result<Printed, CommandFault>
-    ensures { IsToldOf (said_as Ticked said) (told_as result) }
+    ensures { (asked : Asked) → IsToldOf asked (said_as Ticked said) (told_as result) }
 {
     match said {
         Ok(count) => Ok(Printed::Number(count)),
+        Err(fault) => Err(CommandFault::Store(OpenFault::Store(fault))),
+    }
+}
+
+/// That the document of this number is to be sent anew, or why it isn't.
+fn resent_told(number: u64, said: Result<Resent, StoreFault>) -> Result<Printed, CommandFault>
+    ensures { IsToldOf (Resend number) (said_as said_to_resend said) (told_as result) }
+{
+    match said {
+        Ok(Ok(())) => Ok(Printed::Requeued(number)),
+        Ok(Err(refusal)) => Err(CommandFault::Station(refusal)),
         Err(fault) => Err(CommandFault::Store(OpenFault::Store(fault))),
     }
 }
@@ -109,6 +123,10 @@ fn answer<K: Records>(
             submitted_told(station.submit(terms.alloc, terms.agreements, document, terms.moment))
         }
         Question::Tick => ticked_told(station.tick(terms.agreements, terms.moment)),
+        Question::Resend(number) => resent_told(
+            number,
+            station.resend(terms.alloc, terms.agreements, number, terms.moment),
+        ),
         Question::List(filter, _) => read_told(station.listing(terms.alloc, filter)),
         Question::Outstanding => read_told(station.outstanding(terms.alloc, terms.moment)),
         Question::Show(number) => shown_told(station.show(terms.alloc, number)),
@@ -143,6 +161,11 @@ fn write_printed<W: Sink>(printed: Printed, output: &mut W) -> Result<(), Device
         Printed::Number(number) => {
             let mut digits = Buffer::new();
             let line = joined(digits.format(number), "\n", "");
+            push_all(output, line.as_str().as_bytes())
+        }
+        Printed::Requeued(number) => {
+            let mut digits = Buffer::new();
+            let line = joined("resent ", digits.format(number), "\n");
             push_all(output, line.as_str().as_bytes())
         }
         Printed::Words(text) => push_all(output, text.as_bytes()),

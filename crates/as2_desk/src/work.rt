@@ -60,6 +60,7 @@ fn asked<F: ReadFiles>(
     match question {
         Question::Submit(submission) => Ok(Question::Submit(handed(alloc, files, submission)?)),
         Question::Tick => Ok(Question::Tick),
+        Question::Resend(number) => Ok(Question::Resend(number)),
         Question::List(filter, idle) => Ok(Question::List(filter, idle)),
         Question::Outstanding => Ok(Question::Outstanding),
         Question::Show(number) => Ok(Question::Show(number)),

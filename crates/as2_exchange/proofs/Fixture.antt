@@ -14,7 +14,7 @@ use Rattle.as2_mdn.specs.Receipts.{Mic as MicRead, Given}
 use Rattle.as2_exchange.specs.Agreement.{Text, Agreements, Partner, Asked, NoReceipt, Sync, Async, Sha1, Md5}
 use Rattle.as2_exchange.specs.Detail.{Processed}
 use Rattle.as2_exchange.specs.Readings.{Head, Receipt, ReceiptDelivery, Sync as SyncReceipt, Async as AsyncReceipt, Processed as WasProcessed, names_of, version_fits, type_of, is_report, report_in, verdict, id_of, ask_of, how_of, outcome_of, encoding_refused, mic_for}
-use Rattle.as2_exchange.specs.State.{Posted}
+use Rattle.as2_exchange.specs.State.{Posted, AllDigests}
 use Rattle.as2_exchange.specs.Posts.{IsDocument, IsReceipt, ReceivedReceipt, reading}
 
 -- ---- the agreements
@@ -98,7 +98,7 @@ md5_given = Given (codes "kAFQmDzST7DWlj99KOF/cg==", codes "md5")
 
 -- the receipt as it came from that partner
 abbrev pub came_from : Text → Text → Text → ReceivedReceipt
-came_from from id body = record { from = from; to = codes "Supplier"; receipt = tells id (codes "processed", []) md5_given; content_type = q_type_text; body = body }
+came_from from id body = record { known = AllDigests; from = from; to = codes "Supplier"; receipt = tells id (codes "processed", []) md5_given; content_type = q_type_text; body = body }
 
 abbrev pub first_id : Text
 first_id = codes "<out-1@station.example>"
@@ -115,16 +115,16 @@ pub q_read : report_in q_media q ≡ Some (tells first_id (codes "processed", []
 unfolding receipt_body q report_in without_blanks between_quotes bare
 q_read = refl
 
-pub q_posted : reading fixture (receipt_head (codes "Buyer")) q ≡ IsReceipt (came_from (codes "Buyer") first_id q)
+pub q_posted : reading fixture AllDigests (receipt_head (codes "Buyer")) q ≡ IsReceipt (came_from (codes "Buyer") first_id q)
 unfolding receipt_head receipt_body q reading names_of version_fits type_of is_report report_in without_blanks between_quotes bare
 q_posted = refl
 
-pub q_says : verdict (tells first_id (codes "processed", []) md5_given) abc ≡ Processed
+pub q_says : verdict AllDigests (tells first_id (codes "processed", []) md5_given) abc ≡ Processed
 unfolding verdict
 q_says = rw md5_mic refl
 
 -- under another partner's name
-pub q_from_depot : reading fixture (receipt_head (codes "Depot")) q ≡ IsReceipt (came_from (codes "Depot") first_id q)
+pub q_from_depot : reading fixture AllDigests (receipt_head (codes "Depot")) q ≡ IsReceipt (came_from (codes "Depot") first_id q)
 unfolding receipt_head receipt_body q reading names_of version_fits type_of is_report report_in without_blanks between_quotes bare
 q_from_depot = refl
 
@@ -132,7 +132,7 @@ q_from_depot = refl
 unfoldable pub q_for_2 : Text
 q_for_2 = receipt_body (codes "<out-2@station.example>") (codes "processed") md5_line
 
-pub q_for_2_posted : reading fixture (receipt_head (codes "Buyer")) q_for_2 ≡ IsReceipt (came_from (codes "Buyer") (codes "<out-2@station.example>") q_for_2)
+pub q_for_2_posted : reading fixture AllDigests (receipt_head (codes "Buyer")) q_for_2 ≡ IsReceipt (came_from (codes "Buyer") (codes "<out-2@station.example>") q_for_2)
 unfolding receipt_head receipt_body q_for_2 reading names_of version_fits type_of is_report report_in without_blanks between_quotes bare
 q_for_2_posted = refl
 
@@ -144,7 +144,7 @@ q_in_lf =
     ++ codes "Original-Message-ID: <out-1@station.example>\nDisposition: automatic-action/MDN-sent-automatically; processed\n"
     ++ codes "Received-content-MIC: kAFQmDzST7DWlj99KOF/cg==, md5\n\n--as2-mdn-7\nContent-Type: text/plain\n\nthird\n--as2-mdn-7--\n"
 
-pub q_in_lf_posted : reading fixture (receipt_head (codes "Buyer")) q_in_lf ≡ IsReceipt (came_from (codes "Buyer") first_id q_in_lf)
+pub q_in_lf_posted : reading fixture AllDigests (receipt_head (codes "Buyer")) q_in_lf ≡ IsReceipt (came_from (codes "Buyer") first_id q_in_lf)
 unfolding receipt_head q_in_lf reading names_of version_fits type_of is_report report_in without_blanks between_quotes bare
 q_in_lf_posted = refl
 
@@ -174,17 +174,17 @@ sha1_text = codes "qZk+NkcGgWq6PiVxeFDCbJzQ2J0="
 abbrev pub m1 : Text
 m1 = codes "<m1@x>"
 
-pub p1_posted : reading fixture (post_head (codes "Buyer") m1 []) abc ≡ IsDocument (document_of (codes "Buyer") m1 abc SyncReceipt sha1_text)
+pub p1_posted : reading fixture AllDigests (post_head (codes "Buyer") m1 []) abc ≡ IsDocument (document_of (codes "Buyer") m1 abc SyncReceipt sha1_text)
 unfolding post_head reading names_of version_fits type_of is_report id_of ask_of how_of outcome_of encoding_refused mic_for without_blanks between_quotes bare
 p1_posted = ap (λ (text : Text). IsDocument (document_of (codes "Buyer") m1 abc SyncReceipt text)) sha1_mic
 
 -- with another content
-pub p1_changed : reading fixture (post_head (codes "Buyer") m1 []) (codes "abd") ≡ IsDocument (document_of (codes "Buyer") m1 (codes "abd") SyncReceipt (mic Sha1 (codes "abd")))
+pub p1_changed : reading fixture AllDigests (post_head (codes "Buyer") m1 []) (codes "abd") ≡ IsDocument (document_of (codes "Buyer") m1 (codes "abd") SyncReceipt (mic Sha1 (codes "abd")))
 unfolding post_head reading names_of version_fits type_of is_report id_of ask_of how_of outcome_of encoding_refused mic_for without_blanks between_quotes bare
 p1_changed = refl
 
 -- under another identifier
-pub p2_posted : reading fixture (post_head (codes "Buyer") (codes "<m2@x>") []) abc ≡ IsDocument (document_of (codes "Buyer") (codes "<m2@x>") abc SyncReceipt sha1_text)
+pub p2_posted : reading fixture AllDigests (post_head (codes "Buyer") (codes "<m2@x>") []) abc ≡ IsDocument (document_of (codes "Buyer") (codes "<m2@x>") abc SyncReceipt sha1_text)
 unfolding post_head reading names_of version_fits type_of is_report id_of ask_of how_of outcome_of encoding_refused mic_for without_blanks between_quotes bare
 p2_posted = ap (λ (text : Text). IsDocument (document_of (codes "Buyer") (codes "<m2@x>") abc SyncReceipt text)) sha1_mic
 
@@ -192,7 +192,7 @@ p2_posted = ap (λ (text : Text). IsDocument (document_of (codes "Buyer") (codes
 abbrev pub return_head : Head
 return_head = (codes "receipt-delivery-option", codes "http://127.0.0.1:8082/mdn") ∷ []
 
-pub p1_from_depot : reading fixture (post_head (codes "Depot") m1 return_head) abc ≡ IsDocument (document_of (codes "Depot") m1 abc (AsyncReceipt (codes "http://127.0.0.1:8082/mdn")) sha1_text)
+pub p1_from_depot : reading fixture AllDigests (post_head (codes "Depot") m1 return_head) abc ≡ IsDocument (document_of (codes "Depot") m1 abc (AsyncReceipt (codes "http://127.0.0.1:8082/mdn")) sha1_text)
 unfolding post_head reading names_of version_fits type_of is_report id_of ask_of how_of outcome_of encoding_refused mic_for without_blanks between_quotes bare
 p1_from_depot = ap (λ (text : Text). IsDocument (document_of (codes "Depot") m1 abc (AsyncReceipt (codes "http://127.0.0.1:8082/mdn")) text)) sha1_mic
 

@@ -8,7 +8,7 @@ use Rattle.std.proofs.lemmas.List.Folds.{list_any-append}
 use Rattle.as2_exchange.specs.Agreement.{Agreements, Partner}
 use Rattle.as2_exchange.specs.Detail.{Attempt, Idle, Running, Last, Used, MdnState, Pending, Sent}
 use Rattle.as2_exchange.specs.Readings.{Job as TheJob, is_async, receipt_job}
-use Rattle.as2_exchange.specs.State.{InEntry}
+use Rattle.as2_exchange.specs.State.{Digests, InEntry}
 use Rattle.as2_exchange.specs.Events.{Answer, Job, Refused, AllSettled, TriesUsedUp, NotDue, NoOpenTry, AlreadySettled, Delivered, TryFailed, TryAnswer}
 use Rattle.as2_exchange.specs.Receipts.{is_delivery}
 use Rattle.as2_exchange.specs.OwedReceipts.{is_pending, is_shut, mdn_begun, mdn_closed}
@@ -144,14 +144,14 @@ ended_is p m queued e true false false (Some (t, None)) x got h k w = (refl, ref
 ended_is p m queued e false false true (Some (t, None)) x got h k w = (h, refl, refl, refl)
 ended_is p m queued e false false false (Some (t, None)) x got h k w = (h, refl, refl, refl)
 
-ended_owed : (p : Partner) (since : Found ℕ Fact) (got : TryAnswer) (m : ℕ) (e : InEntry) → Owed p since e → Owed p (more since (AnOutcome m got)) (ended p m e e.mdn e.attempt (is_delivery got)).1
-ended_owed p since got m e h =
-    let is = ended_is p m since.it e (is_delivery got) (is_delivered since.after) (nat_le p.max_tries (tries since.after)) (last_tried since.after) (AnOutcome m got) got h.state h.try h.wait in
+ended_owed : (p : Partner) (since : Found ℕ Fact) (known : Digests) (got : TryAnswer) (m : ℕ) (e : InEntry) → Owed p since e → Owed p (more since (AnOutcome m known got)) (ended p m e e.mdn e.attempt (is_delivery got)).1
+ended_owed p since known got m e h =
+    let is = ended_is p m since.it e (is_delivery got) (is_delivered since.after) (nat_le p.max_tries (tries since.after)) (last_tried since.after) (AnOutcome m known got) got h.state h.try h.wait in
     record {
       state = ap (λ (y : Answer × InEntry). y.1.mdn) same ∙ is.0 ∙ ap mdn_after (sym delivered);
       count = ap (λ (y : Answer × InEntry). y.1.tries) same ∙ is.1 ∙ h.count ∙ sym counted;
-      try = ap (λ (y : Answer × InEntry). y.1.attempt) same ∙ is.2 ∙ rw (delivered, counted, last_tried-push since.after (AnOutcome m got)) refl;
-      wait = ap (λ (y : Answer × InEntry). y.1.due) same ∙ is.3 ∙ rw (delivered, counted, last_tried-push since.after (AnOutcome m got)) refl;
+      try = ap (λ (y : Answer × InEntry). y.1.attempt) same ∙ is.2 ∙ rw (delivered, counted, last_tried-push since.after (AnOutcome m known got)) refl;
+      wait = ap (λ (y : Answer × InEntry). y.1.due) same ∙ is.3 ∙ rw (delivered, counted, last_tried-push since.after (AnOutcome m known got)) refl;
     }
   where
     same : ended p m e e.mdn e.attempt (is_delivery got) ≡ ended p m e (mdn_after (is_delivered since.after)) (mdn_attempt (is_delivered since.after) (nat_le p.max_tries (tries since.after)) (last_tried since.after)) (is_delivery got)
@@ -159,15 +159,15 @@ ended_owed p since got m e h =
         ap (λ (a : MdnState). ended p m e a e.attempt (is_delivery got)) h.state
         ∙ ap (λ (a : Attempt). ended p m e (mdn_after (is_delivered since.after)) a (is_delivery got)) h.try
 
-    delivered : is_delivered (since.after ++ AnOutcome m got ∷ []) ≡ (is_delivered since.after || (has_open (last_tried since.after) && is_delivery got))
-    delivered = delivered-push since.after (AnOutcome m got) ∙ ap (λ (b : Bool). is_delivered since.after || (b && is_delivery got)) (is_open-last_tried since.after)
+    delivered : is_delivered (since.after ++ AnOutcome m known got ∷ []) ≡ (is_delivered since.after || (has_open (last_tried since.after) && is_delivery got))
+    delivered = delivered-push since.after (AnOutcome m known got) ∙ ap (λ (b : Bool). is_delivered since.after || (b && is_delivery got)) (is_open-last_tried since.after)
 
-    counted : tries (since.after ++ AnOutcome m got ∷ []) ≡ tries since.after
-    counted = tries-push since.after (AnOutcome m got) ∙ add-zero (tries since.after)
+    counted : tries (since.after ++ AnOutcome m known got ∷ []) ≡ tries since.after
+    counted = tries-push since.after (AnOutcome m known got) ∙ add-zero (tries since.after)
 
-pub closed_owed : (A : Agreements) (p : Partner) (since : Found ℕ Fact) (got : TryAnswer) (m : ℕ) (e : InEntry) → AreAgreed A e.posted.receiver e.posted.sender p → Owed p since e → Owed p (more since (AnOutcome m got)) (mdn_closed A got m e).1
+pub closed_owed : (A : Agreements) (p : Partner) (since : Found ℕ Fact) (known : Digests) (got : TryAnswer) (m : ℕ) (e : InEntry) → AreAgreed A e.posted.receiver e.posted.sender p → Owed p since e → Owed p (more since (AnOutcome m known got)) (mdn_closed A got m e).1
 unfolding mdn_closed
-closed_owed A p since got m e agreed h = rw (agreed_is A e.posted.receiver e.posted.sender p e _ agreed) (ended_owed p since got m e h)
+closed_owed A p since known got m e agreed h = rw (agreed_is A e.posted.receiver e.posted.sender p e _ agreed) (ended_owed p since known got m e h)
 
 -- ---- a receipt that isn't sent later
 

@@ -11,14 +11,14 @@ use Rattle.std.proofs.lemmas.List.Folds.{find-append}
 use Rattle.as2_exchange.specs.Agreement.{Text, Agreements, Partner, is_organization, partner_of}
 use Rattle.as2_exchange.specs.Detail.{Idle, Unasked, Sent}
 use Rattle.as2_exchange.specs.Readings.{Head, ReceiptDelivery, NoReceipt, Sync, Async, is_async, is_report, names_of, version_fits, type_of, id_of, ask_of, report_in}
-use Rattle.as2_exchange.specs.State.{Posted, InEntry, State, empty, lasting, same_key, document, received, received_as, change_received}
-use Rattle.as2_exchange.specs.Events.{Event, Post, Submit, Begin, Outcome, BeginMdn, OutcomeMdn, Tick, Answer, Refused, NoSuchNumber, TryAnswer, Line, BadNames, BadVersion, UnknownNames, BadType, UnreadableReceipt, BadId, BadAsk, Done}
+use Rattle.as2_exchange.specs.State.{Digests, Version, LaterVersion, known_digests, origin_of, Posted, InEntry, State, empty, lasting, same_key, document, received, received_as, change_received}
+use Rattle.as2_exchange.specs.Events.{Event, Post, Submit, Begin, Outcome, Resend, BeginMdn, OutcomeMdn, Tick, Answer, Refused, NoSuchNumber, TryAnswer, Line, BadNames, BadVersion, UnknownNames, BadType, UnreadableReceipt, BadId, BadAsk, Done}
 use Rattle.as2_exchange.specs.Posts.{Reading, Refuses, IsReceipt, IsDocument, needs, reading, repeats, ReceivedReceipt}
-use Rattle.as2_exchange.specs.Documents.{begun as begun_document, closed as closed_document}
+use Rattle.as2_exchange.specs.Documents.{begun as begun_document, closed as closed_document, resent as resent_document}
 use Rattle.as2_exchange.specs.OwedReceipts.{is_pending, mdn_begun, mdn_closed}
 use Rattle.as2_exchange.specs.Recording.{record_post, requeued_by_repeat, first_entry}
 use Rattle.as2_exchange.specs.Step.{post, step, acted_in}
-use Rattle.as2_exchange.specs.Run.{Trace, Run, Answered, Failed, accepted}
+use Rattle.as2_exchange.specs.Run.{Trace, Run, AnEvent, AMigration, Answered, Failed, migrated, accepted}
 use Rattle.as2_exchange.specs.Invariants.{IsCounter, IsWellFormed}
 use Rattle.as2_exchange.specs.History.{Found, Fact, ATry, AnOutcome, is_job}
 use Rattle.as2_exchange.specs.ReceiptHistory.{ReceiptFact, APost, OfATry, receipt_fact, receipt_fact_of, sent_later, is_delivered, are_used, queued_by, since_queued, history_by_how, receipt_history, receipt_told}
@@ -29,8 +29,9 @@ use Rattle.as2_exchange.proofs.Places.{found_place}
 use Rattle.as2_exchange.proofs.Pushes.{answered_event, with_fact}
 use Rattle.as2_exchange.proofs.Acts.{AreAgreed}
 use Rattle.as2_exchange.proofs.Repeats.{RecordedOrSame, fresh, repeated, clash, left_is, recorded_posts, Grows, step_grows, find-lasting, key_same, repeats_itself, acted_inbox, settle_inbox, submit_inbox, tick_inbox, queued_lasting, mdn_begun_lasting, mdn_closed_lasting}
-use Rattle.as2_exchange.proofs.Equal.{repeat_is, key_turned}
-use Rattle.as2_exchange.proofs.States.{step_formed, empty_formed}
+use Rattle.as2_exchange.proofs.Equal.{both, HaveOneKey, key_is, post_key, one_key, keys_joined, received_one}
+use Rattle.as2_exchange.proofs.States.{step_formed, empty_formed, migrated_formed}
+use Rattle.as2_exchange.proofs.Steady.{step_steady}
 use Rattle.as2_exchange.proofs.Owed.{Owed, more, queued_owed, reposted_owed, with_try, begun_owed, closed_owed, never_begun, never_closed}
 
 -- ---- facts
@@ -114,13 +115,13 @@ try_begun A (Async url) p facts m e agreed h = (
 
 -- ---- a try ends
 
-try_closed : (A : Agreements) (how : ReceiptDelivery) (p : Partner) (facts : List ReceiptFact) (got : TryAnswer) (m : ℕ) (e : InEntry) → AreAgreed A e.posted.receiver e.posted.sender p → StandsAs how p facts e → StandsAs how p (facts ++ OfATry (AnOutcome m got) ∷ []) (mdn_closed A got m e).1
-try_closed A NoReceipt p facts got m e agreed h = subst (StandsAs NoReceipt p (facts ++ OfATry (AnOutcome m got) ∷ [])) (sym (never_closed A p got m e agreed (ap is_pending h.0))) h
-try_closed A Sync p facts got m e agreed h = subst (StandsAs Sync p (facts ++ OfATry (AnOutcome m got) ∷ [])) (sym (never_closed A p got m e agreed (ap is_pending h.0))) h
-try_closed A (Async url) p facts got m e agreed h = (
-  more h.0 (AnOutcome m got),
-  since-push p facts (OfATry (AnOutcome m got)) ∙ ap (λ (o : Option (Found ℕ Fact)). queued_by p o (OfATry (AnOutcome m got))) h.1,
-  closed_owed A p h.0 got m e agreed h.2,
+try_closed : (A : Agreements) (how : ReceiptDelivery) (p : Partner) (facts : List ReceiptFact) (known : Digests) (got : TryAnswer) (m : ℕ) (e : InEntry) → AreAgreed A e.posted.receiver e.posted.sender p → StandsAs how p facts e → StandsAs how p (facts ++ OfATry (AnOutcome m known got) ∷ []) (mdn_closed A got m e).1
+try_closed A NoReceipt p facts known got m e agreed h = subst (StandsAs NoReceipt p (facts ++ OfATry (AnOutcome m known got) ∷ [])) (sym (never_closed A p got m e agreed (ap is_pending h.0))) h
+try_closed A Sync p facts known got m e agreed h = subst (StandsAs Sync p (facts ++ OfATry (AnOutcome m known got) ∷ [])) (sym (never_closed A p got m e agreed (ap is_pending h.0))) h
+try_closed A (Async url) p facts known got m e agreed h = (
+  more h.0 (AnOutcome m known got),
+  since-push p facts (OfATry (AnOutcome m known got)) ∙ ap (λ (o : Option (Found ℕ Fact)). queued_by p o (OfATry (AnOutcome m known got))) h.1,
+  closed_owed A p h.0 known got m e agreed h.2,
 )
 
 -- ---- the names of a posted document are agreed
@@ -149,9 +150,9 @@ if_agreed A false theirs rest h = tt
 agreed_names : (A : Agreements) (names : Text × Text) → is_organization A names.1 ≡ true → is_some (partner_of A names.0) ≡ true → (p : Partner) × AreAgreed A names.1 names.0 p
 agreed_names A names ours theirs = let known = is_some_value (partner_of A names.0) theirs in (known.0, record { ours = ours; theirs = known.1 })
 
-reading_known : (A : Agreements) (head : Head) (body : Text) → IsKnown A (reading A head body)
+reading_known : (A : Agreements) (known : Digests) (head : Head) (body : Text) → IsKnown A (reading A known head body)
 unfolding reading IsKnown
-reading_known A head body =
+reading_known A known head body =
     needs_known A (names_of head) BadNames _ (λ names.
     if_known A (not (version_fits head)) (Refuses BadVersion) _ tt
     (if_agreed A (is_organization A names.1) (is_some (partner_of A names.0)) _ (λ ours theirs.
@@ -200,12 +201,12 @@ found_by_key A s q d formed found = by (received s d.number) refl
         ap Some (one_found (λ a b. a == b) (λ (x : InEntry). x.number) (λ (x : InEntry). x.number == d.number) (λ (x : InEntry). same_key x.posted q) s.inbox e d formed.received.numbers.distinct is found (rw num (same_number d.number)) (rw num (same_number d.number)))
 
 -- and the only one that the post repeats
-repeated_is : (A : Agreements) (s : State) (q : Posted) (d e : InEntry) (n : ℕ) → IsWellFormed A s → received_as s q ≡ Some d → received s n ≡ Some e → repeats e.posted q ≡ true → e ≡ d
-repeated_is A s q d e n formed found is same =
-    let it : e.posted ≡ q = repeat_is e.posted q same in
-    let key : same_key d.posted q ≡ true = find_passes (λ (x : InEntry). same_key x.posted q) s.inbox d found in
+repeated_is : (A : Agreements) (s : State) (q : Posted) (d e : InEntry) (n o k : ℕ) → IsWellFormed A s → received_as s q ≡ Some d → received s n ≡ Some e → repeats o k e.posted q ≡ true → e ≡ d
+repeated_is A s q d e n o k formed found is same =
+    let its : HaveOneKey e.posted q = post_key e.posted q (both _ _ same).0 in
+    let key : HaveOneKey d.posted q = key_is d.posted q (find_passes (λ (x : InEntry). same_key x.posted q) s.inbox d found) in
     one_found same_key (λ (x : InEntry). x.posted) (λ (x : InEntry). x.number == n) (λ (x : InEntry). same_key x.posted q) s.inbox e d formed.received.keys is found
-    (rw it (key_turned d.posted q key)) (rw it key)
+    (keys_joined e.posted d.posted q its key) (keys_joined d.posted e.posted q key its)
 
 -- ---- what a run keeps
 
@@ -255,24 +256,24 @@ quiet A past s s' x keeps formed grows same none = record {
 -- ---- a try of one receipt begins or ends
 
 -- the entry that the event acts on, or another one
-acted_entry : (A : Agreements) (past : List Done) (s : State) (k : ℕ) (act : InEntry → Answer × InEntry) (e : Event) (d : InEntry) → KeepsReceipts A past s → ((z : InEntry) → lasting (act z).1 ≡ lasting z) → ((n : ℕ) (q : Posted) (a : Answer) → (k == n) ≡ false → receipt_fact A n q (answered_event e a) ≡ None) → ((z : InEntry) (p : Partner) (facts : List ReceiptFact) → AreAgreed A z.posted.receiver z.posted.sender p → StandsAs z.posted.how p facts z → StandsAs z.posted.how p (with_more facts (receipt_fact A k z.posted (answered_event e (act z).0))) (act z).1) → received s k ≡ Some d → (n : ℕ) (x : InEntry) → received (change_received s k (λ z. (act z).1)) n ≡ Some x → (b : Bool) → (k == n) ≡ b → EntryStands A n (past ++ answered_event e (act d).0 ∷ []) x.posted x
+acted_entry : (A : Agreements) (past : List Done) (s : State) (k : ℕ) (act : InEntry → Answer × InEntry) (e : Event) (d : InEntry) → KeepsReceipts A past s → ((z : InEntry) → lasting (act z).1 ≡ lasting z) → ((n : ℕ) (q : Posted) (a : Answer) → (k == n) ≡ false → receipt_fact A n q (answered_event s.version e a) ≡ None) → ((z : InEntry) (p : Partner) (facts : List ReceiptFact) → AreAgreed A z.posted.receiver z.posted.sender p → StandsAs z.posted.how p facts z → StandsAs z.posted.how p (with_more facts (receipt_fact A k z.posted (answered_event s.version e (act z).0))) (act z).1) → received s k ≡ Some d → (n : ℕ) (x : InEntry) → received (change_received s k (λ z. (act z).1)) n ≡ Some x → (b : Bool) → (k == n) ≡ b → EntryStands A n (past ++ answered_event s.version e (act d).0 ∷ []) x.posted x
 acted_entry A past s k act e d keeps kept silent moves found n x is false h =
-    stands_still A n past (answered_event e (act d).0) x.posted x (silent n x.posted (act d).0 h)
+    stands_still A n past (answered_event s.version e (act d).0) x.posted x (silent n x.posted (act d).0 h)
     (keeps.each n x (sym (received-changed_other s k (λ z. (act z).1) n kept (apart_turned k n k refl h)) ∙ is))
 acted_entry A past s k act e d keeps kept silent moves found n x is true h =
     let same : k ≡ n = number_is k n h in
     let it : (act d).1 ≡ x = same_Some _ _ (sym (received-changed_same s k (λ z. (act z).1) d kept found) ∙ ap (received (change_received s k (λ z. (act z).1))) same ∙ is) in
     let posted : (act d).1.posted ≡ d.posted = ap (λ (z : ℕ × Posted). z.1) (kept d) in
-    let stood = stands_on A k past (answered_event e (act d).0) d.posted d (act d).1 (keeps.each k d found) (moves d) in
-    let of_it = subst (λ (q : Posted). EntryStands A k (past ++ answered_event e (act d).0 ∷ []) q (act d).1) (sym posted) stood in
-    let of_x = subst (λ (z : InEntry). EntryStands A k (past ++ answered_event e (act d).0 ∷ []) z.posted z) it of_it in
-    subst (λ (j : ℕ). EntryStands A j (past ++ answered_event e (act d).0 ∷ []) x.posted x) same of_x
+    let stood = stands_on A k past (answered_event s.version e (act d).0) d.posted d (act d).1 (keeps.each k d found) (moves d) in
+    let of_it = subst (λ (q : Posted). EntryStands A k (past ++ answered_event s.version e (act d).0 ∷ []) q (act d).1) (sym posted) stood in
+    let of_x = subst (λ (z : InEntry). EntryStands A k (past ++ answered_event s.version e (act d).0 ∷ []) z.posted z) it of_it in
+    subst (λ (j : ℕ). EntryStands A j (past ++ answered_event s.version e (act d).0 ∷ []) x.posted x) same of_x
 
-acted_receipts : (A : Agreements) (past : List Done) (s : State) (k : ℕ) (act : InEntry → Answer × InEntry) (e : Event) → KeepsReceipts A past s → ((z : InEntry) → lasting (act z).1 ≡ lasting z) → ((n : ℕ) (q : Posted) (a : Answer) → (k == n) ≡ false → receipt_fact A n q (answered_event e a) ≡ None) → ((n : ℕ) (q : Posted) (a : Answer) (j : ℕ) → receipt_fact A n q (answered_event e a) ≡ Some (APost j) → ⊥) → ((z : InEntry) (p : Partner) (facts : List ReceiptFact) → AreAgreed A z.posted.receiver z.posted.sender p → StandsAs z.posted.how p facts z → StandsAs z.posted.how p (with_more facts (receipt_fact A k z.posted (answered_event e (act z).0))) (act z).1) → (o : Option InEntry) → received s k ≡ o → IsWellFormed A (acted_in s k act o).1 → Grows s (acted_in s k act o).1 → KeepsReceipts A (past ++ answered_event e (acted_in s k act o).0 ∷ []) (acted_in s k act o).1
+acted_receipts : (A : Agreements) (past : List Done) (s : State) (k : ℕ) (act : InEntry → Answer × InEntry) (e : Event) → KeepsReceipts A past s → ((z : InEntry) → lasting (act z).1 ≡ lasting z) → ((n : ℕ) (q : Posted) (a : Answer) → (k == n) ≡ false → receipt_fact A n q (answered_event s.version e a) ≡ None) → ((n : ℕ) (q : Posted) (a : Answer) (j : ℕ) → receipt_fact A n q (answered_event s.version e a) ≡ Some (APost j) → ⊥) → ((z : InEntry) (p : Partner) (facts : List ReceiptFact) → AreAgreed A z.posted.receiver z.posted.sender p → StandsAs z.posted.how p facts z → StandsAs z.posted.how p (with_more facts (receipt_fact A k z.posted (answered_event s.version e (act z).0))) (act z).1) → (o : Option InEntry) → received s k ≡ o → IsWellFormed A (acted_in s k act o).1 → Grows s (acted_in s k act o).1 → KeepsReceipts A (past ++ answered_event s.version e (acted_in s k act o).0 ∷ []) (acted_in s k act o).1
 acted_receipts A past s k act e keeps kept silent never moves None none formed grows = record {
   formed = formed;
-  each = λ n d is. stands_still A n past (answered_event e (Refused NoSuchNumber)) d.posted d (silent n d.posted (Refused NoSuchNumber) (absent n d is (k == n) refl)) (keeps.each n d is);
-  unposted = unposted_on A past s s (answered_event e (Refused NoSuchNumber)) keeps grows (λ q n gone. never n q (Refused NoSuchNumber));
+  each = λ n d is. stands_still A n past (answered_event s.version e (Refused NoSuchNumber)) d.posted d (silent n d.posted (Refused NoSuchNumber) (absent n d is (k == n) refl)) (keeps.each n d is);
+  unposted = unposted_on A past s s (answered_event s.version e (Refused NoSuchNumber)) keeps grows (λ q n gone. never n q (Refused NoSuchNumber));
 }
   where
     absent : (n : ℕ) (d : InEntry) → received s n ≡ Some d → (b : Bool) → (k == n) ≡ b → (k == n) ≡ false
@@ -281,70 +282,70 @@ acted_receipts A past s k act e keeps kept silent never moves None none formed g
 acted_receipts A past s k act e keeps kept silent never moves (Some d) found formed grows = record {
   formed = formed;
   each = λ n x is. acted_entry A past s k act e d keeps kept silent moves found n x is (k == n) refl;
-  unposted = unposted_on A past s (change_received s k (λ z. (act z).1)) (answered_event e (act d).0) keeps grows (λ q n gone. never n q (act d).0);
+  unposted = unposted_on A past s (change_received s k (λ z. (act z).1)) (answered_event s.version e (act d).0) keeps grows (λ q n gone. never n q (act d).0);
 }
 
 no_post : (b : Bool) (f : Fact) (j : ℕ) → (if b then Some (OfATry f) else None) ≡ Some (APost j) → ⊥
 no_post true f j h = absurd (cc)
 no_post false f j h = absurd (cc)
 
-begin_silent : (A : Agreements) (k m n : ℕ) (q : Posted) (a : Answer) → (k == n) ≡ false → receipt_fact A n q (answered_event (BeginMdn k m) a) ≡ None
+begin_silent : (v : Version) (A : Agreements) (k m n : ℕ) (q : Posted) (a : Answer) → (k == n) ≡ false → receipt_fact A n q (answered_event v (BeginMdn k m) a) ≡ None
 unfolding receipt_fact
-begin_silent A k m n q a apart = rw apart refl
+begin_silent v A k m n q a apart = rw apart refl
 
-begin_never : (A : Agreements) (k m n : ℕ) (q : Posted) (a : Answer) (j : ℕ) → receipt_fact A n q (answered_event (BeginMdn k m) a) ≡ Some (APost j) → ⊥
+begin_never : (v : Version) (A : Agreements) (k m n : ℕ) (q : Posted) (a : Answer) (j : ℕ) → receipt_fact A n q (answered_event v (BeginMdn k m) a) ≡ Some (APost j) → ⊥
 unfolding receipt_fact
-begin_never A k m n q a j h = no_post ((k == n) && is_job a) (ATry m) j h
+begin_never v A k m n q a j h = no_post ((k == n) && is_job a) (ATry m) j h
 
-begin_fact_is : (A : Agreements) (k m : ℕ) (q : Posted) (a : Answer) → receipt_fact A k q (answered_event (BeginMdn k m) a) ≡ begin_fact m a
+begin_fact_is : (v : Version) (A : Agreements) (k m : ℕ) (q : Posted) (a : Answer) → receipt_fact A k q (answered_event v (BeginMdn k m) a) ≡ begin_fact m a
 unfolding receipt_fact
-begin_fact_is A k m q a = ap (λ (b : Bool). if b && is_job a then Some (OfATry (ATry m)) else None) (same_number k)
+begin_fact_is v A k m q a = ap (λ (b : Bool). if b && is_job a then Some (OfATry (ATry m)) else None) (same_number k)
 
-outcome_silent : (A : Agreements) (k : ℕ) (got : TryAnswer) (m n : ℕ) (q : Posted) (a : Answer) → (k == n) ≡ false → receipt_fact A n q (answered_event (OutcomeMdn k got m) a) ≡ None
+outcome_silent : (v : Version) (A : Agreements) (k : ℕ) (got : TryAnswer) (m n : ℕ) (q : Posted) (a : Answer) → (k == n) ≡ false → receipt_fact A n q (answered_event v (OutcomeMdn k got m) a) ≡ None
 unfolding receipt_fact
-outcome_silent A k got m n q a apart = rw apart refl
+outcome_silent v A k got m n q a apart = rw apart refl
 
-outcome_never : (A : Agreements) (k : ℕ) (got : TryAnswer) (m n : ℕ) (q : Posted) (a : Answer) (j : ℕ) → receipt_fact A n q (answered_event (OutcomeMdn k got m) a) ≡ Some (APost j) → ⊥
+outcome_never : (v : Version) (A : Agreements) (k : ℕ) (got : TryAnswer) (m n : ℕ) (q : Posted) (a : Answer) (j : ℕ) → receipt_fact A n q (answered_event v (OutcomeMdn k got m) a) ≡ Some (APost j) → ⊥
 unfolding receipt_fact
-outcome_never A k got m n q a j h = no_post (k == n) (AnOutcome m got) j h
+outcome_never v A k got m n q a j h = no_post (k == n) (AnOutcome m (known_digests v) got) j h
 
-outcome_fact_is : (A : Agreements) (k : ℕ) (got : TryAnswer) (m : ℕ) (q : Posted) (a : Answer) → receipt_fact A k q (answered_event (OutcomeMdn k got m) a) ≡ Some (OfATry (AnOutcome m got))
+outcome_fact_is : (v : Version) (A : Agreements) (k : ℕ) (got : TryAnswer) (m : ℕ) (q : Posted) (a : Answer) → receipt_fact A k q (answered_event v (OutcomeMdn k got m) a) ≡ Some (OfATry (AnOutcome m (known_digests v) got))
 unfolding receipt_fact
-outcome_fact_is A k got m q a = ap (λ (b : Bool). if b then Some (OfATry (AnOutcome m got)) else None) (same_number k)
+outcome_fact_is v A k got m q a = ap (λ (b : Bool). if b then Some (OfATry (AnOutcome m (known_digests v) got)) else None) (same_number k)
 
-begin_receipts : (A : Agreements) (past : List Done) (s : State) (k m : ℕ) → KeepsReceipts A past s → let y = acted_in s k (mdn_begun A m) (received s k) in IsWellFormed A y.1 → Grows s y.1 → KeepsReceipts A (past ++ answered_event (BeginMdn k m) y.0 ∷ []) y.1
+begin_receipts : (A : Agreements) (past : List Done) (s : State) (k m : ℕ) → KeepsReceipts A past s → let y = acted_in s k (mdn_begun A m) (received s k) in IsWellFormed A y.1 → Grows s y.1 → KeepsReceipts A (past ++ answered_event s.version (BeginMdn k m) y.0 ∷ []) y.1
 begin_receipts A past s k m keeps formed grows =
-    acted_receipts A past s k (mdn_begun A m) (BeginMdn k m) keeps (mdn_begun_lasting A m) (begin_silent A k m) (begin_never A k m)
-    (λ z p facts agreed h. subst (λ (o : Option ReceiptFact). StandsAs z.posted.how p (with_more facts o) (mdn_begun A m z).1) (sym (begin_fact_is A k m z.posted (mdn_begun A m z).0)) (try_begun A z.posted.how p facts m z agreed h))
+    acted_receipts A past s k (mdn_begun A m) (BeginMdn k m) keeps (mdn_begun_lasting A m) (begin_silent s.version A k m) (begin_never s.version A k m)
+    (λ z p facts agreed h. subst (λ (o : Option ReceiptFact). StandsAs z.posted.how p (with_more facts o) (mdn_begun A m z).1) (sym (begin_fact_is s.version A k m z.posted (mdn_begun A m z).0)) (try_begun A z.posted.how p facts m z agreed h))
     (received s k) refl formed grows
 
-outcome_receipts : (A : Agreements) (past : List Done) (s : State) (k : ℕ) (got : TryAnswer) (m : ℕ) → KeepsReceipts A past s → let y = acted_in s k (mdn_closed A got m) (received s k) in IsWellFormed A y.1 → Grows s y.1 → KeepsReceipts A (past ++ answered_event (OutcomeMdn k got m) y.0 ∷ []) y.1
+outcome_receipts : (A : Agreements) (past : List Done) (s : State) (k : ℕ) (got : TryAnswer) (m : ℕ) → KeepsReceipts A past s → let y = acted_in s k (mdn_closed A got m) (received s k) in IsWellFormed A y.1 → Grows s y.1 → KeepsReceipts A (past ++ answered_event s.version (OutcomeMdn k got m) y.0 ∷ []) y.1
 outcome_receipts A past s k got m keeps formed grows =
-    acted_receipts A past s k (mdn_closed A got m) (OutcomeMdn k got m) keeps (mdn_closed_lasting A got m) (outcome_silent A k got m) (outcome_never A k got m)
-    (λ z p facts agreed h. subst (λ (o : Option ReceiptFact). StandsAs z.posted.how p (with_more facts o) (mdn_closed A got m z).1) (sym (outcome_fact_is A k got m z.posted (mdn_closed A got m z).0)) (try_closed A z.posted.how p facts got m z agreed h))
+    acted_receipts A past s k (mdn_closed A got m) (OutcomeMdn k got m) keeps (mdn_closed_lasting A got m) (outcome_silent s.version A k got m) (outcome_never s.version A k got m)
+    (λ z p facts agreed h. subst (λ (o : Option ReceiptFact). StandsAs z.posted.how p (with_more facts o) (mdn_closed A got m z).1) (sym (outcome_fact_is s.version A k got m z.posted (mdn_closed A got m z).0)) (try_closed A z.posted.how p facts (known_digests s.version) got m z agreed h))
     (received s k) refl formed grows
 
 -- ---- a document is posted
 
 -- what the post of q at moment m is to the receipt for p
-abbrev PostsFor : Agreements → Done → ℕ → Posted → Type 0
-PostsFor A x m q = (n : ℕ) (p : Posted) → receipt_fact A n p x ≡ (if repeats p q then Some (APost m) else None)
+abbrev PostsFor : Agreements → ℕ → Done → ℕ → Posted → Type 0
+PostsFor A o x m q = (n : ℕ) (p : Posted) → receipt_fact A n p x ≡ (if repeats o n p q then Some (APost m) else None)
 
-posts_for : (A : Agreements) (head : Head) (body : Text) (m : ℕ) (a : Answer) (q : Posted) → reading A head body ≡ IsDocument q → PostsFor A (answered_event (Post head body m) a) m q
+posts_for : (v : Version) (A : Agreements) (head : Head) (body : Text) (m : ℕ) (a : Answer) (q : Posted) → reading A (known_digests v) head body ≡ IsDocument q → PostsFor A (origin_of v) (answered_event v (Post head body m) a) m q
 unfolding receipt_fact
-posts_for A head body m a q is n p = rw is refl
+posts_for v A head body m a q is n p = rw is refl
 
-not_posted : (A : Agreements) (x : Done) (m : ℕ) (q : Posted) (n : ℕ) (p : Posted) → PostsFor A x m q → repeats p q ≡ false → receipt_fact A n p x ≡ None
-not_posted A x m q n p post h = post n p ∙ rw h refl
+not_posted : (A : Agreements) (o : ℕ) (x : Done) (m : ℕ) (q : Posted) (n : ℕ) (p : Posted) → PostsFor A o x m q → repeats o n p q ≡ false → receipt_fact A n p x ≡ None
+not_posted A o x m q n p post h = post n p ∙ rw h refl
 
-is_posted : (A : Agreements) (x : Done) (m : ℕ) (q : Posted) (n : ℕ) (p : Posted) → PostsFor A x m q → repeats p q ≡ true → receipt_fact A n p x ≡ Some (APost m)
-is_posted A x m q n p post h = post n p ∙ rw h refl
+is_posted : (A : Agreements) (o : ℕ) (x : Done) (m : ℕ) (q : Posted) (n : ℕ) (p : Posted) → PostsFor A o x m q → repeats o n p q ≡ true → receipt_fact A n p x ≡ Some (APost m)
+is_posted A o x m q n p post h = post n p ∙ rw h refl
 
-post_repeats : (A : Agreements) (x : Done) (m : ℕ) (q : Posted) (n : ℕ) (p : Posted) → PostsFor A x m q → (j : ℕ) → receipt_fact A n p x ≡ Some (APost j) → p ≡ q
-post_repeats A x m q n p post j h = by (repeats p q) refl (sym (post n p) ∙ h)
+post_one_key : (A : Agreements) (o : ℕ) (x : Done) (m : ℕ) (q : Posted) (n : ℕ) (p : Posted) → PostsFor A o x m q → (j : ℕ) → receipt_fact A n p x ≡ Some (APost j) → HaveOneKey p q
+post_one_key A o x m q n p post j h = by (repeats o n p q) refl (sym (post n p) ∙ h)
   where
-    by : (b : Bool) → repeats p q ≡ b → (if b then Some (APost m) else None) ≡ Some (APost j) → p ≡ q
-    by true is g = repeat_is p q is
+    by : (b : Bool) → repeats o n p q ≡ b → (if b then Some (APost m) else None) ≡ Some (APost j) → HaveOneKey p q
+    by true is g = post_key p q (both _ _ is).0
     by false is g = absurd (cc)
 
 -- a receipt as it is first owed
@@ -356,18 +357,18 @@ first_stands (Async url) p facts n m q is since = (found_place [] m, since, queu
 abbrev with_first : State → ℕ → Posted → State
 with_first s m q = record s { inbox = s.inbox ++ first_entry s.next_in m q ∷ []; next_in = s.next_in + 1 }
 
-fresh_receipts : (A : Agreements) (past : List Done) (s : State) (m : ℕ) (q : Posted) (x : Done) → KeepsReceipts A past s → PostsFor A x m q → ((p : Partner) × AreAgreed A q.receiver q.sender p) → received_as s q ≡ None → IsWellFormed A (with_first s m q) → Grows s (with_first s m q) → KeepsReceipts A (past ++ x ∷ []) (with_first s m q)
+fresh_receipts : (A : Agreements) (past : List Done) (s : State) (m : ℕ) (q : Posted) (x : Done) → KeepsReceipts A past s → PostsFor A (origin_of s.version) x m q → ((p : Partner) × AreAgreed A q.receiver q.sender p) → received_as s q ≡ None → IsWellFormed A (with_first s m q) → Grows s (with_first s m q) → KeepsReceipts A (past ++ x ∷ []) (with_first s m q)
 fresh_receipts A past s m q x keeps post known none formed grows = record {
   formed = formed;
   each = λ n e is. by n e (received s n) refl (sym (find-append (λ (d : InEntry). d.number == n) s.inbox (first_entry s.next_in m q ∷ [])) ∙ is);
   unposted = unposted_on A past s (with_first s m q) x keeps grows never;
 }
   where
-    other : (n : ℕ) (d : InEntry) → received s n ≡ Some d → (b : Bool) → repeats d.posted q ≡ b → repeats d.posted q ≡ false
+    other : (n : ℕ) (d : InEntry) → received s n ≡ Some d → (b : Bool) → repeats (origin_of s.version) n d.posted q ≡ b → repeats (origin_of s.version) n d.posted q ≡ false
     other n d is false h = h
     other n d is true h =
         let key : same_key d.posted q ≡ false = find_none (λ (e : InEntry). same_key e.posted q) (λ (e : InEntry). e.number == n) s.inbox d none is in
-        absurd (false≢true (sym key ∙ ap (λ (p : Posted). same_key p q) (repeat_is d.posted q h) ∙ key_same q))
+        absurd (false≢true (sym key ∙ one_key d.posted q (post_key d.posted q (both _ _ h).0)))
 
     its_first : (n : ℕ) → EntryStands A n (past ++ x ∷ []) q (first_entry s.next_in m q)
     its_first n = record {
@@ -375,7 +376,7 @@ fresh_receipts A past s m q x keeps post known none formed grows = record {
       agreed = known.1;
       stands = first_stands q.how known.0 (filter_map (receipt_fact A n q) (past ++ x ∷ [])) s.next_in m q refl
           (ap (since_queued known.0) (facts-push A n q past x)
-          ∙ ap (λ (o : Option ReceiptFact). since_queued known.0 (with_more (filter_map (receipt_fact A n q) past) o)) (is_posted A x m q n q post (repeats_itself q))
+          ∙ ap (λ (o : Option ReceiptFact). since_queued known.0 (with_more (filter_map (receipt_fact A n q) past) o)) (is_posted A (origin_of s.version) x m q n q post (repeats_itself (origin_of s.version) n q))
           ∙ since-push known.0 (filter_map (receipt_fact A n q) past) (APost m)
           ∙ ap (λ (o : Option (Found ℕ Fact)). queued_by known.0 o (APost m)) (keeps.unposted q none n known.0));
     }
@@ -387,64 +388,67 @@ fresh_receipts A past s m q x keeps post known none formed grows = record {
     by : (n : ℕ) (e : InEntry) (o : Option InEntry) → received s n ≡ o → option_or o (find (λ (d : InEntry). d.number == n) (first_entry s.next_in m q ∷ [])) ≡ Some e → EntryStands A n (past ++ x ∷ []) e.posted e
     by n e (Some d) at h =
         subst (λ (z : InEntry). EntryStands A n (past ++ x ∷ []) z.posted z) (same_Some _ _ h)
-        (stands_still A n past x d.posted d (not_posted A x m q n d.posted post (other n d at (repeats d.posted q) refl)) (keeps.each n d at))
+        (stands_still A n past x d.posted d (not_posted A (origin_of s.version) x m q n d.posted post (other n d at (repeats (origin_of s.version) n d.posted q) refl)) (keeps.each n d at))
     by n e None at h = new n e (s.next_in == n) h
 
     never : (p : Posted) (n : ℕ) → received_as (with_first s m q) p ≡ None → (j : ℕ) → receipt_fact A n p x ≡ Some (APost j) → ⊥
     never p n gone j h =
-        let it : p ≡ q = post_repeats A x m q n p post j h in
+        let it = post_one_key A (origin_of s.version) x m q n p post j h in
         let there : received_as (with_first s m q) q ≡ Some (first_entry s.next_in m q) = find-append (λ (e : InEntry). same_key e.posted q) s.inbox (first_entry s.next_in m q ∷ []) ∙ rw (none, key_same q) refl in
-        let two : None ≡ Some (first_entry s.next_in m q) = sym gone ∙ ap (received_as (with_first s m q)) it ∙ there in
+        let two : None ≡ Some (first_entry s.next_in m q) = sym gone ∙ received_one (with_first s m q) p q it ∙ there in
         absurd (cc)
 
 -- a document that was posted before
-never_new : (A : Agreements) (s s' : State) (x : Done) (m : ℕ) (q : Posted) (d : InEntry) → PostsFor A x m q → Grows s s' → received_as s q ≡ Some d → (p : Posted) (n : ℕ) → received_as s' p ≡ None → (j : ℕ) → receipt_fact A n p x ≡ Some (APost j) → ⊥
+never_new : (A : Agreements) (s s' : State) (x : Done) (m : ℕ) (q : Posted) (d : InEntry) → PostsFor A (origin_of s.version) x m q → Grows s s' → received_as s q ≡ Some d → (p : Posted) (n : ℕ) → received_as s' p ≡ None → (j : ℕ) → receipt_fact A n p x ≡ Some (APost j) → ⊥
 never_new A s s' x m q d post grows found p n gone j h =
-    let it : p ≡ q = post_repeats A x m q n p post j h in
-    let two : None ≡ Some d = sym (gone_before s s' p grows gone) ∙ ap (received_as s) it ∙ found in
+    let it = post_one_key A (origin_of s.version) x m q n p post j h in
+    let two : None ≡ Some d = sym (gone_before s s' p grows gone) ∙ received_one s p q it ∙ found in
     absurd (cc)
 
 -- no other entry is repeated
-others_not : (A : Agreements) (s : State) (q : Posted) (d e : InEntry) (n : ℕ) → IsWellFormed A s → received_as s q ≡ Some d → received s n ≡ Some e → (e ≡ d → ⊥) → (b : Bool) → repeats e.posted q ≡ b → repeats e.posted q ≡ false
+others_not : (A : Agreements) (s : State) (q : Posted) (d e : InEntry) (n : ℕ) → IsWellFormed A s → received_as s q ≡ Some d → received s n ≡ Some e → (e ≡ d → ⊥) → (b : Bool) → repeats (origin_of s.version) n e.posted q ≡ b → repeats (origin_of s.version) n e.posted q ≡ false
 others_not A s q d e n formed found is other false h = h
-others_not A s q d e n formed found is other true h = absurd (other (repeated_is A s q d e n formed found is h))
+others_not A s q d e n formed found is other true h = absurd (other (repeated_is A s q d e n (origin_of s.version) n formed found is h))
 
-repeated_entry : (A : Agreements) (past : List Done) (s : State) (m : ℕ) (q : Posted) (x : Done) (d : InEntry) → KeepsReceipts A past s → PostsFor A x m q → received_as s q ≡ Some d → repeats d.posted q ≡ true → (n : ℕ) (e : InEntry) → received (change_received s d.number (requeued_by_repeat m)) n ≡ Some e → (b : Bool) → (d.number == n) ≡ b → EntryStands A n (past ++ x ∷ []) e.posted e
+repeated_entry : (A : Agreements) (past : List Done) (s : State) (m : ℕ) (q : Posted) (x : Done) (d : InEntry) → KeepsReceipts A past s → PostsFor A (origin_of s.version) x m q → received_as s q ≡ Some d → repeats (origin_of s.version) d.number d.posted q ≡ true → (n : ℕ) (e : InEntry) → received (change_received s d.number (requeued_by_repeat m)) n ≡ Some e → (b : Bool) → (d.number == n) ≡ b → EntryStands A n (past ++ x ∷ []) e.posted e
 repeated_entry A past s m q x d keeps post found same n e is false h =
     let at : received s n ≡ Some e = sym (received-changed_other s d.number (requeued_by_repeat m) n (queued_lasting m) (apart_turned d.number n d.number refl h)) ∙ is in
     let num : e.number ≡ n = received_number s n e at in
     stands_still A n past x e.posted e
-    (not_posted A x m q n e.posted post (others_not A s q d e n keeps.formed found at (λ it. false≢true (sym h ∙ ap (λ (j : ℕ). d.number == j) (sym num ∙ ap (λ (z : InEntry). z.number) it) ∙ same_number d.number)) (repeats e.posted q) refl))
+    (not_posted A (origin_of s.version) x m q n e.posted post (others_not A s q d e n keeps.formed found at (λ it. false≢true (sym h ∙ ap (λ (j : ℕ). d.number == j) (sym num ∙ ap (λ (z : InEntry). z.number) it) ∙ same_number d.number)) (repeats (origin_of s.version) n e.posted q) refl))
     (keeps.each n e at)
 repeated_entry A past s m q x d keeps post found same n e is true h =
     let num : d.number ≡ n = number_is d.number n h in
     let at : received s d.number ≡ Some d = found_by_key A s q d keeps.formed found in
     let it : requeued_by_repeat m d ≡ e = same_Some _ _ (sym (received-changed_same s d.number (requeued_by_repeat m) d (queued_lasting m) at) ∙ ap (received (change_received s d.number (requeued_by_repeat m))) num ∙ is) in
     let posted : (requeued_by_repeat m d).posted ≡ d.posted = ap (λ (z : ℕ × Posted). z.1) (queued_lasting m d) in
-    let stood = stands_on A d.number past x d.posted d (requeued_by_repeat m d) (keeps.each d.number d at) (λ p facts agreed stands. subst (λ (o : Option ReceiptFact). StandsAs d.posted.how p (with_more facts o) (requeued_by_repeat m d)) (sym (is_posted A x m q d.number d.posted post same)) (reposted d.posted.how p facts m d refl stands)) in
+    let stood = stands_on A d.number past x d.posted d (requeued_by_repeat m d) (keeps.each d.number d at) (λ p facts agreed stands. subst (λ (o : Option ReceiptFact). StandsAs d.posted.how p (with_more facts o) (requeued_by_repeat m d)) (sym (is_posted A (origin_of s.version) x m q d.number d.posted post same)) (reposted d.posted.how p facts m d refl stands)) in
     let of_it = subst (λ (p : Posted). EntryStands A d.number (past ++ x ∷ []) p (requeued_by_repeat m d)) (sym posted) stood in
     let of_e = subst (λ (z : InEntry). EntryStands A d.number (past ++ x ∷ []) z.posted z) it of_it in
     subst (λ (j : ℕ). EntryStands A j (past ++ x ∷ []) e.posted e) num of_e
 
-repeated_receipts : (A : Agreements) (past : List Done) (s : State) (m : ℕ) (q : Posted) (x : Done) (d : InEntry) → KeepsReceipts A past s → PostsFor A x m q → received_as s q ≡ Some d → repeats d.posted q ≡ true → IsWellFormed A (change_received s d.number (requeued_by_repeat m)) → Grows s (change_received s d.number (requeued_by_repeat m)) → KeepsReceipts A (past ++ x ∷ []) (change_received s d.number (requeued_by_repeat m))
+repeated_receipts : (A : Agreements) (past : List Done) (s : State) (m : ℕ) (q : Posted) (x : Done) (d : InEntry) → KeepsReceipts A past s → PostsFor A (origin_of s.version) x m q → received_as s q ≡ Some d → repeats (origin_of s.version) d.number d.posted q ≡ true → IsWellFormed A (change_received s d.number (requeued_by_repeat m)) → Grows s (change_received s d.number (requeued_by_repeat m)) → KeepsReceipts A (past ++ x ∷ []) (change_received s d.number (requeued_by_repeat m))
 repeated_receipts A past s m q x d keeps post found same formed grows = record {
   formed = formed;
   each = λ n e is. repeated_entry A past s m q x d keeps post found same n e is (d.number == n) refl;
   unposted = unposted_on A past s (change_received s d.number (requeued_by_repeat m)) x keeps grows (never_new A s (change_received s d.number (requeued_by_repeat m)) x m q d post grows found);
 }
 
-clash_not : (A : Agreements) (s : State) (q : Posted) (d e : InEntry) (n : ℕ) → IsWellFormed A s → received_as s q ≡ Some d → repeats d.posted q ≡ false → received s n ≡ Some e → (b : Bool) → repeats e.posted q ≡ b → repeats e.posted q ≡ false
+clash_not : (A : Agreements) (s : State) (q : Posted) (d e : InEntry) (n : ℕ) → IsWellFormed A s → received_as s q ≡ Some d → repeats (origin_of s.version) d.number d.posted q ≡ false → received s n ≡ Some e → (b : Bool) → repeats (origin_of s.version) n e.posted q ≡ b → repeats (origin_of s.version) n e.posted q ≡ false
 clash_not A s q d e n formed found other is false h = h
-clash_not A s q d e n formed found other is true h = absurd (false≢true (sym other ∙ ap (λ (z : InEntry). repeats z.posted q) (sym (repeated_is A s q d e n formed found is h)) ∙ h))
+clash_not A s q d e n formed found other is true h =
+    let it : e ≡ d = repeated_is A s q d e n (origin_of s.version) n formed found is h in
+    let num : e.number ≡ n = received_number s n e is in
+    absurd (false≢true (sym other ∙ ap (λ (z : InEntry). repeats (origin_of s.version) z.number z.posted q) (sym it) ∙ ap (λ (j : ℕ). repeats (origin_of s.version) j e.posted q) num ∙ h))
 
-clash_receipts : (A : Agreements) (past : List Done) (s : State) (m : ℕ) (q : Posted) (x : Done) (d : InEntry) → KeepsReceipts A past s → PostsFor A x m q → received_as s q ≡ Some d → repeats d.posted q ≡ false → Grows s s → KeepsReceipts A (past ++ x ∷ []) s
+clash_receipts : (A : Agreements) (past : List Done) (s : State) (m : ℕ) (q : Posted) (x : Done) (d : InEntry) → KeepsReceipts A past s → PostsFor A (origin_of s.version) x m q → received_as s q ≡ Some d → repeats (origin_of s.version) d.number d.posted q ≡ false → Grows s s → KeepsReceipts A (past ++ x ∷ []) s
 clash_receipts A past s m q x d keeps post found other grows = record {
   formed = keeps.formed;
-  each = λ n e is. stands_still A n past x e.posted e (not_posted A x m q n e.posted post (clash_not A s q d e n keeps.formed found other is (repeats e.posted q) refl)) (keeps.each n e is);
+  each = λ n e is. stands_still A n past x e.posted e (not_posted A (origin_of s.version) x m q n e.posted post (clash_not A s q d e n keeps.formed found other is (repeats (origin_of s.version) n e.posted q) refl)) (keeps.each n e is);
   unposted = unposted_on A past s s x keeps grows (never_new A s s x m q d post grows found);
 }
 
-left_receipts : (A : Agreements) (past : List Done) (s : State) (m : ℕ) (q : Posted) (x : Done) (y : Answer × State) → KeepsReceipts A past s → PostsFor A x m q → ((p : Partner) × AreAgreed A q.receiver q.sender p) → RecordedOrSame A s m q (received_as s q) y → IsWellFormed A y.1 → Grows s y.1 → KeepsReceipts A (past ++ x ∷ []) y.1
+left_receipts : (A : Agreements) (past : List Done) (s : State) (m : ℕ) (q : Posted) (x : Done) (y : Answer × State) → KeepsReceipts A past s → PostsFor A (origin_of s.version) x m q → ((p : Partner) × AreAgreed A q.receiver q.sender p) → RecordedOrSame A s m q (received_as s q) y → IsWellFormed A y.1 → Grows s y.1 → KeepsReceipts A (past ++ x ∷ []) y.1
 left_receipts A past s m q x y keeps post known (fresh none small is) formed grows =
     let at : y.1 ≡ with_first s m q = ap (λ (z : Answer × State). z.1) is in
     subst (KeepsReceipts A (past ++ x ∷ [])) (sym at) (fresh_receipts A past s m q x keeps post known none (subst (IsWellFormed A) at formed) (subst (Grows s) at grows))
@@ -456,49 +460,58 @@ left_receipts A past s m q x y keeps post known (clash d there other is) formed 
 
 -- ---- a step and a run
 
-refused_quiet : (A : Agreements) (head : Head) (body : Text) (m : ℕ) (a : Answer) (line : Line) → reading A head body ≡ Refuses line → (n : ℕ) (q : Posted) → receipt_fact A n q (answered_event (Post head body m) a) ≡ None
+refused_quiet : (v : Version) (A : Agreements) (head : Head) (body : Text) (m : ℕ) (a : Answer) (line : Line) → reading A (known_digests v) head body ≡ Refuses line → (n : ℕ) (q : Posted) → receipt_fact A n q (answered_event v (Post head body m) a) ≡ None
 unfolding receipt_fact
-refused_quiet A head body m a line is n q = rw is refl
+refused_quiet v A head body m a line is n q = rw is refl
 
-receipt_quiet : (A : Agreements) (head : Head) (body : Text) (m : ℕ) (a : Answer) (r : ReceivedReceipt) → reading A head body ≡ IsReceipt r → (n : ℕ) (q : Posted) → receipt_fact A n q (answered_event (Post head body m) a) ≡ None
+receipt_quiet : (v : Version) (A : Agreements) (head : Head) (body : Text) (m : ℕ) (a : Answer) (r : ReceivedReceipt) → reading A (known_digests v) head body ≡ IsReceipt r → (n : ℕ) (q : Posted) → receipt_fact A n q (answered_event v (Post head body m) a) ≡ None
 unfolding receipt_fact
-receipt_quiet A head body m a r is n q = rw is refl
+receipt_quiet v A head body m a r is n q = rw is refl
 
-other_quiet : (A : Agreements) (e : Event) (a : Answer) (n : ℕ) (q : Posted) → receipt_fact_of A n q a e ≡ None → receipt_fact A n q (answered_event e a) ≡ None
+other_quiet : (v : Version) (A : Agreements) (e : Event) (a : Answer) (n : ℕ) (q : Posted) → receipt_fact_of A n q v a e ≡ None → receipt_fact A n q (answered_event v e a) ≡ None
 unfolding receipt_fact
-other_quiet A e a n q h = h
+other_quiet v A e a n q h = h
 
-post_receipts : (A : Agreements) (past : List Done) (s : State) (head : Head) (body : Text) (m : ℕ) (r : Reading) (y : Answer × State) → reading A head body ≡ r → KeepsReceipts A past s → post A s m r ≡ Some y → IsWellFormed A y.1 → Grows s y.1 → KeepsReceipts A (past ++ answered_event (Post head body m) y.0 ∷ []) y.1
+post_receipts : (A : Agreements) (past : List Done) (s : State) (head : Head) (body : Text) (m : ℕ) (r : Reading) (y : Answer × State) → reading A (known_digests s.version) head body ≡ r → KeepsReceipts A past s → post A s m r ≡ Some y → IsWellFormed A y.1 → Grows s y.1 → KeepsReceipts A (past ++ answered_event s.version (Post head body m) y.0 ∷ []) y.1
 unfolding record_post
-post_receipts A past s head body m (Refuses line) y is keeps h formed grows = quiet A past s y.1 (answered_event (Post head body m) y.0) keeps formed grows (ap (λ (z : Answer × State). z.1.inbox) (sym (same_Some _ y h))) (refused_quiet A head body m y.0 line is)
-post_receipts A past s head body m (IsReceipt r) y is keeps h formed grows = quiet A past s y.1 (answered_event (Post head body m) y.0) keeps formed grows (ap (λ (z : Answer × State). z.1.inbox) (sym (same_Some _ y h)) ∙ (settle_inbox s m r).0) (receipt_quiet A head body m y.0 r is)
-post_receipts A past s head body m (IsDocument q) y is keeps h formed grows = left_receipts A past s m q (answered_event (Post head body m) y.0) y keeps (posts_for A head body m y.0 q is) (document_known A (reading A head body) q (reading_known A head body) is) (left_is A s m q (received_as s q) y h) formed grows
+post_receipts A past s head body m (Refuses line) y is keeps h formed grows = quiet A past s y.1 (answered_event s.version (Post head body m) y.0) keeps formed grows (ap (λ (z : Answer × State). z.1.inbox) (sym (same_Some _ y h))) (refused_quiet s.version A head body m y.0 line is)
+post_receipts A past s head body m (IsReceipt r) y is keeps h formed grows = quiet A past s y.1 (answered_event s.version (Post head body m) y.0) keeps formed grows (ap (λ (z : Answer × State). z.1.inbox) (sym (same_Some _ y h)) ∙ (settle_inbox s m r).0) (receipt_quiet s.version A head body m y.0 r is)
+post_receipts A past s head body m (IsDocument q) y is keeps h formed grows = left_receipts A past s m q (answered_event s.version (Post head body m) y.0) y keeps (posts_for s.version A head body m y.0 q is) (document_known A (reading A (known_digests s.version) head body) q (reading_known A (known_digests s.version) head body) is) (left_is A s m q (received_as s q) y h) formed grows
 
-step_receipts : (A : Agreements) (past : List Done) (s : State) (e : Event) (y : Answer × State) → KeepsReceipts A past s → step A s e ≡ Some y → IsWellFormed A y.1 → Grows s y.1 → KeepsReceipts A (past ++ answered_event e y.0 ∷ []) y.1
-step_receipts A past s (Post head body m) y keeps h formed grows = post_receipts A past s head body m (reading A head body) y refl keeps h formed grows
-step_receipts A past s (Submit organization partner content m) y keeps h formed grows = quiet A past s y.1 _ keeps formed grows (submit_inbox A s organization partner content m y h) (λ n q. other_quiet A (Submit organization partner content m) y.0 n q refl)
-step_receipts A past s (Begin k m) y keeps h formed grows = quiet A past s y.1 _ keeps formed grows (ap (λ (z : Answer × State). z.1.inbox) (sym (same_Some _ y h)) ∙ acted_inbox s k (begun_document A m) (document s k)) (λ n q. other_quiet A (Begin k m) y.0 n q refl)
-step_receipts A past s (Outcome k got m) y keeps h formed grows = quiet A past s y.1 _ keeps formed grows (ap (λ (z : Answer × State). z.1.inbox) (sym (same_Some _ y h)) ∙ acted_inbox s k (closed_document A got m) (document s k)) (λ n q. other_quiet A (Outcome k got m) y.0 n q refl)
-step_receipts A past s (Tick m) y keeps h formed grows = quiet A past s y.1 _ keeps formed grows (ap (λ (z : Answer × State). z.1.inbox) (sym (same_Some _ y h)) ∙ tick_inbox m s) (λ n q. other_quiet A (Tick m) y.0 n q refl)
+step_receipts : (A : Agreements) (past : List Done) (s : State) (e : Event) (y : Answer × State) → KeepsReceipts A past s → step A s e ≡ Some y → IsWellFormed A y.1 → Grows s y.1 → KeepsReceipts A (past ++ answered_event s.version e y.0 ∷ []) y.1
+step_receipts A past s (Post head body m) y keeps h formed grows = post_receipts A past s head body m (reading A (known_digests s.version) head body) y refl keeps h formed grows
+step_receipts A past s (Submit organization partner content m) y keeps h formed grows = quiet A past s y.1 _ keeps formed grows (submit_inbox A s organization partner content m y h) (λ n q. other_quiet s.version A (Submit organization partner content m) y.0 n q refl)
+step_receipts A past s (Begin k m) y keeps h formed grows = quiet A past s y.1 _ keeps formed grows (ap (λ (z : Answer × State). z.1.inbox) (sym (same_Some _ y h)) ∙ acted_inbox s k (begun_document A m) (document s k)) (λ n q. other_quiet s.version A (Begin k m) y.0 n q refl)
+step_receipts A past s (Outcome k got m) y keeps h formed grows = quiet A past s y.1 _ keeps formed grows (ap (λ (z : Answer × State). z.1.inbox) (sym (same_Some _ y h)) ∙ acted_inbox s k (closed_document A (known_digests s.version) got m) (document s k)) (λ n q. other_quiet s.version A (Outcome k got m) y.0 n q refl)
+step_receipts A past s (Resend k m) y keeps h formed grows = quiet A past s y.1 _ keeps formed grows (ap (λ (z : Answer × State). z.1.inbox) (sym (same_Some _ y h)) ∙ acted_inbox s k (resent_document A m) (document s k)) (λ n q. other_quiet s.version A (Resend k m) y.0 n q refl)
+step_receipts A past s (Tick m) y keeps h formed grows = quiet A past s y.1 _ keeps formed grows (ap (λ (z : Answer × State). z.1.inbox) (sym (same_Some _ y h)) ∙ tick_inbox m s) (λ n q. other_quiet s.version A (Tick m) y.0 n q refl)
 step_receipts A past s (BeginMdn k m) y keeps h formed grows =
     let at = same_Some _ y h in
-    subst (λ (z : Answer × State). KeepsReceipts A (past ++ answered_event (BeginMdn k m) z.0 ∷ []) z.1) at
+    subst (λ (z : Answer × State). KeepsReceipts A (past ++ answered_event s.version (BeginMdn k m) z.0 ∷ []) z.1) at
     (begin_receipts A past s k m keeps (subst (λ (z : Answer × State). IsWellFormed A z.1) (sym at) formed) (subst (λ (z : Answer × State). Grows s z.1) (sym at) grows))
 step_receipts A past s (OutcomeMdn k got m) y keeps h formed grows =
     let at = same_Some _ y h in
-    subst (λ (z : Answer × State). KeepsReceipts A (past ++ answered_event (OutcomeMdn k got m) z.0 ∷ []) z.1) at
+    subst (λ (z : Answer × State). KeepsReceipts A (past ++ answered_event s.version (OutcomeMdn k got m) z.0 ∷ []) z.1) at
     (outcome_receipts A past s k got m keeps (subst (λ (z : Answer × State). IsWellFormed A z.1) (sym at) formed) (subst (λ (z : Answer × State). Grows s z.1) (sym at) grows))
 
-nothing_received : (A : Agreements) (first : ℕ) → IsCounter first → KeepsReceipts A [] (empty first)
+nothing_received : (A : Agreements) (v : Version) (first : ℕ) → IsCounter first → KeepsReceipts A [] (empty v first)
 unfolding since_queued
-nothing_received A first h = record { formed = empty_formed A first h; each = λ n e is. absurd (cc); unposted = λ q gone n p. refl }
+nothing_received A v first h = record { formed = empty_formed A v first h; each = λ n e is. absurd (cc); unposted = λ q gone n p. refl }
 
-run_receipts : (A : Agreements) (past : List Done) (old : State) (trace : Trace) (new : State) → KeepsReceipts A past old → Run A old trace new → KeepsReceipts A (past ++ accepted trace) new
+-- a migration leaves the receipts
+migrated_receipts : (A : Agreements) (past : List Done) (s : State) → KeepsReceipts A past s → KeepsReceipts A past (migrated s)
+migrated_receipts A past s keeps = record { formed = migrated_formed A s keeps.formed; each = keeps.each; unposted = keeps.unposted }
+
+run_receipts : (A : Agreements) (past : List Done) (old : State) (trace : Trace) (new : State) → KeepsReceipts A past old → Run A old trace new → KeepsReceipts A (past ++ accepted old.version trace) new
 run_receipts A past old [] new keeps run = rw (run, append-nil past) keeps
-run_receipts A past old ((e, Answered a) ∷ rest) new keeps run =
-    subst (λ (d : List Done). KeepsReceipts A d new) (append_assoc past (answered_event e a ∷ []) (accepted rest))
-    (run_receipts A (past ++ answered_event e a ∷ []) run.0 rest new (step_receipts A past old e (a, run.0) keeps run.1 (step_formed A old e (a, run.0) keeps.formed run.1) (step_grows A old e (a, run.0) run.1)) run.2)
-run_receipts A past old ((e, Failed fault) ∷ rest) new keeps run = run_receipts A past old rest new keeps run.1
+run_receipts A past old (AnEvent e (Answered a) ∷ rest) new keeps run =
+    subst (λ (d : List Done). KeepsReceipts A d new) (append_assoc past (answered_event old.version e a ∷ []) (accepted old.version rest))
+    (subst (λ (v : Version). KeepsReceipts A ((past ++ answered_event old.version e a ∷ []) ++ accepted v rest) new) (step_steady A old e (a, run.0) run.1).0
+    (run_receipts A (past ++ answered_event old.version e a ∷ []) run.0 rest new (step_receipts A past old e (a, run.0) keeps run.1 (step_formed A old e (a, run.0) keeps.formed run.1) (step_grows A old e (a, run.0) run.1)) run.2))
+run_receipts A past old (AnEvent e (Failed fault) ∷ rest) new keeps run = run_receipts A past old rest new keeps run.1
+run_receipts A past old (AMigration n ∷ rest) new keeps run =
+    subst (λ (m : ℕ). KeepsReceipts A (past ++ accepted (LaterVersion m) rest) new) (sym run.1)
+    (run_receipts A past (migrated old) rest new (migrated_receipts A past old keeps) run.2)
 
 -- ---- the law
 
@@ -507,8 +520,8 @@ stands_told NoReceipt p facts e h = λ i. Some (record { mdn = sym h.0 i; tries 
 stands_told Sync p facts e h = λ i. Some (record { mdn = sym h.0 i; tries = sym h.1 i; attempt = sym h.2 i; due = sym h.3 i })
 stands_told (Async url) p facts e h = ap (option_map (sent_later p)) h.1 ∙ (λ i. Some (record { mdn = sym h.2.state i; tries = sym h.2.count i; attempt = sym h.2.try i; due = sym h.2.wait i }))
 
-pub receipts_law : (A : Agreements) (first : ℕ) (trace : Trace) (s : State) → IsCounter first → Run A (empty first) trace s → (n : ℕ) (e : InEntry) → received s n ≡ Some e → receipt_history A (accepted trace) n e.posted ≡ Some (receipt_told e)
-receipts_law A first trace s h run n e is =
-    let stands = (run_receipts A [] (empty first) trace s (nothing_received A first h) run).each n e is in
-    ap (λ (o : Option Partner). option_and_then (λ (p : Partner). history_by_how e.posted.how p (since_queued p (filter_map (receipt_fact A n e.posted) (accepted trace)))) o) stands.agreed.theirs
-    ∙ stands_told e.posted.how stands.partner (filter_map (receipt_fact A n e.posted) (accepted trace)) e stands.stands
+pub receipts_law : (A : Agreements) (v : Version) (first : ℕ) (trace : Trace) (s : State) → IsCounter first → Run A (empty v first) trace s → (n : ℕ) (e : InEntry) → received s n ≡ Some e → receipt_history A (accepted v trace) n e.posted ≡ Some (receipt_told e)
+receipts_law A v first trace s h run n e is =
+    let stands = (run_receipts A [] (empty v first) trace s (nothing_received A v first h) run).each n e is in
+    ap (λ (o : Option Partner). option_and_then (λ (p : Partner). history_by_how e.posted.how p (since_queued p (filter_map (receipt_fact A n e.posted) (accepted v trace)))) o) stands.agreed.theirs
+    ∙ stands_told e.posted.how stands.partner (filter_map (receipt_fact A n e.posted) (accepted v trace)) e stands.stands

@@ -6,7 +6,7 @@ use Rattle.as2_names.specs.Identifiers.{value_of as bare}
 use Rattle.as2_media.specs.Values.{between_quotes}
 use Rattle.as2_exchange.specs.Agreement.{Text, Alg, Sha1, Md5}
 use Rattle.as2_exchange.specs.Readings.{Head, ReceiptDelivery, NoReceipt, Sync, Outcome, Processed, DecryptionFailed, DecompressionFailed, AuthenticationFailed, UnsupportedFormat, UnsupportedMicAlgorithms, names_of, version_fits, type_of, is_report, report_in, id_of, value_of, ask_of, how_of, outcome_of, encoding_refused, mic_for}
-use Rattle.as2_exchange.specs.State.{empty}
+use Rattle.as2_exchange.specs.State.{AllDigests, LaterVersion, empty}
 use Rattle.as2_exchange.specs.Events.{Post, Nothing, Words, Line, BadNames, BadVersion, UnknownNames, BadType, UnreadableReceipt, BadId, BadAsk, IdUsedBefore, NotProcessed}
 use Rattle.as2_exchange.specs.Lines.{http, status_of}
 use Rattle.as2_exchange.specs.Posts.{Reading, Refuses, IsDocument, reading}
@@ -35,7 +35,7 @@ abbrev usual : Head
 usual = asks (codes "signed-receipt-micalg=optional, sha1")
 
 abbrev read : Head → Reading
-read head = reading fixture head abc
+read head = reading fixture AllDigests head abc
 
 -- the line that refuses a post, with its status
 abbrev refusal_told : Reading → Option (ℕ × Line)
@@ -134,16 +134,16 @@ abbrev bare_head : Text → Head
 bare_head id = message (codes "1.0") (codes "Buyer") id edi []
 
 -- one value in two spellings is no repeat
-identifier_spelling : play (λ s. s.next_in) (empty 1) (Post (bare_head (codes "m1@x")) abc 1000 ∷ Post (bare_head m1) abc 1000 ∷ []) ≡ Some (http 200 Nothing ∷ http 409 (Words IdUsedBefore) ∷ [], 2)
+identifier_spelling : play (λ s. s.next_in) (empty (LaterVersion 0) 1) (Post (bare_head (codes "m1@x")) abc 1000 ∷ Post (bare_head m1) abc 1000 ∷ []) ≡ Some (http 200 Nothing ∷ http 409 (Words IdUsedBefore) ∷ [], 2)
 unfolding play reading names_of version_fits type_of is_report id_of value_of ask_of how_of outcome_of encoding_refused mic_for without_blanks between_quotes bare record_post answer_to
 identifier_spelling = refl
 
 -- an absent content type and the same one spelled out repeat each other
-absent_type_is_octets : play (λ s. s.next_in) (empty 1) (Post short_head abc 1000 ∷ Post (message (codes "1.0") (codes "Buyer") m1 (codes "application/octet-stream") []) abc 1000 ∷ []) ≡ Some (http 200 Nothing ∷ http 200 Nothing ∷ [], 2)
+absent_type_is_octets : play (λ s. s.next_in) (empty (LaterVersion 0) 1) (Post short_head abc 1000 ∷ Post (message (codes "1.0") (codes "Buyer") m1 (codes "application/octet-stream") []) abc 1000 ∷ []) ≡ Some (http 200 Nothing ∷ http 200 Nothing ∷ [], 2)
 unfolding play reading names_of version_fits type_of is_report id_of value_of ask_of how_of outcome_of encoding_refused mic_for without_blanks between_quotes bare record_post answer_to
 absent_type_is_octets = rw sha1_mic refl
 
 -- a document that isn't processed, and no receipt asked
-unprocessed_without_receipt : play (λ s. s.next_in) (empty 1) (Post (message (codes "1.0") (codes "Buyer") m1 (codes "application/pkcs7-mime") []) abc 1000 ∷ []) ≡ Some (http 400 (Words (NotProcessed DecryptionFailed)) ∷ [], 2)
+unprocessed_without_receipt : play (λ s. s.next_in) (empty (LaterVersion 0) 1) (Post (message (codes "1.0") (codes "Buyer") m1 (codes "application/pkcs7-mime") []) abc 1000 ∷ []) ≡ Some (http 400 (Words (NotProcessed DecryptionFailed)) ∷ [], 2)
 unfolding play reading names_of version_fits type_of is_report id_of value_of ask_of how_of outcome_of encoding_refused mic_for without_blanks between_quotes bare record_post answer_to
 unprocessed_without_receipt = refl

@@ -5,13 +5,14 @@ use Rattle.std.specs.Option.{option_map_or}
 use Rattle.std.specs.List.{AllByRecursion, IsDistinct, find}
 use Rattle.std.proofs.lemmas.Bool.{false≢true}
 use Rattle.std.proofs.lemmas.Option.{same_Some}
+use Rattle.as2_mdn.specs.Details.{state_of}
 use Rattle.as2_exchange.specs.Agreement.{Text, Agreements, Partner, Asked, NoReceipt, Sync, Async, is_organization, partner_of}
 use Rattle.as2_exchange.specs.Readings.{ReceiptDelivery, NoReceipt as NoneAsked, Sync as SyncReceipt, Async as AsyncReceipt, Outcome as WhatBecame, is_processed, named_by}
-use Rattle.as2_exchange.specs.State.{Posted, InEntry, OutEntry, State, end_of_numbers, document, document_named, received, received_as, change_document, change_received, is_begun, is_settled}
-use Rattle.as2_exchange.specs.Events.{Event, Post, Submit, Begin, Outcome, BeginMdn, OutcomeMdn, Tick, Answer, Refused, Submitted, UnknownOrganization, UnknownPartner, TooLarge, TryAnswer, Nothing, Words, NotProcessed, IdUsedBefore, NoSuchMessage}
+use Rattle.as2_exchange.specs.State.{Posted, InEntry, OutEntry, State, Digests, known_digests, origin_of, end_of_numbers, document, document_named, received, received_as, change_document, change_received, is_settled}
+use Rattle.as2_exchange.specs.Events.{Event, Post, Submit, Begin, Outcome, Resend, BeginMdn, OutcomeMdn, Tick, Answer, Refused, Submitted, UnknownOrganization, UnknownPartner, TooLarge, TryAnswer, Nothing, Words, NotProcessed, IdUsedBefore, NoSuchMessage}
 use Rattle.as2_exchange.specs.Posts.{ReceivedReceipt, Reading, Refuses, IsReceipt, IsDocument, reading, repeats}
 use Rattle.as2_exchange.specs.Receipts.{receipt_in_answer, is_delivery, bears}
-use Rattle.as2_exchange.specs.Documents.{begun, waits, closed, closed_by, if_for, delivered, failed_try, submit, new_document, settle, settle_for, settled, tick}
+use Rattle.as2_exchange.specs.Documents.{begun, waits, resent, is_error, closed, closed_by, if_for, delivered, failed_try, submit, new_document, settle, settle_for, settled, tick}
 use Rattle.as2_exchange.specs.Lines.{http}
 use Rattle.as2_exchange.specs.OwedReceipts.{mdn_begun, mdn_closed, is_pending, is_shut}
 use Rattle.as2_exchange.specs.Recording.{record_post, recorded, requeued_by_repeat, first_entry, answer_to}
@@ -98,11 +99,17 @@ closed_by_leaves : (p : Partner) (got : TryAnswer) (m : ℕ) (d : OutEntry) (o :
 closed_by_leaves p got m d (Some r) = acts d _ refl
 closed_by_leaves p got m d None = either_acts d (is_delivery got) _ _ (delivered_leaves p.receipt p m d) (failed_leaves p m d)
 
-closed_leaves : (A : Agreements) (got : TryAnswer) (m : ℕ) (d : OutEntry) → AnswersOnly d (closed A got m d)
+closed_leaves : (A : Agreements) (known : Digests) (got : TryAnswer) (m : ℕ) (d : OutEntry) → AnswersOnly d (closed A known got m d)
 unfolding closed
-closed_leaves A got m d = agreed_leaves A d.organization d.partner d _
+closed_leaves A known got m d = agreed_leaves A d.organization d.partner d _
     (λ p. test_leaves d (is_settled d) _ _
-    (test_leaves d (is_idle d.attempt) _ _ (closed_by_leaves p got m d (option_and_then (if_for d) (receipt_in_answer got)))))
+    (test_leaves d (is_idle d.attempt) _ _ (closed_by_leaves p got m d (option_and_then (if_for d) (receipt_in_answer known got)))))
+
+resent_leaves : (A : Agreements) (m : ℕ) (d : OutEntry) → AnswersOnly d (resent A m d)
+unfolding resent
+resent_leaves A m d = agreed_leaves A d.organization d.partner d _
+    (λ p. test_leaves d (is_settled d) _ _
+    (test_leaves d (not (is_error (state_of d.detail))) _ _ (acts d _ refl)))
 
 mdn_begun_leaves : (A : Agreements) (m : ℕ) (e : InEntry) → AnswersOnly e (mdn_begun A m e)
 unfolding mdn_begun
@@ -155,7 +162,7 @@ answered_by A n p (AsyncReceipt url) is = rw is refl
 answered_by A n p NoneAsked is = rw is (with_line (is_processed p.outcome) p.outcome)
 
 recorded_acts : (A : Agreements) (s : State) (m : ℕ) (p : Posted) (o : Option InEntry) (y : Answer × State) → recorded A s m p o ≡ Some y → is_refusal y.0 ≡ false
-recorded_acts A s m p (Some e) y h = by (repeats e.posted p) h
+recorded_acts A s m p (Some e) y h = by (repeats (origin_of s.version) e.number e.posted p) h
   where
     by : (b : Bool) → (if b then Some (answer_to A e.number e.posted, change_received s e.number (requeued_by_repeat m)) else Some (http 409 (Words IdUsedBefore), s)) ≡ Some y → is_refusal y.0 ≡ false
     by true g = ap (λ (z : Answer × State). is_refusal z.0) (sym (same_Some _ y g)) ∙ answered_by A e.number e.posted e.posted.how refl
@@ -168,7 +175,7 @@ recorded_acts A s m p None y h = by (nat_le end_of_numbers s.next_in) h
 
 settle_acts : (s : State) (m : ℕ) (r : ReceivedReceipt) (o : Option OutEntry) → is_refusal (settle_for s m r o).0 ≡ false
 settle_acts s m r None = refl
-settle_acts s m r (Some d) = by (not (bears r d.organization d.partner d.id && is_begun d)) (if is_settled d then s else change_document s d.number (settled m r))
+settle_acts s m r (Some d) = by (not (bears r d.organization d.partner d.id && d.begun)) (if is_settled d then s else change_document s d.number (settled m r))
   where
     given : Bool → State → Answer × State
     given b t = if b then (http 404 (Words NoSuchMessage), s) else (http 200 Nothing, t)
@@ -188,10 +195,11 @@ unfolding tick
 tick_acts m s = refl
 
 step_leaves : (A : Agreements) (s : State) (e : Event) (y : Answer × State) → HasDistinctNumbers s → step A s e ≡ Some y → AnswersOnly s y
-step_leaves A s (Post head body m) y apart h = acts s y (post_acts A s m (reading A head body) y h)
+step_leaves A s (Post head body m) y apart h = acts s y (post_acts A s m (reading A (known_digests s.version) head body) y h)
 step_leaves A s (Submit organization partner content m) y apart h = submit_leaves A s organization partner content m y h
 step_leaves A s (Begin n m) y apart h = subst (AnswersOnly s) (same_Some _ y h) (acted_leaves A s n (begun A m) (document s n) refl (begun_leaves A m) apart)
-step_leaves A s (Outcome n got m) y apart h = subst (AnswersOnly s) (same_Some _ y h) (acted_leaves A s n (closed A got m) (document s n) refl (closed_leaves A got m) apart)
+step_leaves A s (Resend n m) y apart h = subst (AnswersOnly s) (same_Some _ y h) (acted_leaves A s n (resent A m) (document s n) refl (resent_leaves A m) apart)
+step_leaves A s (Outcome n got m) y apart h = subst (AnswersOnly s) (same_Some _ y h) (acted_leaves A s n (closed A (known_digests s.version) got m) (document s n) refl (closed_leaves A (known_digests s.version) got m) apart)
 step_leaves A s (BeginMdn n m) y apart h = subst (AnswersOnly s) (same_Some _ y h) (acted_in_leaves A s n (mdn_begun A m) (received s n) refl (mdn_begun_leaves A m) apart)
 step_leaves A s (OutcomeMdn n got m) y apart h = subst (AnswersOnly s) (same_Some _ y h) (acted_in_leaves A s n (mdn_closed A got m) (received s n) refl (mdn_closed_leaves A got m) apart)
 step_leaves A s (Tick m) y apart h = acts s y (ap (λ (z : Answer × State). is_refusal z.0) (sym (same_Some _ y h)) ∙ tick_acts m s)

@@ -1,20 +1,21 @@
 -- What each act leaves of an entry is an entry.
-use Rattle.std.proofs.Common.{◌≡◌, ℕ, Bool, true, false, not, ◌||◌, Option, Some, None, refl, sym, ap, subst}
+use Rattle.std.proofs.Common.{◌≡◌, ℕ, Bool, true, false, not, ◌||◌, Option, Some, None, refl, sym, ap, subst, arith}
 use Rattle.std.specs.Prelude.{option_and_then, if◌then◌else◌, nat_le}
 use Rattle.std.proofs.lemmas.Option.{same_Some}
+use Rattle.as2_mdn.specs.Details.{state_of}
 use Rattle.as2_mdn.specs.Dispositions.{says_processed, has_modifier, has_error}
 use Rattle.as2_mdn.specs.Verdicts.{differs, is_missing, is_unknown, mic_compared}
 use Rattle.as2_exchange.specs.Agreement.{Text, Agreements, Partner, Asked, NoReceipt, Sync, Async}
 use Rattle.as2_exchange.specs.Detail.{Detail, New, Sending, Awaiting, Retry, Processed, NoReceiptAsked, Warning, NoMic, UnknownMic, NotProcessed, ErrorModifier, MicDiffers, TriesUsed, Overdue, Attempt, Idle, Running, Last, Used}
 use Rattle.as2_exchange.specs.Readings.{Receipt, verdict}
-use Rattle.as2_exchange.specs.State.{OutEntry, is_settled}
-use Rattle.as2_exchange.specs.Events.{Answer, TryAnswer, Refused, AllSettled, TriesUsedUp, NotDue, NoOpenTry, AlreadySettled}
+use Rattle.as2_exchange.specs.State.{OutEntry, Digests, is_settled}
+use Rattle.as2_exchange.specs.Events.{Answer, TryAnswer, Refused, AllSettled, TriesUsedUp, NotDue, NoOpenTry, AlreadySettled, Resent}
 use Rattle.as2_exchange.specs.Posts.{ReceivedReceipt}
 use Rattle.as2_exchange.specs.Receipts.{receipt_in_answer, is_delivery}
-use Rattle.as2_exchange.specs.Documents.{settled, passes_at, passed, passes_into, begun, waits, closed, closed_by, if_for, delivered, failed_try}
+use Rattle.as2_exchange.specs.Documents.{settled, passes_at, passed, passes_into, begun, waits, resent, is_error, closed, closed_by, if_for, delivered, failed_try}
 use Rattle.as2_exchange.specs.Tries.{is_due, is_early, is_idle, is_last}
 use Rattle.as2_exchange.specs.Invariants.{is_by_receipt, IsEntry}
-use Rattle.as2_exchange.proofs.Documents.{settled_names, passed_names, begun_names, closed_names, agreed_either, if_either, changed, changed_names}
+use Rattle.as2_exchange.proofs.Documents.{settled_names, passed_names, begun_names, closed_names, resent_names, agreed_either, if_either, changed, changed_names}
 use Rattle.as2_exchange.proofs.WellFormed.{unsettled_entry, KeepsEntries}
 
 -- ---- a receipt
@@ -29,15 +30,15 @@ judged_range false false false false true b6 = refl
 judged_range false false false false false true = refl
 judged_range false false false false false false = refl
 
-pub verdict_range : (r : Receipt) (content : Text) → is_by_receipt (verdict r content) ≡ true
+pub verdict_range : (known : Digests) (r : Receipt) (content : Text) → is_by_receipt (verdict known r content) ≡ true
 unfolding verdict
-verdict_range r content = judged_range (not (says_processed r.disposition)) (has_error r.disposition) (differs (mic_compared r.mic content)) (has_modifier r.disposition) (is_missing (mic_compared r.mic content)) (is_unknown (mic_compared r.mic content))
+verdict_range known r content = judged_range (not (says_processed r.disposition)) (has_error r.disposition) (differs (mic_compared known r.mic content)) (has_modifier r.disposition) (is_missing (mic_compared known r.mic content)) (is_unknown (mic_compared known r.mic content))
 
-settled_entry : (m : ℕ) (r : ReceivedReceipt) (d : OutEntry) → IsEntry (settled m r d)
-settled_entry m r d = record { evidence = sym (verdict_range r.receipt d.content); at_rest = λ h. (refl, refl) }
+settled_entry : (m : ℕ) (r : ReceivedReceipt) (d : OutEntry) → IsEntry d → IsEntry (settled m r d)
+settled_entry m r d h = record { evidence = sym (verdict_range r.known r.receipt d.content); at_rest = λ g. (refl, refl); tried = h.tried }
 
 pub settled_keeps : (m : ℕ) (r : ReceivedReceipt) → KeepsEntries (settled m r)
-settled_keeps m r = record { names = settled_names m r; entry = λ d h. settled_entry m r d }
+settled_keeps m r = record { names = settled_names m r; entry = settled_entry m r }
 
 -- ---- a change of one document
 
@@ -75,7 +76,7 @@ passed_settled m d h = rw h refl
 
 passed_by : (d : OutEntry) (o : Option Detail) → ((y : Detail) → o ≡ Some y → is_by_receipt y ≡ false) → is_settled d ≡ false → IsEntry d → IsEntry (passed d o)
 passed_by d None range none h = h
-passed_by d (Some y) range none h = unsettled_entry (record d { due = None; detail = y }) none (range y refl)
+passed_by d (Some y) range none h = unsettled_entry (record d { due = None; detail = y }) none (range y refl) h.tried
 
 due_range : (b : Bool) (x : Detail) (a : Attempt) (y : Detail) → (if b then passes_into x a else None) ≡ Some y → is_by_receipt y ≡ false
 due_range true x a y h = passes_range x a y h
@@ -102,24 +103,24 @@ begun_by d x a false false false is h g = g is
 begun_entry : (A : Agreements) (m : ℕ) (d : OutEntry) → IsEntry d → IsEntry (begun A m d).1
 unfolding begun
 begun_entry A m d h = agreed_either IsEntry A d.organization d.partner d _ h
-    (λ p. begun_by d _ _ (is_settled d) (nat_le p.max_tries d.tries) (waits d.detail || is_early m d.due) refl h (λ none. unsettled_entry _ none refl))
+    (λ p. begun_by d _ _ (is_settled d) (nat_le p.max_tries d.tries) (waits d.detail || is_early m d.due) refl h (λ none. unsettled_entry _ none refl (λ g. refl)))
 
 pub begun_keeps : (A : Agreements) (m : ℕ) → KeepsEntries (λ d. (begun A m d).1)
 begun_keeps A m = record { names = begun_names A m; entry = begun_entry A m }
 
 -- ---- a try ends
 
-failed_entry : (p : Partner) (m : ℕ) (d : OutEntry) → is_settled d ≡ false → IsEntry (failed_try p m d).1
-failed_entry p m d none = if_either IsEntry (is_last d.attempt) _ _ (unsettled_entry _ none refl) (unsettled_entry _ none refl)
+failed_entry : (p : Partner) (m : ℕ) (d : OutEntry) → is_settled d ≡ false → IsEntry d → IsEntry (failed_try p m d).1
+failed_entry p m d none h = if_either IsEntry (is_last d.attempt) _ _ (unsettled_entry _ none refl h.tried) (unsettled_entry _ none refl h.tried)
 
-delivered_entry : (a : Asked) (p : Partner) (m : ℕ) (d : OutEntry) → is_settled d ≡ false → IsEntry (delivered a p m d).1
-delivered_entry Async p m d none = unsettled_entry _ none refl
-delivered_entry NoReceipt p m d none = unsettled_entry _ none refl
-delivered_entry Sync p m d none = failed_entry p m d none
+delivered_entry : (a : Asked) (p : Partner) (m : ℕ) (d : OutEntry) → is_settled d ≡ false → IsEntry d → IsEntry (delivered a p m d).1
+delivered_entry Async p m d none h = unsettled_entry _ none refl h.tried
+delivered_entry NoReceipt p m d none h = unsettled_entry _ none refl h.tried
+delivered_entry Sync p m d none h = failed_entry p m d none h
 
-closed_by_entry : (p : Partner) (got : TryAnswer) (m : ℕ) (d : OutEntry) (o : Option ReceivedReceipt) → is_settled d ≡ false → IsEntry (closed_by p got m d o).1
-closed_by_entry p got m d (Some r) none = settled_entry m r d
-closed_by_entry p got m d None none = if_either IsEntry (is_delivery got) (delivered p.receipt p m d) (failed_try p m d) (delivered_entry p.receipt p m d none) (failed_entry p m d none)
+closed_by_entry : (p : Partner) (got : TryAnswer) (m : ℕ) (d : OutEntry) (o : Option ReceivedReceipt) → is_settled d ≡ false → IsEntry d → IsEntry (closed_by p got m d o).1
+closed_by_entry p got m d (Some r) none h = settled_entry m r d h
+closed_by_entry p got m d None none h = if_either IsEntry (is_delivery got) (delivered p.receipt p m d) (failed_try p m d) (delivered_entry p.receipt p m d none h) (failed_entry p m d none h)
 
 abbrev closed_if : Partner → TryAnswer → ℕ → OutEntry → Option ReceivedReceipt → Bool → Bool → Answer × OutEntry
 closed_if p got m d o b1 b2 = if b1 then (AlreadySettled, d) else if b2 then (Refused NoOpenTry, d) else closed_by p got m d o
@@ -127,12 +128,30 @@ closed_if p got m d o b1 b2 = if b1 then (AlreadySettled, d) else if b2 then (Re
 closed_as_entry : (p : Partner) (got : TryAnswer) (m : ℕ) (d : OutEntry) (o : Option ReceivedReceipt) (b1 b2 : Bool) → is_settled d ≡ b1 → IsEntry d → IsEntry (closed_if p got m d o b1 b2).1
 closed_as_entry p got m d o true b2 is h = h
 closed_as_entry p got m d o false true is h = h
-closed_as_entry p got m d o false false is h = closed_by_entry p got m d o is
+closed_as_entry p got m d o false false is h = closed_by_entry p got m d o is h
 
-closed_entry : (A : Agreements) (got : TryAnswer) (m : ℕ) (d : OutEntry) → IsEntry d → IsEntry (closed A got m d).1
+closed_entry : (A : Agreements) (known : Digests) (got : TryAnswer) (m : ℕ) (d : OutEntry) → IsEntry d → IsEntry (closed A known got m d).1
 unfolding closed
-closed_entry A got m d h = agreed_either IsEntry A d.organization d.partner d _ h
-    (λ p. closed_as_entry p got m d (option_and_then (if_for d) (receipt_in_answer got)) (is_settled d) (is_idle d.attempt) refl h)
+closed_entry A known got m d h = agreed_either IsEntry A d.organization d.partner d _ h
+    (λ p. closed_as_entry p got m d (option_and_then (if_for d) (receipt_in_answer known got)) (is_settled d) (is_idle d.attempt) refl h)
 
-pub closed_keeps : (A : Agreements) (got : TryAnswer) (m : ℕ) → KeepsEntries (λ d. (closed A got m d).1)
-closed_keeps A got m = record { names = closed_names A got m; entry = closed_entry A got m }
+pub closed_keeps : (A : Agreements) (known : Digests) (got : TryAnswer) (m : ℕ) → KeepsEntries (λ d. (closed A known got m d).1)
+closed_keeps A known got m = record { names = closed_names A known got m; entry = closed_entry A known got m }
+
+-- ---- a document is sent anew
+
+abbrev resent_if : ℕ → OutEntry → Bool → Bool → Answer × OutEntry
+resent_if m d b1 b2 = if b1 then (Refused AllSettled, d) else if b2 then (Refused NotDue, d) else (Resent, record d { tries = 0; attempt = Idle; due = Some m; detail = New })
+
+resent_by : (m : ℕ) (d : OutEntry) (b1 b2 : Bool) → is_settled d ≡ b1 → IsEntry d → IsEntry (resent_if m d b1 b2).1
+resent_by m d true b2 is h = h
+resent_by m d false true is h = h
+resent_by m d false false is h = unsettled_entry _ is refl (λ g. absurd (omega (arith, g)))
+
+resent_entry : (A : Agreements) (m : ℕ) (d : OutEntry) → IsEntry d → IsEntry (resent A m d).1
+unfolding resent
+resent_entry A m d h = agreed_either IsEntry A d.organization d.partner d _ h
+    (λ p. resent_by m d (is_settled d) (not (is_error (state_of d.detail))) refl h)
+
+pub resent_keeps : (A : Agreements) (m : ℕ) → KeepsEntries (λ d. (resent A m d).1)
+resent_keeps A m = record { names = resent_names A m; entry = resent_entry A m }

@@ -1,35 +1,35 @@
 -- Each step, and so each run, leads from a well formed state to a well formed one.
-use Rattle.std.proofs.Common.{◌≡◌, ℕ, ◌+◌, ◌<◌, Bool, true, false, not, [], ◌∷◌, ◌++◌, Option, Some, None, refl, sym, ap, ◌∙◌, subst}
+use Rattle.std.proofs.Common.{◌≡◌, ℕ, ◌+◌, ◌<◌, Bool, true, false, not, [], ◌∷◌, ◌++◌, Option, Some, None, refl, sym, ap, ◌∙◌, subst, arith}
 use Rattle.std.specs.Prelude.{⊤, is_some, ◌==◌, if◌then◌else◌, nat_le, nat_lt, length, ◌&&◌}
 use Rattle.std.specs.List.{IsDistinct}
 use Rattle.std.proofs.lemmas.Option.{same_Some}
 use Rattle.as2_exchange.specs.Agreement.{Text, Agreements, is_organization, partner_of}
 use Rattle.as2_exchange.specs.Readings.{Head, MediaType, ReceiptAsk, Outcome as WhatBecame, Processed, DecryptionFailed, DecompressionFailed, AuthenticationFailed, UnsupportedFormat, UnsupportedMicAlgorithms, is_processed, mic_for, is_report, names_of, version_fits, type_of, id_of, ask_of, report_in, named_by}
-use Rattle.as2_exchange.specs.State.{Posted, InEntry, OutEntry, State, empty, end_of_numbers, document, document_named, received, received_as, change_document, change_received, lasting, is_settled}
-use Rattle.as2_exchange.specs.Events.{Event, Post, Submit, Begin, Outcome, BeginMdn, OutcomeMdn, Tick, Answer, Refused, Submitted, UnknownOrganization, UnknownPartner, TooLarge, Line, BadNames, BadVersion, UnknownNames, BadType, UnreadableReceipt, BadId, BadAsk}
+use Rattle.as2_exchange.specs.State.{Posted, InEntry, OutEntry, State, Digests, Version, known_digests, empty, end_of_numbers, document, document_named, received, received_as, change_document, change_received, lasting, is_settled}
+use Rattle.as2_exchange.specs.Events.{Event, Post, Submit, Begin, Outcome, Resend, BeginMdn, OutcomeMdn, Tick, Answer, Refused, Submitted, UnknownOrganization, UnknownPartner, TooLarge, Line, BadNames, BadVersion, UnknownNames, BadType, UnreadableReceipt, BadId, BadAsk}
 use Rattle.as2_exchange.specs.Posts.{ReceivedReceipt, Reading, Refuses, IsReceipt, IsDocument, needs, report_posted, document_posted, reading}
-use Rattle.as2_exchange.specs.Documents.{settle, settle_for, settled, submit, new_document, begun, closed, tick}
+use Rattle.as2_exchange.specs.Documents.{settle, settle_for, settled, submit, new_document, begun, closed, resent, tick}
 use Rattle.as2_exchange.specs.OwedReceipts.{mdn_begun, mdn_closed}
 use Rattle.as2_exchange.specs.Recording.{record_post, first_entry, requeued_by_repeat}
 use Rattle.as2_exchange.specs.Step.{post, step, acted, acted_in}
-use Rattle.as2_exchange.specs.Run.{Trace, Run, Answered, Failed}
+use Rattle.as2_exchange.specs.Run.{Trace, Run, AnEvent, AMigration, Answered, Failed, migrated}
 use Rattle.as2_exchange.specs.Invariants.{IsCounter, IsRecorded, IsWellFormed}
 use Rattle.as2_exchange.proofs.Documents.{if_either}
 use Rattle.as2_exchange.proofs.Keeping.{is_left}
 use Rattle.as2_exchange.proofs.Repeats.{RecordedOrSame, fresh, repeated, clash, left_is, queued_lasting, mdn_begun_lasting, mdn_closed_lasting}
 use Rattle.as2_exchange.proofs.WellFormed.{inbox_push, inbox_map, KeepsLasting, outbox_push, outbox_map, KeepsEntries, unsettled_entry}
-use Rattle.as2_exchange.proofs.Standing.{settled_keeps, changed_keeps, passed_keeps, begun_keeps, closed_keeps}
+use Rattle.as2_exchange.proofs.Standing.{settled_keeps, changed_keeps, passed_keeps, begun_keeps, closed_keeps, resent_keeps}
 
 -- ---- a posted document has digest and MIC exactly where it is processed
 
-mic_there : (o : WhatBecame) (ask : ReceiptAsk) (content : Text) → is_some (mic_for o ask content) ≡ is_processed o
+mic_there : (known : Digests) (o : WhatBecame) (ask : ReceiptAsk) (content : Text) → is_some (mic_for known o ask content) ≡ is_processed o
 unfolding mic_for
-mic_there Processed ask content = refl
-mic_there DecryptionFailed ask content = refl
-mic_there DecompressionFailed ask content = refl
-mic_there AuthenticationFailed ask content = refl
-mic_there UnsupportedFormat ask content = refl
-mic_there UnsupportedMicAlgorithms ask content = refl
+mic_there known Processed ask content = refl
+mic_there known DecryptionFailed ask content = refl
+mic_there known DecompressionFailed ask content = refl
+mic_there known AuthenticationFailed ask content = refl
+mic_there known UnsupportedFormat ask content = refl
+mic_there known UnsupportedMicAlgorithms ask content = refl
 
 -- what a post is read as
 IsGood : Reading → Type 0
@@ -46,23 +46,23 @@ if_good : (b : Bool) (x y : Reading) → IsGood x → IsGood y → IsGood (if b 
 if_good true x y h g = h
 if_good false x y h g = g
 
-document_good : (names : Text × Text) (type : MediaType × Text) (head : Head) (body : Text) → IsGood (document_posted names type head body)
+document_good : (known : Digests) (names : Text × Text) (type : MediaType × Text) (head : Head) (body : Text) → IsGood (document_posted known names type head body)
 unfolding IsGood
-document_good names type head body =
-    needs_good (id_of head) BadId _ (λ id. needs_good (ask_of head) BadAsk _ (λ ask. mic_there _ ask body))
+document_good known names type head body =
+    needs_good (id_of head) BadId _ (λ id. needs_good (ask_of head) BadAsk _ (λ ask. mic_there known _ ask body))
 
-report_good : (names : Text × Text) (type : MediaType × Text) (body : Text) → IsGood (report_posted names type body)
+report_good : (known : Digests) (names : Text × Text) (type : MediaType × Text) (body : Text) → IsGood (report_posted known names type body)
 unfolding IsGood
-report_good names type body = needs_good (report_in type.0 body) UnreadableReceipt _ (λ r. tt)
+report_good known names type body = needs_good (report_in type.0 body) UnreadableReceipt _ (λ r. tt)
 
-reading_good : (A : Agreements) (head : Head) (body : Text) → IsGood (reading A head body)
+reading_good : (A : Agreements) (known : Digests) (head : Head) (body : Text) → IsGood (reading A known head body)
 unfolding reading IsGood
-reading_good A head body =
+reading_good A known head body =
     needs_good (names_of head) BadNames _ (λ names.
     if_good (not (version_fits head)) (Refuses BadVersion) _ tt
     (if_good (not (is_organization A names.1 && is_some (partner_of A names.0))) (Refuses UnknownNames) _ tt
     (needs_good (type_of head) BadType _ (λ type.
-    if_good (is_report type.0) _ _ (report_good names type body) (document_good names type head body)))))
+    if_good (is_report type.0) _ _ (report_good known names type body) (document_good known names type head body)))))
 
 document_recorded : (r : Reading) (p : Posted) → IsGood r → r ≡ IsDocument p → IsRecorded p
 unfolding IsGood
@@ -115,7 +115,7 @@ settle_formed A s m r h = settle_for_formed A s m r (document_named s (named_by 
 taken_formed : (A : Agreements) (s : State) (organization partner content : Text) (m : ℕ) → s.next_out < end_of_numbers → IsWellFormed A s → IsWellFormed A (record s { outbox = s.outbox ++ new_document A s.next_out organization partner content m ∷ []; next_out = s.next_out + 1 })
 taken_formed A s organization partner content m small h = record {
   received = h.received;
-  sent = outbox_push A s.next_out s.outbox (new_document A s.next_out organization partner content m) small refl refl (unsettled_entry _ refl refl) h.sent;
+  sent = outbox_push A s.next_out s.outbox (new_document A s.next_out organization partner content m) small refl refl (unsettled_entry _ refl refl (λ g. absurd (omega (arith, g)))) h.sent;
 }
 
 submit_formed : (A : Agreements) (s : State) (organization partner content : Text) (m : ℕ) (y : Answer × State) → IsWellFormed A s → submit A s organization partner content m ≡ Some y → IsWellFormed A y.1
@@ -150,25 +150,31 @@ post_formed A s m (IsDocument p) y good h e = record_formed A s m p y (document_
 -- ---- a step and a run
 
 pub step_formed : (A : Agreements) (s : State) (e : Event) (y : Answer × State) → IsWellFormed A s → step A s e ≡ Some y → IsWellFormed A y.1
-step_formed A s (Post head body m) y h is = post_formed A s m (reading A head body) y (reading_good A head body) h is
+step_formed A s (Post head body m) y h is = post_formed A s m (reading A (known_digests s.version) head body) y (reading_good A (known_digests s.version) head body) h is
 step_formed A s (Submit organization partner content m) y h is = submit_formed A s organization partner content m y h is
 step_formed A s (Begin n m) y h is = subst (λ (z : Answer × State). IsWellFormed A z.1) (same_Some _ y is) (acted_formed A s n (begun A m) (document s n) (begun_keeps A m) h)
-step_formed A s (Outcome n got m) y h is = subst (λ (z : Answer × State). IsWellFormed A z.1) (same_Some _ y is) (acted_formed A s n (closed A got m) (document s n) (closed_keeps A got m) h)
+step_formed A s (Resend n m) y h is = subst (λ (z : Answer × State). IsWellFormed A z.1) (same_Some _ y is) (acted_formed A s n (resent A m) (document s n) (resent_keeps A m) h)
+step_formed A s (Outcome n got m) y h is = subst (λ (z : Answer × State). IsWellFormed A z.1) (same_Some _ y is) (acted_formed A s n (closed A (known_digests s.version) got m) (document s n) (closed_keeps A (known_digests s.version) got m) h)
 step_formed A s (BeginMdn n m) y h is = subst (λ (z : Answer × State). IsWellFormed A z.1) (same_Some _ y is) (acted_in_formed A s n (mdn_begun A m) (received s n) (mdn_begun_lasting A m) h)
 step_formed A s (OutcomeMdn n got m) y h is = subst (λ (z : Answer × State). IsWellFormed A z.1) (same_Some _ y is) (acted_in_formed A s n (mdn_closed A got m) (received s n) (mdn_closed_lasting A got m) h)
 step_formed A s (Tick m) y h is = subst (λ (z : Answer × State). IsWellFormed A z.1) (same_Some _ y is) (tick_formed A m s h)
 
-pub empty_formed : (A : Agreements) (first : ℕ) → IsCounter first → IsWellFormed A (empty first)
+pub empty_formed : (A : Agreements) (v : Version) (first : ℕ) → IsCounter first → IsWellFormed A (empty v first)
 unfolding IsDistinct
-empty_formed A first h = record {
+empty_formed A v first h = record {
   received = record { counter = h; numbers = record { below = tt; distinct = tt; in_order = tt }; keys = tt; recorded = tt };
   sent = record { counter = h; numbers = record { below = tt; distinct = tt; in_order = tt }; named = tt; identifiers = tt; entries = tt };
 }
 
+-- the boxes stay
+pub migrated_formed : (A : Agreements) (s : State) → IsWellFormed A s → IsWellFormed A (migrated s)
+migrated_formed A s h = record { received = h.received; sent = h.sent }
+
 run_formed : (A : Agreements) (old : State) (trace : Trace) (new : State) → IsWellFormed A old → Run A old trace new → IsWellFormed A new
 run_formed A old [] new h run = subst (IsWellFormed A) (sym run) h
-run_formed A old ((e, Answered a) ∷ rest) new h run = run_formed A run.0 rest new (step_formed A old e (a, run.0) h run.1) run.2
-run_formed A old ((e, Failed fault) ∷ rest) new h run = run_formed A old rest new h run.1
+run_formed A old (AnEvent e (Answered a) ∷ rest) new h run = run_formed A run.0 rest new (step_formed A old e (a, run.0) h run.1) run.2
+run_formed A old (AnEvent e (Failed fault) ∷ rest) new h run = run_formed A old rest new h run.1
+run_formed A old (AMigration n ∷ rest) new h run = run_formed A (migrated old) rest new (migrated_formed A old h) run.2
 
-pub formed : (A : Agreements) (first : ℕ) (trace : Trace) (s : State) → IsCounter first → Run A (empty first) trace s → IsWellFormed A s
-formed A first trace s h run = run_formed A (empty first) trace s (empty_formed A first h) run
+pub formed : (A : Agreements) (v : Version) (first : ℕ) (trace : Trace) (s : State) → IsCounter first → Run A (empty v first) trace s → IsWellFormed A s
+formed A v first trace s h run = run_formed A (empty v first) trace s (empty_formed A v first h) run

@@ -1,13 +1,13 @@
 -- Worked rows of each refusal of an event, and of each turn that a document or a receipt takes.
 use Rattle.std.proofs.Common.{◌≡◌, ℕ, true, false, [], ◌∷◌, Option, Some, None, refl}
-use Rattle.std.specs.Prelude.{codes}
+use Rattle.std.specs.Prelude.{nat_le, codes}
 use Rattle.as2_names.specs.Blanks.{without_blanks}
 use Rattle.as2_names.specs.Identifiers.{value_of as bare}
 use Rattle.as2_media.specs.Values.{between_quotes}
 use Rattle.as2_exchange.specs.Agreement.{Text, Agreements}
 use Rattle.as2_exchange.specs.Detail.{Detail, New, Sending, Awaiting, Retry, Processed, NoReceiptAsked, TriesUsed, Overdue, Attempt, Idle, Running, Last, Used, MdnState, Unasked, Pending, Sent}
 use Rattle.as2_exchange.specs.Readings.{ReceiptDelivery, NoReceipt, Sync, Async, document_job, receipt_job as receipt_sent, names_of, type_of, report_in, named_by, value_of}
-use Rattle.as2_exchange.specs.State.{State, InEntry, OutEntry, Evidence, empty}
+use Rattle.as2_exchange.specs.State.{AllDigests, LaterVersion, State, InEntry, OutEntry, Evidence, empty}
 use Rattle.as2_exchange.specs.Events.{Post, Begin, Outcome, Answer, Nothing, NoAnswer, Reply, Job, Settled, Delivered, TryFailed, AlreadySettled, Submitted, Ticked, Refused, UnknownOrganization, UnknownPartner, NoSuchNumber, NotDue, AllSettled, NoOpenTry, TriesUsedUp}
 use Rattle.as2_exchange.specs.Documents.{begun, closed, submit, tick}
 use Rattle.as2_exchange.specs.Lines.{http}
@@ -21,22 +21,22 @@ use Rattle.as2_exchange.proofs.Rows.{play, submit_to, job_1, no_head, return_add
 -- ---- a Begin and an Outcome: which refusal is first
 
 -- the fixture without its organization, and without its partners
-abbrev no_organization : Agreements
+abbrev pub no_organization : Agreements
 no_organization = record fixture { organizations = []; partners = [] }
 
-abbrev no_partner : Agreements
+abbrev pub no_partner : Agreements
 no_partner = record fixture { partners = [] }
 
-abbrev some_evidence : Evidence
+abbrev pub some_evidence : Evidence
 some_evidence = record { moment = 1000; content_type = q_type_text; body = q }
 
--- a document from Supplier to Buyer
-abbrev standing : ℕ → Attempt → Option ℕ → Detail → Option Evidence → OutEntry
-standing tries attempt due detail evidence = record { number = 1; organization = codes "Supplier"; partner = codes "Buyer"; id = codes "<out-1@station.example>"; content = abc; moment = 1000; tries = tries; attempt = attempt; due = due; detail = detail; evidence = evidence }
+-- a document from Supplier to Buyer; it was begun where it was tried
+abbrev pub standing : ℕ → Attempt → Option ℕ → Detail → Option Evidence → OutEntry
+standing tries attempt due detail evidence = record { number = 1; organization = codes "Supplier"; partner = codes "Buyer"; id = codes "<out-1@station.example>"; content = abc; moment = 1000; begun = nat_le 1 tries; tries = tries; attempt = attempt; due = due; detail = detail; evidence = evidence }
 
 -- a store with this document alone
-abbrev with_document : OutEntry → State
-with_document d = record { inbox = []; outbox = d ∷ []; next_in = 1; next_out = 2 }
+abbrev pub with_document : OutEntry → State
+with_document d = record { version = LaterVersion 0; inbox = []; outbox = d ∷ []; next_in = 1; next_out = 2 }
 
 -- what a Begin of it at 1000 is answered
 abbrev begin_answer : Agreements → OutEntry → Answer
@@ -71,7 +71,7 @@ begin_opens = (refl, refl)
 
 -- what an Outcome without an answer is answered
 abbrev outcome_answer : Agreements → OutEntry → Answer
-outcome_answer A d = (closed A NoAnswer 1000 d).0
+outcome_answer A d = (closed A AllDigests NoAnswer 1000 d).0
 
 outcome_refusals : (outcome_answer no_organization settled_late ≡ Refused UnknownOrganization)
     × (outcome_answer no_partner settled_late ≡ Refused UnknownPartner)
@@ -83,9 +83,9 @@ outcome_refusals = (refl, refl, refl, refl)
 -- ---- an Outcome: what it leaves
 
 -- a try that failed, and the last one
-failures : ((closed fixture NoAnswer 1000 (standing 1 Running (Some 1030) Sending None)).1 ≡ standing 1 Idle (Some 1030) Retry None)
-    × ((closed fixture NoAnswer 1000 (standing 2 Last (Some 1030) Sending None)).1 ≡ standing 2 Idle None TriesUsed None)
-    × ((closed fixture NoAnswer 1000 (standing 2 Last None TriesUsed None)).1 ≡ standing 2 Idle None TriesUsed None)
+failures : ((closed fixture AllDigests NoAnswer 1000 (standing 1 Running (Some 1030) Sending None)).1 ≡ standing 1 Idle (Some 1030) Retry None)
+    × ((closed fixture AllDigests NoAnswer 1000 (standing 2 Last (Some 1030) Sending None)).1 ≡ standing 2 Idle None TriesUsed None)
+    × ((closed fixture AllDigests NoAnswer 1000 (standing 2 Last None TriesUsed None)).1 ≡ standing 2 Idle None TriesUsed None)
 unfolding closed
 failures = (refl, refl, refl)
 
@@ -94,33 +94,33 @@ statuses_of_success : (is_success 199 ≡ false) × (is_success 200 ≡ true) ×
 statuses_of_success = (refl, refl, refl, refl)
 
 -- whatever an answer with another status brings, the try failed
-other_statuses : ((closed fixture (Reply 404 (receipt_head (codes "Buyer")) q) 1000 (standing 1 Running (Some 1030) Sending None)) ≡ (TryFailed, standing 1 Idle (Some 1030) Retry None))
-    × ((closed fixture (Reply 300 (receipt_head (codes "Buyer")) q) 1000 (standing 1 Running (Some 1030) Sending None)) ≡ (TryFailed, standing 1 Idle (Some 1030) Retry None))
+other_statuses : ((closed fixture AllDigests (Reply 404 (receipt_head (codes "Buyer")) q) 1000 (standing 1 Running (Some 1030) Sending None)) ≡ (TryFailed, standing 1 Idle (Some 1030) Retry None))
+    × ((closed fixture AllDigests (Reply 300 (receipt_head (codes "Buyer")) q) 1000 (standing 1 Running (Some 1030) Sending None)) ≡ (TryFailed, standing 1 Idle (Some 1030) Retry None))
 unfolding closed
 other_statuses = (refl, refl)
 
 -- a receipt in the answer settles the document: the try is closed, nothing is waited for, and the receipt is kept as it came
-settled_by_answer : closed fixture (Reply 299 (receipt_head (codes "Buyer")) q) 1001 (standing 1 Running (Some 1030) Sending None) ≡ (Settled Processed, standing 1 Idle None Processed (Some (record { moment = 1001; content_type = q_type_text; body = q })))
+settled_by_answer : closed fixture AllDigests (Reply 299 (receipt_head (codes "Buyer")) q) 1001 (standing 1 Running (Some 1030) Sending None) ≡ (Settled Processed, standing 1 Idle None Processed (Some (record { moment = 1001; content_type = q_type_text; body = q })))
 unfolding closed named_by value_of bare
 settled_by_answer = rw (q_names, q_typed, q_read, q_says) refl
 
 -- a receipt under another partner's name, one for another document, and one whose sender is given twice settle nothing; each
 -- is still an answer of success
-foreign_answers : (closed fixture (Reply 200 (receipt_head (codes "Depot")) q) 1001 (standing 1 Running (Some 1030) Sending None) ≡ (TryFailed, standing 1 Idle (Some 1031) Retry None))
-    × (closed fixture (Reply 200 (receipt_head (codes "Buyer")) q_for_2) 1001 (standing 1 Running (Some 1030) Sending None) ≡ (TryFailed, standing 1 Idle (Some 1031) Retry None))
-    × (closed fixture (Reply 200 ((codes "as2-from", codes "Depot") ∷ receipt_head (codes "Depot")) q) 1001 (record (standing 1 Running (Some 1030) Sending None) { partner = codes "Depot" }) ≡ (Delivered, record (standing 1 Idle (Some 1061) Awaiting None) { partner = codes "Depot" }))
+foreign_answers : (closed fixture AllDigests (Reply 200 (receipt_head (codes "Depot")) q) 1001 (standing 1 Running (Some 1030) Sending None) ≡ (TryFailed, standing 1 Idle (Some 1031) Retry None))
+    × (closed fixture AllDigests (Reply 200 (receipt_head (codes "Buyer")) q_for_2) 1001 (standing 1 Running (Some 1030) Sending None) ≡ (TryFailed, standing 1 Idle (Some 1031) Retry None))
+    × (closed fixture AllDigests (Reply 200 ((codes "as2-from", codes "Depot") ∷ receipt_head (codes "Depot")) q) 1001 (record (standing 1 Running (Some 1030) Sending None) { partner = codes "Depot" }) ≡ (Delivered, record (standing 1 Idle (Some 1061) Awaiting None) { partner = codes "Depot" }))
 unfolding closed receipt_head receipt_body q q_for_2 names_of type_of report_in named_by value_of without_blanks between_quotes bare
 foreign_answers = (refl, refl, refl)
 
 -- a receipt in the Outcome of a try that is closed is none
-late_outcome : play due_1 (empty 1) (submit_to buyer ∷ Begin 1 1000 ∷ Outcome 1 NoAnswer 1000 ∷ Outcome 1 (Reply 200 (receipt_head (codes "Buyer")) q) 1001 ∷ [])
+late_outcome : play due_1 (empty (LaterVersion 0) 1) (submit_to buyer ∷ Begin 1 1000 ∷ Outcome 1 NoAnswer 1000 ∷ Outcome 1 (Reply 200 (receipt_head (codes "Buyer")) q) 1001 ∷ [])
     ≡ Some (Submitted 1 ∷ job_1 buyer ∷ TryFailed ∷ Refused NoOpenTry ∷ [], Some (Retry, Some 1030))
 unfolding play submit begun closed
 late_outcome = refl
 
 -- an answer of success without a receipt, by what is agreed with the partner
 abbrev delivery_to : Text → OutEntry → OutEntry
-delivery_to partner d = (closed fixture (Reply 200 no_head []) 1000 (record d { partner = partner })).1
+delivery_to partner d = (closed fixture AllDigests (Reply 200 no_head []) 1000 (record d { partner = partner })).1
 
 deliveries : (delivery_to (codes "Depot") (standing 1 Running (Some 1030) Sending None) ≡ record (standing 1 Idle (Some 1060) Awaiting None) { partner = codes "Depot" })
     × (delivery_to (codes "A \"B\" \\ C") (standing 1 Running (Some 1030) Sending None) ≡ record (standing 1 Idle None NoReceiptAsked None) { partner = codes "A \"B\" \\ C" })
@@ -134,6 +134,7 @@ deliveries = (refl, refl, refl, refl)
 -- one document that awaits its receipt, one whose last try is open, and those that no Tick moves
 abbrev waiting_state : State
 waiting_state = record {
+  version = LaterVersion 0;
   inbox = [];
   outbox =
       standing 1 Idle (Some 1060) Awaiting None
@@ -181,7 +182,7 @@ first_kept : (first_entry 1 1000 (document_of (codes "Depot") m1 abc later sha1_
 first_kept = (refl, refl, refl)
 
 -- the inbox then has that entry
-first_added : play (λ s. s.inbox) (empty 1) (Post (post_head (codes "Depot") m1 return_head) abc 1000 ∷ []) ≡ Some (http 202 Nothing ∷ [], entry_asked later Pending 0 Idle (Some 1000) ∷ [])
+first_added : play (λ s. s.inbox) (empty (LaterVersion 0) 1) (Post (post_head (codes "Depot") m1 return_head) abc 1000 ∷ []) ≡ Some (http 202 Nothing ∷ [], entry_asked later Pending 0 Idle (Some 1000) ∷ [])
 unfolding play record_post answer_to value_of bare
 first_added = rw p1_from_depot refl
 

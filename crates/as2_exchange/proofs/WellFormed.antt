@@ -1,5 +1,5 @@
 -- In every state of a run, its invariants hold.
-use Rattle.std.proofs.Common.{◌≡◌, ℕ, ◌+◌, ◌<◌, Bool, true, false, List, [], ◌∷◌, ◌++◌, map, None, refl, sym, ap, ◌∙◌, subst, arith}
+use Rattle.std.proofs.Common.{◌≡◌, ℕ, ◌+◌, ◌<◌, ◌≤◌, Bool, true, false, List, [], ◌∷◌, ◌++◌, map, None, refl, sym, ap, ◌∙◌, subst, arith}
 use Rattle.std.specs.Prelude.{nat_lt, ◌==◌}
 use Rattle.std.specs.List.{AllByRecursion, IsDistinct, find}
 use Rattle.std.specs.Str.{bytes_eq}
@@ -97,5 +97,5 @@ outbox_map A n ds f kept h = record {
 -- ---- entries
 
 -- what a receipt says is a detail that a receipt alone gives
-pub unsettled_entry : (d : OutEntry) → is_settled d ≡ false → is_by_receipt d.detail ≡ false → IsEntry d
-unsettled_entry d none by = record { evidence = none ∙ sym by; at_rest = λ h. absurd (false≢true (sym none ∙ h)) }
+pub unsettled_entry : (d : OutEntry) → is_settled d ≡ false → is_by_receipt d.detail ≡ false → (1 ≤ d.tries → d.begun ≡ true) → IsEntry d
+unsettled_entry d none by tried = record { evidence = none ∙ sym by; at_rest = λ h. absurd (false≢true (sym none ∙ h)); tried = tried }

@@ -1,11 +1,14 @@
--- Documents to a partner: taken in, tried, settled by a receipt, given up as time goes by (RFC 4130, sections 5 to 7; tries and
--- moments are this station's own rules).
+-- Documents to a partner: taken in, tried, settled by a receipt, given up as time goes by, sent anew (RFC 4130, sections 5 to 7;
+-- tries and moments are this station's own rules).
 use Rattle.std.specs.Prelude.{ℕ, ◌+◌, Bool, true, false, ◌&&◌, ◌||◌, not, [], ◌∷◌, ◌++◌, map, length, Option, Some, None, option_and_then, is_some, nat_lt, nat_le, count_by, if◌then◌else◌}
+use Rattle.as2_mdn.specs.Details.{state_of}
+use Rattle.as2_mdn.specs.declared.detail.State.{State as StateOf}
+use Rattle.as2_mdn.specs.declared.detail.State.TheVariants.{E}
 use Rattle.as2_exchange.specs.Agreement.{Text, Agreements, Partner, Asked, NoReceipt, Sync, Async, is_organization, partner_of}
 use Rattle.as2_exchange.specs.Detail.{Detail, New, Sending, Awaiting, Retry, NoReceiptAsked, TriesUsed, Overdue, Attempt, Idle, Running, Last}
 use Rattle.as2_exchange.specs.Readings.{named_by, verdict, out_id, document_job}
-use Rattle.as2_exchange.specs.State.{Evidence, OutEntry, State, content_limit, end_of_numbers, document_named, change_document, is_begun, is_settled}
-use Rattle.as2_exchange.specs.Events.{TryAnswer, UnknownOrganization, UnknownPartner, NotDue, AllSettled, NoOpenTry, TriesUsedUp, TooLarge, NoSuchMessage, Nothing, Answer, Http, Submitted, Job, Settled, Delivered, TryFailed, AlreadySettled, Ticked, Refused}
+use Rattle.as2_exchange.specs.State.{Evidence, OutEntry, State, Digests, content_limit, end_of_numbers, document_named, change_document, is_settled}
+use Rattle.as2_exchange.specs.Events.{TryAnswer, UnknownOrganization, UnknownPartner, NotDue, AllSettled, NoOpenTry, TriesUsedUp, TooLarge, NoSuchMessage, Nothing, Answer, Http, Submitted, Job, Settled, Delivered, TryFailed, AlreadySettled, Resent, Ticked, Refused}
 use Rattle.as2_exchange.specs.Lines.{http, refusal}
 use Rattle.as2_exchange.specs.Posts.{ReceivedReceipt}
 use Rattle.as2_exchange.specs.Receipts.{bears, receipt_in_answer, is_delivery, evidence_of}
@@ -17,7 +20,7 @@ settled_as detail evidence d = record d { attempt = Idle; due = None; detail = d
 
 -- the document once this receipt has settled it
 abbrev pub settled : ℕ → ReceivedReceipt → OutEntry → OutEntry
-settled m r d = settled_as (verdict r.receipt d.content) (evidence_of m r) d
+settled m r d = settled_as (verdict r.known r.receipt d.content) (evidence_of m r) d
 
 -- it is waiting for what no try can bring
 abbrev pub waits : Detail → Bool
@@ -36,6 +39,7 @@ begun A m d =
     else (
       Job (document_job A p d.organization d.id d.content),
       record d {
+        begun = true;
         tries = d.tries + 1;
         attempt = if nat_le p.max_tries (d.tries + 1) then Last else Running;
         due = Some (m + p.retry_seconds);
@@ -62,16 +66,29 @@ if_for d r = if bears r d.organization d.partner d.id then Some r else None
 
 -- the receipt for it that came closes the open try; else the answer does
 abbrev pub closed_by : Partner → TryAnswer → ℕ → OutEntry → Option ReceivedReceipt → Answer × OutEntry
-closed_by p got m d (Some r) = (Settled (verdict r.receipt d.content), settled m r d)
+closed_by p got m d (Some r) = (Settled (verdict r.known r.receipt d.content), settled m r d)
 closed_by p got m d None = if is_delivery got then delivered p.receipt p m d else failed_try p m d
 
--- the outcome of a document's try
-unfoldable pub closed : Agreements → TryAnswer → ℕ → OutEntry → Answer × OutEntry
-closed A answer m d =
+-- the outcome of a document's try, where these digests are known
+unfoldable pub closed : Agreements → Digests → TryAnswer → ℕ → OutEntry → Answer × OutEntry
+closed A known answer m d =
     agreed A d.organization d.partner d λ p.
     if is_settled d then (AlreadySettled, d)
     else if is_idle d.attempt then (Refused NoOpenTry, d)
-    else closed_by p answer m d (option_and_then (if_for d) (receipt_in_answer answer))
+    else closed_by p answer m d (option_and_then (if_for d) (receipt_in_answer known answer))
+
+-- the state is E
+abbrev pub is_error : StateOf → Bool
+is_error E = true
+is_error other = false
+
+-- a document that failed is to be sent anew, with all tries left; once begun, it stays so
+unfoldable pub resent : Agreements → ℕ → OutEntry → Answer × OutEntry
+resent A m d =
+    agreed A d.organization d.partner d λ p.
+    if is_settled d then (Refused AllSettled, d)
+    else if not (is_error (state_of d.detail)) then (Refused NotDue, d)
+    else (Resent, record d { tries = 0; attempt = Idle; due = Some m; detail = New })
 
 -- what a document that is due passes into as time goes by
 abbrev pub passes_into : Detail → Attempt → Option Detail
@@ -96,7 +113,7 @@ tick m s = (Ticked (count_by (λ d. is_some (passes_at m d)) s.outbox), record s
 abbrev pub settle_for : State → ℕ → ReceivedReceipt → Option OutEntry → Answer × State
 settle_for s m r None = (Http (refusal NoSuchMessage), s)
 settle_for s m r (Some d) =
-    if not (bears r d.organization d.partner d.id && is_begun d) then (Http (refusal NoSuchMessage), s)
+    if not (bears r d.organization d.partner d.id && d.begun) then (Http (refusal NoSuchMessage), s)
     else (http 200 Nothing, if is_settled d then s else change_document s d.number (settled m r))
 
 -- the document whose identifier the receipt names, if there is one
@@ -113,6 +130,7 @@ new_document A n organization partner content m =
       id = out_id A n;
       content = content;
       moment = m;
+      begun = false;
       tries = 0;
       attempt = Idle;
       due = Some m;

@@ -4,7 +4,7 @@ use Rattle.std.specs.List.{list_any, filter_map}
 use Rattle.as2_exchange.specs.Agreement.{Agreements, Partner, partner_of}
 use Rattle.as2_exchange.specs.Detail.{Attempt, Idle, Running, Last, Used, MdnState, Unasked, Pending, Sent}
 use Rattle.as2_exchange.specs.Readings.{ReceiptDelivery, NoReceipt, Sync, Async}
-use Rattle.as2_exchange.specs.State.{Posted, InEntry}
+use Rattle.as2_exchange.specs.State.{Posted, InEntry, Version, known_digests, origin_of}
 use Rattle.as2_exchange.specs.Events.{Event, Post, BeginMdn, OutcomeMdn, Answer, Done}
 use Rattle.as2_exchange.specs.Posts.{Reading, IsDocument, reading, repeats}
 use Rattle.as2_exchange.specs.Receipts.{is_delivery}
@@ -17,25 +17,25 @@ pub data ReceiptFact : Type 0 where
   OfATry : Fact → ReceiptFact
 
 -- a post of the document: the first one, and each repeat
-abbrev pub post_of : Posted → ℕ → Reading → Option ReceiptFact
-post_of p m (IsDocument q) = if repeats p q then Some (APost m) else None
-post_of p m other = None
+abbrev pub post_of : Version → ℕ → Posted → ℕ → Reading → Option ReceiptFact
+post_of v n p m (IsDocument q) = if repeats (origin_of v) n p q then Some (APost m) else None
+post_of v n p m other = None
 
 -- A try of receipt n is a BeginMdn of n that was answered by a Job.
-abbrev pub receipt_fact_of : Agreements → ℕ → Posted → Answer → Event → Option ReceiptFact
-receipt_fact_of A n p answer (Post head body m) = post_of p m (reading A head body)
-receipt_fact_of A n p answer (BeginMdn k m) = if k == n && is_job answer then Some (OfATry (ATry m)) else None
-receipt_fact_of A n p answer (OutcomeMdn k got m) = if k == n then Some (OfATry (AnOutcome m got)) else None
-receipt_fact_of A n p answer other = None
+abbrev pub receipt_fact_of : Agreements → ℕ → Posted → Version → Answer → Event → Option ReceiptFact
+receipt_fact_of A n p v answer (Post head body m) = post_of v n p m (reading A (known_digests v) head body)
+receipt_fact_of A n p v answer (BeginMdn k m) = if k == n && is_job answer then Some (OfATry (ATry m)) else None
+receipt_fact_of A n p v answer (OutcomeMdn k got m) = if k == n then Some (OfATry (AnOutcome m (known_digests v) got)) else None
+receipt_fact_of A n p v answer other = None
 
 unfoldable pub receipt_fact : Agreements → ℕ → Posted → Done → Option ReceiptFact
-receipt_fact A n p e = receipt_fact_of A n p e.answer e.event
+receipt_fact A n p e = receipt_fact_of A n p e.version e.answer e.event
 
 -- ---- its tries
 
 -- the fact is an answer of success to the try that was open before it
 abbrev pub delivers : List Fact → Fact → Bool
-delivers past (AnOutcome m got) = is_open past && is_delivery got
+delivers past (AnOutcome m known got) = is_open past && is_delivery got
 delivers past other = false
 
 -- a try was answered by success

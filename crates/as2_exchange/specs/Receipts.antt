@@ -3,7 +3,7 @@ use Rattle.std.specs.Prelude.{ℕ, Bool, false, ◌&&◌, Option, None, option_m
 use Rattle.std.specs.Str.{bytes_eq}
 use Rattle.as2_exchange.specs.Agreement.{Text}
 use Rattle.as2_exchange.specs.Readings.{Head, names_of, type_of, report_in, named_by, value_of}
-use Rattle.as2_exchange.specs.State.{Evidence}
+use Rattle.as2_exchange.specs.State.{Evidence, Digests}
 use Rattle.as2_exchange.specs.Events.{TryAnswer, NoAnswer, Reply}
 use Rattle.as2_exchange.specs.Posts.{ReceivedReceipt, received_receipt}
 
@@ -17,14 +17,14 @@ abbrev pub is_success : ℕ → Bool
 is_success status = nat_le 200 status && nat_lt status 300
 
 -- the readable receipt that a head and a body are
-abbrev pub receipt_in : Head → Text → Option ReceivedReceipt
-receipt_in head body =
-    option_and_then (λ names. option_and_then (λ type. option_map (received_receipt names type body) (report_in type.0 body)) (type_of head)) (names_of head)
+abbrev pub receipt_in : Digests → Head → Text → Option ReceivedReceipt
+receipt_in known head body =
+    option_and_then (λ names. option_and_then (λ type. option_map (received_receipt known names type body) (report_in type.0 body)) (type_of head)) (names_of head)
 
 -- the readable receipt in an answer of success
-abbrev pub receipt_in_answer : TryAnswer → Option ReceivedReceipt
-receipt_in_answer NoAnswer = None
-receipt_in_answer (Reply status head body) = if is_success status then receipt_in head body else None
+abbrev pub receipt_in_answer : Digests → TryAnswer → Option ReceivedReceipt
+receipt_in_answer known NoAnswer = None
+receipt_in_answer known (Reply status head body) = if is_success status then receipt_in known head body else None
 
 -- an answer of success
 abbrev pub is_delivery : TryAnswer → Bool

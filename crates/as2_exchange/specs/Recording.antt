@@ -3,7 +3,7 @@ use Rattle.std.specs.Prelude.{ℕ, ◌+◌, Bool, true, false, ◌&&◌, [], ◌
 use Rattle.as2_exchange.specs.Agreement.{Agreements}
 use Rattle.as2_exchange.specs.Detail.{Attempt, Idle, Last, Used, MdnState, Unasked, Pending, Sent}
 use Rattle.as2_exchange.specs.Readings.{ReceiptDelivery, NoReceipt, Sync, Async, ReportOut, is_processed, is_async, report_text}
-use Rattle.as2_exchange.specs.State.{Posted, InEntry, State, end_of_numbers, received_as, change_received}
+use Rattle.as2_exchange.specs.State.{Posted, InEntry, State, origin_of, end_of_numbers, received_as, change_received}
 use Rattle.as2_exchange.specs.Events.{IdUsedBefore, NotProcessed, Nothing, Report, Answer, Http}
 use Rattle.as2_exchange.specs.Lines.{http, refusal}
 use Rattle.as2_exchange.specs.Posts.{repeats}
@@ -48,7 +48,7 @@ first_entry n m p = record { number = n; posted = p; moment = m; mdn = mdn_of p.
 -- a posted document is a repeat, a clash or new; no number is left: nothing
 abbrev pub recorded : Agreements → State → ℕ → Posted → Option InEntry → Option (Answer × State)
 recorded A s m p (Some e) =
-    if repeats e.posted p then Some (answer_to A e.number e.posted, change_received s e.number (requeued_by_repeat m))
+    if repeats (origin_of s.version) e.number e.posted p then Some (answer_to A e.number e.posted, change_received s e.number (requeued_by_repeat m))
     else Some (Http (refusal IdUsedBefore), s)
 recorded A s m p None =
     if nat_le end_of_numbers s.next_in then None

@@ -1,13 +1,14 @@
 -- What the answered events say of the tries of a document: whether one is open, and from which moment on something is due.
-use Rattle.std.specs.Prelude.{ℕ, ◌+◌, ◌&&◌, List, Option, Some, None, option_map, option_and_then, nat_le, if◌then◌else◌}
+use Rattle.std.specs.Prelude.{ℕ, ◌+◌, Bool, ◌&&◌, List, Option, Some, None, option_map, option_and_then, is_some, nat_le, if◌then◌else◌}
 use Rattle.std.specs.List.{list_any}
+use Rattle.std.specs.Option.{option_map_or}
 use Rattle.as2_exchange.specs.Agreement.{Agreements, Partner, Asked, NoReceipt, Sync, Async, partner_of}
 use Rattle.as2_exchange.specs.Detail.{Attempt, Idle, Running, Last}
 use Rattle.as2_exchange.specs.State.{OutEntry}
 use Rattle.as2_exchange.specs.Events.{TryAnswer, Done}
 use Rattle.as2_exchange.specs.Posts.{ReceivedReceipt}
 use Rattle.as2_exchange.specs.Receipts.{is_delivery}
-use Rattle.as2_exchange.specs.History.{Found, Submission, Fact, concerns, first_of, last_of, try_in, outcome_in, tries, first_receipt, is_tick_from}
+use Rattle.as2_exchange.specs.History.{Found, Submission, Fact, concerns, first_of, last_of, try_in, resend_in, since_resent, outcome_in, tries, first_receipt, is_tick_from}
 
 -- a try, with what stands after it, and its Outcome
 abbrev pub Tried : Type 0
@@ -37,30 +38,36 @@ due_after_delivery Async p tried m after = if list_any (is_tick_from (m + p.over
 due_after_delivery NoReceipt p tried m after = None
 due_after_delivery Sync p tried m after = due_after_failure p tried m
 
--- When something is due: nothing once a receipt came; the first try at the submission; the next try, or the end of the last
--- one, after the last try at moment t; what its Outcome calls for after that.
-abbrev pub due_of : Submission → Partner → ℕ → Option (ℕ × ReceivedReceipt) → Option Tried → Option ℕ
-due_of d p tried (Some r) l = None
-due_of d p tried None None = Some d.moment
-due_of d p tried None (Some (t, None)) = if nat_le p.max_tries tried && list_any (is_tick_from (t.it + p.retry_seconds)) t.after then None else Some (t.it + p.retry_seconds)
-due_of d p tried None (Some (t, Some o)) = if is_delivery o.it.1 then due_after_delivery p.receipt p tried o.it.0 o.after else due_after_failure p tried o.it.0
+-- the moment from which on it is to be sent: that of the last resend, or of its submission where there is none
+abbrev pub queued : Submission → List Fact → ℕ
+queued d facts = option_map_or (λ (r : Found ℕ Fact). r.it) (last_of resend_in facts) d.moment
+
+-- When something is due: nothing once a receipt came; the first try at the moment from which on it is to be sent; the next try, or
+-- the end of the last one, after the last try at moment t; what its Outcome calls for after that.
+abbrev pub due_of : ℕ → Partner → ℕ → Option (ℕ × ReceivedReceipt) → Option Tried → Option ℕ
+due_of from p tried (Some r) l = None
+due_of from p tried None None = Some from
+due_of from p tried None (Some (t, None)) = if nat_le p.max_tries tried && list_any (is_tick_from (t.it + p.retry_seconds)) t.after then None else Some (t.it + p.retry_seconds)
+due_of from p tried None (Some (t, Some o)) = if is_delivery o.it.1 then due_after_delivery p.receipt p tried o.it.0 o.after else due_after_failure p tried o.it.0
 
 -- ---- what a document waits for
 
 pub record Waiting : Type 0 where
+  pub begun : Bool
   pub attempt : Attempt
   pub due : Option ℕ
 
--- whether a try of it is open, and when something is due
+-- whether a try of it ever began, whether one is open, and when something is due
 abbrev pub waiting : OutEntry → Waiting
-waiting d = record { attempt = d.attempt; due = d.due }
+waiting d = record { begun = d.begun; attempt = d.attempt; due = d.due }
 
 -- the same, by the facts after its submission
 abbrev pub waiting_by : Agreements → ℕ → Submission → List Fact → Partner → Waiting
 waiting_by A k d facts p =
     record {
-      attempt = attempt_of p (tries facts) (first_receipt A k d facts) (last_tried facts);
-      due = due_of d p (tries facts) (first_receipt A k d facts) (last_tried facts);
+      begun = is_some (last_of try_in facts);
+      attempt = attempt_of p (tries (since_resent facts)) (first_receipt A k d facts) (last_tried (since_resent facts));
+      due = due_of (queued d facts) p (tries (since_resent facts)) (first_receipt A k d facts) (last_tried (since_resent facts));
     }
 
 -- What the answered events say of the tries of document k; nothing, where it was not submitted.

@@ -187,6 +187,8 @@ pub enum Answer {
     TryFailed,
     /// It was settled before; nothing has changed.
     AlreadySettled,
+    /// The document is to be sent anew.
+    Resent,
     /// So many documents have become overdue or used up their tries.
     Ticked(u64),
     /// The event is refused; nothing has changed.

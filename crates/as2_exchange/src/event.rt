@@ -72,6 +72,13 @@ pub enum Event {
         /// When the answer came, or none was waited for any more, in seconds since 1970.
         moment: Moment,
     },
+    /// A document that failed is to be sent anew.
+    Resend {
+        /// The document's number.
+        number: u64,
+        /// From when on it is to be sent, in seconds since 1970.
+        moment: Moment,
+    },
     /// Time has come to this moment.
     Tick {
         /// The moment, in seconds since 1970.

@@ -30,7 +30,9 @@ pub struct OutEntry {
     pub content: Pieces,
     /// When it was submitted.
     pub moment: Moment,
-    /// How often it was tried.
+    /// Whether a try of it has ever begun. From then on a receipt that is posted settles it.
+    pub begun: bool,
+    /// How often it was tried since it was last to be sent anew.
     pub tries: u64,
     /// Whether a try is open.
     pub attempt: Attempt,

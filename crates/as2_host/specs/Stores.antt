@@ -1,6 +1,6 @@
 -- What the opening of a store comes to.
 use Rattle.std.specs.Prelude.{◌≡◌, ℕ, Result, Ok, Err, IsTrue, true, ⊤}
-use Rattle.as2_exchange.specs.State.{State, empty}
+use Rattle.as2_exchange.specs.State.{LaterVersion, State, empty}
 use Rattle.as2_exchange.specs.declared.fault.StoreFault.{StoreFault}
 use Rattle.as2_exchange.specs.declared.fault.StoreFault.TheVariants.{Refused}
 use Rattle.as2_records.specs.Standing.{Medium, Standing, may_come}
@@ -29,5 +29,5 @@ module _ {A : Type 0} {M : Medium} (shows : A → Standing M) where
 
   -- new records were opened, without entries and with this first number; or a fault came that may come of any call
   abbrev pub BeginsNew : ℕ → Result A OpenFault → Type 0
-  BeginsNew first (Ok records) = IsFaithful × IsTrue (shows records).is_open × (shows records).Rests (empty first)
+  BeginsNew first (Ok records) = IsFaithful × IsTrue (shows records).is_open × (shows records).Rests (empty (LaterVersion 0) first)
   BeginsNew first (Err fault) = may_come (fault_in fault) ≡ true

@@ -3,7 +3,7 @@ use Rattle.std.proofs.Common.{◌≡◌, ℕ, true, List, [], ◌∷◌, ◌++�
 use Rattle.std.specs.Io.KnownBytes.{Appends, Consumes, IsAtEnd, Keeps}
 use Rattle.as2_records.specs.Standing.{Medium, Standing}
 use Rattle.as2_agreement.specs.Agreements.{AgreedValues}
-use Rattle.as2_exchange.specs.Run.{Trace, Run}
+use Rattle.as2_exchange.specs.Run.{AnEvent, AMigration, Trace, Run}
 use Rattle.as2_exchange.specs.State.{State}
 use Rattle.as2_framing.specs.HeadText.{unblank}
 use Rattle.as2_messages.specs.Requests.{IsOpen}
@@ -50,7 +50,8 @@ answers_run A moment s t text replies rest (x ∷ done) a =
 -- .. and then more of it
 all_then : (moment : ℕ) (one two : Trace) → ArePostsAt moment one → ArePostsAt moment two → ArePostsAt moment (one ++ two)
 all_then moment [] two a b = b
-all_then moment (e ∷ one) two a b = (a.0, all_then moment one two a.1 b)
+all_then moment (AnEvent e said ∷ one) two a b = (a.0, all_then moment one two a.1 b)
+all_then moment (AMigration n ∷ one) two a b = absurd a
 
 said_posts : (moment : ℕ) (r : Request) (x : Response) → ArePostsAt moment (event_said r moment x)
 said_posts moment r (response.Answered a) = (refl, tt)

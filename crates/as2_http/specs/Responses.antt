@@ -5,7 +5,7 @@ use Rattle.as2_agreement.specs.Agreements.{AgreedValues}
 use Rattle.as2_exchange.specs.Lines.{refusal}
 use Rattle.as2_exchange.specs.Posts.{Refuses, reading}
 use Rattle.as2_exchange.specs.Run.{MayFail}
-use Rattle.as2_exchange.specs.State.{State}
+use Rattle.as2_exchange.specs.State.{AllDigests, State}
 use Rattle.as2_exchange.specs.Step.{step}
 use Rattle.as2_exchange.specs.declared.answer.Line.{Line as TheLine}
 use Rattle.as2_station.specs.Heads.{asks_store, is_of_head}
@@ -42,7 +42,7 @@ answer_of NoPath = refusal line.NoSuchPath
 
 -- the head of a post doesn't decide its answer
 abbrev pub IsPastHead : AgreedValues → Request → Type 0
-IsPastHead A r = (line : TheLine) → reading A r.fields r.body ≡ Refuses line → ¬ (is_of_head line ≡ true)
+IsPastHead A r = (line : TheLine) → reading A AllDigests r.fields r.body ≡ Refuses line → ¬ (is_of_head line ≡ true)
 
 -- a post at this moment, as an event
 abbrev pub post_event : Request → ℕ → Event

@@ -2,7 +2,7 @@
 use Rattle.std.specs.Prelude.{◌≡◌, ℕ, List, [], ◌∷◌, Option, Some, None, ⊤}
 use Rattle.as2_records.specs.Standing.{Medium, Standing}
 use Rattle.as2_agreement.specs.Agreements.{AgreedValues}
-use Rattle.as2_exchange.specs.Run.{Trace, Run}
+use Rattle.as2_exchange.specs.Run.{AnEvent, AMigration, Trace, Run}
 use Rattle.as2_exchange.specs.State.{State}
 use Rattle.as2_exchange.specs.declared.event.Event.{Event}
 use Rattle.as2_exchange.specs.declared.event.Event.TheVariants as event
@@ -67,10 +67,11 @@ abbrev pub IsPostAt : ℕ → Event → Type 0
 IsPostAt moment (event.Post fields body at) = at ≡ moment
 IsPostAt moment other = ⊥
 
--- .. and so is each of the trace
+-- .. and so is all of the trace
 abbrev pub ArePostsAt : ℕ → Trace → Type 0
 ArePostsAt moment [] = ⊤
-ArePostsAt moment (e ∷ more) = IsPostAt moment e.0 × ArePostsAt moment more
+ArePostsAt moment (AnEvent e said ∷ more) = IsPostAt moment e × ArePostsAt moment more
+ArePostsAt moment (AMigration n ∷ more) = ⊥
 
 -- posts at this moment, and nothing else, led the machine from s to t, and what stands of each document is its history
 pub record RunsPosts (A : AgreedValues) (moment : ℕ) (s t : State) : Type 0 where

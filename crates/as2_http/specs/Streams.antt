@@ -4,7 +4,7 @@ use Rattle.std.specs.Io.KnownBytes.{Appends}
 use Rattle.as2_records.specs.Standing.{Medium, Standing}
 use Rattle.as2_agreement.specs.Agreements.{AgreedValues}
 use Rattle.as2_exchange.specs.Lines.{refusal}
-use Rattle.as2_exchange.specs.Run.{Answered as Said, Failed, Trace}
+use Rattle.as2_exchange.specs.Run.{Answered as Said, Failed, AnEvent, Trace}
 use Rattle.as2_exchange.specs.State.{State}
 use Rattle.as2_exchange.specs.declared.answer.Answer.TheVariants.{Http}
 use Rattle.as2_framing.specs.HeadText.{unblank}
@@ -57,8 +57,8 @@ EndsLast done = (before : List Exchange) × (x : Exchange) × (done ≡ before +
 
 -- a post with what was said to it; what is said to any other request is no event
 abbrev pub event_said : Request → ℕ → Response → Trace
-event_said r moment (response.Answered answer) = (post_event r moment, Said (Http answer)) ∷ []
-event_said r moment (response.Failed fault) = (post_event r moment, Failed fault) ∷ []
+event_said r moment (response.Answered answer) = AnEvent (post_event r moment) (Said (Http answer)) ∷ []
+event_said r moment (response.Failed fault) = AnEvent (post_event r moment) (Failed fault) ∷ []
 event_said r moment response.OnlyPost = []
 event_said r moment response.NoPath = []
 

@@ -9,9 +9,8 @@ use Rattle.sqlite.specs.State.{State as Connected, HasCleanDisk}
 use Rattle.as2_exchange.specs.State.{State}
 use Rattle.as2_store.specs.Stands.{Rests}
 use Rattle.as2_store.specs.Calls.{Keeps}
-use Rattle.as2_store.specs.Tables.{store_schema}
 use Rattle.as2_store.proofs.Committing.{keeps_of}
-use Rattle.as2_store.proofs.Single.{one_state}
+use Rattle.as2_store.proofs.Single.{one_kept}
 use Rattle.as2_records.specs.Standing.{Medium, Standing}
 use Rattle.as2_records.specs.Calls.{Lasts}
 
@@ -20,8 +19,8 @@ abbrev pub tables : Medium
 tables = record {
   Remains = Trees;
   keeps = Keeps;
-  keeps_counted = λ left s it. record { receipts = it.receipts; documents = it.documents };
-  keeps_one = λ left s t it also. one_state (record { schema = store_schema; trees = left }) s t it also;
+  keeps_counted = λ left s it. record { receipts = it.stands.receipts; documents = it.stands.documents };
+  keeps_one = one_kept;
   is_lasting = true;
 }
 
@@ -33,8 +32,9 @@ standing c = record {
   faults = c.faults;
   IsShielded = c.IsShielded;
   Rests = Rests c;
+  knows = λ s rests. rests.knows;
   may_leave = c.may_leave;
-  counted = λ opened s rests. record { receipts = (rests.stands opened).receipts; documents = (rests.stands opened).documents };
+  counted = λ opened s rests. record { receipts = (rests.stands opened).stands.receipts; documents = (rests.stands opened).stands.documents };
 }
 
 -- an open connection is clean, since one that isn't shows as shut

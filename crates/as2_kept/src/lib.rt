@@ -67,6 +67,10 @@ impl<S: Alter> Records for Kept<S> {
         self.store.next_numbers()
     }
 
+    fn origin(&mut self) -> Result<u64, StoreFault> {
+        self.store.origin()
+    }
+
     fn add_in(&mut self, entry: &InEntry) -> Result<(), StoreFault> {
         self.store.add_in(entry)
     }
@@ -89,6 +93,10 @@ impl<S: Alter> Records for Kept<S> {
 
     fn set_out(&mut self, number: u64, progress: Progress) -> Result<(), StoreFault> {
         self.store.set_out(number, progress)
+    }
+
+    fn resend(&mut self, number: u64, moment: Moment) -> Result<(), StoreFault> {
+        self.store.resend(number, moment)
     }
 
     fn settle(

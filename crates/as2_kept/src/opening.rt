@@ -3,9 +3,9 @@ ghost use Rattle.std.specs.Prelude.{◌≡◌, ◌<◌, ◌≤◌, Some, false, 
 ghost use Rattle.sqlite.specs.Held.{state};
 ghost use Rattle.sqlite.specs.State.{HasCleanDisk};
 ghost use Rattle.sqlite.specs.Steps.{over_memory};
-ghost use Rattle.as2_exchange.specs.State.{empty, end_of_numbers};
+ghost use Rattle.as2_exchange.specs.State.{end_of_numbers};
 ghost use Rattle.as2_records.specs.Standing.{may_come};
-ghost use Rattle.as2_store.specs.Calls.{Adopts, Commits, CommitsFirst, Creates, IsGivenBack, IsReason};
+ghost use Rattle.as2_store.specs.Calls.{Adopts, Commits, CommitsFirst, Creates, IsGivenBack, IsReason, empty_store};
 ghost use Rattle.as2_store.specs.Stands.{Rests};
 
 use crate::Kept;
@@ -50,7 +50,7 @@ pub fn in_memory(alloc: Global, first: u64) -> Result<Kept<MemStore>, StoreFault
     requires least { 1 ≤ first }
     requires most { first < end_of_numbers }
     ensures open { IfOk result (λ kept. IsTrue (state over_memory kept).is_open) }
-    ensures fresh { IfOk result (λ kept. Rests (state over_memory kept) (empty first)) }
+    ensures fresh { IfOk result (λ kept. Rests (state over_memory kept) (empty_store first)) }
     ensures fault { IfErr result (λ f. may_come f ≡ true) }
 {
     let Ok(conn) = Connection::open_in_memory(alloc) else {

@@ -1,6 +1,6 @@
 -- What calls that succeed say of lists.
-use Rattle.std.proofs.Common.{◌≡◌, inl, Some, Option, Ok, refl, sym, subst, arith}
-use Rattle.as2_exchange.specs.State.{State}
+use Rattle.std.proofs.Common.{◌≡◌, inl, Some, Option, Ok, refl, sym, ap, ◌∙◌, subst, arith}
+use Rattle.as2_exchange.specs.State.{State, known_digests}
 use Rattle.as2_records.specs.Standing.{IsCounted}
 use Rattle.as2_records.specs.Calls.{Reads, Survives, Writes}
 use Rattle.as2_lists.specs.Standing.{memory, standing}
@@ -23,6 +23,7 @@ reads_ok fits s a fit = record {
 pub record Takes (next : State → Option State) (s t : State) : Type 0 where
   pub is : next s ≡ Some t
   pub counted : IsCounted t
+  pub version : t.version ≡ s.version
 
 pub writes_ok : {A E : Type 0} (next : State → Option State) (s t : State) (a : A) → (IsCounted s → Takes next s t) → Writes {M = memory} {A = A} {E = E} next (standing s) (standing t) (Ok a)
 writes_ok next s t a takes = record {
@@ -34,7 +35,7 @@ writes_ok next s t a takes = record {
       record {
         state = t;
         is = subst (λ v. next v ≡ Some t) (sym rests.same) it.is;
-        rests = record { same = λ i. t; counted = it.counted };
+        rests = record { same = λ i. t; knows = ap known_digests (it.version ∙ ap (λ (v : State). v.version) (sym rests.same)) ∙ rests.knows; counted = it.counted };
       };
   failed = λ clean. tt;
   crash = stays_open s t _;

@@ -2,7 +2,7 @@
 use Rattle.std.proofs.Common.{◌≡◌, ℕ, ◌+◌, ◌<◌, ◌≤◌, Bool, true, false, List, [], ◌∷◌, ◌++◌, map, refl, sym, ap, ◌∙◌, subst, arith}
 use Rattle.std.specs.Prelude.{◌==◌, if◌then◌else◌}
 use Rattle.std.specs.List.{IsDistinct}
-use Rattle.as2_exchange.specs.State.{State, empty, end_of_numbers}
+use Rattle.as2_exchange.specs.State.{LaterVersion, State, empty, end_of_numbers}
 use Rattle.as2_exchange.specs.declared.inbox.InEntry.{InEntry}
 use Rattle.as2_exchange.specs.declared.outbox.OutEntry.{OutEntry}
 use Rattle.as2_exchange.specs.Invariants.{IsCounter, AreNumbers}
@@ -17,7 +17,7 @@ no_numbers : (next : ℕ) → AreNumbers next []
 unfolding IsDistinct
 no_numbers next = record { below = tt; distinct = tt; in_order = tt }
 
-pub empty_counted : (first : ℕ) → 1 ≤ first → first < end_of_numbers → IsCounted (empty first)
+pub empty_counted : (first : ℕ) → 1 ≤ first → first < end_of_numbers → IsCounted (empty (LaterVersion 0) first)
 empty_counted first least most = record {
   receipts = (record { least = least; most = omega (arith, most) }, no_numbers first);
   documents = (record { least = least; most = omega (arith, most) }, no_numbers first);

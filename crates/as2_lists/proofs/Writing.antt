@@ -17,6 +17,7 @@ use Rattle.as2_records.specs.Adding.{added, added_document, with_received, with_
 use Rattle.as2_records.specs.Calls.{Writes}
 use Rattle.as2_records.specs.Expiring.{ticked_in}
 use Rattle.as2_records.specs.Progressing.{come_to, set_out_in}
+use Rattle.as2_records.specs.Resending.{queued_anew, resent_in}
 use Rattle.as2_records.specs.Settling.{settled_in}
 use Rattle.as2_records.specs.Standing.{IsCounted}
 use Rattle.as2_records.specs.declared.progress.Progress.{Progress}
@@ -41,12 +42,14 @@ pub takes_received : (s : State) (e : InEntry) (items : List InEntry) → e.numb
 takes_received s e items is small new counted = subst (λ (l : List InEntry). Takes (added e) s (record s { inbox = l; next_in = s.next_in + 1 })) (sym new) (record {
   is = if_equal e.number s.next_in (with_received s e) is;
   counted = received_counted s e is small counted;
+  version = refl;
 })
 
 pub takes_document : (s : State) (d : OutEntry) (items : List OutEntry) → d.number ≡ s.next_out → s.next_out < end_of_numbers → items ≡ s.outbox ++ d ∷ [] → IsCounted s → Takes (added_document d) s (record s { outbox = items; next_out = s.next_out + 1 })
 takes_document s d items is small new counted = subst (λ (l : List OutEntry). Takes (added_document d) s (record s { outbox = l; next_out = s.next_out + 1 })) (sym new) (record {
   is = if_equal d.number s.next_out (with_document s d) is;
   counted = document_counted s d is small counted;
+  version = refl;
 })
 
 -- ---- an entry that is changed
@@ -56,6 +59,7 @@ pub takes_owed : (s : State) (n : ℕ) (f : InEntry → InEntry) (items : List I
 takes_owed s n f items kept new counted = subst (λ (l : List InEntry). Takes (λ t. Some (change_received t n f)) s (record s { inbox = l })) (sym new) (record {
   is = refl;
   counted = one_received_counted s n f kept counted;
+  version = refl;
 })
 
 pub takes_set : (s : State) (n : ℕ) (p : Progress) (items : List OutEntry) → is_some (document s n) ≡ true → items ≡ map (λ d. if d.number == n then come_to p d else d) s.outbox → IsCounted s
@@ -63,6 +67,15 @@ pub takes_set : (s : State) (n : ℕ) (p : Progress) (items : List OutEntry) →
 takes_set s n p items there new counted = subst (λ (l : List OutEntry). Takes (set_out_in n p) s (record s { outbox = l })) (sym new) (record {
   is = ap (option_map (λ (d : OutEntry). change_document s n (come_to p))) (is_some_value (document s n) there).1;
   counted = one_document_counted s n (come_to p) (λ d. refl) counted;
+  version = refl;
+})
+
+pub takes_queued : (s : State) (n m : ℕ) (items : List OutEntry) → is_some (document s n) ≡ true → items ≡ map (λ d. if d.number == n then queued_anew m d else d) s.outbox → IsCounted s
+    → Takes (resent_in n m) s (record s { outbox = items })
+takes_queued s n m items there new counted = subst (λ (l : List OutEntry). Takes (resent_in n m) s (record s { outbox = l })) (sym new) (record {
+  is = ap (option_map (λ (d : OutEntry). change_document s n (queued_anew m))) (is_some_value (document s n) there).1;
+  counted = one_document_counted s n (queued_anew m) (λ d. refl) counted;
+  version = refl;
 })
 
 -- ---- a document that is settled
@@ -77,6 +90,7 @@ pub takes_settled : (s : State) (n : ℕ) (detail : Detail) (evidence : Evidence
 takes_settled s n detail evidence items open_still by_receipt new counted = subst (λ (l : List OutEntry). Takes (settled_in n detail evidence) s (record s { outbox = l })) (sym new) (record {
   is = open_one (option_map_or is_settled (document s n) true) (is_by_receipt detail) (change_document s n (settled_as detail evidence)) open_still by_receipt;
   counted = one_document_counted s n (settled_as detail evidence) (λ d. refl) counted;
+  version = refl;
 })
 
 -- ---- time passes
@@ -90,6 +104,7 @@ unfolding tick
 takes_ticked s m items new counted = subst (λ (l : List OutEntry). Takes (ticked_in m) s (record s { outbox = l })) (sym new) (record {
   is = refl;
   counted = outbox_counted s (λ d. passed d (passes_at m d)) (λ d. passed_number d (passes_at m d)) counted;
+  version = refl;
 })
 
 pub ticked_told : (s t : State) (m count : ℕ) → s ≡ t → count ≡ count_by (λ d. is_some (passes_at m d)) s.outbox → Ticked count ≡ (tick m t).0

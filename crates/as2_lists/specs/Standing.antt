@@ -1,6 +1,6 @@
 -- Lists in memory, as records.
 use Rattle.std.specs.Prelude.{◌≡◌, true, false}
-use Rattle.as2_exchange.specs.State.{State}
+use Rattle.as2_exchange.specs.State.{AllDigests, State, known}
 use Rattle.as2_records.specs.Standing.{Medium, Standing, IsCounted}
 
 -- they lie in memory, of which a stop of the computer leaves nothing that an open could find
@@ -16,6 +16,7 @@ memory = record {
 -- lists of a state stand for it and for no other, and it is counted
 pub record StandsFor (s t : State) : Type 0 where
   pub same : t ≡ s
+  pub knows : known t ≡ AllDigests
   pub counted : IsCounted t
 
 -- lists of a state, as records. Memory gives back what was put into it, so they are always clean, and they never fail: no fault
@@ -27,6 +28,7 @@ standing s = record {
   faults = 0;
   IsShielded = Unit {0};
   Rests = StandsFor s;
+  knows = λ t rests. rests.knows;
   may_leave = λ left. ⊥;
   counted = λ opened t rests. rests.counted;
 }

@@ -134,6 +134,7 @@ pub fn copy_document(alloc: Global, document: &OutEntry) -> Result<OutEntry, Mem
         id,
         content,
         moment: document.moment,
+        begun: document.begun,
         tries: document.tries,
         attempt: document.attempt,
         due: document.due,

@@ -1,5 +1,5 @@
 ghost use Rattle.std.specs.Prelude.{◌≡◌, ◌≤◌, ◌<◌};
-ghost use Rattle.as2_exchange.specs.State.{empty, end_of_numbers};
+ghost use Rattle.as2_exchange.specs.State.{LaterVersion, empty, end_of_numbers};
 ghost use Rattle.as2_lists.specs.Standing.{StandsFor};
 
 use crate::copies::{copy_evidence, copy_found_document, copy_found_entry};
@@ -18,16 +18,17 @@ pub struct Lists {
     alloc: Global,
     inbox: Vec<InEntry>,
     outbox: Vec<OutEntry>,
+    origin: u64,
     next_in: u64,
     next_out: u64,
 }
 
 impl Model for Lists {
-    ghost use Rattle.as2_exchange.specs.State.{State};
+    ghost use Rattle.as2_exchange.specs.State.{LaterVersion, State};
 
     ghost Value = { State };
 
-    ghost view = { λ l. record { inbox = l.inbox.items; outbox = l.outbox.items; next_in = l.next_in; next_out = l.next_out } };
+    ghost view = { λ l. record { version = LaterVersion l.origin; inbox = l.inbox.items; outbox = l.outbox.items; next_in = l.next_in; next_out = l.next_out } };
 }
 
 impl Lists {
@@ -35,13 +36,14 @@ impl Lists {
     pub fn new(alloc: Global, first: u64) -> Lists
         requires least { 1 ≤ first }
         requires most { first < end_of_numbers }
-        ensures empty { result ≡ empty first }
-        ensures stands { StandsFor result (empty first) }
+        ensures empty { result ≡ empty (LaterVersion 0) first }
+        ensures stands { StandsFor result (empty (LaterVersion 0) first) }
     {
         Lists {
             alloc,
             inbox: Vec::new(alloc),
             outbox: Vec::new(alloc),
+            origin: 0,
             next_in: first,
             next_out: first,
         }
@@ -61,6 +63,10 @@ impl Records for Lists {
             receipt: self.next_in,
             document: self.next_out,
         })
+    }
+
+    fn origin(&mut self) -> Result<u64, StoreFault> {
+        Ok(self.origin)
     }
 
     fn add_in(&mut self, entry: &InEntry) -> Result<(), StoreFault> {
@@ -112,6 +118,14 @@ impl Records for Lists {
             return Err(StoreFault::Refused);
         }
         outbox::set_numbered(&mut self.outbox, number, progress);
+        Ok(())
+    }
+
+    fn resend(&mut self, number: u64, moment: Moment) -> Result<(), StoreFault> {
+        if !outbox::has_document(&self.outbox, number) {
+            return Err(StoreFault::Refused);
+        }
+        outbox::queue_numbered(&mut self.outbox, number, moment);
         Ok(())
     }
 

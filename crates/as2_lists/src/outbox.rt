@@ -11,6 +11,7 @@ ghost use Rattle.as2_exchange.specs.State.{is_settled};
 ghost use Rattle.as2_exchange.specs.Due.{is_due_document, may_begin};
 ghost use Rattle.as2_exchange.specs.Progress.{is_awaited, is_in, is_new};
 ghost use Rattle.as2_records.specs.Progressing.{come_to};
+ghost use Rattle.as2_records.specs.Resending.{queued_anew};
 ghost use Rattle.as2_records.specs.Summaries.{out_summary};
 
 use crate::copies::copy_document;
@@ -77,6 +78,7 @@ pub fn add(alloc: Global, documents: &mut Vec<OutEntry>, document: &OutEntry) ->
 fn set(document: &mut OutEntry, progress: Progress)
     ensures { document.new ≡ come_to progress document.old }
 {
+    document.begun = document.begun || progress.tries >= 1;
     document.tries = progress.tries;
     document.attempt = progress.attempt;
     document.due = progress.due;
@@ -90,6 +92,27 @@ pub fn set_numbered(documents: &mut Vec<OutEntry>, number: u64, progress: Progre
     for document in documents.iter_mut() {
         if document.number == number {
             set(document, progress);
+        }
+    }
+}
+
+/// Queues the document to be sent anew.
+fn queue(document: &mut OutEntry, moment: Moment)
+    ensures { document.new ≡ queued_anew moment document.old }
+{
+    document.tries = 0;
+    document.attempt = Attempt::Idle;
+    document.due = Some(moment.seconds());
+    document.detail = Detail::New;
+}
+
+/// Queues the document of this number, if there is one, to be sent anew.
+pub fn queue_numbered(documents: &mut Vec<OutEntry>, number: u64, moment: Moment)
+    ensures { documents.new.items ≡ map (λ d. if d.number == number then queued_anew moment d else d) documents.old.items }
+{
+    for document in documents.iter_mut() {
+        if document.number == number {
+            queue(document, moment);
         }
     }
 }

@@ -5,6 +5,7 @@ use Rattle.std.proofs.lemmas.Bool.Decides.{nat_tests}
 use Rattle.std.proofs.lemmas.Option.{same_Some}
 use Rattle.as2_mic.specs.declared.field.Compared.{Compared}
 use Rattle.as2_mic.specs.declared.field.Compared.TheVariants.{UnknownAlg, Same, Differs}
+use Rattle.as2_mic.specs.Algs.{Digests}
 use Rattle.as2_mic.specs.Field.{compared}
 use Rattle.as2_mdn.specs.Dispositions.{modifier_of, says_processed, has_modifier, has_error}
 use Rattle.as2_mdn.specs.Receipts.{ReceiptRead, Mic, Missing, Unreadable, Given}
@@ -29,19 +30,19 @@ nothing_there [] h = refl
 nothing_there (x ∷ xs) h = absurd (grind (arith, nat_tests))
 
 -- the MIC of a content is given
-given_so : (given : Mic) (content : List ℕ) → mic_compared given content ≡ Some Same → (field : List ℕ × List ℕ) × (given ≡ Given field) × (compared field content ≡ Same)
-given_so Missing content h = absurd (cc)
-given_so Unreadable content h = absurd (cc)
-given_so (Given field) content h = (field, refl, same_Some _ _ h)
+given_so : (known : Digests) (given : Mic) (content : List ℕ) → mic_compared known given content ≡ Some Same → (field : List ℕ × List ℕ) × (given ≡ Given field) × (compared known field content ≡ Same)
+given_so known Missing content h = absurd (cc)
+given_so known Unreadable content h = absurd (cc)
+given_so known (Given field) content h = (field, refl, same_Some _ _ h)
 
-pub confirmed : (receipt : ReceiptRead) (content : List ℕ) → (verdict_of receipt content ≡ Processed) ↔ Confirms receipt content
-confirmed receipt content = (there, back)
+pub confirmed : (known : Digests) (receipt : ReceiptRead) (content : List ℕ) → (verdict_of known receipt content ≡ Processed) ↔ Confirms known receipt content
+confirmed known receipt content = (there, back)
   where
-    there : verdict_of receipt content ≡ Processed → Confirms receipt content
+    there : verdict_of known receipt content ≡ Processed → Confirms known receipt content
     there h =
-        let lines = no_other_line (says_processed receipt.disposition) (has_error receipt.disposition) (has_modifier receipt.disposition) (mic_compared receipt.mic content) h in
-        let given = given_so receipt.mic content lines.2 in
+        let lines = no_other_line (says_processed receipt.disposition) (has_error receipt.disposition) (has_modifier receipt.disposition) (mic_compared known receipt.mic content) h in
+        let given = given_so known receipt.mic content lines.2 in
         record { field = given.0; processed = lines.0; unmodified = nothing_there (modifier_of receipt.disposition) lines.1; given = given.1; same = given.2 }
 
-    back : Confirms receipt content → verdict_of receipt content ≡ Processed
+    back : Confirms known receipt content → verdict_of known receipt content ≡ Processed
     back h = rw (h.processed, h.unmodified, h.given, h.same) refl

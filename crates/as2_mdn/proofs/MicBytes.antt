@@ -5,11 +5,12 @@ use Rattle.std.specs.List.{list_all}
 use Rattle.std.specs.Int.{w32, byte_at, to_le_bytes, to_be_bytes}
 use Rattle.std.proofs.lemmas.Bool.{and_from, and_parts}
 use Rattle.sha1.specs.Sha1 as sha1
+use Rattle.sha2.specs.Sha256 as sha256
 use Rattle.md5.specs.Md5 as md5
 use Rattle.base64.specs.Rfc4648.{encode_symbols, encode_group, padding_len}
 use Rattle.base64.specs.Engines.{standard}
 use Rattle.as2_mic.specs.declared.alg.Alg.{Alg}
-use Rattle.as2_mic.specs.declared.alg.Alg.TheVariants.{Md5, Sha1}
+use Rattle.as2_mic.specs.declared.alg.Alg.TheVariants.{Md5, Sha1, Sha256}
 use Rattle.as2_mic.specs.Mic.{digest, encoded, mic}
 use Rattle.as2_mdn.specs.MicBytes.{is_mic_byte, IsOfMicBytes}
 
@@ -47,10 +48,16 @@ unfolding sha1.digest_bytes
 sha1_bytes hash zero = tt
 sha1_bytes hash (suc n) = below_append 256 (sha1.digest_bytes hash n) (to_be_bytes w32 (slice_index hash n)) (sha1_bytes hash n) (high_first (slice_index hash n))
 
+sha256_bytes : (hash : List ℕ) (n : ℕ) → AreBytes (sha256.digest_bytes hash n)
+unfolding sha256.digest_bytes
+sha256_bytes hash zero = tt
+sha256_bytes hash (suc n) = below_append 256 (sha256.digest_bytes hash n) (to_be_bytes w32 (slice_index hash n)) (sha256_bytes hash n) (high_first (slice_index hash n))
+
 digest_is_bytes : (alg : Alg) (content : List ℕ) → AreBytes (digest alg content)
-unfolding md5.md5 sha1.sha1
+unfolding md5.md5 sha1.sha1 sha256.sha256
 digest_is_bytes Md5 content = md5_bytes _ 4
 digest_is_bytes Sha1 content = sha1_bytes _ 5
+digest_is_bytes Sha256 content = sha256_bytes _ 8
 
 -- ---- the base64 text of bytes
 

@@ -10,7 +10,7 @@ use Rattle.as2_media.proofs.Padding.{IsUnpadded, IsSolid, one_ends, front_ends, 
 use Rattle.as2_media.proofs.Spellings as media_found
 use Rattle.as2_media.specs.MediaTypes.{IsMediaType}
 use Rattle.as2_mic.specs.declared.alg.Alg.{Alg}
-use Rattle.as2_mic.specs.declared.alg.Alg.TheVariants.{Md5, Sha1}
+use Rattle.as2_mic.specs.declared.alg.Alg.TheVariants.{Md5, Sha1, Sha256}
 use Rattle.as2_mic.specs.Algs.{alg_name}
 use Rattle.as2_mic.specs.Field.{IsMicField}
 use Rattle.as2_mic.specs.Mic.{IsMicText}
@@ -122,14 +122,17 @@ disposition_is Processed = disposition_laws.found_by _ (Ok (disposition_of Proce
 name_ends : (digest : Alg) → IsUnpadded (codes ", " ++ alg_name digest)
 name_ends Md5 = front_ends (codes ", md") (codes "5") (one_ends 53 refl)
 name_ends Sha1 = front_ends (codes ", sha") (codes "1") (one_ends 49 refl)
+name_ends Sha256 = front_ends (codes ", sha-25") (codes "6") (one_ends 54 refl)
 
 name_trimmed : (digest : Alg) → alg_name digest ≡ trimmed (32 ∷ alg_name digest)
 name_trimmed Md5 = refl
 name_trimmed Sha1 = refl
+name_trimmed Sha256 = refl
 
 name_some : (digest : Alg) → alg_name digest ≡ [] → ⊥
 name_some Md5 e = absurd cc
 name_some Sha1 e = absurd cc
+name_some Sha256 e = absurd cc
 
 text_some : (text : List ℕ) → 0 < length text → text ≡ [] → ⊥
 text_some [] some e = absurd (omega (arith, some))

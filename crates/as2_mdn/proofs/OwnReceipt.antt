@@ -4,7 +4,7 @@ use Rattle.as2_media.specs.MediaTypes.{Media, IsMediaType}
 use Rattle.as2_media.proofs.Readings as media_types
 use Rattle.as2_mic.specs.Algs.{alg_name}
 use Rattle.as2_mic.specs.declared.alg.Alg.{Alg}
-use Rattle.as2_mic.specs.declared.alg.Alg.TheVariants.{Md5, Sha1}
+use Rattle.as2_mic.specs.declared.alg.Alg.TheVariants.{Md5, Sha1, Sha256}
 use Rattle.as2_parts.proofs.Laws.{HasNoFeed}
 use Rattle.as2_mdn.specs.Laws.{ReportsAreOfOne, ReportsAreRead, ReportsHaveTypes, IsOut, HasMicBytes, IsItsReport, receipt_of}
 use Rattle.as2_mdn.specs.MicBytes.{is_mic_byte}
@@ -38,6 +38,7 @@ outcome_no_feed Processed = refl
 name_no_feed : (digest : Alg) → HasNoFeed (alg_name digest)
 name_no_feed Md5 = refl
 name_no_feed Sha1 = refl
+name_no_feed Sha256 = refl
 
 mic_no_feed : (mic : Option ReportMic) → HasMicBytes mic → HaveNoFeed (mic_texts mic)
 mic_no_feed None h = tt

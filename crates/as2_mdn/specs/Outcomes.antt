@@ -5,7 +5,7 @@ use Rattle.as2_media.specs.declared.kind.Kind.{Kind}
 use Rattle.as2_media.specs.declared.kind.Kind.TheVariants.{Enveloped, Compressed, Signed}
 use Rattle.as2_mic.specs.declared.alg.Alg.{Alg}
 use Rattle.as2_mic.specs.declared.alg.Alg.TheVariants.{Sha1}
-use Rattle.as2_mic.specs.Algs.{first_known_of}
+use Rattle.as2_mic.specs.Algs.{Digests, first_known_of}
 use Rattle.as2_mic.specs.Mic.{mic}
 use Rattle.as2_text.specs.ReceiptRequests.{Request}
 use Rattle.as2_mdn.specs.declared.outcome.Outcome.{Outcome}
@@ -24,22 +24,22 @@ outcome_text Processed = codes "processed"
 -- ---- the outcome of a document, the first line that fits
 
 -- a digest is required, and none that is listed is known
-abbrev pub requires_unknown_digest : Request → Bool
-requires_unknown_digest request = request.digests_required && is_none (first_known_of request.digests)
+abbrev pub requires_unknown_digest : Digests → Request → Bool
+requires_unknown_digest known request = request.digests_required && is_none (first_known_of known request.digests)
 
 -- the outcome of a content that is neither enveloped nor compressed nor signed
-abbrev pub outcome_of_plain : Bool → Request → Outcome
-outcome_of_plain encoding_refused request =
+abbrev pub outcome_of_plain : Digests → Bool → Request → Outcome
+outcome_of_plain known encoding_refused request =
     if encoding_refused || request.other_required then UnsupportedFormat
-    else if requires_unknown_digest request then UnsupportedMicAlgorithms
+    else if requires_unknown_digest known request then UnsupportedMicAlgorithms
     else Processed
 
--- the outcome of a content of that kind, whose encoding is refused or not
-abbrev pub outcome_of : Kind → Bool → Request → Outcome
-outcome_of Enveloped encoding_refused request = DecryptionFailed
-outcome_of Compressed encoding_refused request = DecompressionFailed
-outcome_of Signed encoding_refused request = AuthenticationFailed
-outcome_of kind encoding_refused request = outcome_of_plain encoding_refused request
+-- the outcome of a content of that kind, whose encoding is refused or not, where these digests are known
+abbrev pub outcome_of : Digests → Kind → Bool → Request → Outcome
+outcome_of known Enveloped encoding_refused request = DecryptionFailed
+outcome_of known Compressed encoding_refused request = DecompressionFailed
+outcome_of known Signed encoding_refused request = AuthenticationFailed
+outcome_of known kind encoding_refused request = outcome_of_plain known encoding_refused request
 
 -- ---- the MIC of a document
 
@@ -53,6 +53,6 @@ abbrev pub mic_under : Alg → List ℕ → ReportMic
 mic_under digest content = record { digest = digest; text = mic digest content }
 
 -- a processed document has a MIC, under the first digest that is listed and known
-abbrev pub report_mic : Outcome → Request → List ℕ → Option ReportMic
-report_mic Processed request content = Some (mic_under (or_sha1 (first_known_of request.digests)) content)
-report_mic outcome request content = None
+abbrev pub report_mic : Digests → Outcome → Request → List ℕ → Option ReportMic
+report_mic known Processed request content = Some (mic_under (or_sha1 (first_known_of known request.digests)) content)
+report_mic known outcome request content = None

@@ -2,6 +2,7 @@
 use Rattle.std.specs.Prelude.{◌≡◌, ℕ, Bool, true, false, not, List, [], if◌then◌else◌, IsTrue, Option, Some, None}
 use Rattle.as2_mic.specs.declared.field.Compared.{Compared}
 use Rattle.as2_mic.specs.declared.field.Compared.TheVariants.{UnknownAlg, Same, Differs}
+use Rattle.as2_mic.specs.Algs.{Digests}
 use Rattle.as2_mic.specs.Field.{compared}
 use Rattle.as2_mdn.specs.Dispositions.{modifier_of, says_processed, has_modifier, has_error}
 use Rattle.as2_mdn.specs.Receipts.{ReceiptRead, Mic, Missing, Unreadable, Given}
@@ -10,10 +11,10 @@ use Rattle.as2_mdn.specs.declared.detail.Detail.TheVariants.{Processed, Warning,
 
 -- what comes of comparing a content with the MIC that is given, if one is; one that can't be read is under no known
 -- digest
-abbrev pub mic_compared : Mic → List ℕ → Option Compared
-mic_compared Missing content = None
-mic_compared Unreadable content = Some UnknownAlg
-mic_compared (Given field) content = Some (compared field content)
+abbrev pub mic_compared : Digests → Mic → List ℕ → Option Compared
+mic_compared known Missing content = None
+mic_compared known Unreadable content = Some UnknownAlg
+mic_compared known (Given field) content = Some (compared known field content)
 
 -- a MIC is given under a known digest, and isn't the content's
 abbrev pub differs : Option Compared → Bool
@@ -41,15 +42,15 @@ judged disposition found =
     else if is_unknown found then UnknownMic
     else Processed
 
--- the verdict of a receipt on a content
-abbrev pub verdict_of : ReceiptRead → List ℕ → Detail
-verdict_of receipt content = judged receipt.disposition (mic_compared receipt.mic content)
+-- the verdict of a receipt on a content, where these digests are known
+abbrev pub verdict_of : Digests → ReceiptRead → List ℕ → Detail
+verdict_of known receipt content = judged receipt.disposition (mic_compared known receipt.mic content)
 
 -- The receipt confirms the content: it says `processed`, without modifier, and gives a MIC that is the content's own under
 -- the digest that it names, whichever of the known ones.
-pub record Confirms (receipt : ReceiptRead) (content : List ℕ) : Type 0 where
+pub record Confirms (known : Digests) (receipt : ReceiptRead) (content : List ℕ) : Type 0 where
   pub field : List ℕ × List ℕ
   pub processed : IsTrue (says_processed receipt.disposition)
   pub unmodified : modifier_of receipt.disposition ≡ []
   pub given : receipt.mic ≡ Given field
-  pub same : compared field content ≡ Same
+  pub same : compared known field content ≡ Same

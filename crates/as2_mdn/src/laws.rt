@@ -2,6 +2,7 @@
 ghost use Rattle.std.specs.Prelude.{◌≡◌, ◌↔◌, ℕ, List};
 ghost use Rattle.as2_mdn.specs.Laws.{ReportsAreOfOne, ReportsAreRead, ReportsHaveTypes};
 ghost use Rattle.as2_mdn.specs.Receipts.{ReceiptRead};
+ghost use Rattle.as2_mic.specs.Algs.{Digests};
 ghost use Rattle.as2_mdn.specs.Verdicts.{Confirms, verdict_of};
 ghost use Rattle.as2_mdn.specs.declared.detail.Detail.TheVariants.{Processed};
 
@@ -15,5 +16,5 @@ pub fn own_receipt()
 /// The verdict is success exactly where the receipt confirms the content: it says `processed` without modifier, and gives
 /// the content's own MIC (RFC 8098, section 3.2.6; RFC 4130, section 7.5).
 pub fn success_confirms()
-    ensures { (receipt : ReceiptRead) (content : List ℕ) → (verdict_of receipt content ≡ Processed) ↔ Confirms receipt content }
+    ensures { (known : Digests) (receipt : ReceiptRead) (content : List ℕ) → (verdict_of known receipt content ≡ Processed) ↔ Confirms known receipt content }
 {}

@@ -1,4 +1,5 @@
 ghost use Rattle.std.specs.Prelude.{◌≡◌};
+ghost use Rattle.as2_mic.specs.Algs.{AllDigests};
 ghost use Rattle.as2_text.specs.ReceiptRequests.{request_of};
 ghost use Rattle.as2_mdn.specs.Outcomes.{outcome_of, outcome_of_plain, outcome_text, requires_unknown_digest};
 
@@ -40,14 +41,14 @@ impl Outcome {
 
 /// Whether a digest is required, and none that is listed is known.
 fn requires_unknown_digest(ask: &ReceiptAsk<'_>) -> bool
-    ensures { result ≡ requires_unknown_digest (request_of ask.now) }
+    ensures { result ≡ requires_unknown_digest AllDigests (request_of ask.now) }
 {
     ask.digests_required && Alg::first_of(ask.digests).is_none()
 }
 
 /// The outcome of a content that is neither enveloped nor compressed nor signed.
 fn outcome_of_plain(encoding_refused: bool, ask: &ReceiptAsk<'_>) -> Outcome
-    ensures { result ≡ outcome_of_plain encoding_refused (request_of ask.now) }
+    ensures { result ≡ outcome_of_plain AllDigests encoding_refused (request_of ask.now) }
 {
     if encoding_refused || ask.other_required {
         Outcome::UnsupportedFormat
@@ -61,7 +62,7 @@ fn outcome_of_plain(encoding_refused: bool, ask: &ReceiptAsk<'_>) -> Outcome
 /// The outcome of a document of that kind (RFC 4130, section 7.5): the first that fits in the order of the variants.
 /// Its encoding is refused where the content isn't given as it is.
 pub fn outcome_of(kind: Kind, encoding_refused: bool, ask: &ReceiptAsk<'_>) -> Outcome
-    ensures { result ≡ outcome_of kind encoding_refused (request_of ask.now) }
+    ensures { result ≡ outcome_of AllDigests kind encoding_refused (request_of ask.now) }
 {
     match kind {
         Kind::Enveloped => Outcome::DecryptionFailed,

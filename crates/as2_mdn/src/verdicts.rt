@@ -1,4 +1,5 @@
 ghost use Rattle.std.specs.Prelude.{◌≡◌};
+ghost use Rattle.as2_mic.specs.Algs.{AllDigests};
 ghost use Rattle.as2_mdn.specs.Verdicts.{judged, verdict_of};
 
 use crate::{Detail, Disposition, MicPart, Receipt};
@@ -28,7 +29,7 @@ fn judged(disposition: &Disposition<'_>, found: Option<Compared>) -> Detail
 /// `MicDiffers`, `Warning`, `NoMic`, `UnknownMic` and `Processed`, the first that fits (RFC 8098, section 3.2.6;
 /// RFC 4130, section 7.5).
 pub fn verdict(receipt: &Receipt<'_>, content: &[u8]) -> Detail
-    ensures { result ≡ verdict_of receipt.now content.now }
+    ensures { result ≡ verdict_of AllDigests receipt.now content.now }
 {
     let found = match &receipt.mic {
         MicPart::Missing => None,
@@ -40,7 +41,7 @@ pub fn verdict(receipt: &Receipt<'_>, content: &[u8]) -> Detail
 
 /// The same verdict on a content in pieces.
 pub fn verdict_pieces(receipt: &Receipt<'_>, content: &Pieces) -> Detail
-    ensures { result ≡ verdict_of receipt.now content.now }
+    ensures { result ≡ verdict_of AllDigests receipt.now content.now }
 {
     let found = match &receipt.mic {
         MicPart::Missing => None,

@@ -4,7 +4,7 @@ use Rattle.std.specs.Str.{bytes_eq}
 use Rattle.as2_mic.specs.declared.alg.Alg.{Alg}
 use Rattle.as2_mic.specs.declared.field.Compared.{Compared}
 use Rattle.as2_mic.specs.declared.field.Compared.TheVariants.{UnknownAlg, Same, Differs}
-use Rattle.as2_mic.specs.Algs.{alg_named}
+use Rattle.as2_mic.specs.Algs.{Digests, alg_named}
 use Rattle.as2_names.specs.Ascii.{comma}
 use Rattle.as2_names.specs.Cuts.{IsCutAt}
 use Rattle.as2_mic.specs.Mic.{mic}
@@ -37,6 +37,6 @@ abbrev pub compared_under : Option Alg → List ℕ → List ℕ → Compared
 compared_under (Some alg) text content = compared_to text (mic alg content)
 compared_under None text content = UnknownAlg
 
--- what comes of comparing a content with a field
-abbrev pub compared : List ℕ × List ℕ → List ℕ → Compared
-compared field content = compared_under (alg_named (given_digest field)) (given_mic field) content
+-- what comes of comparing a content with a field, where these digests are known
+abbrev pub compared : Digests → List ℕ × List ℕ → List ℕ → Compared
+compared known field content = compared_under (alg_named known (given_digest field)) (given_mic field) content

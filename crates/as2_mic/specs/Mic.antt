@@ -2,15 +2,17 @@
 -- alone.
 use Rattle.std.specs.Prelude.{ℕ, ◌<◌, ◌≤◌, nat_lt, nat_le, ◌&&◌, List, length, Option, Some, None, if◌then◌else◌}
 use Rattle.sha1.specs.Sha1.{sha1}
+use Rattle.sha2.specs.Sha256.{sha256}
 use Rattle.md5.specs.Md5.{md5}
 use Rattle.base64.specs.Engines.{standard}
 use Rattle.base64.specs.GeneralPurpose.{encode_of}
 use Rattle.as2_mic.specs.declared.alg.Alg.{Alg}
-use Rattle.as2_mic.specs.declared.alg.Alg.TheVariants.{Md5, Sha1}
+use Rattle.as2_mic.specs.declared.alg.Alg.TheVariants.{Md5, Sha1, Sha256}
 
 abbrev pub digest : Alg → List ℕ → List ℕ
 digest Md5 content = md5 content
 digest Sha1 content = sha1 content
+digest Sha256 content = sha256 content
 
 -- the base64 text, with padding
 abbrev pub encoded : List ℕ → List ℕ

@@ -1,5 +1,5 @@
 ghost use Rattle.std.specs.Prelude.{◌≡◌};
-ghost use Rattle.as2_mic.specs.Algs.{alg_named, alg_name, first_known_of};
+ghost use Rattle.as2_mic.specs.Algs.{AllDigests, alg_named, alg_name, first_known_of};
 
 use as2_names::{cut_at, without_blanks};
 
@@ -13,17 +13,21 @@ pub enum Alg {
     Md5,
     /// SHA-1 (FIPS 180-4).
     Sha1,
+    /// SHA-256 (FIPS 180-4).
+    Sha256,
 }
 
 impl Alg {
     /// The digest of that name, without regard to case.
     pub fn named(name: &[u8]) -> Option<Alg>
-        ensures { result ≡ alg_named name.now }
+        ensures { result ≡ alg_named AllDigests name.now }
     {
         if name.eq_ignore_ascii_case(b"sha1") || name.eq_ignore_ascii_case(b"sha-1") {
             Some(Alg::Sha1)
         } else if name.eq_ignore_ascii_case(b"md5") {
             Some(Alg::Md5)
+        } else if name.eq_ignore_ascii_case(b"sha-256") || name.eq_ignore_ascii_case(b"sha256") {
+            Some(Alg::Sha256)
         } else {
             None
         }
@@ -36,12 +40,13 @@ impl Alg {
         match self {
             Alg::Md5 => "md5",
             Alg::Sha1 => "sha1",
+            Alg::Sha256 => "sha-256",
         }
     }
 
     /// The first known name of a list with commas between its names.
     pub fn first_of(list: &[u8]) -> Option<Alg>
-        ensures { result ≡ first_known_of list.now }
+        ensures { result ≡ first_known_of AllDigests list.now }
     {
         let mut rest = list;
         while let Some((name, names)) = cut_at(rest, b',') {

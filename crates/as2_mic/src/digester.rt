@@ -7,12 +7,14 @@ use crate::mic_text::spelled;
 use crate::{Alg, MicText};
 use md5::{Digest as _, Md5};
 use sha1::Sha1;
+use sha2::{Digest as _, Sha256};
 
 /// The hasher of each digest.
 #[derive(Drop)]
 enum Hasher {
     Md5(Md5),
     Sha1(Sha1),
+    Sha256(Sha256),
 }
 
 /// Makes the MIC of a content that comes in any pieces.
@@ -29,6 +31,7 @@ impl Digester {
         let hasher = match alg {
             Alg::Md5 => Hasher::Md5(Md5::new()),
             Alg::Sha1 => Hasher::Sha1(Sha1::new()),
+            Alg::Sha256 => Hasher::Sha256(Sha256::new()),
         };
         Digester { hasher }
     }
@@ -40,6 +43,7 @@ impl Digester {
         match &mut self.hasher {
             Hasher::Md5(hasher) => hasher.update(piece),
             Hasher::Sha1(hasher) => hasher.update(piece),
+            Hasher::Sha256(hasher) => hasher.update(piece),
         }
     }
 
@@ -50,6 +54,7 @@ impl Digester {
         match self.hasher {
             Hasher::Md5(hasher) => spelled(&hasher.finalize()),
             Hasher::Sha1(hasher) => spelled(&hasher.finalize()),
+            Hasher::Sha256(hasher) => spelled(&hasher.finalize()),
         }
     }
 }

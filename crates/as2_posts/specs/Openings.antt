@@ -1,6 +1,7 @@
 -- A post whose head is in order as far as its content type.
 use Rattle.std.specs.Prelude.{Option, option_map}
 use Rattle.as2_exchange.specs.Agreement.{Text}
+use Rattle.as2_exchange.specs.Versions.{Digests}
 use Rattle.as2_exchange.specs.Readings.{Head, MediaType, Receipt, report_in}
 use Rattle.as2_exchange.specs.Posts.{ReceivedReceipt, Reading, received_receipt, report_posted, document_posted, read_further}
 use Rattle.as2_posts.specs.declared.opening.Opened.{Opened}
@@ -12,20 +13,20 @@ names_in opened = (opened.from, opened.to)
 abbrev pub opened_type : Opened → MediaType × Text
 opened_type opened = (opened.media, opened.content_type.now)
 
--- the receipt that came so
-abbrev pub receipt_by : Opened → Receipt → Text → ReceivedReceipt
-receipt_by opened receipt body = received_receipt (names_in opened) (opened_type opened) body receipt
+-- the receipt that came so, where these digests are known
+abbrev pub receipt_by : Digests → Opened → Receipt → Text → ReceivedReceipt
+receipt_by known opened receipt body = received_receipt known (names_in opened) (opened_type opened) body receipt
 
 -- a post that came so is read as a receipt, or as a document
-abbrev pub report_by : Opened → Text → Reading
-report_by opened body = report_posted (names_in opened) (opened_type opened) body
+abbrev pub report_by : Digests → Opened → Text → Reading
+report_by known opened body = report_posted known (names_in opened) (opened_type opened) body
 
-abbrev pub document_by : Opened → Head → Text → Reading
-document_by opened head body = document_posted (names_in opened) (opened_type opened) head body
+abbrev pub document_by : Digests → Opened → Head → Text → Reading
+document_by known opened head body = document_posted known (names_in opened) (opened_type opened) head body
 
-abbrev pub reading_by : Opened → Head → Text → Reading
-reading_by opened head body = read_further (names_in opened) (opened_type opened) head body
+abbrev pub reading_by : Digests → Opened → Head → Text → Reading
+reading_by known opened head body = read_further known (names_in opened) (opened_type opened) head body
 
 -- the receipt that came so, where the body can be read as one
-abbrev pub receipt_as : Opened → Text → Option ReceivedReceipt
-receipt_as opened body = option_map (λ (receipt : Receipt). receipt_by opened receipt body) (report_in opened.media body)
+abbrev pub receipt_as : Digests → Opened → Text → Option ReceivedReceipt
+receipt_as known opened body = option_map (λ (receipt : Receipt). receipt_by known opened receipt body) (report_in opened.media body)

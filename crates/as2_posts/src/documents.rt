@@ -5,6 +5,7 @@ ghost use Rattle.as2_media.specs.Kinds.{kind_of};
 ghost use Rattle.as2_text.specs.ReceiptRequests.{delivery_option, is_given_twice, request_of, text_of};
 ghost use Rattle.as2_mdn.specs.Outcomes.{report_mic};
 ghost use Rattle.as2_exchange.specs.Readings.{asked_how};
+ghost use Rattle.as2_exchange.specs.Versions.{AllDigests};
 ghost use Rattle.as2_exchange.specs.Posts.{posted};
 ghost use Rattle.as2_posts.specs.Documents.{is_asked, read_as};
 ghost use Rattle.as2_posts.specs.Openings.{document_by, names_in, opened_type};
@@ -43,7 +44,7 @@ fn how_of(alloc: Global, head: &Head, ask: &ReceiptAsk<'_>) -> Result<ReceiptDel
 /// The MIC of a content that has that outcome: under the first known digest of those that are asked for, or else under
 /// SHA-1. Only a processed document has one (RFC 4130, section 7.3.1).
 fn mic_for(outcome: Outcome, ask: &ReceiptAsk<'_>, content: &Pieces) -> Option<ReportMic>
-    ensures { result ≡ report_mic outcome (request_of ask.now) content.now }
+    ensures { result ≡ report_mic AllDigests outcome (request_of ask.now) content.now }
 {
     if outcome != Outcome::Processed {
         return None;
@@ -69,7 +70,7 @@ fn posted(
     content: Pieces,
 ) -> Result<Posted, Memory>
     requires { is_asked head.now (request_of ask.now) }
-    ensures { IfOk result (λ p. p ≡ posted (names_in opened.entry) id (opened_type opened.entry) head.now content (request_of ask.now)) }
+    ensures { IfOk result (λ p. p ≡ posted AllDigests (names_in opened.entry) id (opened_type opened.entry) head.now content (request_of ask.now)) }
 {
     let outcome = outcome_of(opened.media.kind(), encoding_refused(head), ask);
     let how = how_of(alloc, head, ask)?;
@@ -95,7 +96,7 @@ pub fn document(
     head: &Head,
     content: Pieces,
 ) -> Result<Result<Posted, Line>, Memory>
-    ensures { IfOk result (λ read. document_by opened.entry head.now content ≡ read_as read) }
+    ensures { IfOk result (λ read. document_by AllDigests opened.entry head.now content ≡ read_as read) }
 {
     let Some(id) = id_in(alloc, head)? else {
         return Ok(Err(Line::BadId));

@@ -1,6 +1,7 @@
 //! The lines that refuse a post by its head alone: names, version and content type.
 ghost use Rattle.std.specs.Prelude.{◌≡◌, IfOk, IfErr};
 ghost use Rattle.as2_exchange.specs.Agreement.{Text};
+ghost use Rattle.as2_exchange.specs.Versions.{Digests};
 ghost use Rattle.as2_exchange.specs.Posts.{Refuses, reading};
 ghost use Rattle.as2_exchange.specs.Readings.{is_report};
 ghost use Rattle.as2_posts.specs.Openings.{reading_by};
@@ -37,9 +38,10 @@ impl Opened<'_> {
 /// It takes no memory.
 #[tactic(auto, unfolding(as2_exchange::specs::Posts::reading, as2_exchange::specs::Readings::names_of, as2_exchange::specs::Readings::version_fits, as2_exchange::specs::Readings::type_of))]
 pub fn open<'a>(agreements: &Agreements, head: &'a Head) -> Result<Opened<'a>, Line>
-    ensures refused { IfErr result (λ line. (body : Text) → reading agreements.now head.now body ≡ Refuses line) }
-    ensures opened { IfOk result (λ o. (body : Text)
-        → reading agreements.now head.now body ≡ reading_by o head.now body) }
+    ensures refused { IfErr result (λ line. (known : Digests) (body : Text)
+        → reading agreements.now known head.now body ≡ Refuses line) }
+    ensures opened { IfOk result (λ o. (known : Digests) (body : Text)
+        → reading agreements.now known head.now body ≡ reading_by known o head.now body) }
 {
     let Some(from) = name_in(head, b"as2-from") else {
         return Err(Line::BadNames);

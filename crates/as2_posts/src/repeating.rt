@@ -1,6 +1,6 @@
 //! Whether a post repeats an earlier one, and whether that is still the one that came.
-ghost use Rattle.std.specs.Prelude.{◌≡◌, ◌↔◌, IsTrue};
-ghost use Rattle.as2_exchange.specs.Posts.{how_eq, mic_eq, repeats};
+ghost use Rattle.std.specs.Prelude.{◌≡◌};
+ghost use Rattle.as2_exchange.specs.Posts.{how_eq, mic_eq, same_post, same_result, repeats};
 ghost use Rattle.as2_posts.specs.Answers.{has_kept_mic};
 
 use as2_exchange::{Posted, ReceiptDelivery};
@@ -30,20 +30,31 @@ fn mic_eq(one: &Option<ReportMic>, other: &Option<ReportMic>) -> bool
     }
 }
 
-/// Whether the documents are equal: all of them is the same, their identifiers' spelling too (RFC 4130, section 5.5; `Date`
-/// isn't looked at).
-pub fn repeats(one: &Posted, other: &Posted) -> bool
-    ensures repeats { result ≡ repeats one.now other.now }
-    ensures equal { IsTrue result ↔ (one.now ≡ other.now) }
+/// Whether the same was posted, the identifier's spelling too (`Date` isn't looked at).
+fn same_post(one: &Posted, other: &Posted) -> bool
+    ensures { result ≡ same_post one.now other.now }
 {
     one.sender.bytes() == other.sender.bytes()
         && one.receiver.bytes() == other.receiver.bytes()
         && one.id.as_received() == other.id.as_received()
         && one.content_type.as_slice() == other.content_type.as_slice()
         && one.content.same_bytes(&other.content)
-        && one.outcome == other.outcome
         && how_eq(&one.how, &other.how)
-        && mic_eq(&one.mic, &other.mic)
+}
+
+/// Whether the same was made of both: the outcome, the digest and the MIC.
+fn same_result(one: &Posted, other: &Posted) -> bool
+    ensures { result ≡ same_result one.now other.now }
+{
+    one.outcome == other.outcome && mic_eq(&one.mic, &other.mic)
+}
+
+/// Whether the post repeats the entry of this number, which is that document (RFC 4130, section 5.5): the same was posted, and the
+/// same was made of it. What was made of an entry below the origin is left out.
+pub fn repeats(origin: u64, number: u64, one: &Posted, other: &Posted) -> bool
+    ensures { result ≡ repeats origin number one.now other.now }
+{
+    same_post(one, other) && (number < origin || same_result(one, other))
 }
 
 /// Whether the content that is kept still has the MIC that is kept with it; true where none is (RFC 4130, section 7.3.1).

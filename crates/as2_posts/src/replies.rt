@@ -2,6 +2,7 @@
 ghost use Rattle.std.specs.Prelude.{◌≡◌, option_and_then};
 ghost use Rattle.as2_exchange.specs.Agreement.{Text};
 ghost use Rattle.as2_exchange.specs.Receipts.{receipt_in};
+ghost use Rattle.as2_exchange.specs.Versions.{Digests};
 ghost use Rattle.as2_posts.specs.Openings.{receipt_as};
 
 use crate::fields::{name_in, type_in};
@@ -12,7 +13,8 @@ use as2_text::Head;
 /// its content type. It takes no memory.
 #[tactic(auto, unfolding(as2_exchange::specs::Readings::names_of, as2_exchange::specs::Readings::type_of))]
 pub fn open_answer<'a>(head: &'a Head) -> Option<Opened<'a>>
-    ensures { (body : Text) → receipt_in head.now body ≡ option_and_then (λ opened. receipt_as opened body) result }
+    ensures { (known : Digests) (body : Text)
+        → receipt_in known head.now body ≡ option_and_then (λ opened. receipt_as known opened body) result }
 {
     let from = name_in(head, b"as2-from")?;
     let to = name_in(head, b"as2-to")?;

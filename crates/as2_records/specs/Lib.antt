@@ -8,5 +8,6 @@ pub mod Finding
 pub mod Listing
 pub mod Owing
 pub mod Progressing
+pub mod Resending
 pub mod Requeuing
 pub mod Settling

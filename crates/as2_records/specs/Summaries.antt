@@ -1,5 +1,5 @@
 -- An entry without its content, as its row has it, and the entry that it is with one.
-use Rattle.std.specs.Prelude.{ℕ, List, length, Option}
+use Rattle.std.specs.Prelude.{Bool, ℕ, List, length, Option}
 use Rattle.as2_exchange.specs.declared.inbox.InEntry.{InEntry}
 use Rattle.as2_exchange.specs.declared.outbox.OutEntry.{OutEntry}
 use Rattle.as2_exchange.specs.declared.outbox.Evidence.{Evidence}
@@ -65,15 +65,16 @@ out_summary d = record {
   detail = d.detail;
 }
 
--- the document that a row, a content and evidence are
-abbrev pub out_entry : OutRow → List ℕ → Option Evidence → OutEntry
-out_entry r content evidence = record {
+-- the document that a row, a content and evidence are, where it was begun or not
+abbrev pub out_entry : OutRow → Bool → List ℕ → Option Evidence → OutEntry
+out_entry r begun content evidence = record {
   number = r.number;
   organization = r.organization;
   partner = r.partner;
   id = r.id;
   content = content;
   moment = r.moment;
+  begun = begun;
   tries = r.tries;
   attempt = r.attempt;
   due = r.due;

@@ -22,5 +22,5 @@ pub use summaries::{InRow, OutRow};
 /// An entry is the one that its summary and its content, and a document's evidence, are.
 pub fn entries_come_back()
     ensures inbox { (e : InEntry) → in_entry (in_summary e) e.posted.content ≡ e }
-    ensures outbox { (d : OutEntry) → out_entry (out_summary d) d.content d.evidence ≡ d }
+    ensures outbox { (d : OutEntry) → out_entry (out_summary d) d.begun d.content d.evidence ≡ d }
 {}

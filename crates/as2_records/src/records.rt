@@ -1,7 +1,7 @@
 //! What a station asks of its records.
 
 ghost use Rattle.std.specs.Prelude.{◌≡◌, ◌⊎◌, ◌≤◌, map, None, true, false, Err, IfOk, IfErr, IsTrue};
-ghost use Rattle.as2_exchange.specs.State.{State as MachineState, document, document_named, end_of_numbers, received};
+ghost use Rattle.as2_exchange.specs.State.{State as MachineState, document, document_named, end_of_numbers, origin_of, received};
 ghost use Rattle.as2_exchange.specs.Invariants.{is_by_receipt};
 ghost use Rattle.as2_exchange.specs.Due.{due_documents, due_receipts, least};
 ghost use Rattle.as2_exchange.specs.declared.fault.StoreFault.TheVariants.{Full};
@@ -15,6 +15,7 @@ ghost use Rattle.as2_records.specs.Listing.{listed, settled_numbers};
 ghost use Rattle.as2_records.specs.Owing.{set_mdn_in};
 ghost use Rattle.as2_records.specs.Progressing.{set_out_in};
 ghost use Rattle.as2_records.specs.Requeuing.{requeued_in};
+ghost use Rattle.as2_records.specs.Resending.{resent_in};
 ghost use Rattle.as2_records.specs.Settling.{settled_in};
 ghost use Rattle.as2_records.specs.Standing.{Medium, Standing, may_come};
 
@@ -38,6 +39,12 @@ pub trait Records {
     /// The numbers that the next entries get.
     fn next_numbers(&mut self) -> Result<NextNumbers, StoreFault>
         ensures numbers { Reads (λ s next. AreNext next s) (shows self.old) (shows self.new) result }
+        ensures fault { IfErr result (λ f. may_come f ≡ true) };
+
+    /// The number below which receipts were recorded by the first version of the tables, 0 where none was. Answers Memory, Disk or
+    /// Refused.
+    fn origin(&mut self) -> Result<u64, StoreFault>
+        ensures origin { Reads (λ s number. number ≡ origin_of s.version) (shows self.old) (shows self.new) result }
         ensures fault { IfErr result (λ f. may_come f ≡ true) };
 
     /// Adds an entry to the inbox under the next number of a receipt, as `next_numbers` gives it. Answers Full exactly where the
@@ -84,6 +91,12 @@ pub trait Records {
     fn set_out(&mut self, number: u64, progress: Progress) -> Result<(), StoreFault>
         requires no_receipt { is_by_receipt progress.detail ≡ false }
         ensures set { Writes (set_out_in number progress) (shows self.old) (shows self.new) result }
+        ensures fault { IfErr result (λ f. may_come f ≡ true) };
+
+    /// Queues the document of this number to be sent anew from this moment on, with all tries left. Answers Refused where no document
+    /// has the number; Memory, Disk or Refused; and then the state stays.
+    fn resend(&mut self, number: u64, moment: Moment) -> Result<(), StoreFault>
+        ensures resent { Writes (resent_in number moment) (shows self.old) (shows self.new) result }
         ensures fault { IfErr result (λ f. may_come f ≡ true) };
 
     /// Settles the document of this number by a receipt: it gets this detail and this evidence, no try of it is open, and

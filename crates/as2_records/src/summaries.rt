@@ -96,9 +96,9 @@ pub struct OutRow {
 }
 
 impl OutRow {
-    /// The entry, with its content and its evidence.
-    pub fn with_content(self, content: Pieces, evidence: Option<Evidence>) -> OutEntry
-        ensures { result ≡ out_entry self content evidence }
+    /// The entry, with its content and its evidence, where it was begun or not.
+    pub fn with_content(self, begun: bool, content: Pieces, evidence: Option<Evidence>) -> OutEntry
+        ensures { result ≡ out_entry self begun content evidence }
     {
         OutEntry {
             number: self.number,
@@ -107,6 +107,7 @@ impl OutRow {
             id: self.id,
             content,
             moment: self.moment,
+            begun,
             tries: self.tries,
             attempt: self.attempt,
             due: self.due,

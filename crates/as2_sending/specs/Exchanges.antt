@@ -1,6 +1,6 @@
 -- What goes over links: a job, and what is answered to it.
 use Rattle.std.specs.Prelude.{◌≡◌, List, [], ◌∷◌, ◌++◌}
-use Rattle.as2_exchange.specs.Run.{Trace, Said, Answered}
+use Rattle.as2_exchange.specs.Run.{Trace, Happening, AnEvent, Said, Answered}
 use Rattle.as2_exchange.specs.declared.answer.Answer.TheVariants.{Job as Handed}
 use Rattle.as2_exchange.specs.declared.answer.Job.{Job}
 use Rattle.as2_exchange.specs.declared.event.Event.{Event}
@@ -18,11 +18,16 @@ exchange_of (Answered (Handed job)) (Outcome n got m) = record { job = job; got 
 exchange_of (Answered (Handed job)) (OutcomeMdn n got m) = record { job = job; got = got } ∷ []
 exchange_of said e = []
 
+-- the same of two that stand so in a trace
+abbrev pub exchange_between : Happening → Happening → List Exchange
+exchange_between (AnEvent begun said) (AnEvent ended told) = exchange_of said ended
+exchange_between one other = []
+
 -- those of events that are a begin and its outcome in turn
 abbrev pub exchanges : Trace → List Exchange
 exchanges [] = []
 exchanges (begun ∷ []) = []
-exchanges (begun ∷ ended ∷ more) = exchange_of begun.1 ended.0 ++ exchanges more
+exchanges (begun ∷ ended ∷ more) = exchange_between begun ended ++ exchanges more
 
 -- links answered so, one exchange after the other, and were touched otherwise by nothing; they are as those then
 module _ {Links : Type 0} (answers : Links → Job → TryAnswer → Links → Type 0) where

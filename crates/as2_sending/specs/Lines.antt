@@ -6,7 +6,7 @@ use Rattle.as2_exchange.specs.declared.event.Event.{Event}
 use Rattle.as2_exchange.specs.declared.event.Event.TheVariants.{Outcome, OutcomeMdn}
 use Rattle.as2_exchange.specs.declared.answer.Answer.{Answer}
 use Rattle.as2_exchange.specs.declared.answer.Answer.TheVariants.{Settled, Delivered, TryFailed, AlreadySettled}
-use Rattle.as2_exchange.specs.Run.{Trace, Answered, Failed}
+use Rattle.as2_exchange.specs.Run.{Trace, AnEvent, AMigration, Answered, Failed}
 use Rattle.as2_views.specs.Layout.{state_text}
 use Rattle.as2_exchange.specs.declared.next.Next.{Next}
 use Rattle.as2_exchange.specs.declared.next.Next.TheVariants.{Receipt, Document}
@@ -47,8 +47,9 @@ line_of (Outcome n got m) a = line_if (Document n) (became_by a)
 line_of (OutcomeMdn n got m) a = line_if (Receipt n) (became_by a)
 line_of other a = []
 
--- the lines of a trace, in order; a fault has none
+-- the lines of a trace, in order; a fault has none, nor has a migration
 abbrev pub lines : Trace → Text
 lines [] = []
-lines ((e, Answered a) ∷ more) = line_of e a ++ lines more
-lines ((e, Failed fault) ∷ more) = lines more
+lines (AnEvent e (Answered a) ∷ more) = line_of e a ++ lines more
+lines (AnEvent e (Failed fault) ∷ more) = lines more
+lines (AMigration n ∷ more) = lines more

@@ -4,7 +4,7 @@ use Rattle.std.specs.Io.KnownBytes.{Appends}
 use Rattle.std.specs.List.{flat_map}
 use Rattle.as2_records.specs.Standing.{Medium, Standing}
 use Rattle.as2_exchange.specs.Agreement.{Agreements, Text}
-use Rattle.as2_exchange.specs.Run.{Trace, Answered, Failed, Run}
+use Rattle.as2_exchange.specs.Run.{Trace, AnEvent, Answered, Failed, Run}
 use Rattle.as2_exchange.specs.State.{State}
 use Rattle.as2_exchange.specs.Step.{step}
 use Rattle.as2_exchange.specs.Due.{next}
@@ -73,23 +73,23 @@ TakesAll A m s (x ∷ more) t = (mid : State) × Takes A m s x mid × TakesAll A
 -- the events of turns, with their answers
 abbrev pub events : ℕ → List Turn → Trace
 events m [] = []
-events m (x ∷ more) = (begin_of x.what m, Answered (Handed x.job)) ∷ (outcome_of x.what x.got m, Answered (answer_of x.became)) ∷ events m more
+events m (x ∷ more) = AnEvent (begin_of x.what m) (Answered (Handed x.job)) ∷ AnEvent (outcome_of x.what x.got m) (Answered (answer_of x.became)) ∷ events m more
 
 -- ---- the end
 
 -- in the state s these last events came, of which the last one was refused for this reason; t is left
 pub data IsRefused (A : Agreements) (m : ℕ) (s : State) (last : Trace) (t : State) (reason : Refusal) : Type 0 where
   at_begin_refused : (what : Next) (is_next : next s m ≡ Some what) (refused : step A s (begin_of what m) ≡ Some (Refused reason, t))
-      (are : last ≡ (begin_of what m, Answered (Refused reason)) ∷ []) → IsRefused A m s last t reason
+      (are : last ≡ AnEvent (begin_of what m) (Answered (Refused reason)) ∷ []) → IsRefused A m s last t reason
   at_outcome_refused : (what : Next) (job : Job) (got : TryAnswer) (mid : State) (begins : Begins A m s what job mid) (refused : step A mid (outcome_of what got m) ≡ Some (Refused reason, t))
-      (are : last ≡ (begin_of what m, Answered (Handed job)) ∷ (outcome_of what got m, Answered (Refused reason)) ∷ []) → IsRefused A m s last t reason
+      (are : last ≡ AnEvent (begin_of what m) (Answered (Handed job)) ∷ AnEvent (outcome_of what got m) (Answered (Refused reason)) ∷ []) → IsRefused A m s last t reason
 
 -- .. of which the last one got this fault of the store; or what is next couldn't be told, and no more events came
 pub data HasFailed (A : Agreements) (m : ℕ) (s : State) (last : Trace) (t : State) (why : StoreFault) : Type 0 where
   at_next_failed : (same : t ≡ s) (none : last ≡ []) → HasFailed A m s last t why
-  at_begin_failed : (what : Next) (is_next : next s m ≡ Some what) (same : t ≡ s) (are : last ≡ (begin_of what m, Failed why) ∷ []) → HasFailed A m s last t why
+  at_begin_failed : (what : Next) (is_next : next s m ≡ Some what) (same : t ≡ s) (are : last ≡ AnEvent (begin_of what m) (Failed why) ∷ []) → HasFailed A m s last t why
   at_outcome_failed : (what : Next) (job : Job) (got : TryAnswer) (begins : Begins A m s what job t)
-      (are : last ≡ (begin_of what m, Answered (Handed job)) ∷ (outcome_of what got m, Failed why) ∷ []) → HasFailed A m s last t why
+      (are : last ≡ AnEvent (begin_of what m) (Answered (Handed job)) ∷ AnEvent (outcome_of what got m) (Failed why) ∷ []) → HasFailed A m s last t why
 
 -- a whole turn, of whose line a part may be missing
 pub record IsUntold (A : Agreements) (m : ℕ) (s : State) (last : Trace) (t : State) (text : Text) : Type 0 where

@@ -1,6 +1,7 @@
 -- What a try makes of a document that is found, or why it doesn't begin.
-use Rattle.std.proofs.Common.{◌≡◌, ◌∙◌, ℕ, ◌||◌, Bool, true, false, option_map, Some, None, Ok, Err, nat_le, refl, sym, ap}
+use Rattle.std.proofs.Common.{◌≡◌, ◌∙◌, ℕ, ◌+◌, ◌||◌, Bool, true, false, option_map, Some, None, Ok, Err, nat_le, refl, sym, ap, arith}
 use Rattle.std.specs.Prelude.{if◌then◌else◌}
+use Rattle.std.proofs.lemmas.Bool.Decides.{nat_tests}
 use Rattle.as2_exchange.specs.Agreement.{Agreements, Partner}
 use Rattle.as2_exchange.specs.Documents.{begun, waits}
 use Rattle.as2_exchange.specs.Readings.{document_job}
@@ -35,6 +36,11 @@ begins_by false false false d rest is = refl
 
 -- ---- a try
 
+-- once it is tried, it is begun
+tried_begins : (was : Bool) (n : ℕ) → (was || nat_le 1 (n + 1)) ≡ true
+tried_begins true n = refl
+tried_begins false n = grind (arith, nat_tests)
+
 module _ (A : Agreements) (m : ℕ) (d : OutEntry) where
   pub not_agreed : (reason : Refusal) → agreed_partner A d.organization d.partner ≡ Err reason → begun A m d ≡ (Refused reason, d)
   unfolding begun
@@ -46,7 +52,9 @@ module _ (A : Agreements) (m : ℕ) (d : OutEntry) where
 
   pub a_try : (p : Partner) → agreed_partner A d.organization d.partner ≡ Ok p → try_refusal p d m ≡ None → begun A m d ≡ (AJob (document_job A p d.organization d.id d.content), come_to (tried p d m) d)
   unfolding begun
-  a_try p known is = acts_agreed A d.organization d.partner d _ p known ∙ begins_by (is_settled d) (nat_le p.max_tries d.tries) (waits d.detail || is_early m d.due) d _ is
+  a_try p known is =
+      acts_agreed A d.organization d.partner d _ p known ∙ begins_by (is_settled d) (nat_le p.max_tries d.tries) (waits d.detail || is_early m d.due) d _ is
+      ∙ ap (λ (b : Bool). (AJob (document_job A p d.organization d.id d.content), record d { begun = b; tries = d.tries + 1; attempt = (tried p d m).attempt; due = (tried p d m).due; detail = (tried p d m).detail })) (sym (tried_begins d.begun d.tries))
 
 -- there are tries left
 pub tries_left : (p : Partner) (d : OutEntry) (m : ℕ) → try_refusal p d m ≡ None → nat_le p.max_tries d.tries ≡ false

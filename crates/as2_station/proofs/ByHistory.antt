@@ -10,8 +10,8 @@ use Rattle.as2_exchange.specs.Invariants.{IsCounter, IsWellFormed}
 use Rattle.as2_exchange.specs.Events.{Done}
 use Rattle.as2_exchange.specs.History.{Fact, Found, Submission, concerns, first_of, first_receipt, submitted, submission, told, told_by}
 use Rattle.as2_exchange.specs.Posts.{ReceivedReceipt}
-use Rattle.as2_exchange.specs.Run.{Answered, Failed, Trace, Run, accepted}
-use Rattle.as2_exchange.specs.State.{State, document, empty}
+use Rattle.as2_exchange.specs.Run.{Answered, Failed, AnEvent, AMigration, Trace, Run, migrated, accepted}
+use Rattle.as2_exchange.specs.State.{AllDigests, State, Version, document, empty}
 use Rattle.as2_exchange.specs.declared.outbox.OutEntry.{OutEntry}
 use Rattle.as2_exchange.specs.Step.{step}
 use Rattle.as2_exchange.specs.declared.answer.Answer.{Answer}
@@ -21,9 +21,11 @@ use Rattle.as2_exchange.proofs.Granting.{document_granted, receipt_granted}
 use Rattle.as2_exchange.proofs.Numbers.{numbers_law}
 use Rattle.as2_exchange.proofs.OwedRuns.{receipts_law}
 use Rattle.as2_exchange.proofs.Refusing.{refused_leaves}
-use Rattle.as2_exchange.proofs.Repeats.{repeat_law}
+use Rattle.as2_exchange.proofs.Resending.{failed_resent}
+use Rattle.as2_exchange.proofs.Again.{repeat_law}
 use Rattle.as2_exchange.proofs.Runs.{as_submitted, law, same_facts, waiting_law}
 use Rattle.as2_exchange.proofs.States.{formed}
+use Rattle.as2_exchange.proofs.Steady.{run_version}
 use Rattle.as2_exchange.proofs.Success.{settled_stays_law, state_of_success, success_confirmed}
 use Rattle.as2_exchange.proofs.Ticking.{ticked_counts}
 use Rattle.as2_records.specs.Calls.{Lasts}
@@ -38,8 +40,9 @@ use Rattle.as2_station.specs.Theorem.{EndsByHistory, StandsAs, StandsByHistory, 
 
 pub run_then : (A : Agreements) (s mid t : State) (one two : Trace) → Run A s one mid → Run A mid two t → Run A s (one ++ two) t
 run_then A s mid t [] two a b = subst (λ (x : State). Run A x two t) a b
-run_then A s mid t ((e, Answered answer) ∷ one) two a b = (a.0, a.1, run_then A a.0 mid t one two a.2 b)
-run_then A s mid t ((e, Failed fault) ∷ one) two a b = (a.0, run_then A s mid t one two a.1 b)
+run_then A s mid t (AnEvent e (Answered answer) ∷ one) two a b = (a.0, a.1, run_then A a.0 mid t one two a.2 b)
+run_then A s mid t (AnEvent e (Failed fault) ∷ one) two a b = (a.0, run_then A s mid t one two a.1 b)
+run_then A s mid t (AMigration n ∷ one) two a b = (a.0, a.1, run_then A (migrated s) mid t one two a.2 b)
 
 -- ---- success
 
@@ -48,16 +51,16 @@ found_by_both : {X : Type 0} (o : Option (Found Submission Done)) (f : Found Sub
 found_by_both None f x is none = absurd cc
 found_by_both (Some g) f x is none = absurd cc
 
-success_by : (A : Agreements) (first : ℕ) (trace : Trace) (s : State) → Run A (empty first) trace s → (k : ℕ) (o : Option OutEntry) (c : Option (Submission × List Fact)) → document s k ≡ o → concerns A (accepted trace) k ≡ c
-    → IsSomeAnd o (λ d. state_of d.detail ≡ S) ↔ IsSomeAnd c (λ it. IsSomeAnd (first_receipt A k it.0 it.1) (λ (r : ℕ × ReceivedReceipt). Confirms r.1.receipt it.0.content))
+success_by : (A : Agreements) (v : Version) (first : ℕ) (trace : Trace) (s : State) → Run A (empty v first) trace s → (k : ℕ) (o : Option OutEntry) (c : Option (Submission × List Fact)) → document s k ≡ o → concerns A (accepted v trace) k ≡ c
+    → IsSomeAnd o (λ d. state_of d.detail ≡ S) ↔ IsSomeAnd c (λ it. IsSomeAnd (first_receipt A k it.0 it.1) (λ (r : ℕ × ReceivedReceipt). Confirms r.1.known r.1.receipt it.0.content))
 unfolding concerns
-success_by A first trace s run k None None is known = (λ h. absurd h, λ h. absurd h)
-success_by A first trace s run k (Some d) None is known = absurd (let none : Some (told d) ≡ None = sym (ap (option_map told) is) ∙ law A first trace s run k ∙ ap (λ (c : Option (Submission × List Fact)). option_and_then (λ (x : Submission × List Fact). option_map (told_by A k x.0 x.1) (partner_of A x.0.partner)) c) known in cc)
-success_by A first trace s run k None (Some it) is known =
-    absurd (found_by_both (first_of (submission k) (accepted trace)) _ it known (sym (as_submitted A first trace s run k) ∙ ap (option_map submitted) is))
-success_by A first trace s run k (Some d) (Some it) is known =
+success_by A v first trace s run k None None is known = (λ h. absurd h, λ h. absurd h)
+success_by A v first trace s run k (Some d) None is known = absurd (let none : Some (told d) ≡ None = sym (ap (option_map told) is) ∙ law A v first trace s run k ∙ ap (λ (c : Option (Submission × List Fact)). option_and_then (λ (x : Submission × List Fact). option_map (told_by A k x.0 x.1) (partner_of A x.0.partner)) c) known in cc)
+success_by A v first trace s run k None (Some it) is known =
+    absurd (found_by_both (first_of (submission k) (accepted v trace)) _ it known (sym (as_submitted A v first trace s run k) ∙ ap (option_map submitted) is))
+success_by A v first trace s run k (Some d) (Some it) is known =
     let state = state_of_success d.detail in
-    let by = success_confirmed A first trace s run k d is it.0 it.1 known in
+    let by = success_confirmed A v first trace s run k d is it.0 it.1 known in
     (λ h. by.0 (state.0 h), λ h. state.1 (by.1 h))
 
 -- ---- all of it
@@ -70,27 +73,29 @@ steps_on A s formed = record {
   repeats = λ old recorded head body m n first between stepped grew run. repeat_law A old recorded s head body m n first between stepped grew run;
   sends = λ n m job t. document_granted A s t n m job;
   sends_receipts = λ n m job t. receipt_granted A s t n m job;
+  resends = λ n m t. failed_resent A s t n m;
   refuses = λ e a t. refused_leaves A s t e a (record { received = formed.received.numbers.distinct; sent = formed.sent.numbers.distinct });
   counts = λ m a t. ticked_counts A s t m a;
   answers = numbers_law A s;
 }
 
-pub stands_by_history : (A : Agreements) (first : ℕ) (trace : Trace) (s : State) → IsCounter first → Run A (empty first) trace s → StandsByHistory A trace s
-stands_by_history A first trace s counter run = record {
-  documents = as_submitted A first trace s run;
-  stands = law A first trace s run;
-  success = λ k. success_by A first trace s run k (document s k) (concerns A (accepted trace) k) refl refl;
+pub stands_by_history : (A : Agreements) (v : Version) (first : ℕ) (trace : Trace) (s : State) → IsCounter first → Run A (empty v first) trace s → StandsByHistory A v trace s
+stands_by_history A v first trace s counter run = record {
+  version = run_version A (empty v first) trace s run;
+  documents = as_submitted A v first trace s run;
+  stands = law A v first trace s run;
+  success = λ k. success_by A v first trace s run k (document s k) (concerns A (accepted v trace) k) refl refl;
   names = bears_exactly;
-  settled = λ k d is settled more t on. stays d t k (settled_stays_law A first trace more s t run on k d is settled);
-  alone = λ k other two t on same. same_facts A first other trace two s t k run on same;
-  waits = waiting_law A first trace s run;
-  owed = receipts_law A first trace s counter run;
-  formed = formed A first trace s counter run;
-  further = steps_on A s (formed A first trace s counter run);
+  settled = λ k d is settled more t on. stays d t k (settled_stays_law A v first trace more s t run on k d is settled);
+  alone = λ k other w two t on same. same_facts A v w first other trace two s t k run on same;
+  waits = waiting_law A v first trace s run;
+  owed = receipts_law A v first trace s counter run;
+  formed = formed A v first trace s counter run;
+  further = steps_on A s (formed A v first trace s counter run);
 }
 
 pub ends_by_history : (A : Agreements) (s : State) (trace : Trace) (t : State) → Run A s trace t → EndsByHistory A s trace t
-ends_by_history A s trace t run first before counter came = stands_by_history A first (before ++ trace) t counter (run_then A (empty first) s t before trace came run)
+ends_by_history A s trace t run v first before counter came = stands_by_history A v first (before ++ trace) t counter (run_then A (empty v first) s t before trace came run)
 
 -- ---- an event
 
@@ -98,12 +103,12 @@ pub takes_by_history : {M : Medium} {X : Type 0} (A : Agreements) (event : Event
     → TakesByHistory A event told old new r
 takes_by_history A event asks told old new (Ok a) does clean s rests =
     let left = does.answered clean s rests tt in
-    (left.next, left.rests, ends_by_history A s ((event, Answered (told a)) ∷ []) left.next (left.next, left.step, refl))
+    (left.next, left.rests, ends_by_history A s (AnEvent event (Answered (told a)) ∷ []) left.next (left.next, left.step, refl))
 takes_by_history A event asks told old new (Err f) does clean s rests =
     let left = does.failed clean s rests tt in
-    (s, left.0, ends_by_history A s ((event, Failed f) ∷ []) s (left.1, refl))
+    (s, left.0, ends_by_history A s (AnEvent event (Failed f) ∷ []) s (left.1, refl))
 
 pub takes_event : {M : Medium} {X : Type 0} (A : Agreements) (event : Event) (told : X → Answer) (old new : Standing M) (r : Result X StoreFault) → Does (λ s. step A s event) always (asks_store A event ≡ true) told old new r
-    → (IsTrue new.is_open → (s : State) → new.Rests s → Lasts new s) → ((head : Head) (body : List ℕ) (moment : ℕ) → event ≡ Post head body moment → ClashesWhole told (reading A head body) old new r) → TakesEvent A event told old new r
+    → (IsTrue new.is_open → (s : State) → new.Rests s → Lasts new s) → ((head : Head) (body : List ℕ) (moment : ℕ) → event ≡ Post head body moment → ClashesWhole told (reading A AllDigests head body) old new r) → TakesEvent A event told old new r
 takes_event A event told old new r does lasts whole =
     record { does = does; by_history = takes_by_history A event (asks_store A event ≡ true) told old new r does; lasts = lasts; whole = whole }

@@ -1,5 +1,5 @@
 -- What the end of a try makes of a document that is found.
-use Rattle.std.proofs.Common.{◌≡◌, ◌∙◌, ℕ, ◌+◌, ◌||◌, not, Bool, true, false, Option, option_map, option_and_then, Some, None, Ok, Err, refl, sym, ap, subst}
+use Rattle.std.proofs.Common.{◌≡◌, ◌∙◌, ℕ, ◌+◌, ◌||◌, not, Bool, true, false, Option, option_map, option_and_then, Some, None, Ok, Err, nat_le, refl, sym, ap, subst}
 use Rattle.std.specs.Prelude.{if◌then◌else◌, ⊤}
 use Rattle.std.specs.Option.{option_map_or}
 use Rattle.as2_exchange.specs.Agreement.{Agreements, Partner, Asked, NoReceipt, Sync, Async}
@@ -7,7 +7,7 @@ use Rattle.as2_exchange.specs.Documents.{closed, closed_by, delivered, failed_tr
 use Rattle.as2_exchange.specs.Invariants.{is_by_receipt}
 use Rattle.as2_exchange.specs.Posts.{ReceivedReceipt}
 use Rattle.as2_exchange.specs.Receipts.{is_delivery, receipt_in_answer}
-use Rattle.as2_exchange.specs.State.{State, document, change_document, is_settled}
+use Rattle.as2_exchange.specs.State.{Digests, State, document, change_document, is_settled}
 use Rattle.as2_exchange.specs.Step.{acted, on_document}
 use Rattle.as2_exchange.specs.Tries.{is_idle, is_last}
 use Rattle.as2_exchange.specs.declared.answer.Answer.{Answer}
@@ -21,13 +21,14 @@ use Rattle.as2_exchange.specs.declared.outbox.OutEntry.{OutEntry}
 use Rattle.as2_mdn.specs.declared.detail.Detail.{Detail}
 use Rattle.as2_mdn.specs.declared.detail.Detail.TheVariants.{Retry, TriesUsed}
 use Rattle.as2_records.specs.Progressing.{come_to, set_out_in}
+use Rattle.as2_records.specs.Standing.{IsCounted}
 use Rattle.as2_records.specs.Settling.{settled_in}
 use Rattle.as2_records.specs.declared.progress.Progress.{Progress}
-use Rattle.as2_station.specs.Closing.{LeavesUnsettled, after_failure, ended, settled_by, without_receipt}
+use Rattle.as2_station.specs.Closing.{LeavesUnsettled, after_failure, ended, further, settled_by, without_receipt}
 use Rattle.as2_station.specs.Trying.{agreed_partner}
 use Rattle.as2_station.specs.declared.closing.End.{End}
 use Rattle.as2_station.specs.declared.closing.End.TheVariants as ending
-use Rattle.as2_station.proofs.Acting.{acts_agreed, refused_agreed}
+use Rattle.as2_station.proofs.Acting.{acts_agreed, changes, refused_agreed}
 
 -- ---- how it ends
 
@@ -42,7 +43,7 @@ module _ (p : Partner) (m : ℕ) (d : OutEntry) where
   fails = by (is_last d.attempt)
     where
       by : (last : Bool)
-          → ◌≡◌ {A = Answer × OutEntry} (TryFailed, come_to (if last then record { tries = d.tries; attempt = Idle; due = None; detail = TriesUsed } else record { tries = d.tries; attempt = Idle; due = Some (m + p.retry_seconds); detail = Retry }) d)
+          → ◌≡◌ {A = Answer × OutEntry} (TryFailed, further (if last then record { tries = d.tries; attempt = Idle; due = None; detail = TriesUsed } else record { tries = d.tries; attempt = Idle; due = Some (m + p.retry_seconds); detail = Retry }) d)
           (if last then (TryFailed, record d { attempt = Idle; due = None; detail = TriesUsed }) else (TryFailed, record d { attempt = Idle; due = Some (m + p.retry_seconds); detail = Retry }))
       by true = refl
       by false = refl
@@ -98,20 +99,20 @@ module _ (p : Partner) (m : ℕ) (d : OutEntry) where
 
 -- ---- the outcome
 
-module _ (A : Agreements) (got : TryAnswer) (m : ℕ) (d : OutEntry) where
-  pub not_agreed : (reason : Refusal) → agreed_partner A d.organization d.partner ≡ Err reason → closed A got m d ≡ (Refused reason, d)
+module _ (A : Agreements) (digests : Digests) (got : TryAnswer) (m : ℕ) (d : OutEntry) where
+  pub not_agreed : (reason : Refusal) → agreed_partner A d.organization d.partner ≡ Err reason → closed A digests got m d ≡ (Refused reason, d)
   unfolding closed
   not_agreed reason is = refused_agreed A d.organization d.partner d _ reason is
 
-  pub settled_before : (p : Partner) → agreed_partner A d.organization d.partner ≡ Ok p → is_settled d ≡ true → closed A got m d ≡ (AlreadySettled, d)
+  pub settled_before : (p : Partner) → agreed_partner A d.organization d.partner ≡ Ok p → is_settled d ≡ true → closed A digests got m d ≡ (AlreadySettled, d)
   unfolding closed
   settled_before p known settled = acts_agreed A d.organization d.partner d _ p known ∙ rw settled refl
 
-  pub no_open_try : (p : Partner) → agreed_partner A d.organization d.partner ≡ Ok p → is_settled d ≡ false → is_idle d.attempt ≡ true → closed A got m d ≡ (Refused NoOpenTry, d)
+  pub no_open_try : (p : Partner) → agreed_partner A d.organization d.partner ≡ Ok p → is_settled d ≡ false → is_idle d.attempt ≡ true → closed A digests got m d ≡ (Refused NoOpenTry, d)
   unfolding closed
   no_open_try p known unsettled idle = acts_agreed A d.organization d.partner d _ p known ∙ rw (unsettled, idle) refl
 
-  pub closes : (p : Partner) → agreed_partner A d.organization d.partner ≡ Ok p → is_settled d ≡ false → is_idle d.attempt ≡ false → closed A got m d ≡ closed_by p got m d (option_and_then (if_for d) (receipt_in_answer got))
+  pub closes : (p : Partner) → agreed_partner A d.organization d.partner ≡ Ok p → is_settled d ≡ false → is_idle d.attempt ≡ false → closed A digests got m d ≡ closed_by p got m d (option_and_then (if_for d) (receipt_in_answer digests got))
   unfolding closed
   closes p known unsettled under_way = acts_agreed A d.organization d.partner d _ p known ∙ rw (unsettled, under_way) refl
 
@@ -130,9 +131,13 @@ module _ (s t : State) (d : OutEntry) (found : document s d.number ≡ Some d) w
       by true is = absurd cc
       by false is = cc
 
+  -- once it is begun, it is so wherever it comes to
+  still_begun : (p : Progress) → d.begun ≡ true → further p d ≡ come_to p d
+  still_begun p begun = ap (λ (b : Bool). record d { begun = b; tries = p.tries; attempt = p.attempt; due = p.due; detail = p.detail }) (begun ∙ sym (ap (λ (b : Bool). b || nat_le 1 p.tries) begun))
+
   -- it comes so far
-  pub ends_at : (act : OutEntry → Answer × OutEntry) (a : Answer) (progress : Progress) → ((e : OutEntry) → act e ≡ (a, come_to progress e)) → set_out_in d.number progress s ≡ Some t → Some (on_document s d.number act) ≡ Some (a, t)
-  ends_at act a progress acts is =
+  pub ends_at : IsCounted s → d.begun ≡ true → (act : OutEntry → Answer × OutEntry) (a : Answer) (progress : Progress) → act d ≡ (a, further progress d) → set_out_in d.number progress s ≡ Some t → Some (on_document s d.number act) ≡ Some (a, t)
+  ends_at stands begun act a progress acts is =
       let left : Some (change_document s d.number (come_to progress)) ≡ Some t = ap (option_map (λ _. change_document s d.number (come_to progress))) (sym found) ∙ is in
       let there : change_document s d.number (come_to progress) ≡ t = cc in
-      ap Some (acts_on act a (come_to progress) acts there)
+      ap Some (changes s d stands found act a (come_to progress) (acts ∙ ap (λ (e : OutEntry). (a, e)) (still_begun progress begun)) ∙ ap (λ (x : State). (a, x)) there)

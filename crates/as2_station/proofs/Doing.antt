@@ -5,7 +5,7 @@ use Rattle.as2_records.specs.Standing.{Medium, Standing}
 use Rattle.as2_records.specs.Calls.{Survives}
 use Rattle.as2_records.proofs.Following.{survives_then, survives_weaker}
 use Rattle.as2_exchange.specs.Invariants.{IsCounter}
-use Rattle.as2_exchange.specs.State.{State}
+use Rattle.as2_exchange.specs.State.{AllDigests, Digests, State, known_digests}
 use Rattle.as2_exchange.specs.declared.answer.Answer.{Answer}
 use Rattle.as2_exchange.specs.declared.fault.StoreFault.{StoreFault}
 use Rattle.as2_exchange.specs.declared.fault.StoreFault.TheVariants.{Full}
@@ -32,6 +32,21 @@ as_machine {M = M} machine other given known asks told old new r opened same it 
   crash = survives_weaker old new (MayLeave other known old) (MayLeave machine given old) (λ clean left may. record {
     was_open = may.was_open;
     stands = λ s rests is. let to = same s (old.counted may.was_open s rests) is in subst (λ came. M.keeps left s ⊎ KeepsNext M left (option_map (λ (x : Answer × State). x.1) came)) to.1 (may.stands s rests to.0);
+  }) it.crash;
+}
+
+-- where each digest is known, what a machine does that knows them is what it does by the digests of its state
+pub by_state : {M : Medium} {A : Type 0} (machine : Digests → Machine) (given : State → Type 0) (asks : Type 0) (told : A → Answer) (old new : Standing M) (r : Result A StoreFault)
+    → Does (machine AllDigests) given asks told old new r → Does (λ s. machine (known_digests s.version) s) given asks told old new r
+by_state {M = M} machine given asks told old new r it = record {
+  clean = it.clean;
+  is_open = it.is_open;
+  answered = λ clean. IfOk-weaker r _ _ (λ a left s rests is. subst (λ k. Left new (machine k s) (told a)) (sym (old.knows s rests)) (left s rests is)) (it.answered clean);
+  failed = λ clean. IfErr-weaker r _ _ (λ f left s rests is. subst (λ k. new.Rests s × (f ≡ Full → machine k s ≡ None)) (sym (old.knows s rests)) (left s rests is)) (it.failed clean);
+  fault = it.fault;
+  crash = survives_weaker old new (MayLeave (machine AllDigests) given old) (MayLeave (λ s. machine (known_digests s.version) s) given old) (λ clean left may. record {
+    was_open = may.was_open;
+    stands = λ s rests is. subst (λ k. M.keeps left s ⊎ KeepsNext M left (option_map (λ (x : Answer × State). x.1) (machine k s))) (sym (old.knows s rests)) (may.stands s rests is);
   }) it.crash;
 }
 

@@ -11,6 +11,7 @@ mod Reaching
 pub mod HandedIn
 mod Begun
 mod OwedTries
+mod Resent
 mod Ticked
 mod NextDue
 mod Viewed

@@ -11,7 +11,6 @@ use Rattle.as2_exchange.specs.declared.answer.Answer.TheVariants.{Delivered, Set
 use Rattle.as2_exchange.specs.declared.attempt.Attempt.TheVariants.{Idle}
 use Rattle.as2_exchange.specs.declared.outbox.OutEntry.{OutEntry}
 use Rattle.as2_mdn.specs.declared.detail.Detail.TheVariants.{Awaiting, NoReceiptAsked, Retry, TriesUsed}
-use Rattle.as2_records.specs.Progressing.{come_to}
 use Rattle.as2_records.specs.declared.progress.Progress.{Progress}
 use Rattle.as2_station.specs.declared.closing.End.{End}
 use Rattle.as2_station.specs.declared.closing.End.TheVariants as ending
@@ -35,12 +34,16 @@ LeavesUnsettled (ending.ByReceipt detail evidence) = ⊤
 LeavesUnsettled (ending.Delivered progress) = is_by_receipt progress.detail ≡ false
 LeavesUnsettled (ending.Failed progress) = is_by_receipt progress.detail ≡ false
 
+-- the document once it has come so far
+abbrev pub further : Progress → OutEntry → OutEntry
+further p d = record d { tries = p.tries; attempt = p.attempt; due = p.due; detail = p.detail }
+
 -- what is answered, and what the end makes of the document
 abbrev pub ended : End → OutEntry → Answer × OutEntry
 ended (ending.ByReceipt detail evidence) d = (Settled detail, settled_as detail evidence d)
-ended (ending.Delivered progress) d = (Delivered, come_to progress d)
-ended (ending.Failed progress) d = (TryFailed, come_to progress d)
+ended (ending.Delivered progress) d = (Delivered, further progress d)
+ended (ending.Failed progress) d = (TryFailed, further progress d)
 
 -- the receipt for it settles the document
 abbrev pub settled_by : ℕ → OutEntry → ReceivedReceipt → Answer × OutEntry
-settled_by m d r = (Settled (verdict r.receipt d.content), settled m r d)
+settled_by m d r = (Settled (verdict r.known r.receipt d.content), settled m r d)

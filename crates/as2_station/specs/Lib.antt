@@ -1,6 +1,7 @@
 pub mod Closing
 pub mod Heads
 pub mod OwedTries
+pub mod Resending
 pub mod Theorem
 pub mod Steps
 pub mod Said

@@ -1,7 +1,7 @@
 -- What is said to each kind of event, as an answer of the machine.
-use Rattle.std.specs.Prelude.{ℕ, Result, Ok, Err}
+use Rattle.std.specs.Prelude.{ℕ, Result, Ok, Err, ⊤}
 use Rattle.as2_exchange.specs.declared.answer.Answer.{Answer}
-use Rattle.as2_exchange.specs.declared.answer.Answer.TheVariants.{Submitted, Job as AJob, Settled, Delivered, TryFailed, AlreadySettled, Refused}
+use Rattle.as2_exchange.specs.declared.answer.Answer.TheVariants.{Submitted, Job as AJob, Settled, Delivered, TryFailed, AlreadySettled, Resent, Refused}
 use Rattle.as2_exchange.specs.declared.answer.Job.{Job}
 use Rattle.as2_exchange.specs.declared.answer.Refusal.{Refusal}
 use Rattle.as2_exchange.specs.declared.event.Event.{Event}
@@ -33,6 +33,11 @@ answer_of became.AlreadySettled = AlreadySettled
 abbrev pub said_to_outcome : Result Became Refusal → Answer
 said_to_outcome (Ok became) = answer_of became
 said_to_outcome (Err reason) = Refused reason
+
+-- to a resend: the document is to be sent anew, or a refusal
+abbrev pub said_to_resend : Result ⊤ Refusal → Answer
+said_to_resend (Ok done) = Resent
+said_to_resend (Err reason) = Refused reason
 
 -- a try of it begins at this moment
 abbrev pub begin_of : Next → ℕ → Event

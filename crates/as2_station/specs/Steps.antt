@@ -14,7 +14,7 @@ use Rattle.as2_exchange.specs.declared.answer.Line.TheVariants.{IdUsedBefore}
 use Rattle.as2_exchange.specs.declared.inbox.InEntry.{InEntry}
 use Rattle.as2_exchange.specs.declared.inbox.Posted.{Posted}
 use Rattle.as2_exchange.specs.Lines.{refusal}
-use Rattle.as2_exchange.specs.State.{State, received_as}
+use Rattle.as2_exchange.specs.State.{AllDigests, State, received_as}
 use Rattle.as2_posts.specs.Answers.{has_kept_mic}
 use Rattle.as2_exchange.specs.declared.answer.Answer.{Answer}
 use Rattle.as2_exchange.specs.declared.answer.Answer.TheVariants.{Http}
@@ -75,7 +75,7 @@ pub record TakesEvent {M : Medium} {A : Type 0} (agreed : Agreements) (event : E
   pub does : Does (λ s. step agreed s event) always (asks_store agreed event ≡ true) told old new r
   pub by_history : TakesByHistory agreed event told old new r
   pub lasts : IsTrue new.is_open → (s : State) → new.Rests s → Lasts new s
-  pub whole : (head : Head) (body : List ℕ) (moment : ℕ) → event ≡ Post head body moment → ClashesWhole told (reading agreed head body) old new r
+  pub whole : (head : Head) (body : List ℕ) (moment : ℕ) → event ≡ Post head body moment → ClashesWhole told (reading agreed AllDigests head body) old new r
 
 -- a call that takes a post that is read so, in each state of which this is given
 abbrev pub TakesPost : {H : Type 0} {M : Medium} → (H → Standing M) → Agreements → ℕ → Reading → (State → Type 0) → H → H → Result HttpAnswer StoreFault → Type 0
@@ -83,8 +83,8 @@ TakesPost shows agreed moment reads given old new r = Does (λ s. post agreed s 
 
 -- a post that its head alone refuses is answered by that line, and nothing else happens
 pub record TakesHead {A H : Type 0} (agreed : Agreements) (event : Event) (told : HttpAnswer → A) (old new : H) (r : Result A StoreFault) : Type 0 where
-  pub answer : (head : Head) (body : List ℕ) (moment : ℕ) (line : Line) → event ≡ Post head body moment → reading agreed head body ≡ Refuses line → is_of_head line ≡ true → r ≡ Ok (told (refusal line))
-  pub same : (head : Head) (body : List ℕ) (moment : ℕ) (line : Line) → event ≡ Post head body moment → reading agreed head body ≡ Refuses line → is_of_head line ≡ true → new ≡ old
+  pub answer : (head : Head) (body : List ℕ) (moment : ℕ) (line : Line) → event ≡ Post head body moment → reading agreed AllDigests head body ≡ Refuses line → is_of_head line ≡ true → r ≡ Ok (told (refusal line))
+  pub same : (head : Head) (body : List ℕ) (moment : ℕ) (line : Line) → event ≡ Post head body moment → reading agreed AllDigests head body ≡ Refuses line → is_of_head line ≡ true → new ≡ old
 
 -- a document that is refused gets its refusal, whatever memory and the records do, and nothing else happens
 pub record RefusesSubmit {A H : Type 0} (agreed : Agreements) (event : Event) (told : Refusal → A) (old new : H) (r : Result A StoreFault) : Type 0 where

@@ -11,7 +11,7 @@
 --   the tables .. are those of       Rests, as2_records/specs/Standing.antt: the records rest on the state; over
 --                                    SQLite as2_store/specs/Stands.antt: the tables of the connection stand for it
 --   .. answers are those of          Run, Run.antt: an answered event is a step of the machine, and one that failed changes nothing
---   the exchange machine             step, Step.antt, over State, State.antt; empty: a store without entries
+--   the exchange machine             step, Step.antt, over State, State.antt; empty: a store without entries, of a version
 --   the accepted ones                accepted, Run.antt: those that were answered, by a refusal too; no fault of the store is an answer
 --   a document                       document, State.antt, by its number
 --   stands as successful             IsSuccessful, below: state_of, as2_mdn/specs/Details.antt, is S
@@ -25,7 +25,7 @@ use Rattle.std.specs.Prelude.{◌≡◌, ◌↔◌, ℕ, ◌+◌, ◌<◌, true,
 use Rattle.as2_records.specs.Standing.{Medium, Standing}
 use Rattle.as2_mdn.specs.Details.{state_of}
 use Rattle.as2_mdn.specs.Verdicts.{Confirms}
-use Rattle.as2_mdn.specs.declared.detail.State.TheVariants.{S}
+use Rattle.as2_mdn.specs.declared.detail.State.TheVariants.{S, E}
 use Rattle.as2_exchange.specs.Agreement.{Agreements, Text, partner_of}
 use Rattle.as2_exchange.specs.Events.{Done}
 use Rattle.as2_exchange.specs.History.{concerns, first_receipt, history, submitted, submitted_as, told}
@@ -34,8 +34,8 @@ use Rattle.as2_exchange.specs.Posts.{ReceivedReceipt}
 use Rattle.as2_exchange.specs.Receipts.{bears}
 use Rattle.as2_exchange.specs.ReceiptHistory.{receipt_history, receipt_told}
 use Rattle.as2_exchange.specs.Readings.{Head, named_by, value_of}
-use Rattle.as2_exchange.specs.Run.{Said, Answered, Failed, IsOutOfNumbers, Trace, Run, accepted}
-use Rattle.as2_exchange.specs.State.{State, document, empty, is_settled, lasting, received}
+use Rattle.as2_exchange.specs.Run.{Said, Answered, Failed, AnEvent, IsOutOfNumbers, Trace, Run, accepted, version_after}
+use Rattle.as2_exchange.specs.State.{State, Version, document, empty, is_settled, lasting, received}
 use Rattle.as2_exchange.specs.Step.{is_refusal, step}
 use Rattle.as2_exchange.specs.Progress.{given_up}
 use Rattle.as2_exchange.specs.declared.inbox.InEntry.{InEntry}
@@ -43,19 +43,20 @@ use Rattle.as2_exchange.specs.declared.inbox.MdnState.TheVariants.{Pending}
 use Rattle.as2_exchange.specs.declared.outbox.OutEntry.{OutEntry}
 use Rattle.as2_exchange.specs.Waiting.{waiting, waiting_history}
 use Rattle.as2_exchange.specs.declared.answer.Answer.{Answer}
-use Rattle.as2_exchange.specs.declared.answer.Answer.TheVariants.{Job as AJob, Ticked}
+use Rattle.as2_exchange.specs.declared.answer.Answer.TheVariants.{Job as AJob, Resent, Ticked}
 use Rattle.as2_exchange.specs.declared.answer.Job.{Job}
 use Rattle.as2_exchange.specs.declared.event.Event.{Event}
-use Rattle.as2_exchange.specs.declared.event.Event.TheVariants.{Post, Begin, BeginMdn, Tick}
+use Rattle.as2_exchange.specs.declared.event.Event.TheVariants.{Post, Begin, BeginMdn, Resend, Tick}
 use Rattle.as2_exchange.specs.declared.fault.StoreFault.{StoreFault}
 
 -- the document stands as successful
 abbrev pub IsSuccessful : State → ℕ → Type 0
 IsSuccessful s k = IsSomeAnd (document s k) (λ d. state_of d.detail ≡ S)
 
--- the first receipt for it after its first try says processed without modifier and carries the integrity check of the content sent
+-- the first receipt for it after its first try says processed without modifier and carries the integrity check of the content sent,
+-- under a digest that was known when it came
 abbrev pub IsConfirmed : Agreements → List Done → ℕ → Type 0
-IsConfirmed A done k = IsSomeAnd (concerns A done k) (λ it. IsSomeAnd (first_receipt A k it.0 it.1) (λ r. Confirms r.1.receipt it.0.content))
+IsConfirmed A done k = IsSomeAnd (concerns A done k) (λ it. IsSomeAnd (first_receipt A k it.0 it.1) (λ r. Confirms r.1.known r.1.receipt it.0.content))
 
 -- the document stands as it stood, by its detail and its evidence
 abbrev pub StandsAs : OutEntry → State → ℕ → Type 0
@@ -67,12 +68,14 @@ pub record StepsOn (A : Agreements) (s : State) : Type 0 where
   pub repeats : (old recorded : State) (head : Head) (body : Text) (m n : ℕ) (first : Answer) (between : Trace)
       → step A old (Post head body m) ≡ Some (first, recorded) → old.next_in < recorded.next_in → Run A recorded between s
       → (t : State) × (step A s (Post head body n) ≡ Some (first, t)) × (map lasting t.inbox ≡ map lasting s.inbox) × (t.next_in ≡ s.next_in) × (t.outbox ≡ s.outbox)
-  -- a request is handed out for a document that no receipt has settled, and not more often than is agreed
+  -- a request is handed out for a document that no receipt has settled, and not more often than is agreed since it was last to be sent anew
   pub sends : (n m : ℕ) (job : Job) (t : State) → step A s (Begin n m) ≡ Some (AJob job, t)
       → (d : OutEntry) × (document s n ≡ Some d) × (is_settled d ≡ false) × IsSomeAnd (partner_of A d.partner) (λ p. d.tries < p.max_tries)
   -- and for a receipt that is still owed, not more often than is agreed since it was queued last
   pub sends_receipts : (n m : ℕ) (job : Job) (t : State) → step A s (BeginMdn n m) ≡ Some (AJob job, t)
       → (e : InEntry) × (received s n ≡ Some e) × (e.mdn ≡ Pending) × IsSomeAnd (partner_of A e.posted.sender) (λ p. e.tries < p.max_tries)
+  -- a document is sent anew only where it is in error and no receipt has settled it
+  pub resends : (n m : ℕ) (t : State) → step A s (Resend n m) ≡ Some (Resent, t) → (d : OutEntry) × (document s n ≡ Some d) × (is_settled d ≡ false) × (state_of d.detail ≡ E)
   -- a refusal changes nothing, nor does the outcome of a document that is settled
   pub refuses : (e : Event) (a : Answer) (t : State) → step A s e ≡ Some (a, t) → is_refusal a ≡ true → t ≡ s
   -- a moment is answered by the number of documents that it gives up
@@ -80,33 +83,35 @@ pub record StepsOn (A : Agreements) (s : State) : Type 0 where
   -- and no event is without an answer while there are numbers
   pub answers : (e : Event) → step A s e ≡ None → IsOutOfNumbers s e
 
--- What stands after a trace from a store without entries is what its accepted events tell.
-pub record StandsByHistory (A : Agreements) (trace : Trace) (s : State) : Type 0 where
+-- What stands after a trace from a store of this version without entries is what its accepted events tell.
+pub record StandsByHistory (A : Agreements) (v : Version) (trace : Trace) (s : State) : Type 0 where
+  -- the store is of that version, until the trace migrates it
+  pub version : s.version ≡ version_after v trace
   -- each document is one that was submitted, with the names, the content and the moment of its submission
-  pub documents : (k : ℕ) → option_map submitted (document s k) ≡ submitted_as (accepted trace) k
-  -- its detail, its evidence and the number of its tries are its history's
-  pub stands : (k : ℕ) → option_map told (document s k) ≡ history A (accepted trace) k
+  pub documents : (k : ℕ) → option_map submitted (document s k) ≡ submitted_as (accepted v trace) k
+  -- its detail, its evidence and the number of its tries since it was last to be sent anew are its history's
+  pub stands : (k : ℕ) → option_map told (document s k) ≡ history A (accepted v trace) k
   -- it stands as successful exactly where the first receipt confirms it
-  pub success : (k : ℕ) → IsSuccessful s k ↔ IsConfirmed A (accepted trace) k
+  pub success : (k : ℕ) → IsSuccessful s k ↔ IsConfirmed A (accepted v trace) k
   -- a receipt is for a document exactly where it came from its partner to its organization and names its identifier
   pub names : (r : ReceivedReceipt) (organization partner id : Text) → IsTrue (bears r organization partner id) ↔ ((organization ≡ r.to) × (partner ≡ r.from) × (value_of id ≡ named_by r.receipt))
   -- what is settled stays so under every further list
   pub settled : (k : ℕ) (d : OutEntry) → document s k ≡ Some d → is_settled d ≡ true → (more : Trace) (t : State) → Run A s more t → StandsAs d t k
   -- its own events tell: another list that has them in the same order gives it the same, whatever else it has
-  pub alone : (k first : ℕ) (other : Trace) (t : State) → Run A (empty first) other t → concerns A (accepted trace) k ≡ concerns A (accepted other) k
+  pub alone : (k first : ℕ) (w : Version) (other : Trace) (t : State) → Run A (empty w first) other t → concerns A (accepted v trace) k ≡ concerns A (accepted w other) k
       → option_map told (document s k) ≡ option_map told (document t k)
-  -- whether a try is open, and what is due when, are its history's too
-  pub waits : (k : ℕ) → option_map waiting (document s k) ≡ waiting_history A (accepted trace) k
+  -- whether a try of it ever began, whether one is open, and what is due when, are its history's too
+  pub waits : (k : ℕ) → option_map waiting (document s k) ≡ waiting_history A (accepted v trace) k
   -- and so is what stands of the receipt that is owed for a document that came
-  pub owed : (n : ℕ) (e : InEntry) → received s n ≡ Some e → receipt_history A (accepted trace) n e.posted ≡ Some (receipt_told e)
+  pub owed : (n : ℕ) (e : InEntry) → received s n ≡ Some e → receipt_history A (accepted v trace) n e.posted ≡ Some (receipt_told e)
   -- numbers, keys and identifiers are distinct, and evidence stands exactly by what a receipt settled
   pub formed : IsWellFormed A s
   -- and a further event does what StepsOn says
   pub further : StepsOn A s
 
--- where an earlier trace led from a store without entries to s, what stands in t is by that trace and this one behind it
+-- where an earlier trace led from a store without entries, of either version, to s, what stands in t is by that trace and this one behind it
 abbrev pub EndsByHistory : Agreements → State → Trace → State → Type 0
-EndsByHistory A s trace t = (first : ℕ) (before : Trace) → IsCounter first → Run A (empty first) before s → StandsByHistory A (before ++ trace) t
+EndsByHistory A s trace t = (v : Version) (first : ℕ) (before : Trace) → IsCounter first → Run A (empty v first) before s → StandsByHistory A v (before ++ trace) t
 
 -- what is said to an event, where a call tells so much of it
 abbrev pub said_as : {A : Type 0} → (A → Answer) → Result A StoreFault → Said
@@ -115,4 +120,4 @@ said_as told (Err fault) = Failed fault
 
 -- what stands after a call that took an event is by that event, behind what led to the state that the records rested on
 abbrev pub TakesByHistory : {M : Medium} {A : Type 0} → Agreements → Event → (A → Answer) → Standing M → Standing M → Result A StoreFault → Type 0
-TakesByHistory A event told old new r = new.IsClean → (s : State) → old.Rests s → (t : State) × new.Rests t × EndsByHistory A s ((event, said_as told r) ∷ []) t
+TakesByHistory A event told old new r = new.IsClean → (s : State) → old.Rests s → (t : State) × new.Rests t × EndsByHistory A s (AnEvent event (said_as told r) ∷ []) t

@@ -2,7 +2,7 @@
 use Rattle.std.specs.Prelude.{◌≡◌, List, [], ◌∷◌, map, zip, Result, Ok, Err}
 use Rattle.as2_records.specs.Standing.{Medium, Standing}
 use Rattle.as2_exchange.specs.Agreement.{Agreements}
-use Rattle.as2_exchange.specs.Run.{Said, Answered, Failed, Trace, Run}
+use Rattle.as2_exchange.specs.Run.{Said, Answered, Failed, AnEvent, Trace, Run}
 use Rattle.as2_exchange.specs.State.{State}
 use Rattle.as2_exchange.specs.declared.event.Event.{Event}
 use Rattle.as2_exchange.specs.declared.answer.Answer.{Answer}
@@ -18,7 +18,7 @@ said (Err fault) = Failed fault
 
 -- each event with what was said to it
 abbrev pub trace : List Event → List (Result Answer StoreFault) → Trace
-trace events answers = zip events (map said answers)
+trace events answers = map (λ (e : Event × Said). AnEvent e.0 e.1) (zip events (map said answers))
 
 -- the trace is a run of the machine, from the state that the records rested on to the one that they rest on, in which what stands of
 -- each document is its history

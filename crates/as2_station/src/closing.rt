@@ -4,7 +4,7 @@ ghost use Rattle.as2_agreement.specs.Partners.{IsPartner};
 ghost use Rattle.as2_exchange.specs.Documents.{closed, closed_by, if_for};
 ghost use Rattle.as2_exchange.specs.Readings.{report_in, verdict};
 ghost use Rattle.as2_exchange.specs.Receipts.{is_success, receipt_in_answer};
-ghost use Rattle.as2_exchange.specs.State.{document};
+ghost use Rattle.as2_exchange.specs.State.{AllDigests, document};
 ghost use Rattle.as2_exchange.specs.declared.event.TryAnswer.TheVariants.{Reply};
 ghost use Rattle.as2_exchange.specs.Step.{on_document};
 ghost use Rattle.as2_exchange.specs.Tries.{is_idle};
@@ -105,7 +105,7 @@ fn by_receipt(
     document: &OutEntry,
     moment: Moment,
 ) -> Result<Option<End>, Memory>
-    ensures { IfOk result (λ end. option_map (λ e. ended e document.now) end ≡ option_map (settled_by moment document.now) (option_and_then (if_for document.now) (receipt_as opened.now body))) }
+    ensures { IfOk result (λ end. option_map (λ e. ended e document.now) end ≡ option_map (settled_by moment document.now) (option_and_then (if_for document.now) (receipt_as AllDigests opened.now body))) }
 {
     let report = body.joined()?;
     let Ok(receipt) = read_report(&opened.media, &report) else {
@@ -130,7 +130,7 @@ fn by_reply(
     moment: Moment,
 ) -> Result<End, Memory>
     requires terms { IsPartner partner.now }
-    ensures { IfOk result (λ end. ended end document.now ≡ closed_by partner.now (Reply status head.now body) moment document.now (option_and_then (if_for document.now) (receipt_in_answer (Reply status head.now body)))) }
+    ensures { IfOk result (λ end. ended end document.now ≡ closed_by partner.now (Reply status head.now body) moment document.now (option_and_then (if_for document.now) (receipt_in_answer AllDigests (Reply status head.now body)))) }
 {
     if !is_success(status) {
         return Ok(End::Failed(after_failure(partner, document, moment)));
@@ -153,7 +153,7 @@ fn end_of(
     moment: Moment,
 ) -> Result<End, Memory>
     requires terms { IsPartner partner.now }
-    ensures { IfOk result (λ end. ended end document.now ≡ closed_by partner.now answer moment document.now (option_and_then (if_for document.now) (receipt_in_answer answer))) }
+    ensures { IfOk result (λ end. ended end document.now ≡ closed_by partner.now answer moment document.now (option_and_then (if_for document.now) (receipt_in_answer AllDigests answer))) }
 {
     match answer {
         TryAnswer::NoAnswer => Ok(End::Failed(after_failure(partner, document, moment))),
@@ -163,12 +163,16 @@ fn end_of(
     }
 }
 
-/// Writes how the try of the document has ended.
+/// Writes how the try of the document has ended. A document of which a try is open was begun: where it is kept that it wasn't, the
+/// records are damaged, which is Refused.
 fn end_try<R: Records>(records: &mut R, entry: &OutEntry, end: End) -> Result<Ended, StoreFault>
     requires unsettled { LeavesUnsettled end }
     requires open { (R.shows records.old).IsClean → IsTrue (R.shows records.old).is_open }
     ensures taken { Does (λ s. Some (on_document s entry.now.number (ended end))) (λ s. document s entry.now.number ≡ Some entry.now) (true ≡ true) said_to_outcome (R.shows records.old) (R.shows records.new) result }
 {
+    if !entry.begun {
+        return Err(StoreFault::Refused);
+    }
     match end {
         End::ByReceipt { detail, evidence } => {
             records.settle(entry.number, detail, &evidence)?;
@@ -195,7 +199,7 @@ fn close_found<R: Records>(
     moment: Moment,
 ) -> Result<Ended, StoreFault>
     requires open { (R.shows records.old).IsClean → IsTrue (R.shows records.old).is_open }
-    ensures taken { Does (λ s. Some (on_document s entry.now.number (closed agreements.now answer moment))) (λ s. document s entry.now.number ≡ Some entry.now) (true ≡ true) said_to_outcome (R.shows records.old) (R.shows records.new) result }
+    ensures taken { Does (λ s. Some (on_document s entry.now.number (closed agreements.now AllDigests answer moment))) (λ s. document s entry.now.number ≡ Some entry.now) (true ≡ true) said_to_outcome (R.shows records.old) (R.shows records.new) result }
 {
     let partner = match agreed_partner(agreements, &entry.organization, &entry.partner) {
         Ok(partner) => partner,
@@ -220,7 +224,7 @@ pub fn close<R: Records>(
     answer: TryAnswer,
     moment: Moment,
 ) -> Result<Ended, StoreFault>
-    ensures taken { Does (λ s. Some (on_document s number (closed agreements.now answer moment))) always (true ≡ true) said_to_outcome (R.shows records.old) (R.shows records.new) result }
+    ensures taken { Does (λ s. Some (on_document s number (closed agreements.now AllDigests answer moment))) always (true ≡ true) said_to_outcome (R.shows records.old) (R.shows records.new) result }
 {
     match records.find_out(alloc, number)? {
         Some(document) => close_found(records, alloc, agreements, &document, answer, moment),

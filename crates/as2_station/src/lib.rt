@@ -8,6 +8,7 @@ mod owed;
 mod receipts;
 mod receiving;
 mod recording;
+mod resending;
 mod said;
 mod station;
 mod submitting;
@@ -17,5 +18,5 @@ mod trying;
 mod viewing;
 
 pub use as2_views::Filter;
-pub use said::{Became, Begun, Ended, NewDocument, Submitted};
+pub use said::{Became, Begun, Ended, NewDocument, Resent, Submitted};
 pub use station::Station;

@@ -2,6 +2,7 @@
 ghost use Rattle.std.specs.Prelude.{◌≡◌, List, ℕ, IfOk};
 ghost use Rattle.as2_exchange.specs.Readings.{Receipt as TheReceipt, named_by, value_of};
 ghost use Rattle.as2_exchange.specs.Receipts.{bears, evidence_of};
+ghost use Rattle.as2_exchange.specs.State.{AllDigests};
 ghost use Rattle.as2_posts.specs.Openings.{receipt_by};
 
 use as2_exchange::{Bytes, Evidence, OutEntry};
@@ -15,7 +16,7 @@ use std::alloc::Global;
 /// identifier (RFC 4130, section 6.2; RFC 8098, section 3.2.5).
 #[tactic(auto, unfolding(as2_exchange::specs::Readings::named_by, as2_exchange::specs::Readings::value_of))]
 pub fn bears(opened: &Opened<'_>, receipt: &Receipt<'_>, document: &OutEntry) -> bool
-    ensures { (body : List ℕ) → result ≡ bears (receipt_by opened.now receipt.now body) document.now.organization document.now.partner document.now.id }
+    ensures { (body : List ℕ) → result ≡ bears (receipt_by AllDigests opened.now receipt.now body) document.now.organization document.now.partner document.now.id }
 {
     document.organization.bytes() == opened.to.bytes()
         && document.partner.bytes() == opened.from.bytes()
@@ -29,7 +30,7 @@ pub fn evidence_of(
     body: Pieces,
     moment: Moment,
 ) -> Result<Evidence, Memory>
-    ensures { IfOk result (λ evidence. (receipt : TheReceipt) → evidence ≡ evidence_of moment (receipt_by opened.now receipt body)) }
+    ensures { IfOk result (λ evidence. (receipt : TheReceipt) → evidence ≡ evidence_of moment (receipt_by AllDigests opened.now receipt body)) }
 {
     Ok(Evidence {
         moment,

@@ -4,7 +4,7 @@ ghost use Rattle.as2_exchange.specs.Agreement.{Agreements};
 ghost use Rattle.as2_exchange.specs.Posts.{IsReceipt};
 ghost use Rattle.as2_exchange.specs.Readings.{named_by};
 ghost use Rattle.as2_exchange.specs.Receipts.{bears};
-ghost use Rattle.as2_exchange.specs.State.{document_named, is_begun};
+ghost use Rattle.as2_exchange.specs.State.{AllDigests, document_named};
 ghost use Rattle.as2_exchange.specs.declared.answer.HttpBody.TheVariants.{Nothing};
 ghost use Rattle.as2_posts.specs.Openings.{receipt_by, report_by};
 ghost use Rattle.as2_station.specs.Steps.{TakesPost, always};
@@ -20,10 +20,10 @@ use std::alloc::Global;
 
 /// Whether the receipt is for the document, and that was begun.
 fn is_for(opened: &Opened<'_>, receipt: &Receipt<'_>, document: &OutEntry) -> bool
-    ensures { (body : List ℕ) → result ≡ (bears (receipt_by opened.now receipt.now body) document.now.organization document.now.partner document.now.id
-        && is_begun document.now) }
+    ensures { (body : List ℕ) → result ≡ (bears (receipt_by AllDigests opened.now receipt.now body) document.now.organization document.now.partner document.now.id
+        && document.now.begun) }
 {
-    bears(opened, receipt, document) && document.tries >= 1
+    bears(opened, receipt, document) && document.begun
 }
 
 /// The answer to a receipt that is taken.
@@ -48,7 +48,7 @@ fn settle_named<R: Records>(
     document: &OutEntry,
 ) -> Result<HttpAnswer, StoreFault>
     requires open { (R.shows records.old).IsClean → IsTrue (R.shows records.old).is_open }
-    ensures taken { (A : Agreements) → TakesPost R.shows A moment (IsReceipt (receipt_by opened.now receipt.now body))
+    ensures taken { (A : Agreements) → TakesPost R.shows A moment (IsReceipt (receipt_by AllDigests opened.now receipt.now body))
         (λ s. document_named s (named_by receipt.now) ≡ Some document.now) records.old records.new result }
 {
     if !is_for(opened, receipt, document) {
@@ -72,7 +72,7 @@ pub fn receive<R: Records>(
     body: Pieces,
     moment: Moment,
 ) -> Result<HttpAnswer, StoreFault>
-    ensures taken { (A : Agreements) → TakesPost R.shows A moment (report_by opened.now body) always records.old records.new result }
+    ensures taken { (A : Agreements) → TakesPost R.shows A moment (report_by AllDigests opened.now body) always records.old records.new result }
 {
     let report = body.joined()?;
     let Ok(receipt) = read_report(&opened.media, &report) else {

@@ -16,7 +16,8 @@ use as2_text::Moment;
 use std::alloc::Global;
 
 /// Takes a document whose key an entry has: a repeat of the entry's document is answered as that was, and its receipt is
-/// queued again where a repeat does so. Any other is refused, unless the entry's own document is damaged: that is Disk.
+/// queued again where a repeat does so. Any other is refused, unless the entry's own document is damaged: that is Disk. Which of
+/// the two it is depends on the origin of the records.
 #[tactic(auto, unfolding(as2_exchange::specs::Recording::record_post))]
 fn record_again<R: Records>(
     records: &mut R,
@@ -30,7 +31,8 @@ fn record_again<R: Records>(
     ensures taken { TakesPost R.shows agreements.now moment (IsDocument posted.now) (λ s. received_as s posted.now ≡ Some entry.now) records.old records.new result }
     ensures whole { result ≡ Ok (refusal IdUsedBefore) → has_kept_mic entry.now.posted ≡ true }
 {
-    if !repeats(&entry.posted, posted) {
+    let origin = records.origin()?;
+    if !repeats(origin, entry.number, &entry.posted, posted) {
         if !has_kept_mic(&entry.posted) {
             return Err(StoreFault::Disk);
         }

@@ -1,6 +1,6 @@
 //! What is said to each kind of event.
 ghost use Rattle.std.specs.Prelude.{◌≡◌};
-ghost use Rattle.as2_station.specs.Said.{said_to_begin, said_to_outcome, said_to_submit};
+ghost use Rattle.as2_station.specs.Said.{said_to_begin, said_to_outcome, said_to_resend, said_to_submit};
 
 use as2_exchange::{Answer, Job, Refusal};
 use as2_mdn::Detail;
@@ -40,6 +40,9 @@ pub type Begun = Result<Job, Refusal>;
 /// What the outcome of a try is answered by: what became of the try, or why it is refused.
 pub type Ended = Result<Became, Refusal>;
 
+/// What a resend is answered by: no more than that the document is to be sent anew, or why it is refused.
+pub type Resent = Result<(), Refusal>;
+
 /// A submission's answer, as one to any event.
 pub(crate) fn said_to_submit(submitted: Submitted) -> Answer
     ensures { result ≡ said_to_submit submitted }
@@ -69,6 +72,16 @@ pub(crate) fn said_to_outcome(ended: Ended) -> Answer
         Ok(Became::Delivered) => Answer::Delivered,
         Ok(Became::TryFailed) => Answer::TryFailed,
         Ok(Became::AlreadySettled) => Answer::AlreadySettled,
+        Err(reason) => Answer::Refused(reason),
+    }
+}
+
+/// A resend's answer, as one to any event.
+pub(crate) fn said_to_resend(resent: Resent) -> Answer
+    ensures { result ≡ said_to_resend resent }
+{
+    match resent {
+        Ok(()) => Answer::Resent,
         Err(reason) => Answer::Refused(reason),
     }
 }

@@ -1,6 +1,7 @@
 //! The station, event by event.
 ghost use Rattle.std.specs.Prelude.{◌≡◌, Err, IfOk, IfErr, OnErr, option_map, string_bytes, true};
-ghost use Rattle.as2_exchange.specs.declared.event.Event.TheVariants.{Post, Submit, Tick};
+ghost use Rattle.as2_exchange.specs.State.{AllDigests};
+ghost use Rattle.as2_exchange.specs.declared.event.Event.TheVariants.{Post, Resend, Submit, Tick};
 ghost use Rattle.as2_exchange.specs.declared.answer.Answer.TheVariants.{Http, Refused, Ticked};
 ghost use Rattle.as2_exchange.specs.Due.{IsNext, next};
 ghost use Rattle.as2_views.specs.Texts.{fetch, outstanding, show};
@@ -8,7 +9,7 @@ ghost use Rattle.as2_views.specs.Filtering.{listing};
 ghost use Rattle.as2_records.specs.Calls.{Reads};
 ghost use Rattle.as2_records.specs.Standing.{may_come};
 ghost use Rattle.as2_posts.specs.Openings.{reading_by};
-ghost use Rattle.as2_station.specs.Said.{begin_of, outcome_of, said_to_begin, said_to_outcome, said_to_submit};
+ghost use Rattle.as2_station.specs.Said.{begin_of, outcome_of, said_to_begin, said_to_outcome, said_to_resend, said_to_submit};
 ghost use Rattle.as2_station.specs.Steps.{ClashesWhole, RefusesSubmit, TakesEvent, TakesHead, TakesPost, always};
 ghost use Rattle.as2_station.specs.Traces.{Plays, Taken};
 
@@ -16,8 +17,10 @@ use crate::closing::close;
 use crate::owed::{begin_mdn, close_mdn};
 use crate::receiving::receive;
 use crate::recording::record;
+use crate::resending::resend;
 use crate::said::{
-    Begun, Ended, NewDocument, Submitted, said_to_begin, said_to_outcome, said_to_submit,
+    Begun, Ended, NewDocument, Resent, Submitted, said_to_begin, said_to_outcome, said_to_resend,
+    said_to_submit,
 };
 use crate::submitting::submit;
 use crate::ticking::tick;
@@ -73,8 +76,8 @@ impl<R: Records> Station<R> {
         body: Pieces,
         moment: Moment,
     ) -> Result<HttpAnswer, StoreFault>
-        ensures taken { TakesPost R.shows agreements.now moment (reading_by opened.entry head.now body) always self.old self.new result }
-        ensures whole { ClashesWhole Http (reading_by opened.entry head.now body) (R.shows self.old) (R.shows self.new) result }
+        ensures taken { TakesPost R.shows agreements.now moment (reading_by AllDigests opened.entry head.now body) always self.old self.new result }
+        ensures whole { ClashesWhole Http (reading_by AllDigests opened.entry head.now body) (R.shows self.old) (R.shows self.new) result }
     {
         if opened.is_report() {
             return receive(&mut self.records, alloc, &opened, body, moment);
@@ -171,6 +174,20 @@ impl<R: Records> Station<R> {
         }
     }
 
+    /// Queues a document that failed to be sent anew, from this moment on and with all tries left. It stays begun, so that a receipt
+    /// for an earlier try still settles it. A fault of the records may come in place of any other answer, and nothing is changed then.
+    pub fn resend(
+        &mut self,
+        alloc: Global,
+        agreements: &Agreements,
+        number: u64,
+        moment: Moment,
+    ) -> Result<Resent, StoreFault>
+        ensures taken { TakesEvent agreements.now (Resend number moment) said_to_resend (R.shows self.old) (R.shows self.new) result }
+    {
+        resend(&mut self.records, alloc, agreements, number, moment)
+    }
+
     /// Takes that this moment has come: what waited too long is given up. Answers how many documents were. A fault of the records
     /// may come in its place, and nothing is changed then.
     pub fn tick(&mut self, agreements: &Agreements, moment: Moment) -> Result<u64, StoreFault>
@@ -230,6 +247,9 @@ impl<R: Records> Station<R> {
             } => {
                 let what = Next::Receipt(number);
                 Ok(said_to_outcome(self.close(alloc, agreements, what, answer, moment)?))
+            }
+            Event::Resend { number, moment } => {
+                Ok(said_to_resend(self.resend(alloc, agreements, number, moment)?))
             }
             Event::Tick { moment } => Ok(Answer::Ticked(self.tick(agreements, moment)?)),
         }

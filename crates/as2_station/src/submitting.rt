@@ -1,5 +1,5 @@
 //! Documents that are handed in for a partner: each gets the next number.
-ghost use Rattle.std.specs.Prelude.{◌≡◌, None, Some, Ok, Err, is_none, true};
+ghost use Rattle.std.specs.Prelude.{◌≡◌, None, Some, Ok, Err, is_none, true, false};
 ghost use Rattle.as2_exchange.specs.Documents.{submit};
 ghost use Rattle.as2_exchange.specs.declared.answer.Refusal.{Refusal as TheRefusal};
 ghost use Rattle.as2_mdn.specs.declared.detail.Detail.TheVariants.{New};
@@ -49,7 +49,7 @@ fn new_document(
     content: Pieces,
     moment: Moment,
 ) -> OutEntry
-    ensures { result ≡ record { number = number; organization = organization; partner = partner; id = id; content = content; moment = moment; tries = 0; attempt = Idle; due = Some moment; detail = New; evidence = None } }
+    ensures { result ≡ record { number = number; organization = organization; partner = partner; id = id; content = content; moment = moment; begun = false; tries = 0; attempt = Idle; due = Some moment; detail = New; evidence = None } }
 {
     OutEntry {
         number,
@@ -58,6 +58,7 @@ fn new_document(
         id,
         content,
         moment,
+        begun: false,
         tries: 0,
         attempt: Attempt::Idle,
         due: Some(moment.seconds()),

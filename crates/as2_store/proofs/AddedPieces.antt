@@ -14,12 +14,12 @@ use Rattle.sql_tables.proofs.Sorting.{unchanged, one_more_row}
 use Rattle.sql_tables.proofs.Writes.{cast_int, cast_null, IsOneRow, inserts_chosen}
 use Rattle.as2_mic.specs.Pieces.{piece_size, piece_at}
 use Rattle.as2_rows.specs.Contents.{Piece, piece_bytes, piece_of, piece_shown}
-use Rattle.as2_store.specs.Tables.{store_schema, inbox_piece_table, inbox_piece_tree, outbox_piece_table, outbox_piece_tree}
+use Rattle.as2_store.specs.Tables.{Way, store_schema, inbox_piece_table, inbox_piece_tree, outbox_piece_table, outbox_piece_tree}
 use Rattle.as2_store.specs.declared.contents.Mailbox.{Mailbox}
 use Rattle.as2_store.specs.declared.contents.Mailbox.TheVariants.{Inbox, Outbox}
 use Rattle.as2_store.proofs.Statements.{piece_put_text}
 use Rattle.as2_store.specs.Adding.{Appended, piece_tree}
-use Rattle.as2_store.proofs.Texts.{piece_put_terms, in_piece_put_is, in_piece_put_plain, out_piece_put_is, out_piece_put_plain}
+use Rattle.as2_store.proofs.Texts.{inbox_piece_place, inbox_piece_there, piece_put_terms, in_piece_put_is, in_piece_put_plain, out_piece_put_is, out_piece_put_plain}
 
 -- ---- one more
 
@@ -33,31 +33,31 @@ pub others_then : (a b c : Trees) (tree : ℕ) (tables : List Table) → AllByRe
 others_then a b c tree [] one two = tt
 others_then a b c tree (t ∷ tables) one two = (λ other. two.0 other ∙ one.0 other, others_then a b c tree tables one.1 two.1)
 
-pub appended_then : (a b c : Connected) (tree : ℕ) (ps qs : List Piece) → Appended a b tree ps → Appended b c tree qs → Appended a c tree (ps ++ qs)
-appended_then a b c tree ps qs one two = record {
+pub appended_then : (way : Way) (a b c : Connected) (tree : ℕ) (ps qs : List Piece) → Appended way a b tree ps → Appended way b c tree qs → Appended way a c tree (ps ++ qs)
+appended_then way a b c tree ps qs one two = record {
   schema_is = two.schema_is;
   pieces_are = λ before are. subst (λ all. HasRows (c.now.trees tree) (map piece_shown all)) (append_assoc before ps qs) (two.pieces_are (before ++ ps) (one.pieces_are before are));
-  others = others_then a.now.trees b.now.trees c.now.trees tree store_schema.tables one.others two.others;
+  others = others_then a.now.trees b.now.trees c.now.trees tree (store_schema way).tables one.others two.others;
 }
 
 -- ---- the statement
 
-in_piece : (p : Piece) → IsOneRow inbox_piece_table (piece_shown p) piece_put_terms 4 (Null ∷ piece_shown p)
-in_piece p = record { source = Null ∷ piece_shown p; made = refl; cast_is = simp (cast_null, cast_int) }
+in_piece : (way : Way) (p : Piece) → IsOneRow (inbox_piece_table way) (piece_shown p) piece_put_terms 4 (Null ∷ piece_shown p)
+in_piece way p = record { source = Null ∷ piece_shown p; made = refl; cast_is = simp (cast_null, cast_int) }
 
 out_piece : (p : Piece) → IsOneRow outbox_piece_table (piece_shown p) piece_put_terms 4 (Null ∷ piece_shown p)
 out_piece p = record { source = Null ∷ piece_shown p; made = refl; cast_is = simp (cast_null, cast_int) }
 
-pub puts_piece_in : (mailbox : Mailbox) (old new : Connected) (p : Piece) (count : ℕ) → old.now.schema ≡ store_schema → Executes (piece_put_text mailbox) (piece_shown p) old new (Ok count) → Appended old new (piece_tree mailbox) (p ∷ [])
-puts_piece_in Inbox old new p count has h =
-    let it = inserts_chosen (piece_put_text Inbox) (piece_shown p) old new store_schema has 2 inbox_piece_table refl refl piece_put_terms 4 (Null ∷ piece_shown p) (in_piece p) (piece_shown p) refl in_piece_put_is in_piece_put_plain count h in
+pub puts_piece_in : (way : Way) (mailbox : Mailbox) (old new : Connected) (p : Piece) (count : ℕ) → old.now.schema ≡ store_schema way → Executes (piece_put_text mailbox) (piece_shown p) old new (Ok count) → Appended way old new (piece_tree way mailbox) (p ∷ [])
+puts_piece_in way Inbox old new p count has h =
+    let it = inserts_chosen (piece_put_text Inbox) (piece_shown p) old new (store_schema way) has (inbox_piece_place way) (inbox_piece_table way) (inbox_piece_there way) refl piece_put_terms 4 (Null ∷ piece_shown p) (in_piece way p) (piece_shown p) refl (in_piece_put_is way) (in_piece_put_plain way) count h in
     record {
       schema_is = it.schema_is;
-      pieces_are = λ before are. unchanged it.rows_are (puts_piece p before (old.now.trees inbox_piece_tree) are);
+      pieces_are = λ before are. unchanged it.rows_are (puts_piece p before (old.now.trees (inbox_piece_tree way)) are);
       others = it.others;
     }
-puts_piece_in Outbox old new p count has h =
-    let it = inserts_chosen (piece_put_text Outbox) (piece_shown p) old new store_schema has 4 outbox_piece_table refl refl piece_put_terms 4 (Null ∷ piece_shown p) (out_piece p) (piece_shown p) refl out_piece_put_is out_piece_put_plain count h in
+puts_piece_in way Outbox old new p count has h =
+    let it = inserts_chosen (piece_put_text Outbox) (piece_shown p) old new (store_schema way) has 4 outbox_piece_table refl refl piece_put_terms 4 (Null ∷ piece_shown p) (out_piece p) (piece_shown p) refl (out_piece_put_is way) (out_piece_put_plain way) count h in
     record {
       schema_is = it.schema_is;
       pieces_are = λ before are. unchanged it.rows_are (puts_piece p before (old.now.trees outbox_piece_tree) are);

@@ -15,6 +15,7 @@ use Rattle.as2_exchange.proofs.Lists.{all_weaken, map_kept}
 use Rattle.as2_rows.specs.Rows.{out_row, evidence_row}
 use Rattle.as2_rows.specs.Contents.{pieces}
 use Rattle.as2_rows.specs.Waiting.{out_waiting}
+use Rattle.as2_store.specs.Tables.{Layout}
 use Rattle.as2_store.specs.Stands.{Stands, waiting_row, all_waiting, evidence_rows, outbox_pieces}
 use Rattle.as2_store.specs.Adding.{noted_rows}
 use Rattle.as2_store.specs.Settling.{without_document}
@@ -70,7 +71,7 @@ module _ (f : OutEntry → OutEntry) (number_kept : (d : OutEntry) → (f d).num
   -- ---- what waits
 
   -- what the document waits for now goes in where what it waited for is taken out
-  pub waits_changed : (t : Database) (s : State) → Stands t s → (it : Split out_number n s.outbox) → noted_rows (out_waiting (f it.one)) (map waiting_row (without_document n (all_waiting s))) ≡ map waiting_row (all_waiting (change_document s n f))
+  pub waits_changed : {layout : Layout} (t : Database) (s : State) → Stands layout t s → (it : Split out_number n s.outbox) → noted_rows (out_waiting (f it.one)) (map waiting_row (without_document n (all_waiting s))) ≡ map waiting_row (all_waiting (change_document s n f))
   waits_changed t s stood it =
       let outs = all_weaken (λ k. k < s.next_out) (λ k. k < end_of_numbers) (λ k less. omega (arith, less, stood.documents.0.most)) (map (λ (d : OutEntry). d.number) s.outbox) stood.documents.1.below in
       let ins = all_weaken (λ k. k < s.next_in) (λ k. k < end_of_numbers) (λ k less. omega (arith, less, stood.receipts.0.most)) (map (λ (e : InEntry). e.number) s.inbox) stood.receipts.1.below in

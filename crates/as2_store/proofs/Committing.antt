@@ -11,8 +11,8 @@ use Rattle.sqlite_trees.specs.Tree.{Trees}
 use Rattle.sqlite.proofs.StateLemmas.{survives_then}
 use Rattle.sqlite.proofs.Callers.{survives_begin}
 use Rattle.as2_exchange.specs.State.{State}
-use Rattle.as2_store.specs.Tables.{store_schema}
-use Rattle.as2_store.specs.Stands.{Stands, Rests}
+use Rattle.as2_store.specs.Tables.{VersionThree, store_schema}
+use Rattle.as2_store.specs.Stands.{Stands, Holds, Rests}
 use Rattle.as2_store.specs.Calls.{IsInside, Keeps, Commits, Writes}
 use Rattle.as2_store.proofs.TransactionEnds.{rests_committed, rests_after, keeps_then}
 use Rattle.sqlite_schema.specs.declared.schema.Schema.{Schema}
@@ -28,15 +28,15 @@ inside_then a b c one two = record {
 
 -- ---- what stands is kept
 
-pub keeps_of : (d : Database) (s : State) → Stands d s → Keeps d.trees s
-keeps_of d s stands =
-    let same : d ≡ record { schema = store_schema; trees = d.trees } = ap (λ (x : Schema). let e : Database = record { schema = x; trees = d.trees } in e) stands.schema in
-    subst (λ (e : Database). Stands e s) same stands
+pub keeps_of : (d : Database) (s : State) → Holds d s → Keeps d.trees s
+keeps_of d s it =
+    let same : d ≡ record { schema = store_schema it.way; trees = d.trees } = ap (λ (x : Schema). let e : Database = record { schema = x; trees = d.trees } in e) it.stands.schema in
+    record { way = it.way; stands = subst (λ (e : Database). Stands (VersionThree it.way) e s) same it.stands }
 
 -- the statements of a transaction took each state that the tables stood for to the next one
 pub record FollowsEach {S : Type 0} (g : Ghosts S) (old : Held S) (last : Connected) (next : State → Option State) : Type 0 where
   pub was_open : IsTrue (state g old).is_open
-  pub reaches : (s : State) → Rests (state g old) s → (t : State) × (next s ≡ Some t) × Stands last.now t
+  pub reaches : (s : State) → Rests (state g old) s → (t : State) × (next s ≡ Some t) × Holds last.now t
 
 -- a statement that ran in it, whether it failed or not
 pub ran_inside : {S : Type 0} (g : Ghosts S) (sql : List ℕ) (params : Row) (old new : Held S) (r : Result ℕ Error) (stop : Error) (ended : old.in_transaction ≡ false → (r ≡ Err stop) × (new ≡ old))

@@ -23,14 +23,18 @@ each_shown column row (x ∷ xs) = ap (λ l. row (column x) ∷ l) (each_shown c
 
 pub finds_details : (old new : Connected) (rows : List Row) → Shown detail_text [] old new rows → (s : State) → Rests old s → rows ≡ map detail_row (details_of s)
 finds_details old new rows h s r =
-    let it = r.stands (shown_open detail_text [] old new rows h) in
-    reads_rows detail_text detail_plain detail_unlisted outbox_tree [] detail_column_terms (codes "detail" ∷ []) detail_is [] out_row (λ (d : OutEntry). detail_row d.detail) (λ _. refl) (λ _. true) (λ _. refl) old new rows h it.schema s.outbox it.entries.outbox
+    let here = r.stands (shown_open detail_text [] old new rows h) in
+    let way = here.way in
+    let it = here.stands in
+    reads_rows way detail_text (detail_plain way) (detail_unlisted way) outbox_tree [] detail_column_terms (codes "detail" ∷ []) (detail_is way) [] out_row (λ (d : OutEntry). detail_row d.detail) (λ _. refl) (λ _. true) (λ _. refl) old new rows h it.schema s.outbox it.entries.outbox
     (entries_rise out_row (λ (d : OutEntry). d.number) (λ _. refl) s.next_out s.outbox it.documents.1)
     ∙ each_shown (λ (d : OutEntry). d.detail) detail_row s.outbox
 
 pub finds_mdns : (old new : Connected) (rows : List Row) → Shown mdn_text [] old new rows → (s : State) → Rests old s → rows ≡ map mdn_row (mdns_of s)
 finds_mdns old new rows h s r =
-    let it = r.stands (shown_open mdn_text [] old new rows h) in
-    reads_rows mdn_text mdn_plain mdn_unlisted inbox_tree [] mdn_column_terms (codes "mdn" ∷ []) mdn_is [] in_row (λ (e : InEntry). mdn_row e.mdn) (λ _. refl) (λ _. true) (λ _. refl) old new rows h it.schema s.inbox it.entries.inbox
+    let here = r.stands (shown_open mdn_text [] old new rows h) in
+    let way = here.way in
+    let it = here.stands in
+    reads_rows way mdn_text (mdn_plain way) (mdn_unlisted way) (inbox_tree way) [] mdn_column_terms (codes "mdn" ∷ []) (mdn_is way) [] in_row (λ (e : InEntry). mdn_row e.mdn) (λ _. refl) (λ _. true) (λ _. refl) old new rows h it.schema s.inbox it.entries.inbox
     (entries_rise in_row (λ (e : InEntry). e.number) (λ _. refl) s.next_in s.inbox it.receipts.1)
     ∙ each_shown (λ (e : InEntry). e.mdn) mdn_row s.inbox

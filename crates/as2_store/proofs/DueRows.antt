@@ -28,7 +28,7 @@ use Rattle.as2_exchange.specs.declared.outbox.OutEntry.{OutEntry}
 use Rattle.as2_exchange.proofs.Lists.{all_weaken}
 use Rattle.as2_rows.specs.Rows.{whole, whole_or_null}
 use Rattle.as2_rows.specs.Waiting.{WaitingRow, waiting_in, to_send, to_answer, to_hear, to_end}
-use Rattle.as2_store.specs.Tables.{store_schema, waiting_tree}
+use Rattle.as2_store.specs.Tables.{Layout, store_schema, waiting_tree}
 use Rattle.as2_store.specs.Stands.{Stands, Rests, place, waiting_row, documents_waiting, all_waiting}
 use Rattle.as2_store.specs.Due.{due_waiting, due_numbers, number_rows}
 use Rattle.as2_store.proofs.Statements.{any_due_text, least_due_text}
@@ -70,7 +70,7 @@ same_kind kind m w small = joined (nat_le (kind * end_of_numbers) (place w)) (na
 
 -- ---- what waits
 
-pub numbers_small : (t : Connected) (s : State) → Stands t.now s → AllByRecursion (λ w. w.number < end_of_numbers) (all_waiting s)
+pub numbers_small : {layout : Layout} (t : Connected) (s : State) → Stands layout t.now s → AllByRecursion (λ w. w.number < end_of_numbers) (all_waiting s)
 numbers_small t s it =
     let outs = all_weaken (λ k. k < s.next_out) (λ k. k < end_of_numbers) (λ k less. omega (arith, less, it.documents.0.most)) (map (λ (d : OutEntry). d.number) s.outbox) it.documents.1.below in
     let ins = all_weaken (λ k. k < s.next_in) (λ k. k < end_of_numbers) (λ k less. omega (arith, less, it.receipts.0.most)) (map (λ (e : InEntry). e.number) s.inbox) it.receipts.1.below in
@@ -140,8 +140,10 @@ first_shown (w ∷ ws) up = sym (ap number_rows (first_is_least w.number (map (�
 
 pub finds_none : (kind m : ℕ) (old new : Connected) (rows : List Row) → Shown any_due_text (any_params kind m) old new rows → (s : State) → Rests old s → rows ≡ [] → due_numbers kind m s ≡ []
 finds_none kind m old new rows h s r none =
-    let it = r.stands (shown_open any_due_text (any_params kind m) old new rows h) in
-    let read = reads_as any_due_text (any_params kind m) old new store_schema it.schema (Select (record { lets = []; body = over_table waiting_tree any_due_terms due_columns [] (lit (Int (pos 1))) }) _) any_due_is any_due_plain any_due_unlisted rows h in
+    let here = r.stands (shown_open any_due_text (any_params kind m) old new rows h) in
+    let way = here.way in
+    let it = here.stands in
+    let read = reads_as any_due_text (any_params kind m) old new (store_schema way) it.schema (Select (record { lets = []; body = over_table waiting_tree any_due_terms due_columns [] (lit (Int (pos 1))) }) _) (any_due_is way) (any_due_plain way) (any_due_unlisted way) rows h in
     let passed = none_passes waiting_tree any_due_terms due_columns old.now.trees (any_params kind m) rows read.answer none in
     let same = sym (filter-map (passes any_due_terms (any_params kind m)) waiting_row (all_waiting s)) ∙ ap (filter (passes any_due_terms (any_params kind m))) (sym it.entries.waits) ∙ passed in
     ap (map (λ w. w.number)) (sym (filter_agree (λ w. passes any_due_terms (any_params kind m) (waiting_row w)) (λ w. w.kind == kind && is_due m w.due) (any_passes kind m) (all_waiting s)) ∙ unmapped _ same)
@@ -152,8 +154,10 @@ finds_none kind m old new rows h s r none =
 
 pub finds_least : (kind m : ℕ) (old new : Connected) (rows : List Row) → Shown least_due_text (least_params kind m) old new rows → (s : State) → Rests old s → rows ≡ number_rows (least (due_numbers kind m s))
 finds_least kind m old new rows h s r =
-    let it = r.stands (shown_open least_due_text (least_params kind m) old new rows h) in
-    let read = reads_as least_due_text (least_params kind m) old new store_schema it.schema (Select (record { lets = []; body = over_table waiting_tree least_due_terms due_columns by_number (lit (Int (pos 1))) }) _) least_due_is least_due_plain least_due_unlisted rows h in
+    let here = r.stands (shown_open least_due_text (least_params kind m) old new rows h) in
+    let way = here.way in
+    let it = here.stands in
+    let read = reads_as least_due_text (least_params kind m) old new (store_schema way) it.schema (Select (record { lets = []; body = over_table waiting_tree least_due_terms due_columns by_number (lit (Int (pos 1))) }) _) (least_due_is way) (least_due_plain way) (least_due_unlisted way) rows h in
     let table = places_in_order old.now s it in
     let up = ascending-filter _ (λ w. w.kind == kind && is_due m w.due) (all_waiting s) (ascending_from_map _ waiting_row (all_waiting s) table) in
     shows_entries waiting_tree least_due_terms due_columns (lit (Int (pos 1))) old.now.trees (least_params kind m) rows waiting_row (is_between kind m) number_shown (least_passes kind m) (λ _. refl) (all_waiting s) it.entries.waits table read.answer

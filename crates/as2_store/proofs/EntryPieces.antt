@@ -23,7 +23,7 @@ use Rattle.as2_rows.specs.Rows.{whole}
 use Rattle.as2_rows.specs.Contents.{Piece, pieces, piece_of, piece_shown}
 use Rattle.as2_rows.proofs.Joining.{pieces_rise}
 use Rattle.as2_mic.specs.Pieces.{piece_count}
-use Rattle.as2_store.specs.Tables.{store_schema, inbox_piece_tree, outbox_piece_tree}
+use Rattle.as2_store.specs.Tables.{Way, store_schema, inbox_piece_tree, outbox_piece_tree}
 use Rattle.as2_store.proofs.Statements.{in_pieces_text, out_pieces_text}
 use Rattle.as2_store.specs.Stands.{Rests}
 use Rattle.as2_store.proofs.QueriedRows.{and_true, found_all}
@@ -87,14 +87,14 @@ abbrev pieces_command : ℕ → Command
 pieces_command tree = Select (record { lets = []; body = over_table tree piece_terms piece_column_terms (by_column 2) (lit (Int (negsuc 0))) }) (codes "number" ∷ codes "position" ∷ codes "bytes" ∷ [])
 
 -- a query of the pieces of the entry of a number
-module _ (sql : List ℕ) (tree : ℕ) (is : command_of (understood store_schema sql) ≡ pieces_command tree) (plain : IsPlain (understood store_schema sql)) (unlisted : reads_listing store_schema sql ≡ false)
+module _ (way : Way) (sql : List ℕ) (tree : ℕ) (is : command_of (understood (store_schema way) sql) ≡ pieces_command tree) (plain : IsPlain (understood (store_schema way) sql)) (unlisted : reads_listing (store_schema way) sql ≡ false)
     {X : Type 0} (number : X → ℕ) (content : X → List ℕ) where
-  finds_pieces : (old new : Connected) (n : ℕ) (rows : List Row) → Shown sql (number_params n) old new rows → old.now.schema ≡ store_schema → (xs : List X)
+  finds_pieces : (old new : Connected) (n : ℕ) (rows : List Row) → Shown sql (number_params n) old new rows → old.now.schema ≡ (store_schema way) → (xs : List X)
       → HasRows (old.now.trees tree) (map piece_shown (all_pieces number content xs)) → IsDistinct (λ a b. a == b) (map number xs) → (p : X → Bool) (e : X) → find p xs ≡ Some e → n ≡ number e
       → rows ≡ map piece_shown (pieces (number e) (content e))
   finds_pieces old new n rows h has xs are distinct p e found same =
       let ps = all_pieces number content xs in
-      let read = reads_as sql (number_params n) old new store_schema has (pieces_command tree) is plain unlisted rows h in
+      let read = reads_as sql (number_params n) old new (store_schema way) has (pieces_command tree) is plain unlisted rows h in
       let own : filter (λ q. q.number == n) ps ≡ pieces (number e) (content e) = ap (λ k. filter (λ (q : Piece). q.number == k) ps) same ∙ gathers number content p xs e distinct found in
       shows_sorted_entries tree piece_terms piece_column_terms 1 old.now.trees (number_params n) rows piece_shown (λ q. q.number == n) piece_shown
       (λ _ q. ap (λ b. b && true) (numbers_equal q.number n) ∙ and_true _) (λ _ q. refl) ps are
@@ -104,11 +104,15 @@ module _ (sql : List ℕ) (tree : ℕ) (is : command_of (understood store_schema
 pub finds_in_pieces : (old new : Connected) (n : ℕ) (rows : List Row) → Shown in_pieces_text (number_params n) old new rows → (s : State) → Rests old s → (p : InEntry → Bool) (e : InEntry) → find p s.inbox ≡ Some e → n ≡ e.number
     → rows ≡ map piece_shown (pieces e.number e.posted.content)
 finds_in_pieces old new n rows h s r =
-    let it = r.stands (shown_open in_pieces_text (number_params n) old new rows h) in
-    finds_pieces in_pieces_text inbox_piece_tree in_pieces_is in_pieces_plain in_pieces_unlisted (λ (e : InEntry). e.number) (λ e. e.posted.content) old new n rows h it.schema s.inbox it.entries.inbox_contents it.receipts.1.distinct
+    let here = r.stands (shown_open in_pieces_text (number_params n) old new rows h) in
+    let way = here.way in
+    let it = here.stands in
+    finds_pieces way in_pieces_text (inbox_piece_tree way) (in_pieces_is way) (in_pieces_plain way) (in_pieces_unlisted way) (λ (e : InEntry). e.number) (λ e. e.posted.content) old new n rows h it.schema s.inbox it.entries.inbox_contents it.receipts.1.distinct
 
 pub finds_out_pieces : (old new : Connected) (n : ℕ) (rows : List Row) → Shown out_pieces_text (number_params n) old new rows → (s : State) → Rests old s → (p : OutEntry → Bool) (d : OutEntry) → find p s.outbox ≡ Some d → n ≡ d.number
     → rows ≡ map piece_shown (pieces d.number d.content)
 finds_out_pieces old new n rows h s r =
-    let it = r.stands (shown_open out_pieces_text (number_params n) old new rows h) in
-    finds_pieces out_pieces_text outbox_piece_tree out_pieces_is out_pieces_plain out_pieces_unlisted (λ (d : OutEntry). d.number) (λ d. d.content) old new n rows h it.schema s.outbox it.entries.outbox_contents it.documents.1.distinct
+    let here = r.stands (shown_open out_pieces_text (number_params n) old new rows h) in
+    let way = here.way in
+    let it = here.stands in
+    finds_pieces way out_pieces_text outbox_piece_tree (out_pieces_is way) (out_pieces_plain way) (out_pieces_unlisted way) (λ (d : OutEntry). d.number) (λ d. d.content) old new n rows h it.schema s.outbox it.entries.outbox_contents it.documents.1.distinct

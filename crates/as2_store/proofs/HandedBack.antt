@@ -15,10 +15,11 @@ use Rattle.as2_exchange.specs.declared.fault.StoreFault.{StoreFault}
 use Rattle.as2_exchange.specs.declared.fault.StoreFault.TheVariants.{NotAStore}
 use Rattle.sqlite.specs.Schema.{Schema}
 use Rattle.as2_store.proofs.Statements.{meta_read_text}
-use Rattle.as2_store.specs.Stands.{Stands, MetaSays, adoption_fault}
+use Rattle.as2_store.specs.Tables.{current_number}
+use Rattle.as2_store.specs.Stands.{Holds, MetaSays, adoption_fault}
 use Rattle.as2_records.specs.Standing.{may_come}
 use Rattle.as2_store.specs.Calls.{IsInside, IsGivenBack, IsReason, Writes, Adopts}
-use Rattle.as2_store.proofs.MetaRow.{said_fails, reads_said, says_of, meta_cells}
+use Rattle.as2_store.proofs.MetaRow.{said_fails, reads_said, says_held, meta_cells}
 
 -- ---- a transaction that is given up
 
@@ -68,13 +69,13 @@ comes c f is = record { of_store = λ s r. is; of_row = λ kind version it. inl 
 pub unread_by : {S : Type 0} (g : Ghosts S) (old : Held S) (mid : Connected) (e : Error) (f : StoreFault) → FailsToQuery meta_read_text [] (state g (record old { in_transaction = true })) mid e ⊎ IsTooLate meta_read_text [] (state g (record old { in_transaction = true })) mid e
     → (IsOutside e → may_come f ≡ true) → (may_come f ≡ true) ⊎ (f ≡ NotAStore) → IsReason (state g old) f
 unread_by g old mid e f failed outside known = record {
-  of_store = λ s r. elim (fails_by g old mid e failed) [ inl out ↦ outside out | inr opened ↦ outside (row_fails g old mid e failed (codes "as2-station") 1 (says_of (state g old) s (r.stands opened))) ];
+  of_store = λ s r. elim (fails_by g old mid e failed) [ inl out ↦ outside out | inr opened ↦ outside (row_fails g old mid e failed (codes "as2-station") current_number (says_held (state g old) s (r.stands opened))) ];
   of_row = λ kind version it. inl (outside (row_fails g old mid e failed kind version it));
   of_blank = λ blank. known;
 }
 
-tables_of_store : (c : Connected) (s : State) → Stands c.now s → c.now.schema.tables ≡ [] → ⊥
-tables_of_store c s it none = let same = sym (ap (λ (k : Schema). k.tables) it.schema) ∙ none in cc
+tables_of_store : (c : Connected) (s : State) → Holds c.now s → c.now.schema.tables ≡ [] → ⊥
+tables_of_store c s it none = let same = sym (ap (λ (k : Schema). k.tables) it.stands.schema) ∙ none in cc
 
 tables_said : (c : Connected) (kind : List ℕ) (version : ℕ) → MetaSays c kind version → c.now.schema.tables ≡ [] → ⊥
 tables_said c kind version it none = let same = sym (ap (λ (k : Schema). k.tables) it.schema) ∙ none in cc
@@ -94,8 +95,8 @@ said_by g old mid rows f shown says tables =
     let opened = shown_open meta_read_text [] (state g (record old { in_transaction = true })) mid rows shown in
     record {
       of_store = λ s r.
-          let it = says_of (state g old) s (r.stands opened) in
-          let none : Some f ≡ None = says (codes "as2-station") 1 it.next_receipt it.next_document (row_shown g old mid rows shown (codes "as2-station") 1 it) in
+          let it = says_held (state g old) s (r.stands opened) in
+          let none : Some f ≡ None = says (codes "as2-station") current_number it.next_receipt it.next_document (row_shown g old mid rows shown (codes "as2-station") current_number it) in
           absurd cc;
       of_row = λ kind version it. inr (sym (says kind version it.next_receipt it.next_document (row_shown g old mid rows shown kind version it)));
       of_blank = λ blank. absurd (tables (ap (λ (k : Schema). k.tables) (blank.no_table opened)));

@@ -23,7 +23,7 @@ use Rattle.as2_exchange.specs.State.{State, end_of_numbers}
 use Rattle.as2_exchange.specs.declared.inbox.InEntry.{InEntry}
 use Rattle.as2_exchange.specs.Readings.{value_of}
 use Rattle.as2_rows.specs.Rows.{in_row, in_shown}
-use Rattle.as2_store.specs.Tables.{store_schema, inbox_tree}
+use Rattle.as2_store.specs.Tables.{Way, store_schema, inbox_tree}
 use Rattle.as2_store.proofs.Statements.{in_by_key_text, in_by_number_text, in_all_text}
 use Rattle.as2_store.specs.Stands.{Rests}
 use Rattle.as2_exchange.specs.State.{has_key}
@@ -32,13 +32,15 @@ use Rattle.as2_store.proofs.QueriedRows.{reads_rows, and_true}
 use Rattle.as2_store.proofs.Texts.{in_column_terms, in_names, key_terms, number_terms, in_by_number_is, in_by_number_plain, in_by_number_unlisted, in_by_key_is, in_by_key_plain, in_by_key_unlisted, in_all_is, in_all_plain, in_all_unlisted}
 
 -- a query over the inbox, in the order of the numbers
-module _ (sql : List ℕ) (plain : IsPlain (understood store_schema sql)) (unlisted : reads_listing store_schema sql ≡ false) (terms : List Term)
-    (is : command_of (understood store_schema sql) ≡ Select (record { lets = []; body = over_table inbox_tree terms in_column_terms by_number (lit (Int (negsuc 0))) }) in_names) (params : Row)
+module _ (sql : List ℕ) (plain : (way : Way) → IsPlain (understood (store_schema way) sql)) (unlisted : (way : Way) → reads_listing (store_schema way) sql ≡ false) (terms : List Term)
+    (is : (way : Way) → command_of (understood (store_schema way) sql) ≡ Select (record { lets = []; body = over_table (inbox_tree way) terms in_column_terms by_number (lit (Int (negsuc 0))) }) in_names) (params : Row)
     (p : InEntry → Bool) (same : (e : InEntry) → passes terms params (in_row e) ≡ p e) where
   reads_entries : (old new : Connected) (rows : List Row) → Shown sql params old new rows → (s : State) → Rests old s → rows ≡ map in_shown (filter p s.inbox)
   reads_entries old new rows h s r =
-      let it = r.stands (shown_open sql params old new rows h) in
-      reads_rows sql plain unlisted inbox_tree terms in_column_terms in_names is params in_row in_shown (λ _. refl) p same old new rows h it.schema s.inbox it.entries.inbox
+      let here = r.stands (shown_open sql params old new rows h) in
+      let way = here.way in
+      let it = here.stands in
+      reads_rows way sql (plain way) (unlisted way) (inbox_tree way) terms in_column_terms in_names (is way) params in_row in_shown (λ _. refl) p same old new rows h it.schema s.inbox it.entries.inbox
       (entries_rise in_row (λ (e : InEntry). e.number) (λ _. refl) s.next_in s.inbox it.receipts.1)
 
 abbrev pub key_params : List ℕ → List ℕ → List ℕ → Row
@@ -80,7 +82,7 @@ same_tests number n w beyond within (e ∷ es) all = (same_test n w (number e) b
 pub finds_number : (n w : ℕ) → (end_of_numbers ≤ n → w ≡ end_of_numbers) → (n < end_of_numbers → w ≡ n) → (old new : Connected) (rows : List Row) → Shown in_by_number_text (by_number_params w) old new rows → (s : State) → Rests old s
     → rows ≡ map in_shown (filter (λ (e : InEntry). e.number == n) s.inbox)
 finds_number n w beyond within old new rows h s r =
-    let it = r.stands (shown_open in_by_number_text (by_number_params w) old new rows h) in
+    let it = (r.stands (shown_open in_by_number_text (by_number_params w) old new rows h)).stands in
     let low = all_weaken (λ m. m < s.next_in) (λ m. m < end_of_numbers) (λ m less. omega (arith, less, it.receipts.0.most)) (map (λ (e : InEntry). e.number) s.inbox) it.receipts.1.below in
     reads_entries in_by_number_text in_by_number_plain in_by_number_unlisted number_terms in_by_number_is (by_number_params w) (λ e. e.number == w) (λ e. ap (λ b. b && true) (numbers_equal e.number w) ∙ and_true _) old new rows h s r
     ∙ ap (map in_shown) (filter_same (λ (e : InEntry). e.number == w) (λ (e : InEntry). e.number == n) s.inbox (same_tests (λ (e : InEntry). e.number) n w beyond within s.inbox low))

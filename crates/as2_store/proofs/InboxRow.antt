@@ -20,10 +20,10 @@ use Rattle.as2_exchange.specs.declared.attempt.Attempt.TheVariants.{Idle, Runnin
 use Rattle.as2_rows.specs.Codes.{outcome_code, how_code, mdn_code, attempt_code}
 use Rattle.as2_store.proofs.MetaRow.{fits_i64}
 use Rattle.as2_rows.specs.Rows.{in_row, in_shown, url_value, digest_value, mic_value}
-use Rattle.as2_store.specs.Tables.{store_schema, inbox_table, inbox_tree}
+use Rattle.as2_store.specs.Tables.{Way, store_schema, inbox_table, inbox_tree}
 use Rattle.as2_store.proofs.Statements.{in_put_text}
 use Rattle.as2_store.proofs.WaitingRows.{cast_optional}
-use Rattle.as2_store.proofs.Texts.{in_put_terms, in_put_is, in_put_plain}
+use Rattle.as2_store.proofs.Texts.{inbox_place, inbox_there, in_put_terms, in_put_is, in_put_plain}
 
 pub cast_url : (how : ReceiptDelivery) → cast Blob (url_value how) ≡ url_value how
 cast_url NoReceipt = refl
@@ -92,10 +92,10 @@ passed_attempt attempt = fits_i64 (attempt_code attempt) (small attempt)
 
 -- ---- the statement
 
-one_in : (e : InEntry) → IsOneRow inbox_table (in_shown e) in_put_terms 18 (in_row e)
-one_in e = record { source = in_row e; made = refl; cast_is = simp (cast_int, cast_null, cast_optional, cast_url, cast_digest, cast_mic) }
+one_in : (way : Way) (e : InEntry) → IsOneRow (inbox_table way) (in_shown e) in_put_terms 18 (in_row e)
+one_in way e = record { source = in_row e; made = refl; cast_is = simp (cast_int, cast_null, cast_optional, cast_url, cast_digest, cast_mic) }
 
-pub puts_in : (old new : Connected) (e : InEntry) (count : ℕ) → old.now.schema ≡ store_schema → Executes in_put_text (in_shown e) old new (Ok count)
-    → Changed old new store_schema inbox_tree (put_row (in_row e) (old.now.trees inbox_tree))
-puts_in old new e count has h =
-    inserts_given in_put_text (in_shown e) old new store_schema has 1 inbox_table refl refl in_put_terms 18 (in_row e) (one_in e) refl in_put_is in_put_plain count h
+pub puts_in : (way : Way) (old new : Connected) (e : InEntry) (count : ℕ) → old.now.schema ≡ store_schema way → Executes in_put_text (in_shown e) old new (Ok count)
+    → Changed old new (store_schema way) (inbox_tree way) (put_row (in_row e) (old.now.trees (inbox_tree way)))
+puts_in way old new e count has h =
+    inserts_given in_put_text (in_shown e) old new (store_schema way) has (inbox_place way) (inbox_table way) (inbox_there way) refl in_put_terms 18 (in_row e) (one_in way e) refl (in_put_is way) (in_put_plain way) count h

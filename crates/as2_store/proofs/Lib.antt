@@ -3,6 +3,7 @@ mod Statements
 mod Texts
 mod ForeignKeys
 mod TransactionEnds
+mod Untouched
 pub mod Committing
 pub mod Querying
 mod HandedBack
@@ -15,9 +16,12 @@ mod InboxRow
 mod ListedRows
 mod AddedTables
 mod QueriedRows
+mod OriginRow
 mod InboxQueries
 mod EntryPieces
 mod NumberedEntries
+mod ResentRows
+mod ResentTables
 mod WaitingPlaces
 mod WaitingAmong
 mod ChangedDocuments

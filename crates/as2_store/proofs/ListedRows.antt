@@ -12,8 +12,8 @@ use Rattle.sqlite.proofs.StateLemmas.{survives_then, survives_weaker}
 use Rattle.as2_exchange.specs.State.{State}
 use Rattle.as2_exchange.specs.declared.fault.StoreFault.{StoreFault}
 use Rattle.as2_store.specs.Calls.{Commits, Reads}
-use Rattle.as2_store.specs.Stands.{Rests, Stands}
-use Rattle.as2_store.specs.Tables.{store_schema}
+use Rattle.as2_store.specs.Stands.{Rests, Holds}
+use Rattle.as2_store.specs.Tables.{Way, store_schema}
 use Rattle.as2_store.proofs.TransactionEnds.{rests_after}
 
 -- ---- the connection meanwhile
@@ -22,16 +22,17 @@ use Rattle.as2_store.proofs.TransactionEnds.{rests_after}
 pub rests_still : (old new : Connected) (s : State) → Rests old s → IsUnchanged old new ⊎ IsRolledBack old new → Rests new s
 rests_still old new s r (inl same) = record {
   autocommit = same.0.mode ∙ r.autocommit;
-  stands = λ _. subst (λ (d : Database). Stands d s) (sym same.0.now_is) (r.stands same.0.was_open);
+  stands = λ _. subst (λ (d : Database). Holds d s) (sym same.0.now_is) (r.stands same.0.was_open);
   committed = λ _. same.0.committed_is ∙ r.committed same.0.was_open ∙ sym same.0.now_is;
+  knows = r.knows;
 }
 rests_still old new s r (inr back) = rests_after old old new s r (record { was_open = λ opened. opened; committed = λ _. refl }) back
 
 -- a query of the store's tables leaves nothing to a crash that wasn't there
-pub leaves_nothing : (sql : List ℕ) (params : Row) (old new : Connected) → IsPlain (understood store_schema sql) → (HasCleanDisk old → IsTrue old.is_open) → Survives old new (CommitsShowing sql params old) → Survives old new (Commits Some old)
+pub leaves_nothing : (sql : List ℕ) (params : Row) (old new : Connected) → ((way : Way) → IsPlain (understood (store_schema way) sql)) → (HasCleanDisk old → IsTrue old.is_open) → Survives old new (CommitsShowing sql params old) → Survives old new (Commits Some old)
 leaves_nothing sql params old new plain opened survives = survives_weaker old new (CommitsShowing sql params old) (Commits Some old) (λ clean db shows.
     let was = opened (omega (arith, survives.clean, clean)) in
-    record { was_open = was; stands = λ s r. absurd (never_commits sql params old db (subst (λ k. IsPlain (understood k sql)) (sym (r.stands was).schema) plain) shows) }) survives
+    record { was_open = was; stands = λ s r. absurd (never_commits sql params old db (subst (λ k. IsPlain (understood k sql)) (sym (r.stands was).stands.schema) (plain (r.stands was).way)) shows) }) survives
 
 -- ---- what is listed
 
@@ -56,9 +57,9 @@ split shown (r ∷ given) row (x ∷ xs) all =
 
 module _ {S X Y : Type 0} (g : Ghosts S) (sql : List ℕ) (params : Row) (shown : X → Row) (listed : List X → List Y) (old : Held S) where
   -- none at first
-  pub none_listed : IsPlain (understood store_schema sql) → listed [] ≡ [] → (new : Held S) → HasBegun g sql params old new → IsTrue (state g old).is_open → (s : State) → Rests (state g old) s → HasListed g sql params shown listed old new []
+  pub none_listed : ((way : Way) → IsPlain (understood (store_schema way) sql)) → listed [] ≡ [] → (new : Held S) → HasBegun g sql params old new → IsTrue (state g old).is_open → (s : State) → Rests (state g old) s → HasListed g sql params shown listed old new []
   none_listed plain none new begun opened s r =
-      let both = begun_plain g sql params old new (subst (λ k. IsPlain (understood k sql)) (sym (r.stands opened).schema) plain) begun in
+      let both = begun_plain g sql params old new (subst (λ k. IsPlain (understood k sql)) (sym (r.stands opened).stands.schema) (plain (r.stands opened).way)) begun in
       record { given = []; has = both.0; same = both.1; read = λ xs all. empty xs all }
     where
       empty : (xs : List X) → [] ≡ map shown xs → [] ≡ listed xs

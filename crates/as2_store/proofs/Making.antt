@@ -7,8 +7,8 @@ use Rattle.sqlite.specs.Change.{created}
 use Rattle.sqlite.specs.Listing.{understood}
 use Rattle.sqlite.proofs.Callers.{IsPlain, command_of, statement_of}
 use Rattle.sqlite_tied.specs.Compute.{everything}
-use Rattle.as2_store.proofs.Statements.{meta_text, inbox_statement, inbox_piece_text, outbox_text, outbox_piece_text, evidence_statement, waiting_text, waiting_due_text}
-use Rattle.as2_store.specs.Tables.{meta_made, inbox_made, inbox_piece_made, outbox_made, outbox_piece_made, evidence_made, waiting_made, waiting_table, waiting_due_made, no_schema, inbox_schema, outbox_schema}
+use Rattle.as2_store.proofs.Statements.{meta_text, inbox2_text, inbox2_piece_text, outbox_text, outbox_piece_text, evidence_statement, waiting_text, waiting_due_text, origin_text, resent_text}
+use Rattle.as2_store.specs.Tables.{meta_made, inbox2_made, inbox2_piece_made, outbox_made, outbox_piece_made, evidence_made, waiting_made, waiting_table, waiting_due_made, origin_made, resent_made, no_schema, inbox_schema, outbox_schema, waiting_schema}
 
 -- ---- the schemas between
 
@@ -16,7 +16,7 @@ abbrev pub with_meta : Schema
 with_meta = created no_schema meta_made
 
 abbrev pub with_inbox : Schema
-with_inbox = created with_meta inbox_made
+with_inbox = created with_meta inbox2_made
 
 abbrev pub with_outbox : Schema
 with_outbox = created inbox_schema outbox_made
@@ -26,6 +26,9 @@ with_outbox_piece = created with_outbox outbox_piece_made
 
 abbrev pub with_waiting : Schema
 with_waiting = created outbox_schema waiting_made
+
+abbrev pub with_origin : Schema
+with_origin = created waiting_schema origin_made
 
 -- ---- the texts
 
@@ -41,27 +44,27 @@ pub meta_plain : IsPlain (understood no_schema meta_text)
 unfolding understood everything
 meta_plain = (refl, refl)
 
-pub inbox_is : table_defined_by inbox_statement ≡ Ok inbox_made
+pub inbox_is : table_defined_by inbox2_text ≡ Ok inbox2_made
 unfolding everything
 inbox_is = refl
 
-pub inbox_create : (command_of (understood with_meta inbox_statement) ≡ CreateTable) × (statement_of inbox_statement (understood with_meta inbox_statement) ≡ inbox_statement)
+pub inbox_create : (command_of (understood with_meta inbox2_text) ≡ CreateTable) × (statement_of inbox2_text (understood with_meta inbox2_text) ≡ inbox2_text)
 unfolding understood everything
 inbox_create = (refl, refl)
 
-pub inbox_plain : IsPlain (understood with_meta inbox_statement)
+pub inbox_plain : IsPlain (understood with_meta inbox2_text)
 unfolding understood everything
 inbox_plain = (refl, refl)
 
-pub inbox_piece_is : table_defined_by inbox_piece_text ≡ Ok inbox_piece_made
+pub inbox_piece_is : table_defined_by inbox2_piece_text ≡ Ok inbox2_piece_made
 unfolding everything
 inbox_piece_is = refl
 
-pub inbox_piece_create : (command_of (understood with_inbox inbox_piece_text) ≡ CreateTable) × (statement_of inbox_piece_text (understood with_inbox inbox_piece_text) ≡ inbox_piece_text)
+pub inbox_piece_create : (command_of (understood with_inbox inbox2_piece_text) ≡ CreateTable) × (statement_of inbox2_piece_text (understood with_inbox inbox2_piece_text) ≡ inbox2_piece_text)
 unfolding understood everything
 inbox_piece_create = (refl, refl)
 
-pub inbox_piece_plain : IsPlain (understood with_inbox inbox_piece_text)
+pub inbox_piece_plain : IsPlain (understood with_inbox inbox2_piece_text)
 unfolding understood everything
 inbox_piece_plain = (refl, refl)
 
@@ -124,3 +127,27 @@ waiting_due_create = (refl, refl)
 pub waiting_due_plain : IsPlain (understood with_waiting waiting_due_text)
 unfolding understood everything
 waiting_due_plain = (refl, refl)
+
+pub origin_is : table_defined_by origin_text ≡ Ok origin_made
+unfolding everything
+origin_is = refl
+
+pub origin_create : (command_of (understood waiting_schema origin_text) ≡ CreateTable) × (statement_of origin_text (understood waiting_schema origin_text) ≡ origin_text)
+unfolding understood everything
+origin_create = (refl, refl)
+
+pub origin_plain : IsPlain (understood waiting_schema origin_text)
+unfolding understood everything
+origin_plain = (refl, refl)
+
+pub resent_is : table_defined_by resent_text ≡ Ok resent_made
+unfolding everything
+resent_is = refl
+
+pub resent_create : (command_of (understood with_origin resent_text) ≡ CreateTable) × (statement_of resent_text (understood with_origin resent_text) ≡ resent_text)
+unfolding understood everything
+resent_create = (refl, refl)
+
+pub resent_plain : IsPlain (understood with_origin resent_text)
+unfolding understood everything
+resent_plain = (refl, refl)

@@ -27,10 +27,10 @@ use Rattle.sql_tables.proofs.Inside.{shown_open}
 use Rattle.sql_tables.proofs.Queries.{in_any_order, numbers_equal}
 use Rattle.sql_tables.proofs.Failing.{HasParameters, fails_outside}
 use Rattle.as2_exchange.specs.State.{State}
-use Rattle.as2_rows.specs.Rows.{whole, meta_row, meta_shown}
-use Rattle.as2_store.specs.Tables.{store_schema, meta_tree, meta_table, inbox_table, inbox_piece_table, outbox_table, outbox_piece_table, evidence_table, waiting_table}
+use Rattle.as2_rows.specs.Rows.{whole}
+use Rattle.as2_store.specs.Tables.{Way, Layout, VersionThree, number_of, current_number, behind_meta, indexes_of, store_schema, meta_tree, meta_table}
 use Rattle.as2_store.proofs.Statements.{meta_read_text, receipt_text, document_text}
-use Rattle.as2_store.specs.Stands.{Stands, Rests, MetaSays, HasCounters}
+use Rattle.as2_store.specs.Stands.{Stands, Holds, Rests, MetaSays, HasCounters, meta_row, meta_shown}
 use Rattle.as2_store.proofs.ForeignKeys.{quiet}
 use Rattle.as2_store.proofs.Texts.{meta_command, meta_columns, with_meta_first, meta_read_is, meta_read_plain, meta_read_unlisted, receipt_terms, receipt_project, receipt_is, receipt_plain, document_terms, document_project, document_is, document_plain}
 
@@ -75,19 +75,22 @@ reads_said old new rows h kind version it =
     one_permutation (meta_cells kind version it.next_receipt it.next_document) rows (subst (λ l. IsPermutation (map (shown_of meta_columns []) (chosen [] [] l)) rows) it.meta all)
 
 -- the tables of a store say its kind and its version
-pub says_of : (c : Connected) (s : State) → Stands c.now s → MetaSays c (codes "as2-station") 1
-says_of c s it = record {
+pub says_of : (layout : Layout) (c : Connected) (s : State) → Stands layout c.now s → MetaSays c (codes "as2-station") (number_of layout)
+says_of layout c s it = record {
   next_receipt = s.next_in;
   next_document = s.next_out;
-  tables = inbox_table ∷ inbox_piece_table ∷ outbox_table ∷ outbox_piece_table ∷ evidence_table ∷ waiting_table ∷ [];
-  indexes = store_schema.indexes;
+  tables = behind_meta layout;
+  indexes = indexes_of layout;
   schema = it.schema;
   meta = it.meta;
 }
 
-pub reads_meta : (old new : Connected) (rows : List Row) → Shown meta_read_text [] old new rows → (s : State) → Rests old s → rows ≡ meta_shown s.next_in s.next_out ∷ []
-unfolding says_of
-reads_meta old new rows h s r = reads_said old new rows h (codes "as2-station") 1 (says_of old s (r.stands (shown_open meta_read_text [] old new rows h)))
+pub says_held : (c : Connected) (s : State) → Holds c.now s → MetaSays c (codes "as2-station") current_number
+says_held c s it = says_of (VersionThree it.way) c s it.stands
+
+pub reads_meta : (old new : Connected) (rows : List Row) → Shown meta_read_text [] old new rows → (s : State) → Rests old s → rows ≡ meta_shown current_number s.next_in s.next_out ∷ []
+unfolding says_of says_held
+reads_meta old new rows h s r = reads_said old new rows h (codes "as2-station") current_number (says_held old s (r.stands (shown_open meta_read_text [] old new rows h)))
 
 -- ---- raising its counter
 
@@ -98,24 +101,24 @@ abbrev pub raise_params : ℕ → Row
 raise_params n = Int (pos n) ∷ Int (pos (n + 1)) ∷ []
 
 -- where a row was changed, it had this number
-pub counts_receipts : (old new : Connected) (number count n m : ℕ) → Executes receipt_text (raise_params number) old new (Ok count) → HasCounters old.now n m → count ≢ 0
-    → (number ≡ n) × Changed old new store_schema meta_tree (meta_row (number + 1) m ∷ [])
-counts_receipts old new number count n m h has some =
-    let done = updates receipt_text (raise_params number) old new store_schema has.schema 0 meta_table refl receipt_terms receipt_project (λ _. pos 1) (λ k. meta_row k m) (λ _. refl) (λ _. meta_row (number + 1) m) (λ _. refl) (λ _. simp cast_int)
-    (n ∷ []) has.meta (tt, tt) (quiet meta_tree) receipt_is receipt_plain count h in
-    go (passes receipt_terms (raise_params number) (meta_row n m)) (ap (λ b. b && true) (numbers_equal n number) ∙ and_true _) done.0 done.1
+pub counts_receipts : (way : Way) (old new : Connected) (number count n m : ℕ) → Executes receipt_text (raise_params number) old new (Ok count) → HasCounters way old.now n m → count ≢ 0
+    → (number ≡ n) × Changed old new (store_schema way) meta_tree (meta_row current_number (number + 1) m ∷ [])
+counts_receipts way old new number count n m h has some =
+    let done = updates receipt_text (raise_params number) old new (store_schema way) has.schema 0 meta_table refl receipt_terms receipt_project (λ _. pos 1) (λ k. meta_row current_number k m) (λ _. refl) (λ _. meta_row current_number (number + 1) m) (λ _. refl) (λ _. simp cast_int)
+    (n ∷ []) has.meta (tt, tt) (quiet way meta_tree) (receipt_is way) (receipt_plain way) count h in
+    go (passes receipt_terms (raise_params number) (meta_row current_number n m)) (ap (λ b. b && true) (numbers_equal n number) ∙ and_true _) done.0 done.1
   where
-    go : (t : Bool) → t ≡ (n == number) → Changed old new store_schema meta_tree (cond t (meta_row (number + 1) m) (meta_row n m) ∷ []) → count ≡ length (cond t (n ∷ []) []) → (number ≡ n) × Changed old new store_schema meta_tree (meta_row (number + 1) m ∷ [])
+    go : (t : Bool) → t ≡ (n == number) → Changed old new (store_schema way) meta_tree (cond t (meta_row current_number (number + 1) m) (meta_row current_number n m) ∷ []) → count ≡ length (cond t (n ∷ []) []) → (number ≡ n) × Changed old new (store_schema way) meta_tree (meta_row current_number (number + 1) m ∷ [])
     go true is changed counted = (grind (arith, nat_tests, is), changed)
     go false is changed counted = absurd (some counted)
 
-pub counts_documents : (old new : Connected) (number count n m : ℕ) → Executes document_text (raise_params number) old new (Ok count) → HasCounters old.now n m → count ≢ 0
-    → (number ≡ m) × Changed old new store_schema meta_tree (meta_row n (number + 1) ∷ [])
-counts_documents old new number count n m h has some =
-    let done = updates document_text (raise_params number) old new store_schema has.schema 0 meta_table refl document_terms document_project (λ _. pos 1) (λ k. meta_row n k) (λ _. refl) (λ _. meta_row n (number + 1)) (λ _. refl) (λ _. simp cast_int)
-    (m ∷ []) has.meta (tt, tt) (quiet meta_tree) document_is document_plain count h in
-    go (passes document_terms (raise_params number) (meta_row n m)) (ap (λ b. b && true) (numbers_equal m number) ∙ and_true _) done.0 done.1
+pub counts_documents : (way : Way) (old new : Connected) (number count n m : ℕ) → Executes document_text (raise_params number) old new (Ok count) → HasCounters way old.now n m → count ≢ 0
+    → (number ≡ m) × Changed old new (store_schema way) meta_tree (meta_row current_number n (number + 1) ∷ [])
+counts_documents way old new number count n m h has some =
+    let done = updates document_text (raise_params number) old new (store_schema way) has.schema 0 meta_table refl document_terms document_project (λ _. pos 1) (λ k. meta_row current_number n k) (λ _. refl) (λ _. meta_row current_number n (number + 1)) (λ _. refl) (λ _. simp cast_int)
+    (m ∷ []) has.meta (tt, tt) (quiet way meta_tree) (document_is way) (document_plain way) count h in
+    go (passes document_terms (raise_params number) (meta_row current_number n m)) (ap (λ b. b && true) (numbers_equal m number) ∙ and_true _) done.0 done.1
   where
-    go : (t : Bool) → t ≡ (m == number) → Changed old new store_schema meta_tree (cond t (meta_row n (number + 1)) (meta_row n m) ∷ []) → count ≡ length (cond t (m ∷ []) []) → (number ≡ m) × Changed old new store_schema meta_tree (meta_row n (number + 1) ∷ [])
+    go : (t : Bool) → t ≡ (m == number) → Changed old new (store_schema way) meta_tree (cond t (meta_row current_number n (number + 1)) (meta_row current_number n m) ∷ []) → count ≡ length (cond t (m ∷ []) []) → (number ≡ m) × Changed old new (store_schema way) meta_tree (meta_row current_number n (number + 1) ∷ [])
     go true is changed counted = (grind (arith, nat_tests, is), changed)
     go false is changed counted = absurd (some counted)

@@ -34,17 +34,21 @@ id_params value = Blob value ∷ []
 
 pub finds_id : (value : List ℕ) (old new : Connected) (rows : List Row) → Shown out_by_id_text (id_params value) old new rows → (s : State) → Rests old s → rows ≡ map out_shown (filter (has_id value) s.outbox)
 finds_id value old new rows h s r =
-    let it = r.stands (shown_open out_by_id_text (id_params value) old new rows h) in
-    reads_rows out_by_id_text out_by_id_plain out_by_id_unlisted outbox_tree id_terms out_column_terms out_names out_by_id_is (id_params value) out_row out_shown (λ _. refl) (has_id value)
+    let here = r.stands (shown_open out_by_id_text (id_params value) old new rows h) in
+    let way = here.way in
+    let it = here.stands in
+    reads_rows way out_by_id_text (out_by_id_plain way) (out_by_id_unlisted way) outbox_tree id_terms out_column_terms out_names (out_by_id_is way) (id_params value) out_row out_shown (λ _. refl) (has_id value)
     (λ d. ap (λ b. b && true) (blobs_equal (value_of d.id) value) ∙ and_true _) old new rows h it.schema s.outbox it.entries.outbox
     (entries_rise out_row (λ (d : OutEntry). d.number) (λ _. refl) s.next_out s.outbox it.documents.1)
 
 pub finds_document : (n w : ℕ) → (end_of_numbers ≤ n → w ≡ end_of_numbers) → (n < end_of_numbers → w ≡ n) → (old new : Connected) (rows : List Row) → Shown out_by_number_text (by_number_params w) old new rows → (s : State) → Rests old s
     → rows ≡ map out_shown (filter (λ (d : OutEntry). d.number == n) s.outbox)
 finds_document n w beyond within old new rows h s r =
-    let it = r.stands (shown_open out_by_number_text (by_number_params w) old new rows h) in
+    let here = r.stands (shown_open out_by_number_text (by_number_params w) old new rows h) in
+    let way = here.way in
+    let it = here.stands in
     let low = all_weaken (λ m. m < s.next_out) (λ m. m < end_of_numbers) (λ m less. omega (arith, less, it.documents.0.most)) (map (λ (d : OutEntry). d.number) s.outbox) it.documents.1.below in
-    reads_rows out_by_number_text out_by_number_plain out_by_number_unlisted outbox_tree number_terms out_column_terms out_names out_by_number_is (by_number_params w) out_row out_shown (λ _. refl) (λ d. d.number == w)
+    reads_rows way out_by_number_text (out_by_number_plain way) (out_by_number_unlisted way) outbox_tree number_terms out_column_terms out_names (out_by_number_is way) (by_number_params w) out_row out_shown (λ _. refl) (λ d. d.number == w)
     (λ d. ap (λ b. b && true) (numbers_equal d.number w) ∙ and_true _) old new rows h it.schema s.outbox it.entries.outbox
     (entries_rise out_row (λ (d : OutEntry). d.number) (λ _. refl) s.next_out s.outbox it.documents.1)
     ∙ ap (map out_shown) (filter_same (λ (d : OutEntry). d.number == w) (λ (d : OutEntry). d.number == n) s.outbox (same_tests (λ (d : OutEntry). d.number) n w beyond within s.outbox low))
@@ -134,10 +138,12 @@ as_shown n (Some e) = refl
 pub finds_evidence : (n w : ℕ) → (end_of_numbers ≤ n → w ≡ end_of_numbers) → (n < end_of_numbers → w ≡ n) → (old new : Connected) (rows : List Row) → Shown evidence_by_number_text (by_number_params w) old new rows → (s : State) → Rests old s
     → rows ≡ shown_evidence n (evidence_at s n)
 finds_evidence n w beyond within old new rows h s r =
-    let it = r.stands (shown_open evidence_by_number_text (by_number_params w) old new rows h) in
+    let here = r.stands (shown_open evidence_by_number_text (by_number_params w) old new rows h) in
+    let way = here.way in
+    let it = here.stands in
     let low = all_weaken (λ m. m < s.next_out) (λ m. m < end_of_numbers) (λ m less. omega (arith, less, it.documents.0.most)) (map (λ (d : OutEntry). d.number) s.outbox) it.documents.1.below in
     go low (nat_lt n end_of_numbers) refl
-    (reads_rows evidence_by_number_text evidence_by_number_plain evidence_by_number_unlisted evidence_tree number_terms evidence_column_terms evidence_names evidence_by_number_is (by_number_params w) row_of shown_of_row (λ _. refl)
+    (reads_rows way evidence_by_number_text (evidence_by_number_plain way) (evidence_by_number_unlisted way) evidence_tree number_terms evidence_column_terms evidence_names (evidence_by_number_is way) (by_number_params w) row_of shown_of_row (λ _. refl)
     (λ r. r.number == w) (λ r. ap (λ b. b && true) (numbers_equal r.number w) ∙ and_true _) old new rows h it.schema (receipts s.outbox) (it.entries.evidence ∙ rows_of s.outbox)
     (ordered_rise row_of (λ r. r.number) (λ _. refl) (receipts s.outbox) (given_rise receipt_row (λ (d : OutEntry). d.number) (λ r. r.number) kept s.outbox (numbers_rise (λ (d : OutEntry). d.number) s.next_out s.outbox it.documents.1)))
     ∙ ap (map shown_of_row) (receipts_at w s.outbox it.documents.1.distinct)
@@ -167,5 +173,5 @@ some_evidence n (Some e) rows row all got = (e, refl, (let f = ap (λ l. slice_g
 
 -- ---- the document that is put together
 
-pub document_is : (r : OutRow) (content : List ℕ) (e : Option Evidence) (d : OutEntry) → r ≡ out_summary d → content ≡ d.content → e ≡ d.evidence → out_entry r content e ≡ d
-document_is r content e d row whole settled = ap₂ (λ x y. out_entry x y e) row whole ∙ ap (out_entry (out_summary d) d.content) settled
+pub document_is : (r : OutRow) (begun : Bool) (content : List ℕ) (e : Option Evidence) (d : OutEntry) → r ≡ out_summary d → begun ≡ d.begun → content ≡ d.content → e ≡ d.evidence → out_entry r begun content e ≡ d
+document_is r begun content e d row was whole settled = ap₂ (λ x y. out_entry x y content e) row was ∙ ap₂ (λ y z. out_entry (out_summary d) d.begun y z) whole settled

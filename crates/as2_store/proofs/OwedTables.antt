@@ -24,7 +24,7 @@ use Rattle.as2_rows.specs.Codes.{attempt_code, mdn_code}
 use Rattle.as2_rows.specs.Rows.{in_row, whole, whole_or_null}
 use Rattle.as2_rows.specs.Contents.{pieces, piece_shown}
 use Rattle.as2_rows.specs.Waiting.{WaitingRow, in_waiting, waiting_in, to_send, to_answer, to_hear, to_end}
-use Rattle.as2_store.specs.Tables.{store_schema, inbox_table, inbox_tree, inbox_piece_tree}
+use Rattle.as2_store.specs.Tables.{Way, Layout, VersionThree, store_schema, inbox_table, inbox_tree, inbox_piece_tree}
 use Rattle.as2_store.proofs.Statements.{in_set_text}
 use Rattle.as2_store.specs.Stands.{IsWhole, Stands, waiting_row, documents_waiting, all_waiting, inbox_pieces}
 use Rattle.as2_store.specs.Adding.{noted_rows}
@@ -39,9 +39,10 @@ use Rattle.as2_store.proofs.InboxRow.{cast_url, cast_digest, cast_mic}
 use Rattle.as2_store.proofs.QueriedRows.{and_true}
 use Rattle.as2_store.proofs.InboxQueries.{same_tests}
 use Rattle.as2_store.proofs.ForeignKeys.{quiet}
-use Rattle.as2_store.proofs.Texts.{number_terms, owed_project, in_set_is, in_set_plain}
+use Rattle.as2_store.proofs.Texts.{inbox_place, inbox_there, number_terms, owed_project, in_set_is, in_set_plain}
 use Rattle.as2_store.proofs.NumberedEntries.{in_number, Split, split, at_one, changed, changed_none, changed_split, none_numbered}
 use Rattle.as2_store.proofs.Committing.{FollowsEach}
+use Rattle.as2_store.proofs.Untouched.{AtMeta, AtInbox, AtInboxPiece, AtOutbox, AtOutboxPiece, AtEvidence, AtWaiting, AtOrigin, AtResent, keeping, still_emptied, still_origin, still_resent}
 use Rattle.as2_store.proofs.WaitingPlaces.{documents_rise, receipts_rise, places_rise, renewed}
 
 -- ---- the statement
@@ -59,14 +60,14 @@ as_rows n w p (e ∷ es) same =
     by_case true = refl
     by_case false = refl
 
-pub sets_owed : (n w count : ℕ) (p : MdnProgress) → (end_of_numbers ≤ n → w ≡ end_of_numbers) → (n < end_of_numbers → w ≡ n) → (old new : Connected) (s : State) → Stands old.now s → Executes in_set_text (owed_params w p) old new (Ok count)
-    → Changed old new store_schema inbox_tree (map in_row (change_received s n (owed_as p)).inbox) × (count ≡ length (filter (λ (e : InEntry). e.number == n) s.inbox))
-sets_owed n w count p beyond within old new s it h =
+pub sets_owed : {way : Way} (n w count : ℕ) (p : MdnProgress) → (end_of_numbers ≤ n → w ≡ end_of_numbers) → (n < end_of_numbers → w ≡ n) → (old new : Connected) (s : State) → Stands (VersionThree way) old.now s → Executes in_set_text (owed_params w p) old new (Ok count)
+    → Changed old new (store_schema way) (inbox_tree way) (map in_row (change_received s n (owed_as p)).inbox) × (count ≡ length (filter (λ (e : InEntry). e.number == n) s.inbox))
+sets_owed {way} n w count p beyond within old new s it h =
     let low = all_weaken (λ k. k < s.next_in) (λ k. k < end_of_numbers) (λ k less. omega (arith, less, it.receipts.0.most)) (map (λ (e : InEntry). e.number) s.inbox) it.receipts.1.below in
     let same = same_tests (λ (e : InEntry). e.number) n w beyond within s.inbox low in
-    let done = updates in_set_text (owed_params w p) old new store_schema it.schema 1 inbox_table refl number_terms owed_project (λ (e : InEntry). pos e.number) in_row (λ _. refl) (λ (e : InEntry). in_row (owed_as p e)) (λ _. refl)
-    (λ e. simp (cast_int, cast_null, cast_optional, cast_url, cast_digest, cast_mic)) s.inbox it.entries.inbox (entries_rise in_row (λ (e : InEntry). e.number) (λ _. refl) s.next_in s.inbox it.receipts.1) (quiet inbox_tree) in_set_is in_set_plain count h in (
-      subst (Changed old new store_schema inbox_tree) (as_rows n w p s.inbox same) done.0,
+    let done = updates in_set_text (owed_params w p) old new (store_schema way) it.schema (inbox_place way) (inbox_table way) (inbox_there way) number_terms owed_project (λ (e : InEntry). pos e.number) in_row (λ _. refl) (λ (e : InEntry). in_row (owed_as p e)) (λ _. refl)
+    (λ e. simp (cast_int, cast_null, cast_optional, cast_url, cast_digest, cast_mic)) s.inbox it.entries.inbox (entries_rise in_row (λ (e : InEntry). e.number) (λ _. refl) s.next_in s.inbox it.receipts.1) (quiet way (inbox_tree way)) (in_set_is way) (in_set_plain way) count h in (
+      subst (Changed old new (store_schema way) (inbox_tree way)) (as_rows n w p s.inbox same) done.0,
       done.1 ∙ ap length (filter_same (λ (e : InEntry). passes number_terms (owed_params w p) (in_row e)) (λ (e : InEntry). e.number == w) s.inbox (of_number w p s.inbox) ∙ filter_same (λ (e : InEntry). e.number == w) (λ (e : InEntry). e.number == n) s.inbox same),
     )
   where
@@ -79,7 +80,7 @@ sets_owed n w count p beyond within old new s it h =
 below_end : (next : ℕ) → next ≤ end_of_numbers → (ns : List ℕ) → AllByRecursion (λ n. n < next) ns → AllByRecursion (λ n. n < end_of_numbers) ns
 below_end next most ns all = all_weaken (λ n. n < next) (λ n. n < end_of_numbers) (λ n less. omega (arith, less, most)) ns all
 
-pub places_in_order : (d : Database) (s : State) → Stands d s → IsTable (map waiting_row (all_waiting s))
+pub places_in_order : {layout : Layout} (d : Database) (s : State) → Stands layout d s → IsTable (map waiting_row (all_waiting s))
 places_in_order d s it =
     let outs = below_end s.next_out it.documents.0.most (map (λ (x : OutEntry). x.number) s.outbox) it.documents.1.below in
     let ins = below_end s.next_in it.receipts.0.most (map (λ (e : InEntry). e.number) s.inbox) it.receipts.1.below in
@@ -89,10 +90,10 @@ places_in_order d s it =
     (documents_of to_send end_of_numbers s.outbox outs) (ins_small end_of_numbers s.inbox ins) (documents_of to_hear end_of_numbers s.outbox outs) (documents_of to_end end_of_numbers s.outbox outs)
     (documents_rise to_send s.outbox ds) (receipts_rise s.inbox es) (documents_rise to_hear s.outbox ds) (documents_rise to_end s.outbox ds)
 
-pub holds : (a b : Connected) (s : State) → Stands a.now s → (rows : List Row) → Changed a b store_schema inbox_tree rows → HoldsWaiting b.now (all_waiting s)
-holds a b s it rows one = record {
+pub holds : (way : Way) (a b : Connected) (s : State) → Stands (VersionThree way) a.now s → (rows : List Row) → Changed a b (store_schema way) (inbox_tree way) rows → HoldsWaiting way b.now (all_waiting s)
+holds way a b s it rows one = record {
   schema = one.schema_is;
-  rows = one.others.1.1.1.1.1.1.0 (λ e. omega arith) ∙ it.entries.waits;
+  rows = keeping way AtInbox a.now.trees b.now.trees one.others AtWaiting (λ e. omega arith) ∙ it.entries.waits;
   in_order = places_in_order a.now s it;
 }
 
@@ -137,11 +138,13 @@ same_numbers n p es = map_kept (λ (e : InEntry). e.number) (λ (e : InEntry). c
     by_case e false = refl
 
 -- the tables stand for the state with the receipt further on, where an entry has the number
-pub stands_owed : (a b c : Connected) (s : State) (n w : ℕ) (p : MdnProgress) → (n < end_of_numbers → w ≡ n) → Stands a.now s → length (filter (λ (e : InEntry). e.number == n) s.inbox) ≢ 0
-    → Changed a b store_schema inbox_tree (map in_row (change_received s n (owed_as p)).inbox) → Renewed b c (noted_rows (answers_at w p) (map waiting_row (not_at (place_of to_answer w) (all_waiting s)))) → Stands c.now (change_received s n (owed_as p))
+pub stands_owed : (way : Way) (a b c : Connected) (s : State) (n w : ℕ) (p : MdnProgress) → (n < end_of_numbers → w ≡ n) → Stands (VersionThree way) a.now s → length (filter (λ (e : InEntry). e.number == n) s.inbox) ≢ 0
+    → Changed a b (store_schema way) (inbox_tree way) (map in_row (change_received s n (owed_as p)).inbox) → Renewed way b c (noted_rows (answers_at w p) (map waiting_row (not_at (place_of to_answer w) (all_waiting s)))) → Stands (VersionThree way) c.now (change_received s n (owed_as p))
 unfolding IsWhole
-stands_owed a b c s n w p within it some one two =
+stands_owed way a b c s n w p within it some one two =
     let has = it.entries in
+    let k1 = keeping way AtInbox a.now.trees b.now.trees one.others in
+    let k2 = keeping way AtWaiting b.now.trees c.now.trees two.others in
     let es = numbers_rise (λ (e : InEntry). e.number) s.next_in s.inbox it.receipts.1 in
     let found = split in_number n s.inbox es some in
     let below = at_one (λ e. e.number < s.next_in) found.front found.one found.back (subst (AllByRecursion (λ (e : InEntry). e.number < s.next_in)) found.whole (all_from_map (λ k. k < s.next_in) (λ (e : InEntry). e.number) s.inbox it.receipts.1.below)) in
@@ -150,15 +153,18 @@ stands_owed a b c s n w p within it some one two =
     record {
       sound = two.sound;
       schema = two.schema_is;
-      meta = two.others.0 (λ e. omega arith) ∙ one.others.0 (λ e. omega arith) ∙ it.meta;
+      meta = k2 AtMeta (λ e. omega arith) ∙ k1 AtMeta (λ e. omega arith) ∙ it.meta;
       entries = record {
-        inbox = two.others.1.0 (λ e. omega arith) ∙ one.rows_are;
-        inbox_contents = subst (λ ps. HasRows (c.now.trees inbox_piece_tree) (map piece_shown ps)) (sym (same_pieces n p s.inbox)) (unchanged (two.others.1.1.0 (λ e. omega arith) ∙ one.others.1.1.0 (λ e. omega arith)) has.inbox_contents);
-        outbox = two.others.1.1.1.0 (λ e. omega arith) ∙ one.others.1.1.1.0 (λ e. omega arith) ∙ has.outbox;
-        outbox_contents = unchanged (two.others.1.1.1.1.0 (λ e. omega arith) ∙ one.others.1.1.1.1.0 (λ e. omega arith)) has.outbox_contents;
-        evidence = two.others.1.1.1.1.1.0 (λ e. omega arith) ∙ one.others.1.1.1.1.1.0 (λ e. omega arith) ∙ has.evidence;
+        inbox = k2 AtInbox (λ e. omega arith) ∙ one.rows_are;
+        inbox_contents = subst (λ ps. HasRows (c.now.trees (inbox_piece_tree way)) (map piece_shown ps)) (sym (same_pieces n p s.inbox)) (unchanged (k2 AtInboxPiece (λ e. omega arith) ∙ k1 AtInboxPiece (λ e. omega arith)) has.inbox_contents);
+        outbox = k2 AtOutbox (λ e. omega arith) ∙ k1 AtOutbox (λ e. omega arith) ∙ has.outbox;
+        outbox_contents = unchanged (k2 AtOutboxPiece (λ e. omega arith) ∙ k1 AtOutboxPiece (λ e. omega arith)) has.outbox_contents;
+        evidence = k2 AtEvidence (λ e. omega arith) ∙ k1 AtEvidence (λ e. omega arith) ∙ has.evidence;
         waits = two.rows_are ∙ ap (λ k. noted_rows (answers_at k p) (map waiting_row (not_at (place_of to_answer k) (all_waiting s)))) (within small) ∙ waits_on s n p small outs found;
       };
+      version = still_origin (k2 AtOrigin (λ e. omega arith) ∙ k1 AtOrigin (λ e. omega arith)) it.version;
+      begun = still_resent (k2 AtResent (λ e. omega arith) ∙ k1 AtResent (λ e. omega arith)) it.begun;
+      left = still_emptied way AtWaiting b.now c.now two.others (still_emptied way AtInbox a.now b.now one.others it.left);
       receipts = (it.receipts.0, subst (AreNumbers s.next_in) (sym (same_numbers n p s.inbox)) it.receipts.1);
       documents = it.documents;
     }
@@ -168,24 +174,28 @@ pub nothing_owed : (s : State) (n : ℕ) (p : MdnProgress) → length (filter (�
 nothing_owed s n p none = ap (λ es. record s { inbox = es }) (changed_none in_number n (owed_as p) s.inbox (none_numbered in_number n s.inbox none))
 
 -- the tables then stand for what they stood for
-pub stands_unnumbered : (a b : Connected) (s : State) (n : ℕ) (p : MdnProgress) → Stands a.now s → length (filter (λ (e : InEntry). e.number == n) s.inbox) ≡ 0
-    → Changed a b store_schema inbox_tree (map in_row (change_received s n (owed_as p)).inbox) → Stands b.now (change_received s n (owed_as p))
+pub stands_unnumbered : (way : Way) (a b : Connected) (s : State) (n : ℕ) (p : MdnProgress) → Stands (VersionThree way) a.now s → length (filter (λ (e : InEntry). e.number == n) s.inbox) ≡ 0
+    → Changed a b (store_schema way) (inbox_tree way) (map in_row (change_received s n (owed_as p)).inbox) → Stands (VersionThree way) b.now (change_received s n (owed_as p))
 unfolding IsWhole
-stands_unnumbered a b s n p it none one =
+stands_unnumbered way a b s n p it none one =
     let has = it.entries in
+    let k1 = keeping way AtInbox a.now.trees b.now.trees one.others in
     let same = nothing_owed s n p none in
-    subst (λ (t : State). Stands b.now t) (sym same) (record {
+    subst (λ (t : State). Stands (VersionThree way) b.now t) (sym same) (record {
       sound = one.sound;
       schema = one.schema_is;
-      meta = one.others.0 (λ e. omega arith) ∙ it.meta;
+      meta = k1 AtMeta (λ e. omega arith) ∙ it.meta;
       entries = record {
         inbox = one.rows_are ∙ ap (λ (t : State). map in_row t.inbox) same;
-        inbox_contents = unchanged (one.others.1.1.0 (λ e. omega arith)) has.inbox_contents;
-        outbox = one.others.1.1.1.0 (λ e. omega arith) ∙ has.outbox;
-        outbox_contents = unchanged (one.others.1.1.1.1.0 (λ e. omega arith)) has.outbox_contents;
-        evidence = one.others.1.1.1.1.1.0 (λ e. omega arith) ∙ has.evidence;
-        waits = one.others.1.1.1.1.1.1.0 (λ e. omega arith) ∙ has.waits;
+        inbox_contents = unchanged (k1 AtInboxPiece (λ e. omega arith)) has.inbox_contents;
+        outbox = k1 AtOutbox (λ e. omega arith) ∙ has.outbox;
+        outbox_contents = unchanged (k1 AtOutboxPiece (λ e. omega arith)) has.outbox_contents;
+        evidence = k1 AtEvidence (λ e. omega arith) ∙ has.evidence;
+        waits = k1 AtWaiting (λ e. omega arith) ∙ has.waits;
       };
+      version = still_origin (k1 AtOrigin (λ e. omega arith)) it.version;
+      begun = still_resent (k1 AtResent (λ e. omega arith)) it.begun;
+      left = still_emptied way AtInbox a.now b.now one.others it.left;
       receipts = it.receipts;
       documents = it.documents;
     })
@@ -194,25 +204,26 @@ stands_unnumbered a b s n p it none one =
 
 module _ {S : Type 0} (g : Ghosts S) (old : Held S) (mid : Connected) (n : ℕ) where
   abbrev Set : MdnProgress → ℕ → Type 0
-  Set p count = (s : State) → Stands (state g old).now s → Changed (state g (record old { in_transaction = true })) mid store_schema inbox_tree (map in_row (change_received s n (owed_as p)).inbox) × (count ≡ length (filter (λ (e : InEntry). e.number == n) s.inbox))
+  Set p count = (way : Way) (s : State) → Stands (VersionThree way) (state g old).now s → Changed (state g (record old { in_transaction = true })) mid (store_schema way) (inbox_tree way) (map in_row (change_received s n (owed_as p)).inbox) × (count ≡ length (filter (λ (e : InEntry). e.number == n) s.inbox))
 
   pub owes_none : (p : MdnProgress) (count : ℕ) → count ≡ 0 → (HasCleanDisk mid → IsTrue (state g old).is_open) → (HasCleanDisk mid → Set p count) → HasCleanDisk mid → FollowsEach g old mid (set_mdn_in n p)
   owes_none p count none opened put clean = record {
     was_open = opened clean;
     reaches = λ s r.
-        let stood = r.stands (opened clean) in
-        let one = put clean s stood in
-        (change_received s n (owed_as p), refl, stands_unnumbered (state g (record old { in_transaction = true })) mid s n p stood (sym one.1 ∙ none) one.0);
+        let here = r.stands (opened clean) in
+        let one = put clean here.way s here.stands in
+        (change_received s n (owed_as p), refl, record { way = here.way; stands = stands_unnumbered here.way (state g (record old { in_transaction = true })) mid s n p here.stands (sym one.1 ∙ none) one.0 });
   }
 
   pub owes_some : (last : Connected) (w : ℕ) (p : MdnProgress) → (n < end_of_numbers → w ≡ n) → (count : ℕ) → count ≢ 0 → (HasCleanDisk last → HasCleanDisk mid) → (HasCleanDisk mid → IsTrue (state g old).is_open) → (HasCleanDisk mid → Set p count)
-      → (HasCleanDisk last → (ws : List WaitingRow) → HoldsWaiting mid.now ws → Renewed mid last (noted_rows (answers_at w p) (map waiting_row (not_at (place_of to_answer w) ws)))) → HasCleanDisk last → FollowsEach g old last (set_mdn_in n p)
+      → (HasCleanDisk last → (way : Way) (ws : List WaitingRow) → HoldsWaiting way mid.now ws → Renewed way mid last (noted_rows (answers_at w p) (map waiting_row (not_at (place_of to_answer w) ws)))) → HasCleanDisk last → FollowsEach g old last (set_mdn_in n p)
   owes_some last w p within count some was opened put renewed clean = record {
     was_open = opened (was clean);
     reaches = λ s r.
         let begun = state g (record old { in_transaction = true }) in
-        let stood = r.stands (opened (was clean)) in
-        let one = put (was clean) s stood in
-        let two = renewed clean (all_waiting s) (holds begun mid s stood _ one.0) in
-        (change_received s n (owed_as p), refl, stands_owed begun mid last s n w p within stood (λ none. some (one.1 ∙ none)) one.0 two);
+        let here = r.stands (opened (was clean)) in
+        let way = here.way in
+        let one = put (was clean) way s here.stands in
+        let two = renewed clean way (all_waiting s) (holds way begun mid s here.stands _ one.0) in
+        (change_received s n (owed_as p), refl, record { way = way; stands = stands_owed way begun mid last s n w p within here.stands (λ none. some (one.1 ∙ none)) one.0 two });
   }

@@ -1,5 +1,5 @@
 -- What the tables stand for once documents whose wait is over have passed into another detail.
-use Rattle.std.proofs.Common.{◌≡◌, ℕ, zero, suc, ◌<◌, ◌≤◌, ◌==◌, ◌&&◌, not, List, [], ◌∷◌, map, filter, length, take, get_or, count_by, Bool, true, false, cond, Result, Ok, Err, IfOk, OnOk, Some, IsTrue, pos, negsuc, refl, sym, ap, subst, ◌∙◌, arith}
+use Rattle.std.proofs.Common.{◌≡◌, ◌≢◌, ℕ, zero, suc, ◌<◌, ◌≤◌, ◌==◌, ◌&&◌, not, List, [], ◌∷◌, map, filter, length, take, get_or, count_by, Bool, true, false, cond, Result, Ok, Err, IfOk, OnOk, Some, IsTrue, pos, negsuc, refl, sym, ap, subst, ◌∙◌, arith}
 use Rattle.std.specs.List.{AllByRecursion}
 use Rattle.std.proofs.lemmas.List.{get_or-map, length-map, take_all}
 use Rattle.std.proofs.lemmas.List.Elements.{filter_agree}
@@ -12,7 +12,8 @@ use Rattle.sqlite.specs.Store.{Ghosts}
 use Rattle.sqlite.specs.Held.{Held, state}
 use Rattle.sqlite.specs.State.{State as Connected, HasCleanDisk, Executes, Shown}
 use Rattle.sqlite.specs.Term.{lit}
-use Rattle.sqlite.specs.Tree.{IsAscending}
+use Rattle.sqlite.specs.Table.{Table}
+use Rattle.sqlite.specs.Tree.{Trees, IsAscending}
 use Rattle.sqlite.specs.Listing.{understood}
 use Rattle.sqlite.proofs.Callers.{IsPlain, reads_as}
 use Rattle.sqlite_trees.proofs.ListLemmas.{ascending-map, ascending_weaker, map-map}
@@ -34,7 +35,7 @@ use Rattle.as2_rows.specs.Codes.{detail_code}
 use Rattle.as2_rows.specs.Contents.{piece_shown}
 use Rattle.as2_rows.specs.Rows.{out_row}
 use Rattle.as2_rows.specs.Waiting.{WaitingRow, to_hear, to_end}
-use Rattle.as2_store.specs.Tables.{store_schema, outbox_table, outbox_tree, outbox_piece_tree, waiting_table, waiting_tree}
+use Rattle.as2_store.specs.Tables.{Way, Layout, VersionThree, store_schema, outbox_table, outbox_tree, outbox_piece_tree, waiting_table, waiting_tree}
 use Rattle.as2_store.specs.Stands.{IsWhole, Stands, place, waiting_row, all_waiting}
 use Rattle.as2_store.specs.Due.{due_numbers, due_waiting, number_row}
 use Rattle.as2_store.specs.Expiring.{HoldsDocuments, PassesInto, Rewritten, over, passing, passing_in, passing_one, without_due}
@@ -49,19 +50,21 @@ use Rattle.as2_store.proofs.DueRows.{any_params, any_passes, numbers_small}
 use Rattle.as2_store.proofs.ForeignKeys.{quiet}
 use Rattle.as2_store.proofs.NumberedRows.{numbers_rise, ordered_rise}
 use Rattle.as2_store.proofs.OwedTables.{places_in_order}
+use Rattle.as2_store.proofs.Untouched.{AtMeta, AtInbox, AtInboxPiece, AtOutbox, AtOutboxPiece, AtEvidence, AtWaiting, AtOrigin, AtResent, keeping, still_emptied, still_origin, still_resent}
+use Rattle.as2_store.proofs.ResentRows.{resent_map}
 use Rattle.as2_store.proofs.PassedDocuments.{all_ticked, by_number as moved_by_number, due_are_over, moved, none_passed, same_evidence, same_numbers, same_pieces, waits_left}
 
 -- ---- the numbers that are due
 
-pub shows_due : (kind m : ℕ) (old new : Connected) (rows : List Row) → Shown all_due_text (any_params kind m) old new rows → (s : State) → Stands old.now s → rows ≡ map number_row (due_numbers kind m s)
-shows_due kind m old new rows h s it =
-    let read = reads_as all_due_text (any_params kind m) old new store_schema it.schema (Select (record { lets = []; body = over_table waiting_tree any_due_terms due_columns by_number (lit (Int (negsuc 0))) }) _) all_due_is all_due_plain all_due_unlisted rows h in
+pub shows_due : {way : Way} (kind m : ℕ) (old new : Connected) (rows : List Row) → Shown all_due_text (any_params kind m) old new rows → (s : State) → Stands (VersionThree way) old.now s → rows ≡ map number_row (due_numbers kind m s)
+shows_due {way} kind m old new rows h s it =
+    let read = reads_as all_due_text (any_params kind m) old new (store_schema way) it.schema (Select (record { lets = []; body = over_table waiting_tree any_due_terms due_columns by_number (lit (Int (negsuc 0))) }) _) (all_due_is way) (all_due_plain way) (all_due_unlisted way) rows h in
     shows_entries waiting_tree any_due_terms due_columns (lit (Int (negsuc 0))) old.now.trees (any_params kind m) rows waiting_row (λ w. w.kind == kind && is_due m w.due) (λ w. number_row w.number) (any_passes kind m) (λ _. refl) (all_waiting s) it.entries.waits (places_in_order old.now s it) read.answer
     ∙ sym (map-map number_row (λ w. w.number) (due_waiting kind m s))
 
-pub reads_due : (kind m : ℕ) (old new : Connected) (rows : List Row) → Shown all_due_text (any_params kind m) old new rows → (s : State) → Stands old.now s → (new.now ≡ old.now) × (rows ≡ map number_row (due_numbers kind m s))
-reads_due kind m old new rows h s it =
-    ((shown_same all_due_text (any_params kind m) old new rows (subst (λ k. IsPlain (understood k all_due_text)) (sym it.schema) all_due_plain) h).0.now_is, shows_due kind m old new rows h s it)
+pub reads_due : {way : Way} (kind m : ℕ) (old new : Connected) (rows : List Row) → Shown all_due_text (any_params kind m) old new rows → (s : State) → Stands (VersionThree way) old.now s → (new.now ≡ old.now) × (rows ≡ map number_row (due_numbers kind m s))
+reads_due {way} kind m old new rows h s it =
+    ((shown_same all_due_text (any_params kind m) old new rows (subst (λ k. IsPlain (understood k all_due_text)) (sym it.schema) (all_due_plain way)) h).0.now_is, shows_due kind m old new rows h s it)
 
 pub ok_then : {V E Q : Type 0} {P : V → Type 0} (r : Result V E) → IfOk r P → ((v : V) → P v → Q) → OnOk r Q
 ok_then (Ok v) is then = then v is
@@ -75,7 +78,7 @@ small_filtered p (w ∷ ws) all = go (p w) (small_filtered p ws all.1)
     go true rest = (all.0, rest)
     go false rest = rest
 
-pub due_small : (kind m : ℕ) (t : Connected) (s : State) → Stands t.now s → AllByRecursion (λ n. n < end_of_numbers) (due_numbers kind m s)
+pub due_small : {layout : Layout} (kind m : ℕ) (t : Connected) (s : State) → Stands layout t.now s → AllByRecursion (λ n. n < end_of_numbers) (due_numbers kind m s)
 due_small kind m t s it = small_filtered (λ w. w.kind == kind && is_due m w.due) (all_waiting s) (numbers_small t s it)
 
 pub asked_number : (ns : List ℕ) (i number wanted : ℕ) → AllByRecursion (λ n. n < end_of_numbers) ns → i < length ns → number ≡ get_or ns i 0 → (number < end_of_numbers → wanted ≡ number) → wanted ≡ get_or ns i 0
@@ -91,12 +94,12 @@ asked_number ns i number wanted small within is same = same (subst (λ k. k < en
 abbrev pub pass_params : ℕ → Detail → Row
 pass_params n detail = Int (pos n) ∷ Int (pos (detail_code detail)) ∷ []
 
-pub passes_one : (n count : ℕ) (detail : Detail) (old new : Connected) (ds : List OutEntry) → HoldsDocuments old.now ds → Executes out_pass_text (pass_params n detail) old new (Ok count)
-    → Changed old new store_schema outbox_tree (map out_row (passing_one detail n ds))
-passes_one n count detail old new ds it h =
-    let done = updates out_pass_text (pass_params n detail) old new store_schema it.schema 3 outbox_table refl number_terms pass_project (λ (d : OutEntry). pos d.number) out_row (λ _. refl) (λ (d : OutEntry). out_row (passed d (Some detail))) (λ _. refl)
-    (λ d. simp (cast_int, cast_null)) ds it.rows (ordered_rise out_row (λ (d : OutEntry). d.number) (λ _. refl) ds it.in_order) (quiet outbox_tree) out_pass_is out_pass_plain count h in
-    subst (Changed old new store_schema outbox_tree) (changed_rows (λ (d : OutEntry). passed d (Some detail)) n (Int (pos (detail_code detail)) ∷ []) ds) done.0
+pub passes_one : {way : Way} (n count : ℕ) (detail : Detail) (old new : Connected) (ds : List OutEntry) → HoldsDocuments way old.now ds → Executes out_pass_text (pass_params n detail) old new (Ok count)
+    → Changed old new (store_schema way) outbox_tree (map out_row (passing_one detail n ds))
+passes_one {way} n count detail old new ds it h =
+    let done = updates out_pass_text (pass_params n detail) old new (store_schema way) it.schema 3 outbox_table refl number_terms pass_project (λ (d : OutEntry). pos d.number) out_row (λ _. refl) (λ (d : OutEntry). out_row (passed d (Some detail))) (λ _. refl)
+    (λ d. simp (cast_int, cast_null)) ds it.rows (ordered_rise out_row (λ (d : OutEntry). d.number) (λ _. refl) ds it.in_order) (quiet way outbox_tree) (out_pass_is way) (out_pass_plain way) count h in
+    subst (Changed old new (store_schema way) outbox_tree) (changed_rows (λ (d : OutEntry). passed d (Some detail)) n (Int (pos (detail_code detail)) ∷ []) ds) done.0
 
 -- the number that the row at place i shows
 pub number_here : (rows : List Row) (ns : List ℕ) (i : ℕ) (d : Row) (number : ℕ) → rows ≡ map number_row ns → i < length rows → column (get_or rows i d) 0 ≡ Int (pos number) → number ≡ get_or ns i 0
@@ -116,62 +119,84 @@ rise_still detail n ds up =
     kept d true = refl
     kept d false = refl
 
-pub none_rewritten : (old : Connected) (ds : List OutEntry) → HoldsDocuments old.now ds → Rewritten old old ds
-none_rewritten old ds it = record { holds = it; others = (λ _. refl, (λ _. refl, (λ _. refl, (λ _. refl, (λ _. refl, (λ _. refl, (λ _. refl, tt))))))) }
+none_changed : (trees : Trees) (tree : ℕ) (tables : List Table) → AllByRecursion (λ t. t.tree ≢ tree → trees t.tree ≡ trees t.tree) tables
+none_changed trees tree [] = tt
+none_changed trees tree (t ∷ tables) = (λ _. refl, none_changed trees tree tables)
 
-pub rewritten_more : (old mid new : Connected) (detail : Detail) (n : ℕ) (ds : List OutEntry) → Rewritten old mid ds → Changed mid new store_schema outbox_tree (map out_row (passing_one detail n ds)) → Rewritten old new (passing_one detail n ds)
-rewritten_more old mid new detail n ds it one = record {
+pub none_rewritten : (way : Way) (old : Connected) (ds : List OutEntry) → HoldsDocuments way old.now ds → Rewritten way old old ds
+none_rewritten way old ds it = record { holds = it; others = none_changed old.now.trees outbox_tree (store_schema way).tables }
+
+pub rewritten_more : (way : Way) (old mid new : Connected) (detail : Detail) (n : ℕ) (ds : List OutEntry) → Rewritten way old mid ds → Changed mid new (store_schema way) outbox_tree (map out_row (passing_one detail n ds)) → Rewritten way old new (passing_one detail n ds)
+rewritten_more way old mid new detail n ds it one = record {
   holds = record { sound = one.sound; schema = one.schema_is; rows = one.rows_are; in_order = rise_still detail n ds it.holds.in_order };
-  others = others_then old.now.trees mid.now.trees new.now.trees outbox_tree store_schema.tables it.others one.others;
+  others = others_then old.now.trees mid.now.trees new.now.trees outbox_tree (store_schema way).tables it.others one.others;
 }
 
 -- ---- what waits
 
-pub takes_due : (kind m count : ℕ) (old new : Connected) (ws : List WaitingRow) → HoldsWaiting old.now ws → Executes waiting_take_due_text (any_params kind m) old new (Ok count) → Changed old new store_schema waiting_tree (map waiting_row (without_due kind m ws))
-takes_due kind m count old new ws it h =
-    let done = deletes waiting_take_due_text (any_params kind m) old new store_schema it.schema 6 waiting_table refl any_due_terms (λ (w : WaitingRow). pos (place w)) waiting_row (λ _. refl) ws it.rows it.in_order (quiet waiting_tree) waiting_take_due_is waiting_take_due_plain count h in
-    subst (λ l. Changed old new store_schema waiting_tree (map waiting_row l))
+pub takes_due : {way : Way} (kind m count : ℕ) (old new : Connected) (ws : List WaitingRow) → HoldsWaiting way old.now ws → Executes waiting_take_due_text (any_params kind m) old new (Ok count) → Changed old new (store_schema way) waiting_tree (map waiting_row (without_due kind m ws))
+takes_due {way} kind m count old new ws it h =
+    let done = deletes waiting_take_due_text (any_params kind m) old new (store_schema way) it.schema 6 waiting_table refl any_due_terms (λ (w : WaitingRow). pos (place w)) waiting_row (λ _. refl) ws it.rows it.in_order (quiet way waiting_tree) (waiting_take_due_is way) (waiting_take_due_plain way) count h in
+    subst (λ l. Changed old new (store_schema way) waiting_tree (map waiting_row l))
     (filter_agree (λ (w : WaitingRow). not (passes any_due_terms (any_params kind m) (waiting_row w))) (λ (w : WaitingRow). not (w.kind == kind && is_due m w.due)) (λ w. ap not (any_passes kind m w)) ws) done.0
 
 -- ---- the state
 
-pub documents_of : (d : Database) (s : State) → Stands d s → HoldsDocuments d s.outbox
+pub documents_of : {way : Way} (d : Database) (s : State) → Stands (VersionThree way) d s → HoldsDocuments way d s.outbox
 unfolding IsWhole
 documents_of d s it = record { sound = it.sound; schema = it.schema; rows = it.entries.outbox; in_order = numbers_rise (λ (x : OutEntry). x.number) s.next_out s.outbox it.documents.1 }
 
-pub waits_of : (a b : Connected) (s : State) (ds : List OutEntry) → Stands a.now s → Rewritten a b ds → HoldsWaiting b.now (all_waiting s)
+pub waits_of : {way : Way} (a b : Connected) (s : State) (ds : List OutEntry) → Stands (VersionThree way) a.now s → Rewritten way a b ds → HoldsWaiting way b.now (all_waiting s)
 waits_of a b s ds it one = record { schema = one.holds.schema; rows = one.others.1.1.1.1.1.1.0 (λ e. omega arith) ∙ it.entries.waits; in_order = places_in_order a.now s it }
 
 -- the documents of one kind have passed
-pub stands_passed : (kind m : ℕ) (detail : Detail) → PassesInto kind detail → (a b c : Connected) (s : State) → Stands a.now s → Rewritten a b (passing detail (due_numbers kind m s) s.outbox)
-    → Changed b c store_schema waiting_tree (map waiting_row (without_due kind m (all_waiting s))) → Stands c.now (passing_in kind detail m s)
+pub stands_passed : (way : Way) (kind m : ℕ) (detail : Detail) → PassesInto kind detail → (a b c : Connected) (s : State) → Stands (VersionThree way) a.now s → Rewritten way a b (passing detail (due_numbers kind m s) s.outbox)
+    → Changed b c (store_schema way) waiting_tree (map waiting_row (without_due kind m (all_waiting s))) → Stands (VersionThree way) c.now (passing_in kind detail m s)
 unfolding IsWhole
-stands_passed kind m detail into a b c s it one two =
+stands_passed way kind m detail into a b c s it one two =
     let has = it.entries in
+    let k1 = keeping way AtOutbox a.now.trees b.now.trees one.others in
+    let k2 = keeping way AtWaiting b.now.trees c.now.trees two.others in
     let up = numbers_rise (λ (x : OutEntry). x.number) s.next_out s.outbox it.documents.1 in
     let told : passing detail (due_numbers kind m s) s.outbox ≡ moved detail (over kind m) s.outbox = ap (λ ns. passing detail ns s.outbox) (due_are_over kind detail into m s) ∙ moved_by_number detail (over kind m) s.outbox up in
     record {
       sound = two.sound;
       schema = two.schema_is;
-      meta = two.others.0 (λ e. omega arith) ∙ one.others.0 (λ e. omega arith) ∙ it.meta;
+      meta = k2 AtMeta (λ e. omega arith) ∙ k1 AtMeta (λ e. omega arith) ∙ it.meta;
       entries = record {
-        inbox = two.others.1.0 (λ e. omega arith) ∙ one.others.1.0 (λ e. omega arith) ∙ has.inbox;
-        inbox_contents = unchanged (two.others.1.1.0 (λ e. omega arith) ∙ one.others.1.1.0 (λ e. omega arith)) has.inbox_contents;
-        outbox = two.others.1.1.1.0 (λ e. omega arith) ∙ one.holds.rows ∙ ap (map out_row) told;
+        inbox = k2 AtInbox (λ e. omega arith) ∙ k1 AtInbox (λ e. omega arith) ∙ has.inbox;
+        inbox_contents = unchanged (k2 AtInboxPiece (λ e. omega arith) ∙ k1 AtInboxPiece (λ e. omega arith)) has.inbox_contents;
+        outbox = k2 AtOutbox (λ e. omega arith) ∙ one.holds.rows ∙ ap (map out_row) told;
         outbox_contents = subst (λ ps. HasRows (c.now.trees outbox_piece_tree) (map piece_shown ps)) (sym (same_pieces detail (over kind m) s.outbox))
-            (unchanged (two.others.1.1.1.1.0 (λ e. omega arith) ∙ one.others.1.1.1.1.0 (λ e. omega arith)) has.outbox_contents);
-        evidence = two.others.1.1.1.1.1.0 (λ e. omega arith) ∙ one.others.1.1.1.1.1.0 (λ e. omega arith) ∙ has.evidence ∙ sym (same_evidence detail (over kind m) s.outbox);
+            (unchanged (k2 AtOutboxPiece (λ e. omega arith) ∙ k1 AtOutboxPiece (λ e. omega arith)) has.outbox_contents);
+        evidence = k2 AtEvidence (λ e. omega arith) ∙ k1 AtEvidence (λ e. omega arith) ∙ has.evidence ∙ sym (same_evidence detail (over kind m) s.outbox);
         waits = two.rows_are ∙ ap (map waiting_row) (sym (waits_left kind m detail into s));
       };
+      version = still_origin (k2 AtOrigin (λ e. omega arith) ∙ k1 AtOrigin (λ e. omega arith)) it.version;
+      begun = still_resent (k2 AtResent (λ e. omega arith) ∙ k1 AtResent (λ e. omega arith))
+          (resent_map (λ d. cond (over kind m d) (passed d (Some detail)) d) (λ d. same_number d (over kind m d)) (λ d. same_begun d (over kind m d)) (λ d. same_tries d (over kind m d)) _ s.outbox it.begun);
+      left = still_emptied way AtWaiting b.now c.now two.others (still_emptied way AtOutbox a.now b.now one.others it.left);
       receipts = it.receipts;
       documents = (it.documents.0, subst (AreNumbers s.next_out) (sym (same_numbers detail (over kind m) s.outbox)) it.documents.1);
     }
+  where
+    same_number : (d : OutEntry) (t : Bool) → (cond t (passed d (Some detail)) d).number ≡ d.number
+    same_number d true = refl
+    same_number d false = refl
+
+    same_begun : (d : OutEntry) (t : Bool) → (cond t (passed d (Some detail)) d).begun ≡ d.begun
+    same_begun d true = refl
+    same_begun d false = refl
+
+    same_tries : (d : OutEntry) (t : Bool) → (cond t (passed d (Some detail)) d).tries ≡ d.tries
+    same_tries d true = refl
+    same_tries d false = refl
 
 pub due_count : (kind m : ℕ) (detail : Detail) → PassesInto kind detail → (s : State) → length (due_numbers kind m s) ≡ count_by (over kind m) s.outbox
 due_count kind m detail into s = ap length (due_are_over kind detail into m s) ∙ length-map (filter (over kind m) s.outbox) (λ (d : OutEntry). d.number) ∙ length-filter (over kind m) s.outbox
 
 -- where nothing is due so, nothing passes
-pub none_over : (kind m : ℕ) (detail : Detail) → PassesInto kind detail → (a : Connected) (s : State) → Stands a.now s → due_numbers kind m s ≡ [] → (passing_in kind detail m s ≡ s) × (count_by (over kind m) s.outbox ≡ 0)
+pub none_over : {layout : Layout} (kind m : ℕ) (detail : Detail) → PassesInto kind detail → (a : Connected) (s : State) → Stands layout a.now s → due_numbers kind m s ≡ [] → (passing_in kind detail m s ≡ s) × (count_by (over kind m) s.outbox ≡ 0)
 none_over kind m detail into a s it none =
     let up = numbers_rise (λ (x : OutEntry). x.number) s.next_out s.outbox it.documents.1 in
     let numbers = sym (due_are_over kind detail into m s) ∙ none in (
@@ -194,14 +219,15 @@ no_row (r ∷ rows) is = absurd (omega (arith, is))
 
 module _ {S : Type 0} (g : Ghosts S) (old : Held S) (one last : Connected) (m first second : ℕ) where
   abbrev Passes : ℕ → Detail → ℕ → Connected → Connected → Type 0
-  Passes kind detail count a b = (s : State) → Stands a.now s → Stands b.now (passing_in kind detail m s) × (count ≡ count_by (over kind m) s.outbox)
+  Passes kind detail count a b = (way : Way) (s : State) → Stands (VersionThree way) a.now s → Stands (VersionThree way) b.now (passing_in kind detail m s) × (count ≡ count_by (over kind m) s.outbox)
 
   pub time_passes : (HasCleanDisk last → HasCleanDisk one) → (HasCleanDisk one → IsTrue (state g old).is_open) → (HasCleanDisk one → Passes to_hear Overdue first (state g old) one) → (HasCleanDisk last → Passes to_end TriesUsed second one last)
       → HasCleanDisk last → FollowsEach g old last (ticked_in m)
   time_passes was opened hear end clean = record {
     was_open = opened (was clean);
     reaches = λ s r.
-        let passed = hear (was clean) s (r.stands (opened (was clean))) in
-        let both = end clean (passing_in to_hear Overdue m s) passed.0 in
-        ((tick m s).1, refl, subst (Stands last.now) (all_ticked m s) both.0);
+        let here = r.stands (opened (was clean)) in
+        let passed = hear (was clean) here.way s here.stands in
+        let both = end clean here.way (passing_in to_hear Overdue m s) passed.0 in
+        ((tick m s).1, refl, record { way = here.way; stands = subst (Stands (VersionThree here.way) last.now) (all_ticked m s) both.0 });
   }

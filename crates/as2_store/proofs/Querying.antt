@@ -13,8 +13,8 @@ use Rattle.sqlite.proofs.Callers.{IsPlain}
 use Rattle.sql_tables.proofs.Inside.{shown_open, shown_same}
 use Rattle.sql_tables.proofs.Asking.{shown_keeps, failed_keeps, shown_alike}
 use Rattle.as2_exchange.specs.State.{State}
-use Rattle.as2_store.specs.Tables.{store_schema}
-use Rattle.as2_store.specs.Stands.{Stands, Rests}
+use Rattle.as2_store.specs.Tables.{Way, store_schema}
+use Rattle.as2_store.specs.Stands.{Holds, Rests}
 use Rattle.as2_store.specs.Calls.{IsInside, Reads, Writes, Commits}
 use Rattle.as2_store.proofs.Committing.{FollowsEach}
 use Rattle.sqlite.proofs.StateLemmas.{survives_then}
@@ -36,7 +36,7 @@ queried_inside items sql params old new r inside ok err survives = record {
 -- ---- a query of the store's tables
 
 -- a query of the store's tables leaves each state that they stood for
-pub query_keeps : {S : Type 0} (g : Ghosts S) (old : Held S) (mid : Connected) (sql : List ℕ) (params : Row) (rows : List Row) → IsPlain (understood store_schema sql) → (HasCleanDisk mid → Shown sql params (state g (record old { in_transaction = true })) mid rows)
+pub query_keeps : {S : Type 0} (g : Ghosts S) (old : Held S) (mid : Connected) (sql : List ℕ) (params : Row) (rows : List Row) → ((way : Way) → IsPlain (understood (store_schema way) sql)) → (HasCleanDisk mid → Shown sql params (state g (record old { in_transaction = true })) mid rows)
     → HasCleanDisk mid → FollowsEach g old mid Some
 query_keeps g old mid sql params rows plain shown clean =
     let begun = state g (record old { in_transaction = true }) in
@@ -45,17 +45,17 @@ query_keeps g old mid sql params rows plain shown clean =
       was_open = opened;
       reaches = λ s r.
           let stood = r.stands opened in
-          let same = shown_same sql params begun mid rows (subst (λ k. IsPlain (understood k sql)) (sym stood.schema) plain) (shown clean) in
-          (s, refl, subst (λ (d : Database). Stands d s) (sym same.0.now_is) stood);
+          let same = shown_same sql params begun mid rows (subst (λ k. IsPlain (understood k sql)) (sym stood.stands.schema) (plain stood.way)) (shown clean) in
+          (s, refl, subst (λ (d : Database). Holds d s) (sym same.0.now_is) stood);
     }
 
 -- and its answer is one of what stood
-pub answers : {S : Type 0} (g : Ghosts S) (old : Held S) (mid : Connected) (sql : List ℕ) (params : Row) (rows : List Row) → IsPlain (understood store_schema sql) → Shown sql params (state g (record old { in_transaction = true })) mid rows
+pub answers : {S : Type 0} (g : Ghosts S) (old : Held S) (mid : Connected) (sql : List ℕ) (params : Row) (rows : List Row) → ((way : Way) → IsPlain (understood (store_schema way) sql)) → Shown sql params (state g (record old { in_transaction = true })) mid rows
     → (s : State) → Rests (state g old) s → Shown sql params (state g old) (state g old) rows
 answers g old mid sql params rows plain shown s r =
     let begun = state g (record old { in_transaction = true }) in
     let stood = r.stands (shown_open sql params begun mid rows shown) in
-    shown_alike (state g old) begun mid refl refl sql params rows (subst (λ k. IsPlain (understood k sql)) (sym stood.schema) plain) shown
+    shown_alike (state g old) begun mid refl refl sql params rows (subst (λ k. IsPlain (understood k sql)) (sym stood.stands.schema) (plain stood.way)) shown
 
 -- ---- reads
 
@@ -83,7 +83,7 @@ reads_less fits more old new r less it = record {
 }
 
 -- what fits where the tables stand so
-pub reads_standing : {A E : Type 0} (fits more : State → A → Type 0) (old new : Connected) (r : Result A E) → ((s : State) (a : A) → Stands old.now s → fits s a → more s a) → Reads fits old new r → Reads more old new r
+pub reads_standing : {A E : Type 0} (fits more : State → A → Type 0) (old new : Connected) (r : Result A E) → ((s : State) (a : A) → Holds old.now s → fits s a → more s a) → Reads fits old new r → Reads more old new r
 reads_standing fits more old new (Ok a) then it = record {
   clean = it.clean;
   was_open = it.was_open;

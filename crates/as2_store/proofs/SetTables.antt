@@ -1,12 +1,13 @@
 -- What the tables stand for once a document has come further.
-use Rattle.std.proofs.Common.{◌≡◌, ◌≢◌, ℕ, ◌<◌, ◌≤◌, ◌==◌, List, [], ◌∷◌, map, filter, length, nat_lt, Ok, Some, IsTrue, true, pos, inl, inr, refl, sym, ap, subst, ◌∙◌, arith}
+use Rattle.std.proofs.Common.{◌≡◌, ◌≢◌, ℕ, ◌<◌, ◌≤◌, ◌==◌, List, [], ◌∷◌, map, filter, length, nat_lt, nat_le, ◌||◌, Result, Ok, Some, option_map, IsTrue, Bool, true, false, true≢false, cond, pos, inl, inr, refl, sym, ap, ap₂, subst, ◌∙◌, arith}
+use Rattle.std.specs.List.{AllByRecursion}
 use Rattle.std.proofs.lemmas.Bool.{cases_Bool}
 use Rattle.std.proofs.lemmas.Bool.Decides.{nat_tests}
 use Rattle.sqlite.specs.declared.types.Value.TheVariants.{Int}
 use Rattle.sqlite.specs.Order.{Row}
 use Rattle.sqlite.specs.Store.{Ghosts}
 use Rattle.sqlite.specs.Held.{Held, state}
-use Rattle.sqlite.specs.State.{State as Connected, HasCleanDisk, Executes}
+use Rattle.sqlite.specs.State.{State as Connected, HasCleanDisk, Executes, KeepsCommit}
 use Rattle.sql_tables.specs.Changes.{Changed, HasRows}
 use Rattle.sql_tables.proofs.Sorting.{unchanged}
 use Rattle.sql_tables.proofs.Changing.{updates}
@@ -19,19 +20,25 @@ use Rattle.as2_rows.specs.Codes.{attempt_code, detail_code}
 use Rattle.as2_rows.specs.Contents.{piece_shown}
 use Rattle.as2_rows.specs.Waiting.{WaitingRow}
 use Rattle.as2_records.specs.declared.progress.Progress.{Progress}
-use Rattle.as2_store.specs.Tables.{store_schema, outbox_table, outbox_tree, outbox_piece_tree}
-use Rattle.as2_store.specs.Stands.{IsWhole, Stands, waiting_row, all_waiting}
+use Rattle.as2_store.specs.Calls.{Writes}
+use Rattle.as2_store.specs.Tables.{Way, VersionThree, store_schema, outbox_table, outbox_tree, outbox_piece_tree, resent_tree}
+use Rattle.as2_store.specs.Stands.{IsWhole, Stands, Holds, HasResent, resent_row, waiting_row, all_waiting}
 use Rattle.as2_store.specs.Adding.{noted_rows}
 use Rattle.as2_store.specs.Requeuing.{HoldsWaiting, Renewed}
 use Rattle.as2_store.specs.Settling.{without_document}
 use Rattle.as2_store.specs.Progressing.{waits_at}
+use Rattle.as2_store.specs.Resending.{IsMarked, IsReady}
+use Rattle.as2_mdn.specs.declared.detail.Detail.TheVariants.{New}
+use Rattle.as2_exchange.specs.declared.attempt.Attempt.TheVariants.{Idle}
 use Rattle.as2_records.specs.Progressing.{come_to, set_out_in}
+use Rattle.as2_records.specs.Resending.{queued_anew, resent_in}
 use Rattle.as2_store.proofs.Statements.{out_set_text}
 use Rattle.as2_store.proofs.Texts.{number_terms, set_project, out_set_is, out_set_plain}
 use Rattle.as2_store.proofs.ForeignKeys.{quiet}
 use Rattle.as2_store.proofs.Committing.{FollowsEach}
 use Rattle.as2_store.proofs.NumberedRows.{numbers_rise, entries_rise}
-use Rattle.as2_store.proofs.NumberedEntries.{Split, out_number, split}
+use Rattle.as2_store.proofs.NumberedEntries.{Split, changed, out_number, split}
+use Rattle.as2_store.proofs.Untouched.{AtMeta, AtInbox, AtInboxPiece, AtOutbox, AtOutboxPiece, AtEvidence, AtWaiting, AtOrigin, AtResent, keeping, still_emptied, still_origin, still_resent}
 use Rattle.as2_store.proofs.WaitingRows.{cast_optional}
 use Rattle.as2_store.proofs.ChangedDocuments.{changed_rows, numbered, same_numbers, same_pieces, same_evidence, waits_changed}
 use Rattle.as2_store.proofs.OwedTables.{places_in_order}
@@ -46,59 +53,108 @@ set_more p = whole p.tries ∷ whole (attempt_code p.attempt) ∷ whole_or_null 
 abbrev pub set_params : ℕ → Progress → Row
 set_params n p = Int (pos n) ∷ set_more p
 
-pub sets : (n count : ℕ) (p : Progress) (old new : Connected) (s : State) → Stands old.now s → Executes out_set_text (set_params n p) old new (Ok count)
-    → Changed old new store_schema outbox_tree (map out_row (change_document s n (come_to p)).outbox) × (count ≡ length (filter (λ (d : OutEntry). d.number == n) s.outbox))
-sets n count p old new s it h =
-    let done = updates out_set_text (set_params n p) old new store_schema it.schema 3 outbox_table refl number_terms set_project (λ (d : OutEntry). pos d.number) out_row (λ _. refl) (λ (d : OutEntry). out_row (come_to p d)) (λ _. refl)
-    (λ d. simp (cast_int, cast_null, cast_optional)) s.outbox it.entries.outbox (entries_rise out_row (λ (d : OutEntry). d.number) (λ _. refl) s.next_out s.outbox it.documents.1) (quiet outbox_tree) out_set_is out_set_plain count h in
-    (subst (Changed old new store_schema outbox_tree) (changed_rows (come_to p) n (set_more p) s.outbox) done.0, done.1 ∙ ap length (numbered n (set_more p) s.outbox))
+pub sets : {way : Way} (n count : ℕ) (p : Progress) (old new : Connected) (s : State) → Stands (VersionThree way) old.now s → Executes out_set_text (set_params n p) old new (Ok count)
+    → Changed old new (store_schema way) outbox_tree (map out_row (change_document s n (come_to p)).outbox) × (count ≡ length (filter (λ (d : OutEntry). d.number == n) s.outbox))
+sets {way} n count p old new s it h =
+    let done = updates out_set_text (set_params n p) old new (store_schema way) it.schema 3 outbox_table refl number_terms set_project (λ (d : OutEntry). pos d.number) out_row (λ _. refl) (λ (d : OutEntry). out_row (come_to p d)) (λ _. refl)
+    (λ d. simp (cast_int, cast_null, cast_optional)) s.outbox it.entries.outbox (entries_rise out_row (λ (d : OutEntry). d.number) (λ _. refl) s.next_out s.outbox it.documents.1) (quiet way outbox_tree) (out_set_is way) (out_set_plain way) count h in
+    (subst (Changed old new (store_schema way) outbox_tree) (changed_rows (come_to p) n (set_more p) s.outbox) done.0, done.1 ∙ ap length (numbered n (set_more p) s.outbox))
+
+-- ---- which documents are begun
+
+-- the document of this number is begun by its tries or by its row, as it was
+module _ (p : Progress) (n : ℕ) (rows : List Row) where
+  set_begun : (ds : List OutEntry) → (it : HasResent rows ds) → (nat_le 1 p.tries ≡ false → AllByRecursion (λ d. (d.number == n) ≡ true → d.begun ≡ it.was d.number) ds) → HasResent rows (changed out_number n (come_to p) ds)
+  set_begun ds it own = record {
+    was = it.was;
+    rows_are = it.rows_are ∙ ap (λ ns. map resent_row (filter it.was ns)) (sym (same_numbers (come_to p) (λ _. refl) n ds));
+    begun = each ds it.begun own;
+  }
+    where
+      or_true : (b : Bool) → (b || true) ≡ true
+      or_true true = refl
+      or_true false = refl
+
+      or_false : (b : Bool) → (b || false) ≡ b
+      or_false true = refl
+      or_false false = refl
+
+      both : (begun was b : Bool) → (b ≡ false → begun ≡ was) → (begun || b) ≡ (b || was)
+      both begun was true own = or_true begun
+      both begun was false own = or_false begun ∙ own refl
+
+      one : (d : OutEntry) (t : Bool) → (nat_le 1 p.tries ≡ false → t ≡ true → d.begun ≡ it.was d.number) → d.begun ≡ (nat_le 1 d.tries || it.was d.number)
+          → (cond t (come_to p d) d).begun ≡ (nat_le 1 (cond t (come_to p d) d).tries || it.was (cond t (come_to p d) d).number)
+      one d true own is = both d.begun (it.was d.number) (nat_le 1 p.tries) (λ none. own none refl)
+      one d false own is = is
+
+      each : (ds : List OutEntry) → AllByRecursion (λ d. d.begun ≡ (nat_le 1 d.tries || it.was d.number)) ds → (nat_le 1 p.tries ≡ false → AllByRecursion (λ d. (d.number == n) ≡ true → d.begun ≡ it.was d.number) ds)
+          → AllByRecursion (λ d. d.begun ≡ (nat_le 1 d.tries || it.was d.number)) (changed out_number n (come_to p) ds)
+      each [] all own = tt
+      each (d ∷ ds) all own = (one d (d.number == n) (λ none. (own none).0) all.0, each ds all.1 (λ none. (own none).1))
+
+  resent_set : (ds : List OutEntry) → HasResent rows ds → (nat_le 1 p.tries ≡ false → IsMarked rows ds n) → HasResent rows (changed out_number n (come_to p) ds)
+  resent_set ds it marked = go (nat_le 1 p.tries) refl
+    where
+      go : (t : Bool) → nat_le 1 p.tries ≡ t → HasResent rows (changed out_number n (come_to p) ds)
+      go true is = set_begun ds it (λ none. absurd (true≢false (sym is ∙ none)))
+      go false is = let own = marked is in set_begun ds own.resent (λ none. own.own)
 
 -- ---- the state
 
-stands_set : (a b c : Connected) (s : State) (n : ℕ) (p : Progress) → Stands a.now s → Split out_number n s.outbox → Changed a b store_schema outbox_tree (map out_row (change_document s n (come_to p)).outbox)
-    → Renewed b c (noted_rows (waits_at n p) (map waiting_row (without_document n (all_waiting s)))) → Stands c.now (change_document s n (come_to p))
+stands_set : (way : Way) (a b c : Connected) (s : State) (n : ℕ) (p : Progress) → Stands (VersionThree way) a.now s → (nat_le 1 p.tries ≡ false → IsMarked (a.now.trees (resent_tree way)) s.outbox n) → Split out_number n s.outbox → Changed a b (store_schema way) outbox_tree (map out_row (change_document s n (come_to p)).outbox)
+    → Renewed way b c (noted_rows (waits_at n p) (map waiting_row (without_document n (all_waiting s)))) → Stands (VersionThree way) c.now (change_document s n (come_to p))
 unfolding IsWhole
-stands_set a b c s n p it place one two =
+stands_set way a b c s n p it marked place one two =
     let has = it.entries in
+    let k1 = keeping way AtOutbox a.now.trees b.now.trees one.others in
+    let k2 = keeping way AtWaiting b.now.trees c.now.trees two.others in
     record {
       sound = two.sound;
       schema = two.schema_is;
-      meta = two.others.0 (λ e. omega arith) ∙ one.others.0 (λ e. omega arith) ∙ it.meta;
+      meta = k2 AtMeta (λ e. omega arith) ∙ k1 AtMeta (λ e. omega arith) ∙ it.meta;
       entries = record {
-        inbox = two.others.1.0 (λ e. omega arith) ∙ one.others.1.0 (λ e. omega arith) ∙ has.inbox;
-        inbox_contents = unchanged (two.others.1.1.0 (λ e. omega arith) ∙ one.others.1.1.0 (λ e. omega arith)) has.inbox_contents;
-        outbox = two.others.1.1.1.0 (λ e. omega arith) ∙ one.rows_are;
+        inbox = k2 AtInbox (λ e. omega arith) ∙ k1 AtInbox (λ e. omega arith) ∙ has.inbox;
+        inbox_contents = unchanged (k2 AtInboxPiece (λ e. omega arith) ∙ k1 AtInboxPiece (λ e. omega arith)) has.inbox_contents;
+        outbox = k2 AtOutbox (λ e. omega arith) ∙ one.rows_are;
         outbox_contents = subst (λ ps. HasRows (c.now.trees outbox_piece_tree) (map piece_shown ps)) (sym (same_pieces (come_to p) (λ _. refl) n (λ _. refl) s.outbox))
-            (unchanged (two.others.1.1.1.1.0 (λ e. omega arith) ∙ one.others.1.1.1.1.0 (λ e. omega arith)) has.outbox_contents);
-        evidence = two.others.1.1.1.1.1.0 (λ e. omega arith) ∙ one.others.1.1.1.1.1.0 (λ e. omega arith) ∙ has.evidence ∙ sym (same_evidence (come_to p) (λ _. refl) n (λ _. refl) s.outbox);
+            (unchanged (k2 AtOutboxPiece (λ e. omega arith) ∙ k1 AtOutboxPiece (λ e. omega arith)) has.outbox_contents);
+        evidence = k2 AtEvidence (λ e. omega arith) ∙ k1 AtEvidence (λ e. omega arith) ∙ has.evidence ∙ sym (same_evidence (come_to p) (λ _. refl) n (λ _. refl) s.outbox);
         waits = two.rows_are ∙ ap (λ k. noted_rows (waits_at k p) (map waiting_row (without_document n (all_waiting s)))) (sym place.here) ∙ waits_changed (come_to p) (λ _. refl) n a.now s it place;
       };
+      version = still_origin (k2 AtOrigin (λ e. omega arith) ∙ k1 AtOrigin (λ e. omega arith)) it.version;
+      begun = still_resent (k2 AtResent (λ e. omega arith) ∙ k1 AtResent (λ e. omega arith)) (resent_set p n (a.now.trees (resent_tree way)) s.outbox it.begun marked);
+      left = still_emptied way AtWaiting b.now c.now two.others (still_emptied way AtOutbox a.now b.now one.others it.left);
       receipts = it.receipts;
       documents = (it.documents.0, subst (AreNumbers s.next_out) (sym (same_numbers (come_to p) (λ _. refl) n s.outbox)) it.documents.1);
     }
 
 -- ---- the transaction
 
--- an Ok of the two statements: there is such a document
-pub comes_further : {S : Type 0} (g : Ghosts S) (old : Held S) (one last : Connected) (n w : ℕ) (p : Progress) → (end_of_numbers ≤ n → w ≡ end_of_numbers) → (n < end_of_numbers → w ≡ n)
-    → (count : ℕ) → count ≢ 0 → (HasCleanDisk last → HasCleanDisk one) → (HasCleanDisk one → IsTrue (state g old).is_open)
-    → (HasCleanDisk one → (s : State) → Stands (state g old).now s
-    → Changed (state g (record old { in_transaction = true })) one store_schema outbox_tree (map out_row (change_document s w (come_to p)).outbox) × (count ≡ length (filter (λ (d : OutEntry). d.number == w) s.outbox)))
-    → (HasCleanDisk last → (ws : List WaitingRow) → HoldsWaiting one.now ws → Renewed one last (noted_rows (waits_at w p) (map waiting_row (without_document w ws))))
+-- an Ok of the statements: there is such a document
+pub comes_further : {S : Type 0} (g : Ghosts S) (old : Held S) (mid one last : Connected) (n w : ℕ) (p : Progress) → (end_of_numbers ≤ n → w ≡ end_of_numbers) → (n < end_of_numbers → w ≡ n)
+    → (count : ℕ) → count ≢ 0 → (HasCleanDisk last → HasCleanDisk one) → (HasCleanDisk one → HasCleanDisk mid) → (HasCleanDisk mid → KeepsCommit (state g (record old { in_transaction = true })) mid) → (HasCleanDisk one → IsTrue mid.is_open)
+    → (HasCleanDisk mid → (way : Way) (s : State) → Stands (VersionThree way) (state g old).now s → IsReady way mid.now s w p.tries)
+    → (HasCleanDisk one → (way : Way) (s : State) → Stands (VersionThree way) mid.now s
+    → Changed mid one (store_schema way) outbox_tree (map out_row (change_document s w (come_to p)).outbox) × (count ≡ length (filter (λ (d : OutEntry). d.number == w) s.outbox)))
+    → (HasCleanDisk last → (way : Way) (ws : List WaitingRow) → HoldsWaiting way one.now ws → Renewed way one last (noted_rows (waits_at w p) (map waiting_row (without_document w ws))))
     → HasCleanDisk last → FollowsEach g old last (set_out_in n p)
-comes_further g old one last n w p beyond within count some was opened set renewed clean =
-    let begun = state g (record old { in_transaction = true }) in
+comes_further g old mid one last n w p beyond within count some was was_mid kept open_then readied set renewed clean =
+    let opened = (kept (was_mid (was clean))).was_open (open_then (was clean)) in
     record {
-      was_open = opened (was clean);
+      was_open = opened;
       reaches = λ s r.
-          let stood = r.stands (opened (was clean)) in
-          let first = set (was clean) s stood in
+          let here = r.stands opened in
+          let way = here.way in
+          let ready = readied (was_mid (was clean)) way s here.stands in
+          let stood = ready.stands in
+          let first = set (was clean) way s stood in
           let many : length (filter (λ (d : OutEntry). d.number == w) s.outbox) ≢ 0 = λ none. some (first.1 ∙ none) in
           let found = some_found (λ (d : OutEntry). d.number == w) s.outbox many in
           let place = split out_number w s.outbox (numbers_rise out_number s.next_out s.outbox stood.documents.1) many in
-          let waits : HoldsWaiting one.now (all_waiting s) = record { schema = first.0.schema_is; rows = first.0.others.1.1.1.1.1.1.0 (λ e. omega arith) ∙ stood.entries.waits; in_order = places_in_order begun.now s stood } in
-          let stands = stands_set begun one last s w p stood place first.0 (renewed clean (all_waiting s) waits) in
-          subst (λ k. (t : State) × (set_out_in k p s ≡ Some t) × Stands last.now t) (same_number (given begun s w found.0 stood found.1)) (change_document s w (come_to p), found_next s w p found.0 found.1, stands);
+          let waits : HoldsWaiting way one.now (all_waiting s) = record { schema = first.0.schema_is; rows = first.0.others.1.1.1.1.1.1.0 (λ e. omega arith) ∙ stood.entries.waits; in_order = places_in_order mid.now s stood } in
+          let stands : Holds last.now (change_document s w (come_to p)) = record { way = way; stands = stands_set way mid one last s w p stood ready.marked place first.0 (renewed clean way (all_waiting s) waits) } in
+          subst (λ k. (t : State) × (set_out_in k p s ≡ Some t) × Holds last.now t) (same_number (given mid s w found.0 stood found.1)) (change_document s w (come_to p), found_next s w p found.0 found.1, stands);
     }
   where
     found_next : (s : State) (k : ℕ) (p : Progress) (d : OutEntry) → document s k ≡ Some d → set_out_in k p s ≡ Some (change_document s k (come_to p))
@@ -109,3 +165,29 @@ comes_further g old one last n w p beyond within count some was opened set renew
       | inl small ↦ within (grind (arith, nat_tests, small))
       | inr large ↦ absurd (let end : w ≡ end_of_numbers = beyond (grind (arith, nat_tests, large)) in omega (arith, low, end))
     ]
+
+-- ---- to be sent anew
+
+-- a document that is queued anew has come so far
+abbrev pub anew : ℕ → Progress
+anew m = record { tries = 0; attempt = Idle; due = Some m; detail = New }
+
+queued_so : (m : ℕ) (d : OutEntry) → come_to (anew m) d ≡ queued_anew m d
+queued_so m d = ap (λ b. record d { begun = b; tries = 0; attempt = Idle; due = Some m; detail = New }) (or_false d.begun)
+  where
+    or_false : (b : Bool) → (b || false) ≡ b
+    or_false true = refl
+    or_false false = refl
+
+queues_one : (n m : ℕ) (s : State) → change_document s n (come_to (anew m)) ≡ change_document s n (queued_anew m)
+queues_one n m s = ap (λ ds. record s { outbox = ds }) (each s.outbox)
+  where
+    each : (ds : List OutEntry) → map (λ (d : OutEntry). cond (d.number == n) (come_to (anew m) d) d) ds ≡ map (λ (d : OutEntry). cond (d.number == n) (queued_anew m d) d) ds
+    each [] = refl
+    each (d ∷ ds) = ap₂ ◌∷◌ (ap (λ x. cond (d.number == n) x d) (queued_so m d)) (each ds)
+
+pub queues : (n m : ℕ) → set_out_in n (anew m) ≡ resent_in n m
+queues n m = λ i s. option_map (λ _. queues_one n m s i) (document s n)
+
+pub queued : {A E : Type 0} (n m : ℕ) (old new : Connected) (r : Result A E) → Writes (set_out_in n (anew m)) old new r → Writes (resent_in n m) old new r
+queued n m old new r it = subst (λ next. Writes next old new r) (queues n m) it

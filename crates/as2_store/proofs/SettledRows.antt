@@ -35,7 +35,9 @@ are_settled (d ∷ ds) = go d.evidence refl (are_settled ds)
 
 pub finds_settled : (old new : Connected) (rows : List Row) → Shown settled_text [] old new rows → (s : State) → Rests old s → rows ≡ map number_row (settled_numbers s)
 finds_settled old new rows h s r =
-    let it = r.stands (shown_open settled_text [] old new rows h) in
-    reads_rows settled_text settled_plain settled_unlisted evidence_tree [] settled_column_terms (codes "number" ∷ []) settled_is [] row_of number_of (λ _. refl) (λ _. true) (λ _. refl) old new rows h it.schema (receipts s.outbox) (it.entries.evidence ∙ rows_of s.outbox)
+    let here = r.stands (shown_open settled_text [] old new rows h) in
+    let way = here.way in
+    let it = here.stands in
+    reads_rows way settled_text (settled_plain way) (settled_unlisted way) evidence_tree [] settled_column_terms (codes "number" ∷ []) (settled_is way) [] row_of number_of (λ _. refl) (λ _. true) (λ _. refl) old new rows h it.schema (receipts s.outbox) (it.entries.evidence ∙ rows_of s.outbox)
     (ordered_rise row_of (λ r. r.number) (λ _. refl) (receipts s.outbox) (given_rise receipt_row (λ (d : OutEntry). d.number) (λ r. r.number) kept s.outbox (numbers_rise (λ (d : OutEntry). d.number) s.next_out s.outbox it.documents.1)))
     ∙ are_settled s.outbox

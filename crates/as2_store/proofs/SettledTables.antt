@@ -27,9 +27,9 @@ use Rattle.as2_rows.specs.Rows.{out_row, evidence_row, evidence_shown}
 use Rattle.as2_rows.specs.Codes.{detail_code}
 use Rattle.as2_rows.specs.Contents.{piece_shown}
 use Rattle.as2_rows.specs.Waiting.{WaitingRow, out_kind}
-use Rattle.as2_store.specs.Tables.{store_schema, outbox_table, outbox_tree, outbox_piece_tree, evidence_table, evidence_tree}
+use Rattle.as2_store.specs.Tables.{Way, Layout, VersionThree, store_schema, outbox_table, outbox_tree, outbox_piece_tree, evidence_table, evidence_tree}
 use Rattle.as2_store.proofs.Statements.{out_settle_text, evidence_put_text}
-use Rattle.as2_store.specs.Stands.{IsWhole, Stands, place, waiting_row, all_waiting, evidence_rows}
+use Rattle.as2_store.specs.Stands.{IsWhole, Stands, Holds, place, waiting_row, all_waiting, evidence_rows}
 use Rattle.as2_store.specs.Adding.{noted_rows}
 use Rattle.as2_store.specs.Requeuing.{HoldsWaiting, Renewed}
 use Rattle.as2_exchange.specs.Documents.{settled_as}
@@ -41,6 +41,8 @@ use Rattle.as2_store.proofs.MetaRow.{fits_i64}
 use Rattle.as2_store.proofs.NumberedRows.{numbers_rise, entries_rise, rises, falls}
 use Rattle.as2_store.proofs.ChangedDocuments.{changed_rows, numbered, same_numbers, same_pieces, waits_changed}
 use Rattle.as2_store.proofs.NumberedEntries.{Split, out_number, split}
+use Rattle.as2_store.proofs.ResentRows.{resent_changed}
+use Rattle.as2_store.proofs.Untouched.{AtMeta, AtInbox, AtInboxPiece, AtOutbox, AtOutboxPiece, AtEvidence, AtWaiting, AtOrigin, AtResent, keeping, still_emptied, still_origin, still_resent}
 use Rattle.as2_store.proofs.OwedTables.{places_in_order}
 use Rattle.as2_store.proofs.QueriedRows.{found_all}
 use Rattle.as2_store.proofs.ForeignKeys.{quiet}
@@ -73,13 +75,13 @@ passed_detail detail = fits_i64 (detail_code detail) (small detail)
     small TriesUsed = omega arith
     small Overdue = omega arith
 
-pub settles : (n count : ℕ) (detail : Detail) (e : Evidence) (old new : Connected) (s : State) → Stands old.now s → Executes out_settle_text (settle_params n detail) old new (Ok count)
-    → Changed old new store_schema outbox_tree (map out_row (change_document s n (settled_as detail e)).outbox) × (count ≡ length (filter (λ (d : OutEntry). d.number == n) s.outbox))
-settles n count detail e old new s it h =
-    let done = updates out_settle_text (settle_params n detail) old new store_schema it.schema 3 outbox_table refl number_terms settle_project (λ (d : OutEntry). pos d.number) out_row (λ _. refl) (λ (d : OutEntry). out_row (settled_as detail e d)) (λ _. refl)
-    (λ d. simp (cast_int, cast_null)) s.outbox it.entries.outbox (entries_rise out_row (λ (d : OutEntry). d.number) (λ _. refl) s.next_out s.outbox it.documents.1) (quiet outbox_tree) out_settle_is out_settle_plain count h in
+pub settles : {way : Way} (n count : ℕ) (detail : Detail) (e : Evidence) (old new : Connected) (s : State) → Stands (VersionThree way) old.now s → Executes out_settle_text (settle_params n detail) old new (Ok count)
+    → Changed old new (store_schema way) outbox_tree (map out_row (change_document s n (settled_as detail e)).outbox) × (count ≡ length (filter (λ (d : OutEntry). d.number == n) s.outbox))
+settles {way} n count detail e old new s it h =
+    let done = updates out_settle_text (settle_params n detail) old new (store_schema way) it.schema 3 outbox_table refl number_terms settle_project (λ (d : OutEntry). pos d.number) out_row (λ _. refl) (λ (d : OutEntry). out_row (settled_as detail e d)) (λ _. refl)
+    (λ d. simp (cast_int, cast_null)) s.outbox it.entries.outbox (entries_rise out_row (λ (d : OutEntry). d.number) (λ _. refl) s.next_out s.outbox it.documents.1) (quiet way outbox_tree) (out_settle_is way) (out_settle_plain way) count h in
     let more = Int (pos (detail_code detail)) ∷ [] in
-    (subst (Changed old new store_schema outbox_tree) (changed_rows (settled_as detail e) n more s.outbox) done.0, done.1 ∙ ap length (numbered n more s.outbox))
+    (subst (Changed old new (store_schema way) outbox_tree) (changed_rows (settled_as detail e) n more s.outbox) done.0, done.1 ∙ ap length (numbered n more s.outbox))
 
 -- ---- its evidence
 
@@ -89,15 +91,15 @@ receipt_params n e = evidence_shown n e
 one_receipt : (n : ℕ) (e : Evidence) → IsOneRow evidence_table (receipt_params n e) evidence_put_terms 5 (evidence_row n e)
 one_receipt n e = record { source = evidence_row n e; made = refl; cast_is = simp (cast_int, cast_null) }
 
-pub puts_evidence : (old new : Connected) (n : ℕ) (e : Evidence) (count : ℕ) → old.now.schema ≡ store_schema → Executes evidence_put_text (receipt_params n e) old new (Ok count)
-    → Changed old new store_schema evidence_tree (put_row (evidence_row n e) (old.now.trees evidence_tree))
-puts_evidence old new n e count has h =
-    inserts_given evidence_put_text (receipt_params n e) old new store_schema has 5 evidence_table refl refl evidence_put_terms 5 (evidence_row n e) (one_receipt n e) refl evidence_put_is evidence_put_plain count h
+pub puts_evidence : (way : Way) (old new : Connected) (n : ℕ) (e : Evidence) (count : ℕ) → old.now.schema ≡ (store_schema way) → Executes evidence_put_text (receipt_params n e) old new (Ok count)
+    → Changed old new (store_schema way) evidence_tree (put_row (evidence_row n e) (old.now.trees evidence_tree))
+puts_evidence way old new n e count has h =
+    inserts_given evidence_put_text (receipt_params n e) old new (store_schema way) has 5 evidence_table refl refl evidence_put_terms 5 (evidence_row n e) (one_receipt n e) refl (evidence_put_is way) (evidence_put_plain way) count h
 
-pub fresh_evidence : (old new : Connected) (n : ℕ) (e : Evidence) (count : ℕ) → old.now.schema ≡ store_schema → Executes evidence_put_text (receipt_params n e) old new (Ok count)
+pub fresh_evidence : (way : Way) (old new : Connected) (n : ℕ) (e : Evidence) (count : ℕ) → old.now.schema ≡ (store_schema way) → Executes evidence_put_text (receipt_params n e) old new (Ok count)
     → are_fresh (old.now.trees evidence_tree) (evidence_row n e ∷ []) ≡ true
-fresh_evidence old new n e count has h =
-    inserts_fresh evidence_put_text (receipt_params n e) old new store_schema has 5 evidence_table refl refl evidence_put_terms 5 (evidence_row n e) (one_receipt n e) refl evidence_put_is evidence_put_plain count h
+fresh_evidence way old new n e count has h =
+    inserts_fresh evidence_put_text (receipt_params n e) old new (store_schema way) has 5 evidence_table refl refl evidence_put_terms 5 (evidence_row n e) (one_receipt n e) refl (evidence_put_is way) (evidence_put_plain way) count h
 
 others_stay : (n : ℕ) (detail : Detail) (e : Evidence) (ds : List OutEntry) → AllByRecursion (λ (d : OutEntry). n < d.number) ds → ended n detail e ds ≡ ds
 others_stay n detail e [] all = refl
@@ -174,7 +176,7 @@ rests_idle MicDiffers is = refl
 rests_idle TriesUsed is = absurd cc
 rests_idle Overdue is = absurd cc
 
-pub waits_left : (t : Database) (s : State) (n : ℕ) (detail : Detail) (e : Evidence) → is_by_receipt detail ≡ true → Stands t s → Split out_number n s.outbox
+pub waits_left : {layout : Layout} (t : Database) (s : State) (n : ℕ) (detail : Detail) (e : Evidence) → is_by_receipt detail ≡ true → Stands layout t s → Split out_number n s.outbox
     → map waiting_row (without_document n (all_waiting s)) ≡ map waiting_row (all_waiting (change_document s n (settled_as detail e)))
 waits_left t s n detail e by stood it =
     ap (λ o. noted_rows (option_map (λ kind. record { kind = kind; number = it.one.number; due = None }) o) (map waiting_row (without_document n (all_waiting s)))) (sym (rests_idle detail by))
@@ -183,14 +185,14 @@ waits_left t s n detail e by stood it =
 -- ---- the state
 
 -- a document that is found has a number that was given
-pub given : (a : Connected) (s : State) (n : ℕ) (d : OutEntry) → Stands a.now s → document s n ≡ Some d → n < end_of_numbers
+pub given : {layout : Layout} (a : Connected) (s : State) (n : ℕ) (d : OutEntry) → Stands layout a.now s → document s n ≡ Some d → n < end_of_numbers
 given a s n d it found =
     let below = found_all (λ (x : OutEntry). x.number) (λ k. k < s.next_out) (λ (x : OutEntry). x.number == n) s.outbox d it.documents.1.below found in
     omega (arith, below, found_number n s.outbox d found, it.documents.0.most)
 
 -- what waits is untouched by the first two statements
-pub still_holds : (a b c : Connected) (s : State) → Stands a.now s → (documents receipts : List Row) → Changed a b store_schema outbox_tree documents → Changed b c store_schema evidence_tree receipts → HoldsWaiting c.now (all_waiting s)
-still_holds a b c s it documents receipts one two = record {
+pub still_holds : (way : Way) (a b c : Connected) (s : State) → Stands (VersionThree way) a.now s → (documents receipts : List Row) → Changed a b (store_schema way) outbox_tree documents → Changed b c (store_schema way) evidence_tree receipts → HoldsWaiting way c.now (all_waiting s)
+still_holds way a b c s it documents receipts one two = record {
   schema = two.schema_is;
   rows = two.others.1.1.1.1.1.1.0 (λ e. omega arith) ∙ one.others.1.1.1.1.1.1.0 (λ e. omega arith) ∙ it.entries.waits;
   in_order = places_in_order a.now s it;
@@ -201,27 +203,33 @@ no_evidence_yet None is = refl
 no_evidence_yet (Some e) is = absurd cc
 
 -- the tables stand for the state with the document settled, where no receipt had settled it
-pub stands_settled : (a b c d : Connected) (s : State) (n : ℕ) (detail : Detail) (e : Evidence) (x : OutEntry) → is_by_receipt detail ≡ true → Stands a.now s → document s n ≡ Some x → is_settled x ≡ false → Split out_number n s.outbox
-    → Changed a b store_schema outbox_tree (map out_row (change_document s n (settled_as detail e)).outbox) → Changed b c store_schema evidence_tree (put_row (evidence_row n e) (b.now.trees evidence_tree))
-    → Renewed c d (map waiting_row (without_document n (all_waiting s))) → Stands d.now (change_document s n (settled_as detail e))
+pub stands_settled : (way : Way) (a b c d : Connected) (s : State) (n : ℕ) (detail : Detail) (e : Evidence) (x : OutEntry) → is_by_receipt detail ≡ true → Stands (VersionThree way) a.now s → document s n ≡ Some x → is_settled x ≡ false → Split out_number n s.outbox
+    → Changed a b (store_schema way) outbox_tree (map out_row (change_document s n (settled_as detail e)).outbox) → Changed b c (store_schema way) evidence_tree (put_row (evidence_row n e) (b.now.trees evidence_tree))
+    → Renewed way c d (map waiting_row (without_document n (all_waiting s))) → Stands (VersionThree way) d.now (change_document s n (settled_as detail e))
 unfolding IsWhole
-stands_settled a b c d s n detail e x by it found fresh_unsettled place one two three =
+stands_settled way a b c d s n detail e x by it found fresh_unsettled place one two three =
     let has = it.entries in
+    let k1 = keeping way AtOutbox a.now.trees b.now.trees one.others in
+    let k2 = keeping way AtEvidence b.now.trees c.now.trees two.others in
+    let k3 = keeping way AtWaiting c.now.trees d.now.trees three.others in
     let rising = numbers_rise (λ (y : OutEntry). y.number) s.next_out s.outbox it.documents.1 in
     record {
       sound = three.sound;
       schema = three.schema_is;
-      meta = three.others.0 (λ e. omega arith) ∙ two.others.0 (λ e. omega arith) ∙ one.others.0 (λ e. omega arith) ∙ it.meta;
+      meta = k3 AtMeta (λ e. omega arith) ∙ k2 AtMeta (λ e. omega arith) ∙ k1 AtMeta (λ e. omega arith) ∙ it.meta;
       entries = record {
-        inbox = three.others.1.0 (λ e. omega arith) ∙ two.others.1.0 (λ e. omega arith) ∙ one.others.1.0 (λ e. omega arith) ∙ has.inbox;
-        inbox_contents = unchanged (three.others.1.1.0 (λ e. omega arith) ∙ two.others.1.1.0 (λ e. omega arith) ∙ one.others.1.1.0 (λ e. omega arith)) has.inbox_contents;
-        outbox = three.others.1.1.1.0 (λ e. omega arith) ∙ two.others.1.1.1.0 (λ e. omega arith) ∙ one.rows_are;
+        inbox = k3 AtInbox (λ e. omega arith) ∙ k2 AtInbox (λ e. omega arith) ∙ k1 AtInbox (λ e. omega arith) ∙ has.inbox;
+        inbox_contents = unchanged (k3 AtInboxPiece (λ e. omega arith) ∙ k2 AtInboxPiece (λ e. omega arith) ∙ k1 AtInboxPiece (λ e. omega arith)) has.inbox_contents;
+        outbox = k3 AtOutbox (λ e. omega arith) ∙ k2 AtOutbox (λ e. omega arith) ∙ one.rows_are;
         outbox_contents = subst (λ ps. HasRows (d.now.trees outbox_piece_tree) (map piece_shown ps)) (sym (same_pieces (settled_as detail e) (λ _. refl) n (λ _. refl) s.outbox))
-            (unchanged (three.others.1.1.1.1.0 (λ e. omega arith) ∙ two.others.1.1.1.1.0 (λ e. omega arith) ∙ one.others.1.1.1.1.0 (λ e. omega arith)) has.outbox_contents);
-        evidence = three.others.1.1.1.1.1.0 (λ e. omega arith) ∙ two.rows_are ∙ ap (put_row (evidence_row n e)) (one.others.1.1.1.1.1.0 (λ e. omega arith) ∙ has.evidence)
+            (unchanged (k3 AtOutboxPiece (λ e. omega arith) ∙ k2 AtOutboxPiece (λ e. omega arith) ∙ k1 AtOutboxPiece (λ e. omega arith)) has.outbox_contents);
+        evidence = k3 AtEvidence (λ e. omega arith) ∙ two.rows_are ∙ ap (put_row (evidence_row n e)) (k1 AtEvidence (λ e. omega arith) ∙ has.evidence)
             ∙ put_among n detail e s.outbox rising x found (no_evidence_yet x.evidence fresh_unsettled);
         waits = three.rows_are ∙ waits_left a.now s n detail e by it place;
       };
+      version = still_origin (k3 AtOrigin (λ e. omega arith) ∙ k2 AtOrigin (λ e. omega arith) ∙ k1 AtOrigin (λ e. omega arith)) it.version;
+      begun = still_resent (k3 AtResent (λ e. omega arith) ∙ k2 AtResent (λ e. omega arith) ∙ k1 AtResent (λ e. omega arith)) (resent_changed (settled_as detail e) (λ _. refl) (λ _. refl) (λ _. refl) n _ s.outbox it.begun);
+      left = still_emptied way AtWaiting c.now d.now three.others (still_emptied way AtEvidence b.now c.now two.others (still_emptied way AtOutbox a.now b.now one.others it.left));
       receipts = it.receipts;
       documents = (it.documents.0, subst (AreNumbers s.next_out) (sym (same_numbers (settled_as detail e) (λ _. refl) n s.outbox)) it.documents.1);
     }
@@ -234,10 +242,10 @@ settled_next s n detail e d found not_yet by = rw (found, not_yet, by) refl
 -- an Ok of the three statements: there is such a document, and no receipt has settled it
 pub ends : {S : Type 0} (g : Ghosts S) (old : Held S) (one two last : Connected) (n w : ℕ) (detail : Detail) (e : Evidence) → is_by_receipt detail ≡ true → (end_of_numbers ≤ n → w ≡ end_of_numbers) → (n < end_of_numbers → w ≡ n)
     → (count : ℕ) → count ≢ 0 → (HasCleanDisk two → HasCleanDisk one) → (HasCleanDisk last → HasCleanDisk two) → (HasCleanDisk one → IsTrue (state g old).is_open)
-    → (HasCleanDisk one → (s : State) → Stands (state g old).now s → (e : Evidence)
-    → Changed (state g (record old { in_transaction = true })) one store_schema outbox_tree (map out_row (change_document s w (settled_as detail e)).outbox) × (count ≡ length (filter (λ (d : OutEntry). d.number == w) s.outbox)))
-    → (HasCleanDisk two → one.now.schema ≡ store_schema → Changed one two store_schema evidence_tree (put_row (evidence_row w e) (one.now.trees evidence_tree)) × (are_fresh (one.now.trees evidence_tree) (evidence_row w e ∷ []) ≡ true))
-    → (HasCleanDisk last → (ws : List WaitingRow) → HoldsWaiting two.now ws → Renewed two last (map waiting_row (without_document w ws)))
+    → (HasCleanDisk one → (way : Way) (s : State) → Stands (VersionThree way) (state g old).now s → (e : Evidence)
+    → Changed (state g (record old { in_transaction = true })) one (store_schema way) outbox_tree (map out_row (change_document s w (settled_as detail e)).outbox) × (count ≡ length (filter (λ (d : OutEntry). d.number == w) s.outbox)))
+    → (HasCleanDisk two → (way : Way) → one.now.schema ≡ store_schema way → Changed one two (store_schema way) evidence_tree (put_row (evidence_row w e) (one.now.trees evidence_tree)) × (are_fresh (one.now.trees evidence_tree) (evidence_row w e ∷ []) ≡ true))
+    → (HasCleanDisk last → (way : Way) (ws : List WaitingRow) → HoldsWaiting way two.now ws → Renewed way two last (map waiting_row (without_document w ws)))
     → HasCleanDisk last → FollowsEach g old last (settled_in n detail e)
 ends g old one two last n w detail e by beyond within count some was_one was_two opened set put taken clean =
     let begun = state g (record old { in_transaction = true }) in
@@ -245,18 +253,20 @@ ends g old one two last n w detail e by beyond within count some was_one was_two
     record {
       was_open = opened late;
       reaches = λ s r.
-          let stood = r.stands (opened late) in
-          let first = set late s stood e in
+          let here = r.stands (opened late) in
+          let way = here.way in
+          let stood = here.stands in
+          let first = set late way s stood e in
           let found = some_found (λ (d : OutEntry). d.number == w) s.outbox (λ none. some (first.1 ∙ none)) in
           let low = given begun s w found.0 stood found.1 in
           let it : w ≡ n = same_number low in
-          let next = put (was_two clean) first.0.schema_is in
-          let third = taken clean (all_waiting s) (still_holds begun one two s stood _ _ first.0 next.0) in
+          let next = put (was_two clean) way first.0.schema_is in
+          let third = taken clean way (all_waiting s) (still_holds way begun one two s stood _ _ first.0 next.0) in
           let rows : one.now.trees evidence_tree ≡ evidence_rows s.outbox = first.0.others.1.1.1.1.1.0 (λ e. omega arith) ∙ stood.entries.evidence in
           let not_yet = fresh_unsettled w e s.outbox found.0 found.1 (ap (λ l. are_fresh l (evidence_row w e ∷ [])) (sym rows) ∙ next.1) in
           let place = split out_number w s.outbox (numbers_rise out_number s.next_out s.outbox stood.documents.1) (λ none. some (first.1 ∙ none)) in
-          let stands = stands_settled begun one two last s w detail e found.0 by stood found.1 not_yet place first.0 next.0 third in
-          subst (λ k. (t : State) × (settled_in k detail e s ≡ Some t) × Stands last.now t) it (change_document s w (settled_as detail e), settled_next s w detail e found.0 found.1 not_yet by, stands);
+          let stands : Holds last.now (change_document s w (settled_as detail e)) = record { way = way; stands = stands_settled way begun one two last s w detail e found.0 by stood found.1 not_yet place first.0 next.0 third } in
+          subst (λ k. (t : State) × (settled_in k detail e s ≡ Some t) × Holds last.now t) it (change_document s w (settled_as detail e), settled_next s w detail e found.0 found.1 not_yet by, stands);
     }
   where
     same_number : w < end_of_numbers → w ≡ n

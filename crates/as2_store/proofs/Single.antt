@@ -1,5 +1,5 @@
 -- The tables stand for at most one state.
-use Rattle.std.proofs.Common.{◌≡◌, ℕ, zero, suc, ◌*◌, ◌==◌, ◌≤◌, List, [], ◌∷◌, ◌++◌, map, filter, find, take, length, get_or, Option, option_map, Some, None, Bool, true, false, cond, refl, sym, ap, ap₂, subst, subst₂, ◌∙◌, arith, Less, pos, IsPermutation}
+use Rattle.std.proofs.Common.{◌≡◌, ℕ, zero, suc, ◌*◌, ◌==◌, ◌≤◌, ◌||◌, nat_le, List, [], ◌∷◌, ◌++◌, map, filter, find, take, length, get_or, Option, option_map, Some, None, Bool, true, false, cond, refl, sym, ap, ap₂, subst, subst₂, ◌∙◌, arith, Less, pos, IsPermutation}
 use Rattle.std.specs.Bool.{⊤}
 use Rattle.std.specs.List.{AllByRecursion, IsDistinct, cons_option}
 use Rattle.std.proofs.lemmas.Bool.Decides.{nat_tests}
@@ -10,11 +10,11 @@ use Rattle.sqlite.specs.Order.{Row, column, value_cmp}
 use Rattle.sqlite.specs.Tree.{IsAscending}
 use Rattle.sqlite.specs.Effect.{Database}
 use Rattle.sqlite_value.proofs.OrderLemmas.{value_cmp_total}
-use Rattle.sqlite_trees.proofs.ListLemmas.{all_of, ascending-map, filter-map, IsPermutation-filter}
+use Rattle.sqlite_trees.proofs.ListLemmas.{all_of, all_from_map, ascending-map, filter-map, IsPermutation-filter}
 use Rattle.sql_tables.specs.Changes.{HasRows}
 use Rattle.sql_tables.proofs.Sorting.{same_rows, one_order}
 use Rattle.as2_mic.specs.declared.alg.Alg.{Alg}
-use Rattle.as2_mic.specs.declared.alg.Alg.TheVariants.{Md5, Sha1}
+use Rattle.as2_mic.specs.declared.alg.Alg.TheVariants.{Md5, Sha1, Sha256}
 use Rattle.as2_mic.specs.Algs.{alg_name}
 use Rattle.as2_mic.specs.Pieces.{piece_size}
 use Rattle.as2_mdn.specs.declared.report.ReportMic.{ReportMic}
@@ -22,7 +22,7 @@ use Rattle.as2_mdn.specs.declared.outcome.Outcome.{Outcome}
 use Rattle.as2_mdn.specs.declared.outcome.Outcome.TheVariants as outcome
 use Rattle.as2_mdn.specs.declared.detail.Detail.{Detail}
 use Rattle.as2_mdn.specs.declared.detail.Detail.TheVariants as detail
-use Rattle.as2_exchange.specs.State.{State}
+use Rattle.as2_exchange.specs.State.{State, Version, LaterVersion}
 use Rattle.as2_exchange.specs.declared.attempt.Attempt.{Attempt}
 use Rattle.as2_exchange.specs.declared.attempt.Attempt.TheVariants as attempt
 use Rattle.as2_exchange.specs.declared.inbox.ReceiptDelivery.{ReceiptDelivery}
@@ -32,7 +32,7 @@ use Rattle.as2_exchange.specs.declared.inbox.MdnState.TheVariants as mdn
 use Rattle.as2_exchange.specs.declared.inbox.InEntry.{InEntry}
 use Rattle.as2_exchange.specs.declared.outbox.Evidence.{Evidence}
 use Rattle.as2_exchange.specs.declared.outbox.OutEntry.{OutEntry}
-use Rattle.as2_rows.specs.Rows.{whole, whole_or_null, url_value, digest_value, mic_value, in_columns, out_columns, in_row, out_row, meta_row}
+use Rattle.as2_rows.specs.Rows.{whole, whole_or_null, url_value, digest_value, mic_value, in_columns, out_columns, in_row, out_row}
 use Rattle.as2_rows.specs.Codes.{outcome_code, how_code, mdn_code, attempt_code, detail_code}
 use Rattle.as2_rows.specs.Contents.{Piece, pieces, piece_bytes, piece_shown}
 use Rattle.as2_rows.specs.Summaries.{evidence_in}
@@ -41,7 +41,10 @@ use Rattle.as2_rows.specs.declared.evidence.EvidenceRow.{EvidenceRow}
 use Rattle.as2_records.specs.declared.summaries.InRow.{InRow}
 use Rattle.as2_records.specs.declared.summaries.OutRow.{OutRow}
 use Rattle.as2_rows.proofs.Joining.{as_many, bytes_at, one_more, all_taken, pieces_rise}
-use Rattle.as2_store.specs.Stands.{Stands, evidence_rows}
+use Rattle.sqlite_trees.specs.Tree.{Trees}
+use Rattle.as2_store.specs.Tables.{Way, Fresh, Migrated, Layout, VersionOne, VersionTwo, VersionThree, number_of, store_schema, origin_tree, resent_tree}
+use Rattle.as2_store.specs.Stands.{Stands, Holds, HasOrigin, HasResent, HasVersion, AreBegun, meta_row, origin_row, resent_row, numbers_of, evidence_rows}
+use Rattle.as2_store.specs.Calls.{Keeps}
 use Rattle.as2_store.proofs.EntryPieces.{all_pieces, gathers}
 use Rattle.as2_store.proofs.OutboxQueries.{receipts, row_of, of_number, rows_of, own_receipt}
 
@@ -143,8 +146,13 @@ how_in a b codes_same same = sym (back a) ∙ ap₂ how_at (whole_in (how_code a
 alg_in : (a b : Alg) → Text (alg_name a) ≡ Text (alg_name b) → a ≡ b
 alg_in Md5 Md5 same = refl
 alg_in Md5 Sha1 same = absurd (let names : alg_name Md5 ≡ alg_name Sha1 = cc in omega (arith, ap length names))
+alg_in Md5 Sha256 same = absurd (let names : alg_name Md5 ≡ alg_name Sha256 = cc in omega (arith, ap length names))
 alg_in Sha1 Md5 same = absurd (let names : alg_name Sha1 ≡ alg_name Md5 = cc in omega (arith, ap length names))
 alg_in Sha1 Sha1 same = refl
+alg_in Sha1 Sha256 same = absurd (let names : alg_name Sha1 ≡ alg_name Sha256 = cc in omega (arith, ap length names))
+alg_in Sha256 Md5 same = absurd (let names : alg_name Sha256 ≡ alg_name Md5 = cc in omega (arith, ap length names))
+alg_in Sha256 Sha1 same = absurd (let names : alg_name Sha256 ≡ alg_name Sha1 = cc in omega (arith, ap length names))
+alg_in Sha256 Sha256 same = refl
 
 mic_in : (a b : Option ReportMic) → digest_value a ≡ digest_value b → mic_value a ≡ mic_value b → a ≡ b
 mic_in None None digests texts = refl
@@ -309,15 +317,101 @@ same_evidence ds es rows first second d e here there same =
     ∙ ap first_evidence (sym (own_receipt _ ds d first here) ∙ ap₂ of_number same all ∙ own_receipt _ es e second there)
     ∙ of_first e.number e.evidence
 
+-- ---- which documents are begun
+
+row_numbers : (ds : List OutEntry) → map piece_number (map out_row ds) ≡ numbers_of ds
+row_numbers [] = refl
+row_numbers (d ∷ ds) = ap (λ l. d.number ∷ l) (row_numbers ds)
+
+resent_numbers : (ns : List ℕ) → map piece_number (map resent_row ns) ≡ ns
+resent_numbers [] = refl
+resent_numbers (n ∷ ns) = ap (λ l. n ∷ l) (resent_numbers ns)
+
+-- a number that none of these is stands at the head of none of them
+nowhere : (was : ℕ → Bool) (n : ℕ) (ns rest : List ℕ) → AllByRecursion (λ m. (n == m) ≡ false) ns → n ∷ rest ≡ filter was ns → ⊥
+nowhere was n [] rest other same = absurd cc
+nowhere was n (m ∷ ns) rest other same = go (was m) same (nowhere was n ns rest other.1)
+  where
+    apart : (m n : ℕ) → (n == m) ≡ false → n ≡ m → ⊥
+    apart m n other same = grind (arith, nat_tests, other, same)
+
+    go : (t : Bool) → n ∷ rest ≡ cond t (m ∷ filter was ns) (filter was ns) → (n ∷ rest ≡ filter was ns → ⊥) → ⊥
+    go true same later = apart m n other.0 cc
+    go false same later = later same
+
+-- what keeps the same numbers tells each of them alike
+told_alike : (was now : ℕ → Bool) (ns : List ℕ) → IsDistinct (λ a b. a == b) ns → filter was ns ≡ filter now ns → AllByRecursion (λ n. was n ≡ now n) ns
+unfolding IsDistinct
+told_alike was now [] distinct same = tt
+told_alike was now (n ∷ ns) distinct same = go (was n) (now n) refl refl same (told_alike was now ns distinct.1)
+  where
+    go : (t u : Bool) → was n ≡ t → now n ≡ u → cond t (n ∷ filter was ns) (filter was ns) ≡ cond u (n ∷ filter now ns) (filter now ns) → (filter was ns ≡ filter now ns → AllByRecursion (λ n. was n ≡ now n) ns) → (was n ≡ now n) × AllByRecursion (λ n. was n ≡ now n) ns
+    go true true is too same later = (is ∙ sym too, later (let rest : filter was ns ≡ filter now ns = cc in rest))
+    go true false is too same later = absurd (nowhere now n ns (filter was ns) distinct.0 same)
+    go false true is too same later = absurd (nowhere was n ns (filter now ns) distinct.0 (sym same))
+    go false false is too same later = (is ∙ sym too, later same)
+
+-- by what documents of both lists are begun
+record Told (ds es : List OutEntry) : Type 0 where
+  pub by : ℕ → ℕ → Bool
+  pub first : AllByRecursion (λ d. d.begun ≡ by d.tries d.number) ds
+  pub second : AllByRecursion (λ d. d.begun ≡ by d.tries d.number) es
+
+told_by_rows : (rows : List Row) (ds es : List OutEntry) → numbers_of ds ≡ numbers_of es → IsDistinct (λ a b. a == b) (numbers_of ds) → HasResent rows ds → HasResent rows es → Told ds es
+told_by_rows rows ds es numbers distinct a b =
+    let kept : filter a.was (numbers_of ds) ≡ filter b.was (numbers_of ds) =
+    sym (resent_numbers (filter a.was (numbers_of ds))) ∙ ap (map piece_number) (sym a.rows_are ∙ b.rows_are) ∙ resent_numbers (filter b.was (numbers_of es)) ∙ ap (filter b.was) (sym numbers) in
+    record {
+      by = λ tries n. nat_le 1 tries || b.was n;
+      first = both ds a.begun (all_from_map (λ n. a.was n ≡ b.was n) (λ (d : OutEntry). d.number) ds (told_alike a.was b.was (numbers_of ds) distinct kept));
+      second = b.begun;
+    }
+  where
+    both : (ds : List OutEntry) → AllByRecursion (λ d. d.begun ≡ (nat_le 1 d.tries || a.was d.number)) ds → AllByRecursion (λ d. a.was d.number ≡ b.was d.number) ds → AllByRecursion (λ d. d.begun ≡ (nat_le 1 d.tries || b.was d.number)) ds
+    both [] is same = tt
+    both (d ∷ ds) is same = (is.0 ∙ ap (λ t. nat_le 1 d.tries || t) same.0, both ds is.1 same.1)
+
+told : (layout : Layout) (d : Database) (ds es : List OutEntry) → numbers_of ds ≡ numbers_of es → IsDistinct (λ a b. a == b) (numbers_of ds) → AreBegun layout d ds → AreBegun layout d es → Told ds es
+told VersionOne d ds es numbers distinct a b = record { by = λ tries n. nat_le 1 tries; first = a; second = b }
+told (VersionTwo way) d ds es numbers distinct a b = record { by = λ tries n. nat_le 1 tries; first = a; second = b }
+told (VersionThree way) d ds es numbers distinct a b = told_by_rows (d.trees (resent_tree way)) ds es numbers distinct a b
+
+-- ---- the version
+
+one_origin : (rows : List Row) (v w : Version) → HasOrigin rows v → HasOrigin rows w → v ≡ w
+one_origin rows v w a b =
+    let both : origin_row a.number ∷ [] ≡ origin_row b.number ∷ [] = sym a.rows_are ∙ b.rows_are in
+    a.version_is ∙ ap LaterVersion (whole_in a.number b.number (ap (λ l. column (get_or l 0 []) 1) both)) ∙ sym b.version_is
+
+one_version : (layout : Layout) (d : Database) (v w : Version) → HasVersion layout d v → HasVersion layout d w → v ≡ w
+one_version VersionOne d v w a b = a ∙ sym b
+one_version (VersionTwo way) d v w a b = one_origin (d.trees (origin_tree way)) v w a b
+one_version (VersionThree way) d v w a b = one_origin (d.trees (origin_tree way)) v w a b
+
 -- ---- the state
 
--- two states that the same tables stand for are one
-pub one_state : (d : Database) (s t : State) → Stands d s → Stands d t → s ≡ t
-one_state d s t a b =
-    let counters : meta_row s.next_in s.next_out ∷ [] ≡ meta_row t.next_in t.next_out ∷ [] = sym a.meta ∙ b.meta in
-    let at : (k : ℕ) → column (meta_row s.next_in s.next_out) k ≡ column (meta_row t.next_in t.next_out) k = λ k. ap (λ l. column (get_or l 0 []) k) counters in
+module _ (ds es : List OutEntry) (it : Told ds es) where
+  abbrev IsHere : OutEntry → Type 0
+  IsHere d = IsFound (λ (x : OutEntry). x.number) (λ x. x.content) ds d × (d.begun ≡ it.by d.tries d.number)
+
+  abbrev IsThere : OutEntry → Type 0
+  IsThere d = IsFound (λ (x : OutEntry). x.number) (λ x. x.content) es d × (d.begun ≡ it.by d.tries d.number)
+
+  same_begun : (d e : OutEntry) → IsHere d → IsThere e → d.tries ≡ e.tries → d.number ≡ e.number → d.begun ≡ e.begun
+  same_begun d e here there tries number = here.1 ∙ ap₂ it.by tries number ∙ sym there.1
+
+paired : {X : Type 0} (P Q : X → Type 0) (xs : List X) → AllByRecursion P xs → AllByRecursion Q xs → AllByRecursion (λ x. P x × Q x) xs
+paired P Q [] p q = tt
+paired P Q (x ∷ xs) p q = ((p.0, q.0), paired P Q xs p.1 q.1)
+
+-- two states that the same tables of one version stand for are one
+pub one_state : (layout : Layout) (d : Database) (s t : State) → Stands layout d s → Stands layout d t → s ≡ t
+one_state layout d s t a b =
+    let counters : meta_row (number_of layout) s.next_in s.next_out ∷ [] ≡ meta_row (number_of layout) t.next_in t.next_out ∷ [] = sym a.meta ∙ b.meta in
+    let at : (k : ℕ) → column (meta_row (number_of layout) s.next_in s.next_out) k ≡ column (meta_row (number_of layout) t.next_in t.next_out) k = λ k. ap (λ l. column (get_or l 0 []) k) counters in
     let next_in = whole_in s.next_in t.next_in (at 3) in
     let next_out = whole_in s.next_out t.next_out (at 4) in
+    let version = one_version layout d s.version t.version a.version b.version in
     let ins : s.inbox ≡ t.inbox =
     same_entries in_row (IsFound (λ (e : InEntry). e.number) (λ e. e.posted.content) s.inbox) (IsFound (λ (e : InEntry). e.number) (λ e. e.posted.content) t.inbox)
     (λ x y here there row.
@@ -325,13 +419,64 @@ one_state d s t a b =
     ap₂ in_entry rows
     (same_content (λ (e : InEntry). e.number) (λ e. e.posted.content) _ s.inbox t.inbox a.entries.inbox_contents b.entries.inbox_contents a.receipts.1.distinct b.receipts.1.distinct x y here there (ap (λ (r : InRow). r.number) rows)))
     s.inbox t.inbox (sym a.entries.inbox ∙ b.entries.inbox) (found (λ (e : InEntry). e.number) (λ e. e.posted.content) s.inbox a.receipts.1.distinct) (found (λ (e : InEntry). e.number) (λ e. e.posted.content) t.inbox b.receipts.1.distinct) in
+    let out_rows : map out_row s.outbox ≡ map out_row t.outbox = sym a.entries.outbox ∙ b.entries.outbox in
+    let begun : Told s.outbox t.outbox = told layout d s.outbox t.outbox (sym (row_numbers s.outbox) ∙ ap (map piece_number) out_rows ∙ row_numbers t.outbox) a.documents.1.distinct a.begun b.begun in
     let outs : s.outbox ≡ t.outbox =
-    same_entries out_row (IsFound (λ (d : OutEntry). d.number) (λ d. d.content) s.outbox) (IsFound (λ (d : OutEntry). d.number) (λ d. d.content) t.outbox)
+    same_entries out_row (IsHere s.outbox t.outbox begun) (IsThere s.outbox t.outbox begun)
     (λ x y here there row.
     let rows = out_same (out_summary x) (out_summary y) row in
     let number = ap (λ (r : OutRow). r.number) rows in
-    let content = same_content (λ (d : OutEntry). d.number) (λ d. d.content) _ s.outbox t.outbox a.entries.outbox_contents b.entries.outbox_contents a.documents.1.distinct b.documents.1.distinct x y here there number in
-    let evidence = same_evidence s.outbox t.outbox (sym a.entries.evidence ∙ b.entries.evidence) a.documents.1.distinct b.documents.1.distinct x y here there number in
-    λ i. out_entry (rows i) (content i) (evidence i))
-    s.outbox t.outbox (sym a.entries.outbox ∙ b.entries.outbox) (found (λ (d : OutEntry). d.number) (λ d. d.content) s.outbox a.documents.1.distinct) (found (λ (d : OutEntry). d.number) (λ d. d.content) t.outbox b.documents.1.distinct) in
-    λ i. record { inbox = ins i; outbox = outs i; next_in = next_in i; next_out = next_out i }
+    let content = same_content (λ (d : OutEntry). d.number) (λ d. d.content) _ s.outbox t.outbox a.entries.outbox_contents b.entries.outbox_contents a.documents.1.distinct b.documents.1.distinct x y here.0 there.0 number in
+    let evidence = same_evidence s.outbox t.outbox (sym a.entries.evidence ∙ b.entries.evidence) a.documents.1.distinct b.documents.1.distinct x y here.0 there.0 number in
+    let was = same_begun s.outbox t.outbox begun x y here there (ap (λ (r : OutRow). r.tries) rows) number in
+    λ i. out_entry (rows i) (was i) (content i) (evidence i))
+    s.outbox t.outbox out_rows
+    (paired _ _ s.outbox (found (λ (d : OutEntry). d.number) (λ d. d.content) s.outbox a.documents.1.distinct) begun.first)
+    (paired _ _ t.outbox (found (λ (d : OutEntry). d.number) (λ d. d.content) t.outbox b.documents.1.distinct) begun.second) in
+    λ i. record { version = version i; inbox = ins i; outbox = outs i; next_in = next_in i; next_out = next_out i }
+
+-- ---- whatever the version
+
+-- the numbers of the versions differ
+numbered_apart : (l m : Layout) (d : Database) (s t : State) → Stands l d s → Stands m d t → number_of l ≡ number_of m
+numbered_apart l m d s t a b =
+    let both : meta_row (number_of l) s.next_in s.next_out ∷ [] ≡ meta_row (number_of m) t.next_in t.next_out ∷ [] = sym a.meta ∙ b.meta in
+    whole_in (number_of l) (number_of m) (ap (λ r. column (get_or r 0 []) 2) both)
+
+-- the row of an origin is none of an inbox
+no_origin : (n : ℕ) (es : List InEntry) → origin_row n ∷ [] ≡ map in_row es → ⊥
+no_origin n [] same = absurd cc
+no_origin n (e ∷ es) same = let at : whole n ≡ Null = ap (λ l. column (get_or l 0 []) 1) same in cc
+
+pub one_way : (v w : Way) (d e : Database) → e.trees ≡ d.trees → (s t : State) → Stands (VersionThree v) d s → Stands (VersionThree w) e t → v ≡ w
+one_way Fresh Fresh d e same s t a b = refl
+one_way Fresh Migrated d e same s t a b = absurd (no_origin a.version.number t.inbox (sym a.version.rows_are ∙ ap (λ (f : Trees). f 13) (sym same) ∙ b.entries.inbox))
+one_way Migrated Fresh d e same s t a b = absurd (no_origin b.version.number s.inbox (sym b.version.rows_are ∙ ap (λ (f : Trees). f 13) same ∙ a.entries.inbox))
+one_way Migrated Migrated d e same s t a b = refl
+
+second_way : (v w : Way) (d : Database) (s t : State) → Stands (VersionTwo v) d s → Stands (VersionTwo w) d t → v ≡ w
+second_way Fresh Fresh d s t a b = refl
+second_way Fresh Migrated d s t a b = absurd (no_origin a.version.number t.inbox (sym a.version.rows_are ∙ b.entries.inbox))
+second_way Migrated Fresh d s t a b = absurd (no_origin b.version.number s.inbox (sym b.version.rows_are ∙ a.entries.inbox))
+second_way Migrated Migrated d s t a b = refl
+
+-- two states that the same tables stand for, whatever their version, are one
+pub one_at_most : (l m : Layout) (d : Database) (s t : State) → Stands l d s → Stands m d t → s ≡ t
+one_at_most VersionOne VersionOne d s t a b = one_state VersionOne d s t a b
+one_at_most VersionOne (VersionTwo w) d s t a b = absurd (omega (arith, numbered_apart VersionOne (VersionTwo w) d s t a b))
+one_at_most VersionOne (VersionThree w) d s t a b = absurd (omega (arith, numbered_apart VersionOne (VersionThree w) d s t a b))
+one_at_most (VersionTwo v) VersionOne d s t a b = absurd (omega (arith, numbered_apart (VersionTwo v) VersionOne d s t a b))
+one_at_most (VersionTwo v) (VersionTwo w) d s t a b = one_state (VersionTwo w) d s t (subst (λ way. Stands (VersionTwo way) d s) (second_way v w d s t a b) a) b
+one_at_most (VersionTwo v) (VersionThree w) d s t a b = absurd (omega (arith, numbered_apart (VersionTwo v) (VersionThree w) d s t a b))
+one_at_most (VersionThree v) VersionOne d s t a b = absurd (omega (arith, numbered_apart (VersionThree v) VersionOne d s t a b))
+one_at_most (VersionThree v) (VersionTwo w) d s t a b = absurd (omega (arith, numbered_apart (VersionThree v) (VersionTwo w) d s t a b))
+one_at_most (VersionThree v) (VersionThree w) d s t a b = one_state (VersionThree w) d s t (subst (λ way. Stands (VersionThree way) d s) (one_way v w d d refl s t a b) a) b
+
+pub one_held : (d : Database) (s t : State) → Holds d s → Holds d t → s ≡ t
+one_held d s t a b = one_at_most (VersionThree a.way) (VersionThree b.way) d s t a.stands b.stands
+
+-- and what a stop leaves stands for one state at most
+pub one_kept : (db : Trees) (s t : State) → Keeps db s → Keeps db t → s ≡ t
+one_kept db s t a b =
+    let at : Way → Database = λ way. record { schema = store_schema way; trees = db } in
+    one_state (VersionThree b.way) (at b.way) s t (subst (λ way. Stands (VersionThree way) (at way) s) (one_way a.way b.way (at a.way) (at b.way) refl s t a.stands b.stands) a.stands) b.stands

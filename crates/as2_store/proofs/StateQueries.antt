@@ -73,8 +73,10 @@ kept_all wanted (d ∷ ds) = go (is_between wanted d.detail) (is_in wanted d) re
 pub lists_between : (wanted : Option StateOf) (old new : Connected) (rows : List Row) → Shown out_by_details_text (state_codes wanted) old new rows → (s : State) → Rests old s
     → rows ≡ map out_shown (filter (λ (d : OutEntry). is_between wanted d.detail) s.outbox)
 lists_between wanted old new rows h s r =
-    let it = r.stands (shown_open out_by_details_text (state_codes wanted) old new rows h) in
-    reads_rows out_by_details_text out_by_details_plain out_by_details_unlisted outbox_tree details_terms out_column_terms out_names out_by_details_is (state_codes wanted) out_row out_shown (λ _. refl) (λ (d : OutEntry). is_between wanted d.detail)
+    let here = r.stands (shown_open out_by_details_text (state_codes wanted) old new rows h) in
+    let way = here.way in
+    let it = here.stands in
+    reads_rows way out_by_details_text (out_by_details_plain way) (out_by_details_unlisted way) outbox_tree details_terms out_column_terms out_names (out_by_details_is way) (state_codes wanted) out_row out_shown (λ _. refl) (λ (d : OutEntry). is_between wanted d.detail)
     (λ d. ap₂ ◌&&◌ (numbers_at_least (detail_code d.detail) (detail_code (first_detail wanted))) (ap (λ b. b && true) (numbers_at_most (detail_code d.detail) (detail_code (last_detail wanted))) ∙ and_true _))
     old new rows h it.schema s.outbox it.entries.outbox
     (entries_rise out_row (λ (d : OutEntry). d.number) (λ _. refl) s.next_out s.outbox it.documents.1)

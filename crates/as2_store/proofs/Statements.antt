@@ -8,11 +8,11 @@ use Rattle.as2_store.specs.declared.contents.Mailbox.TheVariants.{Inbox, Outbox}
 abbrev pub meta_text : List ℕ
 meta_text = codes "CREATE TABLE meta (kind TEXT NOT NULL, version INTEGER NOT NULL, next_receipt INTEGER NOT NULL, next_document INTEGER NOT NULL) STRICT"
 
-abbrev pub inbox_statement : List ℕ
-inbox_statement = codes "CREATE TABLE inbox (number INTEGER PRIMARY KEY, sender BLOB NOT NULL, receiver BLOB NOT NULL, identifier_value BLOB NOT NULL, identifier BLOB NOT NULL, content_type BLOB NOT NULL, length INTEGER NOT NULL, moment INTEGER NOT NULL, outcome INTEGER NOT NULL CHECK (outcome >= 1 AND outcome <= 6), how INTEGER NOT NULL, url BLOB, digest TEXT CHECK (digest = 'sha1' OR digest = 'md5'), mic BLOB, mdn INTEGER NOT NULL, tries INTEGER NOT NULL, attempt INTEGER NOT NULL, due INTEGER, UNIQUE (sender, receiver, identifier_value)) STRICT"
+abbrev pub inbox2_text : List ℕ
+inbox2_text = codes "CREATE TABLE inbox2 (number INTEGER PRIMARY KEY, sender BLOB NOT NULL, receiver BLOB NOT NULL, identifier_value BLOB NOT NULL, identifier BLOB NOT NULL, content_type BLOB NOT NULL, length INTEGER NOT NULL, moment INTEGER NOT NULL, outcome INTEGER NOT NULL CHECK (outcome >= 1 AND outcome <= 6), how INTEGER NOT NULL, url BLOB, digest TEXT CHECK (digest = 'sha1' OR digest = 'md5' OR digest = 'sha-256'), mic BLOB, mdn INTEGER NOT NULL, tries INTEGER NOT NULL, attempt INTEGER NOT NULL, due INTEGER, UNIQUE (sender, receiver, identifier_value)) STRICT"
 
-abbrev pub inbox_piece_text : List ℕ
-inbox_piece_text = codes "CREATE TABLE inbox_piece (number INTEGER NOT NULL REFERENCES inbox (number), position INTEGER NOT NULL, bytes BLOB NOT NULL, PRIMARY KEY (number, position)) STRICT"
+abbrev pub inbox2_piece_text : List ℕ
+inbox2_piece_text = codes "CREATE TABLE inbox2_piece (number INTEGER NOT NULL REFERENCES inbox2 (number), position INTEGER NOT NULL, bytes BLOB NOT NULL, PRIMARY KEY (number, position)) STRICT"
 
 abbrev pub outbox_text : List ℕ
 outbox_text = codes "CREATE TABLE outbox (number INTEGER PRIMARY KEY, organization BLOB NOT NULL, partner BLOB NOT NULL, identifier_value BLOB NOT NULL UNIQUE, identifier BLOB NOT NULL, length INTEGER NOT NULL, moment INTEGER NOT NULL, tries INTEGER NOT NULL, attempt INTEGER NOT NULL, due INTEGER, detail INTEGER NOT NULL CHECK (detail >= 1 AND detail <= 14)) STRICT"
@@ -29,10 +29,16 @@ waiting_text = codes "CREATE TABLE waiting (place INTEGER PRIMARY KEY, kind INTE
 abbrev pub waiting_due_text : List ℕ
 waiting_due_text = codes "CREATE INDEX waiting_due ON waiting (kind, due, number)"
 
+abbrev pub origin_text : List ℕ
+origin_text = codes "CREATE TABLE origin (number INTEGER NOT NULL) STRICT"
+
+abbrev pub resent_text : List ℕ
+resent_text = codes "CREATE TABLE resent (number INTEGER PRIMARY KEY REFERENCES outbox (number)) STRICT"
+
 -- ---- the counters
 
 abbrev pub meta_put_text : List ℕ
-meta_put_text = codes "INSERT INTO meta (kind, version, next_receipt, next_document) VALUES ('as2-station', 1, ?1, ?1)"
+meta_put_text = codes "INSERT INTO meta (kind, version, next_receipt, next_document) VALUES ('as2-station', 3, ?1, ?1)"
 
 abbrev pub meta_read_text : List ℕ
 meta_read_text = codes "SELECT kind, version, next_receipt, next_document FROM meta"
@@ -46,30 +52,30 @@ document_text = codes "UPDATE meta SET next_document = ?2 WHERE next_document = 
 -- ---- the inbox
 
 abbrev pub in_put_text : List ℕ
-in_put_text = codes "INSERT INTO inbox (number, sender, receiver, identifier_value, identifier, content_type, length, moment, outcome, how, url, digest, mic, mdn, tries, attempt, due) VALUES (?1, ?2, ?3, ?4, ?5, ?6, ?7, ?8, ?9, ?10, ?11, ?12, ?13, ?14, ?15, ?16, ?17)"
+in_put_text = codes "INSERT INTO inbox2 (number, sender, receiver, identifier_value, identifier, content_type, length, moment, outcome, how, url, digest, mic, mdn, tries, attempt, due) VALUES (?1, ?2, ?3, ?4, ?5, ?6, ?7, ?8, ?9, ?10, ?11, ?12, ?13, ?14, ?15, ?16, ?17)"
 
 -- a piece of a content
 abbrev pub piece_put_text : Mailbox → List ℕ
-piece_put_text Inbox = codes "INSERT INTO inbox_piece (number, position, bytes) VALUES (?1, ?2, ?3)"
+piece_put_text Inbox = codes "INSERT INTO inbox2_piece (number, position, bytes) VALUES (?1, ?2, ?3)"
 piece_put_text Outbox = codes "INSERT INTO outbox_piece (number, position, bytes) VALUES (?1, ?2, ?3)"
 
 abbrev pub mdn_text : List ℕ
-mdn_text = codes "SELECT mdn FROM inbox ORDER BY number"
+mdn_text = codes "SELECT mdn FROM inbox2 ORDER BY number"
 
 abbrev pub in_by_key_text : List ℕ
-in_by_key_text = codes "SELECT number, sender, receiver, identifier_value, identifier, content_type, length, moment, outcome, how, url, digest, mic, mdn, tries, attempt, due FROM inbox WHERE sender = ?1 AND receiver = ?2 AND identifier_value = ?3 ORDER BY number"
+in_by_key_text = codes "SELECT number, sender, receiver, identifier_value, identifier, content_type, length, moment, outcome, how, url, digest, mic, mdn, tries, attempt, due FROM inbox2 WHERE sender = ?1 AND receiver = ?2 AND identifier_value = ?3 ORDER BY number"
 
 abbrev pub in_by_number_text : List ℕ
-in_by_number_text = codes "SELECT number, sender, receiver, identifier_value, identifier, content_type, length, moment, outcome, how, url, digest, mic, mdn, tries, attempt, due FROM inbox WHERE number = ?1 ORDER BY number"
+in_by_number_text = codes "SELECT number, sender, receiver, identifier_value, identifier, content_type, length, moment, outcome, how, url, digest, mic, mdn, tries, attempt, due FROM inbox2 WHERE number = ?1 ORDER BY number"
 
 abbrev pub in_all_text : List ℕ
-in_all_text = codes "SELECT number, sender, receiver, identifier_value, identifier, content_type, length, moment, outcome, how, url, digest, mic, mdn, tries, attempt, due FROM inbox ORDER BY number"
+in_all_text = codes "SELECT number, sender, receiver, identifier_value, identifier, content_type, length, moment, outcome, how, url, digest, mic, mdn, tries, attempt, due FROM inbox2 ORDER BY number"
 
 abbrev pub in_pieces_text : List ℕ
-in_pieces_text = codes "SELECT number, position, bytes FROM inbox_piece WHERE number = ?1 ORDER BY position"
+in_pieces_text = codes "SELECT number, position, bytes FROM inbox2_piece WHERE number = ?1 ORDER BY position"
 
 abbrev pub in_set_text : List ℕ
-in_set_text = codes "UPDATE inbox SET mdn = ?2, tries = ?3, attempt = ?4, due = ?5 WHERE number = ?1"
+in_set_text = codes "UPDATE inbox2 SET mdn = ?2, tries = ?3, attempt = ?4, due = ?5 WHERE number = ?1"
 
 -- ---- the outbox
 
@@ -128,3 +134,40 @@ waiting_take_text = codes "DELETE FROM waiting WHERE place = ?1"
 
 abbrev pub waiting_take_due_text : List ℕ
 waiting_take_due_text = codes "DELETE FROM waiting WHERE kind = ?1 AND due <= ?2"
+
+-- ---- the origin, and what was sent anew
+
+abbrev pub origin_put_text : List ℕ
+origin_put_text = codes "INSERT INTO origin (number) VALUES (?1)"
+
+abbrev pub origin_read_text : List ℕ
+origin_read_text = codes "SELECT number FROM origin"
+
+abbrev pub resent_put_text : List ℕ
+resent_put_text = codes "INSERT INTO resent (number) VALUES (?1)"
+
+abbrev pub resent_take_text : List ℕ
+resent_take_text = codes "DELETE FROM resent WHERE number = ?1"
+
+abbrev pub resent_read_text : List ℕ
+resent_read_text = codes "SELECT number FROM resent WHERE number = ?1 ORDER BY number"
+
+abbrev pub tried_text : List ℕ
+tried_text = codes "SELECT number FROM outbox WHERE number = ?1 AND tries >= 1 ORDER BY number"
+
+-- ---- a migration
+
+abbrev pub copy_inbox_text : List ℕ
+copy_inbox_text = codes "INSERT INTO inbox2 (number, sender, receiver, identifier_value, identifier, content_type, length, moment, outcome, how, url, digest, mic, mdn, tries, attempt, due) SELECT number, sender, receiver, identifier_value, identifier, content_type, length, moment, outcome, how, url, digest, mic, mdn, tries, attempt, due FROM inbox ORDER BY number"
+
+abbrev pub copy_piece_text : List ℕ
+copy_piece_text = codes "INSERT INTO inbox2_piece (number, position, bytes) SELECT number, position, bytes FROM inbox_piece"
+
+abbrev pub clear_piece_text : List ℕ
+clear_piece_text = codes "DELETE FROM inbox_piece"
+
+abbrev pub clear_inbox_text : List ℕ
+clear_inbox_text = codes "DELETE FROM inbox"
+
+abbrev pub version_text : List ℕ
+version_text = codes "UPDATE meta SET version = 3"

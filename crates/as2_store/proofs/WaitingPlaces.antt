@@ -1,10 +1,11 @@
 -- What waits, in order of the places; and a receipt there in place of what stood at its place.
-use Rattle.std.proofs.Common.{◌≡◌, ℕ, ◌<◌, ◌==◌, ◌&&◌, List, [], ◌∷◌, ◌++◌, map, Option, option_map, Some, None, IfSome, true, false, not, cond, Ok, refl, sym, ap, ap₂, subst, pos, ◌∙◌, arith, append_assoc}
+use Rattle.std.proofs.Common.{◌≡◌, ℕ, ◌<◌, ◌==◌, ◌&&◌, List, [], ◌∷◌, ◌++◌, map, Option, option_map, Some, None, IfSome, true, false, not, cond, Result, Ok, Err, OnOk, ◌≢◌, refl, sym, ap, ap₂, subst, pos, ◌∙◌, arith, append_assoc}
 use Rattle.std.specs.List.{AllByRecursion, filter_map, cons_option}
 use Rattle.std.proofs.lemmas.Bool.Decides.{nat_tests}
 use Rattle.std.proofs.lemmas.List.Elements.{filter-append, filter_agree}
+use Rattle.sqlite.specs.Effect.{Database, IsDatabase}
 use Rattle.sqlite.specs.Order.{Row}
-use Rattle.sqlite.specs.Tree.{IsTable, IsAscending}
+use Rattle.sqlite.specs.Tree.{IsTable, IsAscending, put_row}
 use Rattle.sqlite.specs.State.{State as Connected, Executes}
 use Rattle.sqlite_trees.proofs.ListLemmas.{all-append, all_weaker, all_both, filter_all, ascending-append, ascending-filter, ascending-map, ascending_from_map}
 use Rattle.sql_tables.specs.Changes.{Changed, passes}
@@ -14,10 +15,10 @@ use Rattle.as2_exchange.specs.State.{end_of_numbers}
 use Rattle.as2_exchange.specs.declared.inbox.InEntry.{InEntry}
 use Rattle.as2_exchange.specs.declared.outbox.OutEntry.{OutEntry}
 use Rattle.as2_rows.specs.Waiting.{WaitingRow, out_kind, in_kind, in_waiting, out_waiting, waiting_in, to_send, to_answer, to_hear, to_end}
-use Rattle.as2_store.specs.Tables.{store_schema, waiting_table, waiting_tree}
+use Rattle.as2_store.specs.Tables.{Way, store_schema, waiting_table, waiting_tree}
 use Rattle.as2_store.proofs.Statements.{waiting_take_text}
 use Rattle.as2_store.specs.Stands.{place, waiting_row, documents_waiting}
-use Rattle.as2_store.specs.Adding.{noted_rows}
+use Rattle.as2_store.specs.Adding.{Noted, noted_rows}
 use Rattle.as2_store.specs.Requeuing.{HoldsWaiting, Renewed, not_at}
 use Rattle.as2_store.specs.Settling.{place_of}
 use Rattle.as2_store.proofs.MetaRow.{one_param}
@@ -30,14 +31,14 @@ use Rattle.as2_store.proofs.Texts.{number_terms, waiting_take_is, waiting_take_p
 
 -- ---- the statement
 
-pub takes_waiting : (p count : ℕ) (old new : Connected) (ws : List WaitingRow) → HoldsWaiting old.now ws → Executes waiting_take_text (one_param p) old new (Ok count) → Changed old new store_schema waiting_tree (map waiting_row (not_at p ws))
-takes_waiting p count old new ws it h =
-    let done = deletes waiting_take_text (one_param p) old new store_schema it.schema 6 waiting_table refl number_terms (λ (w : WaitingRow). pos (place w)) waiting_row (λ _. refl) ws it.rows it.in_order (quiet waiting_tree) waiting_take_is waiting_take_plain count h in
-    subst (λ l. Changed old new store_schema waiting_tree (map waiting_row l))
+pub takes_waiting : {way : Way} (p count : ℕ) (old new : Connected) (ws : List WaitingRow) → HoldsWaiting way old.now ws → Executes waiting_take_text (one_param p) old new (Ok count) → Changed old new (store_schema way) waiting_tree (map waiting_row (not_at p ws))
+takes_waiting {way} p count old new ws it h =
+    let done = deletes waiting_take_text (one_param p) old new (store_schema way) it.schema 6 waiting_table refl number_terms (λ (w : WaitingRow). pos (place w)) waiting_row (λ _. refl) ws it.rows it.in_order (quiet way waiting_tree) (waiting_take_is way) (waiting_take_plain way) count h in
+    subst (λ l. Changed old new (store_schema way) waiting_tree (map waiting_row l))
     (filter_agree (λ (w : WaitingRow). not (passes number_terms (one_param p) (waiting_row w))) (λ (w : WaitingRow). not (place w == p)) (λ w. ap not (ap (λ b. b && true) (numbers_equal (place w) p) ∙ and_true _)) ws) done.0
 
 -- what waits is in order once some of it is taken out
-pub still_held : (old new : Connected) (p : ℕ) (ws : List WaitingRow) → HoldsWaiting old.now ws → Changed old new store_schema waiting_tree (map waiting_row (not_at p ws)) → HoldsWaiting new.now (not_at p ws)
+pub still_held : {way : Way} (old new : Connected) (p : ℕ) (ws : List WaitingRow) → HoldsWaiting way old.now ws → Changed old new (store_schema way) waiting_tree (map waiting_row (not_at p ws)) → HoldsWaiting way new.now (not_at p ws)
 still_held old new p ws it done = record {
   schema = done.schema_is;
   rows = done.rows_are;
@@ -45,13 +46,37 @@ still_held old new p ws it done = record {
 }
 
 -- three statements, one after another
-pub taken_then : (a b c d : Connected) (first second third : List Row) → Changed a b store_schema waiting_tree first → Changed b c store_schema waiting_tree second → Changed c d store_schema waiting_tree third → Renewed a d third
-taken_then a b c d first second third one two three = record {
+pub taken_then : (way : Way) (a b c d : Connected) (first second third : List Row) → Changed a b (store_schema way) waiting_tree first → Changed b c (store_schema way) waiting_tree second → Changed c d (store_schema way) waiting_tree third → Renewed way a d third
+taken_then way a b c d first second third one two three = record {
   sound = three.sound;
   schema_is = three.schema_is;
   rows_are = three.rows_are;
-  others = others_then a.now.trees b.now.trees d.now.trees waiting_tree store_schema.tables one.others (others_then b.now.trees c.now.trees d.now.trees waiting_tree store_schema.tables two.others three.others);
+  others = others_then a.now.trees b.now.trees d.now.trees waiting_tree (store_schema way).tables one.others (others_then b.now.trees c.now.trees d.now.trees waiting_tree (store_schema way).tables two.others three.others);
 }
+
+-- some of it is taken out, and what is noted then is put in
+pub noted_then : (way : Way) (a b c : Connected) (rows : List Row) (o : Option WaitingRow) → Renewed way a b rows → Noted way b c o → Renewed way a c (noted_rows o rows)
+noted_then way a b c rows None one two = record {
+  sound = subst IsDatabase (sym two) one.sound;
+  schema_is = ap (λ (d : Database). d.schema) two ∙ one.schema_is;
+  rows_are = ap (λ (d : Database). d.trees waiting_tree) two ∙ one.rows_are;
+  others = subst (λ (d : Database). AllByRecursion (λ t. t.tree ≢ waiting_tree → d.trees t.tree ≡ a.now.trees t.tree) (store_schema way).tables) (sym two) one.others;
+}
+noted_then way a b c rows (Some w) one two = record {
+  sound = two.sound;
+  schema_is = two.schema_is;
+  rows_are = two.rows_are ∙ ap (put_row (waiting_row w)) one.rows_are;
+  others = others_then a.now.trees b.now.trees c.now.trees waiting_tree (store_schema way).tables one.others two.others;
+}
+
+pub changed_renewed : (way : Way) (a b : Connected) (rows : List Row) → Changed a b (store_schema way) waiting_tree rows → Renewed way a b rows
+changed_renewed way a b rows one = record { sound = one.sound; schema_is = one.schema_is; rows_are = one.rows_are; others = one.others }
+
+-- whatever the last statement answers
+pub ok_noted : {V E : Type 0} (r : Result V E) (a b c : Connected) (o : Option WaitingRow) {X : Type 0} (rows : X → List Row) (P : Way → X → Type 0) → ((way : Way) (x : X) → P way x → Renewed way a b (rows x))
+    → OnOk r ((way : Way) → b.now.schema ≡ store_schema way → Noted way b c o) → OnOk r ((way : Way) (x : X) → P way x → Renewed way a c (noted_rows o (rows x)))
+ok_noted (Ok v) a b c o rows P one two = λ way x p. let first = one way x p in noted_then way a b c (rows x) o first (two way first.schema_is)
+ok_noted (Err e) a b c o rows P one two = tt
 
 -- ---- the places rise
 

@@ -21,7 +21,7 @@ use Rattle.as2_exchange.specs.declared.attempt.Attempt.TheVariants.{Idle, Runnin
 use Rattle.as2_exchange.specs.declared.outbox.OutEntry.{OutEntry}
 use Rattle.as2_rows.specs.Rows.{whole, whole_or_null}
 use Rattle.as2_rows.specs.Waiting.{WaitingRow, out_kind, in_kind, in_waiting, waiting_in, waiting_out, waiting_shown, to_send, to_answer, to_hear, to_end}
-use Rattle.as2_store.specs.Tables.{store_schema, waiting_table}
+use Rattle.as2_store.specs.Tables.{Way, store_schema, waiting_table}
 use Rattle.as2_store.proofs.Statements.{waiting_put_text}
 use Rattle.as2_store.specs.Stands.{place, waiting_row, documents_waiting, all_waiting}
 use Rattle.as2_store.specs.Adding.{Noted, noted_rows}
@@ -45,9 +45,9 @@ waiting_params w = whole (place w) ∷ waiting_shown w
 one_waiting : (w : WaitingRow) → IsOneRow waiting_table (waiting_params w) waiting_put_terms 5 (waiting_row w)
 one_waiting w = record { source = waiting_row w; made = refl; cast_is = simp (cast_int, cast_null, cast_optional) }
 
-pub puts_waiting : (old new : Connected) (w : WaitingRow) (count : ℕ) → old.now.schema ≡ store_schema → Executes waiting_put_text (waiting_params w) old new (Ok count) → Noted old new (Some w)
-puts_waiting old new w count has h =
-    inserts_given waiting_put_text (waiting_params w) old new store_schema has 6 waiting_table refl refl waiting_put_terms 5 (waiting_row w) (one_waiting w) refl waiting_put_is waiting_put_plain count h
+pub puts_waiting : (way : Way) (old new : Connected) (w : WaitingRow) (count : ℕ) → old.now.schema ≡ store_schema way → Executes waiting_put_text (waiting_params w) old new (Ok count) → Noted way old new (Some w)
+puts_waiting way old new w count has h =
+    inserts_given waiting_put_text (waiting_params w) old new (store_schema way) has 6 waiting_table refl refl waiting_put_terms 5 (waiting_row w) (one_waiting w) refl (waiting_put_is way) (waiting_put_plain way) count h
 
 -- ---- kinds and numbers of what waits
 

@@ -2,10 +2,10 @@
 use Rattle.std.specs.Prelude.{◌≡◌, ◌⊎◌, ℕ, List, true, false, Option, Some, None, Result, IfOk, OnOk, OnErr, IsTrue}
 use Rattle.sqlite_trees.specs.Tree.{Trees}
 use Rattle.sqlite.specs.State.{State as Connected, HasCleanDisk, KeepsCommit, Survives}
-use Rattle.as2_exchange.specs.State.{State, empty}
+use Rattle.as2_exchange.specs.State.{State, LaterVersion, empty}
 use Rattle.as2_exchange.specs.declared.fault.StoreFault.{StoreFault}
 use Rattle.as2_exchange.specs.declared.fault.StoreFault.TheVariants.{NotAStore}
-use Rattle.as2_store.specs.Tables.{store_schema}
+use Rattle.as2_store.specs.Tables.{Way, VersionThree, store_schema}
 use Rattle.as2_store.specs.Stands.{Stands, Rests, IsBlank, MetaSays, adoption_fault}
 use Rattle.as2_records.specs.Standing.{may_come}
 
@@ -17,9 +17,14 @@ pub record IsInside (old new : Connected) : Type 0 where
 
 -- ---- what a crash leaves
 
--- what an open finds stands for this state
-abbrev pub Keeps : Trees → State → Type 0
-Keeps db s = Stands (record { schema = store_schema; trees = db }) s
+-- what an open finds is of the version that is read, and stands for this state
+pub record Keeps (db : Trees) (s : State) : Type 0 where
+  pub way : Way
+  pub stands : Stands (VersionThree way) (record { schema = store_schema way; trees = db }) s
+
+-- a store without entries, as it is made
+abbrev pub empty_store : ℕ → State
+empty_store first = empty (LaterVersion 0) first
 
 -- whatever stops the computer now, what an open finds stands for this state
 pub record Lasts (c : Connected) (s : State) : Type 0 where
@@ -68,13 +73,13 @@ pub record Writes {A E : Type 0} (next : State → Option State) (old new : Conn
 -- what the making of a store commits, over an open connection: where no table was, the state without entries
 pub record CommitsFirst (first : ℕ) (old : Connected) (db : Trees) : Type 0 where
   pub was_open : IsTrue old.is_open
-  pub stands : IsBlank old → Keeps db (empty first)
+  pub stands : IsBlank old → Keeps db (empty_store first)
 
 -- a store without entries was made, where no table was
 pub record Creates (first : ℕ) (old new : Connected) : Type 0 where
   pub clean : HasCleanDisk new → HasCleanDisk old
   pub is_open : HasCleanDisk new → IsTrue new.is_open
-  pub done : HasCleanDisk new → IsBlank old → Reaches new (Some (empty first))
+  pub done : HasCleanDisk new → IsBlank old → Reaches new (Some (empty_store first))
   pub crash : Survives old new (CommitsFirst first old)
 
 -- the tables are those of a store of this version, and of no other kind; there are some

@@ -14,7 +14,7 @@ use Rattle.as2_exchange.specs.declared.outbox.OutEntry.{OutEntry}
 use Rattle.as2_rows.specs.Rows.{out_row}
 use Rattle.as2_rows.specs.Waiting.{WaitingRow, out_kind, to_hear, to_end}
 use Rattle.as2_store.specs.Stands.{Rests}
-use Rattle.as2_store.specs.Tables.{store_schema, outbox_tree}
+use Rattle.as2_store.specs.Tables.{Way, store_schema, outbox_tree}
 
 -- it is how many documents Tick tells
 abbrev pub AreTicked : ℕ → Connected → ℕ → Type 0
@@ -54,13 +54,13 @@ abbrev pub without_due : ℕ → ℕ → List WaitingRow → List WaitingRow
 without_due kind m ws = filter (λ w. not (w.kind == kind && is_due m w.due)) ws
 
 -- the documents, in order of number
-pub record HoldsDocuments (d : Database) (ds : List OutEntry) : Type 0 where
+pub record HoldsDocuments (way : Way) (d : Database) (ds : List OutEntry) : Type 0 where
   pub sound : IsDatabase d
-  pub schema : d.schema ≡ store_schema
+  pub schema : d.schema ≡ store_schema way
   pub rows : d.trees outbox_tree ≡ map out_row ds
   pub in_order : IsAscending (λ x y. x.number < y.number) ds
 
 -- the documents are these, and the other tables are as they were
-pub record Rewritten (old new : Connected) (ds : List OutEntry) : Type 0 where
-  pub holds : HoldsDocuments new.now ds
-  pub others : AllByRecursion (λ t. t.tree ≢ outbox_tree → new.now.trees t.tree ≡ old.now.trees t.tree) store_schema.tables
+pub record Rewritten (way : Way) (old new : Connected) (ds : List OutEntry) : Type 0 where
+  pub holds : HoldsDocuments way new.now ds
+  pub others : AllByRecursion (λ t. t.tree ≢ outbox_tree → new.now.trees t.tree ≡ old.now.trees t.tree) (store_schema way).tables

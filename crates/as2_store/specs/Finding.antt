@@ -1,10 +1,8 @@
 -- Which entry is looked for, and what is shown of a document that is found.
-use Rattle.std.specs.Prelude.{◌≡◌, find, ℕ, List, [], ◌∷◌, Option, Some, None, option_and_then, Bool, bytes_eq}
+use Rattle.std.specs.Prelude.{ℕ, List, [], ◌∷◌, Option, Some, None, option_and_then, Bool, bytes_eq}
 use Rattle.as2_names.specs.Identifiers.{value_of}
 use Rattle.sqlite.specs.Order.{Row}
-use Rattle.as2_exchange.specs.State.{State, document, has_key}
-use Rattle.as2_records.specs.declared.numbers.NextNumbers.{NextNumbers}
-use Rattle.as2_exchange.specs.declared.inbox.InEntry.{InEntry}
+use Rattle.as2_exchange.specs.State.{State, document}
 use Rattle.as2_exchange.specs.declared.outbox.Evidence.{Evidence}
 use Rattle.as2_exchange.specs.declared.outbox.OutEntry.{OutEntry}
 use Rattle.as2_rows.specs.Rows.{evidence_shown}

@@ -9,6 +9,7 @@ pub mod Owing
 pub mod Due
 pub mod Settling
 pub mod Progressing
+pub mod Resending
 pub mod Expiring
 pub mod Counting
 pub mod Files

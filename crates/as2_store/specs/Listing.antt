@@ -1,17 +1,14 @@
 -- Documents of a state, by the codes of their details.
-use Rattle.std.specs.Prelude.{List, [], ◌∷◌, map, filter, Bool, true, Option, Some, None}
+use Rattle.std.specs.Prelude.{[], ◌∷◌, Bool, true, Option, Some, None}
 use Rattle.sqlite.specs.Order.{Row}
 use Rattle.as2_mdn.specs.Details.{state_of}
 use Rattle.as2_mdn.specs.declared.detail.Detail.{Detail}
 use Rattle.as2_mdn.specs.declared.detail.Detail.TheVariants.{New, Sending, Awaiting, Retry, Processed, NoReceiptAsked, UnknownMic, NotProcessed, Overdue}
 use Rattle.as2_mdn.specs.declared.detail.State.{State as StateOf}
 use Rattle.as2_mdn.specs.declared.detail.State.TheVariants.{P, R, S, W, E}
-use Rattle.as2_exchange.specs.State.{State}
-use Rattle.as2_exchange.specs.Progress.{is_in, same_state}
+use Rattle.as2_exchange.specs.Progress.{same_state}
 use Rattle.as2_rows.specs.Codes.{detail_code}
 use Rattle.as2_rows.specs.Rows.{whole}
-use Rattle.as2_records.specs.Summaries.{out_summary}
-use Rattle.as2_records.specs.declared.summaries.OutRow.{OutRow}
 
 -- the detail is one of this state, where one is asked for
 abbrev pub detail_in : Option StateOf → Detail → Bool

@@ -1,7 +1,5 @@
 -- A receipt that is owed comes further.
-use Rattle.std.specs.Prelude.{ℕ, ◌<◌, ◌^◌, Option, Some, option_map, IfSome}
-use Rattle.as2_exchange.specs.State.{State, change_received}
-use Rattle.as2_exchange.specs.declared.inbox.InEntry.{InEntry}
+use Rattle.std.specs.Prelude.{ℕ, ◌<◌, ◌^◌, Option, option_map, IfSome}
 use Rattle.as2_rows.specs.Waiting.{WaitingRow, in_kind}
 use Rattle.as2_records.specs.declared.progress.MdnProgress.{MdnProgress}
 

@@ -1,7 +1,5 @@
 -- A document comes further.
 use Rattle.std.specs.Prelude.{ℕ, Option, option_map, IfSome, ◌<◌, ◌^◌}
-use Rattle.as2_exchange.specs.State.{State, document, change_document}
-use Rattle.as2_exchange.specs.declared.outbox.OutEntry.{OutEntry}
 use Rattle.as2_rows.specs.Waiting.{WaitingRow, out_kind}
 use Rattle.as2_records.specs.declared.progress.Progress.{Progress}
 

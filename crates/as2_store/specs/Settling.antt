@@ -1,11 +1,6 @@
 -- A receipt settles a document.
-use Rattle.std.specs.Prelude.{ℕ, ◌+◌, ◌*◌, true, ◌||◌, not, if◌then◌else◌, List, Option, Some, None}
-use Rattle.std.specs.Option.{option_map_or}
-use Rattle.as2_mdn.specs.declared.detail.Detail.{Detail}
-use Rattle.as2_exchange.specs.Documents.{settled_as}
-use Rattle.as2_exchange.specs.State.{State, document, change_document, end_of_numbers, is_settled}
-use Rattle.as2_exchange.specs.Invariants.{is_by_receipt}
-use Rattle.as2_exchange.specs.declared.outbox.Evidence.{Evidence}
+use Rattle.std.specs.Prelude.{ℕ, ◌+◌, ◌*◌, List}
+use Rattle.as2_exchange.specs.State.{end_of_numbers}
 use Rattle.as2_rows.specs.Waiting.{WaitingRow, to_send, to_hear, to_end}
 use Rattle.as2_store.specs.Requeuing.{not_at}
 

@@ -1,5 +1,5 @@
 -- What the tables stand for: a state of the exchange machine.
-use Rattle.std.specs.Prelude.{◌≡◌, ℕ, ◌+◌, ◌*◌, ◌==◌, List, [], ◌∷◌, ◌++◌, map, codes, bytes_eq, Option, Some, None, option_map, IsTrue, Bool, true, false, if◌then◌else◌}
+use Rattle.std.specs.Prelude.{◌≡◌, ℕ, ◌+◌, ◌*◌, ◌==◌, nat_le, ◌||◌, List, [], ◌∷◌, ◌++◌, map, codes, bytes_eq, Option, Some, None, option_map, IsTrue, Bool, false, if◌then◌else◌}
 use Rattle.std.specs.List.{AllByRecursion, filter, filter_map, flat_map}
 use Rattle.sqlite.specs.declared.types.Value.TheVariants.{Null, Text}
 use Rattle.sqlite.specs.Order.{Row}
@@ -9,7 +9,7 @@ use Rattle.sqlite.specs.Table.{Table}
 use Rattle.sqlite_schema.specs.declared.schema.Index.{Index}
 use Rattle.sqlite.specs.State.{State as Connected}
 use Rattle.sql_tables.specs.Changes.{HasRows}
-use Rattle.as2_exchange.specs.State.{State, end_of_numbers}
+use Rattle.as2_exchange.specs.State.{State, Version, FirstVersion, LaterVersion, AllDigests, known, end_of_numbers}
 use Rattle.as2_exchange.specs.declared.inbox.InEntry.{InEntry}
 use Rattle.as2_exchange.specs.declared.outbox.OutEntry.{OutEntry}
 use Rattle.as2_exchange.specs.Invariants.{IsCounter, AreNumbers}
@@ -17,11 +17,11 @@ use Rattle.sqlite.specs.declared.error.Error.{Error}
 use Rattle.sqlite.specs.declared.error.Error.TheVariants.{SqliteFailure}
 use Rattle.sqlite.specs.declared.error.ErrorCode.TheVariants as code
 use Rattle.as2_exchange.specs.declared.fault.StoreFault.{StoreFault}
-use Rattle.as2_exchange.specs.declared.fault.StoreFault.TheVariants.{Memory, Disk, Refused, Full, NotAStore, OtherVersion}
-use Rattle.as2_rows.specs.Rows.{whole, in_row, out_row, evidence_row, meta_row}
+use Rattle.as2_exchange.specs.declared.fault.StoreFault.TheVariants.{Memory, Disk, Refused, NotAStore, OtherVersion}
+use Rattle.as2_rows.specs.Rows.{whole, in_row, out_row, evidence_row}
 use Rattle.as2_rows.specs.Contents.{Piece, pieces, piece_shown}
 use Rattle.as2_rows.specs.Waiting.{WaitingRow, waiting_in, waiting_out, waiting_shown, to_send, to_hear, to_end}
-use Rattle.as2_store.specs.Tables.{current, no_schema, store_schema, meta_table, meta_tree, inbox_tree, inbox_piece_tree, outbox_tree, outbox_piece_tree, evidence_tree, waiting_tree}
+use Rattle.as2_store.specs.Tables.{Way, Layout, VersionOne, VersionTwo, VersionThree, number_of, current_number, no_schema, schema_of, meta_table, meta_tree, inbox_at, inbox_piece_at, emptied_at, outbox_tree, outbox_piece_tree, evidence_tree, waiting_tree, origin_tree, resent_tree}
 
 -- ---- contents
 
@@ -56,41 +56,107 @@ documents_waiting kind outbox = filter (λ w. w.kind == kind) (waiting_out outbo
 abbrev pub all_waiting : State → List WaitingRow
 all_waiting s = documents_waiting to_send s.outbox ++ (waiting_in s.inbox ++ (documents_waiting to_hear s.outbox ++ documents_waiting to_end s.outbox))
 
+-- ---- the counters
+
+-- the columns: kind, version, the next numbers of a receipt and of a document
+abbrev pub meta_shown : ℕ → ℕ → ℕ → Row
+meta_shown version next_receipt next_document = Text (codes "as2-station") ∷ whole version ∷ whole next_receipt ∷ whole next_document ∷ []
+
+-- as they are stored: the only row, whose number is 1
+abbrev pub meta_row : ℕ → ℕ → ℕ → Row
+meta_row version next_receipt next_document = whole 1 ∷ meta_shown version next_receipt next_document
+
+-- ---- what later versions keep beside
+
+-- the number below which receipts were recorded by the first version, in the only row
+abbrev pub origin_row : ℕ → Row
+origin_row number = whole 1 ∷ whole number ∷ []
+
+-- the version is a later one, with the origin of the one row
+pub record HasOrigin (rows : List Row) (version : Version) : Type 0 where
+  pub number : ℕ
+  pub rows_are : rows ≡ origin_row number ∷ []
+  pub version_is : version ≡ LaterVersion number
+
+-- the number of a document that was sent anew
+abbrev pub resent_row : ℕ → Row
+resent_row number = whole number ∷ Null ∷ []
+
+abbrev pub numbers_of : List OutEntry → List ℕ
+numbers_of outbox = map (λ d. d.number) outbox
+
+-- The rows are of documents alone, at most one for each. A document is begun exactly where it was tried since it was last queued, or
+-- has a row. The state doesn't say which documents have one.
+pub record HasResent (rows : List Row) (outbox : List OutEntry) : Type 0 where
+  pub was : ℕ → Bool
+  pub rows_are : rows ≡ map resent_row (filter was (numbers_of outbox))
+  pub begun : AllByRecursion (λ d. d.begun ≡ (nat_le 1 d.tries || was d.number)) outbox
+
+-- a document is begun exactly where it was tried
+abbrev pub AreTried : List OutEntry → Type 0
+AreTried outbox = AllByRecursion (λ d. d.begun ≡ nat_le 1 d.tries) outbox
+
 -- ---- the state
 
--- the tables are those of a store and no others, and the next numbers are these
-pub record HasCounters (d : Database) (next_in next_out : ℕ) : Type 0 where
-  pub schema : d.schema ≡ store_schema
-  pub meta : d.trees meta_tree ≡ meta_row next_in next_out ∷ []
+-- `meta` is that of the current version, and the next numbers are these
+pub record HasCounters (way : Way) (d : Database) (next_in next_out : ℕ) : Type 0 where
+  pub schema : d.schema ≡ schema_of (VersionThree way)
+  pub meta : d.trees meta_tree ≡ meta_row current_number next_in next_out ∷ []
 
 -- beside `meta`, the tables hold exactly the entries of this state
-pub record HasEntries (d : Database) (s : State) : Type 0 where
-  pub inbox : d.trees inbox_tree ≡ map in_row s.inbox
-  pub inbox_contents : HasRows (d.trees inbox_piece_tree) (map piece_shown (inbox_pieces s.inbox))
+pub record HasEntries (layout : Layout) (d : Database) (s : State) : Type 0 where
+  pub inbox : d.trees (inbox_at layout) ≡ map in_row s.inbox
+  pub inbox_contents : HasRows (d.trees (inbox_piece_at layout)) (map piece_shown (inbox_pieces s.inbox))
   pub outbox : d.trees outbox_tree ≡ map out_row s.outbox
   pub outbox_contents : HasRows (d.trees outbox_piece_tree) (map piece_shown (outbox_pieces s.outbox))
   pub evidence : d.trees evidence_tree ≡ evidence_rows s.outbox
   pub waits : d.trees waiting_tree ≡ map waiting_row (all_waiting s)
 
+-- the version of the state
+abbrev pub HasVersion : Layout → Database → Version → Type 0
+HasVersion VersionOne d version = version ≡ FirstVersion
+HasVersion (VersionTwo way) d version = HasOrigin (d.trees (origin_tree way)) version
+HasVersion (VersionThree way) d version = HasOrigin (d.trees (origin_tree way)) version
+
+-- which documents are begun
+abbrev pub AreBegun : Layout → Database → List OutEntry → Type 0
+AreBegun VersionOne d outbox = AreTried outbox
+AreBegun (VersionTwo way) d outbox = AreTried outbox
+AreBegun (VersionThree way) d outbox = HasResent (d.trees (resent_tree way)) outbox
+
+-- tables of the first version that were migrated are there still, without rows
+abbrev pub AreEmptied : List ℕ → Database → Type 0
+AreEmptied trees d = AllByRecursion (λ tree. d.trees tree ≡ []) trees
+
 -- the catalog lists the tables of the schema, and each tree is in order
 unfoldable pub IsWhole : Database → Type 0
 IsWhole d = IsDatabase d
 
--- the tables stand for this state: they are those of a store and no others, `meta` has the counters, and the counters are
--- above all numbers; they stand for no other state (the law `one_state_stands`)
-pub record Stands (d : Database) (s : State) : Type 0 where
+-- the tables are those of this version and stand for this state: they are these and no others, `meta` has the counters, and the
+-- counters are above all numbers; they stand for no other state (the law `one_state_stands`)
+pub record Stands (layout : Layout) (d : Database) (s : State) : Type 0 where
   pub sound : IsWhole d
-  pub schema : d.schema ≡ store_schema
-  pub meta : d.trees meta_tree ≡ meta_row s.next_in s.next_out ∷ []
-  pub entries : HasEntries d s
+  pub schema : d.schema ≡ schema_of layout
+  pub meta : d.trees meta_tree ≡ meta_row (number_of layout) s.next_in s.next_out ∷ []
+  pub entries : HasEntries layout d s
+  pub version : HasVersion layout d s.version
+  pub begun : AreBegun layout d s.outbox
+  pub left : AreEmptied (emptied_at layout) d
   pub receipts : IsCounter s.next_in × AreNumbers s.next_in (map (λ e. e.number) s.inbox)
-  pub documents : IsCounter s.next_out × AreNumbers s.next_out (map (λ d. d.number) s.outbox)
+  pub documents : IsCounter s.next_out × AreNumbers s.next_out (numbers_of s.outbox)
 
--- outside a transaction the tables stand for this state, unless a fault of the disk has shut the connection
+-- the tables are of the version that is made and read, and stand for this state
+pub record Holds (d : Database) (s : State) : Type 0 where
+  pub way : Way
+  pub stands : Stands (VersionThree way) d s
+
+-- outside a transaction the tables hold this state, unless a fault of the disk has shut the connection; it is one of a version that
+-- knows each digest
 pub record Rests (c : Connected) (s : State) : Type 0 where
   pub autocommit : c.in_transaction ≡ false
-  pub stands : IsTrue c.is_open → Stands c.now s
+  pub stands : IsTrue c.is_open → Holds c.now s
   pub committed : IsTrue c.is_open → c.committed ≡ c.now
+  pub knows : known s ≡ AllDigests
 
 -- outside a transaction there is no table, unless a fault of the disk has shut the connection
 pub record IsBlank (c : Connected) : Type 0 where
@@ -116,7 +182,7 @@ fault_by other = Refused
 
 -- what kind and version say
 abbrev pub adoption_fault : List ℕ → ℕ → Option StoreFault
-adoption_fault kind version = if bytes_eq kind (codes "as2-station") then (if version == current.number then None else Some OtherVersion) else Some NotAStore
+adoption_fault kind version = if bytes_eq kind (codes "as2-station") then (if version == current_number then None else Some OtherVersion) else Some NotAStore
 
 -- the table `meta` of this version stands before all others, and its row says this kind and this version
 pub record MetaSays (c : Connected) (kind : List ℕ) (version : ℕ) : Type 0 where

@@ -6,6 +6,7 @@ ghost use Rattle.sqlite.specs.State.{HasCleanDisk};
 ghost use Rattle.as2_store.specs.Calls.{IsInside, Writes};
 ghost use Rattle.as2_exchange.specs.State.{State, end_of_numbers};
 ghost use Rattle.as2_store.specs.Stands.{Stands};
+ghost use Rattle.as2_store.specs.Tables.{Way, VersionThree};
 ghost use Rattle.as2_store.specs.Adding.{Fits, IsEntered};
 ghost use Rattle.as2_records.specs.Adding.{added, with_received};
 
@@ -23,7 +24,7 @@ fn put_received<S: Alter>(tx: &mut Transaction<'_, S>, entry: &InEntry) -> Resul
     ensures same_reference { tx.new.conn.ghost_name ≡ tx.old.conn.ghost_name }
     ensures within { IsInside (state S.Store tx.old.conn.now) (state S.Store tx.new.conn.now) }
     ensures open { HasCleanDisk (state S.Store tx.new.conn.now) → OnOk result (IsTrue (state S.Store tx.old.conn.now).is_open) }
-    ensures put { HasCleanDisk (state S.Store tx.new.conn.now) → OnOk result ((s : State) → Stands (state S.Store tx.old.conn.now).now s → IsEntered (state S.Store tx.new.conn.now).now s entry.now.number s.next_in (with_received s entry.now)) }
+    ensures put { HasCleanDisk (state S.Store tx.new.conn.now) → OnOk result ((way : Way) (s : State) → Stands (VersionThree way) (state S.Store tx.old.conn.now).now s → IsEntered way (state S.Store tx.new.conn.now).now s entry.now.number s.next_in (with_received s entry.now)) }
 {
     put_in(tx, entry)?;
     put_pieces(tx, Mailbox::Inbox, entry.number, &entry.posted.content)?;

@@ -17,7 +17,7 @@ use sqlite::types::ValueRef;
 use sqlite::{Alter, Connection, Error, ErrorCode, Row};
 
 /// What a failure to read `meta` says of the tables.
-fn unread(error: Error) -> StoreFault
+pub fn unread(error: Error) -> StoreFault
     ensures outside { IsOutside error → may_come result ≡ true }
     ensures known { (may_come result ≡ true) ⊎ (result ≡ NotAStore) }
 {
@@ -44,7 +44,7 @@ fn refused(rows: &[Row]) -> Option<StoreFault>
         _ => return Some(StoreFault::NotAStore),
     }
     match row.get_ref(1) {
-        Ok(ValueRef::Int(1)) => None,
+        Ok(ValueRef::Int(3)) => None,
         _ => Some(StoreFault::OtherVersion),
     }
 }

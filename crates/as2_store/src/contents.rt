@@ -8,7 +8,7 @@ ghost use Rattle.as2_rows.specs.Contents.{pieces, piece_shown};
 ghost use Rattle.as2_exchange.specs.State.{State};
 ghost use Rattle.as2_exchange.specs.declared.inbox.InEntry.{InEntry as Entry};
 ghost use Rattle.as2_exchange.specs.declared.outbox.OutEntry.{OutEntry as Document};
-ghost use Rattle.as2_store.specs.Tables.{store_schema};
+ghost use Rattle.as2_store.specs.Tables.{Way, store_schema};
 ghost use Rattle.as2_store.specs.Adding.{Appended, piece_tree};
 ghost use Rattle.as2_store.specs.Stands.{Rests};
 
@@ -36,14 +36,14 @@ fn put_piece<S: Alter>(
     requires position { position < 2 ^ 63 }
     ensures same_reference { tx.new.conn.ghost_name ≡ tx.old.conn.ghost_name }
     ensures within { IsInside (state S.Store tx.old.conn.now) (state S.Store tx.new.conn.now) }
-    ensures put { HasCleanDisk (state S.Store tx.new.conn.now) → OnOk result ((state S.Store tx.old.conn.now).now.schema ≡ store_schema
-        → Appended (state S.Store tx.old.conn.now) (state S.Store tx.new.conn.now) (piece_tree mailbox) (record { number = number; position = position; bytes = bytes.now } ∷ [])) }
+    ensures put { HasCleanDisk (state S.Store tx.new.conn.now) → OnOk result ((way : Way) → (state S.Store tx.old.conn.now).now.schema ≡ store_schema way
+        → Appended way (state S.Store tx.old.conn.now) (state S.Store tx.new.conn.now) (piece_tree way mailbox) (record { number = number; position = position; bytes = bytes.now } ∷ [])) }
 {
     let number = whole(number);
     let position = whole(position);
     match mailbox {
         Mailbox::Inbox => tx.execute(
-            "INSERT INTO inbox_piece (number, position, bytes) VALUES (?1, ?2, ?3)",
+            "INSERT INTO inbox2_piece (number, position, bytes) VALUES (?1, ?2, ?3)",
             params![number, position, bytes],
         )?,
         Mailbox::Outbox => tx.execute(
@@ -65,8 +65,8 @@ pub fn put_pieces<S: Alter>(
     requires length { length content.now < 2 ^ 63 }
     ensures same_reference { tx.new.conn.ghost_name ≡ tx.old.conn.ghost_name }
     ensures within { IsInside (state S.Store tx.old.conn.now) (state S.Store tx.new.conn.now) }
-    ensures put { HasCleanDisk (state S.Store tx.new.conn.now) → OnOk result ((state S.Store tx.old.conn.now).now.schema ≡ store_schema
-        → Appended (state S.Store tx.old.conn.now) (state S.Store tx.new.conn.now) (piece_tree mailbox) (pieces number content.now)) }
+    ensures put { HasCleanDisk (state S.Store tx.new.conn.now) → OnOk result ((way : Way) → (state S.Store tx.old.conn.now).now.schema ≡ store_schema way
+        → Appended way (state S.Store tx.old.conn.now) (state S.Store tx.new.conn.now) (piece_tree way mailbox) (pieces number content.now)) }
 {
     let mut i = 0;
     'pieces: while let Some(piece) = content.piece(i) {
@@ -87,7 +87,7 @@ pub fn in_piece_rows<S: Alter>(conn: &mut Connection<S>, number: u64) -> Result<
     let number = whole(number);
     query_all(
         conn,
-        "SELECT number, position, bytes FROM inbox_piece WHERE number = ?1 ORDER BY position",
+        "SELECT number, position, bytes FROM inbox2_piece WHERE number = ?1 ORDER BY position",
         params![number],
     )
 }

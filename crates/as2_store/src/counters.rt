@@ -7,9 +7,9 @@ ghost use Rattle.as2_store.specs.Calls.{IsInside, Reads};
 ghost use Rattle.sqlite.specs.declared.types.Value.TheVariants.{Text};
 ghost use Rattle.sql_tables.specs.Changes.{Changed, IsOutside};
 ghost use Rattle.as2_exchange.specs.State.{State};
-ghost use Rattle.as2_rows.specs.Rows.{whole, meta_row, meta_shown};
-ghost use Rattle.as2_store.specs.Tables.{store_schema, meta_tree};
-ghost use Rattle.as2_store.specs.Stands.{Rests, MetaSays, HasNoRow, HasCounters};
+ghost use Rattle.as2_rows.specs.Rows.{whole};
+ghost use Rattle.as2_store.specs.Tables.{Way, Fresh, current_number, store_schema, meta_tree};
+ghost use Rattle.as2_store.specs.Stands.{Rests, MetaSays, HasNoRow, HasCounters, meta_row, meta_shown};
 
 use crate::numbers::whole;
 use crate::reading::query_all;
@@ -23,12 +23,12 @@ pub fn put_meta<S: Alter>(tx: &mut Transaction<'_, S>, first: u64) -> Result<(),
     ensures within { IsInside (state S.Store tx.old.conn.now) (state S.Store tx.new.conn.now) }
     ensures open { HasCleanDisk (state S.Store tx.new.conn.now) → OnOk result (IsTrue (state S.Store tx.old.conn.now).is_open) }
     ensures inside { HasCleanDisk (state S.Store tx.new.conn.now) → OnOk result (IsTrue (state S.Store tx.new.conn.now).in_transaction) }
-    ensures put { HasCleanDisk (state S.Store tx.new.conn.now) → OnOk result (HasNoRow (state S.Store tx.old.conn.now).now store_schema
-        → Changed (state S.Store tx.old.conn.now) (state S.Store tx.new.conn.now) store_schema meta_tree (meta_row first first ∷ [])) }
+    ensures put { HasCleanDisk (state S.Store tx.new.conn.now) → OnOk result (HasNoRow (state S.Store tx.old.conn.now).now (store_schema Fresh)
+        → Changed (state S.Store tx.old.conn.now) (state S.Store tx.new.conn.now) (store_schema Fresh) meta_tree (meta_row current_number first first ∷ [])) }
 {
     let first = whole(first);
     tx.execute(
-        "INSERT INTO meta (kind, version, next_receipt, next_document) VALUES ('as2-station', 1, ?1, ?1)",
+        "INSERT INTO meta (kind, version, next_receipt, next_document) VALUES ('as2-station', 3, ?1, ?1)",
         params![first],
     )?;
     Ok(())
@@ -44,8 +44,8 @@ pub fn raise_next_receipt<S: Alter>(
     ensures within { IsInside (state S.Store tx.old.conn.now) (state S.Store tx.new.conn.now) }
     ensures open { HasCleanDisk (state S.Store tx.new.conn.now) → OnOk result (IsTrue (state S.Store tx.old.conn.now).is_open) }
     ensures inside { HasCleanDisk (state S.Store tx.new.conn.now) → OnOk result (IsTrue (state S.Store tx.new.conn.now).in_transaction) }
-    ensures put { HasCleanDisk (state S.Store tx.new.conn.now) → IfOk result (λ count. (n m : ℕ) → HasCounters (state S.Store tx.old.conn.now).now n m → count ≢ 0
-        → (number ≡ n) × Changed (state S.Store tx.old.conn.now) (state S.Store tx.new.conn.now) store_schema meta_tree (meta_row (number + 1) m ∷ [])) }
+    ensures put { HasCleanDisk (state S.Store tx.new.conn.now) → IfOk result (λ count. (way : Way) (n m : ℕ) → HasCounters way (state S.Store tx.old.conn.now).now n m → count ≢ 0
+        → (number ≡ n) × Changed (state S.Store tx.old.conn.now) (state S.Store tx.new.conn.now) (store_schema way) meta_tree (meta_row current_number (number + 1) m ∷ [])) }
 {
     let next = whole(number + 1);
     let number = whole(number);
@@ -65,8 +65,8 @@ pub fn raise_next_document<S: Alter>(
     ensures within { IsInside (state S.Store tx.old.conn.now) (state S.Store tx.new.conn.now) }
     ensures open { HasCleanDisk (state S.Store tx.new.conn.now) → OnOk result (IsTrue (state S.Store tx.old.conn.now).is_open) }
     ensures inside { HasCleanDisk (state S.Store tx.new.conn.now) → OnOk result (IsTrue (state S.Store tx.new.conn.now).in_transaction) }
-    ensures put { HasCleanDisk (state S.Store tx.new.conn.now) → IfOk result (λ count. (n m : ℕ) → HasCounters (state S.Store tx.old.conn.now).now n m → count ≢ 0
-        → (number ≡ m) × Changed (state S.Store tx.old.conn.now) (state S.Store tx.new.conn.now) store_schema meta_tree (meta_row n (number + 1) ∷ [])) }
+    ensures put { HasCleanDisk (state S.Store tx.new.conn.now) → IfOk result (λ count. (way : Way) (n m : ℕ) → HasCounters way (state S.Store tx.old.conn.now).now n m → count ≢ 0
+        → (number ≡ m) × Changed (state S.Store tx.old.conn.now) (state S.Store tx.new.conn.now) (store_schema way) meta_tree (meta_row current_number n (number + 1) ∷ [])) }
 {
     let next = whole(number + 1);
     let number = whole(number);
@@ -80,7 +80,7 @@ pub fn raise_next_document<S: Alter>(
 pub fn meta_rows<S: Alter>(conn: &mut Connection<S>) -> Result<Vec<Row>, Error>
     requires autocommit { conn.old.in_transaction ≡ false }
     ensures autocommit { conn.new.in_transaction ≡ false }
-    ensures rows { Reads (λ s rows. rows.items ≡ meta_shown s.next_in s.next_out ∷ []) (state S.Store conn.old) (state S.Store conn.new) result }
+    ensures rows { Reads (λ s rows. rows.items ≡ meta_shown current_number s.next_in s.next_out ∷ []) (state S.Store conn.old) (state S.Store conn.new) result }
 {
     query_all(
         conn,
@@ -91,7 +91,7 @@ pub fn meta_rows<S: Alter>(conn: &mut Connection<S>) -> Result<Vec<Row>, Error>
 
 /// The counters that the row shows.
 pub fn next_of(rows: &[Row]) -> Result<NextNumbers, Error>
-    ensures { IfOk result (λ next. (n m : ℕ) → rows.now ≡ meta_shown n m ∷ [] → (next.receipt ≡ n) × (next.document ≡ m)) }
+    ensures { IfOk result (λ next. (n m : ℕ) → rows.now ≡ meta_shown current_number n m ∷ [] → (next.receipt ≡ n) × (next.document ≡ m)) }
 {
     match rows.first() {
         Some(row) => Ok(NextNumbers {

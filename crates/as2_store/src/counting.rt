@@ -37,7 +37,7 @@ fn mdn_rows<S: Alter>(conn: &mut Connection<S>) -> Result<Vec<Row>, Error>
     ensures autocommit { conn.new.in_transaction ≡ false }
     ensures rows { Reads (λ s rows. rows.items ≡ map mdn_row (mdns_of s)) (state S.Store conn.old) (state S.Store conn.new) result }
 {
-    query_all(conn, "SELECT mdn FROM inbox ORDER BY number", &[])
+    query_all(conn, "SELECT mdn FROM inbox2 ORDER BY number", &[])
 }
 
 /// The detail that a row shows.

@@ -14,6 +14,7 @@ ghost use Rattle.as2_records.specs.Standing.{may_come};
 use crate::contents::out_piece_rows;
 use crate::fault::{fault_of, unread_row};
 use crate::outbox::evidence_rows;
+use crate::resending::begun_in;
 use as2_exchange::{END_OF_NUMBERS, Evidence, OutEntry, StoreFault};
 use as2_mic::Pieces;
 use as2_records::OutRow;
@@ -77,5 +78,6 @@ pub fn shown_document<S: Alter>(
     }
     let content = out_content(conn, alloc, &row)?;
     let evidence = evidence_in(conn, alloc, row.number)?;
-    Ok(Some(row.with_content(content, evidence)))
+    let begun = begun_in(conn, &row)?;
+    Ok(Some(row.with_content(begun, content, evidence)))
 }

@@ -15,7 +15,7 @@ ghost use Rattle.as2_store.specs.Expiring.{AreTicked, HoldsDocuments, PassesInto
 ghost use Rattle.as2_records.specs.Expiring.{ticked_in};
 ghost use Rattle.as2_store.specs.Requeuing.{HoldsWaiting};
 ghost use Rattle.as2_store.specs.Stands.{Stands, waiting_row};
-ghost use Rattle.as2_store.specs.Tables.{store_schema, outbox_tree, waiting_tree};
+ghost use Rattle.as2_store.specs.Tables.{Way, VersionThree, store_schema, outbox_tree, waiting_tree};
 
 use crate::numbers::{asked, whole};
 use as2_mdn::Detail;
@@ -34,7 +34,7 @@ fn due_rows<S: Alter>(
     ensures within { IsInside (state S.Store tx.old.conn.now) (state S.Store tx.new.conn.now) }
     ensures open { HasCleanDisk (state S.Store tx.new.conn.now) → OnOk result (IsTrue (state S.Store tx.old.conn.now).is_open) }
     ensures inside { HasCleanDisk (state S.Store tx.new.conn.now) → OnOk result (IsTrue (state S.Store tx.new.conn.now).in_transaction) }
-    ensures rows { HasCleanDisk (state S.Store tx.new.conn.now) → IfOk result (λ rows. (s : State) → Stands (state S.Store tx.old.conn.now).now s
+    ensures rows { HasCleanDisk (state S.Store tx.new.conn.now) → IfOk result (λ rows. (way : Way) (s : State) → Stands (VersionThree way) (state S.Store tx.old.conn.now).now s
         → ((state S.Store tx.new.conn.now).now ≡ (state S.Store tx.old.conn.now).now) × (rows.items ≡ map number_row (due_numbers (kind_code wait) moment s))) }
 {
     let kind = whole(wait.code());
@@ -51,8 +51,8 @@ fn pass<S: Alter>(tx: &mut Transaction<'_, S>, number: u64, detail: Detail) -> R
     ensures same_reference { tx.new.conn.ghost_name ≡ tx.old.conn.ghost_name }
     ensures within { IsInside (state S.Store tx.old.conn.now) (state S.Store tx.new.conn.now) }
     ensures inside { HasCleanDisk (state S.Store tx.new.conn.now) → OnOk result (IsTrue (state S.Store tx.new.conn.now).in_transaction) }
-    ensures put { HasCleanDisk (state S.Store tx.new.conn.now) → OnOk result ((ds : List Document) → HoldsDocuments (state S.Store tx.old.conn.now).now ds
-        → Changed (state S.Store tx.old.conn.now) (state S.Store tx.new.conn.now) store_schema outbox_tree (map out_row (passing_one detail number ds))) }
+    ensures put { HasCleanDisk (state S.Store tx.new.conn.now) → OnOk result ((way : Way) (ds : List Document) → HoldsDocuments way (state S.Store tx.old.conn.now).now ds
+        → Changed (state S.Store tx.old.conn.now) (state S.Store tx.new.conn.now) (store_schema way) outbox_tree (map out_row (passing_one detail number ds))) }
 {
     let number = whole(number);
     tx.execute(
@@ -70,8 +70,8 @@ fn pass_each<S: Alter>(
 ) -> Result<(), Error>
     ensures same_reference { tx.new.conn.ghost_name ≡ tx.old.conn.ghost_name }
     ensures within { IsInside (state S.Store tx.old.conn.now) (state S.Store tx.new.conn.now) }
-    ensures put { HasCleanDisk (state S.Store tx.new.conn.now) → OnOk result ((ns : List ℕ) (ds : List Document) → AllByRecursion (λ n. n < end_of_numbers) ns → rows.now ≡ map number_row ns → HoldsDocuments (state S.Store tx.old.conn.now).now ds
-        → Rewritten (state S.Store tx.old.conn.now) (state S.Store tx.new.conn.now) (passing detail ns ds)) }
+    ensures put { HasCleanDisk (state S.Store tx.new.conn.now) → OnOk result ((way : Way) (ns : List ℕ) (ds : List Document) → AllByRecursion (λ n. n < end_of_numbers) ns → rows.now ≡ map number_row ns → HoldsDocuments way (state S.Store tx.old.conn.now).now ds
+        → Rewritten way (state S.Store tx.old.conn.now) (state S.Store tx.new.conn.now) (passing detail ns ds)) }
 {
     'rows: for row in rows {
         let number: u64 = row.get(0)?;
@@ -85,8 +85,8 @@ fn take_due<S: Alter>(tx: &mut Transaction<'_, S>, wait: Wait, moment: Moment) -
     ensures same_reference { tx.new.conn.ghost_name ≡ tx.old.conn.ghost_name }
     ensures within { IsInside (state S.Store tx.old.conn.now) (state S.Store tx.new.conn.now) }
     ensures inside { HasCleanDisk (state S.Store tx.new.conn.now) → OnOk result (IsTrue (state S.Store tx.new.conn.now).in_transaction) }
-    ensures put { HasCleanDisk (state S.Store tx.new.conn.now) → OnOk result ((ws : List WaitingRow) → HoldsWaiting (state S.Store tx.old.conn.now).now ws
-        → Changed (state S.Store tx.old.conn.now) (state S.Store tx.new.conn.now) store_schema waiting_tree (map waiting_row (without_due (kind_code wait) moment ws))) }
+    ensures put { HasCleanDisk (state S.Store tx.new.conn.now) → OnOk result ((way : Way) (ws : List WaitingRow) → HoldsWaiting way (state S.Store tx.old.conn.now).now ws
+        → Changed (state S.Store tx.old.conn.now) (state S.Store tx.new.conn.now) (store_schema way) waiting_tree (map waiting_row (without_due (kind_code wait) moment ws))) }
 {
     let kind = whole(wait.code());
     let moment = whole(moment.seconds());
@@ -111,8 +111,8 @@ fn pass_due<S: Alter>(
     ensures within { IsInside (state S.Store tx.old.conn.now) (state S.Store tx.new.conn.now) }
     ensures open { HasCleanDisk (state S.Store tx.new.conn.now) → OnOk result (IsTrue (state S.Store tx.old.conn.now).is_open) }
     ensures inside { HasCleanDisk (state S.Store tx.new.conn.now) → OnOk result (IsTrue (state S.Store tx.new.conn.now).in_transaction) }
-    ensures passed { HasCleanDisk (state S.Store tx.new.conn.now) → IfOk result (λ count. (s : State) → Stands (state S.Store tx.old.conn.now).now s
-        → Stands (state S.Store tx.new.conn.now).now (passing_in (kind_code wait) detail moment s) × (count ≡ count_by (over (kind_code wait) moment) s.outbox)) }
+    ensures passed { HasCleanDisk (state S.Store tx.new.conn.now) → IfOk result (λ count. (way : Way) (s : State) → Stands (VersionThree way) (state S.Store tx.old.conn.now).now s
+        → Stands (VersionThree way) (state S.Store tx.new.conn.now).now (passing_in (kind_code wait) detail moment s) × (count ≡ count_by (over (kind_code wait) moment) s.outbox)) }
 {
     let found = due_rows(tx, wait, moment)?;
     let rows = found.as_slice();

@@ -8,7 +8,7 @@ ghost use Rattle.sqlite.specs.Tree.{put_row};
 ghost use Rattle.sql_tables.specs.Changes.{Changed};
 ghost use Rattle.as2_rows.specs.Rows.{in_row, in_shown};
 ghost use Rattle.as2_exchange.specs.State.{State};
-ghost use Rattle.as2_store.specs.Tables.{store_schema, inbox_tree};
+ghost use Rattle.as2_store.specs.Tables.{Way, store_schema, inbox_tree};
 ghost use Rattle.as2_store.specs.Adding.{Fits};
 ghost use Rattle.as2_store.specs.Stands.{Rests};
 ghost use Rattle.as2_exchange.specs.State.{has_key};
@@ -26,8 +26,8 @@ pub fn put_in<S: Alter>(tx: &mut Transaction<'_, S>, entry: &InEntry) -> Result<
     ensures same_reference { tx.new.conn.ghost_name ≡ tx.old.conn.ghost_name }
     ensures within { IsInside (state S.Store tx.old.conn.now) (state S.Store tx.new.conn.now) }
     ensures open { HasCleanDisk (state S.Store tx.new.conn.now) → OnOk result (IsTrue (state S.Store tx.old.conn.now).is_open) }
-    ensures put { HasCleanDisk (state S.Store tx.new.conn.now) → OnOk result ((state S.Store tx.old.conn.now).now.schema ≡ store_schema
-        → Changed (state S.Store tx.old.conn.now) (state S.Store tx.new.conn.now) store_schema inbox_tree (put_row (in_row entry.now) ((state S.Store tx.old.conn.now).now.trees inbox_tree))) }
+    ensures put { HasCleanDisk (state S.Store tx.new.conn.now) → OnOk result ((way : Way) → (state S.Store tx.old.conn.now).now.schema ≡ store_schema way
+        → Changed (state S.Store tx.old.conn.now) (state S.Store tx.new.conn.now) (store_schema way) (inbox_tree way) (put_row (in_row entry.now) ((state S.Store tx.old.conn.now).now.trees (inbox_tree way)))) }
 {
     let posted = &entry.posted;
     let number = whole(entry.number);
@@ -36,7 +36,7 @@ pub fn put_in<S: Alter>(tx: &mut Transaction<'_, S>, entry: &InEntry) -> Result<
     let tries = whole(entry.tries);
     let due = whole_or_none(entry.due);
     tx.execute(
-        "INSERT INTO inbox (number, sender, receiver, identifier_value, identifier, content_type, length, moment, outcome, how, url, digest, mic, mdn, tries, attempt, due) VALUES (?1, ?2, ?3, ?4, ?5, ?6, ?7, ?8, ?9, ?10, ?11, ?12, ?13, ?14, ?15, ?16, ?17)",
+        "INSERT INTO inbox2 (number, sender, receiver, identifier_value, identifier, content_type, length, moment, outcome, how, url, digest, mic, mdn, tries, attempt, due) VALUES (?1, ?2, ?3, ?4, ?5, ?6, ?7, ?8, ?9, ?10, ?11, ?12, ?13, ?14, ?15, ?16, ?17)",
         params![
             number,
             posted.sender.bytes(),
@@ -73,7 +73,7 @@ pub fn rows_by_key<S: Alter>(
 {
     query_all(
         conn,
-        "SELECT number, sender, receiver, identifier_value, identifier, content_type, length, moment, outcome, how, url, digest, mic, mdn, tries, attempt, due FROM inbox WHERE sender = ?1 AND receiver = ?2 AND identifier_value = ?3 ORDER BY number",
+        "SELECT number, sender, receiver, identifier_value, identifier, content_type, length, moment, outcome, how, url, digest, mic, mdn, tries, attempt, due FROM inbox2 WHERE sender = ?1 AND receiver = ?2 AND identifier_value = ?3 ORDER BY number",
         params![sender, receiver, value],
     )
 }
@@ -88,7 +88,7 @@ pub fn rows_by_number<S: Alter>(conn: &mut Connection<S>, number: u64) -> Result
     let param = whole(wanted);
     query_all(
         conn,
-        "SELECT number, sender, receiver, identifier_value, identifier, content_type, length, moment, outcome, how, url, digest, mic, mdn, tries, attempt, due FROM inbox WHERE number = ?1 ORDER BY number",
+        "SELECT number, sender, receiver, identifier_value, identifier, content_type, length, moment, outcome, how, url, digest, mic, mdn, tries, attempt, due FROM inbox2 WHERE number = ?1 ORDER BY number",
         params![param],
     )
 }

@@ -29,7 +29,7 @@ pub fn entries<S: Alter>(conn: &mut Connection<S>, alloc: Global) -> Result<Vec<
 {
     let mut entries = Vec::new(alloc);
     let mut rows = match conn.query(
-        "SELECT number, sender, receiver, identifier_value, identifier, content_type, length, moment, outcome, how, url, digest, mic, mdn, tries, attempt, due FROM inbox ORDER BY number",
+        "SELECT number, sender, receiver, identifier_value, identifier, content_type, length, moment, outcome, how, url, digest, mic, mdn, tries, attempt, due FROM inbox2 ORDER BY number",
         &[],
     ) {
         Ok(rows) => rows,

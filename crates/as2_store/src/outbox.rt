@@ -12,7 +12,7 @@ ghost use Rattle.as2_rows.specs.Rows.{out_row, out_shown, evidence_row};
 ghost use Rattle.as2_store.specs.Adding.{Fits};
 ghost use Rattle.as2_store.specs.Finding.{evidence_at, has_id, shown_evidence};
 ghost use Rattle.as2_store.specs.Stands.{Rests};
-ghost use Rattle.as2_store.specs.Tables.{store_schema, evidence_tree, outbox_tree};
+ghost use Rattle.as2_store.specs.Tables.{Way, store_schema, evidence_tree, outbox_tree};
 
 use crate::numbers::{asked, whole, whole_or_none};
 use crate::reading::query_all;
@@ -27,8 +27,8 @@ pub fn put_out<S: Alter>(tx: &mut Transaction<'_, S>, entry: &OutEntry) -> Resul
     ensures same_reference { tx.new.conn.ghost_name ≡ tx.old.conn.ghost_name }
     ensures within { IsInside (state S.Store tx.old.conn.now) (state S.Store tx.new.conn.now) }
     ensures open { HasCleanDisk (state S.Store tx.new.conn.now) → OnOk result (IsTrue (state S.Store tx.old.conn.now).is_open) }
-    ensures put { HasCleanDisk (state S.Store tx.new.conn.now) → OnOk result ((state S.Store tx.old.conn.now).now.schema ≡ store_schema
-        → Changed (state S.Store tx.old.conn.now) (state S.Store tx.new.conn.now) store_schema outbox_tree (put_row (out_row entry.now) ((state S.Store tx.old.conn.now).now.trees outbox_tree))) }
+    ensures put { HasCleanDisk (state S.Store tx.new.conn.now) → OnOk result ((way : Way) → (state S.Store tx.old.conn.now).now.schema ≡ store_schema way
+        → Changed (state S.Store tx.old.conn.now) (state S.Store tx.new.conn.now) (store_schema way) outbox_tree (put_row (out_row entry.now) ((state S.Store tx.old.conn.now).now.trees outbox_tree))) }
 {
     let number = whole(entry.number);
     let length = whole(entry.content.len() as u64);
@@ -108,8 +108,8 @@ pub fn put_evidence<S: Alter>(
     requires body { body.now ≡ evidence.now.body }
     ensures same_reference { tx.new.conn.ghost_name ≡ tx.old.conn.ghost_name }
     ensures within { IsInside (state S.Store tx.old.conn.now) (state S.Store tx.new.conn.now) }
-    ensures put { HasCleanDisk (state S.Store tx.new.conn.now) → OnOk result ((state S.Store tx.old.conn.now).now.schema ≡ store_schema
-        → Changed (state S.Store tx.old.conn.now) (state S.Store tx.new.conn.now) store_schema evidence_tree (put_row (evidence_row number evidence.now) ((state S.Store tx.old.conn.now).now.trees evidence_tree))
+    ensures put { HasCleanDisk (state S.Store tx.new.conn.now) → OnOk result ((way : Way) → (state S.Store tx.old.conn.now).now.schema ≡ store_schema way
+        → Changed (state S.Store tx.old.conn.now) (state S.Store tx.new.conn.now) (store_schema way) evidence_tree (put_row (evidence_row number evidence.now) ((state S.Store tx.old.conn.now).now.trees evidence_tree))
         × (are_fresh ((state S.Store tx.old.conn.now).now.trees evidence_tree) (evidence_row number evidence.now ∷ []) ≡ true)) }
 {
     let number = whole(number);

@@ -7,7 +7,7 @@ ghost use Rattle.as2_store.specs.Calls.{IsInside, Writes};
 ghost use Rattle.sql_tables.specs.Changes.{Changed};
 ghost use Rattle.as2_exchange.specs.State.{State, change_received};
 ghost use Rattle.as2_rows.specs.Rows.{in_row};
-ghost use Rattle.as2_store.specs.Tables.{store_schema, inbox_tree};
+ghost use Rattle.as2_store.specs.Tables.{Way, VersionThree, store_schema, inbox_tree};
 ghost use Rattle.as2_store.specs.Stands.{Stands};
 ghost use Rattle.as2_store.specs.Owing.{FitsMdn};
 ghost use Rattle.as2_records.specs.Owing.{owed_as, set_mdn_in};
@@ -29,15 +29,15 @@ fn set_owed<S: Alter>(
     ensures within { IsInside (state S.Store tx.old.conn.now) (state S.Store tx.new.conn.now) }
     ensures open { HasCleanDisk (state S.Store tx.new.conn.now) → OnOk result (IsTrue (state S.Store tx.old.conn.now).is_open) }
     ensures inside { HasCleanDisk (state S.Store tx.new.conn.now) → OnOk result (IsTrue (state S.Store tx.new.conn.now).in_transaction) }
-    ensures put { HasCleanDisk (state S.Store tx.new.conn.now) → IfOk result (λ count. (s : State) → Stands (state S.Store tx.old.conn.now).now s
-        → Changed (state S.Store tx.old.conn.now) (state S.Store tx.new.conn.now) store_schema inbox_tree (map in_row (change_received s number (owed_as progress)).inbox) × (count ≡ length (filter (λ e. e.number == number) s.inbox))) }
+    ensures put { HasCleanDisk (state S.Store tx.new.conn.now) → IfOk result (λ count. (way : Way) (s : State) → Stands (VersionThree way) (state S.Store tx.old.conn.now).now s
+        → Changed (state S.Store tx.old.conn.now) (state S.Store tx.new.conn.now) (store_schema way) (inbox_tree way) (map in_row (change_received s number (owed_as progress)).inbox) × (count ≡ length (filter (λ e. e.number == number) s.inbox))) }
 {
     let wanted = asked(number);
     let param = whole(wanted);
     let tries = whole(progress.tries);
     let due = whole_or_none(progress.due);
     tx.execute(
-        "UPDATE inbox SET mdn = ?2, tries = ?3, attempt = ?4, due = ?5 WHERE number = ?1",
+        "UPDATE inbox2 SET mdn = ?2, tries = ?3, attempt = ?4, due = ?5 WHERE number = ?1",
         params![
             param,
             mdn_code(progress.mdn),

@@ -7,12 +7,13 @@ ghost use Rattle.as2_store.specs.Calls.{IsInside, Writes};
 ghost use Rattle.sql_tables.specs.Changes.{Changed};
 ghost use Rattle.as2_exchange.specs.State.{State, change_document};
 ghost use Rattle.as2_rows.specs.Rows.{out_row};
-ghost use Rattle.as2_store.specs.Tables.{store_schema, outbox_tree};
+ghost use Rattle.as2_store.specs.Tables.{Way, VersionThree, store_schema, outbox_tree};
 ghost use Rattle.as2_store.specs.Stands.{Stands};
 ghost use Rattle.as2_store.specs.Progressing.{FitsProgress};
 ghost use Rattle.as2_records.specs.Progressing.{come_to, set_out_in};
 
 use crate::numbers::{asked, whole, whole_or_none};
+use crate::resending::ready;
 use crate::waiting::wait_for;
 use as2_records::Progress;
 use as2_rows::{attempt_code, detail_code};
@@ -29,8 +30,8 @@ fn set_progress<S: Alter>(
     ensures same_reference { tx.new.conn.ghost_name ≡ tx.old.conn.ghost_name }
     ensures within { IsInside (state S.Store tx.old.conn.now) (state S.Store tx.new.conn.now) }
     ensures open { HasCleanDisk (state S.Store tx.new.conn.now) → OnOk result (IsTrue (state S.Store tx.old.conn.now).is_open) }
-    ensures put { HasCleanDisk (state S.Store tx.new.conn.now) → IfOk result (λ count. (s : State) → Stands (state S.Store tx.old.conn.now).now s
-        → Changed (state S.Store tx.old.conn.now) (state S.Store tx.new.conn.now) store_schema outbox_tree (map out_row (change_document s number (come_to progress)).outbox) × (count ≡ length (filter (λ d. d.number == number) s.outbox))) }
+    ensures put { HasCleanDisk (state S.Store tx.new.conn.now) → IfOk result (λ count. (way : Way) (s : State) → Stands (VersionThree way) (state S.Store tx.old.conn.now).now s
+        → Changed (state S.Store tx.old.conn.now) (state S.Store tx.new.conn.now) (store_schema way) outbox_tree (map out_row (change_document s number (come_to progress)).outbox) × (count ≡ length (filter (λ d. d.number == number) s.outbox))) }
 {
     let number = whole(number);
     let tries = whole(progress.tries);
@@ -56,6 +57,7 @@ pub fn set<S: Alter>(conn: &mut Connection<S>, number: u64, progress: Progress) 
 {
     let wanted = asked(number);
     let mut tx = conn.transaction();
+    ready(&mut tx, wanted, progress.tries)?;
     if set_progress(&mut tx, wanted, progress)? == 0 {
         return Err(Error::QueryReturnedNoRows);
     }

@@ -6,7 +6,7 @@ ghost use Rattle.sqlite.specs.Listing.{understood};
 ghost use Rattle.sqlite.specs.State.{Shown};
 ghost use Rattle.sqlite.specs.Values.{bound};
 ghost use Rattle.sqlite.proofs.Callers.{IsPlain};
-ghost use Rattle.as2_store.specs.Tables.{store_schema};
+ghost use Rattle.as2_store.specs.Tables.{Way, store_schema};
 ghost use Rattle.as2_store.specs.Calls.{Reads};
 
 use sqlite::types::ValueRef;
@@ -19,7 +19,7 @@ pub fn query_all<S: Alter>(
     params: &[ValueRef<'_>],
 ) -> Result<Vec<Row>, Error>
     requires autocommit { conn.old.in_transaction ≡ false }
-    requires plain { IsPlain (understood store_schema sql.now) }
+    requires plain { (way : Way) → IsPlain (understood (store_schema way) sql.now) }
     ensures autocommit { conn.new.in_transaction ≡ false }
     ensures shown { Reads (λ s rows. Shown sql.now (bound params.now) (state S.Store conn.old) (state S.Store conn.old) rows.items) (state S.Store conn.old) (state S.Store conn.new) result }
 {

@@ -9,7 +9,7 @@ ghost use Rattle.as2_exchange.specs.State.{State, change_document};
 ghost use Rattle.as2_exchange.specs.Invariants.{is_by_receipt};
 ghost use Rattle.as2_exchange.specs.declared.outbox.Evidence.{Evidence as Receipt};
 ghost use Rattle.as2_rows.specs.Rows.{out_row};
-ghost use Rattle.as2_store.specs.Tables.{store_schema, outbox_tree};
+ghost use Rattle.as2_store.specs.Tables.{Way, VersionThree, store_schema, outbox_tree};
 ghost use Rattle.as2_store.specs.Stands.{Stands};
 ghost use Rattle.as2_exchange.specs.Documents.{settled_as};
 ghost use Rattle.as2_records.specs.Settling.{settled_in};
@@ -33,8 +33,8 @@ fn set_settled<S: Alter>(
     ensures same_reference { tx.new.conn.ghost_name ≡ tx.old.conn.ghost_name }
     ensures within { IsInside (state S.Store tx.old.conn.now) (state S.Store tx.new.conn.now) }
     ensures open { HasCleanDisk (state S.Store tx.new.conn.now) → OnOk result (IsTrue (state S.Store tx.old.conn.now).is_open) }
-    ensures put { HasCleanDisk (state S.Store tx.new.conn.now) → IfOk result (λ count. (s : State) → Stands (state S.Store tx.old.conn.now).now s → (e : Receipt)
-        → Changed (state S.Store tx.old.conn.now) (state S.Store tx.new.conn.now) store_schema outbox_tree (map out_row (change_document s number (settled_as detail e)).outbox) × (count ≡ length (filter (λ d. d.number == number) s.outbox))) }
+    ensures put { HasCleanDisk (state S.Store tx.new.conn.now) → IfOk result (λ count. (way : Way) (s : State) → Stands (VersionThree way) (state S.Store tx.old.conn.now).now s → (e : Receipt)
+        → Changed (state S.Store tx.old.conn.now) (state S.Store tx.new.conn.now) (store_schema way) outbox_tree (map out_row (change_document s number (settled_as detail e)).outbox) × (count ≡ length (filter (λ d. d.number == number) s.outbox))) }
 {
     let number = whole(number);
     let detail = detail_code(detail);

@@ -3,7 +3,7 @@
 ghost use Rattle.std.specs.Prelude.{◌≡◌, ◌⊎◌, ◌<◌, ◌≤◌, ℕ, List, map, find, None, Some, true, false, Err, IsTrue, IfOk, IfErr, OnOk, OnErr};
 ghost use Rattle.sqlite.specs.Held.{state};
 ghost use Rattle.sqlite.specs.State.{HasCleanDisk};
-ghost use Rattle.as2_exchange.specs.State.{State, empty, end_of_numbers, document, document_named, received};
+ghost use Rattle.as2_exchange.specs.State.{State, end_of_numbers, document, document_named, origin_of, received};
 ghost use Rattle.as2_exchange.specs.Due.{due_documents, due_receipts, least};
 ghost use Rattle.as2_exchange.specs.declared.fault.StoreFault.TheVariants.{Full};
 ghost use Rattle.as2_records.specs.Summaries.{in_summary};
@@ -18,6 +18,7 @@ ghost use Rattle.as2_records.specs.Finding.{AreNext, IsPostedAs};
 ghost use Rattle.as2_records.specs.Owing.{set_mdn_in};
 ghost use Rattle.as2_records.specs.Progressing.{set_out_in};
 ghost use Rattle.as2_records.specs.Requeuing.{requeued_in};
+ghost use Rattle.as2_records.specs.Resending.{resent_in};
 ghost use Rattle.as2_records.specs.Settling.{settled_in};
 ghost use Rattle.as2_records.specs.Standing.{may_come};
 
@@ -33,11 +34,12 @@ use crate::expiring::expire;
 use crate::fault::fault_of;
 use crate::inbox::rows_by_key;
 use crate::numbers::{fits, fits_mdn, fits_progress};
+use crate::origin::{origin_in, origin_rows};
 use crate::outbox::rows_by_id;
 use crate::progress::set;
 use crate::settled::{numbers_in, settled_rows};
 use crate::settling::{is_by_receipt, settle};
-use crate::submitting::add_document;
+use crate::submitting::{add_document, is_begun_by_tries};
 use crate::{inbox, listing, outbox, owed};
 use as2_exchange::{Attempt, END_OF_NUMBERS, Evidence, InEntry, MdnState, OutEntry, StoreFault};
 use as2_mdn::{Detail, State};
@@ -88,7 +90,7 @@ impl<S: Alter> Store<S> {
     }
 
     /// Takes a connection whose tables are those of a store. Answers NotAStore where the table `meta` can't be read, or
-    /// doesn't hold one row with the kind of a store; OtherVersion where its version isn't 1; Memory, Disk or Refused.
+    /// doesn't hold one row with the kind of a store; OtherVersion where its version isn't 3; Memory, Disk or Refused.
     pub fn adopt(mut conn: Connection<S>) -> Result<Store<S>, (Connection<S>, StoreFault)>
         requires autocommit { conn.in_transaction ≡ false }
         ensures adopted { IfOk result (λ store. Adopts (state S.Store conn) (state S.Store store)) }
@@ -118,6 +120,16 @@ impl<S: Alter> Store<S> {
         next_of(&rows).map_err(fault_of)
     }
 
+    /// The number below which receipts were recorded by the first version of the tables, 0 where none was. Answers Memory, Disk or
+    /// Refused.
+    pub fn origin(&mut self) -> Result<u64, StoreFault>
+        ensures origin { Reads (λ s number. number ≡ origin_of s.version) (state S.Store self.old) (state S.Store self.new) result }
+        ensures fault { IfErr result (λ f. may_come f ≡ true) }
+    {
+        let rows = origin_rows(&mut self.conn).map_err(fault_of)?;
+        origin_in(&rows).map_err(fault_of)
+    }
+
     /// Adds an entry to the inbox under the next number of a receipt, as `next_numbers` gives it. Answers Full exactly where the
     /// number is past 999,999,999,999, and then touches nothing; Refused where it isn't the next; Memory, Disk or Refused. A fault leaves the state.
     pub fn add_in(&mut self, entry: &InEntry) -> Result<(), StoreFault>
@@ -137,8 +149,9 @@ impl<S: Alter> Store<S> {
     }
 
     /// Adds a document that no receipt has settled to the outbox under the next number of a document, as `next_numbers` gives it.
-    /// Answers Full exactly where the number is past 999,999,999,999, and then touches nothing; Refused where it isn't the next, or
-    /// another document has an identifier of its value; Memory, Disk or Refused. A fault leaves the state.
+    /// Answers Full exactly where the number is past 999,999,999,999, and then touches nothing; Refused where it isn't the next, where
+    /// another document has an identifier of its value, and where it is begun and not tried, or tried and not begun; Memory, Disk or
+    /// Refused. A fault leaves the state.
     pub fn add_out(&mut self, entry: &OutEntry) -> Result<(), StoreFault>
         requires unsettled { entry.now.evidence ≡ None }
         ensures added { Writes (added_document entry.now) (state S.Store self.old) (state S.Store self.new) result }
@@ -151,6 +164,9 @@ impl<S: Alter> Store<S> {
             return Err(StoreFault::Full);
         }
         if !fits(&entry.content, entry.tries, entry.due) {
+            return Err(StoreFault::Refused);
+        }
+        if !is_begun_by_tries(entry) {
             return Err(StoreFault::Refused);
         }
         add_document(&mut self.conn, entry).map_err(fault_of)
@@ -203,6 +219,21 @@ impl<S: Alter> Store<S> {
             return Err(StoreFault::Refused);
         }
         set(&mut self.conn, number, progress).map_err(fault_of)
+    }
+
+    /// Queues the document of this number to be sent anew from this moment on, with all tries left. Answers Refused where no document
+    /// has the number; Memory, Disk or Refused; and then the state stays.
+    pub fn resend(&mut self, number: u64, moment: Moment) -> Result<(), StoreFault>
+        ensures resent { Writes (resent_in number moment) (state S.Store self.old) (state S.Store self.new) result }
+        ensures fault { IfErr result (λ f. may_come f ≡ true) }
+    {
+        let anew = Progress {
+            tries: 0,
+            attempt: Attempt::Idle,
+            due: Some(moment.seconds()),
+            detail: Detail::New,
+        };
+        set(&mut self.conn, number, anew).map_err(fault_of)
     }
 
     /// Settles the document of this number by a receipt: it gets this detail and this evidence, no try of it is open, and

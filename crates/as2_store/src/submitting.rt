@@ -1,11 +1,12 @@
 //! A document is added in one transaction.
 
-ghost use Rattle.std.specs.Prelude.{◌≡◌, ◌<◌, None, false, IsTrue, OnOk};
+ghost use Rattle.std.specs.Prelude.{◌≡◌, ◌<◌, nat_le, None, false, IsTrue, OnOk};
 ghost use Rattle.sqlite.specs.Held.{state};
 ghost use Rattle.sqlite.specs.State.{HasCleanDisk};
 ghost use Rattle.as2_store.specs.Calls.{IsInside, Writes};
 ghost use Rattle.as2_exchange.specs.State.{State, end_of_numbers};
 ghost use Rattle.as2_store.specs.Stands.{Stands};
+ghost use Rattle.as2_store.specs.Tables.{Way, VersionThree};
 ghost use Rattle.as2_store.specs.Adding.{Fits, IsEntered};
 ghost use Rattle.as2_records.specs.Adding.{added_document, with_document};
 
@@ -16,6 +17,13 @@ use crate::waiting::put_out_waiting;
 use as2_exchange::OutEntry;
 use as2_records::Progress;
 use sqlite::{Alter, Connection, Error, Transaction};
+
+/// Whether a document is begun exactly where it was tried.
+pub fn is_begun_by_tries(entry: &OutEntry) -> bool
+    ensures { IsTrue result → entry.now.begun ≡ nat_le 1 entry.now.tries }
+{
+    entry.begun == (entry.tries >= 1)
+}
 
 /// How far a document has come.
 fn progress_of(entry: &OutEntry) -> Progress
@@ -34,10 +42,11 @@ fn put_submitted<S: Alter>(tx: &mut Transaction<'_, S>, entry: &OutEntry) -> Res
     requires number { entry.now.number < end_of_numbers }
     requires fits { Fits entry.now.content entry.now.tries entry.now.due }
     requires unsettled { entry.now.evidence ≡ None }
+    requires begun { entry.now.begun ≡ nat_le 1 entry.now.tries }
     ensures same_reference { tx.new.conn.ghost_name ≡ tx.old.conn.ghost_name }
     ensures within { IsInside (state S.Store tx.old.conn.now) (state S.Store tx.new.conn.now) }
     ensures open { HasCleanDisk (state S.Store tx.new.conn.now) → OnOk result (IsTrue (state S.Store tx.old.conn.now).is_open) }
-    ensures put { HasCleanDisk (state S.Store tx.new.conn.now) → OnOk result ((s : State) → Stands (state S.Store tx.old.conn.now).now s → IsEntered (state S.Store tx.new.conn.now).now s entry.now.number s.next_out (with_document s entry.now)) }
+    ensures put { HasCleanDisk (state S.Store tx.new.conn.now) → OnOk result ((way : Way) (s : State) → Stands (VersionThree way) (state S.Store tx.old.conn.now).now s → IsEntered way (state S.Store tx.new.conn.now).now s entry.now.number s.next_out (with_document s entry.now)) }
 {
     put_out(tx, entry)?;
     put_pieces(tx, Mailbox::Outbox, entry.number, &entry.content)?;
@@ -51,6 +60,7 @@ pub fn add_document<S: Alter>(conn: &mut Connection<S>, entry: &OutEntry) -> Res
     requires number { entry.now.number < end_of_numbers }
     requires fits { Fits entry.now.content entry.now.tries entry.now.due }
     requires unsettled { entry.now.evidence ≡ None }
+    requires begun { entry.now.begun ≡ nat_le 1 entry.now.tries }
     ensures autocommit { conn.new.in_transaction ≡ false }
     ensures added { Writes (added_document entry.now) (state S.Store conn.old) (state S.Store conn.new) result }
 {

@@ -7,7 +7,7 @@ ghost use Rattle.as2_store.specs.Calls.{IsInside};
 ghost use Rattle.sql_tables.specs.Changes.{Changed};
 ghost use Rattle.as2_exchange.specs.State.{end_of_numbers};
 ghost use Rattle.as2_rows.specs.Waiting.{WaitingRow, in_kind, in_waiting, kind_code, out_kind, to_answer};
-ghost use Rattle.as2_store.specs.Tables.{store_schema, waiting_tree};
+ghost use Rattle.as2_store.specs.Tables.{Way, store_schema, waiting_tree};
 ghost use Rattle.as2_store.specs.Stands.{waiting_row};
 ghost use Rattle.as2_store.specs.Adding.{Noted, noted_rows};
 ghost use Rattle.as2_store.specs.Owing.{answers_at};
@@ -34,8 +34,8 @@ fn put_waiting<S: Alter>(
     ensures same_reference { tx.new.conn.ghost_name ≡ tx.old.conn.ghost_name }
     ensures within { IsInside (state S.Store tx.old.conn.now) (state S.Store tx.new.conn.now) }
     ensures inside { HasCleanDisk (state S.Store tx.new.conn.now) → OnOk result (IsTrue (state S.Store tx.new.conn.now).in_transaction) }
-    ensures put { HasCleanDisk (state S.Store tx.new.conn.now) → OnOk result ((state S.Store tx.old.conn.now).now.schema ≡ store_schema
-        → Noted (state S.Store tx.old.conn.now) (state S.Store tx.new.conn.now) (Some (record { kind = kind_code wait; number = number; due = due }))) }
+    ensures put { HasCleanDisk (state S.Store tx.new.conn.now) → OnOk result ((way : Way) → (state S.Store tx.old.conn.now).now.schema ≡ store_schema way
+        → Noted way (state S.Store tx.old.conn.now) (state S.Store tx.new.conn.now) (Some (record { kind = kind_code wait; number = number; due = due }))) }
 {
     let kind = wait.code();
     let place = whole(kind * END_OF_NUMBERS + number);
@@ -64,8 +64,8 @@ fn take_waiting<S: Alter>(tx: &mut Transaction<'_, S>, place: u64) -> Result<(),
     ensures same_reference { tx.new.conn.ghost_name ≡ tx.old.conn.ghost_name }
     ensures within { IsInside (state S.Store tx.old.conn.now) (state S.Store tx.new.conn.now) }
     ensures inside { HasCleanDisk (state S.Store tx.new.conn.now) → OnOk result (IsTrue (state S.Store tx.new.conn.now).in_transaction) }
-    ensures put { HasCleanDisk (state S.Store tx.new.conn.now) → OnOk result ((ws : List WaitingRow) → HoldsWaiting (state S.Store tx.old.conn.now).now ws
-        → Changed (state S.Store tx.old.conn.now) (state S.Store tx.new.conn.now) store_schema waiting_tree (map waiting_row (not_at place ws))) }
+    ensures put { HasCleanDisk (state S.Store tx.new.conn.now) → OnOk result ((way : Way) (ws : List WaitingRow) → HoldsWaiting way (state S.Store tx.old.conn.now).now ws
+        → Changed (state S.Store tx.old.conn.now) (state S.Store tx.new.conn.now) (store_schema way) waiting_tree (map waiting_row (not_at place ws))) }
 {
     let place = whole(place);
     tx.execute("DELETE FROM waiting WHERE place = ?1", params![place])?;
@@ -94,8 +94,8 @@ fn put_owed_waiting<S: Alter>(
     ensures same_reference { tx.new.conn.ghost_name ≡ tx.old.conn.ghost_name }
     ensures within { IsInside (state S.Store tx.old.conn.now) (state S.Store tx.new.conn.now) }
     ensures inside { HasCleanDisk (state S.Store tx.new.conn.now) → IsTrue (state S.Store tx.old.conn.now).in_transaction → OnOk result (IsTrue (state S.Store tx.new.conn.now).in_transaction) }
-    ensures put { HasCleanDisk (state S.Store tx.new.conn.now) → OnOk result ((state S.Store tx.old.conn.now).now.schema ≡ store_schema
-        → Noted (state S.Store tx.old.conn.now) (state S.Store tx.new.conn.now) (answers_at number progress)) }
+    ensures put { HasCleanDisk (state S.Store tx.new.conn.now) → OnOk result ((way : Way) → (state S.Store tx.old.conn.now).now.schema ≡ store_schema way
+        → Noted way (state S.Store tx.old.conn.now) (state S.Store tx.new.conn.now) (answers_at number progress)) }
 {
     if is_to_answer(progress.mdn, progress.attempt) {
         put_waiting(tx, Wait::ToAnswer, number, progress.due)?;
@@ -109,8 +109,8 @@ pub fn put_in_waiting<S: Alter>(tx: &mut Transaction<'_, S>, entry: &InEntry) ->
     requires due { IfSome entry.now.due (λ due. due < 2 ^ 63) }
     ensures same_reference { tx.new.conn.ghost_name ≡ tx.old.conn.ghost_name }
     ensures within { IsInside (state S.Store tx.old.conn.now) (state S.Store tx.new.conn.now) }
-    ensures put { HasCleanDisk (state S.Store tx.new.conn.now) → OnOk result ((state S.Store tx.old.conn.now).now.schema ≡ store_schema
-        → Noted (state S.Store tx.old.conn.now) (state S.Store tx.new.conn.now) (in_waiting entry.now)) }
+    ensures put { HasCleanDisk (state S.Store tx.new.conn.now) → OnOk result ((way : Way) → (state S.Store tx.old.conn.now).now.schema ≡ store_schema way
+        → Noted way (state S.Store tx.old.conn.now) (state S.Store tx.new.conn.now) (in_waiting entry.now)) }
 {
     if is_to_answer(entry.mdn, entry.attempt) {
         put_waiting(tx, Wait::ToAnswer, entry.number, entry.due)?;
@@ -145,8 +145,8 @@ pub fn put_out_waiting<S: Alter>(
     ensures same_reference { tx.new.conn.ghost_name ≡ tx.old.conn.ghost_name }
     ensures within { IsInside (state S.Store tx.old.conn.now) (state S.Store tx.new.conn.now) }
     ensures inside { HasCleanDisk (state S.Store tx.new.conn.now) → IsTrue (state S.Store tx.old.conn.now).in_transaction → OnOk result (IsTrue (state S.Store tx.new.conn.now).in_transaction) }
-    ensures put { HasCleanDisk (state S.Store tx.new.conn.now) → OnOk result ((state S.Store tx.old.conn.now).now.schema ≡ store_schema
-        → Noted (state S.Store tx.old.conn.now) (state S.Store tx.new.conn.now) (waits_at number progress)) }
+    ensures put { HasCleanDisk (state S.Store tx.new.conn.now) → OnOk result ((way : Way) → (state S.Store tx.old.conn.now).now.schema ≡ store_schema way
+        → Noted way (state S.Store tx.old.conn.now) (state S.Store tx.new.conn.now) (waits_at number progress)) }
 {
     if let Some(wait) = wait_of(progress.detail, progress.attempt) {
         put_waiting(tx, wait, number, progress.due)?;
@@ -165,8 +165,8 @@ pub fn wait_for<S: Alter>(
     ensures same_reference { tx.new.conn.ghost_name ≡ tx.old.conn.ghost_name }
     ensures within { IsInside (state S.Store tx.old.conn.now) (state S.Store tx.new.conn.now) }
     ensures inside { HasCleanDisk (state S.Store tx.new.conn.now) → OnOk result (IsTrue (state S.Store tx.new.conn.now).in_transaction) }
-    ensures put { HasCleanDisk (state S.Store tx.new.conn.now) → OnOk result ((ws : List WaitingRow) → HoldsWaiting (state S.Store tx.old.conn.now).now ws
-        → Renewed (state S.Store tx.old.conn.now) (state S.Store tx.new.conn.now) (noted_rows (waits_at number progress) (map waiting_row (without_document number ws)))) }
+    ensures put { HasCleanDisk (state S.Store tx.new.conn.now) → OnOk result ((way : Way) (ws : List WaitingRow) → HoldsWaiting way (state S.Store tx.old.conn.now).now ws
+        → Renewed way (state S.Store tx.old.conn.now) (state S.Store tx.new.conn.now) (noted_rows (waits_at number progress) (map waiting_row (without_document number ws)))) }
 {
     take_document(tx, number)?;
     put_out_waiting(tx, number, progress)
@@ -183,8 +183,8 @@ pub fn answer_for<S: Alter>(
     ensures same_reference { tx.new.conn.ghost_name ≡ tx.old.conn.ghost_name }
     ensures within { IsInside (state S.Store tx.old.conn.now) (state S.Store tx.new.conn.now) }
     ensures inside { HasCleanDisk (state S.Store tx.new.conn.now) → OnOk result (IsTrue (state S.Store tx.new.conn.now).in_transaction) }
-    ensures put { HasCleanDisk (state S.Store tx.new.conn.now) → OnOk result ((ws : List WaitingRow) → HoldsWaiting (state S.Store tx.old.conn.now).now ws
-        → Renewed (state S.Store tx.old.conn.now) (state S.Store tx.new.conn.now) (noted_rows (answers_at number progress) (map waiting_row (not_at (place_of to_answer number) ws)))) }
+    ensures put { HasCleanDisk (state S.Store tx.new.conn.now) → OnOk result ((way : Way) (ws : List WaitingRow) → HoldsWaiting way (state S.Store tx.old.conn.now).now ws
+        → Renewed way (state S.Store tx.old.conn.now) (state S.Store tx.new.conn.now) (noted_rows (answers_at number progress) (map waiting_row (not_at (place_of to_answer number) ws)))) }
 {
     take_waiting(tx, place_of(Wait::ToAnswer, number))?;
     put_owed_waiting(tx, number, progress)
@@ -196,8 +196,8 @@ pub fn take_document<S: Alter>(tx: &mut Transaction<'_, S>, number: u64) -> Resu
     ensures same_reference { tx.new.conn.ghost_name ≡ tx.old.conn.ghost_name }
     ensures within { IsInside (state S.Store tx.old.conn.now) (state S.Store tx.new.conn.now) }
     ensures inside { HasCleanDisk (state S.Store tx.new.conn.now) → OnOk result (IsTrue (state S.Store tx.new.conn.now).in_transaction) }
-    ensures put { HasCleanDisk (state S.Store tx.new.conn.now) → OnOk result ((ws : List WaitingRow) → HoldsWaiting (state S.Store tx.old.conn.now).now ws
-        → Renewed (state S.Store tx.old.conn.now) (state S.Store tx.new.conn.now) (map waiting_row (without_document number ws))) }
+    ensures put { HasCleanDisk (state S.Store tx.new.conn.now) → OnOk result ((way : Way) (ws : List WaitingRow) → HoldsWaiting way (state S.Store tx.old.conn.now).now ws
+        → Renewed way (state S.Store tx.old.conn.now) (state S.Store tx.new.conn.now) (map waiting_row (without_document number ws))) }
 {
     take_waiting(tx, place_of(Wait::ToSend, number))?;
     take_waiting(tx, place_of(Wait::ToHear, number))?;

@@ -1,6 +1,6 @@
 -- Worked rows of the texts.
 use Rattle.std.proofs.Common.{◌≡◌, ℕ, [], ◌∷◌, Option, Some, None, refl}
-use Rattle.std.specs.Prelude.{codes, replicate}
+use Rattle.std.specs.Prelude.{codes, nat_le, replicate}
 use Rattle.std.specs.Fmt.{digits}
 use Rattle.as2_names.specs.Ascii.{space}
 use Rattle.as2_mic.specs.declared.alg.Alg.TheVariants.{Sha1}
@@ -8,7 +8,7 @@ use Rattle.as2_mdn.specs.declared.detail.Detail.{Detail}
 use Rattle.as2_mdn.specs.declared.detail.Detail.TheVariants.{New, Sending, Awaiting, Retry, Processed, Overdue}
 use Rattle.as2_mdn.specs.declared.detail.State.TheVariants.{R, S}
 use Rattle.as2_mdn.specs.declared.outcome.Outcome.TheVariants.{Processed as WasProcessed}
-use Rattle.as2_exchange.specs.State.{State, empty}
+use Rattle.as2_exchange.specs.State.{LaterVersion, State, empty}
 use Rattle.as2_exchange.specs.declared.attempt.Attempt.{Attempt}
 use Rattle.as2_exchange.specs.declared.attempt.Attempt.TheVariants.{Idle, Running}
 use Rattle.as2_exchange.specs.declared.inbox.MdnState.TheVariants.{Pending}
@@ -19,11 +19,12 @@ use Rattle.as2_views.specs.Texts.{list_out, list_in, outstanding, show, fetch}
 
 -- a document as it stands
 abbrev standing : ℕ → ℕ → Attempt → Option ℕ → Detail → Option Evidence → OutEntry
-standing n tries attempt due detail evidence = record { number = n; organization = codes "Supplier"; partner = codes "Depot"; id = codes "<out-1@station.example>"; content = codes "abc"; moment = 1000; tries = tries; attempt = attempt; due = due; detail = detail; evidence = evidence }
+standing n tries attempt due detail evidence = record { number = n; organization = codes "Supplier"; partner = codes "Depot"; id = codes "<out-1@station.example>"; content = codes "abc"; moment = 1000; begun = nat_le 1 tries; tries = tries; attempt = attempt; due = due; detail = detail; evidence = evidence }
 
 -- one that a receipt of 406 bytes has settled
 after_settling : State
 after_settling = record {
+  version = LaterVersion 0;
   inbox = [];
   outbox = standing 1 1 Idle None Processed (Some (record { moment = 1000; content_type = codes "multipart/report"; body = replicate 406 space })) ∷ [];
   next_in = 1;
@@ -36,13 +37,14 @@ list_and_show : (list_out after_settling None ≡ codes "           1 S  1 R pro
 unfolding after_settling digits
 list_and_show = (refl, refl, refl)
 
-nothing_outstanding : outstanding (empty 1) 1000 ≡ codes "documents not sent: 0\ndocuments in retry: 0\nreceipts awaited: 0\ndocuments in error: 0\nreceipts to send: 0\n"
+nothing_outstanding : outstanding (empty (LaterVersion 0) 1) 1000 ≡ codes "documents not sent: 0\ndocuments in retry: 0\nreceipts awaited: 0\ndocuments in error: 0\nreceipts to send: 0\n"
 unfolding digits
 nothing_outstanding = refl
 
 -- a new document, one in retry, one awaited, one overdue and one whose first try is open
 under_way : State
 under_way = record {
+  version = LaterVersion 0;
   inbox = [];
   outbox = standing 1 0 Idle (Some 1000) New None ∷ standing 2 1 Idle (Some 1030) Retry None ∷ standing 3 1 Idle (Some 1060) Awaiting None ∷ standing 4 1 Idle None Overdue None ∷ standing 5 1 Running (Some 1031) Sending None ∷ [];
   next_in = 1;
@@ -64,6 +66,7 @@ listed_by_state = (refl, refl, refl)
 -- a document that was posted, whose receipt is to be sent later
 after_a_post : State
 after_a_post = record {
+  version = LaterVersion 0;
   inbox =
       record {
         number = 1;

@@ -5,7 +5,7 @@ use Rattle.as2_host.specs.Stores.{fault_in}
 use Rattle.as2_host.specs.declared.stores.OpenFault.{OpenFault}
 use Rattle.as2_host.specs.declared.stores.OpenStores.{Ghosts as Stores}
 use Rattle.as2_records.specs.Standing.{may_come}
-use Rattle.as2_exchange.specs.State.{State, empty}
+use Rattle.as2_exchange.specs.State.{LaterVersion, State, empty}
 use Rattle.as2_desk.proofs.Opening.{each_left, goes_in_memory, goes_kept}
 use Rattle.as2_desk.specs.Observed.{input_of, outcome_of, stored_of}
 use Rattle.as2_desk.specs.Stores.{ByPlace, Leaves, is_in_memory, opens_at}
@@ -30,7 +30,7 @@ returns-then-eq-clause-goes g c =
     c.do_over.result.0 c.do_over.result.1 c.open_in_memory-records.result c.open_in_memory-records.ensures c.do_over.ensures.fails c.do_over.ensures.does
     (λ fault may. subst (λ (b : Bool). ByPlace b (may_come (fault_in fault) ≡ true) (g.O.OpenStores.fails stores path fault)) (sym is) may)
     refl (λ number s kept. kept) (subst (λ (b : Bool). opens ≡ opens + opens_at b) (sym is) (omega arith))
-    (λ s from. subst (λ (b : Bool). ByPlace b (s ≡ empty first) (g.O.OpenStores.keeps stores path first s × g.O.OpenStores.is_clean stores)) is from)
+    (λ s from. subst (λ (b : Bool). ByPlace b (s ≡ empty (LaterVersion 0) first) (g.O.OpenStores.keeps stores path first s × g.O.OpenStores.is_clean stores)) is from)
     (λ t. subst (λ (b : Bool). ByPlace b ⊤ ((number : ℕ) → g.O.OpenStores.keeps stores path number t)) (sym is) tt)
 
 -- no records could be opened: the stores are as the opening left them
@@ -66,6 +66,6 @@ returns-clause-goes g c =
     c.open-records.ensures.found c.do_over-left.ensures.fails c.do_over-left.ensures.does
     (λ none. not_opened g.O.OpenStores was c.open-records.new.self stores path c.open-records.result is c.open-records.ensures.fault c.open-records.ensures.same (c.close_in.ensures.none none))
     (c.close_in.ensures.counted ∙ c.open-records.ensures.counted) (λ same. same) (λ more. subst (λ (b : Bool). opens ≡ opened + opens_at b) (sym is) more)
-    (λ s from. subst (λ (b : Bool). ByPlace b (s ≡ empty first) (g.O.OpenStores.keeps was path first s × Clean)) is from)
+    (λ s from. subst (λ (b : Bool). ByPlace b (s ≡ empty (LaterVersion 0) first) (g.O.OpenStores.keeps was path first s × Clean)) is from)
     c.close_in.ensures.clean
     (each_left c.do_over-left.result.1 Clean (λ l t. (g.O.Opened.Records.shows l).Rests t) (λ t. (number : ℕ) → g.O.OpenStores.keeps stores path number t) (Leaves path (g.O.OpenStores.keeps stores path)) c.close_in.ensures.kept (λ t keeps. subst (λ (b : Bool). ByPlace b ⊤ ((number : ℕ) → g.O.OpenStores.keeps stores path number t)) (sym is) keeps))

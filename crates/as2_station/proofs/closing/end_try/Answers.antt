@@ -26,7 +26,7 @@ returns-in_err-set_out-in-Delivered g c = record {
   taken =
       passed_on _ _ _ _ _ _ _ _ c.from_residual-in_err-set_out-in-Delivered.ensures.0 c.from_residual-in_err-set_out-in-Delivered.ensures.1
       (unwritten _ _ _ _ _ _ _ _ Delivered
-      (λ s t stands found is counter. rw c.in-Delivered.is (ends_at s t c.args.entry.now found _ Delivered c.in-Delivered.progress (λ _. refl) is))
+      (λ s t stands found is counter. rw c.in-Delivered.is (ends_at s t c.args.entry.now found stands c.if-not-entry.false _ Delivered c.in-Delivered.progress refl is))
       (inr c.in_err-set_out-in-Delivered.ensures.fault) (λ s found full. never_full _ c.in_err-set_out-in-Delivered.ensures.fault full) c.in_err-set_out-in-Delivered.ensures.set);
 }
 
@@ -34,7 +34,7 @@ pub returns-in_ok-set_out-in-Delivered : goal.returns-in_ok-set_out-in-Delivered
 returns-in_ok-set_out-in-Delivered g c = record {
   taken =
       written _ _ _ _ _ _ _ _ _
-      (λ s t stands found is counter. rw c.in-Delivered.is (ends_at s t c.args.entry.now found _ Delivered c.in-Delivered.progress (λ _. refl) is))
+      (λ s t stands found is counter. rw c.in-Delivered.is (ends_at s t c.args.entry.now found stands c.if-not-entry.false _ Delivered c.in-Delivered.progress refl is))
       c.in_ok-set_out-in-Delivered.ensures.set;
 }
 
@@ -43,7 +43,7 @@ returns-in_err-set_out-in-Failed g c = record {
   taken =
       passed_on _ _ _ _ _ _ _ _ c.from_residual-in_err-set_out-in-Failed.ensures.0 c.from_residual-in_err-set_out-in-Failed.ensures.1
       (unwritten _ _ _ _ _ _ _ _ TryFailed
-      (λ s t stands found is counter. rw c.in-Failed.is (ends_at s t c.args.entry.now found _ TryFailed c.in-Failed.progress (λ _. refl) is))
+      (λ s t stands found is counter. rw c.in-Failed.is (ends_at s t c.args.entry.now found stands c.if-not-entry.false _ TryFailed c.in-Failed.progress refl is))
       (inr c.in_err-set_out-in-Failed.ensures.fault) (λ s found full. never_full _ c.in_err-set_out-in-Failed.ensures.fault full) c.in_err-set_out-in-Failed.ensures.set);
 }
 
@@ -51,6 +51,6 @@ pub returns-in_ok-set_out-in-Failed : goal.returns-in_ok-set_out-in-Failed
 returns-in_ok-set_out-in-Failed g c = record {
   taken =
       written _ _ _ _ _ _ _ _ _
-      (λ s t stands found is counter. rw c.in-Failed.is (ends_at s t c.args.entry.now found _ TryFailed c.in-Failed.progress (λ _. refl) is))
+      (λ s t stands found is counter. rw c.in-Failed.is (ends_at s t c.args.entry.now found stands c.if-not-entry.false _ TryFailed c.in-Failed.progress refl is))
       c.in_ok-set_out-in-Failed.ensures.set;
 }

@@ -19,7 +19,7 @@ returns-clause-added g c =
     let same : end ≡ c.conn-2-1.given.0 = search rules in
     let first : IsInside (state g.S.Store (record old { in_transaction = true })) mid = rw c.transaction-tx.ensures.begun at c.put_received.ensures.within in
     let done = adds g.S.Store old mid last x c.requires.number c.raise_next_receipt.ensures.within.clean (rw c.transaction-tx.ensures.begun at c.in_ok-put_received.ensures.open)
-    (rw c.transaction-tx.ensures.begun at c.in_ok-put_received.ensures.put) (λ clean n m has. c.in_ok-raise_next_receipt.ensures.put clean n m has c.if-branch-eq0.false) in
+    (rw c.transaction-tx.ensures.begun at c.in_ok-put_received.ensures.put) (λ clean way n m has. c.in_ok-raise_next_receipt.ensures.put clean way n m has c.if-branch-eq0.false) in
     let shown : HasCleanDisk (state g.S.Store end) → Shows last (state g.S.Store end) last.now last.now false = λ late. (let it : Shows last (state g.S.Store end) last.now last.now false = search rules in it) in
     subst (λ h. Writes (added x) (state g.S.Store old) (state g.S.Store h) (Ok tt)) same
     (commits g.S.Store old last end (added x) tt (inside_then _ mid last first c.raise_next_receipt.ensures.within) c.commit.ensures.survives done shown (λ db opened may. g.met.S.Store.settled end.store db opened may))
@@ -34,7 +34,7 @@ returns-in_err-commit-clause-added g c =
     let same : end ≡ c.conn-2-1.given.0 = search rules in
     let first : IsInside (state g.S.Store (record old { in_transaction = true })) mid = rw c.transaction-tx.ensures.begun at c.put_received.ensures.within in
     let done = adds g.S.Store old mid last x c.requires.number c.raise_next_receipt.ensures.within.clean (rw c.transaction-tx.ensures.begun at c.in_ok-put_received.ensures.open)
-    (rw c.transaction-tx.ensures.begun at c.in_ok-put_received.ensures.put) (λ clean n m has. c.in_ok-raise_next_receipt.ensures.put clean n m has c.if-branch-eq0.false) in
+    (rw c.transaction-tx.ensures.begun at c.in_ok-put_received.ensures.put) (λ clean way n m has. c.in_ok-raise_next_receipt.ensures.put clean way n m has c.if-branch-eq0.false) in
     subst (λ h. Writes (added x) (state g.S.Store old) (state g.S.Store h) c.from_residual-in_err-commit.result) same
     (fails_to_commit g.S.Store old last end (added x) c.from_residual-in_err-commit.result c.from_residual-in_err-commit.ensures.0 (inside_then _ mid last first c.raise_next_receipt.ensures.within) c.commit.ensures.survives done
     (λ late. undone last (state g.S.Store end) _ (c.in_ok-raise_next_receipt.ensures.inside (omega (arith, c.commit.ensures.survives.clean, late))) (c.in_err-commit.ensures.err late)))

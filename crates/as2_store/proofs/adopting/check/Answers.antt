@@ -79,7 +79,7 @@ returns-in_default-commit-clause-adopted g c =
     let was : HasCleanDisk (state g.S.Store end) → HasCleanDisk mid = λ late. omega (arith, c.commit.ensures.survives.clean, late) in
     subst (λ h. Adopts (state g.S.Store old) (state g.S.Store h)) same
     (adopts g.S.Store old mid end rows {A = ℕ} {E = Error} 0
-    (commits g.S.Store old mid end Some 0 inside c.commit.ensures.survives (query_keeps g.S.Store old mid meta_read_text [] rows (meta_read_plain _ _) shown) (λ late. (c.in_default-commit.ensures.ok late).1) (λ db opened may. g.met.S.Store.settled end.store db opened may)) was shown
+    (commits g.S.Store old mid end Some 0 inside c.commit.ensures.survives (query_keeps g.S.Store old mid meta_read_text [] rows (λ way. meta_read_plain _ _) shown) (λ late. (c.in_default-commit.ensures.ok late).1) (λ db opened may. g.met.S.Store.settled end.store db opened may)) was shown
     (λ kind version n m is. sym c.in_default.is ∙ c.refused.ensures kind version n m (c.deref.ensures.value ∙ is)) (λ none. let some = c.if-is_bare.ensures.1 (ap (λ (k : Schema). k.tables) c.schema.ensures.value ∙ none) in cc))
 
 pub returns-clause-given_back : goal.returns-clause-given_back
@@ -93,7 +93,7 @@ returns-clause-given_back g c =
     let rows = c.in-Ok.rows.items in
     let shown : HasCleanDisk mid → Shown meta_read_text [] begun mid rows = rw c.transaction-tx.ensures.begun at c.in-Ok.ensures.ok in
     let was : HasCleanDisk (state g.S.Store end) → HasCleanDisk mid = λ late. omega (arith, c.commit.ensures.survives.clean, late) in
-    let done = query_keeps g.S.Store old mid meta_read_text [] rows (meta_read_plain _ _) shown in
+    let done = query_keeps g.S.Store old mid meta_read_text [] rows (λ way. meta_read_plain _ _) shown in
     subst (λ h. IsGivenBack (Commits Some (state g.S.Store old)) (state g.S.Store old) (state g.S.Store h)) same
     (gives_back g.S.Store old mid end (λ db. db ≡ mid.now.trees) _ inside c.commit.ensures.survives (λ clean. committed_next g.S.Store old mid Some (done clean)) c.commit.ensures.ended
     (λ late. undone mid (state g.S.Store end) _ (shown_stays meta_read_text [] begun mid rows refl (shown (was late))) (c.in-Err-commit.ensures.err late)))

@@ -21,8 +21,8 @@ pieces-preserved g c =
       c.put_piece.ensures.same_reference ∙ so_far.0,
       omega (arith, it.0),
       inside_then old mid new so_far.2 c.put_piece.ensures.within,
-      λ clean has.
-          let before = so_far.3 (c.put_piece.ensures.within.clean clean) has in
-          subst (Appended old new (piece_tree c.args.mailbox)) (one_before c.args.number content i c.in-Some.piece.now it.1)
-          (appended_then old mid new (piece_tree c.args.mailbox) (pieces_before c.args.number content i) (p ∷ []) before (c.in_ok-put_piece.ensures.put clean before.schema_is)),
+      λ clean way has.
+          let before = so_far.3 (c.put_piece.ensures.within.clean clean) way has in
+          subst (Appended way old new (piece_tree way c.args.mailbox)) (one_before c.args.number content i c.in-Some.piece.now it.1)
+          (appended_then way old mid new (piece_tree way c.args.mailbox) (pieces_before c.args.number content i) (p ∷ []) before (c.in_ok-put_piece.ensures.put clean way before.schema_is)),
     )

@@ -8,7 +8,7 @@ use Rattle.as2_store.proofs.MetaRow.{reads_meta}
 use Rattle.as2_store.proofs.counters.meta_rows.Goals as goal
 
 pub query_all-requires-clause-plain : goal.query_all-requires-clause-plain
-query_all-requires-clause-plain g c = meta_read_plain _ _
+query_all-requires-clause-plain g c = λ way. meta_read_plain _ _
 
 pub returns-clause-rows : goal.returns-clause-rows
 returns-clause-rows g c =

@@ -37,7 +37,7 @@ returns-clause-rows g c clean =
     let m = c.args.moment in
     let most : kind ≤ 4 = rw c.code.ensures.code at c.code.ensures.most in
     IfOk-weaker c.query_all.result _ _
-    (λ rows shown s stood.
+    (λ rows shown way s stood.
     let it : Shown all_due_text (any_params kind m) old new rows.items =
     rw (c.params-to_sql.ensures, c.params-to_sql-2.ensures, c.whole-kind.ensures, c.code.ensures.code, c.whole-moment.ensures, c.seconds.ensures.seconds, fits_i64 kind (omega (arith, most)), fits_i64 m (omega (arith, c.seconds.ensures.bound, c.seconds.ensures.seconds))) at shown in
     reads_due kind m old new rows.items it s stood)

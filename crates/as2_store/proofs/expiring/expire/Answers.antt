@@ -63,8 +63,9 @@ returns-clause-counted g c late s r =
     let same : end ≡ c.conn-2-1.given.0 = search rules in
     let clean : HasCleanDisk last = omega (arith, c.commit.ensures.survives.clean, subst (λ h. HasCleanDisk (state g.S.Store h)) (sym same) late) in
     let was = c.pass_due-2.ensures.within.clean clean in
-    let first = rw c.transaction-tx.ensures.begun at c.in_ok-overdue.ensures.passed was s (r.stands (rw c.transaction-tx.ensures.begun at c.in_ok-overdue.ensures.open was)) in
-    let second = c.in_ok-used_up.ensures.passed clean _ first.0 in
+    let here = r.stands (rw c.transaction-tx.ensures.begun at c.in_ok-overdue.ensures.open was) in
+    let first = rw c.transaction-tx.ensures.begun at c.in_ok-overdue.ensures.passed was here.way s here.stands in
+    let second = c.in_ok-used_up.ensures.passed clean here.way _ first.0 in
     let sum : c.in-Some.count ≡ c.in_ok-overdue.overdue + c.in_ok-used_up.used_up = c.in-Some.ensures.1 in
     ap Ticked (sum ∙ ap₂ (λ a b. a + b) first.1 second.1) ∙ all_counted m s
 

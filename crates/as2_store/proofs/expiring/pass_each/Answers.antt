@@ -18,7 +18,7 @@ rows-init g c =
     let old = state g.S.Store c.args.tx.now.conn.now in (
       refl,
       nothing_inside old,
-      λ clean ns ds small all held. subst (Rewritten old old) (sym (none_passed c.args.detail ds)) (none_rewritten old ds held),
+      λ clean way ns ds small all held. subst (Rewritten way old old) (sym (none_passed c.args.detail ds)) (none_rewritten way old ds held),
     )
 
 pub rows-preserved : goal.rows-preserved
@@ -31,18 +31,18 @@ rows-preserved g c =
     let i = c.rows.row-index in (
       c.pass.ensures.same_reference ∙ so_far.0,
       inside_then old mid new so_far.1 c.pass.ensures.within,
-      λ clean ns ds small all held.
-          let before = so_far.2 (c.pass.ensures.within.clean clean) ns ds small all held in
+      λ clean way ns ds small all held.
+          let before = so_far.2 (c.pass.ensures.within.clean clean) way ns ds small all held in
           let n = get_or ns i 0 in
           let within : i < length ns = omega (arith, c.rows-test.true, ap length all, length-map ns number_row) in
           let shown = number_here c.args.rows.now ns i c.row-item.result c.in_ok-number.number all c.rows-test.true (ap (λ r. column r 0) (sym c.row-item.is) ∙ c.in_ok-number.ensures.ok.1) in
           let is = asked_number ns i c.in_ok-number.number c.asked.result small within shown c.asked.ensures.within in
-          let one = subst (λ k. Changed mid new store_schema outbox_tree (map out_row (passing_one detail k (passing detail (take i ns) ds)))) is (c.in_ok-pass.ensures.put clean (passing detail (take i ns) ds) before.holds) in
-          subst (Rewritten old new) (one_more_passed detail ns i 0 within ds) (rewritten_more old mid new detail n (passing detail (take i ns) ds) before one),
+          let one = subst (λ k. Changed mid new (store_schema way) outbox_tree (map out_row (passing_one detail k (passing detail (take i ns) ds)))) is (c.in_ok-pass.ensures.put clean way (passing detail (take i ns) ds) before.holds) in
+          subst (Rewritten way old new) (one_more_passed detail ns i 0 within ds) (rewritten_more way old mid new detail n (passing detail (take i ns) ds) before one),
     )
 
 pub returns-clause-put : goal.returns-clause-put
-returns-clause-put g c clean ns ds small all held =
+returns-clause-put g c clean way ns ds small all held =
     let old = state g.S.Store c.args.tx.now.conn.now in
     let new = state g.S.Store c.rows.tx.conn.now in
-    subst (Rewritten old new) (all_passed c.args.detail c.args.rows.now ns c.rows.row-index ds all (omega (arith, c.rows-test.false))) (c.rows.invariant.2 clean ns ds small all held)
+    subst (Rewritten way old new) (all_passed c.args.detail c.args.rows.now ns c.rows.row-index ds all (omega (arith, c.rows-test.false))) (c.rows.invariant.2 clean way ns ds small all held)

@@ -14,7 +14,7 @@ pub returns-in_err-execute-clause-within : goal.returns-in_err-execute-clause-wi
 returns-in_err-execute-clause-within g c = ran_inside g.S.Store _ _ c.args.tx.now.conn.now c.execute.new.self.conn.now c.execute.result _ c.execute.ensures.ended c.execute.ensures.runs c.execute.ensures.survives
 
 pub returns-clause-put : goal.returns-clause-put
-returns-clause-put g c clean has =
+returns-clause-put g c clean way has =
     let old = state g.S.Store c.args.tx.now.conn.now in
     let new = state g.S.Store c.execute.new.self.conn.now in
     let e = c.args.entry.now in
@@ -72,4 +72,4 @@ returns-clause-put g c clean has =
       bound_digest,
       bound_mic,
     ) at ran in
-    puts_in old new e c.in_ok-execute.field-0 has went
+    puts_in way old new e c.in_ok-execute.field-0 has went

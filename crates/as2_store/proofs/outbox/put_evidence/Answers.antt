@@ -12,7 +12,7 @@ pub returns-in_err-execute-clause-within : goal.returns-in_err-execute-clause-wi
 returns-in_err-execute-clause-within g c = ran_inside g.S.Store _ _ c.args.tx.now.conn.now c.execute.new.self.conn.now c.execute.result _ c.execute.ensures.ended c.execute.ensures.runs c.execute.ensures.survives
 
 pub returns-clause-put : goal.returns-clause-put
-returns-clause-put g c clean has =
+returns-clause-put g c clean way has =
     let old = state g.S.Store c.args.tx.now.conn.now in
     let new = state g.S.Store c.execute.new.self.conn.now in
     let n = c.args.number in
@@ -32,4 +32,4 @@ returns-clause-put g c clean has =
       fits_i64 n c.requires.number,
       fits_i64 e.moment (omega (arith, c.seconds.ensures.bound, c.seconds.ensures.seconds)),
     ) at ran in
-    (puts_evidence old new n e c.in_ok-execute.field-0 has went, fresh_evidence old new n e c.in_ok-execute.field-0 has went)
+    (puts_evidence way old new n e c.in_ok-execute.field-0 has went, fresh_evidence way old new n e c.in_ok-execute.field-0 has went)

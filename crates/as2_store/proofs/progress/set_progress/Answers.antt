@@ -15,7 +15,7 @@ pub returns-clause-within : goal.returns-clause-within
 returns-clause-within g c = ran_inside g.S.Store _ _ c.args.tx.now.conn.now c.execute.new.self.conn.now c.execute.result _ c.execute.ensures.ended c.execute.ensures.runs c.execute.ensures.survives
 
 pub returns-clause-put : goal.returns-clause-put
-returns-clause-put g c clean = if_made c.execute.result _ (λ count is s it.
+returns-clause-put g c clean = if_made c.execute.result _ (λ count is way s it.
     let old = state g.S.Store c.args.tx.now.conn.now in
     let new = state g.S.Store c.execute.new.self.conn.now in
     let n = c.args.number in

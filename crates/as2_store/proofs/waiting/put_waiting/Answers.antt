@@ -13,7 +13,7 @@ pub returns-in_err-execute-clause-within : goal.returns-in_err-execute-clause-wi
 returns-in_err-execute-clause-within g c = ran_inside g.S.Store _ _ c.args.tx.now.conn.now c.execute.new.self.conn.now c.execute.result _ c.execute.ensures.ended c.execute.ensures.runs c.execute.ensures.survives
 
 pub returns-clause-put : goal.returns-clause-put
-returns-clause-put g c clean has =
+returns-clause-put g c clean way has =
     let old = state g.S.Store c.args.tx.now.conn.now in
     let new = state g.S.Store c.execute.new.self.conn.now in
     let w : WaitingRow = record { kind = kind_code c.args.wait; number = c.args.number; due = c.args.due } in
@@ -35,7 +35,7 @@ returns-clause-put g c clean has =
       fits_i64 c.args.number (omega (arith, c.requires.number)),
       bound_optional,
     ) at ran in
-    puts_waiting old new w c.in_ok-execute.field-0 has went
+    puts_waiting way old new w c.in_ok-execute.field-0 has went
 
 pub returns-clause-inside : goal.returns-clause-inside
 returns-clause-inside g c clean = stays g.S.Store _ _ c.args.tx.now.conn.now c.execute.new.self.conn.now c.execute.result _ c.execute.ensures.ended (c.execute.ensures.runs clean) c.in_ok-execute.field-0 c.in_ok-execute.was

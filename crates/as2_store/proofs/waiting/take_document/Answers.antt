@@ -6,7 +6,7 @@ use Rattle.as2_store.specs.Settling.{place_of}
 use Rattle.as2_store.proofs.waiting.take_document.Goals as goal
 
 pub returns-clause-put : goal.returns-clause-put
-returns-clause-put g c clean ws it =
+returns-clause-put g c clean way ws it =
     let old = state g.S.Store c.args.tx.now.conn.now in
     let one = state g.S.Store c.take_waiting.new.tx.conn.now in
     let two = state g.S.Store c.take_waiting-2.new.tx.conn.now in
@@ -17,8 +17,8 @@ returns-clause-put g c clean ws it =
     let p = place_of to_send n in
     let q = place_of to_hear n in
     let r = place_of to_end n in
-    let first = rw c.place_of.ensures.place at c.in_ok-take_waiting.ensures.put was_one ws it in
+    let first = rw c.place_of.ensures.place at c.in_ok-take_waiting.ensures.put was_one way ws it in
     let held = still_held old one p ws it first in
-    let second = rw c.place_of-2.ensures.place at c.in_ok-take_waiting-2.ensures.put was_two (not_at p ws) held in
-    let third = rw c.place_of-3.ensures.place at c.in_ok-take_waiting-3.ensures.put clean (not_at q (not_at p ws)) (still_held one two q (not_at p ws) held second) in
-    taken_then old one two new _ _ _ first second third
+    let second = rw c.place_of-2.ensures.place at c.in_ok-take_waiting-2.ensures.put was_two way (not_at p ws) held in
+    let third = rw c.place_of-3.ensures.place at c.in_ok-take_waiting-3.ensures.put clean way (not_at q (not_at p ws)) (still_held one two q (not_at p ws) held second) in
+    taken_then way old one two new _ _ _ first second third

@@ -8,7 +8,7 @@ use Rattle.as2_store.proofs.WaitingPlaces.{takes_waiting}
 use Rattle.as2_store.proofs.waiting.take_waiting.Goals as goal
 
 pub returns-clause-put : goal.returns-clause-put
-returns-clause-put g c clean ws it =
+returns-clause-put g c clean way ws it =
     let old = state g.S.Store c.args.tx.now.conn.now in
     let new = state g.S.Store c.execute.new.self.conn.now in
     let ran = (made g.S.Store _ _ c.args.tx.now.conn.now c.execute.new.self.conn.now c.execute.result _ c.execute.ensures.ended (c.execute.ensures.runs clean) c.in_ok-execute.field-0 c.in_ok-execute.was).2 in

@@ -1,8 +1,10 @@
 use Rattle.std.proofs.Common.{◌≡◌, true, Some, sym, subst}
 use Rattle.as2_exchange.specs.declared.event.Event.TheVariants as event
 use Rattle.as2_station.proofs.ByHistory.{takes_event}
+use Rattle.as2_station.proofs.Doing.{by_state}
 use Rattle.as2_station.specs.Steps.{Does, TakesEvent, always}
 use Rattle.as2_exchange.specs.Documents.{closed}
+use Rattle.as2_exchange.specs.State.{AllDigests, Digests}
 use Rattle.as2_exchange.specs.OwedReceipts.{mdn_closed}
 use Rattle.as2_exchange.specs.Step.{on_document, on_received}
 use Rattle.as2_exchange.specs.declared.next.Next.{Next}
@@ -32,7 +34,8 @@ returns-in-Document g c = record {
       let new = g.R.Records.shows c.close.new.records in
       subst (λ (w : Next). TakesEvent A (outcome_of w c.args.answer m) said_to_outcome (g.R.Records.shows c.args.self.now) new c.close.result) (sym c.in-Document.is)
       (takes_event A (event.Outcome n c.args.answer m) said_to_outcome _ new c.close.result
-      (subst (λ (h : g.row.R.Denot). Does (λ s. Some (on_document s n (closed A c.args.answer m))) always (true ≡ true) said_to_outcome (g.R.Records.shows h) new c.close.result) c.self.view_is c.close.ensures.taken)
+      (by_state (λ (known : Digests) s. Some (on_document s n (closed A known c.args.answer m))) always (true ≡ true) said_to_outcome _ new c.close.result
+      (subst (λ (h : g.row.R.Denot). Does (λ s. Some (on_document s n (closed A AllDigests c.args.answer m))) always (true ≡ true) said_to_outcome (g.R.Records.shows h) new c.close.result) c.self.view_is c.close.ensures.taken))
       (g.met.R.Records.rests_last c.close.new.records)
       (λ head body moment is. absurd (let other = is in cc)));
 }
