@@ -56,6 +56,8 @@ fn say_kept(pieces: &Pieces, answer: &mut Answer) {
     answer.say_bytes(mic_of_pieces(Alg::Sha1, pieces).bytes());
     answer.say(", ");
     answer.say_bytes(mic_of_pieces(Alg::Md5, pieces).bytes());
+    answer.say(", ");
+    answer.say_bytes(mic_of_pieces(Alg::Sha256, pieces).bytes());
     if pieces.piece(count).is_some() {
         answer.say(", and more");
     }
@@ -76,7 +78,7 @@ fn say_kept_in_steps(content: &[u8], step: &str, answer: &mut Answer) {
 }
 
 /// `keep-content STEP .. | CONTENT`: what is kept of a content that is appended in such steps: how many bytes and pieces, and how many
-/// bytes in the last of these, and its MICs by SHA-1 and by MD5.
+/// bytes in the last of these, and its MICs by SHA-1, by MD5 and by SHA-256.
 fn keep_content(rest: &str, answer: &mut Answer) {
     let (steps, content) = answer.two_words(rest);
     let content = content_of(content, answer);
