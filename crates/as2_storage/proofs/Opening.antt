@@ -15,11 +15,12 @@ use Rattle.sqlite.specs.State.{State as Connected, Opens, IsLive}
 use Rattle.sqlite.specs.Held.{Held}
 use Rattle.sqlite.specs.Closing.{IsCopied}
 use Rattle.sqlite.specs.Files.{file_state, HoldsDatabase}
-use Rattle.as2_exchange.specs.State.{State}
+use Rattle.as2_exchange.specs.State.{State, known_digests}
 use Rattle.as2_store.specs.Calls.{Keeps}
 use Rattle.as2_store.specs.Files.{HoldsState}
-use Rattle.as2_store.specs.Stands.{IsWhole, Rests, Stands}
+use Rattle.as2_store.specs.Stands.{IsWhole, Holds, Rests}
 use Rattle.as2_store.specs.Tables.{store_schema}
+use Rattle.as2_store.proofs.Committing.{keeps_of}
 use Rattle.as2_storage.specs.Files.{AreClosed}
 
 -- ---- an open
@@ -27,13 +28,15 @@ use Rattle.as2_storage.specs.Files.{AreClosed}
 -- trees that stand for a state, with the tables that they list, are the whole of what a new connection shows
 pub rests_kept : (new : Connected) (s : State) → Opens new → IsLive new → Keeps new.committed.trees s → Rests new s
 unfolding IsWhole
-rests_kept new s opens live kept =
-    let schema : new.committed.schema ≡ store_schema = lists_once (new.committed.trees catalog_tree) new.committed.schema store_schema (live opens.is_open).1.lists kept.sound.lists in
-    let again : new.committed ≡ record { schema = store_schema; trees = new.committed.trees } = ap (λ (x : Schema). let d : Database = record { schema = x; trees = new.committed.trees } in d) schema in
+rests_kept new s opens live it =
+    let listed = store_schema it.way in
+    let schema : new.committed.schema ≡ listed = lists_once (new.committed.trees catalog_tree) new.committed.schema listed (live opens.is_open).1.lists it.stands.sound.lists in
+    let again : new.committed ≡ record { schema = listed; trees = new.committed.trees } = ap (λ (x : Schema). let d : Database = record { schema = x; trees = new.committed.trees } in d) schema in
     record {
       autocommit = opens.autocommit;
-      stands = λ _. subst (λ (d : Database). Stands d s) (sym (opens.clean ∙ again)) kept;
+      stands = λ _. subst (λ (d : Database). Holds d s) (sym (opens.clean ∙ again)) (record { way = it.way; stands = it.stands });
       committed = λ _. sym opens.clean;
+      knows = ap known_digests it.stands.version.version_is;
     }
 
 -- a connection that has just opened on what the files held
@@ -46,10 +49,7 @@ rests_held new image s opens live found held =
 
 -- what is committed over an open connection stands for its state
 pub kept : (c : Connected) (s : State) → IsTrue c.is_open → Rests c s → Keeps c.committed.trees s
-kept c s opened r =
-    let stands = r.stands opened in
-    let same : c.now ≡ record { schema = store_schema; trees = c.now.trees } = ap (λ (x : Schema). let d : Database = record { schema = x; trees = c.now.trees } in d) stands.schema in
-    subst (λ (d : Database). Keeps d.trees s) (sym (r.committed opened)) (subst (λ (d : Database). Stands d s) same stands)
+kept c s opened r = subst (λ (d : Database). Keeps d.trees s) (sym (r.committed opened)) (keeps_of c.now s (r.stands opened))
 
 pub closed : {D : Type 0} {g : disk.Ghosts D} (c : Held (FileStore D g)) (files : Files D) (s : State) → IsCopied c files → Rests (file_state c) s → AreClosed g files s
 closed c files s it r =
