@@ -151,7 +151,8 @@ def kill(given, made, turn, wait, counts):
     version = version_of(given.release, given.program, turn, made.seen)
     if is_told and version != 3:
         raise Wrong("a migration that was told is undone")
-    counts[f"left in version {version}" + (", told" if is_told else "")] += not has_ended
+    if not has_ended:
+        counts[f"left in version {version}" + (", told" if is_told else "")] += 1
     again = run(given.program, turn, "migrate")
     if not (is_done(again, given) if version == 1 else is_refused(again)):
         raise Wrong(f"a further migration says {again}")
