@@ -164,7 +164,7 @@ module _ {X : Type 0} (row : X → Row) where
       ∙ sym (map-map f (λ (y : ℤ × X). y.1) it.0)
       ∙ ap (map f) (sym it.2) in
       let all : IsPermutation (map f xs) sources =
-      IsPermutation-trans _ _ _ (subst (λ l. IsPermutation l (map (shown_of project []) (db tree))) shown (IsPermutation-map (shown_of project []) _ _ (IsPermutation-sym _ _ it.1))) (subst (λ l. IsPermutation (map (shown_of project []) l) sources) (every (db tree)) same) in
+      IsPermutation-trans (map f xs) (map (shown_of project []) (db tree)) sources (subst (λ l. IsPermutation l (map (shown_of project []) (db tree))) shown (IsPermutation-map (shown_of project []) _ _ (IsPermutation-sym _ _ it.1))) (subst (λ l. IsPermutation (map (shown_of project []) l) sources) (every (db tree)) same) in
       let cast = λ (s : Row). cast_row table (drop 0 s) in
       let kept : map cast (map f xs) ≡ map f xs = map-map cast f xs ∙ map_same (λ (x : X). cast (f x)) f casts xs in
       let news : IsPermutation (map f xs) (map cast sources) = subst (λ l. IsPermutation l (map cast sources)) kept (IsPermutation-map cast _ _ all) in
@@ -177,5 +177,5 @@ module _ {X : Type 0} (row : X → Row) where
         numbered = there.numbered;
         rows_are = there.rows_are;
         rise = there.rise;
-        columns = IsPermutation-trans _ _ _ there.columns (IsPermutation-map row _ _ (IsPermutation-sym _ _ back.1));
+        columns = IsPermutation-trans (map (λ (r : ℤ × Row). r.1) there.numbered) (map row back.0) (map row xs) there.columns (IsPermutation-map row _ _ (IsPermutation-sym _ _ back.1));
       }

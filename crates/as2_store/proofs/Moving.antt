@@ -15,10 +15,10 @@ use Rattle.sql_tables.specs.Changes.{IsOutside}
 use Rattle.sql_tables.proofs.Inside.{shown_open, shown_same}
 use Rattle.as2_exchange.specs.State.{State}
 use Rattle.as2_exchange.specs.declared.fault.StoreFault.{StoreFault}
-use Rattle.as2_exchange.specs.declared.fault.StoreFault.TheVariants.{NotAStore}
+use Rattle.as2_exchange.specs.declared.fault.StoreFault.TheVariants.{Memory, Disk, Refused, Full, NotAStore, OtherVersion}
 use Rattle.as2_records.specs.Standing.{may_come}
 use Rattle.as2_store.specs.Calls.{IsInside, Keeps, KeepsNext}
-use Rattle.as2_store.specs.Migrating.{CommitsMigrated, IsMigrationReason, IsNext, Migrates, RestsAs, migrated_from, migration_fault}
+use Rattle.as2_store.specs.Migrating.{CommitsMigrated, IsMigrationReason, IsNext, Migrates, RestsAs, is_full, migrated_from, migration_fault}
 use Rattle.as2_store.specs.Stands.{MetaSays, Stands}
 use Rattle.as2_store.specs.Tables.{Layout, VersionOne, VersionTwo, VersionThree, behind_meta, indexes_of, number_of}
 use Rattle.as2_store.proofs.Committing.{keeps_of}
@@ -85,12 +85,21 @@ migrates g old mid last end rows version next inside survives was_mid shows told
 
 -- ---- why tables aren't migrated
 
+never_full : (f : StoreFault) → may_come f ≡ true → is_full f ≡ false
+never_full Memory is = refl
+never_full Disk is = refl
+never_full Refused is = refl
+never_full Full is = absurd cc
+never_full NotAStore is = refl
+never_full OtherVersion is = refl
+
 pub any_fault : (old : Connected) (f : StoreFault) → may_come f ≡ true → IsMigrationReason old f
-any_fault old f is = record { of_earlier = λ layout s next r to. is; of_row = λ kind version it. inl is; of_blank = λ blank. inl is }
+any_fault old f is = record { not_full = never_full f is; of_earlier = λ layout s next r to. is; of_row = λ kind version it. inl is; of_blank = λ blank. inl is }
 
 pub unread_row : {S : Type 0} (g : Ghosts S) (old : Held S) (mid : Connected) (e : Error) (f : StoreFault) → FailsToQuery meta_read_text [] (state g (record old { in_transaction = true })) mid e ⊎ IsTooLate meta_read_text [] (state g (record old { in_transaction = true })) mid e
     → (IsOutside e → may_come f ≡ true) → (may_come f ≡ true) ⊎ (f ≡ NotAStore) → IsMigrationReason (state g old) f
 unread_row g old mid e f failed outside known = record {
+  not_full = elim known [ inl comes ↦ never_full f comes | inr none ↦ ap is_full none ];
   of_earlier = λ layout s next r to. elim (fails_by g old mid e failed) [ inl out ↦ outside out | inr opened ↦ outside (row_fails g old mid e failed (codes "as2-station") (number_of layout) (says_of layout (state g old) s (r.stands opened))) ];
   of_row = λ kind version it. inl (outside (row_fails g old mid e failed kind version it));
   of_blank = λ blank. known;
@@ -104,6 +113,7 @@ tables_said c kind version it none = let same = sym (ap (λ (k : Schema). k.tabl
 
 pub no_tables : (old : Connected) → IsTrue old.is_open → old.now.schema.tables ≡ [] → IsMigrationReason old NotAStore
 no_tables old opened none = record {
+  not_full = refl;
   of_earlier = λ layout s next r to. absurd (tables_of layout old s (r.stands opened) none);
   of_row = λ kind version it. absurd (tables_said old kind version it none);
   of_blank = λ blank. inr refl;
@@ -121,12 +131,13 @@ pub says_in : (slice rows : List Row) (f : StoreFault) → slice ≡ rows → (m
 says_in slice rows f same it = subst (λ (l : List Row). (may_come f ≡ true) ⊎ ((kind : List ℕ) (version n m : ℕ) → l ≡ meta_cells kind version n m ∷ [] → migration_fault kind version ≡ Some f)) same it
 
 pub row_says : {S : Type 0} (g : Ghosts S) (old : Held S) (mid : Connected) (rows : List Row) (f : StoreFault) → Shown meta_read_text [] (state g (record old { in_transaction = true })) mid rows
-    → (may_come f ≡ true) ⊎ ((kind : List ℕ) (version n m : ℕ) → rows ≡ meta_cells kind version n m ∷ [] → migration_fault kind version ≡ Some f) → ((state g old).now.schema.tables ≡ [] → ⊥) → IsMigrationReason (state g old) f
-row_says g old mid rows f shown (inl is) tables = any_fault (state g old) f is
-row_says g old mid rows f shown (inr says) tables =
+    → (may_come f ≡ true) ⊎ ((kind : List ℕ) (version n m : ℕ) → rows ≡ meta_cells kind version n m ∷ [] → migration_fault kind version ≡ Some f) → is_full f ≡ false → ((state g old).now.schema.tables ≡ [] → ⊥) → IsMigrationReason (state g old) f
+row_says g old mid rows f shown (inl is) known tables = any_fault (state g old) f is
+row_says g old mid rows f shown (inr says) known tables =
     let opened = shown_open meta_read_text [] (state g (record old { in_transaction = true })) mid rows shown in
     let said = λ (kind : List ℕ) (version : ℕ) (it : MetaSays (state g old) kind version). says kind version it.next_receipt it.next_document (row_shown g old mid rows shown kind version it) in
     record {
+      not_full = known;
       of_earlier = λ layout s next r to.
           let some = said (codes "as2-station") (number_of layout) (says_of layout (state g old) s (r.stands opened)) in
           absurd (some_none f (sym some ∙ none_said layout s next to));

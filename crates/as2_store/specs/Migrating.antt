@@ -1,5 +1,5 @@
 -- Tables of an earlier version become those of the version that is read.
-use Rattle.std.specs.Prelude.{◌≡◌, ◌⊎◌, ℕ, ◌==◌, ◌||◌, true, false, if◌then◌else◌, List, [], ◌∷◌, ◌++◌, map, codes, bytes_eq, Option, Some, None, IsTrue}
+use Rattle.std.specs.Prelude.{◌≡◌, ◌⊎◌, ℕ, ◌==◌, ◌||◌, Bool, true, false, if◌then◌else◌, List, [], ◌∷◌, ◌++◌, map, codes, bytes_eq, Option, Some, None, IsTrue}
 use Rattle.sqlite_trees.specs.Tree.{Trees}
 use Rattle.sqlite.specs.Schema.{Schema}
 use Rattle.sqlite.specs.Effect.{Database}
@@ -8,7 +8,7 @@ use Rattle.as2_exchange.specs.Invariants.{IsCounter, AreNumbers}
 use Rattle.as2_exchange.specs.Run.{migrated}
 use Rattle.as2_exchange.specs.State.{State}
 use Rattle.as2_exchange.specs.declared.fault.StoreFault.{StoreFault}
-use Rattle.as2_exchange.specs.declared.fault.StoreFault.TheVariants.{NotAStore, OtherVersion}
+use Rattle.as2_exchange.specs.declared.fault.StoreFault.TheVariants.{Full, NotAStore, OtherVersion}
 use Rattle.as2_records.specs.Standing.{may_come}
 use Rattle.as2_rows.specs.Contents.{piece_shown}
 use Rattle.as2_rows.specs.Rows.{in_row}
@@ -49,9 +49,14 @@ pub record Migrates (old new : Connected) : Type 0 where
   pub no_blank : HasCleanDisk new → ¬ IsBlank old
   pub crash : Survives old new (CommitsMigrated old)
 
--- why tables aren't migrated: of a store of an earlier version, a fault that may come from any call; else what the row of `meta` says,
+abbrev pub is_full : StoreFault → Bool
+is_full Full = true
+is_full other = false
+
+-- why tables aren't migrated: never that numbers are used up; of a store of an earlier version, a fault that may come from any call; else what the row of `meta` says,
 -- where it can be read; and a database without tables is no store
 pub record IsMigrationReason (old : Connected) (f : StoreFault) : Type 0 where
+  pub not_full : is_full f ≡ false
   pub of_earlier : (layout : Layout) (s state : State) → RestsAs layout old s → migrated_from layout s ≡ Some state → may_come f ≡ true
   pub of_row : (kind : List ℕ) (version : ℕ) → MetaSays old kind version → (may_come f ≡ true) ⊎ (migration_fault kind version ≡ Some f)
   pub of_blank : IsBlank old → (may_come f ≡ true) ⊎ (f ≡ NotAStore)

@@ -9,7 +9,7 @@ ghost use Rattle.as2_exchange.specs.State.{State};
 ghost use Rattle.as2_records.specs.Standing.{IsCounted, may_come};
 ghost use Rattle.as2_rows.specs.Rows.{whole};
 ghost use Rattle.as2_store.specs.Calls.{IsGivenBack, IsInside};
-ghost use Rattle.as2_store.specs.Migrating.{CommitsMigrated, IsBeside, IsCopied, IsInboxBeside, IsMigrationReason, IsMoved, IsNearly, IsNext, Migrates, StandsBut, migration_fault};
+ghost use Rattle.as2_store.specs.Migrating.{CommitsMigrated, IsBeside, IsCopied, IsInboxBeside, IsMigrationReason, IsMoved, IsNearly, IsNext, Migrates, StandsBut, is_full, migration_fault};
 ghost use Rattle.as2_store.specs.Stands.{Stands};
 ghost use Rattle.as2_store.specs.Tables.{Layout, Migrated, VersionOne, VersionThree, VersionTwo, Way, number_of};
 
@@ -132,6 +132,7 @@ struct Earlier {
 fn told(rows: &[Row]) -> Result<Earlier, StoreFault>
     ensures told { IfOk result (λ it. (it.next < 2 ^ 63) × ((kind : List ℕ) (version n m : ℕ) → rows.now ≡ (Text kind ∷ whole version ∷ whole n ∷ whole m ∷ []) ∷ []
         → (migration_fault kind version ≡ None) × (version ≡ (if it.is_first then 1 else 2)) × (it.next ≡ n))) }
+    ensures not_full { IfErr result (λ f. is_full f ≡ false) }
     ensures fault { IfErr result (λ f. (may_come f ≡ true) ⊎ ((kind : List ℕ) (version n m : ℕ) → rows.now ≡ (Text kind ∷ whole version ∷ whole n ∷ whole m ∷ []) ∷ [] → migration_fault kind version ≡ Some f)) }
 {
     let [row] = rows else {

@@ -10,7 +10,7 @@ use Rattle.as2_store.proofs.TransactionEnds.{undone}
 use Rattle.as2_store.proofs.Committing.{inside_then}
 use Rattle.as2_store.proofs.Querying.{queried_inside}
 use Rattle.as2_store.proofs.HandedBack.{gives_back}
-use Rattle.as2_store.proofs.Moving.{migrates, moved_commits, moves_each, no_tables, row_says, says_in, unread_row, MovesEach, Tells}
+use Rattle.as2_store.proofs.Moving.{any_fault, migrates, moved_commits, moves_each, no_tables, row_says, says_in, unread_row, MovesEach, Tells}
 use Rattle.as2_store.proofs.migrating.migrate.Goals as goal
 
 pub returns-in-Err-clause-given_back : goal.returns-in-Err-clause-given_back
@@ -64,7 +64,7 @@ returns-in-Err-told-clause-reason g c clean =
     let mid = state g.S.Store c.query_all.new.self.conn.now in
     let was : HasCleanDisk mid = search rules in
     row_says g.S.Store c.args.conn.now mid c.in-Ok.rows.items c.in-Err-told.fault (rw c.transaction-tx.ensures.begun at (c.in-Ok.ensures.ok was)) (says_in c.deref.result.now c.in-Ok.rows.items c.in-Err-told.fault c.deref.ensures.value c.in-Err-told.ensures.fault)
-    (λ none. let some = c.if-is_bare.ensures.1 (ap (λ (k : Schema). k.tables) c.schema.ensures.value ∙ none) in cc)
+    c.in-Err-told.ensures.not_full (λ none. let some = c.if-is_bare.ensures.1 (ap (λ (k : Schema). k.tables) c.schema.ensures.value ∙ none) in cc)
 
 pub returns-in-Err-move_tables-clause-given_back : goal.returns-in-Err-move_tables-clause-given_back
 returns-in-Err-move_tables-clause-given_back g c =
@@ -116,3 +116,9 @@ returns-clause-given_back g c =
     subst (λ h. IsGivenBack (CommitsMigrated (state g.S.Store old)) (state g.S.Store old) (state g.S.Store h)) same
     (gives_back g.S.Store old last end (λ db. db ≡ last.now.trees) _ (inside_then begun mid last inside c.move_tables.ensures.within) c.commit.ensures.survives (λ clean. moved_commits g.S.Store old last (each clean)) c.commit.ensures.ended
     (λ late. undone last (state g.S.Store end) _ (c.in-Ok-move_tables.ensures.inside (was late)) (c.in-Err-commit.ensures.err late)))
+
+pub returns-in-Err-move_tables-clause-reason : goal.returns-in-Err-move_tables-clause-reason
+returns-in-Err-move_tables-clause-reason g c clean = any_fault _ _ c.fault_of.ensures.may_come
+
+pub returns-clause-reason : goal.returns-clause-reason
+returns-clause-reason g c clean = any_fault _ _ c.fault_of-2.ensures.may_come
