@@ -38,4 +38,8 @@ mod Unsettled
 mod SetTables
 mod PassedDocuments
 mod PassedTables
+mod Copying
+mod MigrationTexts
+mod MigratedTables
+mod Moving
 pub mod Single

@@ -75,7 +75,7 @@ reads_said old new rows h kind version it =
     one_permutation (meta_cells kind version it.next_receipt it.next_document) rows (subst (λ l. IsPermutation (map (shown_of meta_columns []) (chosen [] [] l)) rows) it.meta all)
 
 -- the tables of a store say its kind and its version
-pub says_of : (layout : Layout) (c : Connected) (s : State) → Stands layout c.now s → MetaSays c (codes "as2-station") (number_of layout)
+unfoldable pub says_of : (layout : Layout) (c : Connected) (s : State) → Stands layout c.now s → MetaSays c (codes "as2-station") (number_of layout)
 says_of layout c s it = record {
   next_receipt = s.next_in;
   next_document = s.next_out;

@@ -13,3 +13,4 @@ pub mod Resending
 pub mod Expiring
 pub mod Counting
 pub mod Files
+pub mod Migrating

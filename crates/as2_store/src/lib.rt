@@ -16,6 +16,7 @@ mod fault;
 mod inbox;
 mod laws;
 mod listing;
+mod migrating;
 mod numbers;
 mod origin;
 mod outbox;

@@ -82,11 +82,7 @@ fn mark<S: Alter>(tx: &mut Transaction<'_, S>, number: u64) -> Result<(), Error>
 }
 
 /// Readies the document of this number to be given so many tries.
-pub fn ready<S: Alter>(
-    tx: &mut Transaction<'_, S>,
-    number: u64,
-    tries: u64,
-) -> Result<(), Error>
+pub fn ready<S: Alter>(tx: &mut Transaction<'_, S>, number: u64, tries: u64) -> Result<(), Error>
     requires number { number < 2 ^ 63 }
     requires begun { HasCleanDisk (state S.Store tx.old.conn.now) → IsTrue (state S.Store tx.old.conn.now).in_transaction }
     ensures same_reference { tx.new.conn.ghost_name ≡ tx.old.conn.ghost_name }

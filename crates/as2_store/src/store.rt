@@ -14,6 +14,7 @@ ghost use Rattle.as2_store.specs.Calls.{Adopts, Commits, CommitsFirst, Creates, 
 ghost use Rattle.as2_store.specs.Expiring.{AreTicked};
 ghost use Rattle.as2_records.specs.Expiring.{ticked_in};
 ghost use Rattle.as2_store.specs.Finding.{evidence_at};
+ghost use Rattle.as2_store.specs.Migrating.{CommitsMigrated, IsMigrationReason, Migrates};
 ghost use Rattle.as2_records.specs.Finding.{AreNext, IsPostedAs};
 ghost use Rattle.as2_records.specs.Owing.{set_mdn_in};
 ghost use Rattle.as2_records.specs.Progressing.{set_out_in};
@@ -33,6 +34,7 @@ use crate::entries::shown_entry;
 use crate::expiring::expire;
 use crate::fault::fault_of;
 use crate::inbox::rows_by_key;
+use crate::migrating::migrate;
 use crate::numbers::{fits, fits_mdn, fits_progress};
 use crate::origin::{origin_in, origin_rows};
 use crate::outbox::rows_by_id;
@@ -98,6 +100,21 @@ impl<S: Alter> Store<S> {
         ensures reason { IfErr result (λ e. HasCleanDisk (state S.Store e.0) → IsReason (state S.Store conn) e.1) }
     {
         match check(&mut conn) {
+            Ok(()) => Ok(Store { conn }),
+            Err(fault) => Err((conn, fault)),
+        }
+    }
+
+    /// Takes a connection whose tables are those of a store of version 1 or 2, and makes them those of version 3, in one transaction.
+    /// Answers NotAStore where the table `meta` can't be read, or doesn't hold one row with the kind of a store; OtherVersion where its
+    /// version isn't 1 or 2; Memory, Disk or Refused; and then the tables are as they were.
+    pub fn migrate(mut conn: Connection<S>) -> Result<Store<S>, (Connection<S>, StoreFault)>
+        requires autocommit { conn.in_transaction ≡ false }
+        ensures migrated { IfOk result (λ store. Migrates (state S.Store conn) (state S.Store store)) }
+        ensures given_back { IfErr result (λ e. IsGivenBack (CommitsMigrated (state S.Store conn)) (state S.Store conn) (state S.Store e.0)) }
+        ensures reason { IfErr result (λ e. HasCleanDisk (state S.Store e.0) → IsMigrationReason (state S.Store conn) e.1) }
+    {
+        match migrate(&mut conn) {
             Ok(()) => Ok(Store { conn }),
             Err(fault) => Err((conn, fault)),
         }

@@ -1,0 +1,181 @@
+-- INSERT of what a query over another table shows, into a table without rows.
+use Rattle.std.proofs.Common.{◌≡◌, ◌≢◌, ◌∙◌, ℕ, ℤ, pos, ◌<◌, List, [], ◌∷◌, ◌++◌, map, drop, slice_get, Bool, false, cond, Some, Ok, refl, sym, ap, subst, IsPermutation, negsuc, append_assoc, append-nil}
+use Rattle.std.specs.List.{AllByRecursion}
+use Rattle.std.proofs.lemmas.List.Sorted.{IsPermutation-sym, IsPermutation-trans, IsPermutation-map}
+use Rattle.sqlite.specs.declared.types.Value.TheVariants.{Null, Int}
+use Rattle.sqlite.specs.Cast.{cast_row}
+use Rattle.sqlite.specs.Command.TheVariants.{Insert}
+use Rattle.sqlite.specs.Edit.{edit_of, next_rowid, numbered, put_all, with_rowid, Applies}
+use Rattle.sqlite.specs.Effect.{Answers, Database}
+use Rattle.sqlite.specs.Listing.{understood}
+use Rattle.sqlite.specs.Collation.{Collation}
+use Rattle.sqlite.specs.Order.{Row}
+use Rattle.sqlite.specs.Query.{IsSureAnswer}
+use Rattle.sqlite.specs.Rowids.{Rowids}
+use Rattle.sqlite.specs.Rowids.TheVariants.{Chosen}
+use Rattle.sqlite.specs.Rows.{Written, count_of, rowids_for, stamped}
+use Rattle.sqlite.specs.Schema.{Schema}
+use Rattle.sqlite.specs.Source.TheVariants.{Query}
+use Rattle.sqlite.specs.State.{State as Connected, Executes}
+use Rattle.sqlite.specs.Table.{Table}
+use Rattle.sqlite.specs.Term.{Term, lit}
+use Rattle.sqlite.specs.Tree.{Trees, put_row, rowid, IsAscending}
+use Rattle.sqlite.proofs.Callers.{IsPlain, command_of, one_step}
+use Rattle.sqlite_schema.specs.declared.program.Program.{Program}
+use Rattle.sqlite_schema.specs.declared.schema.Keys.TheVariants.{Enforced}
+use Rattle.sqlite_schema.specs.Rules.{Fits}
+use Rattle.sqlite_sql.specs.Ops.{is_null}
+use Rattle.sqlite_value.specs.declared.keys.Key.{Key}
+use Rattle.sqlite_trees.proofs.ListLemmas.{all-append, map-map, pull_back}
+use Rattle.sql_tables.specs.Changes.{Changed, HasRows, chosen, numbered_row, over_table, shown_of}
+use Rattle.sql_tables.proofs.Queries.{map_same}
+use Rattle.sql_tables.proofs.Sorting.{no_rows, one_more_row}
+use Rattle.sql_tables.proofs.Writes.{no_works, ran_insert, same_value, unless, went}
+use Rattle.as2_store.proofs.NumberedRows.{puts_between}
+
+-- the query that shows all rows of a table; it compares none, so the collations say nothing
+abbrev pub copy_of : ℕ → List Term → List (Term × Key) → List Collation → Program
+copy_of tree project order by = record { lets = []; body = record (over_table tree [] project order (lit (Int (negsuc 0)))) { collations = by } }
+
+pub none_compared : (tree : ℕ) (project : List Term) (order : List (Term × Key)) (by : List Collation) (db : Trees) (params : Row) (rows : List Row)
+    → IsSureAnswer (record (over_table tree [] project order (lit (Int (negsuc 0)))) { collations = by }) db params rows → IsSureAnswer (over_table tree [] project order (lit (Int (negsuc 0)))) db params rows
+none_compared tree project order by db params rows sure lost =
+    let a = sure lost in
+    record { staged = a.staged; grouped = a.grouped; kept = a.kept; distinct = a.distinct; ordered = a.ordered; same = a.same; sorted = a.sorted; shown = a.shown }
+
+-- ---- the statement
+
+both_false : (b c : Bool) → b ≡ false → cond b c false ≡ false
+both_false b c e = rw e
+
+chosen_for : (table : Table) (top : ℤ) → table.is_counted ≡ false → rowids_for table top ≡ Chosen
+chosen_for table top e = rw e
+
+module _ (sql : List ℕ) (old new : Connected) (schema : Schema) (has : old.now.schema ≡ schema) (at : ℕ) (table : Table) (place : slice_get schema.tables at ≡ Some table)
+    (uncounted : table.is_counted ≡ false) (unstamped : stamped table [] ≡ []) (q : Program) where
+  -- the rows that the query shows, and the edit that puts them in
+  pub record Copied : Type 0 where
+    pub sources : List Row
+    pub answers : Answers (record { schema = schema; trees = old.now.trees }) q [] sources
+    pub changed : (rows : List Row) → put_all (old.now.trees table.tree) (numbered Chosen (old.now.trees table.tree) (map (λ s. cast_row table (drop 0 s)) sources)) ≡ rows → Changed old new schema table.tree rows
+
+  pub copies : command_of (understood schema sql) ≡ Insert at (Query q) → IsPlain (understood schema sql) → (count : ℕ) → Executes sql [] old new (Ok count) → Copied
+  copies is plain count h =
+      let db = old.now.trees in
+      let it = ran_insert sql [] old new schema has at table place (Query q) is plain count h in
+      let given = went it.ran in
+      let counter = went given.2 in
+      let edit = went counter.2 in
+      let counts = went edit.2 in
+      let top = count_of counter.0 in
+      let E = λ (k : Rowids). edit_of db table [] k 0 given.0 in
+      let does = one_step schema Enforced db edit.0 (E (rowids_for table top)) (no_works schema Enforced table.tree (E (rowids_for table top)).news) edit.1 in
+      let done : Applies schema Enforced db (E Chosen) edit.0 = subst (λ k. Applies schema Enforced db (E k) edit.0) (chosen_for table top uncounted) does in
+      let mid : counts.0 ≡ edit.0 = same_value (unless _ _ _ (both_false table.is_counted _ uncounted) counts.1) in
+      let trees : it.written.trees ≡ edit.0 = ap (λ (w : Written). w.trees) (same_value counts.2) ∙ mid in
+      let now = ap (λ (d : Database). d.trees) it.now_is ∙ trees in
+      record {
+        sources = given.0;
+        answers = subst (λ params. Answers (record { schema = schema; trees = db }) q params given.0) unstamped given.1;
+        changed = λ rows leads. record {
+          schema_is = ap (λ (d : Database). d.schema) it.now_is;
+          rows_are = ap (λ (t : Trees). t table.tree) now ∙ done.rows ∙ leads;
+          others = subst (λ (t : Trees). AllByRecursion (λ u. u.tree ≢ table.tree → t u.tree ≡ db u.tree) schema.tables) (sym now) done.tables;
+          fits = subst (λ t. Fits schema t) (sym now) done.fits;
+          sound = it.sound;
+          shown = it.shown;
+          marks = it.marks;
+        };
+      }
+
+-- ---- rows with their numbers, in order
+
+with_given : (rows : List Row) (row : Row) → is_null (rowid row) ≡ false → with_rowid Chosen rows row ≡ row
+with_given rows row given = rw given
+
+module _ {X : Type 0} (row : X → Row) (number : X → ℕ) (keyed : (x : X) → rowid (row x) ≡ Int (pos (number x))) where
+  all_given : (rows : List Row) (xs : List X) → numbered Chosen rows (map row xs) ≡ map row xs
+  all_given rows [] = refl
+  all_given rows (x ∷ xs) =
+      let one = with_given rows (row x) (ap is_null (keyed x)) in
+      ap (λ r. r ∷ numbered Chosen (put_row r rows) (map row xs)) one ∙ ap (λ l. row x ∷ l) (all_given (put_row (row x) rows) xs)
+
+  puts_behind : (ys xs : List X) → AllByRecursion (λ y. AllByRecursion (λ x. number y < number x) xs) ys → IsAscending (λ x y. number x < number y) xs → put_all (map row ys) (map row xs) ≡ map row (ys ++ xs)
+  puts_behind ys [] low up = ap (map row) (sym (append-nil ys))
+  puts_behind ys (x ∷ xs) low up =
+      ap (λ l. put_all l (map row xs)) (ap (λ l. put_row (row x) (map row l)) (sym (append-nil ys)) ∙ puts_between row number keyed x ys [] (firsts ys low) tt)
+      ∙ puts_behind (ys ++ x ∷ []) xs (all-append (λ y. AllByRecursion (λ z. number y < number z) xs) ys (x ∷ []) (rests ys low) (up.0, tt)) up.1
+      ∙ ap (map row) (append_assoc ys (x ∷ []) xs)
+    where
+      firsts : (ys : List X) → AllByRecursion (λ y. AllByRecursion (λ z. number y < number z) (x ∷ xs)) ys → AllByRecursion (λ y. number y < number x) ys
+      firsts [] all = tt
+      firsts (y ∷ ys) all = (all.0.0, firsts ys all.1)
+
+      rests : (ys : List X) → AllByRecursion (λ y. AllByRecursion (λ z. number y < number z) (x ∷ xs)) ys → AllByRecursion (λ y. AllByRecursion (λ z. number y < number z) xs) ys
+      rests [] all = tt
+      rests (y ∷ ys) all = (all.0.1, rests ys all.1)
+
+  pub puts_in_order : (rows : List Row) (xs : List X) → rows ≡ [] → IsAscending (λ x y. number x < number y) xs → put_all rows (numbered Chosen rows (map row xs)) ≡ map row xs
+  puts_in_order rows xs none up = ap (λ l. put_all l (numbered Chosen l (map row xs))) none ∙ ap (put_all []) (all_given [] xs) ∙ puts_behind [] xs tt up
+
+-- ---- rows whose numbers are chosen
+
+puts_chosen : (rows : List Row) (cs shown : List Row) → HasRows rows shown → HasRows (put_all rows (numbered Chosen rows (map (λ c. Null ∷ c) cs))) (shown ++ cs)
+puts_chosen rows [] shown has = subst (HasRows rows) (sym (append-nil shown)) has
+puts_chosen rows (c ∷ cs) shown has =
+    let next = put_row (Int (next_rowid rows) ∷ c) rows in
+    subst (HasRows (put_all next (numbered Chosen next (map (λ c. Null ∷ c) cs)))) (append_assoc shown (c ∷ []) cs) (puts_chosen next cs (shown ++ c ∷ []) (one_more_row rows shown c has))
+
+-- the entries that rows in some order are of
+module _ {X : Type 0} (row : X → Row) where
+  abbrev pub under : ℤ × X → Row
+  under y = Int y.0 ∷ row y.1
+
+  entries_under : (rs : List (ℤ × Row)) (xs : List X) → map row xs ≡ map (λ r. r.1) rs → (ys : List (ℤ × X)) × (map numbered_row rs ≡ map under ys) × (xs ≡ map (λ y. y.1) ys)
+  entries_under [] [] e = ([], refl, refl)
+  entries_under [] (x ∷ xs) e = absurd cc
+  entries_under (r ∷ rs) [] e = absurd cc
+  entries_under (r ∷ rs) (x ∷ xs) e =
+      let head : r.1 ≡ row x = cc in
+      let later = entries_under rs xs cc in
+      ((r.0, x) ∷ later.0, (λ i. (Int r.0 ∷ head i) ∷ later.1 i), ap (λ l. x ∷ l) later.2)
+
+  numbered_entries : (rows : List Row) (xs : List X) → HasRows rows (map row xs) → (ys : List (ℤ × X)) × IsPermutation rows (map under ys) × (xs ≡ map (λ y. y.1) ys)
+  numbered_entries rows xs h =
+      let back = pull_back (λ (r : ℤ × Row). r.1) _ _ h.columns h.numbered refl in
+      let it = entries_under back.0 xs back.2 in
+      (it.0, subst (λ l. IsPermutation l (map under it.0)) (sym h.rows_are) (subst (IsPermutation (map numbered_row h.numbered)) it.1 (IsPermutation-map numbered_row _ _ back.1)), it.2)
+
+  every : (rows : List Row) → chosen [] [] rows ≡ rows
+  every [] = refl
+  every (r ∷ rows) = ap (λ l. r ∷ l) (every rows)
+
+  -- a table without rows has those of the entries of another, once what a query shows of them was put in
+  pub copies_any_order : (table : Table) (tree : ℕ) (project : List Term) (db : Trees) (sources : List Row) (xs : List X) → HasRows (db tree) (map row xs)
+      → ((n : ℤ) (x : X) → shown_of project [] (Int n ∷ row x) ≡ Null ∷ row x) → ((x : X) → cast_row table (Null ∷ row x) ≡ Null ∷ row x)
+      → IsPermutation (map (shown_of project []) (chosen [] [] (db tree))) sources → (rows : List Row) → rows ≡ []
+      → HasRows (put_all rows (numbered Chosen rows (map (λ s. cast_row table (drop 0 s)) sources))) (map row xs)
+  copies_any_order table tree project db sources xs has shows casts same rows none =
+      let it = numbered_entries (db tree) xs has in
+      let f = λ (x : X). Null ∷ row x in
+      let shown : map (shown_of project []) (map under it.0) ≡ map f xs =
+      map-map (shown_of project []) under it.0
+      ∙ map_same (λ (y : ℤ × X). shown_of project [] (under y)) (λ y. f y.1) (λ y. shows y.0 y.1) it.0
+      ∙ sym (map-map f (λ (y : ℤ × X). y.1) it.0)
+      ∙ ap (map f) (sym it.2) in
+      let all : IsPermutation (map f xs) sources =
+      IsPermutation-trans (map f xs) (map (shown_of project []) (db tree)) sources (subst (λ l. IsPermutation l (map (shown_of project []) (db tree))) shown (IsPermutation-map (shown_of project []) _ _ (IsPermutation-sym _ _ it.1))) (subst (λ l. IsPermutation (map (shown_of project []) l) sources) (every (db tree)) same) in
+      let cast = λ (s : Row). cast_row table (drop 0 s) in
+      let kept : map cast (map f xs) ≡ map f xs = map-map cast f xs ∙ map_same (λ (x : X). cast (f x)) f casts xs in
+      let news : IsPermutation (map f xs) (map cast sources) = subst (λ l. IsPermutation l (map cast sources)) kept (IsPermutation-map cast _ _ all) in
+      let back = pull_back f _ _ news xs refl in
+      let cells : map f back.0 ≡ map (λ c. Null ∷ c) (map row back.0) = sym (map-map (λ (c : Row). Null ∷ c) row back.0) in
+      let put : HasRows (put_all [] (numbered Chosen [] (map (λ c. Null ∷ c) (map row back.0)))) (map row back.0) = puts_chosen [] (map row back.0) [] no_rows in
+      let there : HasRows (put_all rows (numbered Chosen rows (map cast sources))) (map row back.0) =
+      subst (λ l. HasRows (put_all l (numbered Chosen l (map cast sources))) (map row back.0)) (sym none) (subst (λ l. HasRows (put_all [] (numbered Chosen [] l)) (map row back.0)) (sym (back.2 ∙ cells)) put) in
+      record {
+        numbered = there.numbered;
+        rows_are = there.rows_are;
+        rise = there.rise;
+        columns = IsPermutation-trans (map (λ (r : ℤ × Row). r.1) there.numbered) (map row back.0) (map row xs) there.columns (IsPermutation-map row _ _ (IsPermutation-sym _ _ back.1));
+      }
