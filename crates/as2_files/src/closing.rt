@@ -2,8 +2,8 @@
 ghost use Rattle.std.specs.Prelude.{◌≡◌, false, IfOk};
 ghost use Rattle.sqlite.specs.Files.{file_state};
 ghost use Rattle.sqlite_wal.specs.Reads.{AreClean};
-ghost use Rattle.as2_exchange.specs.State.{empty};
 ghost use Rattle.as2_storage.specs.Files.{AreClosed};
+ghost use Rattle.as2_store.specs.Calls.{empty_store};
 ghost use Rattle.as2_store.specs.Stands.{IsBlank};
 ghost use Rattle.as2_files.specs.Opening.{opening_fault};
 
@@ -33,7 +33,7 @@ pub(crate) fn with_tables<D: Disk + Drop>(
     first: FirstNumber,
 ) -> Result<Files<D>, OpenFault>
     requires autocommit { conn.in_transaction ≡ false }
-    ensures made { IfOk result (λ files. AreClean D.Disk files.log files.db → IsBlank (file_state conn) → AreClosed D.Disk files (empty first)) }
+    ensures made { IfOk result (λ files. AreClean D.Disk files.log files.db → IsBlank (file_state conn) → AreClosed D.Disk files (empty_store first)) }
 {
     let records = match create(conn, first.get()) {
         Ok(records) => records,

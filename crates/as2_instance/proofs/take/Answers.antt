@@ -1,4 +1,4 @@
-use Rattle.std.proofs.Common.{◌≡◌, ◌∙◌, sym, subst}
+use Rattle.std.proofs.Common.{◌∙◌, sym, subst}
 use Rattle.sqlite.specs.Held.{Held, state}
 use Rattle.as2_instance.specs.Tables.{LastsOver}
 use Rattle.as2_instance.proofs.take.Goals as goal
