@@ -89,6 +89,7 @@ fn say_question(answer: &mut Answer, question: &Question<Submission<'_>>) {
     match question {
         Question::Submit(given) => say_submission(answer, given),
         Question::Tick => answer.say("tick"),
+        Question::Resend(number) => say_with(answer, "resend", *number),
         Question::List(given, idle) => {
             say_filter(answer, given);
             if *idle {

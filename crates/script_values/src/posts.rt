@@ -102,18 +102,21 @@ fn say_post(rest: &str, answer: &mut Answer) {
     }
 }
 
-/// Answers whether the document that is posted so repeats that one.
-fn say_repeats(answer: &mut Answer, one: &Posted, text: &str) {
+/// Answers whether the document that is posted so repeats that one, the entry of number 7 of records with that origin.
+fn say_repeats(answer: &mut Answer, origin: u64, one: &Posted, text: &str) {
     if let Some(other) = post_in(text, answer) {
-        answer.say_whether(repeats(one, &other));
+        answer.say_whether(repeats(origin, 7, one, &other));
     }
 }
 
-/// `repeats DOCUMENT || DOCUMENT`: whether the second repeats the first.
+/// `repeats ORIGIN || DOCUMENT || DOCUMENT`: whether the second repeats the first, which is the entry of number 7 where the entries
+/// below the origin were recorded by the first version of the tables.
 fn say_whether_repeats(rest: &str, answer: &mut Answer) {
+    let (origin, rest) = answer.cut(rest, " || ", "no origin");
+    let origin = answer.number_in(origin);
     let (one, other) = answer.cut(rest, " || ", "no two documents");
     if let Some(one) = post_in(one, answer) {
-        say_repeats(answer, &one, other);
+        say_repeats(answer, origin, &one, other);
     }
 }
 

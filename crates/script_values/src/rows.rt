@@ -296,13 +296,19 @@ fn say_out_entry(answer: &mut Answer, entry: &OutEntry) {
     });
 }
 
+/// The document of a row, with a content and a receipt. It was begun where it was tried.
+pub fn document_of(row: OutRow, content: Pieces, evidence: Option<Evidence>) -> OutEntry {
+    let begun = row.tries >= 1;
+    row.with_content(begun, content, evidence)
+}
+
 /// `sent-entry VALUES || CONTENT`: the entry of a row and that content, without a receipt.
 fn sent_entry(rest: &str, answer: &mut Answer) {
     let mut parts = Arguments::of(rest);
     let values = parts.part();
     let content = parts.content(answer);
     if let Some(row) = out_row(values, answer) {
-        say_out_entry(answer, &row.with_content(content, None));
+        say_out_entry(answer, &document_of(row, content, None));
     }
 }
 

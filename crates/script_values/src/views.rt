@@ -1,6 +1,6 @@
 //! Listings, made of rows.
 use crate::arguments::{Arguments, parts_of};
-use crate::rows::{evidence_in, in_row, out_row};
+use crate::rows::{document_of, evidence_in, in_row, out_row};
 use as2_exchange::OutEntry;
 use as2_records::{Counts, InRow, OutRow};
 use as2_views::{
@@ -119,7 +119,7 @@ fn show(rest: &str, answer: &mut Answer) {
     };
     let evidence = evidence_in(parts.part(), answer);
     let content = Arguments::of(parts.part()).content(answer);
-    say_document(answer, &row.with_content(content, evidence));
+    say_document(answer, &document_of(row, content, evidence));
 }
 
 /// Answers to the verbs of listings; whether it is one.
