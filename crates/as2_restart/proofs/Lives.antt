@@ -6,7 +6,7 @@ use Rattle.as2_mdn.specs.declared.detail.State.TheVariants.{S}
 use Rattle.as2_exchange.specs.Agreement.{Agreements}
 use Rattle.as2_exchange.specs.Invariants.{IsCounter, IsEntry, IsWellFormed, is_by_receipt}
 use Rattle.as2_exchange.specs.Run.{Trace, Run}
-use Rattle.as2_exchange.specs.State.{State, document, empty, is_settled}
+use Rattle.as2_exchange.specs.State.{State, Version, document, empty, is_settled}
 use Rattle.as2_exchange.specs.declared.outbox.OutEntry.{OutEntry}
 use Rattle.as2_exchange.proofs.Finds.{all_found}
 use Rattle.as2_exchange.proofs.Lists.{all_map}
@@ -32,12 +32,12 @@ as_it_stood : (d : OutEntry) (o : Option OutEntry) → state_of d.detail ≡ S �
 as_it_stood d None successful same = absurd same
 as_it_stood d (Some e) successful same = ap state_of same.0 ∙ successful
 
-stays : (A : Agreements) (first : ℕ) (before more : Trace) (s t : State) (k : ℕ) (o : Option OutEntry) → document s k ≡ o → IsCounter first → Run A (empty first) before s → Run A s more t
+stays : (A : Agreements) (v : Version) (first : ℕ) (before more : Trace) (s t : State) (k : ℕ) (o : Option OutEntry) → document s k ≡ o → IsCounter first → Run A (empty v first) before s → Run A s more t
     → IsSomeAnd o (λ (d : OutEntry). state_of d.detail ≡ S) → IsSuccessful t k
-stays A first before more s t k None is counter run on successful = absurd successful
-stays A first before more s t k (Some d) is counter run on successful =
-    let stood = stands_by_history A first before s counter run in
+stays A v first before more s t k None is counter run on successful = absurd successful
+stays A v first before more s t k (Some d) is counter run on successful =
+    let stood = stands_by_history A v first before s counter run in
     as_it_stood d (document t k) successful (stood.settled k d is (settled A s k d stood.formed is successful) more t on)
 
-pub successful : (A : Agreements) (first : ℕ) (before : Trace) (lists : List Trace) (events : Trace) (s t : State) (k : ℕ) → IsCounter first → Run A (empty first) before s → ComesInTurn A lists events s t → IsSuccessful s k → IsSuccessful t k
-successful A first before lists events s t k counter run it = stays A first before events s t k (document s k) refl counter run (one A lists events s t it)
+pub successful : (A : Agreements) (v : Version) (first : ℕ) (before : Trace) (lists : List Trace) (events : Trace) (s t : State) (k : ℕ) → IsCounter first → Run A (empty v first) before s → ComesInTurn A lists events s t → IsSuccessful s k → IsSuccessful t k
+successful A v first before lists events s t k counter run it = stays A v first before events s t k (document s k) refl counter run (one A lists events s t it)

@@ -7,8 +7,8 @@ use Rattle.sqlite.specs.Held.{Held, state}
 use Rattle.sqlite.specs.State.{State as Connected, HasCleanDisk}
 use Rattle.as2_exchange.specs.Agreement.{Agreements, Text}
 use Rattle.as2_exchange.specs.Posts.{Reading, Refuses, IsReceipt, IsDocument, reading}
-use Rattle.as2_exchange.specs.Run.{Said, Answered, Failed, Trace, Run, MayFail}
-use Rattle.as2_exchange.specs.State.{State}
+use Rattle.as2_exchange.specs.Run.{Said, Answered, Failed, AnEvent, Trace, Run, MayFail}
+use Rattle.as2_exchange.specs.State.{State, Digests, AllDigests, known, known_digests}
 use Rattle.as2_exchange.specs.Step.{post, step}
 use Rattle.as2_exchange.specs.Documents.{submit}
 use Rattle.as2_exchange.specs.Lines.{refusal}
@@ -16,7 +16,7 @@ use Rattle.as2_exchange.specs.declared.answer.Answer.{Answer}
 use Rattle.as2_exchange.specs.declared.answer.Answer.TheVariants.{Http, Refused}
 use Rattle.as2_exchange.specs.declared.answer.Refusal.{Refusal}
 use Rattle.as2_exchange.specs.declared.event.Event.{Event}
-use Rattle.as2_exchange.specs.declared.event.Event.TheVariants.{Post, Submit, Begin, Outcome, BeginMdn, OutcomeMdn, Tick}
+use Rattle.as2_exchange.specs.declared.event.Event.TheVariants.{Post, Submit, Begin, Outcome, Resend, BeginMdn, OutcomeMdn, Tick}
 use Rattle.as2_exchange.specs.declared.fault.StoreFault.{StoreFault}
 use Rattle.as2_store.specs.Calls.{Keeps, Lasts}
 use Rattle.as2_store.specs.Stands.{Rests}
@@ -24,6 +24,7 @@ use Rattle.as2_kept.specs.Instance.{standing}
 use Rattle.as2_station.specs.Heads.{asks_store, submit_refusal, takes_store}
 use Rattle.as2_station.specs.Steps.{Left, TakesEvent}
 use Rattle.as2_station.specs.Traces.{Taken, said, trace}
+use Rattle.as2_exchange.proofs.Steady.{step_steady}
 use Rattle.as2_station.proofs.ByHistory.{ends_by_history}
 use Rattle.as2_station.proofs.HandedIn.{refuses}
 use Rattle.as2_station.proofs.Playing.{taken_clean}
@@ -47,14 +48,15 @@ not_handed_in : (A : Agreements) (s t : State) (organization partner content : T
 not_handed_in A s t organization partner content m a None refused none is = absurd (let two : true ≡ false = ap is_none (sym refused) ∙ none in cc)
 not_handed_in A s t organization partner content m a (Some reason) refused none is = left_of (Refused reason, s) (a, t) (sym (refuses A s organization partner content m reason refused) ∙ is)
 
-unasked : (A : Agreements) (s t : State) (e : Event) (a : Answer) → asks_store A e ≡ false → step A s e ≡ Some (a, t) → t ≡ s
-unasked A s t (Post head body m) a none is = unread_post A s t m a (reading A head body) none is
-unasked A s t (Submit organization partner content m) a none is = not_handed_in A s t organization partner content m a (submit_refusal A organization partner content) refl none is
-unasked A s t (Begin n m) a none is = absurd cc
-unasked A s t (Outcome n got m) a none is = absurd cc
-unasked A s t (BeginMdn n m) a none is = absurd cc
-unasked A s t (OutcomeMdn n got m) a none is = absurd cc
-unasked A s t (Tick m) a none is = absurd cc
+unasked : (A : Agreements) (s t : State) (e : Event) (a : Answer) → known s ≡ AllDigests → asks_store A e ≡ false → step A s e ≡ Some (a, t) → t ≡ s
+unasked A s t (Post head body m) a knows none is = unread_post A s t m a (reading A AllDigests head body) none (subst (λ (k : Digests). post A s m (reading A k head body) ≡ Some (a, t)) knows is)
+unasked A s t (Submit organization partner content m) a knows none is = not_handed_in A s t organization partner content m a (submit_refusal A organization partner content) refl none is
+unasked A s t (Begin n m) a knows none is = absurd cc
+unasked A s t (Outcome n got m) a knows none is = absurd cc
+unasked A s t (Resend n m) a knows none is = absurd cc
+unasked A s t (BeginMdn n m) a knows none is = absurd cc
+unasked A s t (OutcomeMdn n got m) a knows none is = absurd cc
+unasked A s t (Tick m) a knows none is = absurd cc
 
 -- ---- one event
 
@@ -71,9 +73,9 @@ module _ (A : Agreements) (e : Event) (old new : Connected) (clean : HasCleanDis
       by false opened true asked = absurd (let two : true ≡ false = sym (it.does.is_open clean asked) ∙ opened in cc)
       by false opened false asked = record {
         each = λ db may. elim (it.does.crash.crash clean db may) [
-          | inl before ↦ subst (Keeps db) (sym (unasked A s t e a asked is)) (lasts.each db before)
+          | inl before ↦ subst (Keeps db) (sym (unasked A s t e a rests.knows asked is)) (lasts.each db before)
           | inr more ↦ elim (more.stands s rests tt) [
-            | inl same ↦ subst (Keeps db) (sym (unasked A s t e a asked is)) same
+            | inl same ↦ subst (Keeps db) (sym (unasked A s t e a rests.knows asked is)) same
             | inr next ↦ subst (Keeps db) (next_is (step A s e) a t next.state is next.is) next.keeps
           ]
         ];
@@ -100,18 +102,18 @@ at_rest s None c it = it.0
 at_rest s (Some u) c it = it.1
 
 -- with one event before
-counts_too : (A : Agreements) (e : Event) (said : Said) (told events : Trace) → Counts A told events → Counts A ((e, said) ∷ told) ((e, said) ∷ events)
-counts_too A e said told events (inl same) = inl (ap (λ (l : Trace). (e, said) ∷ l) same)
-counts_too A e said told events (inr one) = inr (later_one e said told events one)
+counts_too : (A : Agreements) (e : Event) (said : Said) (told events : Trace) → Counts A told events → Counts A (AnEvent e said ∷ told) (AnEvent e said ∷ events)
+counts_too A e said told events (inl same) = inl (ap (λ (l : Trace). AnEvent e said ∷ l) same)
+counts_too A e said told events (inr one) = inr (later_one (AnEvent e said) told events one)
 
-answered_first : (A : Agreements) (e : Event) (a : Answer) (told : Trace) (s next t : State) → step A s e ≡ Some (a, next) → Fits A told next t → Fits A ((e, Answered a) ∷ told) s t
-answered_first A e a told s next t is it = ((e, Answered a) ∷ it.0, counts_too A e (Answered a) told it.0 it.1, (next, is, it.2))
+answered_first : (A : Agreements) (e : Event) (a : Answer) (told : Trace) (s next t : State) → step A s e ≡ Some (a, next) → Fits A told next t → Fits A (AnEvent e (Answered a) ∷ told) s t
+answered_first A e a told s next t is it = (AnEvent e (Answered a) ∷ it.0, counts_too A e (Answered a) told it.0 it.1, (next, is, it.2))
 
-failed_first : (A : Agreements) (e : Event) (f : StoreFault) (told : Trace) (s t : State) → MayFail A s e f → Fits A told s t → Fits A ((e, Failed f) ∷ told) s t
-failed_first A e f told s t may it = ((e, Failed f) ∷ it.0, counts_too A e (Failed f) told it.0 it.1, (may, it.2))
+failed_first : (A : Agreements) (e : Event) (f : StoreFault) (told : Trace) (s t : State) → MayFail A s e f → Fits A told s t → Fits A (AnEvent e (Failed f) ∷ told) s t
+failed_first A e f told s t may it = (AnEvent e (Failed f) ∷ it.0, counts_too A e (Failed f) told it.0 it.1, (may, it.2))
 
-done_first : (A : Agreements) (e : Event) (f : StoreFault) (a : Answer) (told : Trace) (s u t : State) → step A s e ≡ Some (a, u) → Run A u told t → IsUnanswered A told → Fits A ((e, Failed f) ∷ told) s t
-done_first A e f a told s u t is run out = ((e, Answered a) ∷ told, inr (this_one e f a told out), (u, is, run))
+done_first : (A : Agreements) (e : Event) (f : StoreFault) (a : Answer) (told : Trace) (s u t : State) → step A s e ≡ Some (a, u) → Run A u told t → IsUnanswered A told → Fits A (AnEvent e (Failed f) ∷ told) s t
+done_first A e f a told s u t is run out = (AnEvent e (Answered a) ∷ told, inr (this_one e f a told out), (u, is, run))
 
 -- where a fault shut the connection, the state that was being committed may stand
 shut_at : (A : Agreements) (e : Event) (f : StoreFault) (old new : Connected) (s : State) (came : Option (Answer × State)) → step A s e ≡ came → HasCleanDisk new → TakesEvent A e (λ a. a) (standing old) (standing new) (Err f) → Rests old s → Lasts old s
@@ -130,20 +132,25 @@ shut_at A e f old new s came is clean it rests lasts db may = elim (it.does.cras
 
 module _ (A : Agreements) (x : Event) (told : Trace) (old mid : Connected) (clean : HasCleanDisk mid) (db : Trees) where
   -- after a fault, over a connection that held s
-  failed_goes : (f : StoreFault) → TakesEvent A x (λ a. a) (standing old) (standing mid) (Err f) → (s : State) → Rests old s → Lasts old s → ((o : Option State) → At s o mid → Goes A told s o db) → Goes A ((x, Failed f) ∷ told) s None db
+  failed_goes : (f : StoreFault) → TakesEvent A x (λ a. a) (standing old) (standing mid) (Err f) → (s : State) → Rests old s → Lasts old s → ((o : Option State) → At s o mid → Goes A told s o db) → Goes A (AnEvent x (Failed f) ∷ told) s None db
   failed_goes f it s rests lasts go = by mid.is_open refl (step A s x) refl
     where
       now : Rests mid s × MayFail A s x f
       now = it.does.failed clean s rests tt
 
-      whole : Lasts mid s → Goes A ((x, Failed f) ∷ told) s None db
+      whole : Lasts mid s → Goes A (AnEvent x (Failed f) ∷ told) s None db
       whole held = let later = go None (now.0, held) in (later.0, failed_first A x f told s later.0 now.1 later.1, later.2)
 
-      by : (opened : Bool) → mid.is_open ≡ opened → (came : Option (Answer × State)) → step A s x ≡ came → Goes A ((x, Failed f) ∷ told) s None db
+      by : (opened : Bool) → mid.is_open ≡ opened → (came : Option (Answer × State)) → step A s x ≡ came → Goes A (AnEvent x (Failed f) ∷ told) s None db
       by true opened came is = whole (record { each = (it.lasts opened s now.0).each })
       by false opened None is = whole (record { each = λ d may. elim (shut_at A x f old mid s None is clean it rests lasts d may) [ inl k ↦ k | inr n ↦ absurd (let none : None ≡ Some (n.1, n.0) = n.2 in cc) ] })
       by false opened (Some y) is =
-          let rested : Rests mid y.1 = record { autocommit = now.0.autocommit; stands = λ yes. absurd (let two : true ≡ false = sym yes ∙ opened in cc); committed = λ yes. absurd (let two : true ≡ false = sym yes ∙ opened in cc) } in
+          let rested : Rests mid y.1 = record {
+            autocommit = now.0.autocommit;
+            stands = λ yes. absurd (let two : true ≡ false = sym yes ∙ opened in cc);
+            committed = λ yes. absurd (let two : true ≡ false = sym yes ∙ opened in cc);
+            knows = ap known_digests (step_steady A s x y is).0 ∙ now.0.knows;
+          } in
           let at : At s (Some y.1) mid = (opened, now.0, rested, λ d may. elim (shut_at A x f old mid s (Some y) is clean it rests lasts d may) [ inl k ↦ inl k | inr n ↦ inr (subst (Keeps d) (left_of y (n.1, n.0) n.2) n.3) ]) in
           elim (go (Some y.1) at) [
             | inl k ↦ (k.0, failed_first A x f told s k.0 now.1 k.1, k.2)
@@ -151,7 +158,7 @@ module _ (A : Agreements) (x : Event) (told : Trace) (old mid : Connected) (clea
           ]
 
   -- after an answer, over a connection that was shut as u was being committed
-  answered_shut : (a : Answer) → TakesEvent A x (λ a. a) (standing old) (standing mid) (Ok a) → (s u : State) → At s (Some u) old → ((t : State) (o : Option State) → At t o mid → Goes A told t o db) → Goes A ((x, Answered a) ∷ told) s (Some u) db
+  answered_shut : (a : Answer) → TakesEvent A x (λ a. a) (standing old) (standing mid) (Ok a) → (s u : State) → At s (Some u) old → ((t : State) (o : Option State) → At t o mid → Goes A told t o db) → Goes A (AnEvent x (Answered a) ∷ told) s (Some u) db
   answered_shut a it s u at go = by mid.is_open refl (asks_store A x) refl
     where
       now : Left (standing mid) (step A s x) a
@@ -160,12 +167,12 @@ module _ (A : Agreements) (x : Event) (told : Trace) (old mid : Connected) (clea
       other : Left (standing mid) (step A u x) a
       other = it.does.answered clean u at.2 tt
 
-      by : (opened : Bool) → mid.is_open ≡ opened → (asks : Bool) → asks_store A x ≡ asks → Goes A ((x, Answered a) ∷ told) s (Some u) db
+      by : (opened : Bool) → mid.is_open ≡ opened → (asks : Bool) → asks_store A x ≡ asks → Goes A (AnEvent x (Answered a) ∷ told) s (Some u) db
       by true opened asks asked = let later = go now.next None (now.rests, record { each = (it.lasts opened now.next now.rests).each }) in inl (later.0, answered_first A x a told s now.next later.0 now.step later.1, later.2)
       by false opened true asked = absurd (let two : true ≡ false = sym (it.does.is_open clean asked) ∙ opened in cc)
       by false opened false asked =
-          let same = unasked A s now.next x a asked now.step in
-          let as_well = unasked A u other.next x a asked other.step in
+          let same = unasked A s now.next x a at.1.knows asked now.step in
+          let as_well = unasked A u other.next x a at.2.knows asked other.step in
           let next : At now.next (Some other.next) mid = (
             opened,
             now.rests,
@@ -181,7 +188,7 @@ module _ (A : Agreements) (x : Event) (told : Trace) (old mid : Connected) (clea
           ]
 
   -- after a fault, over such a connection
-  failed_shut : (f : StoreFault) → TakesEvent A x (λ a. a) (standing old) (standing mid) (Err f) → (s u : State) → At s (Some u) old → ((o : Option State) → At s o mid → Goes A told s o db) → Goes A ((x, Failed f) ∷ told) s (Some u) db
+  failed_shut : (f : StoreFault) → TakesEvent A x (λ a. a) (standing old) (standing mid) (Err f) → (s u : State) → At s (Some u) old → ((o : Option State) → At s o mid → Goes A told s o db) → Goes A (AnEvent x (Failed f) ∷ told) s (Some u) db
   failed_shut f it s u at go = by mid.is_open refl
     where
       now : Rests mid s × MayFail A s x f
@@ -190,7 +197,7 @@ module _ (A : Agreements) (x : Event) (told : Trace) (old mid : Connected) (clea
       other : Rests mid u × MayFail A u x f
       other = it.does.failed clean u at.2 tt
 
-      by : (opened : Bool) → mid.is_open ≡ opened → Goes A ((x, Failed f) ∷ told) s (Some u) db
+      by : (opened : Bool) → mid.is_open ≡ opened → Goes A (AnEvent x (Failed f) ∷ told) s (Some u) db
       by true opened = let later = go None (now.0, record { each = (it.lasts opened s now.0).each }) in inl (later.0, failed_first A x f told s later.0 now.1 later.1, later.2)
       by false opened =
           let next : At s (Some u) mid = (opened, now.0, other.0, λ d may. elim (it.does.crash.crash clean d may) [ inl before ↦ at.3 d before | inr more ↦ absurd (let two : true ≡ false = sym more.was_open ∙ at.0 in cc) ]) in

@@ -7,7 +7,7 @@ use Rattle.sqlite.specs.Files.{over_files}
 use Rattle.sqlite.specs.Held.{Held, state}
 use Rattle.sqlite.specs.State.{State as Connected}
 use Rattle.as2_exchange.specs.Agreement.{Agreements}
-use Rattle.as2_exchange.specs.Run.{Said, Answered, Failed, Trace, Run}
+use Rattle.as2_exchange.specs.Run.{Answered, Failed, Happening, AnEvent, AMigration, Trace, Run}
 use Rattle.as2_exchange.specs.State.{State}
 use Rattle.as2_exchange.specs.declared.answer.Answer.{Answer}
 use Rattle.as2_exchange.specs.declared.event.Event.{Event}
@@ -24,16 +24,17 @@ pub record IsHeld (c : Connected) (s : State) : Type 0 where
   pub rests : Rests c s
   pub lasts : Lasts c s
 
--- nothing that asks the store was answered
+-- nothing that asks the store was answered, a migration neither
 abbrev pub IsUnanswered : Agreements → Trace → Type 0
 IsUnanswered A [] = ⊤
-IsUnanswered A ((event, Answered answer) ∷ rest) = (asks_store A event ≡ false) × IsUnanswered A rest
-IsUnanswered A ((event, Failed fault) ∷ rest) = IsUnanswered A rest
+IsUnanswered A (AnEvent event (Answered answer) ∷ rest) = (asks_store A event ≡ false) × IsUnanswered A rest
+IsUnanswered A (AnEvent event (Failed fault) ∷ rest) = IsUnanswered A rest
+IsUnanswered A (AMigration number ∷ rest) = ⊥
 
 -- the same events, but that one to which no answer came, and behind which nothing that asks the store was answered, has one
 pub data HasOneDone (A : Agreements) : Trace → Trace → Type 0 where
-  this_one : (event : Event) (fault : StoreFault) (answer : Answer) (rest : Trace) → IsUnanswered A rest → HasOneDone A ((event, Failed fault) ∷ rest) ((event, Answered answer) ∷ rest)
-  later_one : (event : Event) (said : Said) (rest events : Trace) → HasOneDone A rest events → HasOneDone A ((event, said) ∷ rest) ((event, said) ∷ events)
+  this_one : (event : Event) (fault : StoreFault) (answer : Answer) (rest : Trace) → IsUnanswered A rest → HasOneDone A (AnEvent event (Failed fault) ∷ rest) (AnEvent event (Answered answer) ∷ rest)
+  later_one : (first : Happening) (rest events : Trace) → HasOneDone A rest events → HasOneDone A (first ∷ rest) (first ∷ events)
 
 -- the events count as they were answered, but for one such at most, which may count as done
 abbrev pub Counts : Agreements → Trace → Trace → Type 0

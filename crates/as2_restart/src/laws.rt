@@ -3,7 +3,7 @@ ghost use Rattle.std.specs.Prelude.{ℕ, List};
 ghost use Rattle.as2_exchange.specs.Agreement.{Agreements};
 ghost use Rattle.as2_exchange.specs.Invariants.{IsCounter};
 ghost use Rattle.as2_exchange.specs.Run.{Trace, Run};
-ghost use Rattle.as2_exchange.specs.State.{State, empty};
+ghost use Rattle.as2_exchange.specs.State.{State, Version, empty};
 ghost use Rattle.as2_station.specs.Theorem.{EndsByHistory, IsSuccessful};
 ghost use Rattle.as2_restart.specs.Restarts.{ComesInTurn};
 
@@ -15,6 +15,6 @@ pub fn one_run()
 
 /// A document that stood as successful stands so after any number of stops.
 pub fn success_stays()
-    ensures { (A : Agreements) (first : ℕ) (before : Trace) (lists : List Trace) (events : Trace) (s t : State) (k : ℕ) → IsCounter first → Run A (empty first) before s
+    ensures { (A : Agreements) (v : Version) (first : ℕ) (before : Trace) (lists : List Trace) (events : Trace) (s t : State) (k : ℕ) → IsCounter first → Run A (empty v first) before s
         → ComesInTurn A lists events s t → IsSuccessful s k → IsSuccessful t k }
 {}
