@@ -1,5 +1,5 @@
 -- What a connection that has opened on the files of a store of an earlier version stands for, and the state that it has once it is migrated.
-use Rattle.std.proofs.Common.{◌≡◌, ◌∙◌, false, Some, IsTrue, sym, ap, subst, arith}
+use Rattle.std.proofs.Common.{◌≡◌, ◌∙◌, false, Some, IsTrue, refl, sym, ap, subst, arith}
 use Rattle.std.proofs.Math.Logic.{∥∥₁_elim}
 use Rattle.sqlite_trees.specs.Props.{Trees-set}
 use Rattle.sqlite_trees.specs.Tree.{Trees}
@@ -16,6 +16,7 @@ use Rattle.sqlite.proofs.StateLemmas.{survives_then}
 use Rattle.sqlite.proofs.Callers.{survives_begin}
 use Rattle.as2_exchange.specs.State.{State, Version, FirstVersion, LaterVersion}
 use Rattle.as2_host.specs.Migrating.{moved, moved_from}
+use Rattle.as2_store.proofs.Querying.{nothing_inside}
 use Rattle.as2_store.specs.Calls.{IsGivenBack, IsInside, Reaches}
 use Rattle.as2_store.specs.Migrating.{RestsAs, migrated_from}
 use Rattle.as2_store.specs.Stands.{Holds, IsWhole, Rests, Stands}
@@ -57,6 +58,29 @@ given_up g old last end inside survives autocommit back =
       crash = survives_then (state g old) last (state g end) (λ _. ⊥) (λ _. ⊥) (λ _. ⊥) (λ _ db none. absurd none) (λ _ db none. absurd none)
           (survives_begin g old last (λ _. ⊥) inside.survives) survives;
     }
+
+-- what was given back may be given back again
+pub back_then : (a b c : Connected) → IsGivenBack (λ _. ⊥) a b → IsGivenBack (λ _. ⊥) b c → IsGivenBack (λ _. ⊥) a c
+back_then a b c one two = record {
+  clean = λ clean. one.clean (two.clean clean);
+  autocommit = two.autocommit;
+  was_open = λ clean opened. one.was_open (two.clean clean) (two.was_open clean opened);
+  tables = λ clean opened committed.
+      let was = one.tables (two.clean clean) (two.was_open clean opened) committed in
+      let is = two.tables clean opened (was.1 ∙ sym was.0) in
+      (is.0 ∙ was.0, is.1 ∙ was.0);
+  crash = survives_then a b c (λ _. ⊥) (λ _. ⊥) (λ _. ⊥) (λ _ db none. absurd none) (λ _ db none. absurd none) one.crash two.crash;
+}
+
+-- what wasn't touched is given back
+pub back_same : (c : Connected) → c.in_transaction ≡ false → IsGivenBack (λ _. ⊥) c c
+back_same c autocommit = record {
+  clean = λ clean. clean;
+  autocommit = autocommit;
+  was_open = λ clean opened. opened;
+  tables = λ clean opened committed. (refl, committed);
+  crash = (nothing_inside c).survives;
+}
 
 -- tables that are given back stand for what they stood for
 pub back_as : (layout : Layout) (old new : Connected) (s : State) → IsGivenBack (λ _. ⊥) old new → HasCleanDisk new → RestsAs layout old s → RestsAs layout new s

@@ -6,7 +6,7 @@ ghost use Rattle.sqlite.specs.State.{HasCleanDisk};
 ghost use Rattle.sqlite_wal.specs.Recovery.{Image};
 ghost use Rattle.as2_exchange.specs.State.{State};
 ghost use Rattle.as2_host.specs.Migrating.{moved};
-ghost use Rattle.as2_store.specs.Calls.{IsGivenBack, IsInside};
+ghost use Rattle.as2_store.specs.Calls.{IsGivenBack};
 ghost use Rattle.as2_store.specs.Stands.{Rests};
 ghost use Rattle.as2_files.specs.Earlier.{HoldsEarlier};
 ghost use Rattle.as2_files.specs.Stores.{IfClosed, IsCleanEnd, Keeps, NeedsNoLog};
@@ -17,7 +17,7 @@ use crate::opening::OpenFiles;
 use as2_host::{Entries, Migration, OpenFault};
 use as2_storage::close;
 use as2_store::Store;
-use sqlite::{Alter, Connection, FileStore, Transaction};
+use sqlite::{Alter, Connection, Error, FileStore, Row};
 use sqlite_disk::Disk;
 
 /// What a migration left.
@@ -35,54 +35,58 @@ fn has_table<S: Alter>(conn: &Connection<S>, name: &[u8]) -> bool {
     tables.iter().any(|table| table.name.as_slice() == name)
 }
 
-/// How many rows a query shows.
-fn rows_of<S: Alter>(tx: &mut Transaction<'_, S>, query: &str) -> Option<u64>
-    ensures same_reference { tx.new.conn.ghost_name ≡ tx.old.conn.ghost_name }
-    ensures within { IsInside (state S.Store tx.old.conn.now) (state S.Store tx.new.conn.now) }
-{
-    match tx.query_all(query, &[]) {
+/// How many rows there are, where they were read.
+fn number_of(rows: Result<Vec<Row>, Error>) -> Option<u64> {
+    match rows {
         Ok(rows) => Some(rows.len() as u64),
         Err(_) => None,
     }
 }
 
+/// How many rows a query shows, in a transaction that is given up.
+fn rows_of<S: Alter>(conn: &mut Connection<S>, query: &str) -> Option<u64>
+    requires autocommit { conn.old.in_transaction ≡ false }
+    ensures autocommit { conn.new.in_transaction ≡ false }
+    ensures given_back { IsGivenBack (λ _. ⊥) (state S.Store conn.old) (state S.Store conn.new) }
+{
+    let mut tx = conn.transaction();
+    number_of(tx.query_all(query, &[]))
+}
+
 /// The same where the table is there, and else none.
-fn rows_if<S: Alter>(is_there: bool, tx: &mut Transaction<'_, S>, query: &str) -> Option<u64>
-    ensures same_reference { tx.new.conn.ghost_name ≡ tx.old.conn.ghost_name }
-    ensures within { IsInside (state S.Store tx.old.conn.now) (state S.Store tx.new.conn.now) }
+fn rows_if<S: Alter>(is_there: bool, conn: &mut Connection<S>, query: &str) -> Option<u64>
+    requires autocommit { conn.old.in_transaction ≡ false }
+    ensures autocommit { conn.new.in_transaction ≡ false }
+    ensures given_back { IsGivenBack (λ _. ⊥) (state S.Store conn.old) (state S.Store conn.new) }
 {
     if is_there {
-        return rows_of(tx, query);
+        return rows_of(conn, query);
     }
     Some(0)
 }
 
-/// How many entries there are, by which tables there are for an inbox: the first version has `inbox`, a later one `inbox2`, and one
-/// that was migrated has both, of which the first is empty.
-fn entries_in<S: Alter>(
-    tx: &mut Transaction<'_, S>,
-    has_first: bool,
-    has_later: bool,
-) -> Option<Entries>
-    ensures same_reference { tx.new.conn.ghost_name ≡ tx.old.conn.ghost_name }
-    ensures within { IsInside (state S.Store tx.old.conn.now) (state S.Store tx.new.conn.now) }
-{
-    let outbox = rows_of(tx, "SELECT number FROM outbox")?;
-    let first = rows_if(has_first, tx, "SELECT number FROM inbox")?;
-    let later = rows_if(has_later, tx, "SELECT number FROM inbox2")?;
-    let inbox = first.checked_add(later)?;
-    Some(Entries { inbox, outbox })
+/// So many entries, where each table was read. The inbox stands in the one table, or in the other.
+fn entries_of(first: Option<u64>, later: Option<u64>, outbox: Option<u64>) -> Option<Entries> {
+    let inbox = first?.checked_add(later?)?;
+    Some(Entries {
+        inbox,
+        outbox: outbox?,
+    })
 }
 
-/// How many entries the tables have, of any version, where they can be counted. They stay as they are.
+/// How many entries the tables have, of any version, where they can be counted; they stay as they are. The first version has a table
+/// `inbox`, a later one `inbox2`, and one that was migrated both, of which the first is empty.
 fn counted<S: Alter>(conn: &mut Connection<S>) -> Option<Entries>
     requires autocommit { conn.old.in_transaction ≡ false }
+    ensures autocommit { conn.new.in_transaction ≡ false }
     ensures given_back { IsGivenBack (λ _. ⊥) (state S.Store conn.old) (state S.Store conn.new) }
 {
     let has_first = has_table(conn, b"inbox");
     let has_later = has_table(conn, b"inbox2");
-    let mut tx = conn.transaction();
-    entries_in(&mut tx, has_first, has_later)
+    let first = rows_if(has_first, conn, "SELECT number FROM inbox");
+    let later = rows_if(has_later, conn, "SELECT number FROM inbox2");
+    let outbox = rows_of(conn, "SELECT number FROM outbox");
+    entries_of(first, later, outbox)
 }
 
 /// Closes a store into its two files.
