@@ -1,4 +1,4 @@
-use Rattle.std.proofs.Common.{inl, inr, refl}
+use Rattle.std.proofs.Common.{inr, refl}
 use Rattle.as2_desk.proofs.migrating.migrate.Goals as goal
 
 -- it stays as it is
