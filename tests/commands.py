@@ -86,6 +86,11 @@ def tries(folder, agreements):
     shown = "number: 2\nstate: E overdue\ntries: 1\ndue: -\nfrom: Supplier\nto: Depot\nidentifier: <out-2@station.example>\ncontent: 3 bytes\nreceipt: -\n"
     same("show", run(store, ["show", "2"]), (0, shown, ""))
     same("show, another number", run(store, ["show", "3"]), (1, "", "refused: NoSuchNumber\n"))
+    same("resend, another number", run(store, ["resend", "3"]), (1, "", "refused: NoSuchNumber\n"))
+    same("resend, one to be tried again", run(store, ["resend", "1"]), (1, "", "refused: NotDue\n"))
+    same("resend", run(store, ["resend", "2"], at=2000), (0, "resent 2\n", ""))
+    same("resend, twice", run(store, ["resend", "2"], at=2000), (1, "", "refused: NotDue\n"))
+    same("list out, to be sent anew", run(store, ["list", "out", "--state", "P"]), (0, "           2 P  0 - new              Supplier -> Depot\n", ""))
     same("submit, an unknown partner", run(store, [*submit, "Nobody", paper]), (1, "", "refused: UnknownPartner\n"))
     same("submit, no file", run(store, [*submit, "Buyer", f"{folder}/absent"]), (1, "", f'refused: CannotRead\nhint: file "{folder}/absent"\n'))
     with open(paper, "wb") as it:

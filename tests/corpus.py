@@ -57,7 +57,7 @@ def check_report(rest, request, outcome, digest):
     fields = notification.get_payload(0)
     expect("Original-Message-ID", str(fields["Original-Message-ID"]), asked["Message-ID"])
     expect("Disposition", str(fields["Disposition"]), "automatic-action/MDN-sent-automatically; " + outcome)
-    mic = None if digest is None else base64.b64encode(hashlib.new(digest, content).digest()).decode() + ", " + digest
+    mic = None if digest is None else base64.b64encode(hashlib.new(digest.replace("-", ""), content).digest()).decode() + ", " + digest
     expect("MIC", fields["Received-content-MIC"], mic)
 
 

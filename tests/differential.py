@@ -13,8 +13,8 @@ nor is the program: `rt try` builds it with checks, in a minute or two, and play
 
 The list of a seed is always the same. SEED (1 if not given) is the seed of the first list, and each further list has the next one; so
 `differential.py 17 1` plays the list of seed 17 alone. LISTS is 10,000 if not given. A list has 5 to 40 events, with reads between
-and behind them. Its words are few, so that events meet: posts with and without receipts, repeats, documents and their tries, receipts
-that are posted or answered, receipts that are owed, and moments that mostly rise.
+and behind them. Its words are few, so that events meet: posts with and without receipts, repeats, documents and their tries, documents
+that are sent anew, receipts that are posted or answered, receipts that are owed, and moments that mostly rise.
 
     --control   takes one event over SQLite alone: that has to be found out, or the status is 1
     --answers   tells how often each answer came to each event, over SQLite alone
@@ -76,6 +76,7 @@ ASKS = [
     "Receipt-Delivery-Option: later",
     "Disposition-Notification-Options:",
     "Disposition-Notification-Options: signed-receipt-micalg=optional, md5",
+    "Disposition-Notification-Options: signed-receipt-micalg=optional, sha-256, sha1",
     "Disposition-Notification-Options: signed-receipt-micalg=required, sha-384",
     "Disposition-Notification-Options: signed-receipt-micalg=optional, sha-384",
     "Disposition-Notification-To: | Content-Encoding: gzip",
@@ -191,14 +192,15 @@ class Writer:
         """Returns a receipt for the document of that number, as an event brings it: for the most part one that confirms it."""
         at = number - self.first
         organization, partner, content = self.documents[at] if 0 <= at < len(self.documents) else ("Supplier", "Buyer", "3")
-        mic = base64.b64encode(hashlib.md5(CONTENTS[content]).digest()).decode()
+        name, digest = self.random.choice([("md5", "md5")] * 3 + [("sha-256", "sha256")])
+        mic = base64.b64encode(hashlib.new(digest, CONTENTS[content]).digest()).decode()
         if self.one_in(8):
             partner = self.random.choice(PARTNERS)
         if self.one_in(8):
             number = self.number([], len(self.documents))
         mic = self.random.choice([mic] * 6 + [RECEIPT_MIC])
         changes = [self.random.choice(CHANGES)] if self.one_in(3) else []
-        changes += [f"{RECEIPT_MIC} -> {mic}", f"<out-1@ -> <out-{number}@"]
+        changes += [f"{RECEIPT_MIC} -> {mic}", f", md5 -> , {name}", f"<out-1@ -> <out-{number}@"]
         fields = [f"AS2-From: {in_field(partner)}", f"AS2-To: {organization}"]
         return " | ".join(["receipt", *fields, *changes])
 
@@ -208,6 +210,9 @@ class Writer:
             return self.event(f"unanswered {number}")
         body = self.receipt_of(number) if not self.one_in(3) else self.random.choice(["empty", "empty", "abc", "0", self.content()])
         self.event(f"reply {number} {self.random.choice(STATUSES)} | {body}")
+
+    def resend(self):
+        self.event(f"resend {self.number(self.begun, len(self.documents))}")
 
     def begin_owed(self):
         number = self.number(self.owed, len(self.keys))
@@ -239,6 +244,7 @@ class Writer:
             self.submit: 16,
             self.begin: 20 if self.documents else 2,
             self.outcome: 20 if self.begun else 2,
+            self.resend: 10 if self.begun else 1,
             self.begin_owed: 14 if self.owed else 1,
             self.outcome_owed: 14 if self.begun_owed else 1,
             self.posted_receipt: 10 if self.begun else 2,

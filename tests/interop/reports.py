@@ -21,6 +21,9 @@ POSTS = [
     # name, content type, further fields, options, content, outcome, digest
     ("processed under SHA-1", PLAIN, [], "signed-receipt-micalg=optional, sha1", CONTENT, "processed", "sha1"),
     ("processed under MD5", PLAIN, [], "signed-receipt-micalg=optional, md5", CONTENT, "processed", "md5"),
+    ("processed under SHA-256", PLAIN, [], "signed-receipt-micalg=optional, sha-256, sha1", CONTENT, "processed", "sha-256"),
+    ("SHA-256 by its other name", PLAIN, [], "signed-receipt-micalg=required, sha-384, SHA256", CONTENT, "processed", "sha-256"),
+    ("SHA-256 behind another digest", PLAIN, [], "signed-receipt-micalg=optional, sha1, sha-256", CONTENT, "processed", "sha1"),
     ("an empty content under MD5", PLAIN, [], "signed-receipt-micalg=required, md5", b"", "processed", "md5"),
     ("no options", PLAIN, [], None, CONTENT, "processed", "sha1"),
     ("enveloped", "application/pkcs7-mime; smime-type=enveloped-data", [], None, CONTENT, "processed/error: decryption-failed", None),
@@ -74,7 +77,7 @@ def check(reply, content, outcome, digest):
         ("Disposition", "automatic-action/MDN-sent-automatically; " + outcome),
     ]
     if digest is not None:
-        mic = base64.b64encode(hashlib.new(digest, content).digest()).decode()
+        mic = base64.b64encode(hashlib.new(digest.replace("-", ""), content).digest()).decode()
         wanted.append(("Received-content-MIC", "%s, %s" % (mic, digest)))
     expect("fields", [(name, str(value)) for name, value in notification.items()], wanted)
     expect("text behind the fields", notification.get_payload(), "")

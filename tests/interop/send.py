@@ -1,8 +1,8 @@
 #!/usr/bin/env python3
-"""Has `as2desk send` post to Python's own `http.server`, which answers with receipts that Python's `email` writes, and compares what
-arrived and what the station makes of the answers: receipts with the right digest, in chunks, under MD5, with another digest, without one, of
-an error, an answer of another status, one without a receipt, one that is cut short, and a partner who isn't there. Then it has the
-station post a receipt of its own, and reads it with `email`. Prints a line for each; the status is 1 where one differs. The program
+"""Has `as2desk send` post to Python's own `http.server`, which answers with receipts that Python's `email` writes, and compares what arrived
+and what the station makes of the answers: receipts with the right digest, in chunks, under MD5 and SHA-256, with another digest, without
+one, of an error, an answer of another status, one without a receipt, one that is cut short, and a partner who isn't there. Then it has
+the station post a receipt of its own, and reads it with `email`. Prints a line for each; the status is 1 where one differs. The program
 is ./as2desk, or the file that the argument names."""
 
 import base64
@@ -37,7 +37,7 @@ def expect(what, found, wanted):
 
 
 def mic(digest="sha1", content=CONTENT):
-    return "%s, %s" % (base64.b64encode(hashlib.new(digest, content).digest()).decode(), digest)
+    return "%s, %s" % (base64.b64encode(hashlib.new(digest.replace("-", ""), content).digest()).decode(), digest)
 
 
 def receipt(identifier, disposition, digest):
@@ -62,6 +62,8 @@ ANSWERS = [
     ("processed, over HTTP/1.0", "HTTP/1.0", 200, PROCESSED, mic(), "settled S processed"),
     ("processed, in chunks", "HTTP/1.1", 200, PROCESSED, mic(), "settled S processed"),
     ("processed, under MD5", "HTTP/1.1", 200, PROCESSED, mic("md5"), "settled S processed"),
+    ("processed, under SHA-256", "HTTP/1.1", 200, PROCESSED, mic("sha-256"), "settled S processed"),
+    ("processed, under SHA-256 by its other name", "HTTP/1.1", 200, PROCESSED, mic("sha256"), "settled S processed"),
     ("another digest", "HTTP/1.1", 200, PROCESSED, mic(content=b"other"), "settled E mic-differs"),
     ("no digest", "HTTP/1.1", 200, PROCESSED, None, "settled W no-mic"),
     ("a digest that isn't known", "HTTP/1.1", 200, PROCESSED, mic("sha512"), "settled W unknown-mic"),

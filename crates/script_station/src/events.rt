@@ -263,7 +263,7 @@ fn submission(
     })
 }
 
-/// An event of a try, of a document or of a receipt.
+/// An event of a try, of a document or of a receipt, or a document that is to be sent anew.
 fn try_event(
     settings: &Settings,
     brought: &Brought<'_>,
@@ -274,6 +274,7 @@ fn try_event(
     let number = answer.number_in(words.number);
     match words.name {
         "begin" => Some(Event::Begin { number, moment }),
+        "resend" => Some(Event::Resend { number, moment }),
         "begin-mdn" => Some(Event::BeginMdn { number, moment }),
         "reply" | "unanswered" => Some(Event::Outcome {
             number,

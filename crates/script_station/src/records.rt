@@ -233,10 +233,25 @@ fn say_found(answer: &mut Answer, found: Result<Option<OutEntry>, StoreFault>, i
     }
 }
 
+/// Answers whether a try of a document to a partner ever began, where it is found.
+fn say_begun(answer: &mut Answer, found: Result<Option<OutEntry>, StoreFault>) {
+    if let Some(document) = answer.unless_absent(found) {
+        answer.say_whether(document.begun);
+    }
+}
+
+/// Answers with the number below which receipts were recorded by the first version of the tables.
+fn say_origin(answer: &mut Answer, origin: Result<u64, StoreFault>) {
+    if let Some(number) = answer.unless_fault(origin) {
+        answer.say_number(number);
+    }
+}
+
 /// What is asked of the records.
 #[derive(Clone, Copy)]
 enum Asked {
     Numbers,
+    Origin,
     Counts,
     Settled,
     Inbox,
@@ -247,6 +262,7 @@ enum Asked {
     IdentifiedWhole,
     Document,
     Submitted,
+    Begun,
     Receipt,
 }
 
@@ -254,6 +270,7 @@ enum Asked {
 fn asked_by(verb: &str) -> Option<Asked> {
     match verb {
         "numbers" => Some(Asked::Numbers),
+        "origin" => Some(Asked::Origin),
         "counts" => Some(Asked::Counts),
         "settled" => Some(Asked::Settled),
         "inbox" => Some(Asked::Inbox),
@@ -264,6 +281,7 @@ fn asked_by(verb: &str) -> Option<Asked> {
         "identified-whole" => Some(Asked::IdentifiedWhole),
         "document" => Some(Asked::Document),
         "submitted" => Some(Asked::Submitted),
+        "begun" => Some(Asked::Begun),
         "receipt" => Some(Asked::Receipt),
         _ => None,
     }
@@ -298,6 +316,7 @@ fn look_at<K: Records>(records: &mut K, asked: Asked, number: u64, answer: &mut 
     match asked {
         Asked::Receipt => say_receipt(answer, records.find_in_number(alloc, number)),
         Asked::Submitted => say_found(answer, records.find_out(alloc, number), true),
+        Asked::Begun => say_begun(answer, records.find_out(alloc, number)),
         _ => say_found(answer, records.find_out(alloc, number), false),
     }
 }
@@ -307,6 +326,7 @@ fn look<K: Records>(records: &mut K, asked: Asked, rest: &str, answer: &mut Answ
     let alloc = answer.alloc();
     match asked {
         Asked::Numbers => say_numbers(answer, records.next_numbers()),
+        Asked::Origin => say_origin(answer, records.origin()),
         Asked::Counts => look_at_counts(records, answer),
         Asked::Settled => say_settled(answer, records.settled(alloc)),
         Asked::Inbox => say_inbox(answer, records.list_in(alloc)),

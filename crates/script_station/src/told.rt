@@ -124,6 +124,7 @@ fn say_words(answer: &mut Answer, said: &Said) {
         }
         Said::Delivered => answer.say("delivered"),
         Said::TryFailed => answer.say("try failed"),
+        Said::Resent => answer.say("resent"),
         _ => answer.say("already settled"),
     }
 }

@@ -145,6 +145,15 @@ fn requeue<K: Records>(records: &mut K, rest: &str, answer: &mut Answer) {
     }
 }
 
+/// `resend NUMBER MOMENT` has a document sent anew from that moment on.
+fn resend<K: Records>(records: &mut K, rest: &str, answer: &mut Answer) {
+    let (number, moment) = rest.split_once(" ").unwrap_or((rest, ""));
+    if let Some(moment) = moment_in(moment, answer) {
+        let number = answer.number_in(number);
+        say_done(answer, records.resend(number, moment));
+    }
+}
+
 /// Answers with what stands in a received document's head: its type, how a receipt was asked for, and the MIC; and with its outcome.
 fn say_head(answer: &mut Answer, posted: &Posted) {
     answer.say_bytes(posted.content_type.as_slice());
@@ -253,6 +262,7 @@ fn call<K: Records>(records: &mut K, verb: &str, rest: &str, answer: &mut Answer
         "add" => add(records, rest, answer),
         "settle" => settle(records, rest, answer),
         "requeue" => requeue(records, rest, answer),
+        "resend" => resend(records, rest, answer),
         "received" => received(records, rest, answer),
         "received-number" => received_number(records, rest, answer),
         _ => due(records, verb, rest, answer),
@@ -266,6 +276,7 @@ fn is_known(verb: &str) -> bool {
         "add"
             | "settle"
             | "requeue"
+            | "resend"
             | "received"
             | "received-number"
             | "due-document"

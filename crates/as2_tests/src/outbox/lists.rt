@@ -5,7 +5,7 @@ use crate::texts::{PLAIN, RECEIVED};
 pub(super) type Row = (&'static str, &'static str);
 
 /// Each list.
-pub(super) static LISTS: [&[Row]; 4] = [REPEATED, SETTLED, AWAITED, JOB];
+pub(super) static LISTS: [&[Row]; 5] = [REPEATED, SETTLED, AWAITED, RESENT, JOB];
 
 /// The plain post, its repeat, and another document under its identifier.
 const REPEATED: &[Row] = &[
@@ -32,6 +32,17 @@ const AWAITED: &[Row] = &[
     ("1060 tick", "ticked 1"),
     ("1060 tick", "ticked 0"),
     ("2000 begin 1", "refused NotDue"),
+];
+
+/// A document that has used its tries, is to be sent anew, and is settled by a receipt that is posted before there is another try.
+const RESENT: &[Row] = &[
+    ("1000 submit | Supplier | Buyer | abc", "submitted 1"),
+    ("1000 begin 1", TO_BUYER),
+    ("1030 begin 1", TO_BUYER),
+    ("1060 tick", "ticked 1"),
+    ("2000 resend 1", "resent"),
+    ("2000 resend 1", "refused NotDue"),
+    ("2000 post | receipt", "200"),
 ];
 
 /// A receipt that is sent by its second try, and then queued again by a repeat.
