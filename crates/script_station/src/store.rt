@@ -1,4 +1,4 @@
-//! Databases and stores: what is made, adopted, changed by statements, and refused.
+//! Databases and stores: what is made, adopted, migrated, changed by statements, and refused.
 ghost use Rattle.std.specs.Prelude.{◌≡◌, false, IfSome};
 
 use crate::played::{database, executed};
@@ -34,6 +34,22 @@ fn kept(conn: Connection<MemStore>) -> Option<Store<MemStore>> {
     match Store::adopt(conn) {
         Ok(store) => Some(store),
         Err(_) => None,
+    }
+}
+
+/// Migrates the tables of a database to the third version; answers whether that was done.
+fn migrate(conn: Connection<MemStore>, answer: &mut Answer) -> Option<Store<MemStore>>
+    requires { conn.in_transaction ≡ false }
+{
+    match Store::migrate(conn) {
+        Ok(store) => {
+            answer.say("migrated");
+            Some(store)
+        }
+        Err((conn, fault)) => {
+            answer.say_fault(&fault);
+            kept(conn)
+        }
     }
 }
 
@@ -100,7 +116,7 @@ fn connection(
 ) -> Option<Connection<MemStore>>
     ensures { IfSome result (λ conn. conn.in_transaction ≡ false) }
 {
-    if matches!(verb, "database" | "make") {
+    if matches!(verb, "database" | "make" | "migrate") {
         return database(statements, answer);
     }
     let records = stage.played.take_records(&stage.settings, answer)?;
@@ -119,6 +135,7 @@ fn left(
     match verb {
         "database" | "execute" => adopt(conn, answer),
         "make" | "make-again" => make(conn, query, answer),
+        "migrate" | "migrate-again" => migrate(conn, answer),
         _ => {
             say_rows(answer, conn.query_all(query, &[]));
             kept(conn)
@@ -150,11 +167,13 @@ fn go_on(stage: &mut Stage, verb: &str, text: &str, answer: &mut Answer) {
 /// Answers to the verbs of databases; whether it is one.
 ///
 /// `database STATEMENTS` adopts a new database after these, and `execute STATEMENTS` the list's store; `make STATEMENTS | QUERY` makes a
-/// store on a new database after these, and `make-again STATEMENTS | QUERY` on the list's store; `query QUERY` shows rows.
+/// store on a new database after these, and `make-again STATEMENTS | QUERY` on the list's store; `migrate STATEMENTS` has the tables of a
+/// new database after these become those of the third version, and `migrate-again STATEMENTS` those of the list's store; `query QUERY`
+/// shows rows.
 pub fn answer(stage: &mut Stage, verb: &str, rest: &str, answer: &mut Answer) -> bool {
     if !matches!(
         verb,
-        "database" | "execute" | "make" | "make-again" | "query"
+        "database" | "execute" | "make" | "make-again" | "migrate" | "migrate-again" | "query"
     ) {
         return false;
     }
