@@ -14,6 +14,7 @@ pub(crate) fn command<'a>(alloc: Global) -> Made<'a>
     ensures { IfOk result (λ c. app_of c ≡ command_line) }
 {
     let line = with_command(with_options(alloc), own::check(alloc));
+    let line = with_command(line, own::migrate(alloc));
     let line = with_command(line, own::post(alloc));
     let line = with_command(line, own::submit(alloc));
     let line = with_command(line, own::send(alloc));
