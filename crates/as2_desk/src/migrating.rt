@@ -24,28 +24,16 @@ use std::io::Write;
 const VERSION: &str = "version 3\n";
 
 /// Writes how many entries there were or are, where they were counted.
-<<<<<<< HEAD
-fn write_entries<H: Write>(
-    when: &str,
-    counted: Option<Entries>,
-    hints: &mut H,
-) -> io::Result<()>
-=======
 fn write_entries<H: Write>(when: &str, counted: Option<Entries>, hints: &mut H) -> io::Result<()>
->>>>>>> 8faf522f3ccb088612da01de20c57cf60b7b43c8
     ensures { OnOk result (Appends (H.contents hints.old) (H.contents hints.new) (entries_hint when.now counted)) }
 {
     let Some(Entries { inbox, outbox }) = counted else {
         return write!(hints, "hint: entries {when}: not counted\n");
     };
-<<<<<<< HEAD
-    write!(hints, "hint: entries {when}: inbox {inbox}, outbox {outbox}\n")
-=======
     write!(
         hints,
         "hint: entries {when}: inbox {inbox}, outbox {outbox}\n"
     )
->>>>>>> 8faf522f3ccb088612da01de20c57cf60b7b43c8
 }
 
 /// Writes how many entries the store had and has.

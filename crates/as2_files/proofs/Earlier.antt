@@ -1,9 +1,5 @@
 -- What a connection that has opened on the files of a store of an earlier version stands for, and the state that it has once it is migrated.
-<<<<<<< HEAD
-use Rattle.std.proofs.Common.{◌≡◌, ◌∙◌, false, Some, IsTrue, refl, sym, ap, subst, arith}
-=======
 use Rattle.std.proofs.Common.{◌≡◌, ◌∙◌, true, false, Some, Result, Ok, Err, IfOk, refl, sym, ap, subst, arith}
->>>>>>> 8faf522f3ccb088612da01de20c57cf60b7b43c8
 use Rattle.std.proofs.Math.Logic.{∥∥₁_elim}
 use Rattle.sqlite_trees.specs.Props.{Trees-set}
 use Rattle.sqlite_trees.specs.Tree.{Trees}
@@ -14,19 +10,12 @@ use Rattle.sqlite_wal.specs.Recovery.{Image}
 use Rattle.sqlite.specs.Effect.{Database}
 use Rattle.sqlite.specs.Files.{HoldsDatabase}
 use Rattle.sqlite.specs.Held.{Held, state}
-<<<<<<< HEAD
-=======
 use Rattle.sqlite.specs.Start.{FindsIn}
->>>>>>> 8faf522f3ccb088612da01de20c57cf60b7b43c8
 use Rattle.sqlite.specs.State.{State as Connected, HasCleanDisk, IsRolledBack, Opens, IsLive, Survives}
 use Rattle.sqlite.specs.Store.{Ghosts}
 use Rattle.sqlite.proofs.StateLemmas.{survives_then}
 use Rattle.sqlite.proofs.Callers.{survives_begin}
-<<<<<<< HEAD
-use Rattle.as2_exchange.specs.State.{State, Version, FirstVersion, LaterVersion}
-=======
 use Rattle.as2_exchange.specs.State.{State, Version}
->>>>>>> 8faf522f3ccb088612da01de20c57cf60b7b43c8
 use Rattle.as2_host.specs.Migrating.{moved, moved_from}
 use Rattle.as2_store.proofs.Querying.{nothing_inside}
 use Rattle.as2_store.specs.Calls.{IsGivenBack, IsInside, Reaches}
@@ -51,15 +40,12 @@ opens_as layout new image s opens live found held =
       committed = λ _. sym opens.clean;
     }
 
-<<<<<<< HEAD
-=======
 -- the same of one that may have opened
 pub each_opens : {C E : Type 0} (shown : C → Connected) (image : Image) (r : Result C E) → IfOk r (λ c. HasCleanDisk (shown c) → Opens (shown c) × IsLive (shown c)) → IfOk r (λ c. HasCleanDisk (shown c) → FindsIn image (shown c))
     → IfOk r (λ c. HasCleanDisk (shown c) → (layout : Layout) (s : State) → HoldsAs layout image s → RestsAs layout (shown c) s)
 each_opens shown image (Ok c) opened finds = λ clean layout s held. let it = opened clean in opens_as layout (shown c) image s it.0 it.1 (finds clean).holds held
 each_opens shown image (Err e) opened finds = tt
 
->>>>>>> 8faf522f3ccb088612da01de20c57cf60b7b43c8
 -- ---- what is counted, and given back
 
 -- a transaction that is given up leaves the tables as they were

@@ -1,8 +1,4 @@
-<<<<<<< HEAD
 use Rattle.std.proofs.Common.{inr, refl}
-=======
-use Rattle.std.proofs.Common.{inl, inr, refl}
->>>>>>> 8faf522f3ccb088612da01de20c57cf60b7b43c8
 use Rattle.as2_desk.proofs.migrating.migrate.Goals as goal
 
 -- it stays as it is
