@@ -227,11 +227,11 @@ int main(int count, char **words) {
     must(sqlite3_exec(db, text, NULL, NULL, NULL));
     begin = prepared("BEGIN IMMEDIATE");
     commit = prepared("COMMIT");
-    insert = prepared("INSERT INTO inbox (number, sender, receiver, identifier_value, identifier, content_type, length, moment, outcome, how, url, digest, mic, mdn, tries, attempt, due) VALUES (?1, ?2, ?3, ?4, ?5, ?6, ?7, ?8, ?9, ?10, ?11, ?12, ?13, ?14, ?15, ?16, ?17)");
-    piece = prepared("INSERT INTO inbox_piece (number, position, bytes) VALUES (?1, ?2, ?3)");
+    insert = prepared("INSERT INTO inbox2 (number, sender, receiver, identifier_value, identifier, content_type, length, moment, outcome, how, url, digest, mic, mdn, tries, attempt, due) VALUES (?1, ?2, ?3, ?4, ?5, ?6, ?7, ?8, ?9, ?10, ?11, ?12, ?13, ?14, ?15, ?16, ?17)");
+    piece = prepared("INSERT INTO inbox2_piece (number, position, bytes) VALUES (?1, ?2, ?3)");
     next = prepared("UPDATE meta SET next_receipt = ?2 WHERE next_receipt = ?1");
-    find = prepared("SELECT number, sender, receiver, identifier_value, identifier, content_type, length, moment, outcome, how, url, digest, mic, mdn, tries, attempt, due FROM inbox WHERE sender = ?1 AND receiver = ?2 AND identifier_value = ?3 ORDER BY number");
-    pieces = prepared("SELECT number, position, bytes FROM inbox_piece WHERE number = ?1 ORDER BY position");
+    find = prepared("SELECT number, sender, receiver, identifier_value, identifier, content_type, length, moment, outcome, how, url, digest, mic, mdn, tries, attempt, due FROM inbox2 WHERE sender = ?1 AND receiver = ?2 AND identifier_value = ?3 ORDER BY number");
+    pieces = prepared("SELECT number, position, bytes FROM inbox2_piece WHERE number = ?1 ORDER BY position");
     const long sizes[3] = {1000, 10000, 50000};
     long number = 1;
     for (int i = 0; i < 3; i++) {

@@ -173,7 +173,7 @@ if command -v sqlite3 >/dev/null; then
     tell "The records are SQLite files, which its own program reads: sqlite3 firms.db 'SELECT ..'"
     check "the inbox by sqlite3" "1|<out-1@supplier.example>|38
 2|<out-2@supplier.example>|12
-3|<out-3@supplier.example>|16" "$(sqlite3 -list firms.db 'SELECT number, CAST(identifier AS TEXT), length FROM inbox ORDER BY number')"
+3|<out-3@supplier.example>|16" "$(sqlite3 -list firms.db 'SELECT number, CAST(identifier AS TEXT), length FROM inbox2 ORDER BY number')"
     check "the file is whole" "ok" "$(sqlite3 firms.db 'PRAGMA integrity_check')"
 fi
 

@@ -181,7 +181,7 @@ def clean_end(desk, count):
     beside = [n for n in os.listdir(desk.folder) if n.startswith("clean.db") and n != "clean.db"]
     shutil.copy(desk.path("clean.db"), desk.path("copy.db"))
     try:
-        rows = sqlite3.connect(desk.path("copy.db")).execute("SELECT COUNT(*) FROM inbox").fetchone()[0]
+        rows = sqlite3.connect(desk.path("copy.db")).execute("SELECT COUNT(*) FROM inbox2").fetchone()[0]
     except sqlite3.Error:
         rows = 0
     count.line("a clean end", {"files beside the store": len(beside), "posts in a copy of 20": rows},

@@ -53,13 +53,13 @@ compare "the file is whole" "ok" "$(rows 'PRAGMA integrity_check')"
 compare "every key has its row" "" "$(rows 'PRAGMA foreign_key_check')"
 compare "meta" "as2-station|1|3|1" "$(rows 'SELECT * FROM meta')"
 # Outcome 6: processed. Asked 2: in the answer, 3: by a request. Receipt 3: sent, 2: pending. Try 1: idle.
-compare "inbox" "1|Buyer|Supplier|m1@x|<m1@x>|application/edi-x12|3|1000|6|2|NULL|sha1|qZk+NkcGgWq6PiVxeFDCbJzQ2J0=|3|0|1|NULL
+compare "inbox2" "1|Buyer|Supplier|m1@x|<m1@x>|application/edi-x12|3|1000|6|2|NULL|sha1|qZk+NkcGgWq6PiVxeFDCbJzQ2J0=|3|0|1|NULL
 2|Depot|Supplier|m1@x|<m1@x>|application/edi-x12|3|2000|6|3|http://127.0.0.1:8082/mdn|sha1|qZk+NkcGgWq6PiVxeFDCbJzQ2J0=|2|0|1|2000" \
-    "$(rows 'SELECT number, CAST(sender AS TEXT), CAST(receiver AS TEXT), CAST(identifier_value AS TEXT), CAST(identifier AS TEXT), CAST(content_type AS TEXT), length, moment, outcome, how, CAST(url AS TEXT), digest, CAST(mic AS TEXT), mdn, tries, attempt, due FROM inbox ORDER BY number')"
+    "$(rows 'SELECT number, CAST(sender AS TEXT), CAST(receiver AS TEXT), CAST(identifier_value AS TEXT), CAST(identifier AS TEXT), CAST(content_type AS TEXT), length, moment, outcome, how, CAST(url AS TEXT), digest, CAST(mic AS TEXT), mdn, tries, attempt, due FROM inbox2 ORDER BY number')"
 compare "the types of inbox" "integer|blob|blob|blob|blob|blob|integer|integer|integer|integer|null|text|blob|integer|integer|integer|null" \
-    "$(rows 'SELECT typeof(number), typeof(sender), typeof(receiver), typeof(identifier_value), typeof(identifier), typeof(content_type), typeof(length), typeof(moment), typeof(outcome), typeof(how), typeof(url), typeof(digest), typeof(mic), typeof(mdn), typeof(tries), typeof(attempt), typeof(due) FROM inbox WHERE number = 1')"
-compare "inbox_piece" "1|0|616263
-2|0|616263" "$(rows 'SELECT number, position, lower(hex(bytes)) FROM inbox_piece ORDER BY number, position')"
+    "$(rows 'SELECT typeof(number), typeof(sender), typeof(receiver), typeof(identifier_value), typeof(identifier), typeof(content_type), typeof(length), typeof(moment), typeof(outcome), typeof(how), typeof(url), typeof(digest), typeof(mic), typeof(mdn), typeof(tries), typeof(attempt), typeof(due) FROM inbox2 WHERE number = 1')"
+compare "inbox2_piece" "1|0|616263
+2|0|616263" "$(rows 'SELECT number, position, lower(hex(bytes)) FROM inbox2_piece ORDER BY number, position')"
 # Kind 2: a receipt to send.
 compare "waiting" "2|2|2000" "$(rows 'SELECT kind, number, due FROM waiting ORDER BY place')"
 compare "the other tables are empty" "0|0|0" \
@@ -67,5 +67,5 @@ compare "the other tables are empty" "0|0|0" \
 
 post 1000 <"$top/examples/plain-post.http" >fourth
 compare_reply "the answer to a repeat after SQLite has had the file" fourth
-compare "the entries are the same" "2" "$(rows 'SELECT count(*) FROM inbox')"
+compare "the entries are the same" "2" "$(rows 'SELECT count(*) FROM inbox2')"
 exit $status

@@ -18,7 +18,7 @@ use Rattle.as2_commands.specs.declared.tasks.Question.{Question}
 use Rattle.as2_commands.specs.declared.tasks.Question.TheVariants as question
 use Rattle.as2_commands.specs.declared.tasks.RunOptions.{RunOptions}
 use Rattle.as2_commands.specs.declared.tasks.Task.{Task}
-use Rattle.as2_commands.specs.declared.tasks.Task.TheVariants.{Check, Run}
+use Rattle.as2_commands.specs.declared.tasks.Task.TheVariants.{Check, Migrate, Run}
 use Rattle.as2_commands.specs.declared.tasks.Waits.{Waits}
 
 number_one : (o : Option Text) (a b : ℕ) → NumberIs o a → NumberIs o b → a ≡ b
@@ -226,9 +226,36 @@ no_check (command.Ask q) is = no_check_question q is
 no_check (command.Send s) is = absurd (apart 99101 115110 (lit< tt) (ap mark is))
 no_check (command.Serve s) is = absurd (apart 99101 115114 (lit< tt) (ap mark is))
 
+-- nor is `migrate`
+no_migrate_question : (q : Question Submission) → codes "migrate" ≡ question_word q → ⊥
+unfolding mark
+no_migrate_question (question.Submit s) is = absurd (apart 109103 115098 (lit< tt) (ap mark is))
+no_migrate_question question.Tick is = absurd (apart 109103 116099 (lit< tt) (ap mark is))
+no_migrate_question (question.Resend s) is = absurd (apart 109103 114115 (lit< tt) (ap mark is))
+no_migrate_question (question.List s i) is = absurd (apart 108115 109103 (lit< tt) (ap mark (sym is)))
+no_migrate_question question.Outstanding is = absurd (apart 109103 111116 (lit< tt) (ap mark is))
+no_migrate_question (question.Show s) is = absurd (apart 109103 115111 (lit< tt) (ap mark is))
+no_migrate_question (question.Fetch s) is = absurd (apart 102116 109103 (lit< tt) (ap mark (sym is)))
+
+no_migrate : (command : Command Submission) → codes "migrate" ≡ word_of command → ⊥
+unfolding mark
+no_migrate (command.Post p) is = absurd (apart 109103 112115 (lit< tt) (ap mark is))
+no_migrate (command.Ask q) is = no_migrate_question q is
+no_migrate (command.Send s) is = absurd (apart 109103 115110 (lit< tt) (ap mark is))
+no_migrate (command.Serve s) is = absurd (apart 109103 115114 (lit< tt) (ap mark is))
+
+check_migrate : codes "check" ≡ codes "migrate" → ⊥
+unfolding mark
+check_migrate is = absurd (apart 99101 109103 (lit< tt) (ap mark is))
+
 task_one : (values : List Row) (named : Option (Text × List Row)) (clock : Option ℕ) (a b : Task) → Tasks values named clock a → Tasks values named clock b → a ≡ b
 task_one values None clock a b x y = absurd x
 task_one values (Some named) clock Check Check x y = refl
+task_one values (Some named) clock Check Migrate x y = absurd (check_migrate (sym x ∙ y))
+task_one values (Some named) clock Migrate Check x y = absurd (check_migrate (sym y ∙ x))
+task_one values (Some named) clock Migrate Migrate x y = refl
+task_one values (Some named) clock Migrate (Run run asked) x y = absurd (no_migrate asked (sym x ∙ y.0.0))
+task_one values (Some named) clock (Run run asked) Migrate x y = absurd (no_migrate asked (sym y ∙ x.0.0))
 task_one values (Some named) clock Check (Run run asked) x y = absurd (no_check asked (sym x ∙ y.0.0))
 task_one values (Some named) clock (Run run asked) Check x y = absurd (no_check asked (sym y ∙ x.0.0))
 task_one values (Some named) clock (Run run asked) (Run other later) x y =

@@ -84,6 +84,7 @@ serve = command (codes "serve") (required (option (codes "listen")) ∷ count �
 abbrev pub commands : List Shape
 commands =
     command (codes "check") []
+    ∷ command (codes "migrate") []
     ∷ post
     ∷ submit
     ∷ command (codes "send") (timeout ∷ [])

@@ -14,6 +14,7 @@ pub(crate) fn command<'a>(alloc: Global) -> Made<'a>
     ensures { IfOk result (λ c. app_of c ≡ command_line) }
 {
     let line = with_command(with_options(alloc), own::check(alloc));
+    let line = with_command(line, own::migrate(alloc));
     let line = with_command(line, own::post(alloc));
     let line = with_command(line, own::submit(alloc));
     let line = with_command(line, own::send(alloc));
@@ -43,7 +44,7 @@ fn titled<'a>(alloc: Global) -> Command<'a>
     ensures { app_of result ≡ titled }
 {
     Command::new(alloc, "as2desk")
-        .version("0.6.0")
+        .version("0.7.0")
         .about("An AS2 station: takes documents from partners and answers with receipts")
         .after_help(help::PROGRAM)
 }

@@ -24,6 +24,20 @@ then 1.
 Example:
   as2desk --agreements agreements.toml --store station.db check";
 
+pub(crate) const MIGRATE: &str = "\
+A store that an earlier version of as2desk made, of version 1 or 2, becomes one of version 3, and
+'version 3' is printed. Copy the file first, and the one with '-wal' behind its name where it is there:
+the earlier as2desk can't open the store any more. All entries stay. How many there were and are is told
+on standard error, as 'hint: entries before: inbox 12, outbox 7' and 'hint: entries after: ..'.
+
+A fault of the store is 'store: NAME' on standard error, exit status 3, and the store is as it was:
+NotAStore where nothing stands under the path, and for ':memory:'; OtherVersion where it is of another
+version than 1 and 2. A line that can't be written is 'refused: CannotWrite', exit status 1, and the
+store is one of version 3.
+
+Example:
+  as2desk --agreements agreements.toml --store station.db migrate";
+
 pub(crate) const POST: &str = "\
 Standard input is HTTP requests, as a partner sends them, one behind the other: documents and receipts.
 Each is answered in turn. The reply on standard output has the receipt in it where the document asks

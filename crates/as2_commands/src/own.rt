@@ -14,6 +14,8 @@ use std::alloc::Global;
 
 pub(crate) const CHECK: &str = "check";
 
+pub(crate) const MIGRATE: &str = "migrate";
+
 pub(crate) const POST: &str = "post";
 
 pub(crate) const SUBMIT: &str = "submit";
@@ -46,6 +48,13 @@ pub(crate) fn check<'a>(alloc: Global) -> Made<'a>
 {
     let about = "Reads the agreements and prints how many organizations and partners they have";
     named(alloc, CHECK, about, help::CHECK)
+}
+
+pub(crate) fn migrate<'a>(alloc: Global) -> Made<'a>
+    ensures { IfOk result (Looks (command (codes "migrate") [])) }
+{
+    let about = "Makes a store of an earlier version one of this version";
+    named(alloc, MIGRATE, about, help::MIGRATE)
 }
 
 pub(crate) fn post<'a>(alloc: Global) -> Made<'a>

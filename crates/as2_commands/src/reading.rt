@@ -18,7 +18,7 @@ use crate::args::{
 };
 use crate::fault::OptionFault;
 use crate::first_number::FirstNumber;
-use crate::own::CHECK;
+use crate::own::{CHECK, MIGRATE};
 use crate::tasks::{Command, Options, Question, RunOptions, Serving, Submission, Task, Waits};
 use as2_exchange::END_OF_NUMBERS;
 use as2_mdn::State;
@@ -76,6 +76,9 @@ fn asked<'a>(found: &ArgMatches<'a>, clock: Option<u64>) -> Result<Task<'a>, Opt
     };
     if word == CHECK {
         return Ok(Task::Check);
+    }
+    if word == MIGRATE {
+        return Ok(Task::Migrate);
     }
     let command = command_of(found, word, own)?;
     Ok(Task::Run(run_options(found, clock)?, command))

@@ -98,6 +98,8 @@ pub enum Command<'a, D> {
 pub enum Task<'a> {
     /// Their members are counted.
     Check,
+    /// The store, which an earlier version made, becomes one of the version that is read.
+    Migrate,
     /// A command is carried out over the records.
     Run(RunOptions, Command<'a, Submission<'a>>),
 }

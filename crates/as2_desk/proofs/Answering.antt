@@ -1,6 +1,5 @@
 -- What is told of what the station said.
 use Rattle.std.proofs.Common.{◌≡◌, ◌⊎◌, inl, inr, ◌∙◌, ℕ, List, true, Option, Some, None, Result, Ok, Err, IfErr, option_map, refl, sym, ap, subst}
-use Rattle.std.specs.Bool.{⊤}
 use Rattle.as2_records.specs.Standing.{Medium, Standing}
 use Rattle.as2_agreement.specs.Agreements.{AgreedValues}
 use Rattle.as2_exchange.specs.declared.event.Event.{Event}

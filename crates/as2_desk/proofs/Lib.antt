@@ -1,4 +1,5 @@
 mod Opening
+mod Staying
 mod HandedBack
 mod StreamEnds
 mod Answering

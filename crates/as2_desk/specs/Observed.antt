@@ -3,13 +3,14 @@ use Rattle.std.specs.Prelude.{◌≡◌, ◌<◌, ◌+◌, ℕ, List, Option}
 use Rattle.as2_commands.specs.Requests.{Serving}
 use Rattle.as2_commands.specs.declared.tasks.Waits.{Waits}
 use Rattle.as2_exchange.specs.State.{State}
+use Rattle.as2_host.specs.Migrating.{moved}
 use Rattle.as2_host.specs.Networks.{Listening}
 use Rattle.as2_host.specs.declared.stores.OpenFault.{OpenFault}
 use Rattle.as2_host.specs.declared.stores.OpenStores.{Ghosts as Stores}
 use Rattle.as2_http.specs.declared.device.Sink.{Ghosts as Sinks}
 use Rattle.as2_http.specs.declared.device.Source.{Ghosts as Sources}
 use Rattle.as2_sending.specs.Exchanges.{Exchange}
-use Rattle.as2_desk.specs.Stores.{Begins, IsFaultAt, is_in_memory, opens_at}
+use Rattle.as2_desk.specs.Stores.{Begins, IsFaultAt, IsStayAt, is_in_memory, opens_at}
 use Rattle.as2_desk.specs.Written.{Written, written_of}
 use Rattle.as2_desk.specs.declared.console.Console.{Console}
 
@@ -54,6 +55,12 @@ pub record Stored : Type 1 where
   pub Kept : Type 0
   -- its store can't be opened, for that fault
   pub Fails : OpenFault → Type 0
+  -- what was kept under the path, of an earlier version, is kept once it is migrated
+  pub Moved : Type 0
+  -- it is kept as it was
+  pub KeptEarlier : Type 0
+  -- it isn't migrated, for that fault
+  pub Stays : OpenFault → Type 0
   -- its store was opened, and no other
   pub Opened : Type 0
   -- by its first number, the store began with that state
@@ -88,6 +95,9 @@ stored_of g old new path = record {
   Unopened = g.opens new ≡ g.opens old;
   Kept = (number : ℕ) (s : State) → g.keeps old path number s → g.keeps new path number s;
   Fails = IsFaultAt path (g.fails old path);
+  Moved = g.is_clean new → (s : State) → g.keeps_earlier old path s → (number : ℕ) → g.keeps new path number (moved s);
+  KeptEarlier = (s : State) → g.keeps_earlier old path s → g.keeps_earlier new path s;
+  Stays = IsStayAt path (g.stays old path);
   Opened = g.opens new ≡ g.opens old + opens_at (is_in_memory path);
   Begins = λ first s. Begins path first (g.is_clean new) (g.keeps old path) s;
 }

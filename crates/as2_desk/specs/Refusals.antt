@@ -38,6 +38,7 @@ store_fault_name store_fault.OtherVersion = codes "OtherVersion"
 -- `store: NAME`, and behind it what may help
 abbrev pub store_lines : OpenFault → List ℕ
 store_lines Held = codes "store: Refused\nhint: another process has the file open\n"
+store_lines (Store store_fault.OtherVersion) = codes "store: OtherVersion\nhint: stores of version 3 are read; 'migrate' makes one of a store of version 1 or 2\n"
 store_lines (Store fault) = codes "store: " ++ (store_fault_name fault ++ codes "\n")
 
 abbrev pub refusal_name : Refusal → List ℕ

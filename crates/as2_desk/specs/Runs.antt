@@ -6,6 +6,7 @@ use Rattle.as2_host.specs.FileContents.{Content}
 use Rattle.as2_desk.specs.Checks.{counts_line, warnings}
 use Rattle.as2_desk.specs.Endings.{Ends, EndsRefused, Fails}
 use Rattle.as2_desk.specs.FileAgreements.{Opened, Opens}
+use Rattle.as2_desk.specs.Migrating.{Migrates}
 use Rattle.as2_desk.specs.Observed.{Observed, Stored}
 use Rattle.as2_desk.specs.Statuses.{done}
 use Rattle.as2_desk.specs.Works.{Begun, Does, IsWork}
@@ -14,7 +15,7 @@ use Rattle.as2_desk.specs.declared.refusal.CommandFault.TheVariants.{CannotWrite
 use Rattle.as2_desk.specs.declared.status.Ran.{Ran}
 use Rattle.as2_commands.specs.declared.tasks.RunOptions.{RunOptions}
 use Rattle.as2_commands.specs.declared.tasks.Task.{Task}
-use Rattle.as2_commands.specs.declared.tasks.Task.TheVariants.{Check, Run}
+use Rattle.as2_commands.specs.declared.tasks.Task.TheVariants.{Check, Migrate, Run}
 use Rattle.as2_commands.specs.declared.tasks.Command.TheVariants.{Send}
 
 -- the members were counted on standard output, and what to be warned of is said; or a write failed behind a part of that line; or
@@ -40,6 +41,7 @@ Goes agreements options (Ok work) o stored ran =
 abbrev pub Comes : (List ℕ → Content) → Opened → Task → Observed → Stored → Ran → Type 0
 Comes contents (Err refusal) task o stored ran = LeavesAll o stored × EndsRefused refusal o.outcome.errors ran
 Comes contents (Ok agreements) Check o stored ran = stored.Untouched × o.input.Untouched × Counts agreements o.outcome.output o.outcome.errors ran
+Comes contents (Ok agreements) Migrate o stored ran = o.input.Untouched × Migrates stored o.outcome.output o.outcome.errors ran
 Comes contents (Ok agreements) (Run options command) o stored ran = (begun : Begun) × IsWork contents command begun × Goes agreements options begun o stored ran
 
 -- the file of that path comes to agreements or to a refusal, and the task to what follows from them

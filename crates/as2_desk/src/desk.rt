@@ -19,6 +19,7 @@ use crate::agreed::agreements_in;
 use crate::check::check;
 use crate::console::{Console, Host};
 use crate::hints::{document_path, is_named, is_noticed};
+use crate::migrating::migrate;
 use crate::places::is_told;
 use crate::refusal::{CommandFault, is_said, refuse};
 use crate::status::{DONE, FAULTY, Ran};
@@ -136,6 +137,7 @@ fn carry_out<
     };
     match task {
         Task::Check => check(alloc, &agreements, &mut console.output, &mut console.errors),
+        Task::Migrate => migrate(store, host, console),
         Task::Run(run, command) => {
             let _ = is_noticed(&command, &mut console.hints);
             let path = document_path(&command);

@@ -11,6 +11,7 @@ mod documents;
 mod escaping;
 mod hints;
 mod lines;
+mod migrating;
 mod noting;
 mod places;
 mod posting;

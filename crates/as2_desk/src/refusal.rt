@@ -108,6 +108,11 @@ fn store_lines(fault: OpenFault) -> Line
             "Refused",
             "\nhint: another process has the file open\n",
         ),
+        OpenFault::Store(StoreFault::OtherVersion) => joined(
+            "store: ",
+            "OtherVersion",
+            "\nhint: stores of version 3 are read; 'migrate' makes one of a store of version 1 or 2\n",
+        ),
         OpenFault::Store(fault) => joined("store: ", store_fault_name(fault), "\n"),
     }
 }

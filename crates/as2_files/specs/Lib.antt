@@ -1,3 +1,4 @@
 pub mod Fronts
 pub mod Opening
 pub mod Stores
+pub mod Earlier

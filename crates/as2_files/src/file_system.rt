@@ -156,6 +156,14 @@ impl FileSystem<'_> {
         Err(REFUSED)
     }
 
+    /// The name of the file of that path, where a store may stand under it. NotAStore where nothing does.
+    pub(crate) fn find(&self, path: &str) -> Result<String, OpenFault> {
+        if self.is_store(path)? {
+            return self.name(path, "");
+        }
+        Err(OpenFault::Store(StoreFault::NotAStore))
+    }
+
     /// Takes away the log of the store that was closed into these files, of that path, which do without it. They are locked meanwhile.
     pub(crate) fn remove_log<D: Disk>(&self, path: &str, _files: &Files<D>)
         requires { NeedsNoLog D.Disk _files.now }

@@ -6,9 +6,12 @@ ghost use Rattle.sqlite_wal.specs.Recovery.{Image};
 ghost use Rattle.as2_exchange.specs.State.{State};
 ghost use Rattle.as2_store.specs.Files.{HoldsState};
 ghost use Rattle.as2_store.specs.Stands.{Rests};
+ghost use Rattle.as2_host.specs.Migrating.{moved};
+ghost use Rattle.as2_files.specs.Earlier.{HoldsEarlier};
 ghost use Rattle.as2_files.specs.Stores.{IfClosed, IsCleanEnd, IsFound, Keeps, NeedsNoLog};
 
 use crate::closing::opening_fault;
+use crate::migrating::{Moved, migrate_in_files};
 use crate::opening::OpenFiles;
 use as2_host::OpenFault;
 use as2_kept::{Kept, adopt};
@@ -38,6 +41,11 @@ pub trait KeepFiles<R: Records> {
     fn open_records(self, rt: &HostRuntime, name: &str) -> Result<R, OpenFault>
         ensures found { IfOk result (λ r. (R.Records.shows r).IsClean → IsTrue (R.Records.shows r).is_open
             × ((s : State) → HoldsState image s → (R.Records.shows r).Rests s)) };
+
+    /// Makes records of an earlier version in the files of that name those of the version that is read, and closes them.
+    fn migrate_records(self, rt: &HostRuntime, name: &str) -> Result<Moved<Self::Disk>, OpenFault>
+        ensures moved { IfOk result (λ it. IsCleanEnd Self.Disk.Disk (Some it.end) → (s : State) → HoldsEarlier image s → Keeps Self.Disk.Disk image (Some it.end) (moved s)) }
+        ensures alone { IfOk result (λ it. IfClosed (NeedsNoLog Self.Disk.Disk) it.end) };
 
     /// Closes the records into their files.
     fn close_records(records: R) -> End<Self::Disk>
@@ -95,6 +103,10 @@ impl<F: OpenFiles + Drop> KeepFiles<Kept<FileStore<F::Disk>>> for InFiles<F> {
         name: &str,
     ) -> Result<Kept<FileStore<F::Disk>>, OpenFault> {
         open_in_files(rt, self.opener, name)
+    }
+
+    fn migrate_records(self, rt: &HostRuntime, name: &str) -> Result<Moved<F::Disk>, OpenFault> {
+        migrate_in_files(rt, self.opener, name)
     }
 
     fn close_records(records: Kept<FileStore<F::Disk>>) -> End<F::Disk> {

@@ -5,11 +5,13 @@ mod closing;
 mod file_system;
 mod fronts;
 mod keeping;
+mod migrating;
 mod opening;
 mod reading;
 mod stores;
 
 pub use file_system::FileSystem;
 pub use keeping::{End, InFiles, KeepFiles, close_into_files, open_in_files};
+pub use migrating::{Moved, migrate_in_files};
 pub use opening::{OpenFiles, Starting};
 pub use stores::StoreFiles;

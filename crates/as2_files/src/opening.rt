@@ -6,7 +6,10 @@ ghost use Rattle.sqlite_wal.specs.Files.{image_at};
 ghost use Rattle.sqlite_wal.specs.Recovery.{Image};
 ghost use Rattle.as2_exchange.specs.State.{State};
 ghost use Rattle.as2_store.specs.Files.{HoldsState};
+ghost use Rattle.as2_store.specs.Migrating.{RestsAs};
 ghost use Rattle.as2_store.specs.Stands.{Rests};
+ghost use Rattle.as2_store.specs.Tables.{Layout};
+ghost use Rattle.as2_files.specs.Earlier.{HoldsAs};
 
 use as2_storage::open_at;
 use sqlite::{Connection, Error, FileStore};
@@ -28,7 +31,8 @@ pub trait OpenFiles {
         path: &str,
     ) -> Result<Connection<FileStore<Self::Disk>>, Error>
         ensures autocommit { IfOk result (λ c. c.in_transaction ≡ false) }
-        ensures found { IfOk result (λ c. HasCleanDisk (file_state c) → (s : State) → HoldsState image s → Rests (file_state c) s) };
+        ensures found { IfOk result (λ c. HasCleanDisk (file_state c) → (s : State) → HoldsState image s → Rests (file_state c) s) }
+        ensures earlier { IfOk result (λ c. HasCleanDisk (file_state c) → (layout : Layout) (s : State) → HoldsAs layout image s → RestsAs layout (file_state c) s) };
 }
 
 /// Files of the operating system. `start` stands for what they hold as they are opened, which no code can read.

@@ -10,8 +10,9 @@ ghost use Rattle.as2_files.specs.Stores.{IsCleanEnd, Keeps};
 
 use crate::file_system::FileSystem;
 use crate::keeping::{End, KeepFiles};
+use crate::migrating::Moved;
 use as2_commands::FirstNumber;
-use as2_host::{OpenFault, OpenStores};
+use as2_host::{Migration, OpenFault, OpenStores};
 use as2_kept::{Kept, in_memory};
 use as2_records::Records;
 use sqlite::MemStore;
@@ -55,6 +56,7 @@ impl<'a, R: Records + Drop, K: KeepFiles<R> + Drop> StoreFiles<'a, R, K> {
 
 impl<R: Records + Drop, K: KeepFiles<R> + Drop> OpenStores for StoreFiles<'_, R, K> {
     ghost use Rattle.std.specs.Prelude.{⊤};
+    ghost use Rattle.as2_files.specs.Earlier.{KeepsEarlier};
     ghost use Rattle.as2_files.specs.Stores.{opens_by};
 
     type Opened = R;
@@ -64,6 +66,10 @@ impl<R: Records + Drop, K: KeepFiles<R> + Drop> OpenStores for StoreFiles<'_, R,
     ghost keeps = { λ it path number s. Keeps K.Disk.Disk K.image it.end s };
 
     ghost fails = { λ it path fault. ⊤ };
+
+    ghost keeps_earlier = { λ it path s. KeepsEarlier K.image it.end s };
+
+    ghost stays = { λ it path fault. ⊤ };
 
     ghost is_clean = { λ it. IsCleanEnd K.Disk.Disk it.end };
 
@@ -99,5 +105,24 @@ impl<R: Records + Drop, K: KeepFiles<R> + Drop> OpenStores for StoreFiles<'_, R,
             self.files.remove_log(path, files);
         }
         self.end = Some(end);
+    }
+
+    fn migrate(&mut self, path: &str) -> Result<Migration, OpenFault> {
+        if self.has_opened {
+            return Err(OpenFault::Held);
+        }
+        let None = self.end else {
+            return Err(OpenFault::Held);
+        };
+        let name = self.files.find(path)?;
+        let Some(keeper) = self.keeper.take() else {
+            return Err(OpenFault::Held);
+        };
+        let Moved { end, migration } = keeper.migrate_records(self.files.rt, &name)?;
+        if let End::Closed(files) = &end {
+            self.files.remove_log(path, files);
+        }
+        self.end = Some(end);
+        Ok(migration)
     }
 }

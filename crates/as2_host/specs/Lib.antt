@@ -1,4 +1,5 @@
 pub mod FileContents
 pub mod Stores
+pub mod Migrating
 pub mod Serving
 pub mod Networks

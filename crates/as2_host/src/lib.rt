@@ -7,4 +7,4 @@ mod stores;
 
 pub use files::{FileFault, ReadFiles};
 pub use network::{CannotListen, Listens, Network};
-pub use stores::{OpenFault, OpenStores};
+pub use stores::{Entries, Migration, OpenFault, OpenStores};

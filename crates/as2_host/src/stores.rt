@@ -1,6 +1,7 @@
 //! Stores of records, opened and closed by a path.
-ghost use Rattle.std.specs.Prelude.{◌≡◌, ◌+◌, ℕ, List, IfErr};
+ghost use Rattle.std.specs.Prelude.{◌≡◌, ◌+◌, ℕ, List, IfErr, IfOk};
 ghost use Rattle.as2_exchange.specs.State.{State};
+ghost use Rattle.as2_host.specs.Migrating.{moved};
 ghost use Rattle.as2_host.specs.Stores.{BeginsNew, Finds, opens_of};
 ghost use Rattle.as2_host.specs.declared.stores.OpenFault.{OpenFault as TheFault};
 
@@ -18,6 +19,24 @@ pub enum OpenFault {
     Store(StoreFault),
 }
 
+/// How many entries a store has.
+#[derive(Clone, Copy, Debug, PartialEq, Eq)]
+pub struct Entries {
+    /// Of its inbox.
+    pub inbox: u64,
+    /// Of its outbox.
+    pub outbox: u64,
+}
+
+/// How many entries a store that was migrated had and has, as its tables were counted. That the counts are right no clause says.
+#[derive(Clone, Copy, Debug, PartialEq, Eq)]
+pub struct Migration {
+    /// How many entries it had, where they could be counted.
+    pub before: Option<Entries>,
+    /// How many it has, where they could be counted.
+    pub after: Option<Entries>,
+}
+
 /// Stores of records that are opened by a path.
 pub trait OpenStores {
     /// The records of a path.
@@ -31,6 +50,12 @@ pub trait OpenStores {
 
     // what is kept under that path can't be opened, for that fault
     ghost fails: { Self → List ℕ → TheFault → Type 0 };
+
+    // what is kept under that path is of an earlier version, and stands for that state
+    ghost keeps_earlier: { Self → List ℕ → State → Type 0 };
+
+    // what is kept under that path isn't migrated, for that fault
+    ghost stays: { Self → List ℕ → TheFault → Type 0 };
 
     // so far all that was read is what had been written
     ghost is_clean: { Self → Type 0 };
@@ -58,5 +83,14 @@ pub trait OpenStores {
     fn close(&mut self, path: &str, records: Self::Opened)
         ensures clean { is_clean self.new → (Self.Opened.shows records).IsClean }
         ensures kept { is_clean self.new → (s : State) → (Self.Opened.shows records).Rests s → (number : ℕ) → keeps self.new path.now number s }
+        ensures counted { opens self.new ≡ opens self.old };
+
+    /// Makes what is kept under that path, which is of an earlier version, a store of the version that is read. Where that fails,
+    /// it stays as it was; where nothing stands there, nothing does.
+    fn migrate(&mut self, path: &str) -> Result<Migration, OpenFault>
+        ensures moved { IfOk result (λ _. is_clean self.new → (s : State) → keeps_earlier self.old path.now s → (number : ℕ) → keeps self.new path.now number (moved s)) }
+        ensures fault { IfErr result (λ fault. stays self.old path.now fault) }
+        ensures same { IfErr result (λ fault. (number : ℕ) (s : State) → keeps self.old path.now number s → keeps self.new path.now number s) }
+        ensures earlier { IfErr result (λ fault. (s : State) → keeps_earlier self.old path.now s → keeps_earlier self.new path.now s) }
         ensures counted { opens self.new ≡ opens self.old };
 }

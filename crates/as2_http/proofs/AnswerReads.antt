@@ -1,42 +1,44 @@
 -- What a try gets, from what was read.
-use Rattle.std.proofs.Common.{◌≡◌, ◌+◌, ◌≤◌, length, ℕ, List, [], ◌++◌, Option, Some, sym, ap, ◌∙◌, subst, append-nil, append_assoc, arith}
+use Rattle.std.proofs.Common.{◌≡◌, ◌+◌, ◌<◌, ◌≤◌, length, ℕ, List, [], ◌++◌, Option, Some, sym, ap, ◌∙◌, subst, append-nil, append_assoc, arith}
 use Rattle.std.specs.Io.KnownBytes.{Consumes, IsAtEnd, Keeps}
 use Rattle.as2_exchange.specs.declared.event.TryAnswer.{TryAnswer}
 use Rattle.as2_exchange.specs.declared.event.TryAnswer.TheVariants.{Reply}
 use Rattle.as2_messages.specs.Answering.{BeginsAnswer, AnswerIn, by_length, Gets, IsOpenAnswer}
 use Rattle.as2_messages.specs.AnswerPieces.{HasKept}
-use Rattle.as2_http.specs.InputReads.{read_limit, ReadsNeeded}
+use Rattle.as2_http.specs.InputReads.{read_limit, AllGave, ReadsNeeded}
 use Rattle.as2_messages.specs.declared.answer_parser.AnswerParser.{AnswerParser}
 use Rattle.as2_messages.specs.declared.answer_parser.ReceivedAnswer.{ReceivedAnswer}
 use Rattle.as2_messages.proofs.AnswerHeads.{begins_more}
 use Rattle.as2_messages.proofs.Answered.{holds_open}
-use Rattle.as2_http.proofs.InputReads.{piece_of, nothing_of, at_end, reads_none, read_on}
+use Rattle.as2_http.proofs.InputReads.{piece_of, nothing_of, at_end, gave_on, reads_none, read_on}
 
 -- what was read is less than an answer, and the parser has it
 pub record AwaitsMore (input : List ℕ) (p : AnswerParser) (unread : Option (List ℕ)) (calls later : ℕ) : Type 0 where
   pub reads : ReadsNeeded IsOpenAnswer input unread calls later
+  pub gave : AllGave reads.pieces
   pub holds : HasKept p reads.read
 
 pub awaits_none : (input : List ℕ) (p : AnswerParser) (unread : Option (List ℕ)) (calls : ℕ) → HasKept p [] → unread ≡ Some input → AwaitsMore input p unread calls calls
 unfolding reads_none
-awaits_none input p unread calls holds known = record { reads = reads_none IsOpenAnswer input unread calls known; holds = holds }
+awaits_none input p unread calls holds known = record { reads = reads_none IsOpenAnswer input unread calls known; gave = tt; holds = holds }
 
 -- one read more
 pub was_needed : (input : List ℕ) (p : AnswerParser) (unread after : Option (List ℕ)) (calls later next : ℕ) (piece : List ℕ) → AwaitsMore input p unread calls later → Consumes unread after piece → length piece ≤ read_limit
     → next ≡ later + 1 → ReadsNeeded IsOpenAnswer input after calls next
 was_needed input p unread after calls later next piece w c most is =
-    read_on IsOpenAnswer input unread after calls later next piece w.reads (holds_open p w.reads.read w.holds) (piece_of unread after w.reads.left piece c w.reads.known) most is
+    read_on IsOpenAnswer input unread after calls later next piece w.reads w.gave (holds_open p w.reads.read w.holds) (piece_of unread after w.reads.left piece c w.reads.known) most is
 
 -- .. and one that failed
 pub failed_needed : (input : List ℕ) (p : AnswerParser) (unread after : Option (List ℕ)) (calls later next : ℕ) → AwaitsMore input p unread calls later → Keeps unread after → next ≡ later + 1
     → ReadsNeeded IsOpenAnswer input after calls next
 failed_needed input p unread after calls later next w kept is =
-    read_on IsOpenAnswer input unread after calls later next [] w.reads (holds_open p w.reads.read w.holds) (nothing_of unread after w.reads.left kept w.reads.known) (omega arith) is
+    read_on IsOpenAnswer input unread after calls later next [] w.reads w.gave (holds_open p w.reads.read w.holds) (nothing_of unread after w.reads.left kept w.reads.known) (omega arith) is
 
 pub awaits_on : (input : List ℕ) (p q : AnswerParser) (unread after : Option (List ℕ)) (calls later next : ℕ) (piece : List ℕ) → (w : AwaitsMore input p unread calls later) → Consumes unread after piece → length piece ≤ read_limit
-    → next ≡ later + 1 → HasKept q (w.reads.read ++ piece) → AwaitsMore input q after calls next
+    → next ≡ later + 1 → 0 < length piece → HasKept q (w.reads.read ++ piece) → AwaitsMore input q after calls next
 unfolding was_needed read_on
-awaits_on input p q unread after calls later next piece w c most is holds = record { reads = was_needed input p unread after calls later next piece w c most is; holds = holds }
+awaits_on input p q unread after calls later next piece w c most is some holds =
+    record { reads = was_needed input p unread after calls later next piece w c most is; gave = gave_on w.reads.pieces piece w.gave some; holds = holds }
 
 -- the input ended
 pub holds_all : (input : List ℕ) (p : AnswerParser) (unread after : Option (List ℕ)) (calls later : ℕ) → AwaitsMore input p unread calls later → Consumes unread after [] → IsAtEnd after → HasKept p input

@@ -1,5 +1,5 @@
 -- What is counted of failed writes.
-use Rattle.std.proofs.Common.{◌≡◌, ◌∙◌, ℕ, Option, Some, Result, Ok, Err, refl, sym}
+use Rattle.std.proofs.Common.{◌≡◌, ◌∙◌, Some, Result, Ok, Err, sym}
 use Rattle.as2_http.specs.declared.sending.SendFault.{SendFault}
 use Rattle.as2_http.specs.declared.sending.SendFault.TheVariants.{Write, Memory}
 use Rattle.as2_http.specs.declared.stream.Served.{Served}

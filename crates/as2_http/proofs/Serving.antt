@@ -1,5 +1,5 @@
 -- A stream, put together from its pieces.
-use Rattle.std.proofs.Common.{◌≡◌, ℕ, true, List, [], ◌∷◌, ◌++◌, ◌⊎◌, ◌+◌, ◌≤◌, length, Option, Some, None, refl, sym, ap, ◌∙◌, subst, append_assoc, append-nil, inl, inr, arith}
+use Rattle.std.proofs.Common.{◌≡◌, ℕ, true, List, [], ◌∷◌, ◌++◌, ◌⊎◌, ◌+◌, ◌<◌, ◌≤◌, length, Option, Some, None, refl, sym, ap, ◌∙◌, subst, append_assoc, append-nil, inl, inr, arith}
 use Rattle.std.specs.Io.KnownBytes.{Appends, Consumes, IsAtEnd, Keeps}
 use Rattle.as2_records.specs.Standing.{Medium, Standing}
 use Rattle.as2_agreement.specs.Agreements.{AgreedValues}
@@ -25,7 +25,7 @@ use Rattle.as2_http.specs.declared.response.Response.TheVariants as response
 use Rattle.as2_http.specs.declared.stream.Served.{Served}
 use Rattle.as2_http.specs.declared.stream.Served.TheVariants as served
 use Rattle.as2_messages.proofs.Framed.{begins_append}
-use Rattle.as2_http.proofs.InputReads.{HasArrived, piece_of, nothing_of, at_end, reads_none, read_on}
+use Rattle.as2_http.proofs.InputReads.{HasArrived, piece_of, nothing_of, at_end, gave_on, reads_none, read_on}
 use Rattle.as2_http.proofs.Noting.{notes_of_both, says_join, says_nil, says_trans}
 use Rattle.as2_messages.proofs.Parsing.{holds_open}
 use Rattle.as2_http.proofs.Streaming.{answers_join, go_on_join}
@@ -135,13 +135,14 @@ needs_more A moment s input p c unread before now calls later w =
 next_read : {M : Medium} (A : AgreedValues) (moment : ℕ) (s : State) (input : List ℕ) (p : RequestParser) (c : Standing M) (unread after : Option (List ℕ)) (before now : Spoken) (calls later next : ℕ) (piece : List ℕ)
     → (w : BetweenReads A moment s input p c unread before now calls later) → HasArrived w.reads.left piece after → length piece ≤ read_limit → next ≡ later + 1 → ReadsNeeded (NeedsMore A moment s) input after calls next
 next_read A moment s input p c unread after before now calls later next piece w m most is =
-    read_on (NeedsMore A moment s) input unread after calls later next piece w.reads (needs_more A moment s input p c unread before now calls later w) m most is
+    read_on (NeedsMore A moment s) input unread after calls later next piece w.reads w.gave (needs_more A moment s input p c unread before now calls later w) m most is
 
 pub between_first : {M : Medium} (A : AgreedValues) (moment : ℕ) (s : State) (input : List ℕ) (p : RequestParser) (c : Standing M) (unread : Option (List ℕ)) (now : Spoken) (calls : ℕ) → c.Rests s → HasTaken p [] → unread ≡ Some input
     → BetweenReads A moment s input p c unread now now calls calls
 unfolding reads_none
 between_first A moment s input p c unread now calls rests taken known = record {
   reads = reads_none (NeedsMore A moment s) input unread calls known;
+  gave = tt;
   done = [];
   mid = s;
   replies = [];
@@ -184,15 +185,16 @@ joined A moment s input p q c d unread after before now later i j piece end w m 
 
 -- no bytes behind the piece are looked at
 between_on : {M : Medium} (A : AgreedValues) (moment : ℕ) (s : State) (input : List ℕ) (p q : RequestParser) (c d : Standing M) (unread after : Option (List ℕ)) (before now later : Spoken) (i j k : ℕ) (piece : List ℕ)
-    → (w : BetweenReads A moment s input p c unread before now i j) → HasArrived w.reads.left piece after → length piece ≤ read_limit → k ≡ j + 1 → AnswersPiece A moment w.mid (w.held ++ piece ++ []) [] q d now later None
+    → (w : BetweenReads A moment s input p c unread before now i j) → HasArrived w.reads.left piece after → length piece ≤ read_limit → k ≡ j + 1 → 0 < length piece → AnswersPiece A moment w.mid (w.held ++ piece ++ []) [] q d now later None
     → BetweenReads A moment s input q d after before later i k
 unfolding next_read read_on
-between_on A moment s input p q c d unread after before now later i j k piece w m most is a =
+between_on A moment s input p q c d unread after before now later i j k piece w m most is some a =
     let held = a.ends.3.0 in
     let rest_is : a.rest ≡ held = a.ends.3.1 ∙ append-nil held in
     let there = subst (λ (x : List ℕ). AnswersAll A moment w.mid x a.done a.mid a.replies held) (append-nil (w.held ++ piece)) (subst (λ (x : List ℕ). AnswersAll A moment w.mid (w.held ++ piece ++ []) a.done a.mid a.replies x) rest_is a.all) in
     record {
       reads = next_read A moment s input p c unread after before now i j k piece w m most is;
+      gave = gave_on w.reads.pieces piece w.gave some;
       done = w.done ++ a.done;
       mid = a.mid;
       replies = w.replies ++ a.replies;
@@ -286,10 +288,11 @@ serving_ends A moment s input p q c d unread after before now later i j k piece 
 
 -- the piece is answered, whatever comes behind it
 pub next_answered : {M : Medium} (A : AgreedValues) (moment : ℕ) (s : State) (input : List ℕ) (p q : RequestParser) (c d : Standing M) (unread after : Option (List ℕ)) (before now later : Spoken) (i j k : ℕ) (piece : List ℕ) (result : Option Served)
-    → (w : BetweenReads A moment s input p c unread before now i j) → HasArrived w.reads.left piece after → length piece ≤ read_limit → k ≡ j + 1
+    → (w : BetweenReads A moment s input p c unread before now i j) → HasArrived w.reads.left piece after → length piece ≤ read_limit → k ≡ j + 1 → 0 < length piece
     → ((left : List ℕ) → AnswersPiece A moment w.mid (w.held ++ piece ++ left) left q d now later result) → AnswersNext A moment s input q d after before later i k result
-next_answered A moment s input p q c d unread after before now later i j k piece None w m most is a = between_on A moment s input p q c d unread after before now later i j k piece w m most is (a [])
-next_answered A moment s input p q c d unread after before now later i j k piece (Some end) w m most is a =
+next_answered A moment s input p q c d unread after before now later i j k piece None w m most is some a =
+    between_on A moment s input p q c d unread after before now later i j k piece w m most is some (a [])
+next_answered A moment s input p q c d unread after before now later i j k piece (Some end) w m most is some a =
     serving_ends A moment s input p q c d unread after before now later i j k piece end w m most is (a m.left)
 
 -- ---- the other ends

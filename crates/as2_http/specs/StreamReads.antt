@@ -7,7 +7,7 @@ use Rattle.as2_exchange.specs.State.{State}
 use Rattle.as2_exchange.specs.declared.event.Event.{Event}
 use Rattle.as2_exchange.specs.declared.event.Event.TheVariants as event
 use Rattle.as2_station.specs.Theorem.{EndsByHistory}
-use Rattle.as2_http.specs.InputReads.{ReadsNeeded}
+use Rattle.as2_http.specs.InputReads.{AllGave, ReadsNeeded}
 use Rattle.as2_http.specs.Notes.{Says, Spoken}
 use Rattle.as2_messages.specs.Parsing.{HasTaken}
 use Rattle.as2_messages.specs.Requests.{IsOpen}
@@ -30,6 +30,7 @@ pub record NeedsMore (A : AgreedValues) (moment : ℕ) (s : State) (text : List 
 -- Between two reads: the whole requests that were read are answered, their replies are written and noted, and what is left of the bytes is less than a request.
 pub record BetweenReads {M : Medium} (A : AgreedValues) (moment : ℕ) (s : State) (input : List ℕ) (p : RequestParser) (c : Standing M) (unread : Option (List ℕ)) (before now : Spoken) (calls later : ℕ) : Type 0 where
   pub reads : ReadsNeeded (NeedsMore A moment s) input unread calls later
+  pub gave : AllGave reads.pieces
   pub done : List Exchange
   pub mid : State
   pub replies : List ℕ

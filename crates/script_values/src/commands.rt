@@ -120,6 +120,7 @@ fn say_options(answer: &mut Answer, options: &Options<'_>) {
     answer.say(options.store);
     match &options.task {
         Task::Check => answer.say(": check"),
+        Task::Migrate => answer.say(": migrate"),
         Task::Run(run, command) => {
             answer.say(", first ");
             answer.say_number(run.first.get());

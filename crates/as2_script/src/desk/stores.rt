@@ -11,7 +11,7 @@ ghost use Rattle.as2_store.specs.Stands.{Rests};
 
 use as2_commands::FirstNumber;
 use as2_exchange::StoreFault;
-use as2_host::{OpenFault, OpenStores};
+use as2_host::{Migration, OpenFault, OpenStores};
 use as2_kept::{Kept, adopt, in_memory};
 use as2_records::Records;
 use sqlite::{Connection, MemStore};
@@ -80,6 +80,18 @@ fn found(alloc: Global, word: &str, first: FirstNumber) -> Result<Kept<MemStore>
     }
 }
 
+/// Why what stands there isn't migrated: a store that is kept is of the version that is read.
+fn unmigrated(is_kept: bool, word: &str) -> OpenFault {
+    if is_kept {
+        return OpenFault::Store(StoreFault::OtherVersion);
+    }
+    match word {
+        "broken" => OpenFault::Store(StoreFault::Disk),
+        "held" => OpenFault::Held,
+        _ => OpenFault::Store(StoreFault::NotAStore),
+    }
+}
+
 /// The store that is kept, or what stands there. What is kept is given back where it can't be opened.
 fn opened(
     alloc: Global,
@@ -113,6 +125,10 @@ impl OpenStores for Stores<'_> {
     ghost keeps = { λ it path number. Keeps it.kept };
 
     ghost fails = { λ it path fault. ⊤ };
+
+    ghost keeps_earlier = { λ _ _ _. ⊥ };
+
+    ghost stays = { λ it path fault. ⊤ };
 
     ghost is_clean = { λ _. ⊤ };
 
@@ -149,5 +165,9 @@ impl OpenStores for Stores<'_> {
 
     fn close(&mut self, _path: &str, records: Kept<MemStore>) {
         self.kept = Some(records);
+    }
+
+    fn migrate(&mut self, _path: &str) -> Result<Migration, OpenFault> {
+        Err(unmigrated(self.kept.is_some(), self.word))
     }
 }

@@ -1,4 +1,4 @@
-use Rattle.std.proofs.Common.{◌≡◌, ◌⊎◌, ◌∙◌, codes, sym, arith, inl, inr, refl}
+use Rattle.std.proofs.Common.{◌≡◌, ◌∙◌, codes, sym, arith, inl, inr, refl}
 use Rattle.as2_host.specs.Networks.{ExchangedOver, listening_of}
 use Rattle.clap.specs.Walk.{Text, texts}
 use Rattle.as2_commands.proofs.Given.{given_one}

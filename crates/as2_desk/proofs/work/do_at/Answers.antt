@@ -1,4 +1,3 @@
-use Rattle.std.proofs.Common.{refl}
 use Rattle.as2_desk.proofs.HandedBack.{each_known}
 use Rattle.as2_desk.proofs.Unhinted.{unhinted}
 use Rattle.as2_desk.proofs.work.do_at.Goals as goal

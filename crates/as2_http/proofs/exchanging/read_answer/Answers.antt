@@ -1,4 +1,4 @@
-use Rattle.std.proofs.Common.{◌≡◌, ℕ, List, ◌++◌, take, rules, subst, arith}
+use Rattle.std.proofs.Common.{◌≡◌, ℕ, List, ◌++◌, ◌∙◌, take, refl, rules, subst, arith}
 use Rattle.std.specs.Io.KnownBytes.{Consumes}
 use Rattle.as2_messages.specs.Answering.{BeginsAnswer, IsOpenAnswer}
 use Rattle.as2_messages.specs.AnswerPieces.{HasKept, ParsesAnswer}
@@ -17,6 +17,7 @@ loop-init g c = (
   λ input known. awaits_none input c.new-parser.result (g.R.Source.left c.args.source.now) (g.R.Source.calls c.args.source.now) c.new-parser.ensures known,
   search rules,
   omega arith,
+  refl,
 )
 
 -- the read failed
@@ -66,11 +67,12 @@ loop-preserved g c = (
   λ input known.
       let w = c.loop.invariant.0 input known in
       awaits_on input c.loop.parser c.feed.new.self (g.R.Source.left c.loop.source) (g.R.Source.left c.pull.new.source) (g.R.Source.calls c.args.source.now) (g.R.Source.calls c.loop.source) (g.R.Source.calls c.pull.new.source)
-      (take c.in-Some.count c.pull.new.buffer.items) w c.in-Some.ensures.given (search rules) c.pull.ensures.calls
+      (take c.in-Some.count c.pull.new.buffer.items) w c.in-Some.ensures.given (search rules) c.pull.ensures.calls (search rules)
       (subst (λ (s : List ℕ). HasKept c.feed.new.self (w.reads.read ++ take c.in-Some.count s)) c.deref.ensures.value
       (subst (λ (p : ParsedAnswer). ParsesAnswer c.feed.new.self (w.reads.read ++ take c.in-Some.count c.deref.result.now) p) c.in-Ok-Open.field-0-is (c.in-Ok-Open.ensures.parses w.reads.read w.holds)).1),
   search rules,
   search rules,
+  c.in-Some.ensures.sound ∙ c.loop.invariant.3,
 )
 
 -- no answer, however the input goes on, or no memory for it

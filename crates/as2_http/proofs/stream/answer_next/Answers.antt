@@ -1,4 +1,4 @@
-use Rattle.std.proofs.Common.{◌≡◌, ℕ, List, [], ◌++◌, take, sym, rules, subst, arith}
+use Rattle.std.proofs.Common.{◌≡◌, ◌<◌, ℕ, List, [], ◌++◌, length, take, sym, rules, subst, arith}
 use Rattle.std.specs.Io.KnownBytes.{Consumes}
 use Rattle.as2_http.specs.Notes.{spoken}
 use Rattle.as2_http.proofs.InputReads.{piece_of}
@@ -29,7 +29,7 @@ returns-clause-answered g c = λ clean s input before calls w.
     let given : Consumes unread after piece = subst (λ (x : List ℕ). Consumes unread after (take c.in-Some.count x)) (sym c.deref.ensures.value) c.in-Some.ensures.given in
     next_answered c.args.agreements.now c.args.moment s input c.args.parser.now c.answer_piece.new.parser (g.K.Records.shows c.args.station.now) (g.K.Records.shows c.answer_piece.new.station) unread after before
     (spoken (g.W.Sink.written c.args.sink.now) (g.J.Journal.noted c.args.journal.now)) (spoken (g.W.Sink.written c.answer_piece.new.sink) (g.J.Journal.noted c.answer_piece.new.journal)) calls (g.R.Source.calls c.args.source.now) (g.R.Source.calls c.pull.new.source) piece c.answer_piece.result w
-    (piece_of unread after w.reads.left piece given w.reads.known) (search rules) c.pull.ensures.calls (λ left. c.answer_piece.ensures.answered clean w.mid w.rests w.held left w.taken)
+    (piece_of unread after w.reads.left piece given w.reads.known) (search rules) c.pull.ensures.calls (subst (λ (x : List ℕ). 0 < length (take c.in-Some.count x)) (sym c.deref.ensures.value) (search rules)) (λ left. c.answer_piece.ensures.answered clean w.mid w.rests w.held left w.taken)
 
 pub returns-clause-posts : goal.returns-clause-posts
 returns-clause-posts g c = λ clean s mid rests ran.
