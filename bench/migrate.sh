@@ -15,4 +15,4 @@ fi
 folder=$(mktemp -d)
 trap 'rm -rf "$folder"' EXIT
 "$top/tests/migration/release.sh" "$folder/release"
-python3 "$top/bench/migrate.py" "$folder/release" "$(realpath "$program")" "$top/examples/agreements.toml" "$folder" "$@"
+python3 "$top/bench/migrate.py" "$folder/release" "$(realpath "$program")" "$top/tests/migration/agreements.toml" "$folder" "$@"

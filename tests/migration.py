@@ -24,7 +24,7 @@ sys.path.insert(0, str(TOP / "bench"))
 sys.dont_write_bytecode = True
 from posts import write_posts  # bench/posts.py: the posts of the measurements
 
-AGREEMENTS = str(TOP / "examples" / "agreements.toml")
+AGREEMENTS = str(TOP / "tests" / "migration" / "agreements.toml")
 DONE = b"version 3\n"
 SIZE = 300  # bytes of each post
 DOCUMENTS = 60  # documents for partners
