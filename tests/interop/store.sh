@@ -51,7 +51,7 @@ compare "the answer to a post whose receipt comes later" "HTTP/1.1 202 Accepted"
 
 compare "the file is whole" "ok" "$(rows 'PRAGMA integrity_check')"
 compare "every key has its row" "" "$(rows 'PRAGMA foreign_key_check')"
-compare "meta" "as2-station|1|3|1" "$(rows 'SELECT * FROM meta')"
+compare "meta" "as2-station|3|3|1" "$(rows 'SELECT * FROM meta')"
 # Outcome 6: processed. Asked 2: in the answer, 3: by a request. Receipt 3: sent, 2: pending. Try 1: idle.
 compare "inbox2" "1|Buyer|Supplier|m1@x|<m1@x>|application/edi-x12|3|1000|6|2|NULL|sha1|qZk+NkcGgWq6PiVxeFDCbJzQ2J0=|3|0|1|NULL
 2|Depot|Supplier|m1@x|<m1@x>|application/edi-x12|3|2000|6|3|http://127.0.0.1:8082/mdn|sha1|qZk+NkcGgWq6PiVxeFDCbJzQ2J0=|2|0|1|2000" \
