@@ -8,8 +8,6 @@ mod desk;
 #[cfg(test)]
 mod files;
 #[cfg(test)]
-mod migrated;
-#[cfg(test)]
 mod outbox;
 #[cfg(test)]
 mod texts;
