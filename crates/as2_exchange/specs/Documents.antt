@@ -82,13 +82,17 @@ abbrev pub is_error : StateOf → Bool
 is_error E = true
 is_error other = false
 
--- a document that failed is to be sent anew, with all tries left; once begun, it stays so
+-- the document, to be sent from this moment on, with all tries left; once begun, it stays so
+abbrev pub queued_anew : ℕ → OutEntry → OutEntry
+queued_anew m d = record d { tries = 0; attempt = Idle; due = Some m; detail = New }
+
+-- a document that failed is to be sent anew
 unfoldable pub resent : Agreements → ℕ → OutEntry → Answer × OutEntry
 resent A m d =
     agreed A d.organization d.partner d λ p.
     if is_settled d then (Refused AllSettled, d)
     else if not (is_error (state_of d.detail)) then (Refused NotDue, d)
-    else (Resent, record d { tries = 0; attempt = Idle; due = Some m; detail = New })
+    else (Resent, queued_anew m d)
 
 -- what a document that is due passes into as time goes by
 abbrev pub passes_into : Detail → Attempt → Option Detail

@@ -13,7 +13,7 @@ abbrev pub known_digests : Version → Digests
 known_digests FirstVersion = EarlyDigests
 known_digests (LaterVersion origin) = AllDigests
 
--- the number below which receipts were recorded by the first version
+-- the number below which receipts were recorded before a migration; 0 where there was none
 abbrev pub origin_of : Version → ℕ
 origin_of FirstVersion = 0
 origin_of (LaterVersion origin) = origin

@@ -1,14 +1,7 @@
 -- What a connection that has opened on the files of a store of an earlier version stands for, and the state that it has once it is migrated.
 use Rattle.std.proofs.Common.{◌≡◌, ◌∙◌, true, false, Some, Result, Ok, Err, IfOk, refl, sym, ap, subst, arith}
-use Rattle.std.proofs.Math.Logic.{∥∥₁_elim}
-use Rattle.sqlite_trees.specs.Props.{Trees-set}
-use Rattle.sqlite_trees.specs.Tree.{Trees}
-use Rattle.sqlite_trees.specs.Objects.{catalog_tree}
-use Rattle.sqlite_schema.specs.declared.schema.Schema.{Schema}
-use Rattle.sqlite_catalog.proofs.ReadLemmas.{lists_once}
 use Rattle.sqlite_wal.specs.Recovery.{Image}
 use Rattle.sqlite.specs.Effect.{Database}
-use Rattle.sqlite.specs.Files.{HoldsDatabase}
 use Rattle.sqlite.specs.Held.{Held, state}
 use Rattle.sqlite.specs.Start.{FindsIn}
 use Rattle.sqlite.specs.State.{State as Connected, HasCleanDisk, IsRolledBack, Opens, IsLive, Survives}
@@ -20,30 +13,18 @@ use Rattle.as2_host.specs.Migrating.{moved, moved_from}
 use Rattle.as2_store.proofs.Querying.{nothing_inside}
 use Rattle.as2_store.specs.Calls.{IsGivenBack, IsInside, Reaches}
 use Rattle.as2_store.specs.Migrating.{RestsAs, migrated_from}
-use Rattle.as2_store.specs.Stands.{Holds, IsWhole, Rests, Stands}
-use Rattle.as2_store.specs.Tables.{Layout, VersionOne, VersionTwo, VersionThree, schema_of}
-use Rattle.as2_files.specs.Earlier.{HoldsAs, IsEarlier}
+use Rattle.as2_store.specs.Stands.{Holds, Rests, Stands}
+use Rattle.as2_store.specs.Tables.{Layout, VersionOne, VersionTwo, VersionThree}
+use Rattle.as2_storage.specs.Files.{HoldsAs}
+use Rattle.as2_storage.proofs.Opening.{rests_held_as}
+use Rattle.as2_files.specs.Earlier.{IsEarlier}
 
 -- ---- an open
 
--- trees that stand for a state, with the tables that they list, are the whole of what a new connection shows
-pub opens_as : (layout : Layout) (new : Connected) (image : Image) (s : State) → Opens new → IsLive new → ((db : Trees) → HoldsDatabase image db → new.committed.trees ≡ db) → HoldsAs layout image s → RestsAs layout new s
-unfolding IsWhole
-opens_as layout new image s opens live found held =
-    let same : new.committed.trees ≡ held.db = ∥∥₁_elim held.held (Trees-set _ _) (found held.db) in
-    let stands = subst (λ (db : Trees). Stands layout (record { schema = schema_of layout; trees = db }) s) (sym same) held.stands in
-    let schema : new.committed.schema ≡ schema_of layout = lists_once (new.committed.trees catalog_tree) new.committed.schema (schema_of layout) (live opens.is_open).1.lists stands.sound.lists in
-    let again : new.committed ≡ record { schema = schema_of layout; trees = new.committed.trees } = ap (λ (x : Schema). let d : Database = record { schema = x; trees = new.committed.trees } in d) schema in
-    record {
-      autocommit = opens.autocommit;
-      stands = λ _. subst (λ (d : Database). Stands layout d s) (sym (opens.clean ∙ again)) stands;
-      committed = λ _. sym opens.clean;
-    }
-
--- the same of one that may have opened
+-- what a connection that may have opened stands for
 pub each_opens : {C E : Type 0} (shown : C → Connected) (image : Image) (r : Result C E) → IfOk r (λ c. HasCleanDisk (shown c) → Opens (shown c) × IsLive (shown c)) → IfOk r (λ c. HasCleanDisk (shown c) → FindsIn image (shown c))
     → IfOk r (λ c. HasCleanDisk (shown c) → (layout : Layout) (s : State) → HoldsAs layout image s → RestsAs layout (shown c) s)
-each_opens shown image (Ok c) opened finds = λ clean layout s held. let it = opened clean in opens_as layout (shown c) image s it.0 it.1 (finds clean).holds held
+each_opens shown image (Ok c) opened finds = λ clean layout s held. let it = opened clean in rests_held_as layout (shown c) image s it.0 it.1 (finds clean).holds held
 each_opens shown image (Err e) opened finds = tt
 
 -- ---- what is counted, and given back

@@ -1,11 +1,9 @@
 -- What files hold of a store of an earlier version.
 use Rattle.std.specs.Prelude.{Option, Some, None, ⊤}
-use Rattle.sqlite.specs.Files.{HoldsDatabase}
-use Rattle.sqlite_trees.specs.Tree.{Trees}
 use Rattle.sqlite_wal.specs.Recovery.{Image}
 use Rattle.as2_exchange.specs.State.{State}
-use Rattle.as2_store.specs.Stands.{Stands}
-use Rattle.as2_store.specs.Tables.{Layout, VersionOne, VersionTwo, VersionThree, schema_of}
+use Rattle.as2_store.specs.Tables.{Layout, VersionOne, VersionTwo, VersionThree}
+use Rattle.as2_storage.specs.Files.{HoldsAs}
 
 -- it is before the one that is read
 abbrev pub IsEarlier : Layout → Type 0
@@ -13,13 +11,7 @@ IsEarlier VersionOne = ⊤
 IsEarlier (VersionTwo way) = ⊤
 IsEarlier (VersionThree way) = ⊥
 
--- the log and the file hold a database whose tables are of this version and stand for this state
-pub record HoldsAs (layout : Layout) (image : Image) (s : State) : Type 0 where
-  pub db : Trees
-  pub held : ∥ HoldsDatabase image db ∥₁
-  pub stands : Stands layout (record { schema = schema_of layout; trees = db }) s
-
--- .. of an earlier version
+-- the log and the file hold tables of an earlier version, which stand for this state
 abbrev pub HoldsEarlier : Image → State → Type 0
 HoldsEarlier image s = (layout : Layout) × IsEarlier layout × HoldsAs layout image s
 

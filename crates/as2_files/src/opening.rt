@@ -9,7 +9,7 @@ ghost use Rattle.as2_store.specs.Files.{HoldsState};
 ghost use Rattle.as2_store.specs.Migrating.{RestsAs};
 ghost use Rattle.as2_store.specs.Stands.{Rests};
 ghost use Rattle.as2_store.specs.Tables.{Layout};
-ghost use Rattle.as2_files.specs.Earlier.{HoldsAs};
+ghost use Rattle.as2_storage.specs.Files.{HoldsAs};
 
 use as2_storage::open_at;
 use sqlite::{Connection, Error, FileStore};

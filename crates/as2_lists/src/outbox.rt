@@ -292,7 +292,7 @@ pub fn settled_numbers(alloc: Global, documents: &[OutEntry]) -> Result<Vec<u64>
     Ok(numbers)
 }
 
-/// How many of the documents were not tried.
+/// How many of the documents are new.
 pub fn not_sent(documents: &[OutEntry]) -> u64
     ensures { result ≡ count_by is_new documents.now }
 {

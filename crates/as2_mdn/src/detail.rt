@@ -19,7 +19,7 @@ pub enum State {
 /// What is known of a document that was sent.
 #[derive(Clone, Copy, Debug, PartialEq, Eq)]
 pub enum Detail {
-    /// It was submitted, and no try was begun.
+    /// It is to be sent: it was submitted, or is to be sent again, and no try was begun since.
     New,
     /// A try was begun, and its outcome isn't known.
     Sending,

@@ -6,7 +6,7 @@ use Rattle.as2_mic.specs.declared.alg.Alg.TheVariants.{Md5, Sha1, Sha256}
 use Rattle.as2_names.specs.Options.{is_comma, is_word}
 use Rattle.as2_names.specs.Blanks.{without_blanks}
 
--- the digests that are known: MD5 and SHA-1 to a store of the first version, SHA-256 as well to later ones
+-- which digests are known: MD5 and SHA-1 alone, or SHA-256 as well
 pub data Digests : Type 0 where
   EarlyDigests : Digests
   AllDigests : Digests

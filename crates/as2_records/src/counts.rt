@@ -3,7 +3,7 @@
 /// How much is outstanding.
 #[derive(Clone, Copy, Debug, PartialEq, Eq)]
 pub struct Counts {
-    /// How many documents were submitted of which no try was begun.
+    /// How many documents are new: submitted, or to be sent again, and not tried since.
     pub not_sent: u64,
     /// How many documents have a try open, or due after one that failed.
     pub in_retry: u64,

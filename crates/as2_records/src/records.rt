@@ -41,8 +41,7 @@ pub trait Records {
         ensures numbers { Reads (λ s next. AreNext next s) (shows self.old) (shows self.new) result }
         ensures fault { IfErr result (λ f. may_come f ≡ true) };
 
-    /// The number below which receipts were recorded by the first version of the tables, 0 where none was. Answers Memory, Disk or
-    /// Refused.
+    /// The number below which receipts were recorded before a migration, 0 where there was none. Answers Memory, Disk or Refused.
     fn origin(&mut self) -> Result<u64, StoreFault>
         ensures origin { Reads (λ s number. number ≡ origin_of s.version) (shows self.old) (shows self.new) result }
         ensures fault { IfErr result (λ f. may_come f ≡ true) };
@@ -57,8 +56,9 @@ pub trait Records {
         ensures fault { IfErr result (λ f. (f ≡ Full) ⊎ (may_come f ≡ true)) };
 
     /// Adds a document that no receipt has settled to the outbox under the next number of a document, as `next_numbers` gives it.
-    /// Answers Full exactly where the number is past 999,999,999,999, and then touches nothing; Refused where it isn't the next, or
-    /// another document has an identifier of its value; Memory, Disk or Refused. A fault leaves the state.
+    /// Answers Full exactly where the number is past 999,999,999,999, and then touches nothing; Refused where it isn't the next, where
+    /// another document has an identifier of its value, and where what is kept can't say that it is begun (a document that is begun and not
+    /// tried, or tried and not begun); Memory, Disk or Refused. A fault leaves the state.
     fn add_out(&mut self, entry: &OutEntry) -> Result<(), StoreFault>
         requires unsettled { entry.now.evidence ≡ None }
         ensures added { Writes (added_document entry.now) (shows self.old) (shows self.new) result }
@@ -93,8 +93,8 @@ pub trait Records {
         ensures set { Writes (set_out_in number progress) (shows self.old) (shows self.new) result }
         ensures fault { IfErr result (λ f. may_come f ≡ true) };
 
-    /// Queues the document of this number to be sent anew from this moment on, with all tries left. Answers Refused where no document
-    /// has the number; Memory, Disk or Refused; and then the state stays.
+    /// Queues the document of this number to be sent anew from this moment on, with all tries left. The caller sees to it that no receipt
+    /// has settled it: its evidence would stay by a new one. Answers Refused where no document has the number; Memory, Disk or Refused; and then the state stays.
     fn resend(&mut self, number: u64, moment: Moment) -> Result<(), StoreFault>
         ensures resent { Writes (resent_in number moment) (shows self.old) (shows self.new) result }
         ensures fault { IfErr result (λ f. may_come f ≡ true) };

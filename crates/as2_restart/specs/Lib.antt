@@ -1,2 +1,3 @@
 pub mod Restarts
 pub mod Files
+pub mod Migrations

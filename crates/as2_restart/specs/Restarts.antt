@@ -1,5 +1,5 @@
 -- What stands once the files of a store are opened again, after a close or a crash.
-use Rattle.std.specs.Prelude.{◌≡◌, ◌⊎◌, false, List, [], ◌∷◌, ◌++◌, Result, ⊤}
+use Rattle.std.specs.Prelude.{◌≡◌, ◌⊎◌, ℕ, false, List, [], ◌∷◌, ◌++◌, Result, ⊤}
 use Rattle.sqlite_disk.specs.declared.Disk as disk
 use Rattle.sqlite_store.specs.declared.store.FileStore.{FileStore}
 use Rattle.sqlite_trees.specs.Tree.{Trees}
@@ -31,9 +31,11 @@ IsUnanswered A (AnEvent event (Answered answer) ∷ rest) = (asks_store A event 
 IsUnanswered A (AnEvent event (Failed fault) ∷ rest) = IsUnanswered A rest
 IsUnanswered A (AMigration number ∷ rest) = ⊥
 
--- the same events, but that one to which no answer came, and behind which nothing that asks the store was answered, has one
+-- the same events, but that one to which no answer came, and behind which nothing that asks the store was answered, has one; or behind
+-- all of them the store was migrated, to which no answer came
 pub data HasOneDone (A : Agreements) : Trace → Trace → Type 0 where
   this_one : (event : Event) (fault : StoreFault) (answer : Answer) (rest : Trace) → IsUnanswered A rest → HasOneDone A (AnEvent event (Failed fault) ∷ rest) (AnEvent event (Answered answer) ∷ rest)
+  a_migration : (number : ℕ) → HasOneDone A [] (AMigration number ∷ [])
   later_one : (first : Happening) (rest events : Trace) → HasOneDone A rest events → HasOneDone A (first ∷ rest) (first ∷ events)
 
 -- the events count as they were answered, but for one such at most, which may count as done

@@ -3,10 +3,12 @@
 
 mod files;
 mod laws;
+mod migrating;
 mod playing;
 mod reopening;
 
 pub use files::leave;
 pub use laws::{one_run, success_stays};
+pub use migrating::{StoppedMigration, migrate_then_stop, open_and_migrate, open_tables};
 pub use playing::{Closed, Stopped, play_then_close, play_then_stop};
-pub use reopening::{reopen, stop_and_open};
+pub use reopening::{reopen, station_over, stop_and_open};

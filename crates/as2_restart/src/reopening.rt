@@ -19,7 +19,7 @@ use sqlite_disk::{Crash, Disk, Files};
 use std::alloc::Global;
 
 /// The station over the store that these files hold; None where there is none, or it can't be opened.
-fn station_over<D: Disk + Drop>(
+pub fn station_over<D: Disk + Drop>(
     alloc: Global,
     files: Files<D>,
     options: Options,

@@ -6,7 +6,8 @@
 --     the content sent.
 --
 -- Its words, and where each is defined; a file without a crate is one of as2_exchange's specs:
---   any list                         Trace, Run.antt: events in any order, each with what was said to it; moments may run backwards
+--   any list                         Trace, Run.antt: events in any order, each with what was said to it, and one migration at most;
+--                                    moments may run backwards
 --   posts .. clock moments           Event, as2_exchange/src/event.rt
 --   the tables .. are those of       Rests, as2_records/specs/Standing.antt: the records rest on the state; over
 --                                    SQLite as2_store/specs/Stands.antt: the tables of the connection stand for it
@@ -19,7 +20,7 @@
 --     first try                      accepted events without any state
 --   that bears its partner's AS2     bears, Receipts.antt
 --     names and its identifier
---   says processed without modifier  Confirms, as2_mdn/specs/Verdicts.antt
+--   says processed without modifier  Confirms, as2_mdn/specs/Verdicts.antt, under a digest that was known when the receipt came
 --     and carries the integrity check of the content sent
 use Rattle.std.specs.Prelude.{◌≡◌, ◌↔◌, ℕ, ◌+◌, ◌<◌, true, false, List, [], ◌∷◌, ◌++◌, Some, None, Result, Ok, Err, IsSomeAnd, IsTrue, map, option_map}
 use Rattle.as2_records.specs.Standing.{Medium, Standing}
@@ -109,7 +110,7 @@ pub record StandsByHistory (A : Agreements) (v : Version) (trace : Trace) (s : S
   -- and a further event does what StepsOn says
   pub further : StepsOn A s
 
--- where an earlier trace led from a store without entries, of either version, to s, what stands in t is by that trace and this one behind it
+-- where an earlier trace led from a store without entries, of any version, to s, what stands in t is by that trace and this one behind it
 abbrev pub EndsByHistory : Agreements → State → Trace → State → Type 0
 EndsByHistory A s trace t = (v : Version) (first : ℕ) (before : Trace) → IsCounter first → Run A (empty v first) before s → StandsByHistory A v (before ++ trace) t
 

@@ -40,7 +40,7 @@ pub type Begun = Result<Job, Refusal>;
 /// What the outcome of a try is answered by: what became of the try, or why it is refused.
 pub type Ended = Result<Became, Refusal>;
 
-/// What a resend is answered by: no more than that the document is to be sent anew, or why it is refused.
+/// The answer to a resend: done, or why it is refused.
 pub type Resent = Result<(), Refusal>;
 
 /// A submission's answer, as one to any event.

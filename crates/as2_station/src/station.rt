@@ -174,7 +174,7 @@ impl<R: Records> Station<R> {
         }
     }
 
-    /// Queues a document that failed to be sent anew, from this moment on and with all tries left. It stays begun, so that a receipt
+    /// Queues a failed document again, from this moment on and with all tries left. It stays begun, so that a receipt
     /// for an earlier try still settles it. A fault of the records may come in place of any other answer, and nothing is changed then.
     pub fn resend(
         &mut self,

@@ -18,24 +18,33 @@ use Rattle.sqlite.specs.Files.{file_state, HoldsDatabase}
 use Rattle.as2_exchange.specs.State.{State, known_digests}
 use Rattle.as2_store.specs.Calls.{Keeps}
 use Rattle.as2_store.specs.Files.{HoldsState}
-use Rattle.as2_store.specs.Stands.{IsWhole, Holds, Rests}
-use Rattle.as2_store.specs.Tables.{store_schema}
+use Rattle.as2_store.specs.Migrating.{RestsAs}
+use Rattle.as2_store.specs.Stands.{IsWhole, Rests, Stands}
+use Rattle.as2_store.specs.Tables.{Layout, VersionThree, schema_of}
 use Rattle.as2_store.proofs.Committing.{keeps_of}
-use Rattle.as2_storage.specs.Files.{AreClosed}
+use Rattle.as2_storage.specs.Files.{AreClosed, HoldsAs}
 
 -- ---- an open
 
--- trees that stand for a state, with the tables that they list, are the whole of what a new connection shows
-pub rests_kept : (new : Connected) (s : State) → Opens new → IsLive new → Keeps new.committed.trees s → Rests new s
+-- trees that stand for a state, with the tables that they list, are the whole of what a new connection shows, whatever their version
+pub rests_as : (layout : Layout) (new : Connected) (s : State) → Opens new → IsLive new → Stands layout (record { schema = schema_of layout; trees = new.committed.trees }) s → RestsAs layout new s
 unfolding IsWhole
-rests_kept new s opens live it =
-    let listed = store_schema it.way in
-    let schema : new.committed.schema ≡ listed = lists_once (new.committed.trees catalog_tree) new.committed.schema listed (live opens.is_open).1.lists it.stands.sound.lists in
-    let again : new.committed ≡ record { schema = listed; trees = new.committed.trees } = ap (λ (x : Schema). let d : Database = record { schema = x; trees = new.committed.trees } in d) schema in
+rests_as layout new s opens live it =
+    let schema : new.committed.schema ≡ schema_of layout = lists_once (new.committed.trees catalog_tree) new.committed.schema (schema_of layout) (live opens.is_open).1.lists it.sound.lists in
+    let again : new.committed ≡ record { schema = schema_of layout; trees = new.committed.trees } = ap (λ (x : Schema). let d : Database = record { schema = x; trees = new.committed.trees } in d) schema in
     record {
       autocommit = opens.autocommit;
-      stands = λ _. subst (λ (d : Database). Holds d s) (sym (opens.clean ∙ again)) (record { way = it.way; stands = it.stands });
+      stands = λ _. subst (λ (d : Database). Stands layout d s) (sym (opens.clean ∙ again)) it;
       committed = λ _. sym opens.clean;
+    }
+
+rests_kept : (new : Connected) (s : State) → Opens new → IsLive new → Keeps new.committed.trees s → Rests new s
+rests_kept new s opens live it =
+    let r = rests_as (VersionThree it.way) new s opens live it.stands in
+    record {
+      autocommit = r.autocommit;
+      stands = λ opened. record { way = it.way; stands = r.stands opened };
+      committed = r.committed;
       knows = ap known_digests it.stands.version.version_is;
     }
 
@@ -44,6 +53,12 @@ pub rests_held : (new : Connected) (image : Image) (s : State) → Opens new →
 rests_held new image s opens live found held =
     let same : new.committed.trees ≡ held.0 = ∥∥₁_elim held.1 (Trees-set _ _) (found held.0) in
     rests_kept new s opens live (subst (λ (db : Trees). Keeps db s) (sym same) held.2)
+
+-- and on what they held in tables of any version
+pub rests_held_as : (layout : Layout) (new : Connected) (image : Image) (s : State) → Opens new → IsLive new → ((db : Trees) → HoldsDatabase image db → new.committed.trees ≡ db) → HoldsAs layout image s → RestsAs layout new s
+rests_held_as layout new image s opens live found it =
+    let same : new.committed.trees ≡ it.db = ∥∥₁_elim it.held (Trees-set _ _) (found it.db) in
+    rests_as layout new s opens live (subst (λ (db : Trees). Stands layout (record { schema = schema_of layout; trees = db }) s) (sym same) it.stands)
 
 -- ---- a close
 

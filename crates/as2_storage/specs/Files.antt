@@ -6,9 +6,12 @@ use Rattle.sqlite_wal.specs.Files.{outcomes}
 use Rattle.sqlite_wal.specs.Recovery.{Image}
 use Rattle.sqlite_store.specs.FileStore.{is_shielded, files as store_files}
 use Rattle.sqlite_store.specs.declared.store.FileStore.{FileStore}
-use Rattle.sqlite.specs.Files.{image_of}
+use Rattle.sqlite_trees.specs.Tree.{Trees}
+use Rattle.sqlite.specs.Files.{HoldsDatabase, image_of}
 use Rattle.as2_exchange.specs.State.{State}
 use Rattle.as2_store.specs.Files.{HoldsState}
+use Rattle.as2_store.specs.Stands.{Stands}
+use Rattle.as2_store.specs.Tables.{Layout, schema_of}
 
 -- the files hold this state, and the database file does without its log
 pub record Holds (image : Image) (s : State) : Type 0 where
@@ -23,3 +26,9 @@ pub record AreClosed {D : Type 0} (g : Ghosts D) (files : Files D) (s : State) :
 -- they are those of a store under the kit's shield: they returned what was written, or a digest has collided
 abbrev pub AreShielded : {D : Type 0} → Ghosts D → Files D → Type 0
 AreShielded {D} g files = (last : FileStore D g) × (store_files last ≡ (files.log, files.db)) × is_shielded last
+
+-- the log and the file hold a database whose tables are of this version and stand for this state
+pub record HoldsAs (layout : Layout) (image : Image) (s : State) : Type 0 where
+  pub db : Trees
+  pub held : ∥ HoldsDatabase image db ∥₁
+  pub stands : Stands layout (record { schema = schema_of layout; trees = db }) s

@@ -24,7 +24,7 @@ details_of s = map (λ d. d.detail) s.outbox
 abbrev pub mdns_of : State → List MdnState
 mdns_of s = map (λ e. e.mdn) s.inbox
 
--- no try was begun
+-- it is new
 abbrev pub is_unsent : Detail → Bool
 is_unsent New = true
 is_unsent other = false

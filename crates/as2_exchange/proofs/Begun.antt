@@ -1,0 +1,56 @@
+-- A document that was begun stays so.
+use Rattle.std.proofs.Common.{◌≡◌, ℕ, true, List, [], ◌∷◌, ◌++◌, Option, Some, None, refl, sym, ap, ◌∙◌, subst}
+use Rattle.std.specs.Prelude.{option_map, is_some, IsSomeAnd}
+use Rattle.std.specs.Option.{option_or}
+use Rattle.std.specs.List.{filter_map}
+use Rattle.std.proofs.lemmas.Option.{same_Some}
+use Rattle.std.proofs.lemmas.Bool.{false≢true}
+use Rattle.as2_exchange.specs.Agreement.{Agreements, Partner, partner_of}
+use Rattle.as2_exchange.specs.State.{State, Version, OutEntry, empty, document}
+use Rattle.as2_exchange.specs.Events.{Done}
+use Rattle.as2_exchange.specs.Run.{Trace, Run, AnEvent, AMigration, Answered, Failed, migrated, accepted}
+use Rattle.as2_exchange.specs.History.{Found, Submission, Fact, fact, first_of, last_of, submission, try_in}
+use Rattle.as2_exchange.proofs.Places.{found_place, further, first_of-push, last_of-push}
+use Rattle.as2_exchange.proofs.Entry.{entry_by}
+use Rattle.as2_exchange.proofs.Pushes.{answered_event, with_fact, facts-push}
+use Rattle.as2_exchange.proofs.Keeping.{IsAsTold, step_keeps, migrated_keeps}
+use Rattle.as2_exchange.proofs.Runs.{begins, run_keeps}
+
+-- a try of it is among the facts
+abbrev IsTried : List Fact → Type 0
+IsTried facts = is_some (last_of try_in facts) ≡ true
+
+still_tried : (facts : List Fact) (o : Option Fact) → IsTried facts → IsTried (with_fact facts o)
+still_tried facts None h = h
+still_tried facts (Some f) h = rw (last_of-push try_in facts f) (by (option_map (found_place []) (try_in f)) (last_of try_in facts) h)
+  where
+    by : (now before : Option (Found ℕ Fact)) → is_some before ≡ true → is_some (option_or now (option_map (further f) before)) ≡ true
+    by (Some x) before g = refl
+    by None (Some x) g = refl
+    by None None g = absurd (false≢true g)
+
+begun_run : (A : Agreements) (k : ℕ) (d : Submission) (p : Partner) (past : List Done) (after : List Done) (old : State) (trace : Trace) (new : State) → partner_of A d.partner ≡ Some p → IsAsTold A past old → Run A old trace new → first_of (submission k) past ≡ Some (record { it = d; after = after }) → IsTried (filter_map (fact A k d) after) → IsSomeAnd (document new k) (λ e. e.begun ≡ true)
+begun_run A k d p past after old [] new theirs keeps run found has =
+    let is : document new k ≡ Some (entry_by A k d (filter_map (fact A k d) after) p) = rw run (keeps.each k ∙ rw (found, theirs) refl) in
+    subst (λ (o : Option OutEntry). IsSomeAnd o (λ e. e.begun ≡ true)) (sym is) has
+begun_run A k d p past after old (AnEvent e (Answered a) ∷ rest) new theirs keeps run found has =
+    begun_run A k d p (past ++ answered_event old.version e a ∷ []) (after ++ answered_event old.version e a ∷ []) run.0 rest new theirs
+    (step_keeps A past old e (a, run.0) keeps run.1) run.2
+    (first_of-push (submission k) past (answered_event old.version e a) ∙ rw found refl)
+    (rw (facts-push A k d after (answered_event old.version e a)) (still_tried (filter_map (fact A k d) after) (fact A k d (answered_event old.version e a)) has))
+begun_run A k d p past after old (AnEvent e (Failed fault) ∷ rest) new theirs keeps run found has = begun_run A k d p past after old rest new theirs keeps run.1 found has
+begun_run A k d p past after old (AMigration n ∷ rest) new theirs keeps run found has = begun_run A k d p past after (migrated old) rest new theirs (migrated_keeps A past old keeps) run.2 found has
+
+pub begun_stays_law : (A : Agreements) (v : Version) (first : ℕ) (one two : Trace) (s t : State) → Run A (empty v first) one s → Run A s two t → (k : ℕ) (d : OutEntry) → document s k ≡ Some d → d.begun ≡ true → IsSomeAnd (document t k) (λ e. e.begun ≡ true)
+begun_stays_law A v first one two s t run on k d is begun = by (first_of (submission k) (accepted v one)) refl
+  where
+    keeps : IsAsTold A (accepted v one) s
+    keeps = run_keeps A [] (empty v first) one s (begins A v first) run
+
+    by : (o : Option (Found Submission Done)) → first_of (submission k) (accepted v one) ≡ o → IsSomeAnd (document t k) (λ e. e.begun ≡ true)
+    by None h = absurd (let two : None ≡ Some d = sym (keeps.each k ∙ rw h refl) ∙ is in cc)
+    by (Some f) h =
+        let known = keeps.ours k f h in
+        let facts = filter_map (fact A k f.it) f.after in
+        let entry_is : entry_by A k f.it facts known.0 ≡ d = same_Some _ _ (sym (keeps.each k ∙ rw (h, known.1.theirs) refl) ∙ is) in
+        begun_run A k f.it known.0 (accepted v one) f.after s two t known.1.theirs keeps on h (ap (λ (e : OutEntry). e.begun) entry_is ∙ begun)
