@@ -7,6 +7,7 @@ import views
 
 # ---- texts, as a script spells them
 
+ENDS = {">": "\\r\\n", "|": "\\n", ".": ""}
 LETTERS = {"r": "\r", "n": "\n", "t": "\t", "s": " "}
 SPELLINGS = {13: "\\r", 10: "\\n", 9: "\\t", 92: "\\\\", 123: "\\{"}
 
@@ -26,6 +27,25 @@ def spelled(text):
     return spelling
 
 
+def lines_of(text):
+    """Returns the lines of a script, each with the text that stands behind it, without empty ones and comments."""
+    lines = []
+    for line in text.splitlines():
+        if line[:1] in ENDS:
+            is_first = re.fullmatch(r"text [^ ]+", lines[-1]) is not None
+            lines[-1] += (" " if is_first else "") + line[2:] + ENDS[line[0]]
+        elif line and not line.startswith("#"):
+            lines.append(line)
+    return lines
+
+
+def changed(text, changes):
+    """Returns the text with these changes in it."""
+    for old, new in changes:
+        text = text.replace(old, new)
+    return text
+
+
 class Texts(dict):
     """The texts that scripts give a name to, each by its name, as they are spelled."""
 
@@ -43,21 +63,9 @@ class Texts(dict):
         text = self.get(text, text)
         return "".join(text.replace("#", str(at)) for at in range(int(count))) if "#" in text else text * int(count)
 
-    def changed(self, text, changes):
-        for old, new in changes:
-            text = text.replace(old, new)
-        return text
-
     def read(self, path):
-        """Takes the lines of a file of texts: `text NAME TEXT`, lines of a text behind `text NAME`, and `change`."""
-        lines = []
-        for line in path.read_text(encoding="utf-8").splitlines():
-            end = {">": "\\r\\n", "|": "\\n", ".": ""}.get(line[:1])
-            if end is not None:
-                lines[-1] += (" " if len(lines[-1].split(" ")) == 2 and lines[-1].startswith("text ") else "") + line[2:] + end
-            elif line and not line.startswith("#"):
-                lines.append(line)
-        for line in lines:
+        """Takes the lines of a file of texts."""
+        for line in lines_of(path.read_text(encoding="utf-8")):
             self.take(line)
 
     def take(self, line):
@@ -66,7 +74,7 @@ class Texts(dict):
         name, _, text = rest.partition(" ")
         if verb == "change":
             other, *changes = text.split(" | ")
-            text = self.changed(self[other], [it.split(" -> ", 1) for it in changes])
+            text = changed(self[other], [it.split(" -> ", 1) for it in changes])
         self[name] = text
 
 
@@ -102,7 +110,7 @@ def body_at(texts, brought, place):
     word = brought.words[place] if len(brought.words) > place else ""
     if word.isdigit():
         return b"a" * int(word)
-    return bytes_of(texts.changed(texts.get(word, word), brought.changes))
+    return bytes_of(changed(texts.get(word, word), brought.changes))
 
 
 def reply_of(texts, brought, status):
