@@ -73,6 +73,7 @@ IDENTIFIERS = ["<m1@x>", "<m2@x>", "<m3@x>", "m1@x"]
 SHORT = {"3": b"aaa", "0": b"", "1": b"a", "abc": b"abc", "abd": b"abd", "b\\x00\\xff\\r\\n": b"b\0\xff\r\n"}
 LONG = {"65536": b"a" * 65536, "65537": b"a" * 65537, "70000": b"a" * 70000, "{abc*22000}": b"abc" * 22000}
 CONTENTS = SHORT | LONG
+TOO_LONG = "1048577"
 # The MIC of the text `receipt`.
 RECEIPT_MIC = "kAFQmDzST7DWlj99KOF/cg=="
 LATER = "Receipt-Delivery-Option: http://127.0.0.1:8082/mdn"
@@ -91,7 +92,12 @@ ASKS = [
 ]
 OTHERS = [
     "Content-Type: text/plain", "Content-Type:", "Content-Type: application/pkcs7-mime", "Content-Encoding: gzip",
-    "AS2-Version: 2.0", "Message-ID:", f"{LATER} | Content-Type: application/pkcs7-mime",
+    "AS2-Version: 2.0", "Message-ID:", f"{LATER} | Content-Type: application/pkcs7-mime", "AS2-From:", 'AS2-From: "Buyer',
+    'AS2-From: "Buyer"', "Content-Type: text", "Content-Type: text/plain; name=", 'Content-Type: text/plain; name="a;\\\\"b"',
+    "Content-Type: application/pkcs7-mime; smime-type=compressed-data", "Content-Type: multipart/signed; boundary=b",
+    "Disposition-Notification-Options: signed-receipt-protocol=required, pkcs7-signature", "Disposition-Notification-Options: x",
+    "Disposition-Notification-Options: signed-receipt-micalg=optional", "Content-Transfer-Encoding: 8BIT",
+    "Disposition-Notification-Options: signed-receipt-micalg=maybe, md5", "Content-Type: text/plain; a b=c", f"{LATER} | {LATER}",
 ]
 # What is changed in a receipt, beside the number and the MIC of its document.
 CHANGES = [
@@ -102,6 +108,13 @@ CHANGES = [
     ", md5 -> , sha-999",
     "@station.example> -> @other.example>",
     "--as2-mdn-7-- -> --",
+    "automatic-action/MDN-sent-automatically; -> MANUAL-ACTION / mdn-sent-manually;",
+    "MDN-sent-automatically -> MDN-sent",
+    "Original-Message-ID -> X-ID",
+    "Disposition: -> Disposition: x\\r\\nDisposition:",
+    "message/disposition-notification\\r\\n -> message/disposition-notification\\r\\nContent-Transfer-Encoding: base64\\r\\n",
+    "message/disposition-notification -> text/plain",
+    "\\r\\n -> \\n",
 ]
 STATUSES = [200, 200, 200, 200, 202, 199, 299, 404, 500]
 AGREEMENTS = ["without-supplier", "without-buyer", "without-depot"]
@@ -180,7 +193,7 @@ class Writer:
         fields = [it for it in fields if it.split(":")[0] not in names]
         self.event(" | ".join(["post", content, *fields, *asked]))
         key = partner, organization, identifier.strip("<>")
-        is_refused = not self.is_agreed or "Nobody" in key or "later" in asks or {"AS2-Version", "Message-ID"} & set(names)
+        is_refused = not self.is_agreed or "Nobody" in key or "later" in asks or {"AS2-Version", "Message-ID", "AS2-From"} & set(names)
         if key not in self.keys and not is_refused:
             self.keys.append(key)
             if LATER in asks:
@@ -188,8 +201,10 @@ class Writer:
 
     def submit(self):
         organization, partner, content = self.any_of(ORGANIZATIONS), self.any_of(PARTNERS), self.content()
+        if self.one_in(100):
+            content = TOO_LONG
         self.event(f"submit | {organization} | {partner} | {content}")
-        if "Nobody" not in (organization, partner) and self.is_agreed:
+        if "Nobody" not in (organization, partner) and content != TOO_LONG and self.is_agreed:
             self.documents.append((organization, partner, content))
 
     def begin(self):
