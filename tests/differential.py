@@ -1,10 +1,12 @@
 #!/usr/bin/env python3
-"""Compares two kinds of records on random lists of events: `python3 tests/differential.py [SEED [LISTS]]`.
+"""Compares two kinds of records and the machine on random lists of events: `python3 tests/differential.py [SEED [LISTS]]`.
 
 Each list is played over two stations at once, one with its records in SQLite and one with its records in lists, both in memory. What
-they answer to each event and to each read has to be the same, byte by byte. The program in tests/differential/ does that; this writes
-the lists as scripts (docs/SCRIPTS.md), builds the program in a copy of the crates that it stands on, has it play the lists, and tells what
-it found. The files of the program end in .rattle, since `rt ci` refuses a file .rt that belongs to no crate; in the copy they end in .rt.
+they answer to each event and to each read has to be the same, byte by byte, and has to be what the machine of tests/machine/ answers:
+an independent program in Python, written from the definitions. The program in tests/differential/ plays the lists; this writes them as
+scripts (docs/SCRIPTS.md), each line with the answer of the machine, builds the program in a copy of the crates that it stands on, has it
+play the lists, and tells what it found. The files of the program end in .rattle, since `rt ci` refuses a file .rt that belongs to no
+crate; in the copy they end in .rt.
 
 Where these crates stand proved in crates/*/out and no source is newer, the program is proved over them and built by `rt run`, and several
 processes play the lists side by side. The proof takes about five minutes, and a list one or two milliseconds. The program then stays in
@@ -14,10 +16,13 @@ nor is the program: `rt try` builds it with checks, in a minute or two, and play
 The list of a seed is always the same. SEED (1 if not given) is the seed of the first list, and each further list has the next one; so
 `differential.py 17 1` plays the list of seed 17 alone. LISTS is 10,000 if not given. A list has 5 to 40 events, with reads between
 and behind them. Its words are few, so that events meet: posts with and without receipts, repeats, documents and their tries, documents
-that are sent anew, receipts that are posted or answered, receipts that are owed, and moments that mostly rise.
+that are given up and sent anew, receipts that are posted or answered, receipts that are owed, and moments that mostly rise. The reads
+show all that is kept of each entry.
 
     --control   takes one event over SQLite alone: that has to be found out, or the status is 1
+    --control machine   the same of a changed machine, whose resends leave the tries that were used
     --answers   tells how often each answer came to each event, over SQLite alone
+    --resends   tells what came of resends by the machine, and runs nothing; a whole run tells it too
     --write     prints the lists, and runs nothing
     --jobs N    how many processes play the lists of a proved program; if not given, one a processor, and at most 4
 
@@ -27,6 +32,7 @@ import argparse
 import base64
 import collections
 import concurrent.futures
+import dataclasses
 import hashlib
 import os
 import pathlib
@@ -39,15 +45,17 @@ import tempfile
 import time
 
 TOP = pathlib.Path(__file__).resolve().parent.parent
-sys.path.insert(0, str(TOP / "tools"))
+sys.path[:0] = [str(TOP / "tools"), str(TOP / "tests" / "machine")]
 sys.dont_write_bytecode = True
 import build  # tools/build.py: which crates stand on which, and whether they are proved
+import lists as machine_lists  # tests/machine: plays a list over the machine
+import machine
 
 PROGRAM = "differential"
 DATA = TOP / "crates" / "as2_script" / "data"
 TEXTS = ["plain.texts", "station.texts", "alone.texts", "replies.texts"]
 USES = (
-    "script_lines script_player script_station as2_agreement as2_exchange as2_kept as2_lists as2_mdn as2_records as2_station as2_text "
+    "script_lines script_player script_station as2_agreement as2_exchange as2_kept as2_lists as2_mdn as2_records as2_station as2_text script_values "
     "sqlite"
 )
 LISTS_A_FILE = 20
@@ -65,6 +73,7 @@ IDENTIFIERS = ["<m1@x>", "<m2@x>", "<m3@x>", "m1@x"]
 SHORT = {"3": b"aaa", "0": b"", "1": b"a", "abc": b"abc", "abd": b"abd", "b\\x00\\xff\\r\\n": b"b\0\xff\r\n"}
 LONG = {"65536": b"a" * 65536, "65537": b"a" * 65537, "70000": b"a" * 70000, "{abc*22000}": b"abc" * 22000}
 CONTENTS = SHORT | LONG
+TOO_LONG = "1048577"
 # The MIC of the text `receipt`.
 RECEIPT_MIC = "kAFQmDzST7DWlj99KOF/cg=="
 LATER = "Receipt-Delivery-Option: http://127.0.0.1:8082/mdn"
@@ -83,7 +92,12 @@ ASKS = [
 ]
 OTHERS = [
     "Content-Type: text/plain", "Content-Type:", "Content-Type: application/pkcs7-mime", "Content-Encoding: gzip",
-    "AS2-Version: 2.0", "Message-ID:", f"{LATER} | Content-Type: application/pkcs7-mime",
+    "AS2-Version: 2.0", "Message-ID:", f"{LATER} | Content-Type: application/pkcs7-mime", "AS2-From:", 'AS2-From: "Buyer',
+    'AS2-From: "Buyer"', "Content-Type: text", "Content-Type: text/plain; name=", 'Content-Type: text/plain; name="a;\\\\"b"',
+    "Content-Type: application/pkcs7-mime; smime-type=compressed-data", "Content-Type: multipart/signed; boundary=b",
+    "Disposition-Notification-Options: signed-receipt-protocol=required, pkcs7-signature", "Disposition-Notification-Options: x",
+    "Disposition-Notification-Options: signed-receipt-micalg=optional", "Content-Transfer-Encoding: 8BIT",
+    "Disposition-Notification-Options: signed-receipt-micalg=maybe, md5", "Content-Type: text/plain; a b=c", f"{LATER} | {LATER}",
 ]
 # What is changed in a receipt, beside the number and the MIC of its document.
 CHANGES = [
@@ -94,6 +108,13 @@ CHANGES = [
     ", md5 -> , sha-999",
     "@station.example> -> @other.example>",
     "--as2-mdn-7-- -> --",
+    "automatic-action/MDN-sent-automatically; -> MANUAL-ACTION / mdn-sent-manually;",
+    "MDN-sent-automatically -> MDN-sent",
+    "Original-Message-ID -> X-ID",
+    "Disposition: -> Disposition: x\\r\\nDisposition:",
+    "message/disposition-notification\\r\\n -> message/disposition-notification\\r\\nContent-Transfer-Encoding: base64\\r\\n",
+    "message/disposition-notification -> text/plain",
+    "\\r\\n -> \\n",
 ]
 STATUSES = [200, 200, 200, 200, 202, 199, 299, 404, 500]
 AGREEMENTS = ["without-supplier", "without-buyer", "without-depot"]
@@ -115,6 +136,8 @@ class Writer:
         # Lines of posts, keys of received documents, numbers of owed receipts, documents with partner and content, and begun ones.
         self.posts, self.keys, self.owed, self.documents, self.begun, self.begun_owed = [], [], [], [], [], []
         self.is_agreed = True
+        # What is still to come of a document that is given up.
+        self.steps = []
         # How seldom a content is long: under `rt try` the records in SQLite take a second for one.
         self.seldom = self.random.choice([10] + [200] * 9)
 
@@ -170,7 +193,7 @@ class Writer:
         fields = [it for it in fields if it.split(":")[0] not in names]
         self.event(" | ".join(["post", content, *fields, *asked]))
         key = partner, organization, identifier.strip("<>")
-        is_refused = not self.is_agreed or "Nobody" in key or "later" in asks or {"AS2-Version", "Message-ID"} & set(names)
+        is_refused = not self.is_agreed or "Nobody" in key or "later" in asks or {"AS2-Version", "Message-ID", "AS2-From"} & set(names)
         if key not in self.keys and not is_refused:
             self.keys.append(key)
             if LATER in asks:
@@ -178,8 +201,10 @@ class Writer:
 
     def submit(self):
         organization, partner, content = self.any_of(ORGANIZATIONS), self.any_of(PARTNERS), self.content()
+        if self.one_in(100):
+            content = TOO_LONG
         self.event(f"submit | {organization} | {partner} | {content}")
-        if "Nobody" not in (organization, partner) and self.is_agreed:
+        if "Nobody" not in (organization, partner) and content != TOO_LONG and self.is_agreed:
             self.documents.append((organization, partner, content))
 
     def begin(self):
@@ -214,6 +239,21 @@ class Writer:
     def resend(self):
         self.event(f"resend {self.number(self.begun, len(self.documents))}")
 
+    def give_up(self):
+        """Has a document be given up and sent anew, in steps that stand among the other events: what is still to come of it, in order."""
+        number = self.number([self.first + len(self.documents) - 1], len(self.documents))
+        failed = [f"begin {number}", f"unanswered {number}", f"begin {number}", self.random.choice([f"unanswered {number}", "tick"])]
+        overdue = [f"begin {number}", f"reply {number} 200 | empty", "tick"]
+        receipt = self.receipt_of(number)
+        behind = [f"post | {receipt}", f"post | {receipt}", f"begin {number}", f"reply {number} 200 | {receipt}", f"resend {number}", "tick"]
+        self.steps = [*self.random.choice([failed, failed, overdue]), f"resend {number}", *self.random.sample(behind, 2)]
+        self.begun.append(number)
+
+    def go_on(self):
+        """Adds the next step of the document that is given up, mostly when that is due."""
+        self.now = min(LAST_MOMENT, self.now + self.random.choice([30, 60, 60, 61, 90]))
+        self.lines.append(f"{self.now} {self.steps.pop(0)}")
+
     def begin_owed(self):
         number = self.number(self.owed, len(self.keys))
         self.event(f"begin-mdn {number}")
@@ -245,6 +285,8 @@ class Writer:
             self.begin: 20 if self.documents else 2,
             self.outcome: 20 if self.begun else 2,
             self.resend: 10 if self.begun else 1,
+            self.give_up: 16 if self.documents and not self.steps else 0,
+            self.go_on: 80 if self.steps else 0,
             self.begin_owed: 14 if self.owed else 1,
             self.outcome_owed: 14 if self.begun_owed else 1,
             self.posted_receipt: 10 if self.begun else 2,
@@ -257,16 +299,17 @@ class Writer:
         moment = self.random.choice([self.now, self.now, self.moment()])
         words = [
             f"next {moment}", f"outstanding {moment}", "list in", "list out", f"list out {self.random.choice('PRSWE')}",
-            f"show {self.number([], len(self.documents))}", f"fetch {self.number([], len(self.keys))}",
+            f"show {self.number([], len(self.documents))}", f"fetch {self.number([], len(self.keys))}", "numbers",
+            f"document {self.number([], len(self.documents))}", f"received {self.number([], len(self.keys))}",
         ]
         self.lines.append(self.random.choice(words))
 
     def read_all(self):
         for moment in (0, self.now, LAST_MOMENT):
             self.lines += [f"next {moment}", f"outstanding {moment}"]
-        self.lines += ["list in", "list out", *(f"list out {letter}" for letter in "PRSWE")]
-        self.lines += [f"show {self.first + at}" for at in range(min(len(self.documents) + 1, 8))]
-        self.lines += [f"fetch {self.first + at}" for at in range(min(len(self.keys) + 1, 8))]
+        self.lines += ["list in", "list out", *(f"list out {letter}" for letter in "PRSWE"), "numbers"]
+        for words, count in (("show document", len(self.documents)), ("fetch received", len(self.keys))):
+            self.lines += [f"{word} {self.first + at}" for word in words.split() for at in range(count + 1)]
 
     def write(self):
         """Writes the list, and returns its lines."""
@@ -289,12 +332,23 @@ def is_event(line):
     return line[0].isdigit()
 
 
+def texts():
+    """Returns the texts that all lists use."""
+    read = machine_lists.Texts()
+    for name in TEXTS:
+        read.read(DATA / name)
+    return read
+
+
 class List:
-    """A list of a seed: its lines, as a script has them."""
+    """A list of a seed: its lines, each without an answer unless it is taken by SQLite alone."""
+
+    SHARED = texts()
 
     def __init__(self, seed):
         self.seed = seed
-        self.lines = [f"{it} => same" if is_played(it) else it for it in Writer(seed).write()]
+        self.lines = Writer(seed).write()
+        self.step, self.resends = machine.step, collections.Counter()
 
     def spoiled(self):
         """Has SQLite alone take in a document before all else."""
@@ -303,17 +357,34 @@ class List:
 
     def told_alone(self):
         """Has SQLite alone take each event, and tell its answer."""
-        events = [it.replace(" => same", " => ?") for it in self.lines if is_event(it)]
-        self.lines = [*(it for it in self.lines if not is_played(it) and it.startswith("text ")), *(f"alone {it}" for it in events)]
+        events = [f"alone {it} => ?" for it in self.lines if is_event(it)]
+        self.lines = [*(it for it in self.lines if it.startswith("text ")), *events]
 
     def first(self):
         return self.lines[0].split()[-1] if self.lines[0].startswith("text first") else "1"
 
     def rows(self):
-        return sum(" => " in line for line in self.lines)
+        return sum(map(is_played, self.lines))
+
+    def answered(self):
+        """Gives the lines as a script has them, each that is played with the answer of the machine."""
+        played = machine_lists.Played(self.SHARED, self.step)
+        for line in self.lines:
+            answer = None if line.startswith("alone ") else played.answer(line)
+            yield line if answer is None else f"{line} =>{' ' if answer else ''}{machine_lists.spelled(answer)}"
+        self.resends = played.resends
 
     def text(self):
-        return "".join(f"{line}\n" for line in [f"= {self.seed}", *self.lines])
+        return "".join(f"{line}\n" for line in [f"= {self.seed}", *self.answered()])
+
+
+def without_tries_back(agreements, state, event):
+    """A step of the machine, but that a resend leaves the tries that were used."""
+    stepped = machine.step(agreements, state, event)
+    if not isinstance(event, machine.Resend) or stepped[0] != machine.RESENT:
+        return stepped
+    resent, before = (machine.document(it, event.number) for it in (stepped[1], state))
+    return stepped[0], machine.change_document(stepped[1], dataclasses.replace(resent, tries=before.tries))
 
 
 def below():
@@ -430,11 +501,11 @@ def printed_of(files, jobs):
 
 def differing(some, printed):
     """Returns the lists of a file that differ, each with its lines that do, and what was told of them."""
-    lines = [(it, line) for it in some for line in it.text().splitlines()]
+    lines = [(it, line) for it in some for line in [it.seed, *it.lines]]
     found = {}
     for number, told in re.findall(r"^[^\s:]*:(\d+): (.*)", printed, re.M):
         it, line = lines[int(number) - 1]
-        found.setdefault(it, []).append(f"{line.rsplit(' => ', 1)[0]}: {told}")
+        found.setdefault(it, []).append(f"{line.split(' => ', 1)[0]}: {told}")
     return found
 
 
@@ -489,28 +560,53 @@ def answers(lists, jobs):
     return 0 if found.is_whole() else 1
 
 
-def control(jobs):
-    """Spoils the second of three lists, and returns 0 if that one alone is found."""
-    lists = [List(seed) for seed in (1, 2, 3)]
-    lists[1].spoiled()
+def has_resent(it):
+    """Whether the machine grants a resend in a list."""
+    collections.deque(it.answered(), 0)
+    return it.resends["resent"] > 0
+
+
+def changed_lists(what):
+    """Returns three lists, the second of which is spoiled or, of the kind `machine`, answered by a changed machine."""
+    if what == "store":
+        lists = [List(seed) for seed in (1, 2, 3)]
+        lists[1].spoiled()
+        return lists
+    kinds = {is_granted: [it for it in map(List, range(1, 100)) if has_resent(it) is is_granted] for is_granted in (True, False)}
+    kinds[True][0].step = without_tries_back
+    return [kinds[False][0], kinds[True][0], kinds[False][1]]
+
+
+def control(what, jobs):
+    """Changes the second of three lists, and returns 0 if that one alone is found."""
+    lists = changed_lists(what)
     found = Found(lists, jobs)
     is_well = found.is_whole() and list(found) == [lists[1]]
     print("the control was found out" if is_well else "THE CONTROL WAS NOT FOUND OUT", flush=True)
     return 0 if is_well else 1
 
 
+def tell_resends(lists):
+    """Tells what came of resends, by the machine."""
+    for what, count in sorted(sum((it.resends for it in lists), collections.Counter()).items()):
+        print(f"resends: {count:7} {what}", flush=True)
+
+
 def compare(lists, jobs):
     """Compares on these lists, tells what differs, and returns 0 if nothing does."""
     found = Found(lists, jobs, tells=True)
+    tell_resends(lists)
     return 0 if found.is_whole() and not found else 1
 
 
 def main():
-    words = argparse.ArgumentParser(description="Compares two kinds of records on random lists of events.")
+    words = argparse.ArgumentParser(description="Compares two kinds of records and the machine on random lists of events.")
     words.add_argument("seed", nargs="?", type=int, default=1, metavar="SEED", help="the seed of the first list")
     words.add_argument("lists", nargs="?", type=int, default=10000, metavar="LISTS", help="how many lists")
-    words.add_argument("--control", action="store_true", help="spoil a list, which has to be found out")
+    kinds = {"nargs": "?", "const": "store", "choices": ["store", "machine"]}
+    words.add_argument("--control", **kinds, help="spoil a list, or change the machine, which has to be found out")
     words.add_argument("--answers", action="store_true", help="tell how often each answer came")
+    words.add_argument("--resends", action="store_true", help="tell what came of resends, and run nothing")
     words.add_argument("--write", action="store_true", help="print the lists, and run nothing")
     jobs = min(MOST_JOBS, len(os.sched_getaffinity(0)))
     words.add_argument("--jobs", type=int, default=jobs, metavar="N", help="how many processes play the lists of a proved program")
@@ -518,10 +614,14 @@ def main():
     if given.jobs < 1:
         words.error("--jobs: at least 1")
     if given.control:
-        return control(given.jobs)
+        return control(given.control, given.jobs)
     lists = [List(seed) for seed in range(given.seed, given.seed + given.lists)]
     if given.write:
         sys.stdout.write("".join(it.text() for it in lists))
+        return 0
+    if given.resends:
+        collections.deque(map(has_resent, lists), 0)
+        tell_resends(lists)
         return 0
     return answers(lists, given.jobs) if given.answers else compare(lists, given.jobs)
 
