@@ -1,4 +1,5 @@
 pub mod Fronts
 pub mod Opening
+pub mod Names
 pub mod Stores
 pub mod Earlier

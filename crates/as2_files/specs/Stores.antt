@@ -21,12 +21,15 @@ abbrev pub IsFound : Image → Connected → Type 0
 IsFound image c = HasCleanDisk c → IsTrue c.is_open × ((s : State) → HoldsState image s → Rests c s)
 
 module _ {D : Type 0} (g : Ghosts D) where
-  -- the tables in them stand for that state: by what they held as they were opened, until they are closed; of those of a store that
-  -- couldn't be closed nothing is told
+  -- the files into which a store was closed hold that state; of those of one that couldn't be closed nothing is told
+  abbrev pub EndsIn : End D → State → Type 0
+  EndsIn (Closed files) s = AreClosed g files s
+  EndsIn (Left files) s = ⊤
+
+  -- the tables in the files stand for that state: by what they held as they were opened, until they are closed
   abbrev pub Keeps : Image → Option (End D) → State → Type 0
   Keeps image None s = HoldsState image s
-  Keeps image (Some (Closed files)) s = AreClosed g files s
-  Keeps image (Some (Left files)) s = ⊤
+  Keeps image (Some end) s = EndsIn end s
 
   -- until they were closed, all that was read of them is what had been written
   abbrev pub IsCleanEnd : Option (End D) → Type 0

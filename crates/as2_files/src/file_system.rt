@@ -1,23 +1,25 @@
 //! The file system: stores are looked at before they are opened, made under another name and then given their own, and closed
 //! into their one file.
-ghost use Rattle.as2_files.specs.Stores.{NeedsNoLog};
+ghost use Rattle.std.specs.Prelude.{◌≡◌, IfOk, string_bytes};
+ghost use Rattle.as2_files.specs.Names.{file_name};
 
 use crate::closing::{opening_fault, with_tables};
 use crate::fronts::{PAGE, Seen, has_mark, lists_no_meta, may_be_store};
+use crate::places::Place;
 use as2_commands::FirstNumber;
 use as2_exchange::StoreFault;
 use as2_host::OpenFault;
 use sqlite::{Connection, Options};
-use sqlite_disk::{Disk, Files};
+use sqlite_disk::Disk;
 use sqlite_std_file::{OpenError, Unknown};
-use std::alloc::{AllocError, Global};
+use std::alloc::Global;
 use std::hash::{BuildHasher, RandomState};
 use std::io::{ErrorKind, Read};
 use std::{fs, io};
 
 const REFUSED: OpenFault = OpenFault::Store(StoreFault::Refused);
 
-const MEMORY: OpenFault = OpenFault::Store(StoreFault::Memory);
+pub(crate) const MEMORY: OpenFault = OpenFault::Store(StoreFault::Memory);
 
 const DISK: OpenFault = OpenFault::Store(StoreFault::Disk);
 
@@ -28,7 +30,7 @@ pub struct FileSystem<'a> {
 }
 
 /// What a failed call of the file system is to a store.
-fn fault_of(error: io::Error) -> OpenFault {
+pub(crate) fn fault_of(error: io::Error) -> OpenFault {
     match error.kind() {
         ErrorKind::OutOfMemory => MEMORY,
         _ => REFUSED,
@@ -44,23 +46,7 @@ fn unlocked(error: OpenError) -> OpenFault {
     }
 }
 
-/// The path with that behind it. One that begins with `file:` is a path too.
-fn named(alloc: Global, path: &str, behind: &str) -> Result<String, AllocError> {
-    let mut name = String::new(alloc);
-    if path.starts_with("file:") {
-        name.push_str("./")?;
-    }
-    name.push_str(path)?;
-    name.push_str(behind)?;
-    Ok(name)
-}
-
 impl FileSystem<'_> {
-    /// The name of the file of that path, with that behind it.
-    pub(crate) fn name(&self, path: &str, behind: &str) -> Result<String, OpenFault> {
-        named(self.rt.alloc(), path, behind).map_err(|_| MEMORY)
-    }
-
     /// Whether something stands at that name, be it a link to nothing.
     fn is_there(&self, name: &str) -> Result<bool, OpenFault> {
         match fs::symlink_metadata(self.rt, name) {
@@ -70,14 +56,8 @@ impl FileSystem<'_> {
         }
     }
 
-    /// The name of the log of the store that stands under that path: it lies beside the file, where a link leads.
-    fn log_of(&self, path: &str) -> Result<String, OpenFault> {
-        let real = fs::canonicalize(self.rt, &self.name(path, "")?).map_err(fault_of)?;
-        self.name(real.as_str(), "-wal")
-    }
-
     /// Takes a file away; what isn't there needs no taking away.
-    fn remove(&self, name: &str) {
+    pub(crate) fn remove(&self, name: &str) {
         let _ = fs::remove_file(self.rt, name);
     }
 
@@ -88,7 +68,7 @@ impl FileSystem<'_> {
 
     /// What stands under that path: a database where the file begins with SQLite's mark, and may be a store.
     fn look(&self, path: &str) -> Result<Seen, OpenFault> {
-        let file = match fs::File::open(self.rt, &self.name(path, "")?) {
+        let file = match fs::File::open(self.rt, &self.name(path)?) {
             Ok(file) => file,
             Err(error) if error.kind() == ErrorKind::NotFound => return Ok(Seen::Nothing),
             Err(error) => return Err(fault_of(error)),
@@ -118,9 +98,9 @@ impl FileSystem<'_> {
         path: &str,
         first: FirstNumber,
     ) -> Result<bool, OpenFault> {
-        let name = self.name(path, "")?;
-        let draft = self.name(path, ".new")?;
-        let draft_log = self.name(path, ".new-wal")?;
+        let name = self.name(path)?;
+        let draft = self.beside(path, ".new")?;
+        let draft_log = self.beside(path, ".new-wal")?;
         let mut files = match sqlite_std_file::open(self.rt, &draft, Unknown) {
             Ok(files) => files,
             Err(error) => return Err(unlocked(error)),
@@ -143,33 +123,28 @@ impl FileSystem<'_> {
         Ok(true)
     }
 
-    /// Sees that a store stands under that path: where nothing does, one is made that begins with `first`. Gives the name of its file.
+    /// Sees that a store stands under that path: where nothing does, one is made that begins with `first`. Gives its place.
     pub(crate) fn make_sure(
         &self,
         alloc: Global,
         path: &str,
         first: FirstNumber,
-    ) -> Result<String, OpenFault> {
+    ) -> Result<Place, OpenFault>
+        ensures { IfOk result (λ place. string_bytes place.name ≡ file_name path.now) }
+    {
         if self.is_store(path)? || self.make_closed(alloc, path, first)? || self.is_store(path)? {
-            return self.name(path, "");
+            return self.place_of(path);
         }
         Err(REFUSED)
     }
 
-    /// The name of the file of that path, where a store may stand under it. NotAStore where nothing does.
-    pub(crate) fn find(&self, path: &str) -> Result<String, OpenFault> {
+    /// The place of the store of that path, where one may stand under it. NotAStore where nothing does.
+    pub(crate) fn find(&self, path: &str) -> Result<Place, OpenFault>
+        ensures { IfOk result (λ place. string_bytes place.name ≡ file_name path.now) }
+    {
         if self.is_store(path)? {
-            return self.name(path, "");
+            return self.place_of(path);
         }
         Err(OpenFault::Store(StoreFault::NotAStore))
-    }
-
-    /// Takes away the log of the store that was closed into these files, of that path, which do without it. They are locked meanwhile.
-    pub(crate) fn remove_log<D: Disk>(&self, path: &str, _files: &Files<D>)
-        requires { NeedsNoLog D.Disk _files.now }
-    {
-        if let Ok(log) = self.log_of(path) {
-            self.remove(&log);
-        }
     }
 }

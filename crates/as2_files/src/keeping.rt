@@ -1,5 +1,5 @@
-//! Records in the two files of a path.
-ghost use Rattle.std.specs.Prelude.{◌≡◌, Some, IfOk, IsTrue};
+//! Records in the two files of a name.
+ghost use Rattle.std.specs.Prelude.{ℕ, List, Some, IfOk, IsTrue};
 ghost use Rattle.sqlite.specs.Files.{file_state};
 ghost use Rattle.sqlite.specs.State.{HasCleanDisk};
 ghost use Rattle.sqlite_wal.specs.Recovery.{Image};
@@ -8,7 +8,7 @@ ghost use Rattle.as2_store.specs.Files.{HoldsState};
 ghost use Rattle.as2_store.specs.Stands.{Rests};
 ghost use Rattle.as2_host.specs.Migrating.{moved};
 ghost use Rattle.as2_files.specs.Earlier.{HoldsEarlier};
-ghost use Rattle.as2_files.specs.Stores.{IfClosed, IsCleanEnd, IsFound, Keeps, NeedsNoLog};
+ghost use Rattle.as2_files.specs.Stores.{EndsIn, IfClosed, IsCleanEnd, IsFound, NeedsNoLog};
 
 use crate::closing::opening_fault;
 use crate::migrating::{Moved, migrate_in_files};
@@ -29,28 +29,28 @@ pub enum End<D: Disk + Drop> {
     Left(Files<D>),
 }
 
-/// What opens records in the two files of a path, and closes them. The records are a parameter; `docs/DECISIONS.md` says what was tried.
+/// What opens records in the two files of a name, and closes them. The records are a parameter; `docs/DECISIONS.md` says what was tried.
 pub trait KeepFiles<R: Records> {
     /// What the files lie on.
     type Disk: Disk + Drop;
 
-    // what they hold as they are opened
-    ghost image: { Image };
+    // what the files of that name hold as they are opened
+    ghost image: { List ℕ → Image };
 
     /// Opens the records in the files of that name.
     fn open_records(self, rt: &HostRuntime, name: &str) -> Result<R, OpenFault>
         ensures found { IfOk result (λ r. (R.Records.shows r).IsClean → IsTrue (R.Records.shows r).is_open
-            × ((s : State) → HoldsState image s → (R.Records.shows r).Rests s)) };
+            × ((s : State) → HoldsState (image name.now) s → (R.Records.shows r).Rests s)) };
 
     /// Makes records of an earlier version in the files of that name those of the version that is read, and closes them.
     fn migrate_records(self, rt: &HostRuntime, name: &str) -> Result<Moved<Self::Disk>, OpenFault>
-        ensures moved { IfOk result (λ it. IsCleanEnd Self.Disk.Disk (Some it.end) → (s : State) → HoldsEarlier image s → Keeps Self.Disk.Disk image (Some it.end) (moved s)) }
+        ensures moved { IfOk result (λ it. IsCleanEnd Self.Disk.Disk (Some it.end) → (s : State) → HoldsEarlier (image name.now) s → EndsIn Self.Disk.Disk it.end (moved s)) }
         ensures alone { IfOk result (λ it. IfClosed (NeedsNoLog Self.Disk.Disk) it.end) };
 
     /// Closes the records into their files.
     fn close_records(records: R) -> End<Self::Disk>
         ensures clean { IsCleanEnd Self.Disk.Disk (Some result) → (R.Records.shows records).IsClean }
-        ensures kept { IsCleanEnd Self.Disk.Disk (Some result) → (s : State) → (R.Records.shows records).Rests s → Keeps Self.Disk.Disk image (Some result) s }
+        ensures kept { IsCleanEnd Self.Disk.Disk (Some result) → (s : State) → (R.Records.shows records).Rests s → EndsIn Self.Disk.Disk result s }
         ensures alone { IfClosed (NeedsNoLog Self.Disk.Disk) result };
 }
 
@@ -68,7 +68,7 @@ pub fn open_in_files<F: OpenFiles>(
     opener: F,
     name: &str,
 ) -> Result<Kept<FileStore<F::Disk>>, OpenFault>
-    ensures { IfOk result (λ records. IsFound F.image (file_state records)) }
+    ensures { IfOk result (λ records. IsFound (F.image name.now) (file_state records)) }
 {
     let conn = match opener.open_files(rt, name) {
         Ok(conn) => conn,
@@ -83,7 +83,7 @@ pub fn open_in_files<F: OpenFiles>(
 /// Closes a store into its two files, which hold then what its tables stood for, the database file alone, too.
 pub fn close_into_files<D: Disk + Drop>(records: Kept<FileStore<D>>) -> End<D>
     ensures clean { IsCleanEnd D.Disk (Some result) → HasCleanDisk (file_state records) }
-    ensures kept { IsCleanEnd D.Disk (Some result) → (image : Image) (s : State) → Rests (file_state records) s → Keeps D.Disk image (Some result) s }
+    ensures kept { IsCleanEnd D.Disk (Some result) → (s : State) → Rests (file_state records) s → EndsIn D.Disk result s }
     ensures alone { IfClosed (NeedsNoLog D.Disk) result }
 {
     match close(records.into_connection()) {

@@ -7,6 +7,7 @@ mod fronts;
 mod keeping;
 mod migrating;
 mod opening;
+mod places;
 mod reading;
 mod stores;
 

@@ -3,13 +3,12 @@ ghost use Rattle.std.specs.Prelude.{◌≡◌, Some, false, IfOk};
 ghost use Rattle.sqlite.specs.Files.{file_state};
 ghost use Rattle.sqlite.specs.Held.{state};
 ghost use Rattle.sqlite.specs.State.{HasCleanDisk};
-ghost use Rattle.sqlite_wal.specs.Recovery.{Image};
 ghost use Rattle.as2_exchange.specs.State.{State};
 ghost use Rattle.as2_host.specs.Migrating.{moved};
 ghost use Rattle.as2_store.specs.Calls.{IsGivenBack};
 ghost use Rattle.as2_store.specs.Stands.{Rests};
 ghost use Rattle.as2_files.specs.Earlier.{HoldsEarlier};
-ghost use Rattle.as2_files.specs.Stores.{IfClosed, IsCleanEnd, Keeps, NeedsNoLog};
+ghost use Rattle.as2_files.specs.Stores.{EndsIn, IfClosed, IsCleanEnd, NeedsNoLog};
 
 use crate::closing::opening_fault;
 use crate::keeping::End;
@@ -92,7 +91,7 @@ fn counted<S: Alter>(conn: &mut Connection<S>) -> Option<Entries>
 /// Closes a store into its two files.
 fn closed<D: Disk + Drop>(conn: Connection<FileStore<D>>) -> End<D>
     ensures clean { IsCleanEnd D.Disk (Some result) → HasCleanDisk (file_state conn) }
-    ensures kept { IsCleanEnd D.Disk (Some result) → (image : Image) (s : State) → Rests (file_state conn) s → Keeps D.Disk image (Some result) s }
+    ensures kept { IsCleanEnd D.Disk (Some result) → (s : State) → Rests (file_state conn) s → EndsIn D.Disk result s }
     ensures alone { IfClosed (NeedsNoLog D.Disk) result }
 {
     match close(conn) {
@@ -109,7 +108,7 @@ pub fn migrate_in_files<F: OpenFiles>(
     opener: F,
     name: &str,
 ) -> Result<Moved<F::Disk>, OpenFault>
-    ensures moved { IfOk result (λ it. IsCleanEnd F.Disk.Disk (Some it.end) → (s : State) → HoldsEarlier F.image s → Keeps F.Disk.Disk F.image (Some it.end) (moved s)) }
+    ensures moved { IfOk result (λ it. IsCleanEnd F.Disk.Disk (Some it.end) → (s : State) → HoldsEarlier (F.image name.now) s → EndsIn F.Disk.Disk it.end (moved s)) }
     ensures alone { IfOk result (λ it. IfClosed (NeedsNoLog F.Disk.Disk) it.end) }
 {
     let mut conn = match opener.open_files(rt, name) {

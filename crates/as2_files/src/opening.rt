@@ -1,5 +1,5 @@
 //! The two files of a store, as they are opened.
-ghost use Rattle.std.specs.Prelude.{◌≡◌, false, IfOk};
+ghost use Rattle.std.specs.Prelude.{◌≡◌, ℕ, List, false, IfOk};
 ghost use Rattle.sqlite.specs.Files.{file_state};
 ghost use Rattle.sqlite.specs.State.{HasCleanDisk};
 ghost use Rattle.sqlite_wal.specs.Files.{image_at};
@@ -21,21 +21,22 @@ pub trait OpenFiles {
     /// What they lie on.
     type Disk: Disk + Drop;
 
-    // what they hold as they are opened
-    ghost image: { Image };
+    // what the files of that name hold as they are opened
+    ghost image: { List ℕ → Image };
 
-    /// Opens the two files at a path, and makes those that are missing.
+    /// Opens the two files of that name, and makes those that are missing.
     fn open_files(
         self,
         rt: &HostRuntime,
-        path: &str,
+        name: &str,
     ) -> Result<Connection<FileStore<Self::Disk>>, Error>
         ensures autocommit { IfOk result (λ c. c.in_transaction ≡ false) }
-        ensures found { IfOk result (λ c. HasCleanDisk (file_state c) → (s : State) → HoldsState image s → Rests (file_state c) s) }
-        ensures earlier { IfOk result (λ c. HasCleanDisk (file_state c) → (layout : Layout) (s : State) → HoldsAs layout image s → RestsAs layout (file_state c) s) };
+        ensures found { IfOk result (λ c. HasCleanDisk (file_state c) → (s : State) → HoldsState (image name.now) s → Rests (file_state c) s) }
+        ensures earlier { IfOk result (λ c. HasCleanDisk (file_state c) → (layout : Layout) (s : State) → HoldsAs layout (image name.now) s → RestsAs layout (file_state c) s) };
 }
 
-/// Files of the operating system. `start` stands for what they hold as they are opened, which no code can read.
+/// Files of the operating system. `start` stands for what they hold as they are opened, which no code can read; that the name leads to
+/// them no clause says.
 #[derive(Drop)]
 pub struct Starting<S> {
     /// What they hold.
@@ -45,13 +46,13 @@ pub struct Starting<S> {
 impl<S: Start + Drop> OpenFiles for Starting<S> {
     type Disk = FileFrom<S>;
 
-    ghost image = { image_at S.Start };
+    ghost image = { λ _. image_at S.Start };
 
     fn open_files(
         self,
         rt: &HostRuntime,
-        path: &str,
+        name: &str,
     ) -> Result<Connection<FileStore<FileFrom<S>>>, Error> {
-        open_at(rt, path, self.start)
+        open_at(rt, name, self.start)
     }
 }

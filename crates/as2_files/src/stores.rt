@@ -1,8 +1,9 @@
 //! The store of a path, in its files.
 ghost use Rattle.std.specs.Prelude.{◌≡◌, true, IfErr, IfOk, IsTrue};
+ghost use Rattle.as2_exchange.specs.declared.fault.StoreFault.{StoreFault};
 ghost use Rattle.sqlite.specs.Held.{state};
 ghost use Rattle.sqlite.specs.Steps.{over_memory};
-ghost use Rattle.as2_host.specs.Stores.{fault_in};
+ghost use Rattle.as2_host.specs.declared.stores.OpenFault.TheVariants as open_fault;
 ghost use Rattle.as2_records.specs.Standing.{may_come};
 ghost use Rattle.as2_store.specs.Calls.{empty_store};
 ghost use Rattle.as2_store.specs.Stands.{Rests};
@@ -11,6 +12,7 @@ ghost use Rattle.as2_files.specs.Stores.{IsCleanEnd, Keeps};
 use crate::file_system::FileSystem;
 use crate::keeping::{End, KeepFiles};
 use crate::migrating::Moved;
+use crate::places::Place;
 use as2_commands::FirstNumber;
 use as2_host::{Migration, OpenFault, OpenStores};
 use as2_kept::{Kept, in_memory};
@@ -25,6 +27,7 @@ pub struct StoreFiles<'a, R: Records + Drop, K: KeepFiles<R> + Drop> {
     files: FileSystem<'a>,
     keeper: Option<K>,
     has_opened: bool,
+    place: Option<Place>,
     end: Option<End<K::Disk>>,
     records: PhantomData<R>,
 }
@@ -33,7 +36,7 @@ pub struct StoreFiles<'a, R: Records + Drop, K: KeepFiles<R> + Drop> {
 fn new_in_memory(alloc: Global, first: FirstNumber) -> Result<Kept<MemStore>, OpenFault>
     ensures is_open { IfOk result (λ records. IsTrue (state over_memory records).is_open) }
     ensures fresh { IfOk result (λ records. Rests (state over_memory records) (empty_store first)) }
-    ensures fault { IfErr result (λ fault. may_come (fault_in fault) ≡ true) }
+    ensures fault { IfErr result (λ fault. (why : StoreFault) × (fault ≡ open_fault.Store why) × (may_come why ≡ true)) }
 {
     match in_memory(alloc, first.get()) {
         Ok(records) => Ok(records),
@@ -48,6 +51,7 @@ impl<'a, R: Records + Drop, K: KeepFiles<R> + Drop> StoreFiles<'a, R, K> {
             files,
             keeper: Some(keeper),
             has_opened: false,
+            place: None,
             end: None,
             records: PhantomData,
         }
@@ -57,17 +61,18 @@ impl<'a, R: Records + Drop, K: KeepFiles<R> + Drop> StoreFiles<'a, R, K> {
 impl<R: Records + Drop, K: KeepFiles<R> + Drop> OpenStores for StoreFiles<'_, R, K> {
     ghost use Rattle.std.specs.Prelude.{⊤};
     ghost use Rattle.as2_files.specs.Earlier.{KeepsEarlier};
+    ghost use Rattle.as2_files.specs.Names.{file_name};
     ghost use Rattle.as2_files.specs.Stores.{opens_by};
 
     type Opened = R;
 
     type InMemory = Kept<MemStore>;
 
-    ghost keeps = { λ it path number s. Keeps K.Disk.Disk K.image it.end s };
+    ghost keeps = { λ it path number s. Keeps K.Disk.Disk (K.image (file_name path)) it.end s };
 
     ghost fails = { λ it path fault. ⊤ };
 
-    ghost keeps_earlier = { λ it path s. KeepsEarlier K.image it.end s };
+    ghost keeps_earlier = { λ it path s. KeepsEarlier (K.image (file_name path)) it.end s };
 
     ghost stays = { λ it path fault. ⊤ };
 
@@ -82,11 +87,12 @@ impl<R: Records + Drop, K: KeepFiles<R> + Drop> OpenStores for StoreFiles<'_, R,
         let None = self.end else {
             return Err(OpenFault::Held);
         };
-        let name = self.files.make_sure(alloc, path, first)?;
+        let place = self.files.make_sure(alloc, path, first)?;
         let Some(keeper) = self.keeper.take() else {
             return Err(OpenFault::Held);
         };
-        let records = keeper.open_records(self.files.rt, &name)?;
+        let records = keeper.open_records(self.files.rt, place.name())?;
+        self.place = Some(place);
         self.has_opened = true;
         Ok(records)
     }
@@ -99,10 +105,10 @@ impl<R: Records + Drop, K: KeepFiles<R> + Drop> OpenStores for StoreFiles<'_, R,
         new_in_memory(alloc, first)
     }
 
-    fn close(&mut self, path: &str, records: R) {
+    fn close(&mut self, _path: &str, records: R) {
         let end = K::close_records(records);
-        if let End::Closed(files) = &end {
-            self.files.remove_log(path, files);
+        if let (Some(place), End::Closed(files)) = (&self.place, &end) {
+            self.files.remove_log(place, files);
         }
         self.end = Some(end);
     }
@@ -114,13 +120,13 @@ impl<R: Records + Drop, K: KeepFiles<R> + Drop> OpenStores for StoreFiles<'_, R,
         let None = self.end else {
             return Err(OpenFault::Held);
         };
-        let name = self.files.find(path)?;
+        let place = self.files.find(path)?;
         let Some(keeper) = self.keeper.take() else {
             return Err(OpenFault::Held);
         };
-        let Moved { end, migration } = keeper.migrate_records(self.files.rt, &name)?;
+        let Moved { end, migration } = keeper.migrate_records(self.files.rt, place.name())?;
         if let End::Closed(files) = &end {
-            self.files.remove_log(path, files);
+            self.files.remove_log(&place, files);
         }
         self.end = Some(end);
         Ok(migration)

@@ -2,4 +2,4 @@ use Rattle.as2_files.proofs.migrating.closed.Goals as goal
 
 -- the files that were closed hold what the store stood for
 pub returns-in-Ok-clause-kept : goal.returns-in-Ok-clause-kept
-returns-in-Ok-clause-kept g c = λ honest _ s rests. c.in-Ok.ensures.closed honest s rests
+returns-in-Ok-clause-kept g c = λ honest s rests. c.in-Ok.ensures.closed honest s rests

@@ -1,0 +1,93 @@
+//! Where the store of a path lies.
+ghost use Rattle.std.specs.Prelude.{◌≡◌, ◌++◌, IfOk, string_bytes};
+ghost use Rattle.as2_files.specs.Names.{file_name};
+ghost use Rattle.as2_files.specs.Stores.{NeedsNoLog};
+
+use crate::file_system::{FileSystem, MEMORY, fault_of};
+use as2_host::OpenFault;
+use sqlite_disk::{Disk, Files};
+use std::alloc::{AllocError, Global};
+use std::fs;
+
+/// What an address begins with, for SQLite.
+const ADDRESS: &[u8] = b"file:";
+
+/// What stands before a path, so that its file has a name and no address.
+fn front(path: &str) -> &'static str
+    ensures { result.now ++ path.now ≡ file_name path.now }
+{
+    if path.as_bytes().starts_with(ADDRESS) {
+        return "./";
+    }
+    ""
+}
+
+/// The name of the file of that path, with that behind it.
+fn named(alloc: Global, path: &str, behind: &str) -> Result<String, AllocError>
+    ensures { IfOk result (λ name. string_bytes name ≡ file_name path.now ++ behind.now) }
+{
+    let mut name = String::new(alloc);
+    name.push_str(front(path))?;
+    name.push_str(path)?;
+    name.push_str(behind)?;
+    Ok(name)
+}
+
+/// Where a store lies. One is had only of a path under which a store stands, so that no other store's log is taken away.
+#[derive(Drop)]
+pub(crate) struct Place {
+    /// The name of its file.
+    name: String,
+    /// The name of its log, which lies beside the file, where a link leads.
+    log: String,
+}
+
+impl Place {
+    /// The name of its file.
+    pub(crate) fn name(&self) -> &str
+        ensures { result.now ≡ string_bytes self.now.name }
+    {
+        self.name.as_str()
+    }
+}
+
+impl FileSystem<'_> {
+    /// The name of the file of that path.
+    pub(crate) fn name(&self, path: &str) -> Result<String, OpenFault>
+        ensures { IfOk result (λ name. string_bytes name ≡ file_name path.now) }
+    {
+        self.beside(path, "")
+    }
+
+    /// The same with that behind it.
+    pub(crate) fn beside(&self, path: &str, behind: &str) -> Result<String, OpenFault>
+        ensures { IfOk result (λ name. string_bytes name ≡ file_name path.now ++ behind.now) }
+    {
+        match named(self.rt.alloc(), path, behind) {
+            Ok(name) => Ok(name),
+            Err(_) => Err(MEMORY),
+        }
+    }
+
+    /// The name of the log of the store that stands under that path.
+    pub(crate) fn log_of(&self, path: &str) -> Result<String, OpenFault> {
+        let real = fs::canonicalize(self.rt, &self.name(path)?).map_err(fault_of)?;
+        self.beside(real.as_str(), "-wal")
+    }
+
+    /// The place of the store that stands under that path.
+    pub(crate) fn place_of(&self, path: &str) -> Result<Place, OpenFault>
+        ensures { IfOk result (λ place. string_bytes place.name ≡ file_name path.now) }
+    {
+        let name = self.name(path)?;
+        let log = self.log_of(path)?;
+        Ok(Place { name, log })
+    }
+
+    /// Takes away the log of the store of that place, which was closed into these files. They do without it, and are locked meanwhile.
+    pub(crate) fn remove_log<D: Disk>(&self, place: &Place, _files: &Files<D>)
+        requires { NeedsNoLog D.Disk _files.now }
+    {
+        self.remove(&place.log);
+    }
+}
