@@ -1,9 +1,10 @@
+use Rattle.std.proofs.Common.{refl}
 use Rattle.as2_desk.proofs.HandedBack.{each_known}
 use Rattle.as2_desk.proofs.Unhinted.{unhinted}
 use Rattle.as2_desk.proofs.work.do_at.Goals as goal
 
 pub returns-in-Post-clause-does : goal.returns-in-Post-clause-does
-returns-in-Post-clause-does g c = rw c.in-Post.is (λ known stood. (c.post.ensures.posts known stood).0)
+returns-in-Post-clause-does g c = rw c.in-Post.is (λ known stood. (refl, (c.post.ensures.posts known stood).0))
 
 -- the links were opened here, and it is they that were sent over
 pub returns-in-Send-clause-does : goal.returns-in-Send-clause-does
