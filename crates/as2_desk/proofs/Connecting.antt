@@ -16,7 +16,7 @@ use Rattle.as2_desk.specs.Endings.{Ends}
 use Rattle.as2_desk.specs.Observed.{Outcome}
 use Rattle.as2_desk.specs.Refusals.{error_line}
 use Rattle.as2_desk.specs.Statuses.{done, refused}
-use Rattle.as2_desk.specs.Written.{Writes, written_of}
+use Rattle.as2_desk.specs.Written.{WritesWhole, written_of}
 use Rattle.as2_desk.specs.declared.refusal.CommandFault.TheVariants.{CannotWrite}
 use Rattle.as2_desk.specs.declared.status.Ran.{Ran}
 
@@ -36,8 +36,7 @@ module _ {L : Type 0} (ended : L → Option ℕ → Trace → Served → L → T
     m,
     t,
     subst (λ (x : L). ServesOne A given (λ trace. ended x given trace end m) s t) same.0 (subst (λ (x : State). ServesOne A given (λ trace. ended k given trace end m) x t) same.1 one),
-    refl,
-    refl,
+    (refl, refl),
   )
   serves_more (e ∷ ends) end l k m s mid t each one = (each.0, each.1, each.2, serves_more ends end each.0 k m each.1 mid t each.3 one)
 
@@ -48,14 +47,13 @@ module _ {L : Type 0} (ended : L → Option ℕ → Trace → Served → L → T
     pub each : EndsEach ended given l ends m
     pub all : length ends ≡ n
     pub led : new.IsClean → (s : State) → old.Rests s → (t : State) × new.Rests t × ServesEach ended given A ends l s m t
-    pub lines : Writes (written_of sink first now) (connection_lines ends)
-    pub counted : sink.failed first ≤ sink.failed now
+    pub lines : WritesWhole (written_of sink first now) (connection_lines ends)
 
   pub none_served : {M : Medium} {W : Type 0} (sink : Ghosts W) (c : Standing M) (l : L) (first : W) → HasServed sink 0 c c l l first first
-  none_served sink c l first = record { clean = λ h. h; ends = []; each = refl; all = refl; led = λ clean s rests. (s, rests, refl, refl); lines = Appends-nil (sink.written first); counted = omega arith }
+  none_served sink c l first = record { clean = λ h. h; ends = []; each = refl; all = refl; led = λ clean s rests. (s, rests, (refl, refl)); lines = (Appends-nil (sink.written first), refl) }
 
   module _ {M : Medium} {W : Type 0} (sink : Ghosts W) (n : ℕ) (old mid new : Standing M) (l k m : L) (w x y : W)
-      (so_far : HasServed sink n old mid l k w x) (clean : new.IsClean → mid.IsClean) (counted : sink.failed x ≤ sink.failed y) where
+      (so_far : HasServed sink n old mid l k w x) (clean : new.IsClean → mid.IsClean) where
     -- one more is served
     abbrev pub Next : {V F : Type 0} → Result V F → Type 0
     Next r = ServesNext A given mid new (λ end trace. ended k given trace end m) (written_of sink x y) r
@@ -81,9 +79,11 @@ module _ {L : Type 0} (ended : L → Option ℕ → Trace → Served → L → T
       each = ends_more so_far.ends next.end l k m so_far.each next.ended;
       all = more next.end;
       led = with_next (Ok v) next;
-      lines = subst (Appends (sink.written w) (sink.written y)) (sym (lines_more so_far.ends next.end))
-          (Appends-trans (sink.written w) (sink.written x) (sink.written y) (connection_lines so_far.ends) (connection_line next.end) so_far.lines next.line);
-      counted = let before = so_far.counted in omega (arith, before, counted);
+      lines = (
+        subst (Appends (sink.written w) (sink.written y)) (sym (lines_more so_far.ends next.end))
+            (Appends-trans (sink.written w) (sink.written x) (sink.written y) (connection_lines so_far.ends) (connection_line next.end) so_far.lines.0 next.line.0),
+        next.line.1 ∙ so_far.lines.1,
+      );
     }
 
     -- a write failed in the line of one more
@@ -93,11 +93,11 @@ module _ {L : Type 0} (ended : L → Option ℕ → Trace → Served → L → T
       last = next.end;
       are = refl;
       breaks = record {
-        failed = let before = so_far.counted in let more = next.line.0 in omega (arith, before, more);
+        failed = let before = so_far.lines.1 in let more = next.line.0 in omega (arith, before, more);
         part = next.line.1.part;
         missing = next.line.1.missing;
         cut = next.line.1.cut;
-        written = Appends-trans (sink.written w) (sink.written x) (sink.written y) (connection_lines so_far.ends) next.line.1.part so_far.lines next.line.1.appended;
+        written = Appends-trans (sink.written w) (sink.written x) (sink.written y) (connection_lines so_far.ends) next.line.1.part so_far.lines.0 next.line.1.appended;
       };
     }
 

@@ -2,8 +2,8 @@
 use Rattle.std.proofs.Common.{◌≡◌, ◌+◌, ℕ, true, Option, Some, None, IfSome, IsSomeAnd, Result, Ok, Err, IfOk, IfErr, inl, inr, sym, subst, arith}
 use Rattle.as2_agreement.specs.Agreements.{AgreedValues}
 use Rattle.as2_exchange.specs.State.{LaterVersion, State, empty}
-use Rattle.as2_records.specs.Standing.{Medium, Standing, may_come}
-use Rattle.as2_host.specs.Stores.{BeginsNew, Finds, fault_in, opens_of}
+use Rattle.as2_records.specs.Standing.{Medium, Standing}
+use Rattle.as2_host.specs.Stores.{BeginsNew, Finds, MayCome, opens_of}
 use Rattle.as2_host.specs.declared.stores.OpenFault.{OpenFault}
 use Rattle.as2_commands.specs.declared.tasks.RunOptions.{RunOptions}
 use Rattle.as2_desk.proofs.HandedBack.{each_known}
@@ -32,7 +32,7 @@ module _ {A : Type 0} {M : Medium} (shows : A → Standing M) (agreements : Agre
       × ((known : Option State) → IfSome known (λ s. (shows l).IsClean × (shows opened).Rests s) → Does agreements options.moment w known (observing o (λ t. (shows l).Rests t)) ran)))
 
   -- over new records in memory
-  pub goes_in_memory : (last : Option A) (r : Result A OpenFault) → BeginsNew shows options.first r → Failed last r → Done last r → ((fault : OpenFault) → may_come (fault_in fault) ≡ true → stored.Fails fault) → stored.Unopened → stored.Kept → stored.Opened
+  pub goes_in_memory : (last : Option A) (r : Result A OpenFault) → BeginsNew shows options.first r → Failed last r → Done last r → ((fault : OpenFault) → MayCome fault → stored.Fails fault) → stored.Unopened → stored.Kept → stored.Opened
       → ((s : State) → stored.Begins options.first s → s ≡ empty (LaterVersion 0) options.first) → ((t : State) → o.outcome.Left t) → Goes agreements options (Ok w) o stored ran
   goes_in_memory last (Err fault) may failed done fails unopened kept opened begins left =
       inl (unopened, kept, failed.1, failed.2, failed.3, record { fault = fault; cause = fails fault may; told = failed.4 })

@@ -33,5 +33,5 @@ does_left A m (command.Post logs) known o Left ran again it = (it.0, posts_left 
 does_left A m (command.Ask q) known o Left ran again it =
     (it.0, it.1, record { told = it.2.told; refused = it.2.refused; fault = it.2.fault; tells = both_known _ _ _ known again it.2.tells (λ s later tells. (tells.0, later tells.0 tells.1, tells.2)); by_history = both_known _ _ _ known again it.2.by_history (λ s later by. (by.0, later by.0 by.1, by.2)); prints = it.2.prints })
 does_left A m (command.Send waits) known o Left ran again it =
-    (it.0, record { end = it.1.end; sends = both_known _ _ _ known again it.1.sends (λ s later sends. (sends.0, later sends.0 sends.1, sends.2)); unwritten = it.1.unwritten; told = it.1.told })
+    (it.0, record { end = it.1.end; sends = both_known _ _ _ known again it.1.sends (λ s later sends. (sends.0, later sends.0 sends.1, sends.2)); unwritten = it.1.unwritten; sound = it.1.sound; told = it.1.told })
 does_left A m (command.Serve serving) known o Left ran again it = (it.0, serves_left serving.count known o.outcome Left (o.listening A serving) ran again it.1)

@@ -12,7 +12,7 @@ use Rattle.as2_desk.specs.Endings.{Ends, EndsRefused}
 use Rattle.as2_desk.specs.Observed.{Outcome}
 use Rattle.as2_desk.specs.Refusals.{error_line}
 use Rattle.as2_desk.specs.Statuses.{done, end_name, refused}
-use Rattle.as2_desk.specs.Written.{BreaksBehind, Writes, WritesBy, Written}
+use Rattle.as2_desk.specs.Written.{BreaksBehind, WritesBy, WritesWhole, Written}
 use Rattle.as2_desk.specs.declared.refusal.CommandFault.TheVariants.{CannotListen, CannotWrite, Memory}
 use Rattle.as2_desk.specs.declared.status.Ran.{Ran}
 
@@ -44,7 +44,7 @@ pub record StopsIn (ends : List Served) (output : Written) : Type 0 where
 
 -- the lines of connections with these ends were written, as many as that; or fewer, and behind them a part of one more, since a write failed
 abbrev pub WritesLines : {V F : Type 0} → ℕ → List Served → Written → Result V F → Type 0
-WritesLines count ends output (Ok v) = (length ends ≡ count) × Writes output (connection_lines ends)
+WritesLines count ends output (Ok v) = (length ends ≡ count) × WritesWhole output (connection_lines ends)
 WritesLines count ends output (Err f) = (length ends ≤ count) × StopsIn ends output
 
 -- Connections with these ends (Ended) were served, one after the other, what they brought led the records on (Led), and a line was written for each.
@@ -74,7 +74,7 @@ pub record ServesAll (count : ℕ) (known : Option State) (o : Outcome) (l : Lis
   pub ends : List Served
   pub awaits : AwaitsFrom known o.Left l address ends
   pub all : length ends ≡ count
-  pub lines : Writes o.output (connection_lines ends)
+  pub lines : WritesWhole o.output (connection_lines ends)
   pub told : Ends done (listening_line address) o.errors ran
 
 -- no more than that, until a line couldn't be written

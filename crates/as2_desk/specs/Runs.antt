@@ -10,7 +10,7 @@ use Rattle.as2_desk.specs.Migrating.{Migrates}
 use Rattle.as2_desk.specs.Observed.{Observed, Stored}
 use Rattle.as2_desk.specs.Statuses.{done}
 use Rattle.as2_desk.specs.Works.{Begun, Does, IsWork}
-use Rattle.as2_desk.specs.Written.{Breaks, Writes, Written}
+use Rattle.as2_desk.specs.Written.{Breaks, WritesWhole, Written}
 use Rattle.as2_desk.specs.declared.refusal.CommandFault.TheVariants.{CannotWrite, Memory}
 use Rattle.as2_desk.specs.declared.status.Ran.{Ran}
 use Rattle.as2_commands.specs.declared.tasks.RunOptions.{RunOptions}
@@ -22,7 +22,7 @@ use Rattle.as2_commands.specs.declared.tasks.Command.TheVariants.{Send}
 -- memory for it was wanting, and nothing is written
 abbrev pub Counts : AgreedValues → Written → Written → Ran → Type 0
 Counts agreements output errors ran =
-    (Writes output (counts_line agreements) × Ends done (warnings agreements) errors ran)
+    (WritesWhole output (counts_line agreements) × Ends done (warnings agreements) errors ran)
     ⊎ ((Breaks output (counts_line agreements) × EndsRefused CannotWrite errors ran) ⊎ (output.Untouched × EndsRefused Memory errors ran))
 
 -- nothing was read, written, asked of the network or done to the stores

@@ -44,7 +44,6 @@ fn serve_next<K: Records, L: Listens, R, W: Sink, H: Journal, E>(
 ) -> Result<(), DeviceFault>
     ensures streams { (console.new.input ≡ console.old.input) × (console.new.errors ≡ console.old.errors) }
     ensures clean { (K.shows station.new).IsClean → (K.shows station.old).IsClean }
-    ensures counted { W.failed console.old.output ≤ W.failed console.new.output }
     ensures serves { ServesNext terms.now.agreements.now moment.now (K.shows station.old) (K.shows station.new)
         (λ end trace. L.ended listener.old moment.now trace end listener.new) (output_of W.Sink console.old console.new) result }
 {

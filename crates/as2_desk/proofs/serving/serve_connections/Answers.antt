@@ -21,7 +21,7 @@ loop-served-preserved g c =
       streams.1 ∙ before.1,
       one_more g.L.Listens.ended c.args.serving.now.moment c.args.terms.now.agreements.now g.W.Sink c.loop-served.served (g.K.Records.shows c.args.station.now) then now
           c.args.listener.now mid last c.args.console.now.output c.loop-served.console.output c.serve_next.new.console.output
-          before.2 c.serve_next.ensures.clean c.serve_next.ensures.counted c.in_ok-serve_next.field-0
+          before.2 c.serve_next.ensures.clean c.in_ok-serve_next.field-0
           (subst (λ (m : Option ℕ). ServesNext c.args.terms.now.agreements.now m then now (λ end trace. g.L.Listens.ended mid m trace end last)
           (written_of g.W.Sink c.loop-served.console.output c.serve_next.new.console.output) (Ok c.in_ok-serve_next.field-0)) given c.in_ok-serve_next.ensures.serves),
     )
@@ -36,7 +36,7 @@ returns-in_err-serve_next-clause-serves g c =
     let count : c.serving.inside.count ≡ c.args.serving.now.count = ap (λ (v : Serving). v.count) c.serving.view_is in
     cut g.L.Listens.ended c.args.serving.now.moment c.args.terms.now.agreements.now g.W.Sink c.loop-served.served (g.K.Records.shows c.args.station.now) then now
     c.args.listener.now mid last c.args.console.now.output c.loop-served.console.output c.serve_next.new.console.output
-    c.loop-served.invariant.2 c.serve_next.ensures.clean c.serve_next.ensures.counted
+    c.loop-served.invariant.2 c.serve_next.ensures.clean
     c.args.serving.now.count c.in_err-serve_next.field-0.0 c.from_residual.result c.from_residual.ensures.0
     (subst (λ (n : ℕ). c.loop-served.served < n) count c.loop-served-test.true)
     (subst (λ (m : Option ℕ). ServesNext c.args.terms.now.agreements.now m then now (λ end trace. g.L.Listens.ended mid m trace end last)

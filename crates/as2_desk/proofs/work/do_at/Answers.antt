@@ -15,6 +15,10 @@ returns-in-Send-clause-does g c = rw c.in-Send.is (λ known stood.
         end = it.end;
         sends = each_known _ _ known it.sends (λ s w. (w.0, w.1, unhinted _ _ _ _ _ _ _ _ _ (λ text made all. (c.links-links.result, c.send_due.new.links, c.links-links.ensures, all)) w.2));
         unwritten = it.unwritten;
+        sound = it.sound;
         told = it.told;
       },
     ))
+
+pub returns-in-Serve-clause-does : goal.returns-in-Serve-clause-does
+returns-in-Serve-clause-does g c = rw c.in-Serve.is (λ known stood. (c.serve.ensures.unread, c.serve.ensures.serves known stood))
