@@ -1,5 +1,5 @@
 //! The network: connections over TCP that are served.
-ghost use Rattle.std.specs.Prelude.{◌≡◌, ℕ, List, Some, ⊤};
+ghost use Rattle.std.specs.Prelude.{◌≡◌, ℕ, List, Some};
 ghost use Rattle.as2_http.specs.Devices.{Opens};
 ghost use Rattle.as2_http.specs.Notes.{spoken};
 ghost use Rattle.as2_http.specs.StreamReads.{RunsPosts};
@@ -139,7 +139,8 @@ impl Listens for ListeningSocket<'_> {
 
     ghost bound = { λ l. socket_text l.address };
 
-    ghost ended = { λ old _ new. (new.limits ≡ old.limits) × (new.address ≡ old.address) };
+    // (what a peer sends no clause can say)
+    ghost ended = { λ old _ _ _ new. (new.limits ≡ old.limits) × (new.address ≡ old.address) };
 
     fn address(&self, alloc: Global) -> Result<String, Memory> {
         match self.address.to_string(alloc) {
@@ -171,7 +172,7 @@ impl Listens for ListeningSocket<'_> {
 }
 
 impl<'a> Network for Sockets<'a> {
-    ghost use Rattle.std.specs.Prelude.{◌*◌, min};
+    ghost use Rattle.std.specs.Prelude.{◌≡◌, ◌*◌, min};
     ghost use Rattle.std.specs.Duration.{as_nanos, max_nanos};
     ghost use Rattle.as2_sockets.specs.Waits.{nanoseconds};
 
@@ -179,15 +180,15 @@ impl<'a> Network for Sockets<'a> {
 
     type Links = Connections<'a>;
 
-    ghost listens = { λ _ _ waits l. (as_nanos l.limits.wait ≡ nanoseconds waits.seconds)
-        × (as_nanos l.limits.whole ≡ min (10 * nanoseconds waits.seconds) max_nanos) };
+    ghost listens = { λ old _ waits l new. (as_nanos l.limits.wait ≡ nanoseconds waits.seconds)
+        × (as_nanos l.limits.whole ≡ min (10 * nanoseconds waits.seconds) max_nanos) × (new ≡ old) };
 
-    ghost refuses = { λ _ _ _. ⊤ };
+    ghost refuses = { λ old _ _ new. new ≡ old };
 
-    ghost opens = { λ _ waits l. l.waits ≡ waits };
+    ghost opens = { λ old waits l new. (l.waits ≡ waits) × (new ≡ old) };
 
     fn listen(
-        &self,
+        &mut self,
         _alloc: Global,
         address: &str,
         waits: Waits,
@@ -206,7 +207,7 @@ impl<'a> Network for Sockets<'a> {
         })
     }
 
-    fn links(&self, waits: Waits) -> Connections<'a> {
+    fn links(&mut self, waits: Waits) -> Connections<'a> {
         Connections::new(self.rt, waits)
     }
 }

@@ -2,8 +2,8 @@
 use Rattle.std.proofs.Common.{◌≡◌, ◌+◌, ℕ, true, Option, Some, None, IfSome, IsSomeAnd, Result, Ok, Err, IfOk, IfErr, inl, inr, sym, subst, arith}
 use Rattle.as2_agreement.specs.Agreements.{AgreedValues}
 use Rattle.as2_exchange.specs.State.{LaterVersion, State, empty}
-use Rattle.as2_records.specs.Standing.{Medium, Standing, may_come}
-use Rattle.as2_host.specs.Stores.{BeginsNew, Finds, fault_in, opens_of}
+use Rattle.as2_records.specs.Standing.{Medium, Standing}
+use Rattle.as2_host.specs.Stores.{BeginsNew, Finds, MayCome, opens_of}
 use Rattle.as2_host.specs.declared.stores.OpenFault.{OpenFault}
 use Rattle.as2_commands.specs.declared.tasks.RunOptions.{RunOptions}
 use Rattle.as2_desk.proofs.HandedBack.{each_known}
@@ -24,7 +24,7 @@ each_left (Some l) Clean Rests Keeps Later kept f = λ clean t rests. f t (kept 
 module _ {A : Type 0} {M : Medium} (shows : A → Standing M) (agreements : AgreedValues) (options : RunOptions) (w : Work) (o : Observed) (stored : Stored) (ran : Ran) where
   -- no records could be opened, and that was told
   abbrev pub Failed : Option A → Result A OpenFault → Type 0
-  Failed last r = IfErr r (λ fault. (last ≡ None) × o.input.Untouched × o.outcome.output.Untouched × EndsRefused (Store fault) o.outcome.errors ran)
+  Failed last r = IfErr r (λ fault. (last ≡ None) × o.Unasked × o.input.Untouched × o.outcome.output.Untouched × EndsRefused (Store fault) o.outcome.errors ran)
 
   -- the work was done over records that were opened, and they were given back
   abbrev pub Done : Option A → Result A OpenFault → Type 0
@@ -32,10 +32,10 @@ module _ {A : Type 0} {M : Medium} (shows : A → Standing M) (agreements : Agre
       × ((known : Option State) → IfSome known (λ s. (shows l).IsClean × (shows opened).Rests s) → Does agreements options.moment w known (observing o (λ t. (shows l).Rests t)) ran)))
 
   -- over new records in memory
-  pub goes_in_memory : (last : Option A) (r : Result A OpenFault) → BeginsNew shows options.first r → Failed last r → Done last r → ((fault : OpenFault) → may_come (fault_in fault) ≡ true → stored.Fails fault) → stored.Unopened → stored.Kept → stored.Opened
+  pub goes_in_memory : (last : Option A) (r : Result A OpenFault) → BeginsNew shows options.first r → Failed last r → Done last r → ((fault : OpenFault) → MayCome fault → stored.Fails fault) → stored.Unopened → stored.Kept → stored.Opened
       → ((s : State) → stored.Begins options.first s → s ≡ empty (LaterVersion 0) options.first) → ((t : State) → o.outcome.Left t) → Goes agreements options (Ok w) o stored ran
   goes_in_memory last (Err fault) may failed done fails unopened kept opened begins left =
-      inl (unopened, kept, failed.1, failed.2, record { fault = fault; cause = fails fault may; told = failed.3 })
+      inl (unopened, kept, failed.1, failed.2, failed.3, record { fault = fault; cause = fails fault may; told = failed.4 })
   goes_in_memory None (Ok records) new failed done fails unopened kept opened begins left = absurd done
   goes_in_memory (Some l) (Ok records) new failed done fails unopened kept opened begins left = inr (
     opened,
@@ -48,7 +48,7 @@ module _ {A : Type 0} {M : Medium} (shows : A → Standing M) (agreements : Agre
       → now ≡ before + opens_of r → (now ≡ before → stored.Unopened) → (now ≡ before + 1 → stored.Opened) → ((s : State) → stored.Begins options.first s → Keeps s × Clean)
       → IfSome last (λ l. Clean → (shows l).IsClean) → IfSome last (λ l. Clean → (t : State) → (shows l).Rests t → o.outcome.Left t) → Goes agreements options (Ok w) o stored ran
   goes_kept last (Err fault) Clean Keeps before now found failed done same counted unopened opened begins clean left =
-      inl (unopened (omega (arith, counted)), (same failed.0).0, failed.1, failed.2, record { fault = fault; cause = (same failed.0).1; told = failed.3 })
+      inl (unopened (omega (arith, counted)), (same failed.0).0, failed.1, failed.2, failed.3, record { fault = fault; cause = (same failed.0).1; told = failed.4 })
   goes_kept None (Ok records) Clean Keeps before now found failed done same counted unopened opened begins clean left = absurd done
   goes_kept (Some l) (Ok records) Clean Keeps before now found failed done same counted unopened opened begins clean left = inr (
     opened counted,

@@ -15,7 +15,8 @@ use Rattle.std.specs.Prelude.{length}
 -- a part of a text is one of a longer one, and so is the whole of a text with a part of the next
 pub said_behind : {E : Type 0} (g : Ghosts E) (a b d : E) (xs ys : List ℕ) (first then : Bool) → WritesIf first (written_of g a b) xs → g.failed a ≤ g.failed b
     → (first ≡ true → WritesIf then (written_of g b d) ys) → (first ≡ false → (then ≡ false) × (d ≡ b)) → WritesIf then (written_of g a d) (xs ++ ys)
-said_behind g a b d xs ys true true said counted more none = Appends-trans (g.written a) (g.written b) (g.written d) xs ys said (more refl)
+said_behind g a b d xs ys true true said counted more none =
+    let after = more refl in (Appends-trans (g.written a) (g.written b) (g.written d) xs ys said.0 after.0, after.1 ∙ said.1)
 said_behind g a b d xs ys true false said counted more none =
     let broke = more refl in
     let fails = broke.0 in (
@@ -24,7 +25,7 @@ said_behind g a b d xs ys true false said counted more none =
         part = xs ++ broke.1.part;
         missing = broke.1.missing;
         cut = ap (λ (l : List ℕ). xs ++ l) broke.1.cut ∙ sym (append_assoc xs broke.1.part broke.1.missing);
-        appended = Appends-trans (g.written a) (g.written b) (g.written d) xs broke.1.part said broke.1.appended;
+        appended = Appends-trans (g.written a) (g.written b) (g.written d) xs broke.1.part said.0 broke.1.appended;
       },
     )
 said_behind g a b d xs ys false true said counted more none = absurd (let bad : true ≡ false = (none refl).0 in cc)
@@ -35,10 +36,10 @@ said_behind g a b d xs ys false false said counted more none =
     )
 
 -- what a writer was given is written, or broken off where a write failed
-pub pushed : {W V F : Type 0} (g : Ghosts W) (a b : W) (xs ys : List ℕ) (r : Result V F) → xs ≡ ys → OnOk r (Appends (g.written a) (g.written b) xs) → OnErr r (AppendsPart (g.written a) (g.written b) xs)
+pub pushed : {W V F : Type 0} (g : Ghosts W) (a b : W) (xs ys : List ℕ) (r : Result V F) → xs ≡ ys → OnOk r (Appends (g.written a) (g.written b) xs) → OnOk r (g.failed b ≡ g.failed a) → OnErr r (AppendsPart (g.written a) (g.written b) xs)
     → OnErr r (g.failed a < g.failed b) → WritesBy r (written_of g a b) ys
-pushed g a b xs ys (Ok v) is whole part failed = subst (Appends (g.written a) (g.written b)) is whole
-pushed g a b xs ys (Err f) is whole part failed = (failed, subst (AppendsPart (g.written a) (g.written b)) is part)
+pushed g a b xs ys (Ok v) is whole sound part failed = (subst (Appends (g.written a) (g.written b)) is whole, sound)
+pushed g a b xs ys (Err f) is whole sound part failed = (failed, subst (AppendsPart (g.written a) (g.written b)) is part)
 
 -- a text behind another
 pub behind_ok : {V F : Type 0} (a b d : Option (List ℕ)) (xs ys zs : List ℕ) (r : Result V F) → ys ≡ zs → Appends a b xs → OnOk r (Appends b d ys) → OnOk r (Appends a d (xs ++ zs))

@@ -1,5 +1,6 @@
 -- What a run observes of what it is given.
 use Rattle.std.specs.Prelude.{◌≡◌, ◌<◌, ◌+◌, ℕ, List, Option}
+use Rattle.as2_agreement.specs.Agreements.{AgreedValues}
 use Rattle.as2_commands.specs.Requests.{Serving}
 use Rattle.as2_commands.specs.declared.tasks.Waits.{Waits}
 use Rattle.as2_exchange.specs.State.{State}
@@ -40,10 +41,12 @@ pub record Outcome : Type 1 where
 pub record Observed : Type 1 where
   pub input : Input
   pub outcome : Outcome
-  -- over links with these waits went these exchanges
+  -- the network wasn't asked for anything
+  pub Unasked : Type 0
+  -- it was asked once, for links with these waits, and these exchanges went over them
   pub Exchanged : Waits → List Exchange → Type 0
-  -- what came of asking for a listener as the words say
-  pub listening : Serving → Listening
+  -- it was asked once, for a listener as the words say: what came of it, over these agreements
+  pub listening : AgreedValues → Serving → Listening
 
 -- the stores
 pub record Stored : Type 1 where

@@ -21,7 +21,7 @@ use Rattle.as2_views.specs.Filtering.{listing}
 use Rattle.as2_desk.specs.Endings.{Ends, EndsRefused}
 use Rattle.as2_desk.specs.Observed.{Outcome}
 use Rattle.as2_desk.specs.Statuses.{done}
-use Rattle.as2_desk.specs.Written.{Breaks, Writes, Written}
+use Rattle.as2_desk.specs.Written.{Breaks, WritesWhole, Written}
 use Rattle.as2_desk.specs.declared.asking.Printed.{Printed}
 use Rattle.as2_desk.specs.declared.asking.Printed.TheVariants.{Number, Requeued, Words, Content}
 use Rattle.as2_commands.specs.declared.tasks.Question.{Question}
@@ -145,7 +145,7 @@ EndsByEvent A m other s t told = ⊤
 -- the text is written, once; or a write failed, of the text a part is written, and one line says so; or one line says why there is
 -- none, and nothing is written
 abbrev pub Prints : Told → Written → Written → Ran → Type 0
-Prints (Ok text) output errors ran = (Writes output text × Ends done (codes "") errors ran) ⊎ (Breaks output text × EndsRefused CannotWrite errors ran)
+Prints (Ok text) output errors ran = (WritesWhole output text × Ends done (codes "") errors ran) ⊎ (Breaks output text × EndsRefused CannotWrite errors ran)
 Prints (Err refusal) output errors ran = output.Untouched × EndsRefused refusal errors ran
 
 -- Something was told: why it is refused, where that takes no store; or a fault of the store, of those that may come; or an

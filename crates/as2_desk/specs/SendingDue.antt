@@ -23,10 +23,11 @@ TellsSent sent.Unwritten errors ran = EndsRefused CannotWrite errors ran
 
 -- Where the state is known that the records stood for, what was due was sent from it, and what is left stands for the state that
 -- this led to; and what went over the links (Exchanged) are its jobs, each with the outcome that was taken. It ends for a line that
--- couldn't be written only where a write failed.
+-- couldn't be written where a write failed, and only there.
 pub record SendsDue (agreements : AgreedValues) (moment : ℕ) (known : Option State) (o : Outcome)
     (Exchanged : List Exchange → Type 0) (ran : Ran) : Type 0 where
   pub end : Sent
   pub sends : IfSome known (λ s. (t : State) × o.Left t × Sends agreements moment s t o.output.before o.output.after (λ text made. Exchanged made) end)
   pub unwritten : end ≡ sent.Unwritten → o.output.HasFailed
+  pub sound : ¬ (end ≡ sent.Unwritten) → o.output.IsSound
   pub told : TellsSent end o.errors ran

@@ -2,8 +2,7 @@
 use Rattle.std.specs.Prelude.{◌≡◌, ℕ, List, Bool, true, false, codes, ⊤}
 use Rattle.std.specs.Str.{bytes_eq}
 use Rattle.as2_exchange.specs.State.{LaterVersion, State, empty}
-use Rattle.as2_records.specs.Standing.{may_come}
-use Rattle.as2_host.specs.Stores.{fault_in}
+use Rattle.as2_host.specs.Stores.{MayCome}
 use Rattle.as2_exchange.specs.declared.fault.StoreFault.TheVariants.{NotAStore}
 use Rattle.as2_host.specs.declared.stores.OpenFault.{OpenFault}
 use Rattle.as2_host.specs.declared.stores.OpenFault.TheVariants.{Store}
@@ -33,7 +32,7 @@ opens_at false = 1
 
 -- why no store is open: in memory, a fault that may come of any call; else that for which what is kept can't be opened (Fails)
 abbrev pub IsFaultAt : List ℕ → (OpenFault → Type 0) → OpenFault → Type 0
-IsFaultAt path Fails fault = ByPlace (is_in_memory path) (may_come (fault_in fault) ≡ true) (Fails fault)
+IsFaultAt path Fails fault = ByPlace (is_in_memory path) (MayCome fault) (Fails fault)
 
 -- why a store isn't migrated: one in memory is none; else that for which what is kept stays as it is (Stays)
 abbrev pub IsStayAt : List ℕ → (OpenFault → Type 0) → OpenFault → Type 0

@@ -57,12 +57,12 @@ IsWork contents (Ask question) begun = (asked : Result Asked CommandFault) × Is
 IsWork contents (Send waits) begun = begun ≡ Ok (Send waits)
 IsWork contents (Serve serving) begun = begun ≡ Ok (Serve serving)
 
--- it is done, at this moment; no other command than `post` reads the input
+-- it is done, at this moment; no other command than `post` reads the input, and only `send` and `serve` ask something of the network
 abbrev pub Does : AgreedValues → ℕ → Work → Option State → Observed → Ran → Type 0
-Does agreements moment (Post logs) known o ran = Posts agreements moment known o.input o.outcome ran
-Does agreements moment (Ask asked) known o ran = o.input.Untouched × Asks agreements moment asked known o.outcome ran
+Does agreements moment (Post logs) known o ran = o.Unasked × Posts agreements moment known o.input o.outcome ran
+Does agreements moment (Ask asked) known o ran = o.Unasked × o.input.Untouched × Asks agreements moment asked known o.outcome ran
 Does agreements moment (Send waits) known o ran = o.input.Untouched × SendsDue agreements moment known o.outcome (o.Exchanged waits) ran
-Does agreements moment (Serve serving) known o ran = o.input.Untouched × ServesCount agreements serving known o.outcome (o.listening serving) ran
+Does agreements moment (Serve serving) known o ran = o.input.Untouched × ServesCount serving.count known o.outcome (o.listening agreements serving) ran
 
 -- it sends
 abbrev pub SendsWork : Work → Type 0

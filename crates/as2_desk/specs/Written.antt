@@ -20,17 +20,21 @@ pub record Written : Type 1 where
 abbrev pub Writes : Written → List ℕ → Type 0
 Writes w text = Appends w.before w.after text
 
+-- .. and no write failed meanwhile
+abbrev pub WritesWhole : Written → List ℕ → Type 0
+WritesWhole w text = Writes w text × w.IsSound
+
 -- a write failed, and of the text a part was written
 abbrev pub Breaks : Written → List ℕ → Type 0
 Breaks w text = w.HasFailed × AppendsPart w.before w.after text
 
 -- the one or the other, by what is told of it
 abbrev pub WritesIf : Bool → Written → List ℕ → Type 0
-WritesIf true w text = Writes w text
+WritesIf true w text = WritesWhole w text
 WritesIf false w text = Breaks w text
 
 abbrev pub WritesBy : {V F : Type 0} → Result V F → Written → List ℕ → Type 0
-WritesBy (Ok v) w text = Writes w text
+WritesBy (Ok v) w text = WritesWhole w text
 WritesBy (Err f) w text = Breaks w text
 
 -- some text was written, and of one behind it a part, since a write failed

@@ -65,22 +65,25 @@ pub fn run<
         (record {
           input = input_of R.Source console.old console.new;
           outcome = outcome_of W.Sink E.Sink console.old console.new (Leaves store (O.keeps host.new.stores store));
-          Exchanged = ExchangedOver N.opens N.Links.answers host.old.network;
-          listening = listening_of N.listens N.refuses N.Listener.bound N.Listener.ended host.old.network;
+          Unasked = host.new.network ≡ host.old.network;
+          Exchanged = ExchangedOver N.opens N.Links.answers host.old.network host.new.network;
+          listening = listening_of N.listens N.refuses N.Listener.bound N.Listener.ended host.old.network host.new.network;
         })
         (stored_of O.OpenStores host.old.stores host.new.stores store) result
-        ⊎ ((host.new.stores ≡ host.old.stores) × (console.new.input ≡ console.old.input) × (console.new.output ≡ console.old.output)
+        ⊎ ((host.new.stores ≡ host.old.stores) × (host.new.network ≡ host.old.network) × (console.new.input ≡ console.old.input) × (console.new.output ≡ console.old.output)
         × EndsRefused Memory (errors_of E.Sink console.old console.new) result) }
     // A store in memory leaves the others as they were.
     ensures memory { (path : List ℕ) (task : TheTask) → Gives (texts words.entry.now) clock path (codes ":memory:") task
         → host.new.stores ≡ host.old.stores }
-    // Words that ask for nothing run nothing, and open nothing.
-    ensures unread { GivesNone (texts words.entry.now) clock → (console.new.input ≡ console.old.input) × (host.new.stores ≡ host.old.stores) }
+    // Words that ask for nothing run nothing, open nothing, and ask nothing of the network.
+    ensures unread { GivesNone (texts words.entry.now) clock → (console.new.input ≡ console.old.input) × (host.new.stores ≡ host.old.stores)
+        × (host.new.network ≡ host.old.network) }
     // They are faulty, unless they ask for the help or the version; memory may be wanting to say so.
     ensures none { GivesNone (texts words.entry.now) clock → ¬ AsksForHelp (texts words.entry.now)
         → ((result.status ≡ faulty) ⊎ EndsRefused Memory (errors_of E.Sink console.old console.new) result) × (console.new.output ≡ console.old.output) }
-    // A faulty command line reads and writes nothing, and opens nothing.
-    ensures untouched { result.status ≡ faulty → (console.new.input ≡ console.old.input) × (console.new.output ≡ console.old.output) × (host.new.stores ≡ host.old.stores) }
+    // A faulty command line reads and writes nothing, opens nothing, and asks nothing of the network.
+    ensures untouched { result.status ≡ faulty → (console.new.input ≡ console.old.input) × (console.new.output ≡ console.old.output)
+        × (host.new.stores ≡ host.old.stores) × (host.new.network ≡ host.old.network) }
     // A store with a fault is told, and nothing is read or written then; what was sent before stands, with its lines.
     ensures store { result.status ≡ failed → Stopped
         ((path store : List ℕ) × (task : TheTask) × Gives (texts words.entry.now) clock path store task × IsSending task) (input_of R.Source console.old console.new)
@@ -122,8 +125,9 @@ fn carry_out<
         (record {
           input = input_of R.Source console.old console.new;
           outcome = outcome_of W.Sink E.Sink console.old console.new (Leaves options.entry.store.now (O.keeps host.new.stores options.entry.store.now));
-          Exchanged = ExchangedOver N.opens N.Links.answers host.old.network;
-          listening = listening_of N.listens N.refuses N.Listener.bound N.Listener.ended host.old.network;
+          Unasked = host.new.network ≡ host.old.network;
+          Exchanged = ExchangedOver N.opens N.Links.answers host.old.network host.new.network;
+          listening = listening_of N.listens N.refuses N.Listener.bound N.Listener.ended host.old.network host.new.network;
         })
         (stored_of O.OpenStores host.old.stores host.new.stores options.entry.store.now) result }
     ensures memory { options.entry.store.now ≡ codes ":memory:" → host.new.stores ≡ host.old.stores }

@@ -1,7 +1,7 @@
 //! The command `serve`: connections, one after the other.
 ghost use Rattle.std.specs.Prelude.{◌≡◌, ◌≤◌, ◌⊎◌, IfOk, Option, IfSome, string_bytes};
 ghost use Rattle.as2_exchange.specs.State.{State};
-ghost use Rattle.as2_host.specs.Networks.{EndsEach, listening_of};
+ghost use Rattle.as2_host.specs.Networks.{EndsEach, ServesEach, listening_of};
 ghost use Rattle.as2_desk.specs.Observed.{outcome_of, output_of};
 ghost use Rattle.as2_desk.specs.Connections.{ServesConnections, ServesCount, ServesNext, connection_line, listening_line};
 ghost use Rattle.as2_desk.specs.Statuses.{done, refused};
@@ -44,9 +44,8 @@ fn serve_next<K: Records, L: Listens, R, W: Sink, H: Journal, E>(
 ) -> Result<(), DeviceFault>
     ensures streams { (console.new.input ≡ console.old.input) × (console.new.errors ≡ console.old.errors) }
     ensures clean { (K.shows station.new).IsClean → (K.shows station.old).IsClean }
-    ensures counted { W.failed console.old.output ≤ W.failed console.new.output }
     ensures serves { ServesNext terms.now.agreements.now moment.now (K.shows station.old) (K.shows station.new)
-        (λ end. L.ended listener.old end listener.new) (output_of W.Sink console.old console.new) result }
+        (λ end trace. L.ended listener.old moment.now trace end listener.new) (output_of W.Sink console.old console.new) result }
 {
     let end = listener.serve(
         terms.alloc,
@@ -70,8 +69,10 @@ fn serve_connections<K: Records, L: Listens, R, W: Sink, H: Journal, E>(
     console: &mut Console<R, W, H, E>,
 ) -> Result<(), DeviceFault>
     ensures streams { (console.new.input ≡ console.old.input) × (console.new.errors ≡ console.old.errors) }
-    ensures serves { ServesConnections terms.now.agreements.now serving.now.moment serving.now.count (K.shows station.old) (K.shows station.new)
-        (λ ends. EndsEach L.ended listener.old ends listener.new) (output_of W.Sink console.old console.new) result }
+    ensures serves { ServesConnections serving.now.count (K.shows station.old) (K.shows station.new)
+        (λ ends. EndsEach L.ended serving.now.moment listener.old ends listener.new)
+        (λ ends s t. ServesEach L.ended serving.now.moment terms.now.agreements.now ends listener.old s listener.new t)
+        (output_of W.Sink console.old console.new) result }
 {
     for served in 0..serving.count {
         let _ = served;
@@ -85,16 +86,16 @@ pub(crate) fn serve<K: Records, N: Network, R, W: Sink, H: Journal, E: Sink>(
     terms: &Terms<'_>,
     serving: Serving<'_>,
     station: &mut Station<K>,
-    network: &N,
+    network: &mut N,
     console: &mut Console<R, W, H, E>,
 ) -> Ran
     ensures status { (result.status ≡ done) ⊎ (result.status ≡ refused) }
     ensures unread { console.new.input ≡ console.old.input }
     ensures clean { (K.shows station.new).IsClean → (K.shows station.old).IsClean }
     ensures serves { (known : Option State) → IfSome known (λ s. (K.shows station.new).IsClean × (K.shows station.old).Rests s)
-        → ServesCount terms.now.agreements.now serving.entry known
+        → ServesCount serving.entry.count known
         (outcome_of W.Sink E.Sink console.old console.new (λ t. (K.shows station.new).Rests t))
-        (listening_of N.listens N.refuses N.Listener.bound N.Listener.ended network.now serving.entry) result }
+        (listening_of N.listens N.refuses N.Listener.bound N.Listener.ended network.old network.new terms.now.agreements.now serving.entry) result }
 {
     let Ok(mut listener) = network.listen(terms.alloc, serving.address, serving.waits) else {
         return refuse(CommandFault::CannotListen, &mut console.errors);

@@ -89,7 +89,7 @@ fn do_at<K: Records, N: Network, R: Source, W: Sink, H: Write + Journal, E: Sink
     terms: &Terms<'_>,
     work: Work<'_>,
     station: &mut Station<K>,
-    network: &N,
+    network: &mut N,
     console: &mut Console<R, W, H, E>,
 ) -> Ran
     ensures status { (result.status ≡ done) ⊎ ((result.status ≡ refused) ⊎ (result.status ≡ failed)) }
@@ -98,8 +98,9 @@ fn do_at<K: Records, N: Network, R: Source, W: Sink, H: Write + Journal, E: Sink
         → Does terms.now.agreements.now terms.now.moment work.entry known (record {
           input = input_of R.Source console.old console.new;
           outcome = outcome_of W.Sink E.Sink console.old console.new (λ t. (K.shows station.new).Rests t);
-          Exchanged = ExchangedOver N.opens N.Links.answers network.now;
-          listening = listening_of N.listens N.refuses N.Listener.bound N.Listener.ended network.now;
+          Unasked = network.new ≡ network.old;
+          Exchanged = ExchangedOver N.opens N.Links.answers network.old network.new;
+          listening = listening_of N.listens N.refuses N.Listener.bound N.Listener.ended network.old network.new;
         }) result }
     ensures store { result.status ≡ failed → Stopped (SendsWork work.entry) (input_of R.Source console.old console.new)
         (output_of W.Sink console.old console.new) (errors_of E.Sink console.old console.new) result }
@@ -120,19 +121,20 @@ fn do_over<K: Records + Drop, N: Network, R: Source, W: Sink, H: Write + Journal
     terms: &Terms<'_>,
     work: Work<'_>,
     records: Result<K, OpenFault>,
-    network: &N,
+    network: &mut N,
     console: &mut Console<R, W, H, E>,
 ) -> (Ran, Option<K>)
     ensures status { (result.0.status ≡ done) ⊎ ((result.0.status ≡ refused) ⊎ (result.0.status ≡ failed)) }
-    ensures fails { IfErr records (λ fault. (result.1 ≡ None) × (console.new.input ≡ console.old.input) × (console.new.output ≡ console.old.output)
+    ensures fails { IfErr records (λ fault. (result.1 ≡ None) × (network.new ≡ network.old) × (console.new.input ≡ console.old.input) × (console.new.output ≡ console.old.output)
         × EndsRefused (Failing fault) (errors_of E.Sink console.old console.new) result.0) }
     ensures does { IfOk records (λ opened. IsSomeAnd result.1 (λ last. ((K.shows last).IsClean → (K.shows opened).IsClean)
         × ((known : Option State) → IfSome known (λ s. (K.shows last).IsClean × (K.shows opened).Rests s)
         → Does terms.now.agreements.now terms.now.moment work.entry known (record {
           input = input_of R.Source console.old console.new;
           outcome = outcome_of W.Sink E.Sink console.old console.new (λ t. (K.shows last).Rests t);
-          Exchanged = ExchangedOver N.opens N.Links.answers network.now;
-          listening = listening_of N.listens N.refuses N.Listener.bound N.Listener.ended network.now;
+          Unasked = network.new ≡ network.old;
+          Exchanged = ExchangedOver N.opens N.Links.answers network.old network.new;
+          listening = listening_of N.listens N.refuses N.Listener.bound N.Listener.ended network.old network.new;
         }) result.0))) }
     ensures store { result.0.status ≡ failed → Stopped (SendsWork work.entry) (input_of R.Source console.old console.new)
         (output_of W.Sink console.old console.new) (errors_of E.Sink console.old console.new) result.0 }
@@ -183,8 +185,9 @@ pub(crate) fn work_over<
     ensures goes { Goes terms.now.agreements.now (record { first = store.entry.first; moment = terms.now.moment }) (Ok work.entry) (record {
       input = input_of R.Source console.old console.new;
       outcome = outcome_of W.Sink E.Sink console.old console.new (Leaves store.entry.path.now (O.keeps host.new.stores store.entry.path.now));
-      Exchanged = ExchangedOver N.opens N.Links.answers host.old.network;
-      listening = listening_of N.listens N.refuses N.Listener.bound N.Listener.ended host.old.network;
+      Unasked = host.new.network ≡ host.old.network;
+      Exchanged = ExchangedOver N.opens N.Links.answers host.old.network host.new.network;
+      listening = listening_of N.listens N.refuses N.Listener.bound N.Listener.ended host.old.network host.new.network;
     }) (stored_of O.OpenStores host.old.stores host.new.stores store.entry.path.now) result }
     ensures memory { store.entry.path.now ≡ codes ":memory:" → host.new.stores ≡ host.old.stores }
     ensures store { result.status ≡ failed → Stopped (SendsWork work.entry) (input_of R.Source console.old console.new)
@@ -193,11 +196,11 @@ pub(crate) fn work_over<
     let NamedStore { path, first } = store;
     if path == ":memory:" {
         let records = host.stores.open_in_memory(terms.alloc, first);
-        let (ran, _) = do_over(terms, work, records, &host.network, console);
+        let (ran, _) = do_over(terms, work, records, &mut host.network, console);
         return ran;
     }
     let records = host.stores.open(terms.alloc, path, first);
-    let (ran, left) = do_over(terms, work, records, &host.network, console);
+    let (ran, left) = do_over(terms, work, records, &mut host.network, console);
     close_in(&mut host.stores, path, left);
     ran
 }

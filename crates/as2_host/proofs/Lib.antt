@@ -1,1 +1,1 @@
-mod Untouched
+pub mod Untouched

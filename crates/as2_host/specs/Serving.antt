@@ -1,11 +1,13 @@
 -- What the serving of one connection comes to.
 use Rattle.std.specs.Prelude.{◌≡◌, ℕ, Option, IfSome}
 use Rattle.as2_agreement.specs.Agreements.{AgreedValues}
+use Rattle.as2_exchange.specs.Run.{Trace}
 use Rattle.as2_exchange.specs.State.{State}
 use Rattle.as2_http.specs.StreamReads.{RunsPosts}
 
--- posts at one moment, and nothing else, led the machine from s to t; it is that moment where one is given
-pub record ServesOne (A : AgreedValues) (given : Option ℕ) (s t : State) : Type 0 where
+-- the posts that a connection brought (Brought), at one moment, and nothing else, led the machine from s to t; it is that moment where one is given
+pub record ServesOne (A : AgreedValues) (given : Option ℕ) (Brought : Trace → Type 0) (s t : State) : Type 0 where
   pub moment : ℕ
   pub is_given : IfSome given (λ m. moment ≡ m)
   pub posts : RunsPosts A moment s t
+  pub brought : Brought posts.trace

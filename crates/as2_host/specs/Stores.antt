@@ -1,16 +1,14 @@
 -- What the opening of a store comes to.
 use Rattle.std.specs.Prelude.{◌≡◌, ℕ, Result, Ok, Err, IsTrue, true, ⊤}
 use Rattle.as2_exchange.specs.State.{LaterVersion, State, empty}
-use Rattle.as2_exchange.specs.declared.fault.StoreFault.{StoreFault}
-use Rattle.as2_exchange.specs.declared.fault.StoreFault.TheVariants.{Refused}
 use Rattle.as2_records.specs.Standing.{Medium, Standing, may_come}
 use Rattle.as2_host.specs.declared.stores.OpenFault.{OpenFault}
 use Rattle.as2_host.specs.declared.stores.OpenFault.TheVariants as open_fault
 
--- the fault of a store that it is: a file that another process has open can't be had
-abbrev pub fault_in : OpenFault → StoreFault
-fault_in open_fault.Held = Refused
-fault_in (open_fault.Store fault) = fault
+-- a store has a fault that may come of any call, and nobody else has it open
+abbrev pub MayCome : OpenFault → Type 0
+MayCome open_fault.Held = ⊥
+MayCome (open_fault.Store fault) = may_come fault ≡ true
 
 -- how many stores were opened by that
 abbrev pub opens_of : {A E : Type 0} → Result A E → ℕ
@@ -30,4 +28,4 @@ module _ {A : Type 0} {M : Medium} (shows : A → Standing M) where
   -- new records were opened, without entries and with this first number; or a fault came that may come of any call
   abbrev pub BeginsNew : ℕ → Result A OpenFault → Type 0
   BeginsNew first (Ok records) = IsFaithful × IsTrue (shows records).is_open × (shows records).Rests (empty (LaterVersion 0) first)
-  BeginsNew first (Err fault) = may_come (fault_in fault) ≡ true
+  BeginsNew first (Err fault) = MayCome fault

@@ -1,5 +1,6 @@
 //! The network, as far as the program uses it.
 ghost use Rattle.std.specs.Prelude.{◌≡◌, ℕ, List, Option, IfErr, IfOk, string_bytes};
+ghost use Rattle.as2_exchange.specs.Run.{Trace};
 ghost use Rattle.as2_exchange.specs.State.{State};
 ghost use Rattle.as2_commands.specs.declared.tasks.Waits.{Waits as TheWaits};
 ghost use Rattle.as2_host.specs.Serving.{ServesOne};
@@ -23,8 +24,9 @@ pub trait Listens {
     // where it listens, as text
     ghost bound: { Self → List ℕ };
 
-    // a connection that it accepted ended so, and it is as that then
-    ghost ended: { Self → TheEnd → Self → Type 0 };
+    // asked for that moment, where one was given, a connection that it accepted brought these posts, with what was said to each,
+    // and ended so; it is as that then
+    ghost ended: { Self → Option ℕ → Trace → TheEnd → Self → Type 0 };
 
     /// Where it listens, as text.
     fn address(&self, alloc: Global) -> Result<String, Memory>
@@ -40,10 +42,12 @@ pub trait Listens {
         station: &mut Station<K>,
         journal: &mut J,
     ) -> Served
-        ensures ended { ended self.old result self.new }
+        ensures ended { (trace : Trace) × ended self.old moment trace result self.new }
         ensures clean { (K.shows station.new).IsClean → (K.shows station.old).IsClean }
+        // What led the records on is what the connection brought.
         ensures serves { (K.shows station.new).IsClean → (s : State) → (K.shows station.old).Rests s
-            → (t : State) × (K.shows station.new).Rests t × ServesOne agreements.now moment s t };
+            → (t : State) × (K.shows station.new).Rests t
+            × ServesOne agreements.now moment (λ trace. ended self.old moment trace result self.new) s t };
 }
 
 /// Addresses to listen at, and links to partners.
@@ -52,26 +56,26 @@ pub trait Network {
 
     type Links: Links + Drop;
 
-    // that listener was to listen at that address, with these waits
-    ghost listens: { Self → List ℕ → TheWaits → Self.Listener → Type 0 };
+    // asked to listen at that address, with these waits, it gave that listener; it is as that then
+    ghost listens: { Self → List ℕ → TheWaits → Self.Listener → Self → Type 0 };
 
-    // nothing can listen at that address, with these waits
-    ghost refuses: { Self → List ℕ → TheWaits → Type 0 };
+    // nothing can listen at that address, with these waits; it is as that then
+    ghost refuses: { Self → List ℕ → TheWaits → Self → Type 0 };
 
-    // these links were to be opened with these waits
-    ghost opens: { Self → TheWaits → Self.Links → Type 0 };
+    // asked for links that are opened with these waits, it gave those; it is as that then
+    ghost opens: { Self → TheWaits → Self.Links → Self → Type 0 };
 
     /// Listens at that address.
     fn listen(
-        &self,
+        &mut self,
         alloc: Global,
         address: &str,
         waits: Waits,
     ) -> Result<Self::Listener, CannotListen>
-        ensures listener { IfOk result (listens self.now address.now waits) }
-        ensures none { IfErr result (λ _. refuses self.now address.now waits) };
+        ensures listener { IfOk result (λ listener. listens self.old address.now waits listener self.new) }
+        ensures none { IfErr result (λ _. refuses self.old address.now waits self.new) };
 
     /// What opens links to partners.
-    fn links(&self, waits: Waits) -> Self::Links
-        ensures { opens self.now waits result };
+    fn links(&mut self, waits: Waits) -> Self::Links
+        ensures { opens self.old waits result self.new };
 }

@@ -1,2 +1,1 @@
-mod Untouched
 mod Reached

@@ -8,17 +8,12 @@ use Rattle.as2_exchange.specs.Run.{Trace, AnEvent, Answered, Failed, Run}
 use Rattle.as2_exchange.specs.State.{State}
 use Rattle.as2_exchange.specs.Step.{step}
 use Rattle.as2_exchange.specs.Due.{next}
-use Rattle.as2_exchange.specs.declared.answer.Answer.{Answer}
-use Rattle.as2_exchange.specs.declared.answer.Answer.TheVariants.{Job as Handed, Settled, Delivered, TryFailed, AlreadySettled, Refused}
+use Rattle.as2_exchange.specs.declared.answer.Answer.TheVariants.{Job as Handed, Refused}
 use Rattle.as2_exchange.specs.declared.answer.Job.{Job}
 use Rattle.as2_exchange.specs.declared.answer.Refusal.{Refusal}
-use Rattle.as2_exchange.specs.declared.event.Event.{Event}
-use Rattle.as2_exchange.specs.declared.event.Event.TheVariants.{Begin, Outcome, BeginMdn, OutcomeMdn}
 use Rattle.as2_exchange.specs.declared.event.TryAnswer.{TryAnswer}
 use Rattle.as2_exchange.specs.declared.fault.StoreFault.{StoreFault}
-use Rattle.as2_exchange.specs.declared.fault.StoreFault.TheVariants as fault
 use Rattle.as2_exchange.specs.declared.next.Next.{Next}
-use Rattle.as2_exchange.specs.declared.next.Next.TheVariants.{Receipt, Document}
 use Rattle.as2_records.specs.Standing.{may_come}
 use Rattle.as2_station.specs.Said.{answer_of, begin_of, outcome_of}
 use Rattle.as2_station.specs.Theorem.{EndsByHistory}
@@ -30,7 +25,6 @@ use Rattle.as2_sending.specs.declared.links.LinkFault.{LinkFault}
 use Rattle.as2_sending.specs.declared.sent.Sent.{Sent}
 use Rattle.as2_sending.specs.declared.sent.Sent.TheVariants as sent
 use Rattle.as2_station.specs.declared.said.Became.{Became}
-use Rattle.as2_station.specs.declared.said.Became.TheVariants as became
 
 -- ---- a turn
 

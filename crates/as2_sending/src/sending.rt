@@ -50,8 +50,9 @@ pub fn send<K: Records, L: Links, W: Sink, E: Write>(
         × Sends agreements.now moment s t (W.written output.old) (W.written output.new)
         (λ text made. (result.told ≡ true → Appends (E.contents hints.old) (E.contents hints.new) text)
         × Exchanges L.answers links.old made links.new) result.end }
-    // It ends for a line that couldn't be written only where a write failed.
+    // It ends for a line that couldn't be written where a write failed, and only there.
     ensures unwritten { result.end ≡ Unwritten → W.failed output.old < W.failed output.new }
+    ensures sound { ¬ (result.end ≡ Unwritten) → W.failed output.new ≡ W.failed output.old }
 {
     let mut told = true;
     for _ in 0..TURNS {

@@ -81,6 +81,7 @@ fn turn<K: Records, L: Links, W: Sink, E: Write>(
         × Exchanges L.answers links.old made links.new) result }
     ensures counted { W.failed output.old ≤ W.failed output.new }
     ensures unwritten { result ≡ Err Unwritten → W.failed output.old < W.failed output.new }
+    ensures sound { ¬ (result ≡ Err Unwritten) → W.failed output.new ≡ W.failed output.old }
 {
     let job = begin(alloc, agreements, moment, station, what)?;
     let got = links.exchange(alloc, &job);
@@ -110,6 +111,7 @@ pub(crate) fn take_turn<K: Records, L: Links, W: Sink, E: Write>(
         × Exchanges L.answers links.old made links.new) result }
     ensures counted { W.failed output.old ≤ W.failed output.new }
     ensures unwritten { result ≡ Err Unwritten → W.failed output.old < W.failed output.new }
+    ensures sound { ¬ (result ≡ Err Unwritten) → W.failed output.new ≡ W.failed output.old }
 {
     match station.next(moment) {
         Ok(Some(what)) => turn(

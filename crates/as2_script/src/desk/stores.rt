@@ -3,8 +3,7 @@ ghost use Rattle.std.specs.Prelude.{◌≡◌, false, true, IfErr, IfOk, IsTrue}
 ghost use Rattle.sqlite.specs.Held.{state};
 ghost use Rattle.sqlite.specs.Steps.{over_memory};
 ghost use Rattle.as2_exchange.specs.State.{State};
-ghost use Rattle.as2_host.specs.Stores.{fault_in};
-ghost use Rattle.as2_records.specs.Standing.{may_come};
+ghost use Rattle.as2_host.specs.Stores.{MayCome};
 ghost use Rattle.as2_script.specs.Stores.{Keeps};
 ghost use Rattle.as2_store.specs.Calls.{empty_store};
 ghost use Rattle.as2_store.specs.Stands.{Rests};
@@ -46,7 +45,7 @@ fn bare(alloc: Global) -> Result<Kept<MemStore>, OpenFault>
 fn made(alloc: Global, first: FirstNumber) -> Result<Kept<MemStore>, OpenFault>
     ensures is_open { IfOk result (λ records. IsTrue (state over_memory records).is_open) }
     ensures fresh { IfOk result (λ records. Rests (state over_memory records) (empty_store first)) }
-    ensures fault { IfErr result (λ fault. may_come (fault_in fault) ≡ true) }
+    ensures fault { IfErr result MayCome }
 {
     match in_memory(alloc, first.get()) {
         Ok(records) => Ok(records),

@@ -13,7 +13,7 @@ use Rattle.as2_desk.proofs.desk.run.Goals as goal
 pub returns-in-Ok-clause-unread : goal.returns-in-Ok-clause-unread
 returns-in-Ok-clause-unread g c = λ none.
     let read = c.in-Ok.options in
-    absurd {A = (c.carry_out-done.new.console.input ≡ c.args.console.now.input) × (c.carry_out-done.new.host.stores ≡ c.args.host.now.stores)} (none read.agreements.now read.store.now read.task c.in-Ok.ensures.given)
+    absurd {A = (c.carry_out-done.new.console.input ≡ c.args.console.now.input) × (c.carry_out-done.new.host.stores ≡ c.args.host.now.stores) × (c.carry_out-done.new.host.network ≡ c.args.host.now.network)} (none read.agreements.now read.store.now read.task c.in-Ok.ensures.given)
 
 pub returns-in-Ok-clause-runs : goal.returns-in-Ok-clause-runs
 returns-in-Ok-clause-runs g c = λ path store task gives.
@@ -25,8 +25,9 @@ returns-in-Ok-clause-runs g c = λ path store task gives.
     (record {
       input = input_of g.R.Source c.args.console.now c.carry_out-done.new.console;
       outcome = outcome_of g.W.Sink g.E.Sink c.args.console.now c.carry_out-done.new.console (Leaves b (g.O.OpenStores.keeps is b));
-      Exchanged = ExchangedOver g.N.Network.opens g.N.Links.Links.answers c.args.host.now.network;
-      listening = listening_of g.N.Network.listens g.N.Network.refuses g.N.Listener.Listens.bound g.N.Listener.Listens.ended c.args.host.now.network;
+      Unasked = c.carry_out-done.new.host.network ≡ c.args.host.now.network;
+      Exchanged = ExchangedOver g.N.Network.opens g.N.Links.Links.answers c.args.host.now.network c.carry_out-done.new.host.network;
+      listening = listening_of g.N.Network.listens g.N.Network.refuses g.N.Listener.Listens.bound g.N.Listener.Listens.ended c.args.host.now.network c.carry_out-done.new.host.network;
     })
     (stored_of g.O.OpenStores was is b) c.carry_out-done.result)
     c.in-Ok.ensures.given gives (record { opened = c.agreements_in-agreed.result.0; opens = c.agreements_in-agreed.ensures; comes = c.carry_out-done.ensures.comes }))
@@ -47,7 +48,7 @@ returns-in-Err-clause-given g c = λ path store task gives is_faulty. elim c.tel
 
 pub returns-in-Err-clause-runs : goal.returns-in-Err-clause-runs
 returns-in-Err-clause-runs g c = λ path store task gives. elim c.tell.ensures.memory [
-  | inl wanting ↦ inr (refl, refl, wanting.0, wanting.1)
+  | inl wanting ↦ inr (refl, refl, refl, wanting.0, wanting.1)
   | inr other ↦ absurd (c.in-Err.ensures.none other path store task gives)
 ]
 

@@ -1,6 +1,6 @@
-use Rattle.std.proofs.Common.{[], ◌∙◌, inl, inr, refl, subst, sym}
+use Rattle.std.proofs.Common.{◌∙◌, ℕ, List, inl, inr, refl, subst, sym}
 use Rattle.as2_commands.specs.Requests.{Serving}
-use Rattle.as2_host.specs.Networks.{EndsEach, listening_of}
+use Rattle.as2_host.specs.Networks.{EndsEach, ServesEach, listening_of}
 use Rattle.as2_desk.proofs.HandedBack.{each_known}
 use Rattle.as2_desk.proofs.Connecting.{all_told, cut_told}
 use Rattle.as2_desk.proofs.Saying.{said_behind}
@@ -12,42 +12,41 @@ use Rattle.as2_desk.specs.declared.refusal.CommandFault.TheVariants.{CannotWrite
 use Rattle.as2_desk.proofs.serving.serve.Goals as goal
 
 pub returns-in_default-clause-serves : goal.returns-in_default-clause-serves
-returns-in_default-clause-serves g c = λ known stood. record {
-  ends = [];
-  serves = each_known _ _ known stood (λ s it. (s, it.1, refl));
-  told = inl (record {
-    none = refl;
-    unwritten = refl;
-    told = inl (subst (λ (v : Serving). g.N.Network.refuses c.args.network.now v.address v.waits) c.serving.view_is c.in_default.ensures.none, c.refuse.ensures.told);
-  });
-}
+returns-in_default-clause-serves g c = λ known stood. inl (record {
+  left = each_known _ _ known stood (λ s it. it.1);
+  unwritten = refl;
+  told = inl (subst (λ (v : Serving). g.N.Network.refuses c.args.network.now v.address v.waits c.listen.new.self) c.serving.view_is c.in_default.ensures.none, c.refuse.ensures.told);
+})
 
 pub returns-in_default-listening_line-clause-serves : goal.returns-in_default-listening_line-clause-serves
-returns-in_default-listening_line-clause-serves g c = λ known stood. record {
-  ends = [];
-  serves = each_known _ _ known stood (λ s it. (s, it.1, refl));
-  told = inl (record {
-    none = refl;
-    unwritten = refl;
-    told = inr ((c.in-Ok.listener, subst (λ (v : Serving). g.N.Network.listens c.args.network.now v.address v.waits c.in-Ok.listener) c.serving.view_is c.in-Ok.ensures.listener), c.refuse-in_default-listening_line.ensures.told);
-  });
-}
+returns-in_default-listening_line-clause-serves g c = λ known stood. inl (record {
+  left = each_known _ _ known stood (λ s it. it.1);
+  unwritten = refl;
+  told = inr ((c.in-Ok.listener, subst (λ (v : Serving). g.N.Network.listens c.args.network.now v.address v.waits c.in-Ok.listener c.listen.new.self) c.serving.view_is c.in-Ok.ensures.listener), c.refuse-in_default-listening_line.ensures.told);
+})
 
 pub returns-in-Ok-serve_connections-clause-serves : goal.returns-in-Ok-serve_connections-clause-serves
 returns-in-Ok-serve_connections-clause-serves g c = λ known stood.
+    let agreements = c.args.terms.now.agreements.now in
+    let moment = c.args.serving.moment in
     let new = g.K.Records.shows c.serve_connections.new.station in
     let first = c.in-Ok.listener in
     let last = c.serve_connections.new.listener in
+    let was = c.args.network.now in
+    let is = c.listen.new.self in
     let address = g.N.Listener.Listens.bound first in
     let streams = c.serve_connections.ensures.streams in
-    let listened = subst (λ (v : Serving). g.N.Network.listens c.args.network.now v.address v.waits first) c.serving.view_is c.in-Ok.ensures.listener in
+    let listened = subst (λ (v : Serving). g.N.Network.listens was v.address v.waits first is) c.serving.view_is c.in-Ok.ensures.listener in
     let said = subst (WritesIf c.is_said-told.result (written_of g.E.Sink c.args.console.now.errors c.is_said-told.new.errors)) (c.as_str.ensures.value ∙ c.in-Ok-listening_line.ensures) c.is_said-told.ensures.said in
-    all_told _ c.args.serving c.args.serving.moment c.args.serving.count known
+    all_told c.args.serving.count known
     (outcome_of g.W.Sink g.E.Sink c.args.console.now c.serve_connections.new.console (λ t. new.Rests t))
-    (g.K.Records.shows c.args.station.now) new (λ ends. EndsEach g.N.Listener.Listens.ended first ends last)
-    (listening_of g.N.Network.listens g.N.Network.refuses g.N.Listener.Listens.bound g.N.Listener.Listens.ended c.args.network.now c.args.serving) _ address
-    refl refl stood (λ t rests. rests)
+    (g.K.Records.shows c.args.station.now) new
+    (λ ends. EndsEach g.N.Listener.Listens.ended moment first ends last)
+    (λ ends s t. ServesEach g.N.Listener.Listens.ended moment agreements ends first s last t)
+    (listening_of g.N.Network.listens g.N.Network.refuses g.N.Listener.Listens.bound g.N.Listener.Listens.ended was is agreements c.args.serving) _ address
+    stood (λ t rests. rests)
     (λ ends all. (first, last, listened, refl, all))
+    (λ ends s t all. (first, last, listened, refl, all))
     c.in-Ok-serve_connections.field-0 c.in-Ok-serve_connections.ensures.serves (record {
       ended = refl;
       said = subst (λ (e : g.row.E.Denot). WritesIf c.is_said-told.result (written_of g.E.Sink c.args.console.now.errors e) (listening_line address)) (sym streams.1) said;
@@ -55,22 +54,29 @@ returns-in-Ok-serve_connections-clause-serves g c = λ known stood.
 
 pub returns-clause-serves : goal.returns-clause-serves
 returns-clause-serves g c = λ known stood.
+    let agreements = c.args.terms.now.agreements.now in
+    let moment = c.args.serving.moment in
     let new = g.K.Records.shows c.serve_connections.new.station in
     let first = c.in-Ok.listener in
     let last = c.serve_connections.new.listener in
+    let was = c.args.network.now in
+    let is = c.listen.new.self in
     let address = g.N.Listener.Listens.bound first in
     let streams = c.serve_connections.ensures.streams in
-    let listened = subst (λ (v : Serving). g.N.Network.listens c.args.network.now v.address v.waits first) c.serving.view_is c.in-Ok.ensures.listener in
+    let listened = subst (λ (v : Serving). g.N.Network.listens was v.address v.waits first is) c.serving.view_is c.in-Ok.ensures.listener in
     let said = subst (WritesIf c.is_said-told.result (written_of g.E.Sink c.args.console.now.errors c.is_said-told.new.errors)) (c.as_str.ensures.value ∙ c.in-Ok-listening_line.ensures) c.is_said-told.ensures.said in
     let old = c.args.console.now.errors in
     let mid = c.is_said-told.new.errors in
     let end = c.refuse_behind.new.errors in
-    cut_told _ c.args.serving c.args.serving.moment c.args.serving.count known
+    cut_told c.args.serving.count known
     (outcome_of g.W.Sink g.E.Sink c.args.console.now (record c.serve_connections.new.console { errors = end }) (λ t. new.Rests t))
-    (g.K.Records.shows c.args.station.now) new (λ ends. EndsEach g.N.Listener.Listens.ended first ends last)
-    (listening_of g.N.Network.listens g.N.Network.refuses g.N.Listener.Listens.bound g.N.Listener.Listens.ended c.args.network.now c.args.serving) _ address
-    refl refl stood (λ t rests. rests)
+    (g.K.Records.shows c.args.station.now) new
+    (λ ends. EndsEach g.N.Listener.Listens.ended moment first ends last)
+    (λ ends s t. ServesEach g.N.Listener.Listens.ended moment agreements ends first s last t)
+    (listening_of g.N.Network.listens g.N.Network.refuses g.N.Listener.Listens.bound g.N.Listener.Listens.ended was is agreements c.args.serving) _ address
+    stood (λ t rests. rests)
     (λ ends all. (first, last, listened, refl, all))
+    (λ ends s t all. (first, last, listened, refl, all))
     c.in-Err.field-0 c.in-Err.ensures.serves (record {
       ended = c.refuse_behind.ensures.status;
       said = said_behind g.E.Sink old mid end (listening_line address) (error_line CannotWrite) c.is_said-told.result c.refuse_behind.result.told said c.is_said-told.ensures.counted

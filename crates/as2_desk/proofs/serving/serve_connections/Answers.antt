@@ -1,17 +1,15 @@
 use Rattle.std.proofs.Common.{◌≡◌, ◌<◌, ◌≤◌, ◌∙◌, ℕ, Option, Ok, Err, ap, arith, refl, subst}
 use Rattle.as2_commands.specs.Requests.{Serving}
-use Rattle.as2_host.specs.Networks.{EndsEach}
-use Rattle.as2_desk.proofs.Connecting.{all_served, cut, ends_more, none_served, one_more}
+use Rattle.as2_desk.proofs.Connecting.{all_served, cut, none_served, one_more}
 use Rattle.as2_desk.specs.Connections.{ServesNext}
 use Rattle.as2_desk.specs.Written.{written_of}
 use Rattle.as2_desk.proofs.serving.serve_connections.Goals as goal
 
 pub loop-served-init : goal.loop-served-init
-loop-served-init g c = (refl, refl, none_served g.W.Sink _ _ _ (λ ends. EndsEach g.L.Listens.ended c.args.listener.now ends c.args.listener.now) _ refl)
+loop-served-init g c = (refl, refl, none_served g.L.Listens.ended c.args.serving.now.moment c.args.terms.now.agreements.now g.W.Sink _ c.args.listener.now _)
 
 pub loop-served-preserved : goal.loop-served-preserved
 loop-served-preserved g c =
-    let first = c.args.listener.now in
     let mid = c.loop-served.listener in
     let last = c.serve_next.new.listener in
     let then = g.K.Records.shows c.loop-served.station in
@@ -21,30 +19,27 @@ loop-served-preserved g c =
     let given : c.serving.inside.moment ≡ c.args.serving.now.moment = ap (λ (v : Serving). v.moment) c.serving.view_is in (
       streams.0 ∙ before.0,
       streams.1 ∙ before.1,
-      one_more g.W.Sink c.args.terms.now.agreements.now c.args.serving.now.moment c.loop-served.served (g.K.Records.shows c.args.station.now) then now
-          c.args.console.now.output c.loop-served.console.output c.serve_next.new.console.output
-          (λ ends. EndsEach g.L.Listens.ended first ends mid) (λ ends. EndsEach g.L.Listens.ended first ends last) (λ end. g.L.Listens.ended mid end last)
-          before.2 c.serve_next.ensures.clean c.serve_next.ensures.counted (ends_more g.L.Listens.ended first mid last) c.in_ok-serve_next.field-0
-          (subst (λ (m : Option ℕ). ServesNext c.args.terms.now.agreements.now m then now (λ end. g.L.Listens.ended mid end last)
+      one_more g.L.Listens.ended c.args.serving.now.moment c.args.terms.now.agreements.now g.W.Sink c.loop-served.served (g.K.Records.shows c.args.station.now) then now
+          c.args.listener.now mid last c.args.console.now.output c.loop-served.console.output c.serve_next.new.console.output
+          before.2 c.serve_next.ensures.clean c.in_ok-serve_next.field-0
+          (subst (λ (m : Option ℕ). ServesNext c.args.terms.now.agreements.now m then now (λ end trace. g.L.Listens.ended mid m trace end last)
           (written_of g.W.Sink c.loop-served.console.output c.serve_next.new.console.output) (Ok c.in_ok-serve_next.field-0)) given c.in_ok-serve_next.ensures.serves),
     )
 
 pub returns-in_err-serve_next-clause-serves : goal.returns-in_err-serve_next-clause-serves
 returns-in_err-serve_next-clause-serves g c =
-    let first = c.args.listener.now in
     let mid = c.loop-served.listener in
     let last = c.serve_next.new.listener in
     let then = g.K.Records.shows c.loop-served.station in
     let now = g.K.Records.shows c.serve_next.new.station in
     let given : c.serving.inside.moment ≡ c.args.serving.now.moment = ap (λ (v : Serving). v.moment) c.serving.view_is in
     let count : c.serving.inside.count ≡ c.args.serving.now.count = ap (λ (v : Serving). v.count) c.serving.view_is in
-    cut g.W.Sink c.args.terms.now.agreements.now c.args.serving.now.moment c.loop-served.served (g.K.Records.shows c.args.station.now) then now
-    c.args.console.now.output c.loop-served.console.output c.serve_next.new.console.output
-    (λ ends. EndsEach g.L.Listens.ended first ends mid) (λ ends. EndsEach g.L.Listens.ended first ends last) (λ end. g.L.Listens.ended mid end last)
-    c.loop-served.invariant.2 c.serve_next.ensures.clean c.serve_next.ensures.counted (ends_more g.L.Listens.ended first mid last)
+    cut g.L.Listens.ended c.args.serving.now.moment c.args.terms.now.agreements.now g.W.Sink c.loop-served.served (g.K.Records.shows c.args.station.now) then now
+    c.args.listener.now mid last c.args.console.now.output c.loop-served.console.output c.serve_next.new.console.output
+    c.loop-served.invariant.2 c.serve_next.ensures.clean
     c.args.serving.now.count c.in_err-serve_next.field-0.0 c.from_residual.result c.from_residual.ensures.0
     (subst (λ (n : ℕ). c.loop-served.served < n) count c.loop-served-test.true)
-    (subst (λ (m : Option ℕ). ServesNext c.args.terms.now.agreements.now m then now (λ end. g.L.Listens.ended mid end last)
+    (subst (λ (m : Option ℕ). ServesNext c.args.terms.now.agreements.now m then now (λ end trace. g.L.Listens.ended mid m trace end last)
     (written_of g.W.Sink c.loop-served.console.output c.serve_next.new.console.output) (Err c.in_err-serve_next.field-0.0)) given c.in_err-serve_next.ensures.serves)
 
 pub returns-in_err-serve_next-clause-streams : goal.returns-in_err-serve_next-clause-streams
@@ -58,4 +53,4 @@ returns-clause-serves g c =
     let count : c.serving.inside.count ≡ c.args.serving.now.count = ap (λ (v : Serving). v.count) c.serving.view_is in
     let below : c.loop-served.served ≤ c.serving.inside.count = c.loop-served.auto.served-end in
     let above : c.serving.inside.count ≤ c.loop-served.served = c.loop-served-test.false in
-    all_served g.W.Sink _ _ _ _ _ _ (λ ends. EndsEach g.L.Listens.ended c.args.listener.now ends c.loop-served.listener) _ _ _ (omega (arith, below, above, count)) c.loop-served.invariant.2
+    all_served g.L.Listens.ended c.args.serving.now.moment c.args.terms.now.agreements.now g.W.Sink _ _ _ _ c.args.listener.now c.loop-served.listener _ _ _ (omega (arith, below, above, count)) c.loop-served.invariant.2

@@ -1,10 +1,9 @@
 use Rattle.std.proofs.Common.{◌≡◌, ◌+◌, ◌∙◌, ℕ, Bool, true, false, List, Result, Ok, Err, IfErr, refl, sym, subst, arith}
 use Rattle.std.specs.Bool.{⊤}
 use Rattle.as2_host.specs.Networks.{ExchangedOver, listening_of}
-use Rattle.as2_host.specs.Stores.{fault_in}
+use Rattle.as2_host.specs.Stores.{MayCome}
 use Rattle.as2_host.specs.declared.stores.OpenFault.{OpenFault}
 use Rattle.as2_host.specs.declared.stores.OpenStores.{Ghosts as Stores}
-use Rattle.as2_records.specs.Standing.{may_come}
 use Rattle.as2_exchange.specs.State.{LaterVersion, State, empty}
 use Rattle.as2_desk.proofs.Opening.{each_left, goes_in_memory, goes_kept}
 use Rattle.as2_desk.specs.Observed.{input_of, outcome_of, stored_of}
@@ -23,12 +22,13 @@ returns-then-eq-clause-goes g c =
     (record {
       input = input_of g.R.Source c.args.console.now c.do_over.new.console;
       outcome = outcome_of g.W.Sink g.E.Sink c.args.console.now c.do_over.new.console (Leaves path (g.O.OpenStores.keeps stores path));
-      Exchanged = ExchangedOver g.N.Network.opens g.N.Links.Links.answers c.args.host.now.network;
-      listening = listening_of g.N.Network.listens g.N.Network.refuses g.N.Listener.Listens.bound g.N.Listener.Listens.ended c.args.host.now.network;
+      Unasked = c.do_over.new.network ≡ c.args.host.now.network;
+      Exchanged = ExchangedOver g.N.Network.opens g.N.Links.Links.answers c.args.host.now.network c.do_over.new.network;
+      listening = listening_of g.N.Network.listens g.N.Network.refuses g.N.Listener.Listens.bound g.N.Listener.Listens.ended c.args.host.now.network c.do_over.new.network;
     })
     (stored_of g.O.OpenStores stores stores path)
     c.do_over.result.0 c.do_over.result.1 c.open_in_memory-records.result c.open_in_memory-records.ensures c.do_over.ensures.fails c.do_over.ensures.does
-    (λ fault may. subst (λ (b : Bool). ByPlace b (may_come (fault_in fault) ≡ true) (g.O.OpenStores.fails stores path fault)) (sym is) may)
+    (λ fault may. subst (λ (b : Bool). ByPlace b (MayCome fault) (g.O.OpenStores.fails stores path fault)) (sym is) may)
     refl (λ number s kept. kept) (subst (λ (b : Bool). opens ≡ opens + opens_at b) (sym is) (omega arith))
     (λ s from. subst (λ (b : Bool). ByPlace b (s ≡ empty (LaterVersion 0) first) (g.O.OpenStores.keeps stores path first s × g.O.OpenStores.is_clean stores)) is from)
     (λ t. subst (λ (b : Bool). ByPlace b ⊤ ((number : ℕ) → g.O.OpenStores.keeps stores path number t)) (sym is) tt)
@@ -40,7 +40,7 @@ not_opened : {O A Opened InMemory : Type 0} (g : Stores O Opened InMemory) (was 
 not_opened g was opened is path (Ok records) away fails same left = tt
 not_opened g was opened is path (Err fault) away fails same left = (
   λ number s kept. subst (λ o. g.keeps o path number s) (sym left) (same number s kept),
-  subst (λ (b : Bool). ByPlace b (may_come (fault_in fault) ≡ true) (g.fails was path fault)) (sym away) fails,
+  subst (λ (b : Bool). ByPlace b (MayCome fault) (g.fails was path fault)) (sym away) fails,
 )
 
 -- it is kept under its path
@@ -58,8 +58,9 @@ returns-clause-goes g c =
     (record {
       input = input_of g.R.Source c.args.console.now c.do_over-left.new.console;
       outcome = outcome_of g.W.Sink g.E.Sink c.args.console.now c.do_over-left.new.console (Leaves path (g.O.OpenStores.keeps stores path));
-      Exchanged = ExchangedOver g.N.Network.opens g.N.Links.Links.answers c.args.host.now.network;
-      listening = listening_of g.N.Network.listens g.N.Network.refuses g.N.Listener.Listens.bound g.N.Listener.Listens.ended c.args.host.now.network;
+      Unasked = c.do_over-left.new.network ≡ c.args.host.now.network;
+      Exchanged = ExchangedOver g.N.Network.opens g.N.Links.Links.answers c.args.host.now.network c.do_over-left.new.network;
+      listening = listening_of g.N.Network.listens g.N.Network.refuses g.N.Listener.Listens.bound g.N.Listener.Listens.ended c.args.host.now.network c.do_over-left.new.network;
     })
     (stored_of g.O.OpenStores was stores path)
     c.do_over-left.result.0 c.do_over-left.result.1 c.open-records.result Clean (g.O.OpenStores.keeps was path first) opened opens

@@ -1,4 +1,4 @@
-use Rattle.std.proofs.Common.{Bool, ◌≡◌, true, Err, ap, refl, arith}
+use Rattle.std.proofs.Common.{Bool, ◌≡◌, ◌∙◌, true, Err, ap, refl, arith}
 use Rattle.std.proofs.KnownBytes.{Appends-nil}
 use Rattle.std.specs.Bool.{⊤}
 use Rattle.std.specs.Io.KnownBytes.{Appends}
@@ -17,7 +17,7 @@ loop-init g c = (
       let hinted = g.E.Write.contents c.args.hints.now in
       sends_first c.args.agreements.now c.args.moment s (g.K.Records.shows c.args.station.now) (g.W.Sink.written c.args.output.now)
       (λ text made. (true ≡ true → Appends hinted hinted text) × Exchanges g.L.Links.answers c.args.links.now made c.args.links.now) (λ _. Appends-nil hinted, refl) rests,
-  omega arith,
+  refl,
 )
 
 pub returns-in-Err-clause-sends : goal.returns-in-Err-clause-sends
@@ -51,8 +51,15 @@ loop-preserved g c = (
       sends_on Bool A c.args.moment s (g.K.Records.shows c.loop.station) d (g.W.Sink.written c.args.output.now) now later
       _ _ _ (joined g.L.Links.answers (c.loop.told ≡ true) (c.in-Ok.hinted ≡ true) (c.both-told.result ≡ true) first mid last c.args.links.now c.loop.links c.take_turn.new.links c.both-told.ensures)
       c.in-Ok.hinted w (c.in-Ok.ensures.turned clean w.mid w.rests),
-  omega (arith, c.loop.invariant.2, c.take_turn.ensures.counted),
+  c.in-Ok.ensures.sound (λ bad. cc) ∙ c.loop.invariant.2,
 )
 
 pub returns-in-Err-clause-unwritten : goal.returns-in-Err-clause-unwritten
 returns-in-Err-clause-unwritten g c = λ is. let more = c.in-Err.ensures.unwritten (ap (λ (end : Sent). let r : Result Bool Sent = Err end in r) is) in omega (arith, c.loop.invariant.2, more)
+
+pub returns-in-Err-clause-sound : goal.returns-in-Err-clause-sound
+returns-in-Err-clause-sound g c = λ other. c.in-Err.ensures.sound (λ is. other (let same : c.in-Err.end ≡ Unwritten = cc in same)) ∙ c.loop.invariant.2
+
+-- (what is told then is another end)
+pub returns-clause-sound : goal.returns-clause-sound
+returns-clause-sound g c = λ _. c.loop.invariant.2
