@@ -9,6 +9,8 @@ use Rattle.as2_files.proofs.stores.StoreFilesOpenStores.open.Goals as goal
 pub returns-clause-found : goal.returns-clause-found
 returns-clause-found g c = λ clean.
     let found = c.in_ok-records.ensures.found clean in
-    let at = file_name c.args.path.now in
-    (found.0, λ s kept. found.1 s (subst (λ (name : List ℕ). HoldsState (g.K.KeepFiles.image name) s) (sym (c.name.ensures ∙ c.in_ok-place.ensures))
-    (subst (λ (end : Option (End g.row.K-Disk.Denot)). Keeps g.K.Disk.Disk (g.K.KeepFiles.image at) end s) c.in-None.is kept)))
+    let at = file_name c.args.path.now in (
+      found.0,
+      λ s kept. found.1 s (subst (λ (name : List ℕ). HoldsState (g.K.KeepFiles.image name) s) (sym (c.name.ensures ∙ c.in_ok-place.ensures))
+          (subst (λ (end : Option (End g.row.K-Disk.Denot)). Keeps g.K.Disk.Disk (g.K.KeepFiles.image at) end s) c.in-None.is kept)),
+    )
