@@ -7,7 +7,7 @@ use Rattle.sqlite_trees.specs.declared.memory.MemStore.{MemStore}
 use Rattle.sqlite.specs.State.{State as Connected}
 use Rattle.as2_exchange.specs.State.{State}
 use Rattle.as2_exchange.specs.declared.fault.StoreFault.{StoreFault}
-use Rattle.as2_host.specs.Stores.{BeginsNew, fault_in}
+use Rattle.as2_host.specs.Stores.{BeginsNew}
 use Rattle.as2_host.specs.declared.stores.OpenFault.{OpenFault}
 use Rattle.as2_host.specs.declared.stores.OpenFault.TheVariants as open_fault
 use Rattle.as2_kept.specs.Instance.{standing}
@@ -24,4 +24,4 @@ reached c s it = subst (λ (t : State). Rests c t) (sym (some_is s it.state it.i
 pub begins_new : (first : ℕ) (r : Result (Held MemStore) OpenFault) → IfOk r (λ c. IsTrue (state over_memory c).is_open) → IfOk r (λ c. Rests (state over_memory c) (empty_store first)) → IfErr r (λ f. (why : StoreFault) × (f ≡ open_fault.Store why) × (may_come why ≡ true))
     → BeginsNew (λ (c : Held MemStore). standing (state over_memory c)) first r
 begins_new first (Ok c) is_open fresh fault = (memory_is_clean, is_open, fresh)
-begins_new first (Err f) is_open fresh fault = subst (λ (g : OpenFault). may_come (fault_in g) ≡ true) (sym fault.1) fault.2
+begins_new first (Err f) is_open fresh fault = fault
