@@ -1,10 +1,8 @@
 //! The store of a path, in its files.
-ghost use Rattle.std.specs.Prelude.{◌≡◌, true, IfErr, IfOk, IsTrue};
-ghost use Rattle.as2_exchange.specs.declared.fault.StoreFault.{StoreFault};
+ghost use Rattle.std.specs.Prelude.{IfErr, IfOk, IsTrue};
 ghost use Rattle.sqlite.specs.Held.{state};
 ghost use Rattle.sqlite.specs.Steps.{over_memory};
-ghost use Rattle.as2_host.specs.declared.stores.OpenFault.TheVariants as open_fault;
-ghost use Rattle.as2_records.specs.Standing.{may_come};
+ghost use Rattle.as2_host.specs.Stores.{MayCome};
 ghost use Rattle.as2_store.specs.Calls.{empty_store};
 ghost use Rattle.as2_store.specs.Stands.{Rests};
 ghost use Rattle.as2_files.specs.Stores.{IsCleanEnd, Keeps};
@@ -36,7 +34,7 @@ pub struct StoreFiles<'a, R: Records + Drop, K: KeepFiles<R> + Drop> {
 fn new_in_memory(alloc: Global, first: FirstNumber) -> Result<Kept<MemStore>, OpenFault>
     ensures is_open { IfOk result (λ records. IsTrue (state over_memory records).is_open) }
     ensures fresh { IfOk result (λ records. Rests (state over_memory records) (empty_store first)) }
-    ensures fault { IfErr result (λ fault. (why : StoreFault) × (fault ≡ open_fault.Store why) × (may_come why ≡ true)) }
+    ensures fault { IfErr result MayCome }
 {
     match in_memory(alloc, first.get()) {
         Ok(records) => Ok(records),
