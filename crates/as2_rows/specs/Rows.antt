@@ -1,6 +1,6 @@
 -- Entries as rows: as they are stored, with the row's number first and NULL in the column that repeats it; and as a query
 -- shows them, with all columns in order.
-use Rattle.std.specs.Prelude.{ℕ, [], ◌∷◌, Option, Some, None, pos}
+use Rattle.std.specs.Prelude.{ℕ, [], ◌∷◌, Option, Some, None, pos, codes}
 use Rattle.sqlite_value.specs.declared.value.Value.{Value}
 use Rattle.sqlite_value.specs.declared.value.Value.TheVariants.{Null, Int, Text, Blob}
 use Rattle.sqlite_value.specs.Order.{Row}
@@ -121,3 +121,13 @@ evidence_row number e = whole number ∷ Null ∷ evidence_columns e
 -- as a query shows it
 abbrev pub evidence_shown : ℕ → Evidence → Row
 evidence_shown number e = whole number ∷ evidence_columns e
+
+-- ---- the counters
+
+-- the columns: kind, version, the next numbers of a receipt and of a document
+abbrev pub meta_shown : ℕ → ℕ → Row
+meta_shown next_receipt next_document = Text (codes "as2-station") ∷ whole 1 ∷ whole next_receipt ∷ whole next_document ∷ []
+
+-- as they are stored: the only row, whose number is 1
+abbrev pub meta_row : ℕ → ℕ → Row
+meta_row next_receipt next_document = whole 1 ∷ meta_shown next_receipt next_document
