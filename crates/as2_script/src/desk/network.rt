@@ -1,15 +1,11 @@
-//! A network in memory, by the texts `connections`, `connection-posts`, `partner-reply` and `link-fault`. It notes what it is given.
+//! A network in memory, by the texts `connections`, `partner-reply` and `link-fault`. It notes what it is given.
 ghost use Rattle.std.specs.Prelude.{◌≡◌};
-ghost use Rattle.as2_exchange.specs.State.{State};
-ghost use Rattle.as2_http.specs.Devices.{Opens};
-ghost use Rattle.as2_http.specs.StreamReads.{RunsPosts};
 
-use super::Counts;
 use as2_agreement::Agreements;
 use as2_commands::Waits;
 use as2_exchange::{Job, TryAnswer};
 use as2_host::{CannotListen, Listens, Network};
-use as2_http::{Counted, Journal, Served, serve_stream};
+use as2_http::{Journal, Served};
 use as2_mic::Pieces;
 use as2_records::Records;
 use as2_sending::{LinkFault, Links};
@@ -18,16 +14,13 @@ use as2_text::{Head, Memory, Moment};
 use script_lines::{Answer, Settings, Trouble, bytes_of, number_in};
 use std::alloc::Global;
 use std::cell::RefCell;
-use std::marker::Brand;
 use std::str;
-use std::sync::ledger::{Blank, Ledger};
 
 /// A network in memory.
 #[derive(Clone, Copy)]
 pub struct Peers<'a> {
     settings: &'a Settings,
-    /// How the connections end that come, each without a request; `Posts` is one that brings the text `connection-posts`. Where
-    /// there are none, no address can be listened on.
+    /// How the connections end that come, each without a request. Where there are none, no address can be listened on.
     ends: &'a str,
     /// The wait of a listener or of links, in seconds.
     wait: u64,
@@ -84,80 +77,6 @@ impl<'a> Peers<'a> {
             }
         }
     }
-
-    /// What a connection of that word brings, where it brings something.
-    fn brought(&self, alloc: Global, word: &str) -> Option<Vec<u8>> {
-        if word != "Posts" {
-            return None;
-        }
-        bytes_of(alloc, self.settings.text("connection-posts")?).ok()
-    }
-}
-
-/// Serves the requests of these bytes, with counts of the calls; the replies go nowhere.
-fn serve_counted<K: Records, J: Journal, A: Ledger, B: Ledger, C: Ledger, D: Ledger>(
-    alloc: Global,
-    agreements: &Agreements,
-    moment: Moment,
-    station: &mut Station<K>,
-    bytes: &[u8],
-    journal: &mut J,
-    reads: Counts,
-    writes: Counts,
-) -> Served
-    requires reads { Opens reads.calls.name reads.calls.parts A.name A.parts }
-    requires failed_reads { Opens reads.failed.name reads.failed.parts B.name B.parts }
-    requires writes { Opens writes.calls.name writes.calls.parts C.name C.parts }
-    requires failed_writes { Opens writes.failed.name writes.failed.parts D.name D.parts }
-    ensures clean { (K.shows station.new).IsClean → (K.shows station.old).IsClean }
-    ensures posts { (K.shows station.new).IsClean → (s : State) → (K.shows station.old).Rests s
-        → (t : State) × (K.shows station.new).Rests t × RunsPosts agreements.now moment s t }
-{
-    let mut source: Counted<&[u8], A, B> = Counted::new(bytes, reads.calls, reads.failed);
-    let mut sink: Counted<Vec<u8>, C, D> = Counted::new(
-        Vec::new(alloc),
-        writes.calls,
-        writes.failed,
-    );
-    serve_stream(
-        alloc,
-        agreements,
-        moment,
-        station,
-        &mut source,
-        &mut sink,
-        journal,
-    )
-}
-
-fn serve_posts<K: Records, J: Journal>(
-    alloc: Global,
-    agreements: &Agreements,
-    moment: Moment,
-    station: &mut Station<K>,
-    bytes: &[u8],
-    journal: &mut J,
-) -> Served
-    ensures clean { (K.shows station.new).IsClean → (K.shows station.old).IsClean }
-    ensures posts { (K.shows station.new).IsClean → (s : State) → (K.shows station.old).Rests s
-        → (t : State) × (K.shows station.new).Rests t × RunsPosts agreements.now moment s t }
-{
-    serve_counted::<K, J, Brand, Brand, Brand, Brand>(
-        alloc,
-        agreements,
-        moment,
-        station,
-        bytes,
-        journal,
-        Counts {
-            calls: Blank::new(1),
-            failed: Blank::new(1),
-        },
-        Counts {
-            calls: Blank::new(1),
-            failed: Blank::new(1),
-        },
-    )
 }
 
 fn end_named(word: &str) -> Served {
@@ -182,26 +101,16 @@ impl Listens for Peers<'_> {
 
     fn serve<K: Records, J: Journal>(
         &mut self,
-        alloc: Global,
-        agreements: &Agreements,
+        _alloc: Global,
+        _agreements: &Agreements,
         moment: Option<Moment>,
-        station: &mut Station<K>,
-        journal: &mut J,
+        _station: &mut Station<K>,
+        _journal: &mut J,
     ) -> Served {
         self.note_moment(moment);
         let (word, rest) = self.ends.split_once(" ").unwrap_or((self.ends, ""));
         self.ends = rest;
-        let (Some(moment), Some(bytes)) = (moment, self.brought(alloc, word)) else {
-            return end_named(word);
-        };
-        serve_posts(
-            alloc,
-            agreements,
-            moment,
-            station,
-            bytes.as_slice(),
-            journal,
-        )
+        end_named(word)
     }
 }
 

@@ -3,5 +3,5 @@ use Rattle.as2_host.proofs.Untouched.{serves_none}
 use Rattle.as2_script.proofs.desk.network.PeersListens.serve.Goals as goal
 
 -- it brings nothing
-pub returns-in_default-clause-serves : goal.returns-in_default-clause-serves
-returns-in_default-clause-serves g c = λ clean s rests. (s, rests, serves_none c.args.agreements.now c.args.moment _ s refl)
+pub returns-clause-serves : goal.returns-clause-serves
+returns-clause-serves g c = λ clean s rests. (s, rests, serves_none c.args._agreements.now c.args.moment _ s refl)
