@@ -1,5 +1,5 @@
 //! From words to what they ask for.
-ghost use Rattle.std.specs.Prelude.{◌≡◌, ◌≢◌, [], IfOk, IfErr};
+ghost use Rattle.std.specs.Prelude.{◌≡◌, ◌≢◌, ◌⊎◌, [], IfOk, IfErr};
 ghost use Rattle.clap.specs.Walk.{texts};
 ghost use Rattle.clap.specs.Words.{HasKind, app_of, found_of, kind_of, rows_of, subcommand_rows_of};
 ghost use Rattle.clap.specs.declared.error.kind.ErrorKind.TheVariants.{OutOfMemory, ValueValidation};
@@ -29,6 +29,8 @@ pub fn options_in<'a>(
     ensures kind { IfErr result (λ e. faults (texts words.entry.now) ≢ [] → HasKind (faults (texts words.entry.now)) e) }
     // The help and the version are for those who ask for them.
     ensures help { IfErr result (λ e. IsHelp (kind_of e) → AsksForHelp (texts words.entry.now)) }
+    // Of words that are one, it is a value that isn't taken.
+    ensures values { IfErr result (λ e. faults (texts words.entry.now) ≡ [] → (kind_of e ≡ OutOfMemory) ⊎ (kind_of e ≡ ValueValidation)) }
 {
     asked_by(alloc, &mut command(alloc)?, words, clock)
 }
@@ -45,6 +47,7 @@ fn asked_by<'a>(
     ensures none { IfErr result (λ e. kind_of e ≢ OutOfMemory → GivesNone (texts words.entry.now) clock) }
     ensures kind { IfErr result (λ e. faults (texts words.entry.now) ≢ [] → HasKind (faults (texts words.entry.now)) e) }
     ensures help { IfErr result (λ e. IsHelp (kind_of e) → AsksForHelp (texts words.entry.now)) }
+    ensures values { IfErr result (λ e. faults (texts words.entry.now) ≡ [] → (kind_of e ≡ OutOfMemory) ⊎ (kind_of e ≡ ValueValidation)) }
 {
     let found = parse(command, words)?;
     match Options::of(&found, clock) {

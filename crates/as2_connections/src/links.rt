@@ -1,9 +1,10 @@
 //! Links to partners over TCP, and why one brought no answer.
-ghost use Rattle.std.specs.Prelude.{◌≡◌, ℕ, List, Some, true, IsTrue};
+ghost use Rattle.std.specs.Prelude.{◌≡◌, ℕ, List, Some, true, IfOk, IsTrue};
 ghost use Rattle.std.specs.Io.KnownBytes.{Appends};
 ghost use Rattle.as2_http.specs.Devices.{Opens};
 ghost use Rattle.as2_http.specs.Sending.{AppendsPart};
-ghost use Rattle.as2_messages.specs.Answering.{Gets, is_answered};
+ghost use Rattle.as2_messages.specs.Answering.{is_answered};
+ghost use Rattle.as2_connections.specs.Linking.{AnswersInput, HasWaits, fault_of};
 
 use crate::network::Stream;
 use as2_commands::Waits;
@@ -95,7 +96,7 @@ fn exchange_counted<R: Read, W: Write, A: Ledger, B: Ledger, C: Ledger, D: Ledge
     requires failed_writes { Opens failed_writes.name failed_writes.parts D.name D.parts }
     ensures written { AppendsPart (W.contents writer) (W.contents result.writer) job.now.bytes }
     ensures whole { IsTrue (is_answered result.got) → Appends (W.contents writer) (W.contents result.writer) job.now.bytes }
-    ensures answer { (input : List ℕ) → R.remaining reader ≡ Some input → Gets input result.got }
+    ensures answer { (input : List ℕ) → R.remaining reader ≡ Some input → AnswersInput input result.got }
 {
     let mut source: Counted<R, A, B> = Counted::new(reader, reads, failed_reads);
     let mut sink: Counted<W, C, D> = Counted::new(writer, writes, failed_writes);
@@ -117,7 +118,9 @@ fn unconnected(error: io::Error) -> LinkFault {
 }
 
 /// Why a connection brought no answer, by the kind of the error that was told last.
-fn unanswered(last: Option<ErrorKind>, waits: Waits) -> LinkFault {
+fn unanswered(last: Option<ErrorKind>, waits: Waits) -> LinkFault
+    ensures { result ≡ fault_of last waits.seconds }
+{
     match last {
         None => LinkFault::NoAnswer,
         Some(ErrorKind::WouldBlock) => LinkFault::Silent(waits.seconds),
@@ -138,8 +141,10 @@ impl<'a> Connections<'a> {
         }
     }
 
-    /// A connection to the authority of a job, as its two ends.
-    fn open(&self, job: &Job) -> Result<(Stream<'a>, Stream<'a>), LinkFault> {
+    /// A connection to the authority of a job, as its two ends: each waits as long as these links are to.
+    fn open(&self, job: &Job) -> Result<(Stream<'a>, Stream<'a>), LinkFault>
+        ensures waits { IfOk result (λ ends. HasWaits self.now.waits.seconds ends.0.timer.limits × HasWaits self.now.waits.seconds ends.1.timer.limits) }
+    {
         let Ok(authority) = str::from_utf8(job.authority.as_slice()) else {
             return Err(LinkFault::UnknownHost);
         };

@@ -1,5 +1,5 @@
 //! The network: connections over TCP that are served.
-ghost use Rattle.std.specs.Prelude.{◌≡◌, ℕ, List, Some};
+ghost use Rattle.std.specs.Prelude.{◌≡◌, ℕ, List, Some, IfOk};
 ghost use Rattle.as2_http.specs.Devices.{Opens};
 ghost use Rattle.as2_http.specs.Notes.{spoken};
 ghost use Rattle.as2_http.specs.StreamReads.{RunsPosts};
@@ -124,8 +124,10 @@ fn serve_connection<K: Records, J: Journal>(
 }
 
 impl<'a> ListeningSocket<'a> {
-    /// Accepts one connection: its two ends, and the clock's reading then.
-    fn accept(&self) -> io::Result<(Stream<'a>, Stream<'a>)> {
+    /// Accepts one connection: its two ends, each with the limits of the socket.
+    fn accept(&self) -> io::Result<(Stream<'a>, Stream<'a>)>
+        ensures limits { IfOk result (λ ends. (ends.0.timer.limits ≡ self.now.limits) × (ends.1.timer.limits ≡ self.now.limits)) }
+    {
         let (stream, _) = self.socket.accept()?;
         let reader = TimedStream::new(stream, self.rt, self.limits)?;
         let writer = reader.try_clone()?;
@@ -172,16 +174,14 @@ impl Listens for ListeningSocket<'_> {
 }
 
 impl<'a> Network for Sockets<'a> {
-    ghost use Rattle.std.specs.Prelude.{◌≡◌, ◌*◌, min};
-    ghost use Rattle.std.specs.Duration.{as_nanos, max_nanos};
-    ghost use Rattle.as2_sockets.specs.Waits.{nanoseconds};
+    ghost use Rattle.std.specs.Prelude.{◌≡◌};
+    ghost use Rattle.as2_connections.specs.Linking.{HasWaits};
 
     type Listener = ListeningSocket<'a>;
 
     type Links = Connections<'a>;
 
-    ghost listens = { λ old _ waits l new. (as_nanos l.limits.wait ≡ nanoseconds waits.seconds)
-        × (as_nanos l.limits.whole ≡ min (10 * nanoseconds waits.seconds) max_nanos) × (new ≡ old) };
+    ghost listens = { λ old _ waits l new. HasWaits waits.seconds l.limits × (new ≡ old) };
 
     ghost refuses = { λ old _ _ new. new ≡ old };
 

@@ -1,4 +1,4 @@
--- INSERT of what a query over another table shows, into a table without rows.
+-- INSERT of what a query over another table shows.
 use Rattle.std.proofs.Common.{◌≡◌, ◌≢◌, ◌∙◌, ℕ, ℤ, pos, ◌<◌, List, [], ◌∷◌, ◌++◌, map, drop, slice_get, Bool, false, cond, Some, Ok, refl, sym, ap, subst, IsPermutation, negsuc, append_assoc, append-nil}
 use Rattle.std.specs.List.{AllByRecursion}
 use Rattle.std.proofs.lemmas.List.Sorted.{IsPermutation-sym, IsPermutation-trans, IsPermutation-map}
@@ -33,13 +33,13 @@ use Rattle.sql_tables.proofs.Sorting.{no_rows, one_more_row}
 use Rattle.sql_tables.proofs.Writes.{no_works, ran_insert, same_value, unless, went}
 use Rattle.as2_store.proofs.NumberedRows.{puts_between}
 
--- the query that shows all rows of a table; it compares none, so the collations say nothing
-abbrev pub copy_of : ℕ → List Term → List (Term × Key) → List Collation → Program
-copy_of tree project order by = record { lets = []; body = record (over_table tree [] project order (lit (Int (negsuc 0)))) { collations = by } }
+-- the query that shows rows of a table; it compares none with another, so the collations say nothing
+abbrev pub copy_of : ℕ → List Term → List Term → List (Term × Key) → List Collation → Program
+copy_of tree terms project order by = record { lets = []; body = record (over_table tree terms project order (lit (Int (negsuc 0)))) { collations = by } }
 
-pub none_compared : (tree : ℕ) (project : List Term) (order : List (Term × Key)) (by : List Collation) (db : Trees) (params : Row) (rows : List Row)
-    → IsSureAnswer (record (over_table tree [] project order (lit (Int (negsuc 0)))) { collations = by }) db params rows → IsSureAnswer (over_table tree [] project order (lit (Int (negsuc 0)))) db params rows
-none_compared tree project order by db params rows sure lost =
+pub none_compared : (tree : ℕ) (terms project : List Term) (order : List (Term × Key)) (by : List Collation) (db : Trees) (params : Row) (rows : List Row)
+    → IsSureAnswer (record (over_table tree terms project order (lit (Int (negsuc 0)))) { collations = by }) db params rows → IsSureAnswer (over_table tree terms project order (lit (Int (negsuc 0)))) db params rows
+none_compared tree terms project order by db params rows sure lost =
     let a = sure lost in
     record { staged = a.staged; grouped = a.grouped; kept = a.kept; distinct = a.distinct; ordered = a.ordered; same = a.same; sorted = a.sorted; shown = a.shown }
 
@@ -51,18 +51,18 @@ both_false b c e = rw e
 chosen_for : (table : Table) (top : ℤ) → table.is_counted ≡ false → rowids_for table top ≡ Chosen
 chosen_for table top e = rw e
 
-module _ (sql : List ℕ) (old new : Connected) (schema : Schema) (has : old.now.schema ≡ schema) (at : ℕ) (table : Table) (place : slice_get schema.tables at ≡ Some table)
-    (uncounted : table.is_counted ≡ false) (unstamped : stamped table [] ≡ []) (q : Program) where
+module _ (sql : List ℕ) (params : Row) (old new : Connected) (schema : Schema) (has : old.now.schema ≡ schema) (at : ℕ) (table : Table) (place : slice_get schema.tables at ≡ Some table)
+    (uncounted : table.is_counted ≡ false) (unstamped : stamped table params ≡ params) (q : Program) where
   -- the rows that the query shows, and the edit that puts them in
   pub record Copied : Type 0 where
     pub sources : List Row
-    pub answers : Answers (record { schema = schema; trees = old.now.trees }) q [] sources
+    pub answers : Answers (record { schema = schema; trees = old.now.trees }) q params sources
     pub changed : (rows : List Row) → put_all (old.now.trees table.tree) (numbered Chosen (old.now.trees table.tree) (map (λ s. cast_row table (drop 0 s)) sources)) ≡ rows → Changed old new schema table.tree rows
 
-  pub copies : command_of (understood schema sql) ≡ Insert at (Query q) → IsPlain (understood schema sql) → (count : ℕ) → Executes sql [] old new (Ok count) → Copied
+  pub copies : command_of (understood schema sql) ≡ Insert at (Query q) → IsPlain (understood schema sql) → (count : ℕ) → Executes sql params old new (Ok count) → Copied
   copies is plain count h =
       let db = old.now.trees in
-      let it = ran_insert sql [] old new schema has at table place (Query q) is plain count h in
+      let it = ran_insert sql params old new schema has at table place (Query q) is plain count h in
       let given = went it.ran in
       let counter = went given.2 in
       let edit = went counter.2 in
@@ -76,7 +76,7 @@ module _ (sql : List ℕ) (old new : Connected) (schema : Schema) (has : old.now
       let now = ap (λ (d : Database). d.trees) it.now_is ∙ trees in
       record {
         sources = given.0;
-        answers = subst (λ params. Answers (record { schema = schema; trees = db }) q params given.0) unstamped given.1;
+        answers = subst (λ ps. Answers (record { schema = schema; trees = db }) q ps given.0) unstamped given.1;
         changed = λ rows leads. record {
           schema_is = ap (λ (d : Database). d.schema) it.now_is;
           rows_are = ap (λ (t : Trees). t table.tree) now ∙ done.rows ∙ leads;
@@ -117,65 +117,3 @@ module _ {X : Type 0} (row : X → Row) (number : X → ℕ) (keyed : (x : X) �
 
   pub puts_in_order : (rows : List Row) (xs : List X) → rows ≡ [] → IsAscending (λ x y. number x < number y) xs → put_all rows (numbered Chosen rows (map row xs)) ≡ map row xs
   puts_in_order rows xs none up = ap (λ l. put_all l (numbered Chosen l (map row xs))) none ∙ ap (put_all []) (all_given [] xs) ∙ puts_behind [] xs tt up
-
--- ---- rows whose numbers are chosen
-
-puts_chosen : (rows : List Row) (cs shown : List Row) → HasRows rows shown → HasRows (put_all rows (numbered Chosen rows (map (λ c. Null ∷ c) cs))) (shown ++ cs)
-puts_chosen rows [] shown has = subst (HasRows rows) (sym (append-nil shown)) has
-puts_chosen rows (c ∷ cs) shown has =
-    let next = put_row (Int (next_rowid rows) ∷ c) rows in
-    subst (HasRows (put_all next (numbered Chosen next (map (λ c. Null ∷ c) cs)))) (append_assoc shown (c ∷ []) cs) (puts_chosen next cs (shown ++ c ∷ []) (one_more_row rows shown c has))
-
--- the entries that rows in some order are of
-module _ {X : Type 0} (row : X → Row) where
-  abbrev pub under : ℤ × X → Row
-  under y = Int y.0 ∷ row y.1
-
-  entries_under : (rs : List (ℤ × Row)) (xs : List X) → map row xs ≡ map (λ r. r.1) rs → (ys : List (ℤ × X)) × (map numbered_row rs ≡ map under ys) × (xs ≡ map (λ y. y.1) ys)
-  entries_under [] [] e = ([], refl, refl)
-  entries_under [] (x ∷ xs) e = absurd cc
-  entries_under (r ∷ rs) [] e = absurd cc
-  entries_under (r ∷ rs) (x ∷ xs) e =
-      let head : r.1 ≡ row x = cc in
-      let later = entries_under rs xs cc in
-      ((r.0, x) ∷ later.0, (λ i. (Int r.0 ∷ head i) ∷ later.1 i), ap (λ l. x ∷ l) later.2)
-
-  numbered_entries : (rows : List Row) (xs : List X) → HasRows rows (map row xs) → (ys : List (ℤ × X)) × IsPermutation rows (map under ys) × (xs ≡ map (λ y. y.1) ys)
-  numbered_entries rows xs h =
-      let back = pull_back (λ (r : ℤ × Row). r.1) _ _ h.columns h.numbered refl in
-      let it = entries_under back.0 xs back.2 in
-      (it.0, subst (λ l. IsPermutation l (map under it.0)) (sym h.rows_are) (subst (IsPermutation (map numbered_row h.numbered)) it.1 (IsPermutation-map numbered_row _ _ back.1)), it.2)
-
-  every : (rows : List Row) → chosen [] [] rows ≡ rows
-  every [] = refl
-  every (r ∷ rows) = ap (λ l. r ∷ l) (every rows)
-
-  -- a table without rows has those of the entries of another, once what a query shows of them was put in
-  pub copies_any_order : (table : Table) (tree : ℕ) (project : List Term) (db : Trees) (sources : List Row) (xs : List X) → HasRows (db tree) (map row xs)
-      → ((n : ℤ) (x : X) → shown_of project [] (Int n ∷ row x) ≡ Null ∷ row x) → ((x : X) → cast_row table (Null ∷ row x) ≡ Null ∷ row x)
-      → IsPermutation (map (shown_of project []) (chosen [] [] (db tree))) sources → (rows : List Row) → rows ≡ []
-      → HasRows (put_all rows (numbered Chosen rows (map (λ s. cast_row table (drop 0 s)) sources))) (map row xs)
-  copies_any_order table tree project db sources xs has shows casts same rows none =
-      let it = numbered_entries (db tree) xs has in
-      let f = λ (x : X). Null ∷ row x in
-      let shown : map (shown_of project []) (map under it.0) ≡ map f xs =
-      map-map (shown_of project []) under it.0
-      ∙ map_same (λ (y : ℤ × X). shown_of project [] (under y)) (λ y. f y.1) (λ y. shows y.0 y.1) it.0
-      ∙ sym (map-map f (λ (y : ℤ × X). y.1) it.0)
-      ∙ ap (map f) (sym it.2) in
-      let all : IsPermutation (map f xs) sources =
-      IsPermutation-trans (map f xs) (map (shown_of project []) (db tree)) sources (subst (λ l. IsPermutation l (map (shown_of project []) (db tree))) shown (IsPermutation-map (shown_of project []) _ _ (IsPermutation-sym _ _ it.1))) (subst (λ l. IsPermutation (map (shown_of project []) l) sources) (every (db tree)) same) in
-      let cast = λ (s : Row). cast_row table (drop 0 s) in
-      let kept : map cast (map f xs) ≡ map f xs = map-map cast f xs ∙ map_same (λ (x : X). cast (f x)) f casts xs in
-      let news : IsPermutation (map f xs) (map cast sources) = subst (λ l. IsPermutation l (map cast sources)) kept (IsPermutation-map cast _ _ all) in
-      let back = pull_back f _ _ news xs refl in
-      let cells : map f back.0 ≡ map (λ c. Null ∷ c) (map row back.0) = sym (map-map (λ (c : Row). Null ∷ c) row back.0) in
-      let put : HasRows (put_all [] (numbered Chosen [] (map (λ c. Null ∷ c) (map row back.0)))) (map row back.0) = puts_chosen [] (map row back.0) [] no_rows in
-      let there : HasRows (put_all rows (numbered Chosen rows (map cast sources))) (map row back.0) =
-      subst (λ l. HasRows (put_all l (numbered Chosen l (map cast sources))) (map row back.0)) (sym none) (subst (λ l. HasRows (put_all [] (numbered Chosen [] l)) (map row back.0)) (sym (back.2 ∙ cells)) put) in
-      record {
-        numbered = there.numbered;
-        rows_are = there.rows_are;
-        rise = there.rise;
-        columns = IsPermutation-trans (map (λ (r : ℤ × Row). r.1) there.numbered) (map row back.0) (map row xs) there.columns (IsPermutation-map row _ _ (IsPermutation-sym _ _ back.1));
-      }

@@ -39,7 +39,9 @@ mod SetTables
 mod PassedDocuments
 mod PassedTables
 mod Copying
+mod SharedRows
 mod MigrationTexts
 mod MigratedTables
+mod MovedPieces
 mod Moving
 pub mod Single

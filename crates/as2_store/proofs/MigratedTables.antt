@@ -1,39 +1,38 @@
 -- What the statements of a migration leave, and what the tables stand for then.
 use Rattle.std.proofs.Common.{◌≡◌, ◌∙◌, ℕ, ◌||◌, nat_le, List, [], ◌∷◌, map, filter, Ok, Bool, true, false, pos, negsuc, refl, sym, ap, ap₂, subst, arith, ℤ}
 use Rattle.std.specs.List.{AllByRecursion}
+use Rattle.std.proofs.lemmas.List.Sorted.{IsPermutation-refl}
 use Rattle.sqlite.specs.declared.types.Value.TheVariants.{Null, Int}
 use Rattle.sqlite.specs.Cast.{cast_row}
 use Rattle.sqlite.specs.Edit.{numbered, put_all}
 use Rattle.sqlite.specs.Program.{overlay}
 use Rattle.sqlite.specs.Rowids.TheVariants.{Chosen}
 use Rattle.sqlite.specs.Term.{lit}
-use Rattle.sqlite.specs.Tree.{IsTable}
 use Rattle.sqlite.specs.Order.{Row}
 use Rattle.sqlite.specs.State.{State as Connected, Executes}
-use Rattle.sql_tables.specs.Changes.{Changed, HasRows, numbered_row}
+use Rattle.sql_tables.specs.Changes.{Changed}
 use Rattle.sql_tables.proofs.Changing.{updates}
 use Rattle.sql_tables.proofs.Creating.{makes_table}
 use Rattle.sql_tables.proofs.Deleting.{deletes}
-use Rattle.sql_tables.proofs.Queries.{by_number, in_any_order, shows_entries}
-use Rattle.sql_tables.proofs.Sorting.{unchanged}
+use Rattle.sql_tables.proofs.Queries.{by_number, shows_entries}
+use Rattle.sql_tables.proofs.Sorting.{no_rows, unchanged}
 use Rattle.sql_tables.proofs.Writes.{cast_int, cast_null}
 use Rattle.as2_exchange.specs.Run.{migrated}
 use Rattle.as2_exchange.specs.State.{State, LaterVersion}
 use Rattle.as2_exchange.specs.declared.inbox.InEntry.{InEntry}
 use Rattle.as2_exchange.specs.declared.outbox.OutEntry.{OutEntry}
 use Rattle.as2_records.specs.Standing.{IsCounted}
-use Rattle.as2_rows.specs.Contents.{Piece, piece_shown}
 use Rattle.as2_rows.specs.Rows.{in_row}
-use Rattle.as2_store.specs.Migrating.{beside_schema, IsBeside, IsCopied, IsInboxBeside, IsMoved, IsNearly, StandsBut}
+use Rattle.as2_store.specs.Migrating.{beside_schema, AreShared, IsBeside, IsCopied, IsInboxBeside, IsMoved, IsNearly, StandsBut}
 use Rattle.as2_store.specs.Stands.{IsWhole, Stands, HasResent, AreTried, inbox_pieces, meta_row, numbers_of, origin_row, resent_row}
-use Rattle.as2_store.specs.Tables.{Way, Fresh, Migrated, Layout, number_of, VersionOne, VersionTwo, VersionThree, current_number, schema_of, store_schema, inbox2_made, inbox2_piece_made, origin_made, resent_made, meta_table, meta_tree, inbox_table, inbox_piece_table, inbox_tree, inbox_piece_tree, first_inbox_table, first_piece_table, first_inbox_tree, first_piece_tree, origin_tree}
-use Rattle.as2_store.proofs.Copying.{copies, copies_any_order, none_compared, puts_in_order}
+use Rattle.as2_store.specs.Tables.{Way, Fresh, Migrated, Layout, number_of, VersionOne, VersionTwo, VersionThree, current_number, schema_of, store_schema, inbox2_made, inbox2_piece_made, origin_made, resent_made, meta_table, meta_tree, inbox_table, inbox_tree, first_inbox_table, first_inbox_tree, origin_tree}
+use Rattle.as2_store.proofs.Copying.{copies, none_compared, puts_in_order}
 use Rattle.as2_store.proofs.ForeignKeys.{quiet}
 use Rattle.as2_store.proofs.InboxRow.{cast_url, cast_digest, cast_mic}
 use Rattle.as2_store.proofs.Making.{inbox_is, inbox_piece_is, origin_is, resent_is}
-use Rattle.as2_store.proofs.MigrationTexts.{first_schema, beside_inbox, beside_origin, inbox_create, inbox_plain, piece_create, piece_plain, origin_create, origin_plain, resent_create, resent_plain, second_create, second_plain, copy_inbox_terms, copy_inbox_is, copy_inbox_plain, copy_piece_terms, copy_piece_is, copy_piece_plain, clear_piece_is, clear_piece_plain, clear_inbox_is, clear_inbox_plain, version_project, version_is, version_plain}
+use Rattle.as2_store.proofs.MigrationTexts.{first_schema, beside_inbox, beside_origin, inbox_create, inbox_plain, piece_create, piece_plain, origin_create, origin_plain, resent_create, resent_plain, second_create, second_plain, copy_inbox_terms, copy_inbox_is, copy_inbox_plain, clear_inbox_is, clear_inbox_plain, version_project, version_is, version_plain}
 use Rattle.as2_store.proofs.NumberedRows.{entries_rise, numbers_rise}
-use Rattle.as2_store.proofs.Statements.{inbox2_text, inbox2_piece_text, origin_text, resent_text, copy_inbox_text, copy_piece_text, clear_piece_text, clear_inbox_text, version_text}
+use Rattle.as2_store.proofs.Statements.{inbox2_text, inbox2_piece_text, origin_text, resent_text, copy_inbox_text, clear_inbox_text, version_text}
 use Rattle.as2_store.proofs.Untouched.{AtMeta, AtInbox, AtInboxPiece, AtOutbox, AtOutboxPiece, AtEvidence, AtWaiting, AtOrigin, AtResent, keeping, still_emptied, still_origin, still_resent}
 use Rattle.as2_store.proofs.WaitingRows.{cast_optional}
 
@@ -114,42 +113,18 @@ cast_entries (e ∷ es) = ap₂ ◌∷◌ (one e) (cast_entries es)
     one : (e : InEntry) → cast_row (inbox_table Migrated) (in_row e) ≡ in_row e
     one e = simp (cast_int, cast_null, cast_optional, cast_url, cast_digest, cast_mic)
 
-cast_piece : (p : Piece) → cast_row (inbox_piece_table Migrated) (Null ∷ piece_shown p) ≡ Null ∷ piece_shown p
-cast_piece p = simp (cast_int, cast_null)
-
 module _ (s : State) (from : IsCounted s) where
   pub copies_inbox : (b c : Connected) (count : ℕ) → IsBeside b.now s → Executes copy_inbox_text [] b c (Ok count) → Changed b c (store_schema Migrated) (inbox_tree Migrated) (map in_row s.inbox)
   copies_inbox b c count it h =
-      let copied = copies copy_inbox_text b c (store_schema Migrated) it.schema 7 (inbox_table Migrated) refl refl refl _ copy_inbox_is copy_inbox_plain count h in
+      let copied = copies copy_inbox_text [] b c (store_schema Migrated) it.schema 7 (inbox_table Migrated) refl refl refl _ copy_inbox_is copy_inbox_plain count h in
       let table = entries_rise in_row (λ (e : InEntry). e.number) (λ _. refl) s.next_in s.inbox from.receipts.1 in
       let shown : copied.sources ≡ map in_row s.inbox =
       shows_entries first_inbox_tree [] copy_inbox_terms (lit (Int (negsuc 0))) b.now.trees [] copied.sources in_row (λ _. true) in_row (λ _. refl) (λ _. refl) s.inbox it.entries.inbox table
-      (none_compared first_inbox_tree copy_inbox_terms by_number _ (overlay b.now.trees []) [] copied.sources copied.answers.answer) ∙ ap (map in_row) (every s.inbox) in
+      (none_compared first_inbox_tree [] copy_inbox_terms by_number _ (overlay b.now.trees []) [] copied.sources copied.answers.answer) ∙ ap (map in_row) (every s.inbox) in
       let rows = b.now.trees (inbox_tree Migrated) in
       copied.changed (map in_row s.inbox)
       (ap (λ l. put_all rows (numbered Chosen rows l)) (ap (map (λ r. cast_row (inbox_table Migrated) r)) shown ∙ cast_entries s.inbox)
       ∙ puts_in_order in_row (λ (e : InEntry). e.number) (λ _. refl) rows s.inbox it.no_inbox (numbers_rise (λ (e : InEntry). e.number) s.next_in s.inbox from.receipts.1))
-
-  -- the pieces are put in, in some order
-  record ArePut (b c : Connected) : Type 0 where
-    rows : List Row
-    changed : Changed b c (store_schema Migrated) (inbox_piece_tree Migrated) rows
-    are : HasRows rows (map piece_shown (inbox_pieces s.inbox))
-
-  copies_pieces : (b c : Connected) (count : ℕ) → b.now.schema ≡ store_schema Migrated → HasRows (b.now.trees first_piece_tree) (map piece_shown (inbox_pieces s.inbox)) → b.now.trees (inbox_piece_tree Migrated) ≡ [] → Executes copy_piece_text [] b c (Ok count) → ArePut b c
-  copies_pieces b c count has there none h =
-      let copied = copies copy_piece_text b c (store_schema Migrated) has 8 (inbox_piece_table Migrated) refl refl refl _ copy_piece_is copy_piece_plain count h in
-      let all = in_any_order first_piece_tree [] copy_piece_terms b.now.trees [] copied.sources (none_compared first_piece_tree copy_piece_terms [] _ (overlay b.now.trees []) [] copied.sources copied.answers.answer) in
-      record {
-        rows = _;
-        changed = copied.changed _ refl;
-        are = copies_any_order piece_shown (inbox_piece_table Migrated) first_piece_tree copy_piece_terms b.now.trees copied.sources (inbox_pieces s.inbox) there (λ n p. refl) cast_piece all (b.now.trees (inbox_piece_tree Migrated)) none;
-      }
-
-  clears_pieces : (b c : Connected) (count : ℕ) → b.now.schema ≡ store_schema Migrated → HasRows (b.now.trees first_piece_tree) (map piece_shown (inbox_pieces s.inbox)) → Executes clear_piece_text [] b c (Ok count) → Changed b c (store_schema Migrated) first_piece_tree []
-  clears_pieces b c count has there h =
-      let done = deletes clear_piece_text [] b c (store_schema Migrated) has 2 first_piece_table refl [] (λ (r : ℤ × Row). r.0) numbered_row (λ _. refl) there.numbered there.rows_are (subst IsTable there.rows_are there.rise) (quiet Migrated first_piece_tree) clear_piece_is clear_piece_plain count h in
-      subst (Changed b c (store_schema Migrated) first_piece_tree) (ap (map numbered_row) (none_left there.numbered)) done.0
 
   clears_inbox : (b c : Connected) (count : ℕ) → b.now.schema ≡ store_schema Migrated → b.now.trees first_inbox_tree ≡ map in_row s.inbox → Executes clear_inbox_text [] b c (Ok count) → Changed b c (store_schema Migrated) first_inbox_tree []
   clears_inbox b c count has there h =
@@ -157,54 +132,49 @@ module _ (s : State) (from : IsCounted s) where
       let done = deletes clear_inbox_text [] b c (store_schema Migrated) has 1 first_inbox_table refl [] (λ (e : InEntry). pos e.number) in_row (λ _. refl) s.inbox there table (quiet Migrated first_inbox_tree) clear_inbox_is clear_inbox_plain count h in
       subst (Changed b c (store_schema Migrated) first_inbox_tree) (ap (map in_row) (none_left s.inbox)) done.0
 
-  pub copied_inbox : (a b c : Connected) (i j : ℕ) → Executes copy_inbox_text [] a b (Ok i) → Executes copy_piece_text [] b c (Ok j) → IsBeside a.now s → IsCopied c.now s
-  copied_inbox a b c i j one two it =
+  pub copied_inbox : (a b : Connected) (i : ℕ) → Executes copy_inbox_text [] a b (Ok i) → IsBeside a.now s → AreShared b.now s
+  copied_inbox a b i one it =
       let has = it.entries in
       let first = copies_inbox a b i it one in
-      let o1 = first.others in
-      let k1 = keeping Migrated AtInbox a.now.trees b.now.trees o1 in
-      let pieces : b.now.trees first_piece_tree ≡ a.now.trees first_piece_tree = o1.1.1.0 (λ e. omega arith) in
-      let second = copies_pieces b c j first.schema_is (unchanged pieces has.inbox_contents) (k1 AtInboxPiece (λ e. omega arith) ∙ it.no_piece) two in
-      let o2 = second.changed.others in
-      let k2 = keeping Migrated AtInboxPiece b.now.trees c.now.trees o2 in
+      let o = first.others in
+      let k = keeping Migrated AtInbox a.now.trees b.now.trees o in
       record {
-        schema = second.changed.schema_is;
-        meta = k2 AtMeta (λ e. omega arith) ∙ k1 AtMeta (λ e. omega arith) ∙ it.meta;
-        entries = record {
-          inbox = k2 AtInbox (λ e. omega arith) ∙ first.rows_are;
-          inbox_contents = unchanged second.changed.rows_are second.are;
-          outbox = k2 AtOutbox (λ e. omega arith) ∙ k1 AtOutbox (λ e. omega arith) ∙ has.outbox;
-          outbox_contents = unchanged (k2 AtOutboxPiece (λ e. omega arith) ∙ k1 AtOutboxPiece (λ e. omega arith)) has.outbox_contents;
-          evidence = k2 AtEvidence (λ e. omega arith) ∙ k1 AtEvidence (λ e. omega arith) ∙ has.evidence;
-          waits = k2 AtWaiting (λ e. omega arith) ∙ k1 AtWaiting (λ e. omega arith) ∙ has.waits;
-        };
-        first_inbox = o2.1.0 (λ e. omega arith) ∙ o1.1.0 (λ e. omega arith) ∙ has.inbox;
-        first_contents = unchanged (o2.1.1.0 (λ e. omega arith) ∙ pieces) has.inbox_contents;
-        no_origin = k2 AtOrigin (λ e. omega arith) ∙ k1 AtOrigin (λ e. omega arith) ∙ it.no_origin;
-        no_resent = k2 AtResent (λ e. omega arith) ∙ k1 AtResent (λ e. omega arith) ∙ it.no_resent;
+        schema = first.schema_is;
+        meta = k AtMeta (λ e. omega arith) ∙ it.meta;
+        first_inbox = o.1.0 (λ e. omega arith) ∙ has.inbox;
+        inbox = first.rows_are;
+        moved = [];
+        left = inbox_pieces s.inbox;
+        all = IsPermutation-refl (inbox_pieces s.inbox);
+        contents = unchanged (k AtInboxPiece (λ e. omega arith) ∙ it.no_piece) no_rows;
+        first_contents = unchanged (o.1.1.0 (λ e. omega arith)) has.inbox_contents;
+        outbox = k AtOutbox (λ e. omega arith) ∙ has.outbox;
+        outbox_contents = unchanged (k AtOutboxPiece (λ e. omega arith)) has.outbox_contents;
+        evidence = k AtEvidence (λ e. omega arith) ∙ has.evidence;
+        waits = k AtWaiting (λ e. omega arith) ∙ has.waits;
+        no_origin = k AtOrigin (λ e. omega arith) ∙ it.no_origin;
+        no_resent = k AtResent (λ e. omega arith) ∙ it.no_resent;
       }
 
-  pub emptied_first : (a b c : Connected) (i j : ℕ) → Executes clear_piece_text [] a b (Ok i) → Executes clear_inbox_text [] b c (Ok j) → IsCopied a.now s → IsMoved c.now s
-  emptied_first a b c i j one two it =
+  pub emptied_first : (a b : Connected) (i : ℕ) → Executes clear_inbox_text [] a b (Ok i) → IsCopied a.now s → IsMoved b.now s
+  emptied_first a b i one it =
       let has = it.entries in
-      let first = clears_pieces a b i it.schema it.first_contents one in
-      let o1 = first.others in
-      let second = clears_inbox b c j first.schema_is (o1.1.0 (λ e. omega arith) ∙ it.first_inbox) two in
-      let o2 = second.others in
+      let done = clears_inbox a b i it.schema it.first_inbox one in
+      let o = done.others in
       record {
-        schema = second.schema_is;
-        meta = o2.0 (λ e. omega arith) ∙ o1.0 (λ e. omega arith) ∙ it.meta;
+        schema = done.schema_is;
+        meta = o.0 (λ e. omega arith) ∙ it.meta;
         entries = record {
-          inbox = o2.1.1.1.1.1.1.1.0 (λ e. omega arith) ∙ o1.1.1.1.1.1.1.1.0 (λ e. omega arith) ∙ has.inbox;
-          inbox_contents = unchanged (o2.1.1.1.1.1.1.1.1.0 (λ e. omega arith) ∙ o1.1.1.1.1.1.1.1.1.0 (λ e. omega arith)) has.inbox_contents;
-          outbox = o2.1.1.1.0 (λ e. omega arith) ∙ o1.1.1.1.0 (λ e. omega arith) ∙ has.outbox;
-          outbox_contents = unchanged (o2.1.1.1.1.0 (λ e. omega arith) ∙ o1.1.1.1.1.0 (λ e. omega arith)) has.outbox_contents;
-          evidence = o2.1.1.1.1.1.0 (λ e. omega arith) ∙ o1.1.1.1.1.1.0 (λ e. omega arith) ∙ has.evidence;
-          waits = o2.1.1.1.1.1.1.0 (λ e. omega arith) ∙ o1.1.1.1.1.1.1.0 (λ e. omega arith) ∙ has.waits;
+          inbox = o.1.1.1.1.1.1.1.0 (λ e. omega arith) ∙ has.inbox;
+          inbox_contents = unchanged (o.1.1.1.1.1.1.1.1.0 (λ e. omega arith)) has.inbox_contents;
+          outbox = o.1.1.1.0 (λ e. omega arith) ∙ has.outbox;
+          outbox_contents = unchanged (o.1.1.1.1.0 (λ e. omega arith)) has.outbox_contents;
+          evidence = o.1.1.1.1.1.0 (λ e. omega arith) ∙ has.evidence;
+          waits = o.1.1.1.1.1.1.0 (λ e. omega arith) ∙ has.waits;
         };
-        left = (second.rows_are, (o2.1.1.0 (λ e. omega arith) ∙ first.rows_are, tt));
-        no_origin = o2.1.1.1.1.1.1.1.1.1.0 (λ e. omega arith) ∙ o1.1.1.1.1.1.1.1.1.1.0 (λ e. omega arith) ∙ it.no_origin;
-        no_resent = o2.1.1.1.1.1.1.1.1.1.1.0 (λ e. omega arith) ∙ o1.1.1.1.1.1.1.1.1.1.1.0 (λ e. omega arith) ∙ it.no_resent;
+        left = (done.rows_are, (o.1.1.0 (λ e. omega arith) ∙ it.no_content, tt));
+        no_origin = o.1.1.1.1.1.1.1.1.1.0 (λ e. omega arith) ∙ it.no_origin;
+        no_resent = o.1.1.1.1.1.1.1.1.1.1.0 (λ e. omega arith) ∙ it.no_resent;
       }
 
 -- and the origin is told

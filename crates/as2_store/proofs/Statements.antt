@@ -160,6 +160,12 @@ tried_text = codes "SELECT number FROM outbox WHERE number = ?1 AND tries >= 1 O
 abbrev pub copy_inbox_text : List ℕ
 copy_inbox_text = codes "INSERT INTO inbox2 (number, sender, receiver, identifier_value, identifier, content_type, length, moment, outcome, how, url, digest, mic, mdn, tries, attempt, due) SELECT number, sender, receiver, identifier_value, identifier, content_type, length, moment, outcome, how, url, digest, mic, mdn, tries, attempt, due FROM inbox ORDER BY number"
 
+abbrev pub copy_below_text : List ℕ
+copy_below_text = codes "INSERT INTO inbox2_piece (number, position, bytes) SELECT number, position, bytes FROM inbox_piece WHERE number < ?1"
+
+abbrev pub clear_below_text : List ℕ
+clear_below_text = codes "DELETE FROM inbox_piece WHERE number < ?1"
+
 abbrev pub copy_piece_text : List ℕ
 copy_piece_text = codes "INSERT INTO inbox2_piece (number, position, bytes) SELECT number, position, bytes FROM inbox_piece"
 

@@ -1,5 +1,5 @@
 -- Tables of an earlier version become those of the version that is read.
-use Rattle.std.specs.Prelude.{◌≡◌, ◌⊎◌, ℕ, ◌==◌, ◌||◌, Bool, true, false, if◌then◌else◌, List, [], ◌∷◌, ◌++◌, map, codes, bytes_eq, Option, Some, None, IsTrue}
+use Rattle.std.specs.Prelude.{◌≡◌, ◌⊎◌, ℕ, ◌==◌, ◌||◌, Bool, true, false, if◌then◌else◌, List, [], ◌∷◌, ◌++◌, map, codes, bytes_eq, Option, Some, None, IsPermutation, IsTrue}
 use Rattle.sqlite_trees.specs.Tree.{Trees}
 use Rattle.sqlite.specs.Schema.{Schema}
 use Rattle.sqlite.specs.Effect.{Database}
@@ -10,12 +10,12 @@ use Rattle.as2_exchange.specs.State.{State}
 use Rattle.as2_exchange.specs.declared.fault.StoreFault.{StoreFault}
 use Rattle.as2_exchange.specs.declared.fault.StoreFault.TheVariants.{Full, NotAStore, OtherVersion}
 use Rattle.as2_records.specs.Standing.{may_come}
-use Rattle.as2_rows.specs.Contents.{piece_shown}
-use Rattle.as2_rows.specs.Rows.{in_row}
+use Rattle.as2_rows.specs.Contents.{Piece, piece_shown}
+use Rattle.as2_rows.specs.Rows.{in_row, out_row}
 use Rattle.sql_tables.specs.Changes.{HasRows}
 use Rattle.as2_store.specs.Calls.{KeepsNext, Reaches}
-use Rattle.as2_store.specs.Stands.{Stands, Holds, HasEntries, HasOrigin, HasResent, AreEmptied, IsBlank, MetaSays, inbox_pieces, meta_row, numbers_of}
-use Rattle.as2_store.specs.Tables.{Way, Migrated, Layout, VersionOne, VersionTwo, VersionThree, store_schema, behind_meta, meta_table, inbox_table, inbox_piece_table, first_inbox_indexes, inbox_indexes, outbox_indexes, waiting_indexes, meta_tree, inbox_tree, inbox_piece_tree, first_inbox_tree, first_piece_tree, origin_tree, resent_tree, emptied}
+use Rattle.as2_store.specs.Stands.{Stands, Holds, HasEntries, HasOrigin, HasResent, AreEmptied, IsBlank, MetaSays, all_waiting, evidence_rows, inbox_pieces, meta_row, numbers_of, outbox_pieces, waiting_row}
+use Rattle.as2_store.specs.Tables.{Way, Migrated, Layout, VersionOne, VersionTwo, VersionThree, store_schema, behind_meta, meta_table, inbox_table, inbox_piece_table, first_inbox_indexes, inbox_indexes, outbox_indexes, waiting_indexes, meta_tree, inbox_tree, inbox_piece_tree, first_inbox_tree, first_piece_tree, outbox_tree, outbox_piece_tree, evidence_tree, waiting_tree, origin_tree, resent_tree, emptied}
 
 -- ---- the call
 
@@ -89,17 +89,35 @@ pub record IsBeside (d : Database) (s : State) : Type 0 where
   pub no_origin : d.trees (origin_tree Migrated) ≡ []
   pub no_resent : d.trees (resent_tree Migrated) ≡ []
 
--- the inbox was copied to the later tables
+-- the entries of the inbox were copied to the later table; the pieces of their contents are shared out: some were moved to the later table of them, and some are left
+pub record AreShared (d : Database) (s : State) : Type 0 where
+  pub schema : d.schema ≡ store_schema Migrated
+  pub meta : d.trees meta_tree ≡ meta_row 1 s.next_in s.next_out ∷ []
+  pub first_inbox : d.trees first_inbox_tree ≡ map in_row s.inbox
+  pub inbox : d.trees (inbox_tree Migrated) ≡ map in_row s.inbox
+  pub moved : List Piece
+  pub left : List Piece
+  pub all : IsPermutation (moved ++ left) (inbox_pieces s.inbox)
+  pub contents : HasRows (d.trees (inbox_piece_tree Migrated)) (map piece_shown moved)
+  pub first_contents : HasRows (d.trees first_piece_tree) (map piece_shown left)
+  pub outbox : d.trees outbox_tree ≡ map out_row s.outbox
+  pub outbox_contents : HasRows (d.trees outbox_piece_tree) (map piece_shown (outbox_pieces s.outbox))
+  pub evidence : d.trees evidence_tree ≡ evidence_rows s.outbox
+  pub waits : d.trees waiting_tree ≡ map waiting_row (all_waiting s)
+  pub no_origin : d.trees (origin_tree Migrated) ≡ []
+  pub no_resent : d.trees (resent_tree Migrated) ≡ []
+
+-- all contents were moved, and the entries were copied
 pub record IsCopied (d : Database) (s : State) : Type 0 where
   pub schema : d.schema ≡ store_schema Migrated
   pub meta : d.trees meta_tree ≡ meta_row 1 s.next_in s.next_out ∷ []
   pub entries : HasEntries (VersionThree Migrated) d s
   pub first_inbox : d.trees first_inbox_tree ≡ map in_row s.inbox
-  pub first_contents : HasRows (d.trees first_piece_tree) (map piece_shown (inbox_pieces s.inbox))
+  pub no_content : d.trees first_piece_tree ≡ []
   pub no_origin : d.trees (origin_tree Migrated) ≡ []
   pub no_resent : d.trees (resent_tree Migrated) ≡ []
 
--- and the first version's tables of it were emptied
+-- and the first version's tables of the inbox are empty
 pub record IsMoved (d : Database) (s : State) : Type 0 where
   pub schema : d.schema ≡ store_schema Migrated
   pub meta : d.trees meta_tree ≡ meta_row 1 s.next_in s.next_out ∷ []

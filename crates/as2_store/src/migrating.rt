@@ -1,25 +1,26 @@
 //! Tables of an earlier version become those of the version that is read, in one transaction.
 
-ghost use Rattle.std.specs.Prelude.{◌≡◌, ◌⊎◌, ◌<◌, ◌^◌, if◌then◌else◌, [], ◌∷◌, List, ℕ, None, Some, true, false, IsTrue, IfOk, IfErr, OnOk, OnErr};
+ghost use Rattle.std.specs.Prelude.{◌≡◌, ◌⊎◌, ◌<◌, ◌^◌, if◌then◌else◌, [], ◌∷◌, List, ℕ, None, Ok, Some, true, false, IsTrue, IfOk, IfErr, OnOk, OnErr};
 ghost use Rattle.sqlite.specs.Held.{state};
-ghost use Rattle.sqlite.specs.State.{HasCleanDisk};
+ghost use Rattle.sqlite.specs.State.{Executes, HasCleanDisk};
 ghost use Rattle.sqlite.specs.declared.types.Value.TheVariants.{Text};
 ghost use Rattle.as2_exchange.specs.Run.{migrated};
 ghost use Rattle.as2_exchange.specs.State.{State};
 ghost use Rattle.as2_records.specs.Standing.{IsCounted, may_come};
 ghost use Rattle.as2_rows.specs.Rows.{whole};
 ghost use Rattle.as2_store.specs.Calls.{IsGivenBack, IsInside};
-ghost use Rattle.as2_store.specs.Migrating.{CommitsMigrated, IsBeside, IsCopied, IsInboxBeside, IsMigrationReason, IsMoved, IsNearly, IsNext, Migrates, StandsBut, is_full, migration_fault};
+ghost use Rattle.as2_store.specs.Migrating.{AreShared, CommitsMigrated, IsBeside, IsCopied, IsInboxBeside, IsMigrationReason, IsMoved, IsNearly, IsNext, Migrates, StandsBut, is_full, migration_fault};
 ghost use Rattle.as2_store.specs.Stands.{Stands};
 ghost use Rattle.as2_store.specs.Tables.{Layout, Migrated, VersionOne, VersionThree, VersionTwo, Way, number_of};
 
 use crate::adopting::unread;
 use crate::creating::run;
 use crate::fault::fault_of;
+use crate::numbers::whole;
 use crate::origin::put_origin;
 use as2_exchange::StoreFault;
 use sqlite::types::ValueRef;
-use sqlite::{Alter, Connection, Error, Row, Transaction};
+use sqlite::{Alter, Connection, Error, Row, Transaction, params};
 
 /// Makes the later tables of the inbox beside those of the first version.
 fn make_inbox_beside<S: Alter>(tx: &mut Transaction<'_, S>) -> Result<(), Error>
@@ -53,30 +54,81 @@ fn make_beside<S: Alter>(tx: &mut Transaction<'_, S>) -> Result<(), Error>
     Ok(())
 }
 
-/// Copies all entries of the inbox, and their contents, to the later tables.
+/// Copies all entries of the inbox to the later table of them, without their contents.
 fn copy_inbox<S: Alter>(tx: &mut Transaction<'_, S>) -> Result<(), Error>
     ensures same_reference { tx.new.conn.ghost_name ≡ tx.old.conn.ghost_name }
     ensures within { IsInside (state S.Store tx.old.conn.now) (state S.Store tx.new.conn.now) }
-    ensures copied { HasCleanDisk (state S.Store tx.new.conn.now) → OnOk result ((s : State) → IsCounted s → IsBeside (state S.Store tx.old.conn.now).now s → IsCopied (state S.Store tx.new.conn.now).now s) }
+    ensures copied { HasCleanDisk (state S.Store tx.new.conn.now) → OnOk result ((s : State) → IsCounted s → IsBeside (state S.Store tx.old.conn.now).now s → AreShared (state S.Store tx.new.conn.now).now s) }
 {
     run(
         tx,
         "INSERT INTO inbox2 (number, sender, receiver, identifier_value, identifier, content_type, length, moment, outcome, how, url, digest, mic, mdn, tries, attempt, due) SELECT number, sender, receiver, identifier_value, identifier, content_type, length, moment, outcome, how, url, digest, mic, mdn, tries, attempt, due FROM inbox ORDER BY number",
     )?;
+    Ok(())
+}
+
+/// Runs a statement whose one parameter is this number.
+fn run_below<S: Alter>(tx: &mut Transaction<'_, S>, text: &str, below: u64) -> Result<(), Error>
+    requires { below < 2 ^ 63 }
+    ensures same_reference { tx.new.conn.ghost_name ≡ tx.old.conn.ghost_name }
+    ensures within { IsInside (state S.Store tx.old.conn.now) (state S.Store tx.new.conn.now) }
+    ensures ran { HasCleanDisk (state S.Store tx.new.conn.now) → OnOk result ((count : ℕ) × Executes text.now (whole below ∷ []) (state S.Store tx.old.conn.now) (state S.Store tx.new.conn.now) (Ok count)) }
+{
+    let below = whole(below);
+    tx.execute(text, params![below])?;
+    Ok(())
+}
+
+/// Moves the contents of the receipts below this number to the later table: what is moved later takes the pages that they leave.
+fn move_below<S: Alter>(tx: &mut Transaction<'_, S>, below: u64) -> Result<(), Error>
+    requires { below < 2 ^ 63 }
+    ensures same_reference { tx.new.conn.ghost_name ≡ tx.old.conn.ghost_name }
+    ensures within { IsInside (state S.Store tx.old.conn.now) (state S.Store tx.new.conn.now) }
+    ensures moved { HasCleanDisk (state S.Store tx.new.conn.now) → OnOk result ((s : State) → AreShared (state S.Store tx.old.conn.now).now s → AreShared (state S.Store tx.new.conn.now).now s) }
+{
+    run_below(
+        tx,
+        "INSERT INTO inbox2_piece (number, position, bytes) SELECT number, position, bytes FROM inbox_piece WHERE number < ?1",
+        below,
+    )?;
+    run_below(tx, "DELETE FROM inbox_piece WHERE number < ?1", below)?;
+    Ok(())
+}
+
+/// Moves the contents that are left to the later table.
+fn move_rest<S: Alter>(tx: &mut Transaction<'_, S>) -> Result<(), Error>
+    ensures same_reference { tx.new.conn.ghost_name ≡ tx.old.conn.ghost_name }
+    ensures within { IsInside (state S.Store tx.old.conn.now) (state S.Store tx.new.conn.now) }
+    ensures moved { HasCleanDisk (state S.Store tx.new.conn.now) → OnOk result ((s : State) → AreShared (state S.Store tx.old.conn.now).now s → IsCopied (state S.Store tx.new.conn.now).now s) }
+{
     run(
         tx,
         "INSERT INTO inbox2_piece (number, position, bytes) SELECT number, position, bytes FROM inbox_piece",
     )?;
+    run(tx, "DELETE FROM inbox_piece")?;
     Ok(())
 }
 
-/// Empties the tables of the first version that were copied.
+/// Moves all contents to the later table, in quarters of the numbers below the next one.
+fn move_contents<S: Alter>(tx: &mut Transaction<'_, S>, next: u64) -> Result<(), Error>
+    requires { next < 2 ^ 63 }
+    ensures same_reference { tx.new.conn.ghost_name ≡ tx.old.conn.ghost_name }
+    ensures within { IsInside (state S.Store tx.old.conn.now) (state S.Store tx.new.conn.now) }
+    ensures moved { HasCleanDisk (state S.Store tx.new.conn.now) → OnOk result ((s : State) → AreShared (state S.Store tx.old.conn.now).now s → IsCopied (state S.Store tx.new.conn.now).now s) }
+{
+    move_below(tx, next / 4)?;
+    move_below(tx, next / 2)?;
+    move_below(tx, next - next / 4)?;
+    move_rest(tx)?;
+    Ok(())
+}
+
+/// Empties the table of the entries, which were copied.
 fn empty_first<S: Alter>(tx: &mut Transaction<'_, S>) -> Result<(), Error>
     ensures same_reference { tx.new.conn.ghost_name ≡ tx.old.conn.ghost_name }
     ensures within { IsInside (state S.Store tx.old.conn.now) (state S.Store tx.new.conn.now) }
     ensures emptied { HasCleanDisk (state S.Store tx.new.conn.now) → OnOk result ((s : State) → IsCounted s → IsCopied (state S.Store tx.old.conn.now).now s → IsMoved (state S.Store tx.new.conn.now).now s) }
 {
-    run(tx, "DELETE FROM inbox_piece")?;
     run(tx, "DELETE FROM inbox")?;
     Ok(())
 }
@@ -90,6 +142,7 @@ fn move_first<S: Alter>(tx: &mut Transaction<'_, S>, next: u64) -> Result<(), Er
 {
     make_beside(tx)?;
     copy_inbox(tx)?;
+    move_contents(tx, next)?;
     empty_first(tx)?;
     put_origin(tx, next)?;
     Ok(())
