@@ -10,7 +10,7 @@ FUNCTION = re.compile(r"^( *)(?:pub(?:\([^)]*\))? )?(?:const |unsafe )*fn (\w+)"
 CLAUSE = re.compile(r"^\s*(?:requires|ensures)\b")
 DEFINITION = re.compile(r"^\s*(?:abbrev|unfoldable|data|record)\b")
 HEAD = re.compile(r"^( *)(?:abbrev |unfoldable )?(?:pub )?([^\s:]+) :")
-RECORD = re.compile(r"^ *(?:pub )?(?:record|data) (?:pub )?(\S+)(.*?):")
+RECORD = re.compile(r"^ *(?:pub )?(?:record|data) (?:pub )?(\S+)(.*?) : Type\b")
 WIDE_CLAUSE, LONG_PROOF_LINE, MANY_PARAMETERS, MANY_ARGUMENTS = 100, 160, 6, 8
 
 
@@ -97,7 +97,7 @@ def definitions(text):
     for line in text.split("\n"):
         record = RECORD.match(line)
         if record:
-            found[record[1]] = sum(len(groups(re.sub(r":.*", "", it.strip("(){}")))) for it in groups(record[2]))
+            found[record[1]] = sum(len(groups(re.sub(r":.*", "", it.strip("()")))) for it in groups(record[2]) if it.startswith("("))
             continue
         words = groups(line.split(" = ")[0]) if " = " in line or line.rstrip().endswith(" =") else []
         if words and words[0] in names and ":" not in words:
