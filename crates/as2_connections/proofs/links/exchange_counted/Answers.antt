@@ -1,4 +1,4 @@
-use Rattle.std.proofs.Common.{◌≡◌, ◌≤◌, ℕ, List, Some, arith, rw, subst}
+use Rattle.std.proofs.Common.{◌≡◌, ◌≤◌, ℕ, List, Some, arith, subst}
 use Rattle.as2_http.specs.InputReads.{ReadsNeeded}
 use Rattle.as2_messages.specs.Answering.{IsOpenAnswer}
 use Rattle.as2_connections.specs.Linking.{AnswersInput}
