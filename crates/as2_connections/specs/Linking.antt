@@ -29,4 +29,4 @@ abbrev pub fault_of : Option ErrorKind → ℕ → LinkFault
 fault_of None seconds = NoAnswer
 fault_of (Some WouldBlock) seconds = Silent seconds
 fault_of (Some TimedOut) seconds = Slow (min (10 * seconds) (2 ^ 64 - 1))
-fault_of (Some other) seconds = Broken
+fault_of (Some kind) seconds = Broken
