@@ -55,7 +55,7 @@ PROGRAM = "differential"
 DATA = TOP / "crates" / "as2_script" / "data"
 TEXTS = ["plain.texts", "station.texts", "alone.texts", "replies.texts"]
 USES = (
-    "script_lines script_player script_station as2_agreement as2_exchange as2_kept as2_lists as2_mdn as2_records as2_station as2_text script_values "
+    "script_lines script_player script_station as2_agreement as2_exchange as2_kept as2_lists as2_mdn as2_mic as2_records as2_station as2_text script_values "
     "sqlite"
 )
 LISTS_A_FILE = 20
