@@ -187,6 +187,10 @@ impl<'a> Network for Sockets<'a> {
 
     ghost opens = { λ old waits l new. (l.waits ≡ waits) × (new ≡ old) };
 
+    ghost closes = { λ old _ new. new ≡ old };
+
+    ghost stops = { λ old _ new. new ≡ old };
+
     fn listen(
         &mut self,
         _alloc: Global,
@@ -209,5 +213,13 @@ impl<'a> Network for Sockets<'a> {
 
     fn links(&mut self, waits: Waits) -> Connections<'a> {
         Connections::new(self.rt, waits)
+    }
+
+    // no connection outlives its exchange
+    fn close(&mut self, _links: Connections<'a>) {}
+
+    // the socket is closed
+    fn stop(&mut self, listener: ListeningSocket<'a>) {
+        drop(listener);
     }
 }

@@ -11,12 +11,12 @@ use Rattle.as2_http.specs.declared.device.Sink.{Ghosts}
 use Rattle.as2_http.specs.declared.stream.Served.{Served}
 use Rattle.as2_host.specs.Networks.{EndsEach, Listening, ServesEach}
 use Rattle.as2_host.specs.Serving.{ServesOne}
-use Rattle.as2_desk.specs.Connections.{AwaitsFrom, ServesConnections, ServesCount, ServesNext, StopsIn, connection_line, connection_lines, listening_line}
+use Rattle.as2_desk.specs.Connections.{AwaitsFrom, ServesConnections, ServesCount, ServesNext, StopsIn, WritesLines, connection_line, connection_lines, listening_line}
 use Rattle.as2_desk.specs.Endings.{Ends}
 use Rattle.as2_desk.specs.Observed.{Outcome}
 use Rattle.as2_desk.specs.Refusals.{error_line}
 use Rattle.as2_desk.specs.Statuses.{done, refused}
-use Rattle.as2_desk.specs.Written.{WritesWhole, written_of}
+use Rattle.as2_desk.specs.Written.{Breaks, WritesWhole, Written, written_of}
 use Rattle.as2_desk.specs.declared.refusal.CommandFault.TheVariants.{CannotWrite}
 use Rattle.as2_desk.specs.declared.status.Ran.{Ran}
 
@@ -55,16 +55,18 @@ module _ {L : Type 0} (ended : L → Option ℕ → Trace → Served → L → T
   module _ {M : Medium} {W : Type 0} (sink : Ghosts W) (n : ℕ) (old mid new : Standing M) (l k m : L) (w x y : W)
       (so_far : HasServed sink n old mid l k w x) (clean : new.IsClean → mid.IsClean) where
     -- one more is served
-    abbrev pub Next : {V F : Type 0} → Result V F → Type 0
-    Next r = ServesNext A given mid new (λ end trace. ended k given trace end m) (written_of sink x y) r
+    abbrev pub Next : (Written → List ℕ → Type 0) → Type 0
+    Next Line = ServesNext mid new (λ end. (trace : Trace) × ended k given trace end m) (λ end s t. ServesOne A given (λ trace. ended k given trace end m) s t)
+        (λ end. Line (written_of sink x y) (connection_line end))
 
     -- .. and so all are
     abbrev pub All : {V F : Type 0} → ℕ → Result V F → Type 0
-    All count r = ServesConnections count old new (λ ends. EndsEach ended given l ends m) (λ ends s t. ServesEach ended given A ends l s m t) (written_of sink w y) r
+    All count r = ServesConnections old new (λ ends. EndsEach ended given l ends m) (λ ends s t. ServesEach ended given A ends l s m t)
+        (λ ends. WritesLines count ends (written_of sink w y) r)
 
-    with_next : {V F : Type 0} (r : Result V F) (next : Next r) → new.IsClean → (s : State) → old.Rests s
+    with_next : (Line : Written → List ℕ → Type 0) (next : Next Line) → new.IsClean → (s : State) → old.Rests s
         → (t : State) × new.Rests t × ServesEach ended given A (so_far.ends ++ next.end ∷ []) l s m t
-    with_next r next is_clean s rests =
+    with_next Line next is_clean s rests =
         let before = so_far.led (clean is_clean) s rests in
         let after = next.serves is_clean before.0 before.1 in
         (after.0, after.1, serves_more so_far.ends next.end l k m s before.0 after.0 before.2 after.2)
@@ -72,13 +74,13 @@ module _ {L : Type 0} (ended : L → Option ℕ → Trace → Served → L → T
     more : (end : Served) → length (so_far.ends ++ end ∷ []) ≡ n + 1
     more end = length-append so_far.ends (end ∷ []) ∙ ap (λ j. j + 1) so_far.all
 
-    pub one_more : {V F : Type 0} (v : V) → Next {V = V} {F = F} (Ok v) → HasServed sink (n + 1) old new l m w y
-    one_more v next = record {
+    pub one_more : Next WritesWhole → HasServed sink (n + 1) old new l m w y
+    one_more next = record {
       clean = λ h. so_far.clean (clean h);
       ends = so_far.ends ++ next.end ∷ [];
       each = ends_more so_far.ends next.end l k m so_far.each next.ended;
       all = more next.end;
-      led = with_next (Ok v) next;
+      led = with_next WritesWhole next;
       lines = (
         subst (Appends (sink.written w) (sink.written y)) (sym (lines_more so_far.ends next.end))
             (Appends-trans (sink.written w) (sink.written x) (sink.written y) (connection_lines so_far.ends) (connection_line next.end) so_far.lines.0 next.line.0),
@@ -87,8 +89,8 @@ module _ {L : Type 0} (ended : L → Option ℕ → Trace → Served → L → T
     }
 
     -- a write failed in the line of one more
-    stopped : {V F : Type 0} (f : F) (next : Next {V = V} {F = F} (Err f)) → StopsIn (so_far.ends ++ next.end ∷ []) (written_of sink w y)
-    stopped f next = record {
+    stopped : (next : Next Breaks) → StopsIn (so_far.ends ++ next.end ∷ []) (written_of sink w y)
+    stopped next = record {
       told = so_far.ends;
       last = next.end;
       are = refl;
@@ -101,35 +103,43 @@ module _ {L : Type 0} (ended : L → Option ℕ → Trace → Served → L → T
       };
     }
 
-    cut_at : {V F G : Type 0} (count : ℕ) (f : F) (g : G) → n < count → Next {V = V} {F = F} (Err f) → All {V = V} {F = G} count (Err g)
-    cut_at count f g below next = record {
+    cut_at : {V F : Type 0} (count : ℕ) (f : F) → n < count → Next Breaks → All {V = V} {F = F} count (Err f)
+    cut_at count f below next = record {
       clean = λ h. so_far.clean (clean h);
       ends = so_far.ends ++ next.end ∷ [];
       ended = ends_more so_far.ends next.end l k m so_far.each next.ended;
-      led = with_next (Err f) next;
-      lines = (let is = more next.end in omega (arith, is, below), stopped f next);
+      led = with_next Breaks next;
+      lines = (let is = more next.end in omega (arith, is, below), stopped next);
     }
 
-    pub cut : {V F G : Type 0} (count : ℕ) (f : F) (r : Result V G) → IsErr r → n < count → Next {V = V} {F = F} (Err f) → All {V = V} {F = G} count r
-    cut count f (Ok v) fails below next = absurd cc
-    cut count f (Err g) fails below next = cut_at count f g below next
+    pub cut : {V F : Type 0} (count : ℕ) (r : Result V F) → IsErr r → n < count → Next Breaks → All count r
+    cut count (Ok v) fails below next = absurd cc
+    cut {V} {F} count (Err f) fails below next = cut_at {V = V} {F = F} count f below next
 
-  pub all_served : {M : Medium} {W V F : Type 0} (sink : Ghosts W) (n count : ℕ) (old new : Standing M) (l m : L) (w x : W) (v : V) → n ≡ count → HasServed sink n old new l m w x
-      → ServesConnections {V = V} {F = F} count old new (λ ends. EndsEach ended given l ends m) (λ ends s t. ServesEach ended given A ends l s m t) (written_of sink w x) (Ok v)
-  all_served sink n count old new l m w x v is so_far = record { clean = so_far.clean; ends = so_far.ends; ended = so_far.each; led = so_far.led; lines = (so_far.all ∙ is, so_far.lines) }
+  pub all_served : {M : Medium} {W : Type 0} (sink : Ghosts W) (n count : ℕ) (old new : Standing M) (l m : L) (w x : W) → n ≡ count → HasServed sink n old new l m w x
+      → ServesConnections old new (λ ends. EndsEach ended given l ends m) (λ ends s t. ServesEach ended given A ends l s m t)
+      (λ ends. (length ends ≡ count) × WritesWhole (written_of sink w x) (connection_lines ends))
+  all_served sink n count old new l m w x is so_far = record { clean = so_far.clean; ends = so_far.ends; ended = so_far.each; led = so_far.led; lines = (so_far.all ∙ is, so_far.lines) }
 
 -- ---- what is said of them
 
 module _ {M : Medium} (count : ℕ) (known : Option State) (o : Outcome) (old new : Standing M) (Ended : List Served → Type 0) (Led : List Served → State → State → Type 0)
     (l : Listening) (ran : Ran) (address : List ℕ) (stood : IfSome known (λ s. new.IsClean × old.Rests s)) (left : (t : State) → new.Rests t → o.Left t)
     (awaited : (ends : List Served) → Ended ends → l.Awaited address ends) (led : (ends : List Served) (s t : State) → Led ends s t → l.Led address ends s t) where
-  awaits : {V F : Type 0} (r : Result V F) (k : Option State) → IfSome k (λ s. new.IsClean × old.Rests s) → (all : ServesConnections count old new Ended Led o.output r) → AwaitsFrom k o.Left l address all.ends
-  awaits r None none all = awaited all.ends all.ended
-  awaits r (Some s) it all = let served = all.led it.0 s it.1 in (served.0, left served.0 served.1, led all.ends s served.0 served.2)
+  awaits : (Lines : List Served → Type 0) (k : Option State) → IfSome k (λ s. new.IsClean × old.Rests s) → (all : ServesConnections old new Ended Led Lines) → AwaitsFrom k o.Left l address all.ends
+  awaits Lines None none all = awaited all.ends all.ended
+  awaits Lines (Some s) it all = let served = all.led it.0 s it.1 in (served.0, left served.0 served.1, led all.ends s served.0 served.2)
 
-  pub all_told : {V F : Type 0} (v : V) → ServesConnections {V = V} {F = F} count old new Ended Led o.output (Ok v) → Ends done (listening_line address) o.errors ran → ServesCount count known o l ran
-  all_told v all told = inr (inl (record { address = address; ends = all.ends; awaits = awaits (Ok v) known stood all; all = all.lines.0; lines = all.lines.1; told = told }))
+  -- all lines were written
+  abbrev pub AllLines : List Served → Type 0
+  AllLines ends = (length ends ≡ count) × WritesWhole o.output (connection_lines ends)
 
-  pub cut_told : {V F : Type 0} (f : F) → ServesConnections {V = V} {F = F} count old new Ended Led o.output (Err f) → Ends refused (listening_line address ++ error_line CannotWrite) o.errors ran
-      → ServesCount count known o l ran
-  cut_told f all told = inr (inr (record { address = address; ends = all.ends; awaits = awaits (Err f) known stood all; within = all.lines.0; lines = all.lines.1; told = told }))
+  pub all_told : ServesConnections old new Ended Led AllLines → Ends done (listening_line address) o.errors ran → ServesCount count known o l ran
+  all_told all told = inr (inl (record { address = address; ends = all.ends; awaits = awaits AllLines known stood all; all = all.lines.0; lines = all.lines.1; told = told }))
+
+  -- .. or not all
+  abbrev pub SomeLines : List Served → Type 0
+  SomeLines ends = (length ends ≤ count) × StopsIn ends o.output
+
+  pub cut_told : ServesConnections old new Ended Led SomeLines → Ends refused (listening_line address ++ error_line CannotWrite) o.errors ran → ServesCount count known o l ran
+  cut_told all told = inr (inr (record { address = address; ends = all.ends; awaits = awaits SomeLines known stood all; within = all.lines.0; lines = all.lines.1; told = told }))

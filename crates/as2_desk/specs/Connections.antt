@@ -1,18 +1,15 @@
 -- Connections that are served one after the other, and what is said of them.
 use Rattle.std.specs.Prelude.{◌≡◌, ◌≤◌, ◌⊎◌, ℕ, List, [], ◌∷◌, ◌++◌, length, codes, Option, Some, None, IfSome, Result, Ok, Err}
 use Rattle.std.specs.List.{flat_map}
-use Rattle.as2_agreement.specs.Agreements.{AgreedValues}
-use Rattle.as2_exchange.specs.Run.{Trace}
 use Rattle.as2_exchange.specs.State.{State}
 use Rattle.as2_host.specs.Networks.{Listening}
-use Rattle.as2_host.specs.Serving.{ServesOne}
 use Rattle.as2_http.specs.declared.stream.Served.{Served}
 use Rattle.as2_records.specs.Standing.{Medium, Standing}
 use Rattle.as2_desk.specs.Endings.{Ends, EndsRefused}
 use Rattle.as2_desk.specs.Observed.{Outcome}
 use Rattle.as2_desk.specs.Refusals.{error_line}
 use Rattle.as2_desk.specs.Statuses.{done, end_name, refused}
-use Rattle.as2_desk.specs.Written.{BreaksBehind, WritesBy, WritesWhole, Written}
+use Rattle.as2_desk.specs.Written.{BreaksBehind, WritesWhole, Written}
 use Rattle.as2_desk.specs.declared.refusal.CommandFault.TheVariants.{CannotListen, CannotWrite, Memory}
 use Rattle.as2_desk.specs.declared.status.Ran.{Ran}
 
@@ -27,13 +24,12 @@ connection_lines ends = flat_map connection_line ends
 abbrev pub listening_line : List ℕ → List ℕ
 listening_line address = codes "listening: " ++ (address ++ codes "\n")
 
--- One more connection was served, which brought posts and ended so (Brought), and its line was written, or a write failed behind a part of it.
-pub record ServesNext {M : Medium} {V F : Type 0} (A : AgreedValues) (given : Option ℕ) (old new : Standing M)
-    (Brought : Served → Trace → Type 0) (output : Written) (r : Result V F) : Type 0 where
+-- One more connection was served and ended so (Ended), what it brought led the records on (Led), and its line was written, or a write failed (Writes).
+pub record ServesNext {M : Medium} (old new : Standing M) (Ended : Served → Type 0) (Led : Served → State → State → Type 0) (Writes : Served → Type 0) : Type 0 where
   pub end : Served
-  pub ended : (trace : Trace) × Brought end trace
-  pub serves : new.IsClean → (s : State) → old.Rests s → (t : State) × new.Rests t × ServesOne A given (Brought end) s t
-  pub line : WritesBy r output (connection_line end)
+  pub ended : Ended end
+  pub serves : new.IsClean → (s : State) → old.Rests s → (t : State) × new.Rests t × Led end s t
+  pub line : Writes end
 
 -- the lines of all but the last were written, and a part of its line, since a write failed
 pub record StopsIn (ends : List Served) (output : Written) : Type 0 where
@@ -47,14 +43,14 @@ abbrev pub WritesLines : {V F : Type 0} → ℕ → List Served → Written → 
 WritesLines count ends output (Ok v) = (length ends ≡ count) × WritesWhole output (connection_lines ends)
 WritesLines count ends output (Err f) = (length ends ≤ count) × StopsIn ends output
 
--- Connections with these ends (Ended) were served, one after the other, what they brought led the records on (Led), and a line was written for each.
-pub record ServesConnections {M : Medium} {V F : Type 0} (count : ℕ) (old new : Standing M)
-    (Ended : List Served → Type 0) (Led : List Served → State → State → Type 0) (output : Written) (r : Result V F) : Type 0 where
+-- Connections with these ends (Ended) were served, one after the other, what they brought led the records on (Led), and lines were written for them (Writes).
+pub record ServesConnections {M : Medium} (old new : Standing M) (Ended : List Served → Type 0) (Led : List Served → State → State → Type 0)
+    (Writes : List Served → Type 0) : Type 0 where
   pub clean : new.IsClean → old.IsClean
   pub ends : List Served
   pub ended : Ended ends
   pub led : new.IsClean → (s : State) → old.Rests s → (t : State) × new.Rests t × Led ends s t
-  pub lines : WritesLines count ends output r
+  pub lines : Writes ends
 
 -- Connections with these ends were awaited at that address. Where the state is known that the records stood for, the posts that they
 -- brought led from it to one that what is left stands for (Left).

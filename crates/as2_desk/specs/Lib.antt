@@ -12,6 +12,7 @@ pub mod FileDocuments
 pub mod Checks
 pub mod Posting
 pub mod Questions
+pub mod Helping
 pub mod Migrating
 pub mod SendingDue
 pub mod Connections

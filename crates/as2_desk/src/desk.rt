@@ -7,6 +7,7 @@ ghost use Rattle.as2_commands.specs.CommandLine.{AsksForHelp, IsHelp};
 ghost use Rattle.as2_commands.specs.Options.{Gives, GivesNone};
 ghost use Rattle.as2_host.specs.Networks.{ExchangedOver, listening_of};
 ghost use Rattle.as2_desk.specs.Endings.{EndsRefused, Stopped};
+ghost use Rattle.as2_desk.specs.Helping.{Helps, SaysFaulty};
 ghost use Rattle.as2_desk.specs.Observed.{errors_of, input_of, outcome_of, output_of, stored_of};
 ghost use Rattle.as2_desk.specs.Runs.{Comes, IsSending, Runs};
 ghost use Rattle.as2_desk.specs.Statuses.{done, failed, faulty, refused};
@@ -66,8 +67,8 @@ pub fn run<
           input = input_of R.Source console.old console.new;
           outcome = outcome_of W.Sink E.Sink console.old console.new (Leaves store (O.keeps host.new.stores store));
           Unasked = host.new.network ≡ host.old.network;
-          Exchanged = ExchangedOver N.opens N.Links.answers host.old.network host.new.network;
-          listening = listening_of N.listens N.refuses N.Listener.bound N.Listener.ended host.old.network host.new.network;
+          Exchanged = ExchangedOver N.Network N.Links.Links host.old.network host.new.network;
+          listening = listening_of N.Network N.Listener.Listens host.old.network host.new.network;
         })
         (stored_of O.OpenStores host.old.stores host.new.stores store) result
         ⊎ ((host.new.stores ≡ host.old.stores) × (host.new.network ≡ host.old.network) × (console.new.input ≡ console.old.input) × (console.new.output ≡ console.old.output)
@@ -81,7 +82,11 @@ pub fn run<
     // They are faulty, unless they ask for the help or the version; memory may be wanting to say so.
     ensures none { GivesNone (texts words.entry.now) clock → ¬ AsksForHelp (texts words.entry.now)
         → ((result.status ≡ faulty) ⊎ EndsRefused Memory (errors_of E.Sink console.old console.new) result) × (console.new.output ≡ console.old.output) }
-    // A faulty command line reads and writes nothing, opens nothing, and asks nothing of the network.
+    // Why they are faulty is said, and the help or the version is printed.
+    ensures said { result.status ≡ faulty → SaysFaulty (errors_of E.Sink console.old console.new) result }
+    ensures help { GivesNone (texts words.entry.now) clock → result.status ≢ faulty
+        → Helps (output_of W.Sink console.old console.new) (errors_of E.Sink console.old console.new) result }
+    // A faulty command line reads and prints nothing, opens nothing, and asks nothing of the network.
     ensures untouched { result.status ≡ faulty → (console.new.input ≡ console.old.input) × (console.new.output ≡ console.old.output)
         × (host.new.stores ≡ host.old.stores) × (host.new.network ≡ host.old.network) }
     // A store with a fault is told, and nothing is read or written then; what was sent before stands, with its lines.
@@ -126,8 +131,8 @@ fn carry_out<
           input = input_of R.Source console.old console.new;
           outcome = outcome_of W.Sink E.Sink console.old console.new (Leaves options.entry.store.now (O.keeps host.new.stores options.entry.store.now));
           Unasked = host.new.network ≡ host.old.network;
-          Exchanged = ExchangedOver N.opens N.Links.answers host.old.network host.new.network;
-          listening = listening_of N.listens N.refuses N.Listener.bound N.Listener.ended host.old.network host.new.network;
+          Exchanged = ExchangedOver N.Network N.Links.Links host.old.network host.new.network;
+          listening = listening_of N.Network N.Listener.Listens host.old.network host.new.network;
         })
         (stored_of O.OpenStores host.old.stores host.new.stores options.entry.store.now) result }
     ensures memory { options.entry.store.now ≡ codes ":memory:" → host.new.stores ≡ host.old.stores }
@@ -185,6 +190,8 @@ fn tell<W: Sink, E: Sink>(alloc: Global, error: &Error, output: &mut W, errors: 
     ensures fault { ¬ IsHelp (kind_of error.now)
         → ((result.status ≡ faulty) ⊎ EndsRefused Memory (written_of E.Sink errors.old errors.new) result) × (output.new ≡ output.old) }
     ensures help { IsHelp (kind_of error.now) → result.status ≢ faulty }
+    ensures said { result.status ≡ faulty → SaysFaulty (written_of E.Sink errors.old errors.new) result }
+    ensures helps { result.status ≢ faulty → Helps (written_of W.Sink output.old output.new) (written_of E.Sink errors.old errors.new) result }
     // Want of memory is told as such, or the error is another.
     ensures memory { ((output.new ≡ output.old) × EndsRefused Memory (written_of E.Sink errors.old errors.new) result)
         ⊎ (kind_of error.now ≢ OutOfMemory) }
@@ -195,10 +202,14 @@ fn tell<W: Sink, E: Sink>(alloc: Global, error: &Error, output: &mut W, errors: 
     let Ok(text) = error.to_string(alloc) else {
         return refuse(CommandFault::Memory, errors);
     };
+    let text = text.as_str();
+    if text.is_empty() {
+        return refuse(CommandFault::Memory, errors);
+    }
     if error.use_stderr() {
         return Ran {
             status: FAULTY,
-            told: is_said(text.as_str(), errors),
+            told: is_said(text, errors),
         };
     }
     if push_all(output, text.as_bytes()).is_err() {

@@ -1,9 +1,12 @@
 //! The command `serve`: connections, one after the other.
 ghost use Rattle.std.specs.Prelude.{◌≡◌, ◌≤◌, ◌⊎◌, IfOk, Option, IfSome, string_bytes};
+ghost use Rattle.as2_exchange.specs.Run.{Trace};
 ghost use Rattle.as2_exchange.specs.State.{State};
 ghost use Rattle.as2_host.specs.Networks.{EndsEach, ServesEach, listening_of};
+ghost use Rattle.as2_host.specs.Serving.{ServesOne};
 ghost use Rattle.as2_desk.specs.Observed.{outcome_of, output_of};
-ghost use Rattle.as2_desk.specs.Connections.{ServesConnections, ServesCount, ServesNext, connection_line, listening_line};
+ghost use Rattle.as2_desk.specs.Connections.{ServesConnections, ServesCount, ServesNext, WritesLines, connection_line, listening_line};
+ghost use Rattle.as2_desk.specs.Written.{WritesBy};
 ghost use Rattle.as2_desk.specs.Statuses.{done, refused};
 
 use crate::console::Console;
@@ -44,8 +47,10 @@ fn serve_next<K: Records, L: Listens, R, W: Sink, H: Journal, E>(
 ) -> Result<(), DeviceFault>
     ensures streams { (console.new.input ≡ console.old.input) × (console.new.errors ≡ console.old.errors) }
     ensures clean { (K.shows station.new).IsClean → (K.shows station.old).IsClean }
-    ensures serves { ServesNext terms.now.agreements.now moment.now (K.shows station.old) (K.shows station.new)
-        (λ end trace. L.ended listener.old moment.now trace end listener.new) (output_of W.Sink console.old console.new) result }
+    ensures serves { ServesNext (K.shows station.old) (K.shows station.new)
+        (λ end. (trace : Trace) × L.ended listener.old moment.now trace end listener.new)
+        (λ end s t. ServesOne terms.now.agreements.now moment.now (λ trace. L.ended listener.old moment.now trace end listener.new) s t)
+        (λ end. WritesBy result (output_of W.Sink console.old console.new) (connection_line end)) }
 {
     let end = listener.serve(
         terms.alloc,
@@ -69,10 +74,10 @@ fn serve_connections<K: Records, L: Listens, R, W: Sink, H: Journal, E>(
     console: &mut Console<R, W, H, E>,
 ) -> Result<(), DeviceFault>
     ensures streams { (console.new.input ≡ console.old.input) × (console.new.errors ≡ console.old.errors) }
-    ensures serves { ServesConnections serving.now.count (K.shows station.old) (K.shows station.new)
+    ensures serves { ServesConnections (K.shows station.old) (K.shows station.new)
         (λ ends. EndsEach L.ended serving.now.moment listener.old ends listener.new)
         (λ ends s t. ServesEach L.ended serving.now.moment terms.now.agreements.now ends listener.old s listener.new t)
-        (output_of W.Sink console.old console.new) result }
+        (λ ends. WritesLines serving.now.count ends (output_of W.Sink console.old console.new) result) }
 {
     for served in 0..serving.count {
         let _ = served;
@@ -95,16 +100,19 @@ pub(crate) fn serve<K: Records, N: Network, R, W: Sink, H: Journal, E: Sink>(
     ensures serves { (known : Option State) → IfSome known (λ s. (K.shows station.new).IsClean × (K.shows station.old).Rests s)
         → ServesCount serving.entry.count known
         (outcome_of W.Sink E.Sink console.old console.new (λ t. (K.shows station.new).Rests t))
-        (listening_of N.listens N.refuses N.Listener.bound N.Listener.ended network.old network.new terms.now.agreements.now serving.entry) result }
+        (listening_of N.Network N.Listener.Listens network.old network.new terms.now.agreements.now serving.entry) result }
 {
     let Ok(mut listener) = network.listen(terms.alloc, serving.address, serving.waits) else {
         return refuse(CommandFault::CannotListen, &mut console.errors);
     };
     let Ok(line) = listening_line(terms.alloc, &listener) else {
+        network.stop(listener);
         return refuse(CommandFault::Memory, &mut console.errors);
     };
     let told = is_said(line.as_str(), &mut console.errors);
-    match serve_connections(terms, &serving, station, &mut listener, console) {
+    let served = serve_connections(terms, &serving, station, &mut listener, console);
+    network.stop(listener);
+    match served {
         Ok(()) => Ran { status: DONE, told },
         Err(DeviceFault) => refuse_behind(told, CommandFault::CannotWrite, &mut console.errors),
     }

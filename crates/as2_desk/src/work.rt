@@ -99,8 +99,8 @@ fn do_at<K: Records, N: Network, R: Source, W: Sink, H: Write + Journal, E: Sink
           input = input_of R.Source console.old console.new;
           outcome = outcome_of W.Sink E.Sink console.old console.new (λ t. (K.shows station.new).Rests t);
           Unasked = network.new ≡ network.old;
-          Exchanged = ExchangedOver N.opens N.Links.answers network.old network.new;
-          listening = listening_of N.listens N.refuses N.Listener.bound N.Listener.ended network.old network.new;
+          Exchanged = ExchangedOver N.Network N.Links.Links network.old network.new;
+          listening = listening_of N.Network N.Listener.Listens network.old network.new;
         }) result }
     ensures store { result.status ≡ failed → Stopped (SendsWork work.entry) (input_of R.Source console.old console.new)
         (output_of W.Sink console.old console.new) (errors_of E.Sink console.old console.new) result }
@@ -110,7 +110,9 @@ fn do_at<K: Records, N: Network, R: Source, W: Sink, H: Write + Journal, E: Sink
         Command::Ask(question) => ask(terms, station, question, console),
         Command::Send(waits) => {
             let mut links = network.links(waits);
-            send_due(terms, station, &mut links, console)
+            let ran = send_due(terms, station, &mut links, console);
+            network.close(links);
+            ran
         }
         Command::Serve(serving) => serve(terms, serving, station, network, console),
     }
@@ -133,8 +135,8 @@ fn do_over<K: Records + Drop, N: Network, R: Source, W: Sink, H: Write + Journal
           input = input_of R.Source console.old console.new;
           outcome = outcome_of W.Sink E.Sink console.old console.new (λ t. (K.shows last).Rests t);
           Unasked = network.new ≡ network.old;
-          Exchanged = ExchangedOver N.opens N.Links.answers network.old network.new;
-          listening = listening_of N.listens N.refuses N.Listener.bound N.Listener.ended network.old network.new;
+          Exchanged = ExchangedOver N.Network N.Links.Links network.old network.new;
+          listening = listening_of N.Network N.Listener.Listens network.old network.new;
         }) result.0))) }
     ensures store { result.0.status ≡ failed → Stopped (SendsWork work.entry) (input_of R.Source console.old console.new)
         (output_of W.Sink console.old console.new) (errors_of E.Sink console.old console.new) result.0 }
@@ -186,8 +188,8 @@ pub(crate) fn work_over<
       input = input_of R.Source console.old console.new;
       outcome = outcome_of W.Sink E.Sink console.old console.new (Leaves store.entry.path.now (O.keeps host.new.stores store.entry.path.now));
       Unasked = host.new.network ≡ host.old.network;
-      Exchanged = ExchangedOver N.opens N.Links.answers host.old.network host.new.network;
-      listening = listening_of N.listens N.refuses N.Listener.bound N.Listener.ended host.old.network host.new.network;
+      Exchanged = ExchangedOver N.Network N.Links.Links host.old.network host.new.network;
+      listening = listening_of N.Network N.Listener.Listens host.old.network host.new.network;
     }) (stored_of O.OpenStores host.old.stores host.new.stores store.entry.path.now) result }
     ensures memory { store.entry.path.now ≡ codes ":memory:" → host.new.stores ≡ host.old.stores }
     ensures store { result.status ≡ failed → Stopped (SendsWork work.entry) (input_of R.Source console.old console.new)

@@ -1,15 +1,19 @@
 -- The files of one store: what they hold, before they are opened and once they are closed.
 use Rattle.std.specs.Prelude.{ℕ, Bool, true, false, Option, Some, None, IsTrue, ⊤}
 use Rattle.sqlite.specs.Closing.{HoldsAlone}
-use Rattle.sqlite.specs.Files.{image_of}
+use Rattle.sqlite.specs.Files.{file_state, image_of}
+use Rattle.sqlite.specs.Held.{Held}
 use Rattle.sqlite.specs.State.{State as Connected, HasCleanDisk}
 use Rattle.sqlite_disk.specs.declared.Disk.{Ghosts}
 use Rattle.sqlite_disk.specs.declared.Files.{Files}
+use Rattle.sqlite_store.specs.declared.store.FileStore.{FileStore}
 use Rattle.sqlite_trees.specs.Tree.{Trees}
 use Rattle.sqlite_wal.specs.Files.{outcomes}
 use Rattle.sqlite_wal.specs.Reads.{AreClean}
 use Rattle.sqlite_wal.specs.Recovery.{Image}
 use Rattle.as2_exchange.specs.State.{State}
+use Rattle.as2_kept.specs.Instance.{standing, tables}
+use Rattle.as2_records.specs.Standing.{Medium, Standing}
 use Rattle.as2_storage.specs.Files.{AreClosed}
 use Rattle.as2_store.specs.Files.{HoldsState}
 use Rattle.as2_store.specs.Stands.{Rests}
@@ -20,17 +24,23 @@ use Rattle.as2_files.specs.declared.keeping.End.TheVariants.{Closed, Left}
 abbrev pub IsFound : Image → Connected → Type 0
 IsFound image c = HasCleanDisk c → IsTrue c.is_open × ((s : State) → HoldsState image s → Rests c s)
 
-module _ {D : Type 0} (g : Ghosts D) where
-  -- the files into which a store was closed hold that state; of those of one that couldn't be closed nothing is told
+-- a store in files, as records
+abbrev pub shown : {D : Type 0} {g : Ghosts D} → Held (FileStore D g) → Standing tables
+shown c = standing (file_state c)
+
+module _ {D R : Type 0} {M : Medium} (g : Ghosts D) (shows : R → Standing M) (LeftOf : R → Files D → Type 0) where
+  -- the files into which records were closed hold that state; the files of some that couldn't be closed, and stood for it, are what was
+  -- left of them
   abbrev pub EndsIn : End D → State → Type 0
   EndsIn (Closed files) s = AreClosed g files s
-  EndsIn (Left files) s = ⊤
+  EndsIn (Left files) s = (records : R) × (shows records).Rests s × LeftOf records files
 
   -- the tables in the files stand for that state: by what they held as they were opened, until they are closed
   abbrev pub Keeps : Image → Option (End D) → State → Type 0
   Keeps image None s = HoldsState image s
   Keeps image (Some end) s = EndsIn end s
 
+module _ {D : Type 0} (g : Ghosts D) where
   -- until they were closed, all that was read of them is what had been written
   abbrev pub IsCleanEnd : Option (End D) → Type 0
   IsCleanEnd None = ⊤
@@ -41,6 +51,11 @@ module _ {D : Type 0} (g : Ghosts D) where
 abbrev pub IfClosed : {D : Type 0} → (Files D → Type 0) → End D → Type 0
 IfClosed P (Closed files) = P files
 IfClosed P (Left files) = ⊤
+
+-- of files of a store that couldn't be closed
+abbrev pub IfLeft : {D : Type 0} → (Files D → Type 0) → End D → Type 0
+IfLeft P (Closed files) = ⊤
+IfLeft P (Left files) = P files
 
 -- where all that is read is what had been written, the database file does without its log, as both read now and after a crash
 abbrev pub NeedsNoLog : {D : Type 0} → Ghosts D → Files D → Type 0

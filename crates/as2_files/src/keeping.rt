@@ -2,13 +2,15 @@
 ghost use Rattle.std.specs.Prelude.{ℕ, List, Some, IfOk, IsTrue};
 ghost use Rattle.sqlite.specs.Files.{file_state};
 ghost use Rattle.sqlite.specs.State.{HasCleanDisk};
+ghost use Rattle.sqlite_disk.specs.declared.Files.{Files as TheFiles};
 ghost use Rattle.sqlite_wal.specs.Recovery.{Image};
 ghost use Rattle.as2_exchange.specs.State.{State};
 ghost use Rattle.as2_store.specs.Files.{HoldsState};
 ghost use Rattle.as2_store.specs.Stands.{Rests};
 ghost use Rattle.as2_host.specs.Migrating.{moved};
 ghost use Rattle.as2_files.specs.Earlier.{HoldsEarlier};
-ghost use Rattle.as2_files.specs.Stores.{EndsIn, IfClosed, IsCleanEnd, IsFound, NeedsNoLog};
+ghost use Rattle.as2_storage.specs.Files.{AreLeftBy};
+ghost use Rattle.as2_files.specs.Stores.{EndsIn, IfClosed, IfLeft, IsCleanEnd, IsFound, NeedsNoLog, shown};
 
 use crate::closing::opening_fault;
 use crate::migrating::{Moved, migrate_in_files};
@@ -25,7 +27,7 @@ use sqlite_disk::{Disk, Files};
 pub enum End<D: Disk + Drop> {
     /// Into these files.
     Closed(Files<D>),
-    /// It couldn't be, and these are its files. All stands in their log, as it stood.
+    /// It couldn't be, and these are its files. A crash leaves of them only what it could have left of the store.
     Left(Files<D>),
 }
 
@@ -37,6 +39,9 @@ pub trait KeepFiles<R: Records> {
     // what the files of that name hold as they are opened
     ghost image: { List ℕ → Image };
 
+    // the files are what was left of these records, which couldn't be closed
+    ghost left_of: { R → TheFiles Self.Disk → Type 0 };
+
     /// Opens the records in the files of that name.
     fn open_records(self, rt: &HostRuntime, name: &str) -> Result<R, OpenFault>
         ensures found { IfOk result (λ r. (R.Records.shows r).IsClean → IsTrue (R.Records.shows r).is_open
@@ -44,13 +49,14 @@ pub trait KeepFiles<R: Records> {
 
     /// Makes records of an earlier version in the files of that name those of the version that is read, and closes them.
     fn migrate_records(self, rt: &HostRuntime, name: &str) -> Result<Moved<Self::Disk>, OpenFault>
-        ensures moved { IfOk result (λ it. IsCleanEnd Self.Disk.Disk (Some it.end) → (s : State) → HoldsEarlier (image name.now) s → EndsIn Self.Disk.Disk it.end (moved s)) }
+        ensures moved { IfOk result (λ it. IsCleanEnd Self.Disk.Disk (Some it.end) → (s : State) → HoldsEarlier (image name.now) s → EndsIn Self.Disk.Disk R.Records.shows left_of it.end (moved s)) }
         ensures alone { IfOk result (λ it. IfClosed (NeedsNoLog Self.Disk.Disk) it.end) };
 
     /// Closes the records into their files.
     fn close_records(records: R) -> End<Self::Disk>
         ensures clean { IsCleanEnd Self.Disk.Disk (Some result) → (R.Records.shows records).IsClean }
-        ensures kept { IsCleanEnd Self.Disk.Disk (Some result) → (s : State) → (R.Records.shows records).Rests s → EndsIn Self.Disk.Disk result s }
+        ensures kept { IsCleanEnd Self.Disk.Disk (Some result) → (s : State) → (R.Records.shows records).Rests s → EndsIn Self.Disk.Disk R.Records.shows left_of result s }
+        ensures left { IfLeft (left_of records) result }
         ensures alone { IfClosed (NeedsNoLog Self.Disk.Disk) result };
 }
 
@@ -80,10 +86,12 @@ pub fn open_in_files<F: OpenFiles>(
     }
 }
 
-/// Closes a store into its two files, which hold then what its tables stood for, the database file alone, too.
+/// Closes a store into its two files, which hold then what its tables stood for, the database file alone, too. Where that fails they are
+/// what was left of it.
 pub fn close_into_files<D: Disk + Drop>(records: Kept<FileStore<D>>) -> End<D>
     ensures clean { IsCleanEnd D.Disk (Some result) → HasCleanDisk (file_state records) }
-    ensures kept { IsCleanEnd D.Disk (Some result) → (s : State) → Rests (file_state records) s → EndsIn D.Disk result s }
+    ensures kept { IsCleanEnd D.Disk (Some result) → (s : State) → Rests (file_state records) s → EndsIn D.Disk shown (AreLeftBy D.Disk) result s }
+    ensures left { IfLeft (AreLeftBy D.Disk records) result }
     ensures alone { IfClosed (NeedsNoLog D.Disk) result }
 {
     match close(records.into_connection()) {
@@ -96,6 +104,8 @@ impl<F: OpenFiles + Drop> KeepFiles<Kept<FileStore<F::Disk>>> for InFiles<F> {
     type Disk = F::Disk;
 
     ghost image = { F.image };
+
+    ghost left_of = { AreLeftBy F.Disk.Disk };
 
     fn open_records(
         self,

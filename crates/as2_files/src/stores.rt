@@ -66,7 +66,7 @@ impl<R: Records + Drop, K: KeepFiles<R> + Drop> OpenStores for StoreFiles<'_, R,
 
     type InMemory = Kept<MemStore>;
 
-    ghost keeps = { λ it path number s. Keeps K.Disk.Disk (K.image (file_name path)) it.end s };
+    ghost keeps = { λ it path number s. Keeps K.Disk.Disk R.Records.shows K.left_of (K.image (file_name path)) it.end s };
 
     ghost fails = { λ it path fault. ⊤ };
 

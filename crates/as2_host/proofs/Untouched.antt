@@ -8,7 +8,7 @@ use Rattle.as2_http.specs.StreamReads.{RunsPosts}
 use Rattle.as2_host.specs.Serving.{ServesOne}
 
 no_posts : (A : AgreedValues) (moment : ℕ) (s : State) → RunsPosts A moment s s
-no_posts A moment s = record { trace = []; posts = tt; run = refl; by_history = ends_by_history A s [] s refl }
+no_posts A moment s = record { done = []; run = refl; by_history = ends_by_history A s [] s refl }
 
 pub serves_none : (A : AgreedValues) (given : Option ℕ) (Brought : Trace → Type 0) (s : State) → Brought [] → ServesOne A given Brought s s
 unfolding no_posts

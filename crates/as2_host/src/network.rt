@@ -65,6 +65,12 @@ pub trait Network {
     // asked for links that are opened with these waits, it gave those; it is as that then
     ghost opens: { Self → TheWaits → Self.Links → Self → Type 0 };
 
+    // given those links back, as they are by then, it ended them; it is as that then
+    ghost closes: { Self → Self.Links → Self → Type 0 };
+
+    // given that listener back, as it is by then, it ended it; it is as that then
+    ghost stops: { Self → Self.Listener → Self → Type 0 };
+
     /// Listens at that address.
     fn listen(
         &mut self,
@@ -78,4 +84,12 @@ pub trait Network {
     /// What opens links to partners.
     fn links(&mut self, waits: Waits) -> Self::Links
         ensures { opens self.old waits result self.new };
+
+    /// Takes back links, and ends them.
+    fn close(&mut self, links: Self::Links)
+        ensures { closes self.old links self.new };
+
+    /// Takes back a listener, which listens no more.
+    fn stop(&mut self, listener: Self::Listener)
+        ensures { stops self.old listener self.new };
 }

@@ -3,17 +3,18 @@ use Rattle.std.proofs.Common.{◌≡◌, ℕ, true, List, [], ◌∷◌, ◌++�
 use Rattle.std.specs.Io.KnownBytes.{Appends, Consumes, IsAtEnd, Keeps}
 use Rattle.as2_records.specs.Standing.{Medium, Standing}
 use Rattle.as2_agreement.specs.Agreements.{AgreedValues}
-use Rattle.as2_exchange.specs.Run.{AnEvent, AMigration, Trace, Run}
+use Rattle.as2_exchange.specs.Run.{Trace, Run}
 use Rattle.as2_exchange.specs.State.{State}
 use Rattle.as2_framing.specs.HeadText.{unblank}
 use Rattle.as2_messages.specs.Requests.{IsOpen}
 use Rattle.as2_http.specs.InputReads.{read_limit, ReadsNeeded}
+use Rattle.as2_station.specs.Theorem.{EndsByHistory}
 use Rattle.as2_station.proofs.ByHistory.{ends_by_history, run_then}
-use Rattle.as2_http.specs.StreamReads.{NeedsMore, BetweenReads, AnswersNext, ArePostsAt, RunsPosts, Serves}
+use Rattle.as2_http.specs.StreamReads.{NeedsMore, BetweenReads, AnswersNext, RunsPosts, Serves}
 use Rattle.as2_http.specs.Notes.{Says, Spoken, note, refusal_note}
 use Rattle.as2_messages.specs.Parsing.{HasTaken}
 use Rattle.as2_http.specs.Responses.{RespondsTo, Responds, Unsaid}
-use Rattle.as2_http.specs.Streams.{Exchange, AnswersAll, GoOn, EndsLast, event_by, events, event_said, AnswersPiece, PieceEnds, Ends, CutShort, in_reply, in_refusal, OutOfMemory, for_request, for_reply, for_refusal, may_end_piece, notes}
+use Rattle.as2_http.specs.Streams.{Exchange, AnswersAll, GoOn, EndsLast, event_by, events, AnswersPiece, PieceEnds, Ends, CutShort, in_reply, in_refusal, OutOfMemory, for_request, for_reply, for_refusal, may_end_piece, notes}
 use Rattle.as2_messages.specs.declared.request.Request.{Request}
 use Rattle.as2_messages.specs.declared.framing.Method.{Method}
 use Rattle.as2_messages.specs.declared.framing.Method.TheVariants as method
@@ -47,46 +48,37 @@ answers_run A moment s t text replies rest [] a = a.0
 answers_run A moment s t text replies rest (x ∷ done) a =
     event_then A moment s a.0 t x.0 x.1 x.0.method x.0.target (events moment done) a.4.responds (answers_run A moment a.0 t a.2 a.3 rest done a.6)
 
--- .. and then more of it
-all_then : (moment : ℕ) (one two : Trace) → ArePostsAt moment one → ArePostsAt moment two → ArePostsAt moment (one ++ two)
-all_then moment [] two a b = b
-all_then moment (AnEvent e said ∷ one) two a b = (a.0, all_then moment one two a.1 b)
-all_then moment (AMigration n ∷ one) two a b = absurd a
+-- .. and then more of them
+events_join : (moment : ℕ) (one two : List Exchange) → events moment (one ++ two) ≡ events moment one ++ events moment two
+events_join moment [] two = refl
+events_join moment (x ∷ one) two =
+    let first = event_by x.0.method x.0.target moment x in
+    ap (λ (t : Trace). first ++ t) (events_join moment one two) ∙ sym (append_assoc first (events moment one) (events moment two))
 
-said_posts : (moment : ℕ) (r : Request) (x : Response) → ArePostsAt moment (event_said r moment x)
-said_posts moment r (response.Answered a) = (refl, tt)
-said_posts moment r (response.Failed f) = (refl, tt)
-said_posts moment r response.OnlyPost = tt
-said_posts moment r response.NoPath = tt
-
-event_posts : (moment : ℕ) (r : Request) (x : Response) (m : Method) (at : Target) → ArePostsAt moment (event_by m at moment (r, x))
-event_posts moment r x method.Post target.Station = said_posts moment r x
-event_posts moment r x method.Post target.Other = tt
-event_posts moment r x method.Head at = tt
-event_posts moment r x method.Other at = tt
-
-events_posts : (moment : ℕ) (done : List Exchange) → ArePostsAt moment (events moment done)
-events_posts moment [] = tt
-events_posts moment (x ∷ done) = all_then moment (event_by x.0.method x.0.target moment x) (events moment done) (event_posts moment x.0 x.1 x.0.method x.0.target) (events_posts moment done)
-
-posts_run : (A : AgreedValues) (moment : ℕ) (s t : State) (trace : Trace) → ArePostsAt moment trace → Run A s trace t → RunsPosts A moment s t
-posts_run A moment s t trace posts run = record { trace = trace; posts = posts; run = run; by_history = ends_by_history A s trace t run }
+posts_run : (A : AgreedValues) (moment : ℕ) (s t : State) (done : List Exchange) → Run A s (events moment done) t → RunsPosts A moment s t
+posts_run A moment s t done run = record { done = done; run = run; by_history = ends_by_history A s (events moment done) t run }
 
 pub runs_join : (A : AgreedValues) (moment : ℕ) (s mid t : State) → RunsPosts A moment s mid → RunsPosts A moment mid t → RunsPosts A moment s t
-runs_join A moment s mid t a b = posts_run A moment s t (a.trace ++ b.trace) (all_then moment a.trace b.trace a.posts b.posts) (run_then A s mid t a.trace b.trace a.run b.run)
+runs_join A moment s mid t a b =
+    posts_run A moment s t (a.done ++ b.done)
+    (subst (λ (trace : Trace). Run A s trace t) (sym (events_join moment a.done b.done)) (run_then A s mid t (events moment a.done) (events moment b.done) a.run b.run))
 
 pub runs_none : (A : AgreedValues) (moment : ℕ) (s : State) → RunsPosts A moment s s
-runs_none A moment s = posts_run A moment s s [] tt refl
+runs_none A moment s = posts_run A moment s s [] refl
 
 answers_runs : (A : AgreedValues) (moment : ℕ) (s mid t : State) (text replies rest : List ℕ) (done : List Exchange) → AnswersAll A moment s text done mid replies rest → t ≡ mid → RunsPosts A moment s t
 answers_runs A moment s mid t text replies rest done a same =
-    subst (λ (x : State). RunsPosts A moment s x) (sym same) (posts_run A moment s mid (events moment done) (events_posts moment done) (answers_run A moment s mid text replies rest done a))
+    subst (λ (x : State). RunsPosts A moment s x) (sym same) (posts_run A moment s mid done (answers_run A moment s mid text replies rest done a))
 
 -- the request whose reply isn't written whole was taken, too
 one_runs : (A : AgreedValues) (moment : ℕ) (mid t : State) (r : Request) (x : Response) → Responds A moment mid r x Unsaid t → RunsPosts A moment mid t
-one_runs A moment mid t r x p =
-    posts_run A moment mid t (event_by r.method r.target moment (r, x) ++ []) (all_then moment (event_by r.method r.target moment (r, x)) [] (event_posts moment r x r.method r.target) tt)
-    (event_then A moment mid t t r x r.method r.target [] p refl)
+one_runs A moment mid t r x p = posts_run A moment mid t ((r, x) ∷ []) (event_then A moment mid t t r x r.method r.target [] p refl)
+
+-- .. and stands by history behind the others
+one_behind : (A : AgreedValues) (moment : ℕ) (s mid t : State) (done : List Exchange) → Run A s (events moment done) mid → (r : Request) (x : Response) → Responds A moment mid r x Unsaid t
+    → EndsByHistory A s (events moment (done ++ (r, x) ∷ [])) t
+one_behind A moment s mid t done run r x p =
+    let all = runs_join A moment s mid t (posts_run A moment s mid done run) (one_runs A moment mid t r x p) in all.by_history
 
 cut_runs : (A : AgreedValues) (moment : ℕ) (mid : State) (replies lines rest : List ℕ) (before after : Spoken) (t : State) → CutShort A moment mid replies lines rest before after t → RunsPosts A moment mid t
 cut_runs A moment mid replies lines rest before after t (in_reply r behind x text part missing b responds is cut written) = one_runs A moment mid t r x responds
@@ -281,6 +273,7 @@ serving_ends A moment s input p q c d unread after before now later i j k piece 
         all = all;
         run = answers_run A moment s a.mid input (w.replies ++ a.replies) a.rest (w.done ++ a.done) all;
         by_history = ends_by_history A s (events moment (w.done ++ a.done)) a.mid (answers_run A moment s a.mid input (w.replies ++ a.replies) a.rest (w.done ++ a.done) all);
+        cut_by_history = one_behind A moment s a.mid a.last (w.done ++ a.done) (answers_run A moment s a.mid input (w.replies ++ a.replies) a.rest (w.done ++ a.done) all);
         ends = ends_on A moment w.done a.done a.mid w.replies a.replies a.rest m.left q after before now later a.last end w.go_on w.said a.ends;
         reads = next_read A moment s input p c unread after before now i j k piece w m most is;
       },
@@ -313,6 +306,7 @@ serves_as A moment s input p c unread after before now i j k end w e reads =
         all = all;
         run = answers_run A moment s w.mid input w.replies (w.held ++ w.reads.left) w.done all;
         by_history = ends_by_history A s (events moment w.done) w.mid (answers_run A moment s w.mid input w.replies (w.held ++ w.reads.left) w.done all);
+        cut_by_history = one_behind A moment s w.mid w.mid w.done (answers_run A moment s w.mid input w.replies (w.held ++ w.reads.left) w.done all);
         ends = e;
         reads = reads;
       },
@@ -370,6 +364,7 @@ serves_nothing A moment s input c unread now calls rests known = (
     all = (refl, refl, refl);
     run = refl;
     by_history = ends_by_history A s [] s refl;
+    cut_by_history = one_behind A moment s s s [] refl;
     ends = (tt, for_request refl (says_nil now));
     reads = reads_none (NeedsMore A moment s) input unread calls known;
   },

@@ -1,18 +1,19 @@
 -- What is read of a stream, each read where it is needed, and what the stream comes to.
-use Rattle.std.specs.Prelude.{◌≡◌, ℕ, List, [], ◌∷◌, Option, Some, None, ⊤}
+use Rattle.std.specs.Prelude.{◌≡◌, ℕ, List, [], ◌∷◌, ◌++◌, Option, Some, None}
 use Rattle.as2_records.specs.Standing.{Medium, Standing}
 use Rattle.as2_agreement.specs.Agreements.{AgreedValues}
-use Rattle.as2_exchange.specs.Run.{AnEvent, AMigration, Trace, Run}
+use Rattle.as2_exchange.specs.Run.{Run}
 use Rattle.as2_exchange.specs.State.{State}
-use Rattle.as2_exchange.specs.declared.event.Event.{Event}
-use Rattle.as2_exchange.specs.declared.event.Event.TheVariants as event
 use Rattle.as2_station.specs.Theorem.{EndsByHistory}
 use Rattle.as2_http.specs.InputReads.{AllGave, ReadsNeeded}
 use Rattle.as2_http.specs.Notes.{Says, Spoken}
 use Rattle.as2_messages.specs.Parsing.{HasTaken}
 use Rattle.as2_messages.specs.Requests.{IsOpen}
+use Rattle.as2_http.specs.Responses.{Responds, Unsaid}
 use Rattle.as2_http.specs.Streams.{Exchange, AnswersAll, Ends, GoOn, events, notes}
 use Rattle.as2_messages.specs.declared.parser.RequestParser.{RequestParser}
+use Rattle.as2_messages.specs.declared.request.Request.{Request}
+use Rattle.as2_http.specs.declared.response.Response.{Response}
 use Rattle.as2_http.specs.declared.stream.Served.{Served}
 
 -- ---- what is read
@@ -53,6 +54,8 @@ pub record Serves (A : AgreedValues) (moment : ℕ) (s t : State) (input : List 
   pub all : AnswersAll A moment s input done mid replies rest
   pub run : Run A s (events moment done) mid
   pub by_history : EndsByHistory A s (events moment done) mid
+  -- and so where one request more was taken, whose reply isn't written whole
+  pub cut_by_history : (r : Request) (x : Response) → Responds A moment mid r x Unsaid t → EndsByHistory A s (events moment (done ++ (r, x) ∷ [])) t
   pub ends : Ends A moment done mid replies rest unread before after t served
   pub reads : ReadsNeeded (NeedsMore A moment s) input unread calls later
 
@@ -63,20 +66,9 @@ AnswersNext A moment s input p c unread before after calls later (Some end) = (t
 
 -- ---- whatever the reader tells
 
--- the event is a post at this moment
-abbrev pub IsPostAt : ℕ → Event → Type 0
-IsPostAt moment (event.Post fields body at) = at ≡ moment
-IsPostAt moment other = ⊥
-
--- .. and so is all of the trace
-abbrev pub ArePostsAt : ℕ → Trace → Type 0
-ArePostsAt moment [] = ⊤
-ArePostsAt moment (AnEvent e said ∷ more) = IsPostAt moment e × ArePostsAt moment more
-ArePostsAt moment (AMigration n ∷ more) = ⊥
-
--- posts at this moment, and nothing else, led the machine from s to t, and what stands of each document is its history
+-- requests got what they got at this moment, one after the other: their posts, and nothing else, led the machine from s to t, and what stands of each document is its
+-- history
 pub record RunsPosts (A : AgreedValues) (moment : ℕ) (s t : State) : Type 0 where
-  pub trace : Trace
-  pub posts : ArePostsAt moment trace
-  pub run : Run A s trace t
-  pub by_history : EndsByHistory A s trace t
+  pub done : List Exchange
+  pub run : Run A s (events moment done) t
+  pub by_history : EndsByHistory A s (events moment done) t

@@ -53,9 +53,9 @@ HasKeptBy head (Some a) text = IsMissingEnd a.missing × AwaitsAnswer a text []
 abbrev pub HasKept : AnswerParser → List ℕ → Type 0
 HasKept p text = HasKeptBy p.head p.awaited text
 
--- memory for an answer wasn't there
+-- memory for an answer wasn't there, and nothing is kept of a body
 abbrev pub IsSpent : AnswerParser → Type 0
-IsSpent p = IsTrue p.is_spent
+IsSpent p = IsTrue p.is_spent × (p.awaited ≡ None)
 
 -- what an awaited answer is with the rest of the text
 abbrev pub Takes : List ℕ → Taken → Type 0

@@ -186,15 +186,21 @@ impl AnswerParser {
         ensures over { IsSpent self.old → IsErr result }
     {
         if self.is_spent {
-            return Err(Memory);
+            return Err(self.spend());
         }
         match self.take_piece(bytes) {
             Ok(parsed) => Ok(parsed),
-            Err(Memory) => {
-                self.is_spent = true;
-                Err(Memory)
-            }
+            Err(Memory) => Err(self.spend()),
         }
+    }
+
+    /// Memory was wanting: nothing more is taken, and what was kept of a body is given up.
+    fn spend(&mut self) -> Memory
+        ensures { IsSpent self.new }
+    {
+        self.is_spent = true;
+        self.awaited = None;
+        Memory
     }
 
     /// Takes the next piece.
@@ -211,9 +217,10 @@ impl AnswerParser {
         }
     }
 
-    /// The input has ended: the answer whose body ends with it, if there is one.
+    /// The input has ended: the answer whose body ends with it, if there is one; none where memory was wanting.
     pub fn end(self) -> Option<ReceivedAnswer>
-        ensures { (text : List ℕ) → HasKept self text → EndsAnswer text result }
+        ensures ends { (text : List ℕ) → HasKept self text → EndsAnswer text result }
+        ensures over { IsSpent self → result ≡ None }
     {
         let AnswerParser { awaited, .. } = self;
         let Some(AwaitedAnswer { answer, missing }) = awaited else {

@@ -7,7 +7,8 @@ use Rattle.sqlite_wal.specs.Recovery.{Image}
 use Rattle.sqlite_store.specs.FileStore.{is_shielded, files as store_files}
 use Rattle.sqlite_store.specs.declared.store.FileStore.{FileStore}
 use Rattle.sqlite_trees.specs.Tree.{Trees}
-use Rattle.sqlite.specs.Files.{HoldsDatabase, image_of}
+use Rattle.sqlite.specs.Files.{HoldsDatabase, IsClosed, image_of}
+use Rattle.sqlite.specs.Held.{Held}
 use Rattle.as2_exchange.specs.State.{State}
 use Rattle.as2_store.specs.Files.{HoldsState}
 use Rattle.as2_store.specs.Stands.{Stands}
@@ -26,6 +27,10 @@ pub record AreClosed {D : Type 0} (g : Ghosts D) (files : Files D) (s : State) :
 -- they are those of a store under the kit's shield: they returned what was written, or a digest has collided
 abbrev pub AreShielded : {D : Type 0} → Ghosts D → Files D → Type 0
 AreShielded {D} g files = (last : FileStore D g) × (store_files last ≡ (files.log, files.db)) × is_shielded last
+
+-- the files are those of a store of which a crash leaves only what it could have left of the connection, a database each time
+abbrev pub AreLeftBy : {D : Type 0} → (g : Ghosts D) → Held (FileStore D g) → Files D → Type 0
+AreLeftBy {D} g c files = (last : FileStore D g) × (store_files last ≡ (files.log, files.db)) × IsClosed c last
 
 -- the log and the file hold a database whose tables are of this version and stand for this state
 pub record HoldsAs (layout : Layout) (image : Image) (s : State) : Type 0 where

@@ -10,7 +10,7 @@ ghost use Rattle.sqlite_wal.specs.Reads.{AreClean};
 ghost use Rattle.as2_exchange.specs.State.{State};
 ghost use Rattle.as2_store.specs.Files.{HoldsState};
 ghost use Rattle.as2_store.specs.Stands.{Rests};
-ghost use Rattle.as2_storage.specs.Files.{AreClosed, AreShielded};
+ghost use Rattle.as2_storage.specs.Files.{AreClosed, AreLeftBy, AreShielded};
 
 use sqlite::{Connection, Error, FileFrom, FileStore, Start};
 use sqlite_disk::{Disk, Files};
@@ -36,14 +36,15 @@ pub fn open_at<S: Start>(
     }
 }
 
-/// Closes a store into its two files, which hold then what its tables stood for. Where that fails the files come with the error, and
-/// what they hold then no clause says.
+/// Closes a store into its two files, which hold then what its tables stood for. Where that fails the files come with the error, and a
+/// crash leaves of them only what it could have left of the store.
 pub fn close<D: Disk + Drop>(conn: Connection<FileStore<D>>) -> Result<Files<D>, (Error, Files<D>)>
     ensures usable { IfOk result (λ files. IsTrue (D.Disk.is_usable files.log) × IsTrue (D.Disk.is_usable files.db)) }
     ensures copied { IfOk result (λ files. AreClean D.Disk files.log files.db → IsCopied conn files) }
     ensures closed { IfOk result (λ files. AreClean D.Disk files.log files.db → (s : State) → Rests (file_state conn) s → AreClosed D.Disk files s) }
     ensures shield { IfOk result (λ files. (file_state conn).IsShielded → AreShielded D.Disk files) }
     ensures clean { IfOk result (λ files. AreClean D.Disk files.log files.db → HasCleanDisk (file_state conn)) }
+    ensures left { IfErr result (λ e. AreLeftBy D.Disk conn e.1) }
     ensures unclosed { IfErr result (λ e. AreClean D.Disk e.1.log e.1.db → HasCleanDisk (file_state conn)) }
 {
     match conn.close_files() {

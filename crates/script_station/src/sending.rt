@@ -3,6 +3,7 @@ ghost use Rattle.as2_http.specs.Devices.{Opens};
 
 use crate::events::try_answer;
 use crate::stage::Stage;
+use crate::told::say_job;
 use as2_agreement::Agreements;
 use as2_exchange::{Job, TryAnswer};
 use as2_http::Counted;
@@ -20,7 +21,7 @@ use std::marker::Brand;
 use std::sync::ledger::{Blank, Ledger};
 
 /// Partners that answer by the text `partner-reply`, or don't listen where it is empty; and to which addresses requests were sent, with
-/// a comma before each.
+/// a comma before each. Where there is a text `asked`, the requests stand there whole.
 #[derive(Drop)]
 struct Partners<'a> {
     settings: &'a Settings,
@@ -34,7 +35,10 @@ impl Links for Partners<'_> {
 
     fn exchange(&mut self, _alloc: Global, job: &Job) -> TryAnswer {
         self.asked.say(", ");
-        self.asked.say_bytes(job.authority.as_slice());
+        match self.settings.text("asked") {
+            Some(_) => say_job(&mut self.asked, job),
+            None => self.asked.say_bytes(job.authority.as_slice()),
+        }
         let reply = self.settings.text("partner-reply").unwrap_or("");
         try_answer(self.settings, reply, &mut self.asked)
     }

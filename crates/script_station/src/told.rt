@@ -96,7 +96,7 @@ fn say_http(settings: &Settings, answer: &mut Answer, said: &HttpAnswer) {
 }
 
 /// A request that is to be sent: its address and its bytes.
-fn say_job(answer: &mut Answer, job: &Job) {
+pub(crate) fn say_job(answer: &mut Answer, job: &Job) {
     answer.say("job ");
     answer.say_bytes(job.authority.as_slice());
     answer.say("\r\n");

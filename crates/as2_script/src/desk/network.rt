@@ -1,6 +1,7 @@
-//! A network in memory, by the texts `connections`, `partner-reply` and `link-fault`. It notes what it is given.
+//! A network in memory, by the texts `connections`, `connection-posts`, `partner-reply` and `link-fault`. It notes what it is given.
 ghost use Rattle.std.specs.Prelude.{◌≡◌};
 
+use super::connections::serve_text;
 use as2_agreement::Agreements;
 use as2_commands::Waits;
 use as2_exchange::{Job, TryAnswer};
@@ -20,7 +21,8 @@ use std::str;
 #[derive(Clone, Copy)]
 pub struct Peers<'a> {
     settings: &'a Settings,
-    /// How the connections end that come, each without a request. Where there are none, no address can be listened on.
+    /// How the connections end that come, each without a request, or with those of the text `connection-posts`. Where there are none, no
+    /// address can be listened on.
     ends: &'a str,
     /// The wait of a listener or of links, in seconds.
     wait: u64,
@@ -101,16 +103,19 @@ impl Listens for Peers<'_> {
 
     fn serve<K: Records, J: Journal>(
         &mut self,
-        _alloc: Global,
-        _agreements: &Agreements,
+        alloc: Global,
+        agreements: &Agreements,
         moment: Option<Moment>,
-        _station: &mut Station<K>,
-        _journal: &mut J,
+        station: &mut Station<K>,
+        journal: &mut J,
     ) -> Served {
         self.note_moment(moment);
         let (word, rest) = self.ends.split_once(" ").unwrap_or((self.ends, ""));
         self.ends = rest;
-        end_named(word)
+        let (Some(text), Some(moment)) = (self.settings.text("connection-posts"), moment) else {
+            return end_named(word);
+        };
+        serve_text(alloc, agreements, moment, station, text, journal)
     }
 }
 
@@ -207,6 +212,10 @@ impl<'a> Network for Peers<'a> {
 
     ghost opens = { λ old waits l new. (l.wait ≡ waits.seconds) × (new ≡ old) };
 
+    ghost closes = { λ old _ new. new ≡ old };
+
+    ghost stops = { λ old _ new. new ≡ old };
+
     fn listen(
         &mut self,
         _alloc: Global,
@@ -224,4 +233,8 @@ impl<'a> Network for Peers<'a> {
     fn links(&mut self, waits: Waits) -> Peers<'a> {
         self.waiting(waits)
     }
+
+    fn close(&mut self, _links: Peers<'a>) {}
+
+    fn stop(&mut self, _listener: Peers<'a>) {}
 }

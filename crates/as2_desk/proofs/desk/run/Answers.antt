@@ -26,8 +26,8 @@ returns-in-Ok-clause-runs g c = λ path store task gives.
       input = input_of g.R.Source c.args.console.now c.carry_out-done.new.console;
       outcome = outcome_of g.W.Sink g.E.Sink c.args.console.now c.carry_out-done.new.console (Leaves b (g.O.OpenStores.keeps is b));
       Unasked = c.carry_out-done.new.host.network ≡ c.args.host.now.network;
-      Exchanged = ExchangedOver g.N.Network.opens g.N.Links.Links.answers c.args.host.now.network c.carry_out-done.new.host.network;
-      listening = listening_of g.N.Network.listens g.N.Network.refuses g.N.Listener.Listens.bound g.N.Listener.Listens.ended c.args.host.now.network c.carry_out-done.new.host.network;
+      Exchanged = ExchangedOver g.N.Network g.N.Links.Links c.args.host.now.network c.carry_out-done.new.host.network;
+      listening = listening_of g.N.Network g.N.Listener.Listens c.args.host.now.network c.carry_out-done.new.host.network;
     })
     (stored_of g.O.OpenStores was is b) c.carry_out-done.result)
     c.in-Ok.ensures.given gives (record { opened = c.agreements_in-agreed.result.0; opens = c.agreements_in-agreed.ensures; comes = c.carry_out-done.ensures.comes }))
@@ -61,3 +61,12 @@ returns-in-Ok-clause-none g c = λ none _.
 -- they don't ask for the help or the version, so neither was found
 pub returns-in-Err-clause-none : goal.returns-in-Err-clause-none
 returns-in-Err-clause-none g c = λ none other. c.tell.ensures.fault (λ is_help. other (c.in-Err.ensures.help is_help))
+
+-- here the words ask for something
+pub returns-in-Ok-clause-help : goal.returns-in-Ok-clause-help
+returns-in-Ok-clause-help g c = λ none _.
+    let read = c.in-Ok.options in
+    absurd (none read.agreements.now read.store.now read.task c.in-Ok.ensures.given)
+
+pub returns-in-Err-clause-help : goal.returns-in-Err-clause-help
+returns-in-Err-clause-help g c = λ none other. c.tell.ensures.helps other

@@ -22,32 +22,32 @@ pub returns-in_default-listening_line-clause-serves : goal.returns-in_default-li
 returns-in_default-listening_line-clause-serves g c = λ known stood. inl (record {
   left = each_known _ _ known stood (λ s it. it.1);
   unwritten = refl;
-  told = inr ((c.in-Ok.listener, subst (λ (v : Serving). g.N.Network.listens c.args.network.now v.address v.waits c.in-Ok.listener c.listen.new.self) c.serving.view_is c.in-Ok.ensures.listener), c.refuse-in_default-listening_line.ensures.told);
+  told = inr ((c.in-Ok.listener, c.listen.new.self, subst (λ (v : Serving). g.N.Network.listens c.args.network.now v.address v.waits c.in-Ok.listener c.listen.new.self) c.serving.view_is c.in-Ok.ensures.listener, c.stop.ensures), c.refuse-in_default-listening_line.ensures.told);
 })
 
-pub returns-in-Ok-serve_connections-clause-serves : goal.returns-in-Ok-serve_connections-clause-serves
-returns-in-Ok-serve_connections-clause-serves g c = λ known stood.
+pub returns-in-Ok-served-clause-serves : goal.returns-in-Ok-served-clause-serves
+returns-in-Ok-served-clause-serves g c = λ known stood.
     let agreements = c.args.terms.now.agreements.now in
     let moment = c.args.serving.moment in
-    let new = g.K.Records.shows c.serve_connections.new.station in
+    let new = g.K.Records.shows c.serve_connections-served.new.station in
     let first = c.in-Ok.listener in
-    let last = c.serve_connections.new.listener in
+    let last = c.serve_connections-served.new.listener in
     let was = c.args.network.now in
-    let is = c.listen.new.self in
+    let listening = c.listen.new.self in
     let address = g.N.Listener.Listens.bound first in
-    let streams = c.serve_connections.ensures.streams in
-    let listened = subst (λ (v : Serving). g.N.Network.listens was v.address v.waits first is) c.serving.view_is c.in-Ok.ensures.listener in
+    let streams = c.serve_connections-served.ensures.streams in
+    let listened = subst (λ (v : Serving). g.N.Network.listens was v.address v.waits first listening) c.serving.view_is c.in-Ok.ensures.listener in
     let said = subst (WritesIf c.is_said-told.result (written_of g.E.Sink c.args.console.now.errors c.is_said-told.new.errors)) (c.as_str.ensures.value ∙ c.in-Ok-listening_line.ensures) c.is_said-told.ensures.said in
     all_told c.args.serving.count known
-    (outcome_of g.W.Sink g.E.Sink c.args.console.now c.serve_connections.new.console (λ t. new.Rests t))
+    (outcome_of g.W.Sink g.E.Sink c.args.console.now c.serve_connections-served.new.console (λ t. new.Rests t))
     (g.K.Records.shows c.args.station.now) new
     (λ ends. EndsEach g.N.Listener.Listens.ended moment first ends last)
     (λ ends s t. ServesEach g.N.Listener.Listens.ended moment agreements ends first s last t)
-    (listening_of g.N.Network.listens g.N.Network.refuses g.N.Listener.Listens.bound g.N.Listener.Listens.ended was is agreements c.args.serving) _ address
+    (listening_of g.N.Network g.N.Listener.Listens was c.stop-2.new.self agreements c.args.serving) _ address
     stood (λ t rests. rests)
-    (λ ends all. (first, last, listened, refl, all))
-    (λ ends s t all. (first, last, listened, refl, all))
-    c.in-Ok-serve_connections.field-0 c.in-Ok-serve_connections.ensures.serves (record {
+    (λ ends all. (first, last, listening, listened, refl, all, c.stop-2.ensures))
+    (λ ends s t all. (first, last, listening, listened, refl, all, c.stop-2.ensures))
+    (rw c.in-Ok-served.is at c.serve_connections-served.ensures.serves) (record {
       ended = refl;
       said = subst (λ (e : g.row.E.Denot). WritesIf c.is_said-told.result (written_of g.E.Sink c.args.console.now.errors e) (listening_line address)) (sym streams.1) said;
     })
@@ -56,28 +56,28 @@ pub returns-clause-serves : goal.returns-clause-serves
 returns-clause-serves g c = λ known stood.
     let agreements = c.args.terms.now.agreements.now in
     let moment = c.args.serving.moment in
-    let new = g.K.Records.shows c.serve_connections.new.station in
+    let new = g.K.Records.shows c.serve_connections-served.new.station in
     let first = c.in-Ok.listener in
-    let last = c.serve_connections.new.listener in
+    let last = c.serve_connections-served.new.listener in
     let was = c.args.network.now in
-    let is = c.listen.new.self in
+    let listening = c.listen.new.self in
     let address = g.N.Listener.Listens.bound first in
-    let streams = c.serve_connections.ensures.streams in
-    let listened = subst (λ (v : Serving). g.N.Network.listens was v.address v.waits first is) c.serving.view_is c.in-Ok.ensures.listener in
+    let streams = c.serve_connections-served.ensures.streams in
+    let listened = subst (λ (v : Serving). g.N.Network.listens was v.address v.waits first listening) c.serving.view_is c.in-Ok.ensures.listener in
     let said = subst (WritesIf c.is_said-told.result (written_of g.E.Sink c.args.console.now.errors c.is_said-told.new.errors)) (c.as_str.ensures.value ∙ c.in-Ok-listening_line.ensures) c.is_said-told.ensures.said in
     let old = c.args.console.now.errors in
     let mid = c.is_said-told.new.errors in
     let end = c.refuse_behind.new.errors in
     cut_told c.args.serving.count known
-    (outcome_of g.W.Sink g.E.Sink c.args.console.now (record c.serve_connections.new.console { errors = end }) (λ t. new.Rests t))
+    (outcome_of g.W.Sink g.E.Sink c.args.console.now (record c.serve_connections-served.new.console { errors = end }) (λ t. new.Rests t))
     (g.K.Records.shows c.args.station.now) new
     (λ ends. EndsEach g.N.Listener.Listens.ended moment first ends last)
     (λ ends s t. ServesEach g.N.Listener.Listens.ended moment agreements ends first s last t)
-    (listening_of g.N.Network.listens g.N.Network.refuses g.N.Listener.Listens.bound g.N.Listener.Listens.ended was is agreements c.args.serving) _ address
+    (listening_of g.N.Network g.N.Listener.Listens was c.stop-2.new.self agreements c.args.serving) _ address
     stood (λ t rests. rests)
-    (λ ends all. (first, last, listened, refl, all))
-    (λ ends s t all. (first, last, listened, refl, all))
-    c.in-Err.field-0 c.in-Err.ensures.serves (record {
+    (λ ends all. (first, last, listening, listened, refl, all, c.stop-2.ensures))
+    (λ ends s t all. (first, last, listening, listened, refl, all, c.stop-2.ensures))
+    (rw c.in-Err.is at c.serve_connections-served.ensures.serves) (record {
       ended = c.refuse_behind.ensures.status;
       said = said_behind g.E.Sink old mid end (listening_line address) (error_line CannotWrite) c.is_said-told.result c.refuse_behind.result.told said c.is_said-told.ensures.counted
           (λ is. subst (λ (e : g.row.E.Denot). WritesIf c.refuse_behind.result.told (written_of g.E.Sink e end) (error_line CannotWrite)) streams.1 (c.refuse_behind.ensures.told is))

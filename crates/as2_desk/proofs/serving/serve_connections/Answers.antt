@@ -1,8 +1,10 @@
-use Rattle.std.proofs.Common.{◌≡◌, ◌<◌, ◌≤◌, ◌∙◌, ℕ, Option, Ok, Err, ap, arith, refl, subst}
+use Rattle.std.proofs.Common.{◌≡◌, ◌<◌, ◌≤◌, ◌∙◌, ℕ, Option, ap, arith, refl, subst}
 use Rattle.as2_commands.specs.Requests.{Serving}
 use Rattle.as2_desk.proofs.Connecting.{all_served, cut, none_served, one_more}
-use Rattle.as2_desk.specs.Connections.{ServesNext}
-use Rattle.as2_desk.specs.Written.{written_of}
+use Rattle.as2_exchange.specs.Run.{Trace}
+use Rattle.as2_host.specs.Serving.{ServesOne}
+use Rattle.as2_desk.specs.Connections.{ServesNext, connection_line}
+use Rattle.as2_desk.specs.Written.{Breaks, WritesWhole, written_of}
 use Rattle.as2_desk.proofs.serving.serve_connections.Goals as goal
 
 pub loop-served-init : goal.loop-served-init
@@ -21,9 +23,11 @@ loop-served-preserved g c =
       streams.1 ∙ before.1,
       one_more g.L.Listens.ended c.args.serving.now.moment c.args.terms.now.agreements.now g.W.Sink c.loop-served.served (g.K.Records.shows c.args.station.now) then now
           c.args.listener.now mid last c.args.console.now.output c.loop-served.console.output c.serve_next.new.console.output
-          before.2 c.serve_next.ensures.clean c.in_ok-serve_next.field-0
-          (subst (λ (m : Option ℕ). ServesNext c.args.terms.now.agreements.now m then now (λ end trace. g.L.Listens.ended mid m trace end last)
-          (written_of g.W.Sink c.loop-served.console.output c.serve_next.new.console.output) (Ok c.in_ok-serve_next.field-0)) given c.in_ok-serve_next.ensures.serves),
+          before.2 c.serve_next.ensures.clean
+          (subst (λ (m : Option ℕ). ServesNext then now (λ end. (trace : Trace) × g.L.Listens.ended mid m trace end last)
+          (λ end s t. ServesOne c.args.terms.now.agreements.now m (λ trace. g.L.Listens.ended mid m trace end last) s t)
+          (λ end. WritesWhole (written_of g.W.Sink c.loop-served.console.output c.serve_next.new.console.output) (connection_line end)))
+          given c.in_ok-serve_next.ensures.serves),
     )
 
 pub returns-in_err-serve_next-clause-serves : goal.returns-in_err-serve_next-clause-serves
@@ -37,10 +41,12 @@ returns-in_err-serve_next-clause-serves g c =
     cut g.L.Listens.ended c.args.serving.now.moment c.args.terms.now.agreements.now g.W.Sink c.loop-served.served (g.K.Records.shows c.args.station.now) then now
     c.args.listener.now mid last c.args.console.now.output c.loop-served.console.output c.serve_next.new.console.output
     c.loop-served.invariant.2 c.serve_next.ensures.clean
-    c.args.serving.now.count c.in_err-serve_next.field-0.0 c.from_residual.result c.from_residual.ensures.0
+    c.args.serving.now.count c.from_residual.result c.from_residual.ensures.0
     (subst (λ (n : ℕ). c.loop-served.served < n) count c.loop-served-test.true)
-    (subst (λ (m : Option ℕ). ServesNext c.args.terms.now.agreements.now m then now (λ end trace. g.L.Listens.ended mid m trace end last)
-    (written_of g.W.Sink c.loop-served.console.output c.serve_next.new.console.output) (Err c.in_err-serve_next.field-0.0)) given c.in_err-serve_next.ensures.serves)
+    (subst (λ (m : Option ℕ). ServesNext then now (λ end. (trace : Trace) × g.L.Listens.ended mid m trace end last)
+    (λ end s t. ServesOne c.args.terms.now.agreements.now m (λ trace. g.L.Listens.ended mid m trace end last) s t)
+    (λ end. Breaks (written_of g.W.Sink c.loop-served.console.output c.serve_next.new.console.output) (connection_line end)))
+    given c.in_err-serve_next.ensures.serves)
 
 pub returns-in_err-serve_next-clause-streams : goal.returns-in_err-serve_next-clause-streams
 returns-in_err-serve_next-clause-streams g c =
@@ -53,4 +59,4 @@ returns-clause-serves g c =
     let count : c.serving.inside.count ≡ c.args.serving.now.count = ap (λ (v : Serving). v.count) c.serving.view_is in
     let below : c.loop-served.served ≤ c.serving.inside.count = c.loop-served.auto.served-end in
     let above : c.serving.inside.count ≤ c.loop-served.served = c.loop-served-test.false in
-    all_served g.L.Listens.ended c.args.serving.now.moment c.args.terms.now.agreements.now g.W.Sink _ _ _ _ c.args.listener.now c.loop-served.listener _ _ _ (omega (arith, below, above, count)) c.loop-served.invariant.2
+    all_served g.L.Listens.ended c.args.serving.now.moment c.args.terms.now.agreements.now g.W.Sink _ _ _ _ c.args.listener.now c.loop-served.listener _ _ (omega (arith, below, above, count)) c.loop-served.invariant.2

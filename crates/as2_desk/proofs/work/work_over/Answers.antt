@@ -23,8 +23,8 @@ returns-then-eq-clause-goes g c =
       input = input_of g.R.Source c.args.console.now c.do_over.new.console;
       outcome = outcome_of g.W.Sink g.E.Sink c.args.console.now c.do_over.new.console (Leaves path (g.O.OpenStores.keeps stores path));
       Unasked = c.do_over.new.network ≡ c.args.host.now.network;
-      Exchanged = ExchangedOver g.N.Network.opens g.N.Links.Links.answers c.args.host.now.network c.do_over.new.network;
-      listening = listening_of g.N.Network.listens g.N.Network.refuses g.N.Listener.Listens.bound g.N.Listener.Listens.ended c.args.host.now.network c.do_over.new.network;
+      Exchanged = ExchangedOver g.N.Network g.N.Links.Links c.args.host.now.network c.do_over.new.network;
+      listening = listening_of g.N.Network g.N.Listener.Listens c.args.host.now.network c.do_over.new.network;
     })
     (stored_of g.O.OpenStores stores stores path)
     c.do_over.result.0 c.do_over.result.1 c.open_in_memory-records.result c.open_in_memory-records.ensures c.do_over.ensures.fails c.do_over.ensures.does
@@ -59,8 +59,8 @@ returns-clause-goes g c =
       input = input_of g.R.Source c.args.console.now c.do_over-left.new.console;
       outcome = outcome_of g.W.Sink g.E.Sink c.args.console.now c.do_over-left.new.console (Leaves path (g.O.OpenStores.keeps stores path));
       Unasked = c.do_over-left.new.network ≡ c.args.host.now.network;
-      Exchanged = ExchangedOver g.N.Network.opens g.N.Links.Links.answers c.args.host.now.network c.do_over-left.new.network;
-      listening = listening_of g.N.Network.listens g.N.Network.refuses g.N.Listener.Listens.bound g.N.Listener.Listens.ended c.args.host.now.network c.do_over-left.new.network;
+      Exchanged = ExchangedOver g.N.Network g.N.Links.Links c.args.host.now.network c.do_over-left.new.network;
+      listening = listening_of g.N.Network g.N.Listener.Listens c.args.host.now.network c.do_over-left.new.network;
     })
     (stored_of g.O.OpenStores was stores path)
     c.do_over-left.result.0 c.do_over-left.result.1 c.open-records.result Clean (g.O.OpenStores.keeps was path first) opened opens

@@ -1,4 +1,4 @@
-use Rattle.std.proofs.Common.{◌∙◌, subst, arith}
+use Rattle.std.proofs.Common.{◌∙◌, sym, subst, arith}
 use Rattle.sqlite_wal.specs.Reads.{AreClean}
 use Rattle.sqlite_trees.specs.View.{IsClean}
 use Rattle.sqlite_trees.proofs.Doubt.{no_doubt}
@@ -15,6 +15,9 @@ returns-in-Ok-clause-shield g c shielded = let it = c.in-Ok.ensures.ok in (it.0,
 
 pub returns-in-Ok-clause-clean : goal.returns-in-Ok-clause-clean
 returns-in-Ok-clause-clean g c honest = (c.in-Ok.ensures.copied honest).was_clean
+
+pub returns-in-Err-clause-left : goal.returns-in-Err-clause-left
+returns-in-Err-clause-left g c = (c.in-Err.store, sym c.close.ensures, c.in-Err.ensures.err.0)
 
 pub returns-in-Err-clause-unclosed : goal.returns-in-Err-clause-unclosed
 returns-in-Err-clause-unclosed g c honest =

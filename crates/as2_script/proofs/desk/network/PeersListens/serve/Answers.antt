@@ -1,7 +1,13 @@
-use Rattle.std.proofs.Common.{refl}
+use Rattle.std.proofs.Common.{refl, sym}
 use Rattle.as2_host.proofs.Untouched.{serves_none}
 use Rattle.as2_script.proofs.desk.network.PeersListens.serve.Goals as goal
 
 -- it brings nothing
+pub returns-in_default-clause-serves : goal.returns-in_default-clause-serves
+returns-in_default-clause-serves g c = λ clean s rests. (s, rests, serves_none c.args.agreements.now c.args.moment _ s refl)
+
+-- it brings the requests of a text
 pub returns-clause-serves : goal.returns-clause-serves
-returns-clause-serves g c = λ clean s rests. (s, rests, serves_none c.args._agreements.now c.args.moment _ s refl)
+returns-clause-serves g c = λ clean s rests.
+    let it = c.serve_text.ensures.posts clean s rests in
+    (it.0, it.1, record { moment = c.in-Some.moment; is_given = rw c.in-Some.is refl; posts = it.2; brought = refl })
