@@ -44,7 +44,7 @@ fn titled<'a>(alloc: Global) -> Command<'a>
     ensures { app_of result ≡ titled }
 {
     Command::new(alloc, "as2desk")
-        .version("0.8.1")
+        .version("0.8.2")
         .about("An AS2 station: takes documents from partners and answers with receipts")
         .after_help(help::PROGRAM)
 }
