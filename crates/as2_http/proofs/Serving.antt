@@ -77,6 +77,7 @@ one_runs A moment mid t r x p = posts_run A moment mid t ((r, x) ∷ []) (event_
 -- .. and stands by history behind the others
 one_behind : (A : AgreedValues) (moment : ℕ) (s mid t : State) (done : List Exchange) → Run A s (events moment done) mid → (r : Request) (x : Response) → Responds A moment mid r x Unsaid t
     → EndsByHistory A s (events moment (done ++ (r, x) ∷ [])) t
+unfolding runs_join posts_run one_runs
 one_behind A moment s mid t done run r x p =
     let all = runs_join A moment s mid t (posts_run A moment s mid done run) (one_runs A moment mid t r x p) in all.by_history
 
