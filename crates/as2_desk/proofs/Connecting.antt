@@ -103,18 +103,15 @@ module _ {L : Type 0} (ended : L → Option ℕ → Trace → Served → L → T
       };
     }
 
-    cut_at : {V F : Type 0} (count : ℕ) (f : F) → n < count → Next Breaks → All {V = V} {F = F} count (Err f)
-    cut_at count f below next = record {
+    pub cut : {V F : Type 0} (count : ℕ) (r : Result V F) → IsErr r → n < count → Next Breaks → All count r
+    cut count (Ok v) fails below next = absurd cc
+    cut count (Err f) fails below next = record {
       clean = λ h. so_far.clean (clean h);
       ends = so_far.ends ++ next.end ∷ [];
       ended = ends_more so_far.ends next.end l k m so_far.each next.ended;
       led = with_next Breaks next;
       lines = (let is = more next.end in omega (arith, is, below), stopped next);
     }
-
-    pub cut : {V F : Type 0} (count : ℕ) (r : Result V F) → IsErr r → n < count → Next Breaks → All count r
-    cut count (Ok v) fails below next = absurd cc
-    cut {V} {F} count (Err f) fails below next = cut_at {V = V} {F = F} count f below next
 
   pub all_served : {M : Medium} {W : Type 0} (sink : Ghosts W) (n count : ℕ) (old new : Standing M) (l m : L) (w x : W) → n ≡ count → HasServed sink n old new l m w x
       → ServesConnections old new (λ ends. EndsEach ended given l ends m) (λ ends s t. ServesEach ended given A ends l s m t)
