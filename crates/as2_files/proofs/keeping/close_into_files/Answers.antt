@@ -9,6 +9,9 @@ returns-in-Ok-clause-kept g c = λ honest s rests. c.in-Ok.ensures.closed honest
 pub returns-in-Err-clause-kept : goal.returns-in-Err-clause-kept
 returns-in-Err-clause-kept g c = λ honest s rests. (c.into_connection.result, rw c.into_connection.ensures rests, c.in-Err.ensures.left)
 
+pub returns-in-Err-clause-clean : goal.returns-in-Err-clause-clean
+returns-in-Err-clause-clean g c = λ honest. rw c.into_connection.ensures at (c.in-Err.ensures.unclosed honest)
+
 pub returns-in-Err-clause-left : goal.returns-in-Err-clause-left
 returns-in-Err-clause-left g c = rw c.into_connection.ensures at c.in-Err.ensures.left
 
