@@ -112,10 +112,13 @@ impl Listens for Peers<'_> {
         self.note_moment(moment);
         let (word, rest) = self.ends.split_once(" ").unwrap_or((self.ends, ""));
         self.ends = rest;
-        let (Some(text), Some(moment)) = (self.settings.text("connection-posts"), moment) else {
+        let Some(moment) = moment else {
             return end_named(word);
         };
-        serve_text(alloc, agreements, moment, station, text, journal)
+        match self.settings.text("connection-posts") {
+            Some(text) => serve_text(alloc, agreements, moment, station, text, journal),
+            None => end_named(word),
+        }
     }
 }
 
