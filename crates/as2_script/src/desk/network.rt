@@ -67,7 +67,7 @@ impl<'a> Peers<'a> {
     }
 
     /// Notes which moment a connection is asked for.
-    fn note_moment(&self, moment: Option<Moment>) {
+    fn note_moment(&self, moment: &Option<Moment>) {
         if let Ok(mut given) = self.given.try_borrow_mut() {
             match moment {
                 Some(moment) => {
@@ -109,14 +109,14 @@ impl Listens for Peers<'_> {
         station: &mut Station<K>,
         journal: &mut J,
     ) -> Served {
-        self.note_moment(moment);
+        self.note_moment(&moment);
         let (word, rest) = self.ends.split_once(" ").unwrap_or((self.ends, ""));
         self.ends = rest;
-        let Some(moment) = moment else {
+        let Some(text) = self.settings.text("connection-posts") else {
             return end_named(word);
         };
-        match self.settings.text("connection-posts") {
-            Some(text) => serve_text(alloc, agreements, moment, station, text, journal),
+        match moment {
+            Some(moment) => serve_text(alloc, agreements, moment, station, text, journal),
             None => end_named(word),
         }
     }
