@@ -120,21 +120,25 @@ fn opened<D: Disk + Drop>(alloc: Global, files: Files<D>) -> Option<Connection<F
     None
 }
 
-/// Files with tables of the first version.
-fn first_version(alloc: Global) -> Result<Files<Memory>, Fail> {
-    let files = Files {
-        log: Memory::new(alloc),
-        db: Memory::new(alloc),
-    };
+/// Makes the tables of the first version; whether that could be done.
+fn is_first_version<D: Disk + Drop>(conn: &mut Connection<FileStore<D>>) -> bool {
+    for statement in FIRST_VERSION.lines() {
+        if conn.execute_batch(statement).is_err() {
+            return false;
+        }
+    }
+    true
+}
+
+/// The files, with tables of the first version.
+fn first_version<D: Disk + Drop>(alloc: Global, files: Files<D>) -> Result<Files<D>, Fail> {
     let Some(mut conn) = opened(alloc, files) else {
         return Err(Fail::new("no files"));
     };
-    for statement in FIRST_VERSION.lines() {
-        if conn.execute_batch(statement).is_err() {
-            return Err(Fail::new("no statement"));
-        }
+    if is_first_version(&mut conn) {
+        return Ok(conn.into_store().close());
     }
-    Ok(conn.into_store().close())
+    Err(Fail::new("no statement"))
 }
 
 /// Copies of the files, of which one stops.
@@ -241,9 +245,10 @@ impl Play {
         Ok(())
     }
 
-    /// Migrates copies of the files with that stop, and checks what is found; whether the stop came before the end.
-    fn is_stopped(&self, files: &Files<Memory>, stop: Stop) -> Result<bool, Fail> {
-        let (files, is_done) = left(self.alloc, fused(self.alloc, files, stop)?);
+    /// Migrates the tables in files that stop, and checks what is found; whether the stop came before the end. The files are any
+    /// disk's, since at one kind of files the end of what is over them costs the prover much.
+    fn is_stopped<D: Crash + Drop>(&self, files: Files<D>) -> Result<bool, Fail> {
+        let (files, is_done) = left(self.alloc, files);
         let Some(conn) = opened(self.alloc, files) else {
             return Err(Fail::new("no files are found"));
         };
@@ -255,7 +260,7 @@ impl Play {
     /// Stops the migration after no call, one, two and so on of the log, or else of the database.
     fn check_stops(&self, files: &Files<Memory>, is_log: bool) -> Result<(), Fail> {
         for calls in 0..MOST_CALLS {
-            if !self.is_stopped(files, Stop { is_log, calls })? {
+            if !self.is_stopped(fused(self.alloc, files, Stop { is_log, calls })?)? {
                 return Ok(());
             }
         }
@@ -269,7 +274,11 @@ fn a_stopped_migration_leaves_the_entries(rt: HostRuntime) -> Result<(), Fail> {
         alloc: rt.alloc(),
         agreements: Agreements::read(rt.alloc(), AGREEMENTS)?,
     };
-    let files = first_version(rt.alloc())?;
+    let files = Files {
+        log: Memory::new(rt.alloc()),
+        db: Memory::new(rt.alloc()),
+    };
+    let files = first_version(rt.alloc(), files)?;
     play.check_stops(&files, true)?;
     play.check_stops(&files, false)
 }
