@@ -71,8 +71,8 @@ class Desk:
 class Server:
     """`serve` of two connections: a peer's, and the next one."""
 
-    def __init__(self, desk):
-        words = desk.words("serve", "--listen", "127.0.0.1:0", "--count", "2", "--timeout", str(WAIT))
+    def __init__(self, desk, waits):
+        words = desk.words("serve", "--listen", "127.0.0.1:0", "--count", "2", *waits)
         self.run = subprocess.Popen(words, cwd=desk.folder, stdin=subprocess.DEVNULL, stdout=subprocess.PIPE, stderr=subprocess.PIPE, text=True)
         line = self.run.stderr.readline()
         assert line.startswith("listening: "), line
@@ -113,6 +113,13 @@ def byte_by_byte(client):
             pass
 
 
+def kept_open(client):
+    """A post, and then nothing until the connection is ended."""
+    client.sendall(POST)
+    while client.recv(65536):
+        pass
+
+
 def deaf(client):
     """Requests without end, and no reply is read."""
     client.settimeout(WAIT / 2)
@@ -125,9 +132,9 @@ def deaf(client):
             pass
 
 
-def serving(desk, what, peer, least, most, end):
+def serving(desk, what, peer, least, most, end, waits=("--timeout", str(WAIT))):
     """How long the peer's connection lasts; then the next is served."""
-    server = Server(desk)
+    server = Server(desk, waits)
     client = socket.socket()
     # of the replies that nobody reads little fits
     client.setsockopt(socket.SOL_SOCKET, socket.SO_RCVBUF, 4096)
@@ -202,12 +209,15 @@ def main():
             lambda: serving(Desk(program, folder("a")), "a peer that is silent", silent, WAIT, WAIT, "ReadFault"),
             lambda: serving(Desk(program, folder("b")), "a peer that sends a byte every half second", byte_by_byte, WHOLE, WHOLE, "ReadFault"),
             lambda: serving(Desk(program, folder("c")), "a peer that reads no reply", deaf, WAIT, WHOLE, "WriteFault"),
+            lambda: serving(Desk(program, folder("g")), "a peer that keeps its connection open behind a post, with --idle 1", kept_open, 1, 1, "Closed",
+                            ("--idle", "1")),
+            lambda: serving(Desk(program, folder("h")), "a peer that keeps its connection open behind a post", kept_open, 2, 2, "Closed", ()),
             lambda: sending(program, folder("d"), "a partner that accepts and says nothing", mute, WAIT, WAIT),
             lambda: sending(program, folder("e"), "a partner that answers a byte every half second", slow, WHOLE, WHOLE),
             lambda: sending(program, folder("f"), "a partner that accepts nobody", full, WAIT, WAIT),
         ]
         if "--serve" in sys.argv:  # `serve` alone
-            cases = cases[:3]
+            cases = cases[:5]
         threads = [threading.Thread(target=case) for case in cases]
         for thread in threads:
             thread.start()

@@ -13,6 +13,7 @@ import expected
 from station import SLACK, Desk, post_of
 
 WAIT, TIMES = 1, 10  # a single wait, and how many of it a connection as a whole may last
+IDLE = 2  # the wait for what comes behind a reply, where no other is given
 MEMORY_LIMIT = 32 * 1024  # KiB
 CROWD = 1000
 HEAD = b"POST /as2 HTTP/1.1\r\nHost: x\r\nAS2-From: Buyer\r\nAS2-To: Supplier\r\nMessage-ID: <hostile@x>\r\n"
@@ -109,7 +110,7 @@ HOLDERS = [
     ("slow reads", slow_read, WAIT, ["WriteFault"], None),
     ("silence", silence, WAIT, ["ReadFault"], None),
     ("a byte a second", byte_a_second, 2, ["ReadFault"], None),
-    ("a connection that is kept open", kept_open, WAIT, ["ReadFault", "Closed"], 200),
+    ("a connection that is kept open", kept_open, 30, ["Closed"], 200),
     ("half-closed at once", half_closed(b""), WAIT, ["Closed"], None),
     ("half-closed in the head", half_closed(HEAD), WAIT, ["Truncated"], None),
     ("half-closed in the body", half_closed(HEAD + b"Content-Length: 9\r\n\r\nab"), WAIT, ["Truncated"], None),
@@ -164,15 +165,12 @@ def held(desk, differences, what, peer, wait, ends, status):
     code, found, _ = server.finish()
     reply = expected.reply_in(replies[0], 0) if replies and replies[0] else None
     differences.expect(f"{what}: the honest client is served", is_served, True)
-    differences.expect(f"{what}: within the bound", seconds <= TIMES * wait + SLACK, True)
+    differences.expect(f"{what}: within the bound", seconds <= (IDLE if peer is kept_open else TIMES * wait) + SLACK, True)
     differences.expect(f"{what}: the reply", (reply[0][0] if reply else None, bool(replies and replies[0])), (status, status is not None))
     differences.expect(f"{what}: the ends", (code, len(found), found[0] in ends if found else None, found[-1:]), (0, 3, True, ["Closed"]))
     differences.expect(f"{what}: memory", peak <= MEMORY_LIMIT, True)
     differences.count("hostile clients")
     print(f"ok    {what}: the next client was answered after {seconds:.1f} s, {found[:1]}", flush=True)
-    if peer is kept_open and found[:1] == ["ReadFault"]:
-        differences.tell_known(f"a partner that keeps its connection open behind a good exchange holds up the next for {seconds:.1f} s "
-                               f"with --timeout {wait}, and its end is told as ReadFault")
 
 
 def with_fields(fields, body=b"abc", line=b"POST /as2 HTTP/1.1", end=b"\r\n"):
@@ -392,9 +390,7 @@ def interrupted(desk, differences):
     served, _ = honest(server.address)
     status, ends, _ = server.finish()
     differences.count("stops and goes on", 2)
-    differences.expect("stopped and going on: an honest client is served", (served, status, len(ends)), (True, 0, 3))
-    if replies != [True, True]:
-        differences.tell_known(f"a serve that is stopped and goes on answers {replies.count(True)} of 2 clients, and ends as {ends}; that a wait goes on is wanted")
+    differences.expect("stopped and going on: each client is served", (replies, served, status, ends), ([True, True], True, 0, ["Closed"] * 3))
 
 
 def late_answer(listener):
@@ -421,8 +417,7 @@ def interrupted_send(desk, differences):
         output, said = run.communicate(timeout=60)
     differences.count("stops and goes on")
     differences.expect("send, stopped and going on", (run.returncode, output), (0, b"document 1: try failed\n"))
-    if b"no receipt" not in said:
-        differences.tell_known(f"a send that is stopped and goes on doesn't hear its partner's answer: {said.decode().strip()!r}")
+    differences.expect("send, stopped and going on: the partner is heard", b"no receipt" in said, True)
 
 
 FLOODS = [

@@ -19,6 +19,7 @@ use Rattle.as2_commands.specs.declared.tasks.Question.TheVariants as question
 use Rattle.as2_commands.specs.declared.tasks.RunOptions.{RunOptions}
 use Rattle.as2_commands.specs.declared.tasks.Task.{Task}
 use Rattle.as2_commands.specs.declared.tasks.Task.TheVariants.{Check, Migrate, Run}
+use Rattle.as2_commands.specs.declared.tasks.ServingWaits.{ServingWaits}
 use Rattle.as2_commands.specs.declared.tasks.Waits.{Waits}
 
 number_one : (o : Option Text) (a b : ℕ) → NumberIs o a → NumberIs o b → a ≡ b
@@ -58,11 +59,15 @@ submission_one own a b x y =
 waits_one : (a b : Waits) → a.seconds ≡ b.seconds → a ≡ b
 waits_one a b x = ap (λ (n : ℕ). record a { seconds = n }) x
 
+serving_waits_one : (a b : ServingWaits) → a.seconds ≡ b.seconds → a.idle ≡ b.idle → a ≡ b
+serving_waits_one a b x y = ap (λ (n : ℕ). record a { seconds = n }) x ∙ ap (λ (n : ℕ). record b { idle = n }) y
+
 serving_one : (values own : List Row) (a b : Serving) → AsksServe values own a → AsksServe values own b → a ≡ b
 serving_one values own a b x y =
     ap (λ (t : List ℕ). record a { address = t }) (path_one _ a.address b.address x.listens y.listens)
     ∙ ap (λ (n : ℕ). record a { address = b.address; count = n }) (number_one _ a.count b.count x.connections.number y.connections.number)
-    ∙ ap (λ (w : Waits). record b { waits = w; moment = a.moment }) (waits_one a.waits b.waits (number_one _ a.waits.seconds b.waits.seconds x.wait.number y.wait.number))
+    ∙ ap (λ (w : ServingWaits). record b { waits = w; moment = a.moment }) (serving_waits_one a.waits b.waits
+        (number_one _ a.waits.seconds b.waits.seconds x.wait.number y.wait.number) (number_one _ a.waits.idle b.waits.idle x.idle.number y.idle.number))
     ∙ ap (λ (m : Option ℕ). record b { moment = m }) (told_one _ a.moment b.moment x.seconds.0 y.seconds.0)
 
 -- the state of a letter

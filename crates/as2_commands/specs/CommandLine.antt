@@ -6,7 +6,7 @@ use Rattle.clap.specs.Words.{App, Row, Rule, Shape, Text, fault_of, matches_of, 
 use Rattle.clap.specs.Simple.{new_shape, on_top}
 use Rattle.clap.specs.Kinds.{IsAmong, Kinds}
 use Rattle.clap.specs.declared.builder.action.ArgAction.TheVariants.{SetTrue}
-use Rattle.clap.specs.declared.builder.value_parser.ValueParser.TheVariants.{Unsigned}
+use Rattle.clap.specs.declared.builder.value_parser.ValueParser.TheVariants.{NonEmptyString, Unsigned}
 use Rattle.clap.specs.declared.error.kind.ErrorKind.{ErrorKind}
 use Rattle.clap.specs.declared.error.kind.ErrorKind.TheVariants.{DisplayHelp, DisplayVersion}
 
@@ -25,6 +25,10 @@ value name = record (new_rule name) { value_names = 1; required = true }
 -- it must be there
 abbrev pub required : Rule → Rule
 required rule = record rule { required = true }
+
+-- it has a byte or more
+abbrev pub nonempty : Rule → Rule
+nonempty rule = record rule { parser = Some NonEmptyString }
 
 -- it is a number from `low` to `high`
 abbrev pub number : ℕ → ℕ → Rule → Rule
@@ -50,6 +54,14 @@ entry = number 1 (end_of_numbers - 1) (value (codes "number"))
 abbrev pub timeout : Rule
 timeout = number 1 3600 (default (codes "30") (option (codes "timeout")))
 
+-- the path of a store
+abbrev pub store : Rule
+store = nonempty (required (option (codes "store")))
+
+-- the longest wait for another request, in seconds
+abbrev pub idle : Rule
+idle = number 1 3600 (default (codes "2") (option (codes "idle")))
+
 -- how many connections are served
 abbrev pub count : Rule
 count = number 1 1000000 (required (option (codes "count")))
@@ -63,7 +75,7 @@ abbrev pub program : App
 program = on_top (λ s. record s { subcommand_required = true; disable_help_subcommand = true }) titled
 
 abbrev pub options : App
-options = with_rule (with_rule (with_rule (with_rule program (required (option (codes "agreements")))) (required (option (codes "store")))) first) moment
+options = with_rule (with_rule (with_rule (with_rule program (required (option (codes "agreements")))) store) first) moment
 
 -- a command and what stands behind it
 abbrev pub command : Text → List Rule → Shape
@@ -79,7 +91,7 @@ abbrev pub list : Shape
 list = command (codes "list") (value (codes "kind") ∷ option (codes "state") ∷ [])
 
 abbrev pub serve : Shape
-serve = command (codes "serve") (required (option (codes "listen")) ∷ count ∷ timeout ∷ [])
+serve = command (codes "serve") (required (option (codes "listen")) ∷ count ∷ timeout ∷ idle ∷ [])
 
 abbrev pub commands : List Shape
 commands =

@@ -97,6 +97,7 @@ pub record AsksServe (values own : List Row) (s : Serving) : Type 0 where
   pub listens : first_of (codes "listen") own ≡ Some s.address
   pub connections : NumberFrom 1 1000000 (one_of (codes "count") own) s.count
   pub wait : IsWait own s.waits.seconds
+  pub idle : NumberFrom 1 3600 (one_of (codes "idle") own) s.waits.idle
   pub seconds : TellsMoment (one_of (codes "moment") values) s.moment
 
 -- a flag is there

@@ -1,6 +1,6 @@
 -- What commands are given.
 use Rattle.std.specs.Prelude.{ℕ, List, Option}
-use Rattle.as2_commands.specs.declared.tasks.Waits.{Waits}
+use Rattle.as2_commands.specs.declared.tasks.ServingWaits.{ServingWaits}
 
 -- a document: from whom and to whom it goes, and the path of its file
 pub record Submission : Type 0 where
@@ -12,5 +12,5 @@ pub record Submission : Type 0 where
 pub record Serving : Type 0 where
   pub address : List ℕ
   pub count : ℕ
-  pub waits : Waits
+  pub waits : ServingWaits
   pub moment : Option ℕ

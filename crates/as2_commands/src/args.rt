@@ -1,10 +1,11 @@
 //! Options and values of commands.
 ghost use Rattle.std.specs.Prelude.{◌≡◌, ◌<◌, ◌≤◌, ◌^◌, codes, false};
 ghost use Rattle.clap.specs.Words.{rule_of};
-ghost use Rattle.as2_commands.specs.CommandLine.{count, default, entry, first, flag, moment, number, option, required, timeout, value};
+ghost use Rattle.as2_commands.specs.CommandLine.{count, default, entry, first, flag, idle, moment, nonempty, number, option, required, store, timeout, value};
 
 use as2_exchange::END_OF_NUMBERS;
 use as2_text::LAST_MOMENT;
+use clap::builder::ValueParser;
 use clap::{Arg, ArgAction, value_parser};
 use std::alloc::Global;
 
@@ -28,6 +29,9 @@ pub(crate) const LOG: &str = "log";
 
 /// The longest wait for a peer.
 pub(crate) const TIMEOUT: &str = "timeout";
+
+/// The longest wait for another request.
+pub(crate) const IDLE: &str = "idle";
 
 /// Which of the boxes is listed.
 pub(crate) const KIND: &str = "kind";
@@ -152,6 +156,31 @@ pub(crate) fn timeout<'a>(alloc: Global) -> Arg<'a>
     let help = "Longest wait for a peer: 1 to 3600 seconds";
     let timeout = default_option(alloc, TIMEOUT, "SECONDS", help, "30");
     numbered(timeout, LEAST_WAIT, MOST_WAIT)
+}
+
+pub(crate) fn idle<'a>(alloc: Global) -> Arg<'a>
+    ensures rule { rule_of result ≡ idle }
+    ensures local { result.global ≡ false }
+{
+    let help = "Longest wait for another request behind a reply: 1 to 3600 seconds";
+    let idle = default_option(alloc, IDLE, "SECONDS", help, "2");
+    numbered(idle, LEAST_WAIT, MOST_WAIT)
+}
+
+/// The option or value, which may not be empty.
+fn nonempty<'a>(arg: Arg<'a>) -> Arg<'a>
+    ensures rule { rule_of result ≡ nonempty (rule_of arg.entry) }
+    ensures local { result.global ≡ arg.entry.global }
+{
+    arg.value_parser(ValueParser::NonEmptyString)
+}
+
+pub(crate) fn store<'a>(alloc: Global) -> Arg<'a>
+    ensures rule { rule_of result ≡ store }
+    ensures local { result.global ≡ false }
+{
+    let help = "Records, an SQLite file, made where it is absent; ':memory:' keeps none";
+    nonempty(required_option(alloc, STORE, "FILE", help))
 }
 
 pub(crate) fn count<'a>(alloc: Global) -> Arg<'a>

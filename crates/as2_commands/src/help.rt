@@ -172,8 +172,9 @@ The next is taken then. The moment is that of '--moment', in seconds since 1970,
 each connection. The exit status is 0 once all were served, however they ended. For each reply a line is
 said on standard error, as 'post --log' says it: 'reply: MOMENT FROM TO IDENTIFIER STATUS'.
 
-SECONDS is the longest wait for a peer's next byte, and for a write. A connection as a whole ends after
-ten times that. A wait that is over is a ReadFault or a WriteFault.
+The SECONDS of '--timeout' are the longest wait for a peer's next byte, and for a write. A connection as a
+whole ends after ten times that. A wait that is over is a ReadFault or a WriteFault. Behind a reply another
+request is waited for as long as '--idle' says; where none comes the connection is Closed.
 
 An address that can't be listened on is 'refused: CannotListen' on standard error, exit status 1, and a
 line that can't be written 'refused: CannotWrite'. A store that can't be opened is 'store: NAME', exit

@@ -14,5 +14,7 @@ mod words;
 
 pub use as2_views::Filter;
 pub use first_number::FirstNumber;
-pub use tasks::{Command, Options, Question, RunOptions, Serving, Submission, Task, Waits};
+pub use tasks::{
+    Command, Options, Question, RunOptions, Serving, ServingWaits, Submission, Task, Waits,
+};
 pub use words::options_in;

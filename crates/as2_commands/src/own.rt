@@ -4,8 +4,8 @@ ghost use Rattle.as2_commands.specs.Building.{Looks};
 ghost use Rattle.as2_commands.specs.CommandLine.{command, entry, list, post, serve, submit, timeout};
 
 use crate::args::{
-    FILE, FROM, KIND, LISTEN, LOG, STATE, TO, count, entry, flag, option, required_option, timeout,
-    value,
+    FILE, FROM, KIND, LISTEN, LOG, STATE, TO, count, entry, flag, idle, option, required_option,
+    timeout, value,
 };
 use crate::building::{Made, and};
 use crate::help;
@@ -150,5 +150,6 @@ pub(crate) fn serve<'a>(alloc: Global) -> Made<'a>
     let help = "Where it listens, as 127.0.0.1:8080; with port 0 the system chooses one";
     let serve = named(alloc, SERVE, about, help::SERVE);
     let serve = and(serve, required_option(alloc, LISTEN, "ADDRESS", help));
-    and(and(serve, count(alloc)), timeout(alloc))
+    let serve = and(and(serve, count(alloc)), timeout(alloc));
+    and(serve, idle(alloc))
 }

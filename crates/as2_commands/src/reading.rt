@@ -13,13 +13,15 @@ ghost use Rattle.as2_commands.specs.declared.tasks.RunOptions.{RunOptions as The
 ghost use Rattle.as2_commands.specs.declared.tasks.Task.{Task as TheTask};
 
 use crate::args::{
-    AGREEMENTS, COUNT, FILE, FIRST, FROM, KIND, LEAST_WAIT, LISTEN, LOG, MOMENT, MOST_CONNECTIONS,
-    MOST_WAIT, NUMBER, STATE, STORE, TIMEOUT, TO,
+    AGREEMENTS, COUNT, FILE, FIRST, FROM, IDLE, KIND, LEAST_WAIT, LISTEN, LOG, MOMENT,
+    MOST_CONNECTIONS, MOST_WAIT, NUMBER, STATE, STORE, TIMEOUT, TO,
 };
 use crate::fault::OptionFault;
 use crate::first_number::FirstNumber;
 use crate::own::{CHECK, MIGRATE};
-use crate::tasks::{Command, Options, Question, RunOptions, Serving, Submission, Task, Waits};
+use crate::tasks::{
+    Command, Options, Question, RunOptions, Serving, ServingWaits, Submission, Task, Waits,
+};
 use as2_exchange::END_OF_NUMBERS;
 use as2_mdn::State;
 use as2_text::{AsName, Moment};
@@ -234,7 +236,10 @@ fn serving<'a>(found: &ArgMatches<'a>, own: &ArgMatches<'a>) -> Result<Serving<'
         return Err(OptionFault::NoValue(LISTEN));
     };
     let count = number_from(own, COUNT, 1, MOST_CONNECTIONS)?;
-    let waits = waits(own)?;
+    let waits = ServingWaits {
+        seconds: waits(own)?.seconds,
+        idle: number_from(own, IDLE, LEAST_WAIT, MOST_WAIT)?,
+    };
     let moment = given_moment(found)?;
     Ok(Serving {
         address,

@@ -39,6 +39,15 @@ pub struct Waits {
     pub seconds: u64,
 }
 
+/// How long the peer of a connection that is served is waited for.
+#[derive(Clone, Copy, Debug, PartialEq, Eq)]
+pub struct ServingWaits {
+    /// The longest wait for a peer's next byte, and for a write: 1 to 3600 seconds.
+    pub seconds: u64,
+    /// The longest wait for another request, behind a reply: 1 to 3600 seconds.
+    pub idle: u64,
+}
+
 /// What is to be served.
 #[derive(Drop)]
 pub struct Serving<'a> {
@@ -47,7 +56,7 @@ pub struct Serving<'a> {
     /// How many connections are served, one after the other: 1 to 1,000,000.
     pub count: u64,
     /// How long a peer is waited for.
-    pub waits: Waits,
+    pub waits: ServingWaits,
     /// The moment of each connection, where `--moment` gives it.
     pub moment: Option<Moment>,
 }

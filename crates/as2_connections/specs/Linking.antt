@@ -1,6 +1,7 @@
--- How long the peer of a link is waited for, what an exchange over one comes to, and why it brings no answer.
+-- How long the peer of a link, or of a connection, is waited for, what an exchange over one comes to, and why it brings no answer.
 use Rattle.std.specs.Prelude.{◌≡◌, ◌≤◌, ◌*◌, ◌^◌, ◌-◌, ℕ, List, min, Option, Some, None}
 use Rattle.std.specs.Duration.{as_nanos, max_nanos}
+use Rattle.std.specs.declared.time.Duration.{Duration}
 use Rattle.std.specs.declared.io.ErrorKind.{ErrorKind}
 use Rattle.std.specs.declared.io.ErrorKind.TheVariants.{WouldBlock, TimedOut}
 use Rattle.as2_exchange.specs.declared.event.TryAnswer.{TryAnswer}
@@ -11,9 +12,13 @@ use Rattle.as2_sending.specs.declared.links.LinkFault.TheVariants.{Silent, Slow,
 use Rattle.as2_sockets.specs.Waits.{nanoseconds}
 use Rattle.as2_sockets.specs.declared.limits.Limits.{Limits}
 
+-- a wait of so many seconds
+abbrev pub IsWait : ℕ → Duration → Type 0
+IsWait seconds wait = as_nanos wait ≡ nanoseconds seconds
+
 -- single waits of so many seconds, and ten times that for the whole
 pub record HasWaits (seconds : ℕ) (limits : Limits) : Type 0 where
-  pub wait : as_nanos limits.wait ≡ nanoseconds seconds
+  pub wait : IsWait seconds limits.wait
   pub whole : as_nanos limits.whole ≡ min (10 * nanoseconds seconds) max_nanos
 
 -- the answer is that of the whole input, and each read was needed, 100,000 at most

@@ -3,6 +3,7 @@
 
 mod links;
 mod network;
+mod served;
 mod wall_clock;
 
 pub use network::Sockets;

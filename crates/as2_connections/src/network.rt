@@ -7,9 +7,10 @@ ghost use Rattle.as2_exchange.specs.State.{State};
 ghost use Rattle.as2_connections.specs.Inputs.{ServesInput};
 
 use crate::links::Connections;
+use crate::served::{Replies, Requests};
 use crate::wall_clock::clock;
 use as2_agreement::Agreements;
-use as2_commands::Waits;
+use as2_commands::{ServingWaits, Waits};
 use as2_host::{CannotListen, Listens, Network};
 use as2_http::{Counted, Journal, Served, serve_stream};
 use as2_records::Records;
@@ -17,11 +18,13 @@ use as2_sockets::{Limits, TimedStream};
 use as2_station::Station;
 use as2_text::{Memory, Moment};
 use std::alloc::Global;
+use std::cell::Cell;
 use std::io;
 use std::io::{Read, Write};
 use std::marker::Brand;
 use std::net::{SocketAddr, TcpListener, TcpStream};
 use std::sync::ledger::{Blank, Ledger};
+use std::time::Duration;
 
 /// A connection with its limits.
 pub(crate) type Stream<'a> = TimedStream<'a, TcpStream, HostRuntime>;
@@ -39,6 +42,15 @@ pub struct ListeningSocket<'a> {
     socket: TcpListener,
     address: SocketAddr,
     limits: Limits,
+    idle: Duration,
+}
+
+/// A connection that was accepted: its two ends, and the longest wait for another request.
+#[derive(Drop)]
+struct Accepted<'a> {
+    reader: Stream<'a>,
+    writer: Stream<'a>,
+    idle: Duration,
 }
 
 /// Serves the requests of a reader, with counts of the calls that are made of it and of the writer: how they ended, and the writer.
@@ -95,15 +107,24 @@ fn serve_connection<K: Records, J: Journal>(
     agreements: &Agreements,
     moment: Moment,
     station: &mut Station<K>,
-    reader: Stream<'_>,
-    writer: Stream<'_>,
+    accepted: Accepted<'_>,
     journal: &mut J,
 ) -> Served
     ensures clean { (K.shows station.new).IsClean → (K.shows station.old).IsClean }
     ensures posts { (K.shows station.new).IsClean → (s : State) → (K.shows station.old).Rests s
         → (t : State) × (K.shows station.new).Rests t × RunsPosts agreements.now moment s t }
 {
-    let (end, writer) = serve_counted::<K, J, Stream, Stream, Brand, Brand, Brand, Brand>(
+    let has_replied = Cell::new(false);
+    let reader = Requests {
+        stream: accepted.reader,
+        idle: accepted.idle,
+        has_replied: &has_replied,
+    };
+    let writer = Replies {
+        stream: accepted.writer,
+        has_replied: &has_replied,
+    };
+    let (end, writer) = serve_counted::<K, J, Requests, Replies, Brand, Brand, Brand, Brand>(
         alloc,
         agreements,
         moment,
@@ -118,20 +139,25 @@ fn serve_connection<K: Records, J: Journal>(
     );
     if end == Served::BadFraming {
         // the peer may still be sending, and is to read why it was refused
-        writer.linger();
+        writer.stream.linger();
     }
     end
 }
 
 impl<'a> ListeningSocket<'a> {
-    /// Accepts one connection: its two ends, each with the limits of the socket.
-    fn accept(&self) -> io::Result<(Stream<'a>, Stream<'a>)>
-        ensures limits { IfOk result (λ ends. (ends.0.timer.limits ≡ self.now.limits) × (ends.1.timer.limits ≡ self.now.limits)) }
+    /// Accepts one connection: its two ends, each with the limits of the socket, and how long another request is waited for.
+    fn accept(&self) -> io::Result<Accepted<'a>>
+        ensures limits { IfOk result (λ it. (it.reader.timer.limits ≡ self.now.limits) × (it.writer.timer.limits ≡ self.now.limits)) }
+        ensures idle { IfOk result (λ it. it.idle ≡ self.now.idle) }
     {
         let (stream, _) = self.socket.accept()?;
         let reader = TimedStream::new(stream, self.rt, self.limits)?;
         let writer = reader.try_clone()?;
-        Ok((reader, writer))
+        Ok(Accepted {
+            reader,
+            writer,
+            idle: self.idle,
+        })
     }
 }
 
@@ -142,7 +168,7 @@ impl Listens for ListeningSocket<'_> {
     ghost bound = { λ l. socket_text l.address };
 
     // (what a peer sends no clause can say)
-    ghost ended = { λ old _ _ _ new. (new.limits ≡ old.limits) × (new.address ≡ old.address) };
+    ghost ended = { λ old _ _ _ new. (new.limits ≡ old.limits) × (new.idle ≡ old.idle) × (new.address ≡ old.address) };
 
     fn address(&self, alloc: Global) -> Result<String, Memory> {
         match self.address.to_string(alloc) {
@@ -159,7 +185,7 @@ impl Listens for ListeningSocket<'_> {
         station: &mut Station<K>,
         journal: &mut J,
     ) -> Served {
-        let Ok((reader, writer)) = self.accept() else {
+        let Ok(accepted) = self.accept() else {
             return Served::ReadFault;
         };
         let moment = match moment {
@@ -169,19 +195,19 @@ impl Listens for ListeningSocket<'_> {
                 None => return Served::ReadFault,
             },
         };
-        serve_connection(alloc, agreements, moment, station, reader, writer, journal)
+        serve_connection(alloc, agreements, moment, station, accepted, journal)
     }
 }
 
 impl<'a> Network for Sockets<'a> {
     ghost use Rattle.std.specs.Prelude.{◌≡◌};
-    ghost use Rattle.as2_connections.specs.Linking.{HasWaits};
+    ghost use Rattle.as2_connections.specs.Linking.{HasWaits, IsWait};
 
     type Listener = ListeningSocket<'a>;
 
     type Links = Connections<'a>;
 
-    ghost listens = { λ old _ waits l new. HasWaits waits.seconds l.limits × (new ≡ old) };
+    ghost listens = { λ old _ waits l new. HasWaits waits.seconds l.limits × IsWait waits.idle l.idle × (new ≡ old) };
 
     ghost refuses = { λ old _ _ new. new ≡ old };
 
@@ -195,7 +221,7 @@ impl<'a> Network for Sockets<'a> {
         &mut self,
         _alloc: Global,
         address: &str,
-        waits: Waits,
+        waits: ServingWaits,
     ) -> Result<ListeningSocket<'a>, CannotListen> {
         let Ok(socket) = TcpListener::bind(self.rt, address) else {
             return Err(CannotListen);
@@ -208,6 +234,7 @@ impl<'a> Network for Sockets<'a> {
             socket,
             address,
             limits: Limits::of_seconds(waits.seconds),
+            idle: Duration::from_secs(waits.idle),
         })
     }
 

@@ -1,5 +1,5 @@
 -- Connections that are served one after the other.
-use Rattle.std.proofs.Common.{◌≡◌, ◌<◌, ◌≤◌, ◌+◌, ◌∙◌, ℕ, List, [], ◌∷◌, ◌++◌, length, Option, Some, None, Result, Ok, Err, IsErr, IfSome, inl, inr, refl, sym, ap, subst, arith, append-nil, length-append}
+use Rattle.std.proofs.Common.{◌≡◌, ◌<◌, ◌≤◌, ◌+◌, ◌∙◌, ℕ, List, [], ◌∷◌, ◌++◌, length, Option, Some, None, IfSome, inl, inr, refl, sym, ap, subst, arith, append-nil, length-append}
 use Rattle.std.proofs.lemmas.Grind.{flat_map-append}
 use Rattle.std.proofs.KnownBytes.{Appends-nil, Appends-trans}
 use Rattle.std.specs.Io.KnownBytes.{Appends}
@@ -11,13 +11,16 @@ use Rattle.as2_http.specs.declared.device.Sink.{Ghosts}
 use Rattle.as2_http.specs.declared.stream.Served.{Served}
 use Rattle.as2_host.specs.Networks.{EndsEach, Listening, ServesEach}
 use Rattle.as2_host.specs.Serving.{ServesOne}
-use Rattle.as2_desk.specs.Connections.{AwaitsFrom, ServesConnections, ServesCount, ServesNext, StopsIn, WritesLines, connection_line, connection_lines, listening_line}
+use Rattle.as2_desk.specs.Connections.{AwaitsFrom, ServesConnections, ServesCount, ServesNext, StopsAt, StopsBy, StopsIn, connection_line, connection_lines, listening_line, stop_fault}
 use Rattle.as2_desk.specs.Endings.{Ends}
 use Rattle.as2_desk.specs.Observed.{Outcome}
-use Rattle.as2_desk.specs.Refusals.{error_line}
-use Rattle.as2_desk.specs.Statuses.{done, refused}
+use Rattle.as2_desk.specs.Refusals.{error_line, refusal_status}
+use Rattle.as2_desk.specs.Statuses.{done, failed, refused}
+use Rattle.as2_desk.specs.Stops.{FailsBehind}
+use Rattle.as2_host.specs.declared.stores.OpenFault.TheVariants as open_fault
 use Rattle.as2_desk.specs.Written.{Breaks, WritesWhole, Written, written_of}
-use Rattle.as2_desk.specs.declared.refusal.CommandFault.TheVariants.{CannotWrite}
+use Rattle.as2_desk.specs.declared.serving.Stop.{Stop}
+use Rattle.as2_desk.specs.declared.serving.Stop.TheVariants.{Unwritten, Unreadable}
 use Rattle.as2_desk.specs.declared.status.Ran.{Ran}
 
 lines_more : (ends : List Served) (end : Served) → connection_lines (ends ++ end ∷ []) ≡ connection_lines ends ++ connection_line end
@@ -59,10 +62,10 @@ module _ {L : Type 0} (ended : L → Option ℕ → Trace → Served → L → T
     Next Line = ServesNext mid new (λ end. (trace : Trace) × ended k given trace end m) (λ end s t. ServesOne A given (λ trace. ended k given trace end m) s t)
         (λ end. Line (written_of sink x y) (connection_line end))
 
-    -- .. and so all are
-    abbrev pub All : {V F : Type 0} → ℕ → Result V F → Type 0
-    All count r = ServesConnections old new (λ ends. EndsEach ended given l ends m) (λ ends s t. ServesEach ended given A ends l s m t)
-        (λ ends. WritesLines count ends (written_of sink w y) r)
+    -- .. and so no more are
+    abbrev pub NoMore : ℕ → Stop → Type 0
+    NoMore count stop = ServesConnections old new (λ ends. EndsEach ended given l ends m) (λ ends s t. ServesEach ended given A ends l s m t)
+        (λ ends. (length ends ≤ count) × StopsBy stop ends (written_of sink w y))
 
     with_next : (Line : Written → List ℕ → Type 0) (next : Next Line) → new.IsClean → (s : State) → old.Rests s
         → (t : State) × new.Rests t × ServesEach ended given A (so_far.ends ++ next.end ∷ []) l s m t
@@ -74,6 +77,13 @@ module _ {L : Type 0} (ended : L → Option ℕ → Trace → Served → L → T
     more : (end : Served) → length (so_far.ends ++ end ∷ []) ≡ n + 1
     more end = length-append so_far.ends (end ∷ []) ∙ ap (λ j. j + 1) so_far.all
 
+    whole : (end : Served) → WritesWhole (written_of sink x y) (connection_line end) → WritesWhole (written_of sink w y) (connection_lines (so_far.ends ++ end ∷ []))
+    whole end line = (
+      subst (Appends (sink.written w) (sink.written y)) (sym (lines_more so_far.ends end))
+          (Appends-trans (sink.written w) (sink.written x) (sink.written y) (connection_lines so_far.ends) (connection_line end) so_far.lines.0 line.0),
+      line.1 ∙ so_far.lines.1,
+    )
+
     pub one_more : Next WritesWhole → HasServed sink (n + 1) old new l m w y
     one_more next = record {
       clean = λ h. so_far.clean (clean h);
@@ -81,11 +91,7 @@ module _ {L : Type 0} (ended : L → Option ℕ → Trace → Served → L → T
       each = ends_more so_far.ends next.end l k m so_far.each next.ended;
       all = more next.end;
       led = with_next WritesWhole next;
-      lines = (
-        subst (Appends (sink.written w) (sink.written y)) (sym (lines_more so_far.ends next.end))
-            (Appends-trans (sink.written w) (sink.written x) (sink.written y) (connection_lines so_far.ends) (connection_line next.end) so_far.lines.0 next.line.0),
-        next.line.1 ∙ so_far.lines.1,
-      );
+      lines = whole next.end next.line;
     }
 
     -- a write failed in the line of one more
@@ -103,14 +109,17 @@ module _ {L : Type 0} (ended : L → Option ℕ → Trace → Served → L → T
       };
     }
 
-    pub cut : {V F : Type 0} (count : ℕ) (r : Result V F) → IsErr r → n < count → Next Breaks → All count r
-    cut count (Ok v) fails below next = absurd cc
-    cut count (Err f) fails below next = record {
+    stops : (stop : Stop) (next : Next (StopsAt stop)) → StopsBy stop (so_far.ends ++ next.end ∷ []) (written_of sink w y)
+    stops Unwritten next = stopped next
+    stops (Unreadable fault) next = (whole next.end next.line.0, next.line.1)
+
+    pub cut : (count : ℕ) (stop : Stop) → n < count → Next (StopsAt stop) → NoMore count stop
+    cut count stop below next = record {
       clean = λ h. so_far.clean (clean h);
       ends = so_far.ends ++ next.end ∷ [];
       ended = ends_more so_far.ends next.end l k m so_far.each next.ended;
-      led = with_next Breaks next;
-      lines = (let is = more next.end in omega (arith, is, below), stopped next);
+      led = with_next (StopsAt stop) next;
+      lines = (let is = more next.end in omega (arith, is, below), stops stop next);
     }
 
   pub all_served : {M : Medium} {W : Type 0} (sink : Ghosts W) (n count : ℕ) (old new : Standing M) (l m : L) (w x : W) → n ≡ count → HasServed sink n old new l m w x
@@ -119,6 +128,12 @@ module _ {L : Type 0} (ended : L → Option ℕ → Trace → Served → L → T
   all_served sink n count old new l m w x is so_far = record { clean = so_far.clean; ends = so_far.ends; ended = so_far.each; led = so_far.led; lines = (so_far.all ∙ is, so_far.lines) }
 
 -- ---- what is said of them
+
+-- a fault of the store that ends the serving is told behind where it listens
+pub fails_behind : (stop : Stop) (address : List ℕ) (errors : Written) (ran : Ran) → Ends (refusal_status (stop_fault stop)) (listening_line address ++ error_line (stop_fault stop)) errors ran
+    → ran.status ≡ failed → FailsBehind errors ran
+fails_behind Unwritten address errors ran told is = absurd (let bad : refused ≡ failed = sym told.ended ∙ is in omega (arith, bad))
+fails_behind (Unreadable fault) address errors ran told is = (open_fault.Store fault, address, told)
 
 module _ {M : Medium} (count : ℕ) (known : Option State) (o : Outcome) (old new : Standing M) (Ended : List Served → Type 0) (Led : List Served → State → State → Type 0)
     (l : Listening) (ran : Ran) (address : List ℕ) (stood : IfSome known (λ s. new.IsClean × old.Rests s)) (left : (t : State) → new.Rests t → o.Left t)
@@ -134,9 +149,18 @@ module _ {M : Medium} (count : ℕ) (known : Option State) (o : Outcome) (old ne
   pub all_told : ServesConnections old new Ended Led AllLines → Ends done (listening_line address) o.errors ran → ServesCount count known o l ran
   all_told all told = inr (inl (record { address = address; ends = all.ends; awaits = awaits AllLines known stood all; all = all.lines.0; lines = all.lines.1; told = told }))
 
-  -- .. or not all
-  abbrev pub SomeLines : List Served → Type 0
-  SomeLines ends = (length ends ≤ count) × StopsIn ends o.output
+  -- .. or no more were served
+  abbrev pub SomeLines : Stop → List Served → Type 0
+  SomeLines stop ends = (length ends ≤ count) × StopsBy stop ends o.output
 
-  pub cut_told : ServesConnections old new Ended Led SomeLines → Ends refused (listening_line address ++ error_line CannotWrite) o.errors ran → ServesCount count known o l ran
-  cut_told all told = inr (inr (record { address = address; ends = all.ends; awaits = awaits SomeLines known stood all; within = all.lines.0; lines = all.lines.1; told = told }))
+  pub cut_told : (stop : Stop) → ServesConnections old new Ended Led (SomeLines stop) → Ends (refusal_status (stop_fault stop)) (listening_line address ++ error_line (stop_fault stop)) o.errors ran
+      → ServesCount count known o l ran
+  cut_told stop all told = inr (inr (record {
+    address = address;
+    ends = all.ends;
+    awaits = awaits (SomeLines stop) known stood all;
+    within = all.lines.0;
+    stop = stop;
+    lines = all.lines.1;
+    told = told;
+  }))

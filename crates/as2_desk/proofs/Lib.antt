@@ -7,3 +7,4 @@ mod Connecting
 mod Working
 mod Unhinted
 mod Saying
+pub mod Stopping

@@ -1,5 +1,5 @@
 -- What the opening of a store comes to, and what is done behind it.
-use Rattle.std.proofs.Common.{◌≡◌, ◌+◌, ℕ, true, Option, Some, None, IfSome, IsSomeAnd, Result, Ok, Err, IfOk, IfErr, inl, inr, sym, subst, arith}
+use Rattle.std.proofs.Common.{◌≡◌, ◌+◌, ℕ, Option, Some, None, IfSome, IsSomeAnd, Result, Ok, Err, IfOk, IfErr, inl, inr, sym, subst, arith}
 use Rattle.as2_agreement.specs.Agreements.{AgreedValues}
 use Rattle.as2_exchange.specs.State.{LaterVersion, State, empty}
 use Rattle.as2_records.specs.Standing.{Medium, Standing}

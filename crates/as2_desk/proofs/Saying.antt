@@ -9,7 +9,11 @@ use Rattle.as2_agreement.specs.declared.fault.AgreementFault.{AgreementFault}
 use Rattle.as2_agreement.specs.declared.fault.AgreementFault.TheVariants as fault
 use Rattle.as2_http.specs.Sending.{AppendsPart}
 use Rattle.as2_http.specs.declared.device.Sink.{Ghosts}
+use Rattle.as2_desk.specs.Endings.{Ends}
+use Rattle.as2_desk.specs.Refusals.{error_line, refusal_status}
 use Rattle.as2_desk.specs.Written.{WritesBy, WritesIf, written_of}
+use Rattle.as2_desk.specs.declared.refusal.CommandFault.{CommandFault}
+use Rattle.as2_desk.specs.declared.status.Ran.{Ran}
 use Rattle.std.specs.Prelude.{length}
 
 -- a part of a text is one of a longer one, and so is the whole of a text with a part of the next
@@ -34,6 +38,17 @@ said_behind g a b d xs ys false false said counted more none =
       said.0,
       record { part = said.1.part; missing = said.1.missing ++ ys; cut = ap (λ (l : List ℕ). l ++ ys) said.1.cut ∙ append_assoc said.1.part said.1.missing ys; appended = said.1.appended },
     )
+
+-- a refusal behind what was said before
+pub ends_behind : {E : Type 0} (g : Ghosts E) (old first mid end : E) (xs : List ℕ) (refusal : CommandFault) (told : Bool) (ran : Ran) → WritesIf told (written_of g old first) xs → g.failed old ≤ g.failed first → mid ≡ first
+    → ran.status ≡ refusal_status refusal → (told ≡ true → WritesIf ran.told (written_of g mid end) (error_line refusal)) → (told ≡ false → (ran.told ≡ false) × (end ≡ mid))
+    → Ends (refusal_status refusal) (xs ++ error_line refusal) (written_of g old end) ran
+ends_behind g old first mid end xs refusal told ran said counted same status more none = record {
+  ended = status;
+  said = said_behind g old first end xs (error_line refusal) told ran.told said counted
+      (λ is. subst (λ (e : _). WritesIf ran.told (written_of g e end) (error_line refusal)) same (more is))
+      (λ is. let it = none is in (it.0, it.1 ∙ same));
+}
 
 -- what a writer was given is written, or broken off where a write failed
 pub pushed : {W V F : Type 0} (g : Ghosts W) (a b : W) (xs ys : List ℕ) (r : Result V F) → xs ≡ ys → OnOk r (Appends (g.written a) (g.written b) xs) → OnOk r (g.failed b ≡ g.failed a) → OnErr r (AppendsPart (g.written a) (g.written b) xs)

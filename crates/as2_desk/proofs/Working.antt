@@ -20,7 +20,7 @@ module _ (count : ℕ) (known : Option State) (o : Outcome) (Left : State → Ty
   serves_left (inl never) = inl (record { left = both_known _ _ _ known again never.left (λ s later left. later s left); unwritten = never.unwritten; told = never.told })
   serves_left (inr (inl all)) = inr (inl (record { address = all.address; ends = all.ends; awaits = awaits_left all.address all.ends known again all.awaits; all = all.all; lines = all.lines; told = all.told }))
   serves_left (inr (inr some)) =
-      inr (inr (record { address = some.address; ends = some.ends; awaits = awaits_left some.address some.ends known again some.awaits; within = some.within; lines = some.lines; told = some.told }))
+      inr (inr (record { address = some.address; ends = some.ends; awaits = awaits_left some.address some.ends known again some.awaits; within = some.within; stop = some.stop; lines = some.lines; told = some.told }))
 
 -- what is observed, with another state that is left
 abbrev pub observing : Observed → (State → Type 0) → Observed

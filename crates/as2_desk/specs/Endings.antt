@@ -1,6 +1,5 @@
 -- How a command ends: the exit status, and what is said on standard error.
-use Rattle.std.specs.Prelude.{◌≡◌, ◌⊎◌, ℕ, List}
-use Rattle.as2_desk.specs.Observed.{Input}
+use Rattle.std.specs.Prelude.{◌≡◌, ℕ, List}
 use Rattle.as2_desk.specs.Refusals.{error_line, refusal_status}
 use Rattle.as2_desk.specs.Written.{WritesIf, Written}
 use Rattle.as2_desk.specs.declared.refusal.CommandFault.{CommandFault}
@@ -22,7 +21,3 @@ pub record Fails (Has : OpenFault → Type 0) (errors : Written) (ran : Ran) : T
   pub fault : OpenFault
   pub cause : Has fault
   pub told : EndsRefused (Store fault) errors ran
-
--- a store has a fault: that is told, nothing is read, and nothing is written but the lines of what was sent before
-abbrev pub Stopped : Type 0 → Input → Written → Written → Ran → Type 0
-Stopped Sending input output errors ran = input.Untouched × (output.Untouched ⊎ Sending) × ((fault : OpenFault) × EndsRefused (Store fault) errors ran)

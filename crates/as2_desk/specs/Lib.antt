@@ -1,4 +1,5 @@
 pub mod Statuses
+pub mod Stops
 pub mod Escapes
 pub mod Hints
 pub mod Places

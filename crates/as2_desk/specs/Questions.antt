@@ -128,6 +128,7 @@ is_event other = false
 -- a fault of the store that is told is one that may come of any call, or Full, which comes of events alone
 abbrev pub FaultMayCome : Asked → Told → Type 0
 FaultMayCome q (Err (Store open_fault.Held)) = ⊥
+FaultMayCome q (Err (Store open_fault.LogAlone)) = ⊥
 FaultMayCome q (Err (Store (open_fault.Store fault))) = ((fault ≡ store_fault.Full) × (is_event q ≡ true)) ⊎ (may_come fault ≡ true)
 FaultMayCome q told = ⊤
 

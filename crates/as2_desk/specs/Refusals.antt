@@ -12,7 +12,7 @@ use Rattle.as2_http.specs.declared.stream.Served.{Served}
 use Rattle.as2_http.specs.declared.stream.Served.TheVariants as end
 use Rattle.as2_desk.specs.declared.refusal.CommandFault.{CommandFault}
 use Rattle.as2_host.specs.declared.stores.OpenFault.{OpenFault}
-use Rattle.as2_host.specs.declared.stores.OpenFault.TheVariants.{Held, Store}
+use Rattle.as2_host.specs.declared.stores.OpenFault.TheVariants.{Held, LogAlone, Store}
 use Rattle.as2_desk.specs.declared.refusal.CommandFault.TheVariants as refusal
 
 -- `refused: NAME`
@@ -38,6 +38,7 @@ store_fault_name store_fault.OtherVersion = codes "OtherVersion"
 -- `store: NAME`, and behind it what may help
 abbrev pub store_lines : OpenFault → List ℕ
 store_lines Held = codes "store: Refused\nhint: another process has the file open\n"
+store_lines LogAlone = codes "store: Refused\nhint: the file isn't there, but a log of it is; nothing was made\n"
 store_lines (Store store_fault.OtherVersion) = codes "store: OtherVersion\nhint: stores of version 3 are read; 'migrate' makes one of a store of version 1 or 2\n"
 store_lines (Store fault) = codes "store: " ++ (store_fault_name fault ++ codes "\n")
 

@@ -16,7 +16,7 @@ use Rattle.as2_desk.specs.declared.status.Ran.{Ran}
 use Rattle.as2_commands.specs.declared.tasks.RunOptions.{RunOptions}
 use Rattle.as2_commands.specs.declared.tasks.Task.{Task}
 use Rattle.as2_commands.specs.declared.tasks.Task.TheVariants.{Check, Migrate, Run}
-use Rattle.as2_commands.specs.declared.tasks.Command.TheVariants.{Send}
+use Rattle.as2_commands.specs.declared.tasks.Command.TheVariants.{Send, Serve}
 
 -- the members were counted on standard output, and what to be warned of is said; or a write failed behind a part of that line; or
 -- memory for it was wanting, and nothing is written
@@ -54,3 +54,8 @@ pub record Runs (contents : List ℕ → Content) (path : List ℕ) (task : Task
 abbrev pub IsSending : Task → Type 0
 IsSending (Run options (Send waits)) = ⊤
 IsSending other = ⊥
+
+-- .. or to serve
+abbrev pub IsServing : Task → Type 0
+IsServing (Run options (Serve serving)) = ⊤
+IsServing other = ⊥

@@ -68,3 +68,8 @@ Does agreements moment (Serve serving) known o ran = o.input.Untouched × Serves
 abbrev pub SendsWork : Work → Type 0
 SendsWork (Send waits) = ⊤
 SendsWork other = ⊥
+
+-- it serves
+abbrev pub ServesWork : Work → Type 0
+ServesWork (Serve serving) = ⊤
+ServesWork other = ⊥

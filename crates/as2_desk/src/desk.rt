@@ -6,10 +6,11 @@ ghost use Rattle.clap.specs.declared.error.kind.ErrorKind.TheVariants.{OutOfMemo
 ghost use Rattle.as2_commands.specs.CommandLine.{AsksForHelp, IsHelp};
 ghost use Rattle.as2_commands.specs.Options.{Gives, GivesNone};
 ghost use Rattle.as2_host.specs.Networks.{ExchangedOver, listening_of};
-ghost use Rattle.as2_desk.specs.Endings.{EndsRefused, Stopped};
+ghost use Rattle.as2_desk.specs.Endings.{EndsRefused};
 ghost use Rattle.as2_desk.specs.Helping.{Helps, SaysFaulty};
 ghost use Rattle.as2_desk.specs.Observed.{errors_of, input_of, outcome_of, output_of, stored_of};
-ghost use Rattle.as2_desk.specs.Runs.{Comes, IsSending, Runs};
+ghost use Rattle.as2_desk.specs.Runs.{Comes, IsSending, IsServing, Runs};
+ghost use Rattle.as2_desk.specs.Stops.{Stopped};
 ghost use Rattle.as2_desk.specs.Statuses.{done, failed, faulty, refused};
 ghost use Rattle.as2_desk.specs.Stores.{Leaves};
 ghost use Rattle.as2_desk.specs.Written.{written_of};
@@ -89,9 +90,10 @@ pub fn run<
     // A faulty command line reads and prints nothing, opens nothing, and asks nothing of the network.
     ensures untouched { result.status ≡ faulty → (console.new.input ≡ console.old.input) × (console.new.output ≡ console.old.output)
         × (host.new.stores ≡ host.old.stores) × (host.new.network ≡ host.old.network) }
-    // A store with a fault is told, and nothing is read or written then; what was sent before stands, with its lines.
+    // A store with a fault is told, and nothing is read or written then; what was sent or served before stands, with its lines.
     ensures store { result.status ≡ failed → Stopped
-        ((path store : List ℕ) × (task : TheTask) × Gives (texts words.entry.now) clock path store task × IsSending task) (input_of R.Source console.old console.new)
+        ((path store : List ℕ) × (task : TheTask) × Gives (texts words.entry.now) clock path store task × IsSending task)
+        ((path store : List ℕ) × (task : TheTask) × Gives (texts words.entry.now) clock path store task × IsServing task) (input_of R.Source console.old console.new)
         (output_of W.Sink console.old console.new) (errors_of E.Sink console.old console.new) result }
 {
     match options_in(alloc, words, clock) {
@@ -136,7 +138,7 @@ fn carry_out<
         })
         (stored_of O.OpenStores host.old.stores host.new.stores options.entry.store.now) result }
     ensures memory { options.entry.store.now ≡ codes ":memory:" → host.new.stores ≡ host.old.stores }
-    ensures store { result.status ≡ failed → Stopped (IsSending options.entry.task) (input_of R.Source console.old console.new)
+    ensures store { result.status ≡ failed → Stopped (IsSending options.entry.task) (IsServing options.entry.task) (input_of R.Source console.old console.new)
         (output_of W.Sink console.old console.new) (errors_of E.Sink console.old console.new) result }
 {
     let Options { store, task, .. } = options;

@@ -108,6 +108,11 @@ fn store_lines(fault: OpenFault) -> Line
             "Refused",
             "\nhint: another process has the file open\n",
         ),
+        OpenFault::LogAlone => joined(
+            "store: ",
+            "Refused",
+            "\nhint: the file isn't there, but a log of it is; nothing was made\n",
+        ),
         OpenFault::Store(StoreFault::OtherVersion) => joined(
             "store: ",
             "OtherVersion",

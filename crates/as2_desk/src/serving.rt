@@ -4,10 +4,11 @@ ghost use Rattle.as2_exchange.specs.Run.{Trace};
 ghost use Rattle.as2_exchange.specs.State.{State};
 ghost use Rattle.as2_host.specs.Networks.{EndsEach, ServesEach, listening_of};
 ghost use Rattle.as2_host.specs.Serving.{ServesOne};
-ghost use Rattle.as2_desk.specs.Observed.{outcome_of, output_of};
-ghost use Rattle.as2_desk.specs.Connections.{ServesConnections, ServesCount, ServesNext, WritesLines, connection_line, listening_line};
+ghost use Rattle.as2_desk.specs.Observed.{errors_of, outcome_of, output_of};
+ghost use Rattle.as2_desk.specs.Connections.{ServesConnections, ServesCount, ServesNext, TellsNext, WritesLines, connection_line, listening_line, stop_fault};
+ghost use Rattle.as2_desk.specs.Stops.{FailsBehind};
 ghost use Rattle.as2_desk.specs.Written.{WritesBy};
-ghost use Rattle.as2_desk.specs.Statuses.{done, refused};
+ghost use Rattle.as2_desk.specs.Statuses.{done, failed, refused};
 
 use crate::console::Console;
 use crate::lines::{Line, joined};
@@ -15,12 +16,22 @@ use crate::refusal::{CommandFault, is_said, refuse, refuse_behind};
 use crate::status::{DONE, Ran, end_name};
 use crate::terms::Terms;
 use as2_commands::Serving;
-use as2_host::{Listens, Network};
+use as2_exchange::StoreFault;
+use as2_host::{Listens, Network, OpenFault};
 use as2_http::{DeviceFault, Journal, Served, Sink, push_all};
 use as2_records::Records;
 use as2_station::Station;
 use as2_text::{Memory, Moment};
 use std::alloc::Global;
+
+/// Why no more connections are served.
+#[derive(Clone, Copy, Debug, PartialEq, Eq)]
+enum Stop {
+    /// A line couldn't be written.
+    Unwritten,
+    /// The records couldn't be read: behind such a fault each post would be answered by 503.
+    Unreadable(StoreFault),
+}
 
 /// `connection: END`.
 fn connection_line(end: Served) -> Line
@@ -38,7 +49,7 @@ fn listening_line<L: Listens>(alloc: Global, listener: &L) -> Result<String, Mem
 }
 
 /// Serves the next connection, notes its replies, and writes its line once it has ended.
-fn serve_next<K: Records, L: Listens, R, W: Sink, H: Journal, E>(
+fn serve_one<K: Records, L: Listens, R, W: Sink, H: Journal, E>(
     terms: &Terms<'_>,
     moment: &Option<Moment>,
     station: &mut Station<K>,
@@ -65,6 +76,30 @@ fn serve_next<K: Records, L: Listens, R, W: Sink, H: Journal, E>(
     )
 }
 
+/// Serves the next connection, and looks then whether the records can still be read.
+fn serve_next<K: Records, L: Listens, R, W: Sink, H: Journal, E>(
+    terms: &Terms<'_>,
+    moment: &Option<Moment>,
+    station: &mut Station<K>,
+    listener: &mut L,
+    console: &mut Console<R, W, H, E>,
+) -> Result<(), Stop>
+    ensures streams { (console.new.input ≡ console.old.input) × (console.new.errors ≡ console.old.errors) }
+    ensures clean { (K.shows station.new).IsClean → (K.shows station.old).IsClean }
+    ensures serves { ServesNext (K.shows station.old) (K.shows station.new)
+        (λ end. (trace : Trace) × L.ended listener.old moment.now trace end listener.new)
+        (λ end s t. ServesOne terms.now.agreements.now moment.now (λ trace. L.ended listener.old moment.now trace end listener.new) s t)
+        (λ end. TellsNext result (output_of W.Sink console.old console.new) (connection_line end)) }
+{
+    if serve_one(terms, moment, station, listener, console).is_err() {
+        return Err(Stop::Unwritten);
+    }
+    match station.next(terms.moment) {
+        Ok(_) => Ok(()),
+        Err(fault) => Err(Stop::Unreadable(fault)),
+    }
+}
+
 /// Serves so many connections, one after the other, and writes a line for each as soon as it has ended.
 fn serve_connections<K: Records, L: Listens, R, W: Sink, H: Journal, E>(
     terms: &Terms<'_>,
@@ -72,7 +107,7 @@ fn serve_connections<K: Records, L: Listens, R, W: Sink, H: Journal, E>(
     station: &mut Station<K>,
     listener: &mut L,
     console: &mut Console<R, W, H, E>,
-) -> Result<(), DeviceFault>
+) -> Result<(), Stop>
     ensures streams { (console.new.input ≡ console.old.input) × (console.new.errors ≡ console.old.errors) }
     ensures serves { ServesConnections (K.shows station.old) (K.shows station.new)
         (λ ends. EndsEach L.ended serving.now.moment listener.old ends listener.new)
@@ -81,9 +116,21 @@ fn serve_connections<K: Records, L: Listens, R, W: Sink, H: Journal, E>(
 {
     for served in 0..serving.count {
         let _ = served;
-        serve_next(terms, &serving.moment, station, listener, console)?;
+        if let Err(stop) = serve_next(terms, &serving.moment, station, listener, console) {
+            return Err(stop);
+        }
     }
     Ok(())
+}
+
+/// How it is told that no more are served.
+fn stop_fault(stop: Stop) -> CommandFault
+    ensures { result ≡ stop_fault stop }
+{
+    match stop {
+        Stop::Unreadable(fault) => CommandFault::Store(OpenFault::Store(fault)),
+        Stop::Unwritten => CommandFault::CannotWrite,
+    }
 }
 
 /// Serves connections at an address.
@@ -94,8 +141,9 @@ pub(crate) fn serve<K: Records, N: Network, R, W: Sink, H: Journal, E: Sink>(
     network: &mut N,
     console: &mut Console<R, W, H, E>,
 ) -> Ran
-    ensures status { (result.status ≡ done) ⊎ (result.status ≡ refused) }
+    ensures status { (result.status ≡ done) ⊎ ((result.status ≡ refused) ⊎ (result.status ≡ failed)) }
     ensures unread { console.new.input ≡ console.old.input }
+    ensures store { result.status ≡ failed → FailsBehind (errors_of E.Sink console.old console.new) result }
     ensures clean { (K.shows station.new).IsClean → (K.shows station.old).IsClean }
     ensures serves { (known : Option State) → IfSome known (λ s. (K.shows station.new).IsClean × (K.shows station.old).Rests s)
         → ServesCount serving.entry.count known
@@ -114,6 +162,6 @@ pub(crate) fn serve<K: Records, N: Network, R, W: Sink, H: Journal, E: Sink>(
     network.stop(listener);
     match served {
         Ok(()) => Ran { status: DONE, told },
-        Err(DeviceFault) => refuse_behind(told, CommandFault::CannotWrite, &mut console.errors),
+        Err(stop) => refuse_behind(told, stop_fault(stop), &mut console.errors),
     }
 }

@@ -2,14 +2,15 @@
 ghost use Rattle.std.specs.Prelude.{◌≡◌, ◌⊎◌, ◌+◌, ℕ, Option, Ok, None, codes, IfErr, IfOk, IfSome, IsSomeAnd};
 ghost use Rattle.as2_exchange.specs.State.{State, content_limit};
 ghost use Rattle.as2_host.specs.Networks.{ExchangedOver, listening_of};
-ghost use Rattle.as2_desk.specs.Endings.{EndsRefused, Stopped};
+ghost use Rattle.as2_desk.specs.Endings.{EndsRefused};
 ghost use Rattle.as2_desk.specs.Observed.{errors_of, input_of, outcome_of, output_of, stored_of};
 ghost use Rattle.as2_desk.specs.Runs.{Goes};
 ghost use Rattle.as2_desk.specs.Statuses.{done, failed, refused};
+ghost use Rattle.as2_desk.specs.Stops.{Stopped};
 ghost use Rattle.as2_desk.specs.Stores.{Leaves};
 ghost use Rattle.as2_host.specs.FileContents.{front};
 ghost use Rattle.as2_desk.specs.FileDocuments.{Document, HasDocument};
-ghost use Rattle.as2_desk.specs.Works.{Does, IsAsked, IsWork, SendsWork, asked_of, handing};
+ghost use Rattle.as2_desk.specs.Works.{Does, IsAsked, IsWork, SendsWork, ServesWork, asked_of, handing};
 ghost use Rattle.as2_desk.specs.declared.refusal.CommandFault.TheVariants.{Store as Failing};
 
 use crate::asking::ask;
@@ -102,7 +103,7 @@ fn do_at<K: Records, N: Network, R: Source, W: Sink, H: Write + Journal, E: Sink
           Exchanged = ExchangedOver N.Network N.Links.Links network.old network.new;
           listening = listening_of N.Network N.Listener.Listens network.old network.new;
         }) result }
-    ensures store { result.status ≡ failed → Stopped (SendsWork work.entry) (input_of R.Source console.old console.new)
+    ensures store { result.status ≡ failed → Stopped (SendsWork work.entry) (ServesWork work.entry) (input_of R.Source console.old console.new)
         (output_of W.Sink console.old console.new) (errors_of E.Sink console.old console.new) result }
 {
     match work {
@@ -138,7 +139,7 @@ fn do_over<K: Records + Drop, N: Network, R: Source, W: Sink, H: Write + Journal
           Exchanged = ExchangedOver N.Network N.Links.Links network.old network.new;
           listening = listening_of N.Network N.Listener.Listens network.old network.new;
         }) result.0))) }
-    ensures store { result.0.status ≡ failed → Stopped (SendsWork work.entry) (input_of R.Source console.old console.new)
+    ensures store { result.0.status ≡ failed → Stopped (SendsWork work.entry) (ServesWork work.entry) (input_of R.Source console.old console.new)
         (output_of W.Sink console.old console.new) (errors_of E.Sink console.old console.new) result.0 }
 {
     let records = match records {
@@ -192,7 +193,7 @@ pub(crate) fn work_over<
       listening = listening_of N.Network N.Listener.Listens host.old.network host.new.network;
     }) (stored_of O.OpenStores host.old.stores host.new.stores store.entry.path.now) result }
     ensures memory { store.entry.path.now ≡ codes ":memory:" → host.new.stores ≡ host.old.stores }
-    ensures store { result.status ≡ failed → Stopped (SendsWork work.entry) (input_of R.Source console.old console.new)
+    ensures store { result.status ≡ failed → Stopped (SendsWork work.entry) (ServesWork work.entry) (input_of R.Source console.old console.new)
         (output_of W.Sink console.old console.new) (errors_of E.Sink console.old console.new) result }
 {
     let NamedStore { path, first } = store;

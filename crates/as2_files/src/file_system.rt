@@ -42,7 +42,8 @@ fn unlocked(error: OpenError) -> OpenFault {
     match error {
         OpenError::Busy => OpenFault::Held,
         OpenError::OutOfMemory => MEMORY,
-        _ => REFUSED,
+        OpenError::Io(error) => fault_of(error),
+        OpenError::HotJournal => REFUSED,
     }
 }
 
@@ -66,10 +67,21 @@ impl FileSystem<'_> {
         Ok(RandomState::new(self.rt).map_err(fault_of)?.hash_one(&0u8))
     }
 
+    /// The file of that name, for reading. None where a pipe, a device or a socket stands there, since opening or reading it might
+    /// wait for ever.
+    pub(crate) fn unwaited(&self, name: &str) -> io::Result<Option<fs::File>> {
+        let found = fs::metadata(self.rt, name)?;
+        if found.is_file() || found.is_dir() {
+            return Ok(Some(fs::File::open(self.rt, name)?));
+        }
+        Ok(None)
+    }
+
     /// What stands under that path: a database where the file begins with SQLite's mark, and may be a store.
     fn look(&self, path: &str) -> Result<Seen, OpenFault> {
-        let file = match fs::File::open(self.rt, &self.name(path)?) {
-            Ok(file) => file,
+        let file = match self.unwaited(self.name(path)?.as_str()) {
+            Ok(Some(file)) => file,
+            Ok(None) => return Ok(Seen::Other),
             Err(error) if error.kind() == ErrorKind::NotFound => return Ok(Seen::Nothing),
             Err(error) => return Err(fault_of(error)),
         };
@@ -123,6 +135,14 @@ impl FileSystem<'_> {
         Ok(true)
     }
 
+    /// Refuses a log that lies where no store stands: one that was made there would take it for its own.
+    fn refuse_lone_log(&self, path: &str) -> Result<(), OpenFault> {
+        if self.is_there(&self.beside(path, "-wal")?)? && !self.is_store(path)? {
+            return Err(OpenFault::LogAlone);
+        }
+        Ok(())
+    }
+
     /// Sees that a store stands under that path: where nothing does, one is made that begins with `first`. Gives its place.
     pub(crate) fn make_sure(
         &self,
@@ -132,7 +152,11 @@ impl FileSystem<'_> {
     ) -> Result<Place, OpenFault>
         ensures { IfOk result (λ place. string_bytes place.name ≡ file_name path.now) }
     {
-        if self.is_store(path)? || self.make_closed(alloc, path, first)? || self.is_store(path)? {
+        if self.is_store(path)? {
+            return self.place_of(path);
+        }
+        self.refuse_lone_log(path)?;
+        if self.make_closed(alloc, path, first)? || self.is_store(path)? {
             return self.place_of(path);
         }
         Err(REFUSED)

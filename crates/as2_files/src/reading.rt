@@ -4,11 +4,10 @@ ghost use Rattle.as2_host.specs.FileContents.{untold};
 use crate::file_system::FileSystem;
 use as2_host::{FileFault, ReadFiles};
 use std::alloc::Global;
-use std::fs;
 use std::io::{ErrorKind, Read};
 
 /// The most bytes that a file of agreements may have.
-const AGREEMENTS_LIMIT: usize = 16_777_216;
+const AGREEMENTS_LIMIT: usize = 2_097_152;
 
 impl ReadFiles for FileSystem<'_> {
     ghost content = { λ _ _. untold };
@@ -22,7 +21,7 @@ impl ReadFiles for FileSystem<'_> {
     }
 
     fn read_front(&self, alloc: Global, path: &str, most: usize) -> Result<Vec<u8>, FileFault> {
-        let Ok(file) = fs::File::open(self.rt, path) else {
+        let Ok(Some(file)) = self.unwaited(path) else {
             return Err(FileFault::CannotRead);
         };
         let mut bytes = Vec::new(alloc);

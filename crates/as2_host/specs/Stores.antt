@@ -5,9 +5,10 @@ use Rattle.as2_records.specs.Standing.{Medium, Standing, may_come}
 use Rattle.as2_host.specs.declared.stores.OpenFault.{OpenFault}
 use Rattle.as2_host.specs.declared.stores.OpenFault.TheVariants as open_fault
 
--- a store has a fault that may come of any call, and nobody else has it open
+-- a store has a fault that may come of any call; it is no file of somebody else, and no log
 abbrev pub MayCome : OpenFault → Type 0
 MayCome open_fault.Held = ⊥
+MayCome open_fault.LogAlone = ⊥
 MayCome (open_fault.Store fault) = may_come fault ≡ true
 
 -- how many stores were opened by that

@@ -2,12 +2,13 @@
 ghost use Rattle.std.specs.Prelude.{◌≡◌, ℕ, List, Option, IfErr, IfOk, string_bytes};
 ghost use Rattle.as2_exchange.specs.Run.{Trace};
 ghost use Rattle.as2_exchange.specs.State.{State};
+ghost use Rattle.as2_commands.specs.declared.tasks.ServingWaits.{ServingWaits as TheServingWaits};
 ghost use Rattle.as2_commands.specs.declared.tasks.Waits.{Waits as TheWaits};
 ghost use Rattle.as2_host.specs.Serving.{ServesOne};
 ghost use Rattle.as2_http.specs.declared.stream.Served.{Served as TheEnd};
 
 use as2_agreement::Agreements;
-use as2_commands::Waits;
+use as2_commands::{ServingWaits, Waits};
 use as2_http::{Journal, Served};
 use as2_records::Records;
 use as2_sending::Links;
@@ -57,10 +58,10 @@ pub trait Network {
     type Links: Links + Drop;
 
     // asked to listen at that address, with these waits, it gave that listener; it is as that then
-    ghost listens: { Self → List ℕ → TheWaits → Self.Listener → Self → Type 0 };
+    ghost listens: { Self → List ℕ → TheServingWaits → Self.Listener → Self → Type 0 };
 
     // nothing can listen at that address, with these waits; it is as that then
-    ghost refuses: { Self → List ℕ → TheWaits → Self → Type 0 };
+    ghost refuses: { Self → List ℕ → TheServingWaits → Self → Type 0 };
 
     // asked for links that are opened with these waits, it gave those; it is as that then
     ghost opens: { Self → TheWaits → Self.Links → Self → Type 0 };
@@ -76,7 +77,7 @@ pub trait Network {
         &mut self,
         alloc: Global,
         address: &str,
-        waits: Waits,
+        waits: ServingWaits,
     ) -> Result<Self::Listener, CannotListen>
         ensures listener { IfOk result (λ listener. listens self.old address.now waits listener self.new) }
         ensures none { IfErr result (λ _. refuses self.old address.now waits self.new) };

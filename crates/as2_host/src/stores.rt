@@ -15,6 +15,8 @@ use std::alloc::Global;
 pub enum OpenFault {
     /// Another process has the file open.
     Held,
+    /// The file isn't there, and a log of it is, which a new store would take for its own.
+    LogAlone,
     /// The store has this fault.
     Store(StoreFault),
 }

@@ -1,5 +1,7 @@
 //! Streams over connections, whose waits are bounded.
 ghost use Rattle.std.specs.Prelude.{◌≡◌, IfOk};
+ghost use Rattle.std.specs.Io.{ReadsAtMost};
+ghost use Rattle.std.specs.Io.KnownBytes.{ReadConsumes};
 
 use crate::authority::host_and_port;
 use crate::limits::Limits;
@@ -7,6 +9,9 @@ use std::io;
 use std::io::{ErrorKind, Read, Write};
 use std::net::{Net, OpenStream, Shutdown, TcpStream, ToSocketAddrs};
 use std::time::{Clock, Duration, Instant};
+
+/// How many signals in a row may break off one wait.
+const MOST_SIGNALS: u64 = 1_000_000;
 
 /// Since when a connection stands, by a clock, and how long its peer is waited for.
 #[derive(Drop)]
@@ -40,9 +45,10 @@ impl<'a, C: Clock> Timer<'a, C> {
         }
     }
 
-    /// How long the next wait may last; `TimedOut` where the whole is over.
-    fn wait(&self) -> io::Result<Duration> {
+    /// How long the next wait may last, and no longer than `most`; `TimedOut` where the whole is over.
+    fn wait(&self, most: Duration) -> io::Result<Duration> {
         match self.limits.left(self.opened.elapsed(self.clock)?) {
+            Some(wait) if most < wait => Ok(most),
             Some(wait) => Ok(wait),
             None => Err(io::Error::from(ErrorKind::TimedOut)),
         }
@@ -50,7 +56,7 @@ impl<'a, C: Clock> Timer<'a, C> {
 }
 
 /// A stream over a connection. A read or a write that waits longer than the limits allow is an error (`WouldBlock`), and so is
-/// each one after the whole of the connection is over (`TimedOut`).
+/// each one after the whole of the connection is over (`TimedOut`). One that a signal breaks off waits on, as long as a single wait.
 #[derive(Drop)]
 pub struct TimedStream<'a, S, C> {
     stream: S,
@@ -97,13 +103,29 @@ impl<'a, S: OpenStream + Drop, C: Clock> TimedStream<'a, S, C> {
     }
 }
 
+impl<'a, S: Read + OpenStream, C: Clock> TimedStream<'a, S, C> {
+    /// Reads, and waits for the next bytes no longer than `most`. What is longer is the error `WouldBlock`.
+    pub fn read_within(&mut self, buf: &mut [u8], most: Duration) -> io::Result<usize>
+        ensures bound { ReadsAtMost result buf.new }
+        ensures bytes { ReadConsumes (S.remaining self.old.stream) (S.remaining self.new.stream) result buf.new }
+    {
+        for _ in 0..MOST_SIGNALS {
+            let wait = self.timer.wait(most)?;
+            self.stream.set_read_timeout(Some(wait))?;
+            match self.stream.read(buf) {
+                Err(error) if error.kind() == ErrorKind::Interrupted => {}
+                done => return done,
+            }
+        }
+        Err(io::Error::from(ErrorKind::TimedOut))
+    }
+}
+
 impl<'a, S: Read + OpenStream, C: Clock> Read for TimedStream<'a, S, C> {
     ghost remaining = { λ s. S.remaining s.stream };
 
     fn read(&mut self, buf: &mut [u8]) -> io::Result<usize> {
-        let wait = self.timer.wait()?;
-        self.stream.set_read_timeout(Some(wait))?;
-        self.stream.read(buf)
+        self.read_within(buf, self.timer.limits.wait)
     }
 }
 
@@ -111,9 +133,15 @@ impl<'a, S: Write + OpenStream, C: Clock> Write for TimedStream<'a, S, C> {
     ghost contents = { λ s. S.contents s.stream };
 
     fn write(&mut self, buf: &[u8]) -> io::Result<usize> {
-        let wait = self.timer.wait()?;
-        self.stream.set_write_timeout(Some(wait))?;
-        self.stream.write(buf)
+        for _ in 0..MOST_SIGNALS {
+            let wait = self.timer.wait(self.timer.limits.wait)?;
+            self.stream.set_write_timeout(Some(wait))?;
+            match self.stream.write(buf) {
+                Err(error) if error.kind() == ErrorKind::Interrupted => {}
+                done => return done,
+            }
+        }
+        Err(io::Error::from(ErrorKind::TimedOut))
     }
 
     fn flush(&mut self) -> io::Result<()> {
@@ -140,7 +168,7 @@ pub fn connect<'a, R: Net + Clock>(
     let timer = Timer::start(rt, limits)?;
     let mut last = io::Error::from(ErrorKind::NotFound);
     for address in addresses {
-        match TcpStream::connect_timeout(rt, &address, timer.wait()?) {
+        match TcpStream::connect_timeout(rt, &address, timer.wait(limits.wait)?) {
             Ok(stream) => return Ok(TimedStream { stream, timer }),
             Err(error) => last = error,
         }

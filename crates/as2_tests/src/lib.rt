@@ -8,6 +8,8 @@ mod desk;
 #[cfg(test)]
 mod files;
 #[cfg(test)]
+mod made;
+#[cfg(test)]
 mod migrated;
 #[cfg(test)]
 mod outbox;

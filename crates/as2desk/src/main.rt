@@ -15,9 +15,13 @@ use sqlite_disk::Disk;
 use sqlite_std_file::Unknown;
 use std::io::{LineWriter, Stderr, Stdin, Stdout};
 use std::marker::Brand;
+use std::os::fd::{AsRawFd, IntoRawFd};
 use std::process::ExitCode;
 use std::sync::ledger::{Blank, Ledger};
-use std::{env, io};
+use std::{env, fs, io};
+
+/// How many standard streams there are; their numbers begin with 0.
+const STREAMS: i32 = 3;
 
 /// Counts of a stream that aren't opened yet: of its calls, and of those that failed.
 #[derive(Drop)]
@@ -115,7 +119,21 @@ fn run_over_files<F: OpenFiles + Drop>(
     run_over_kept::<F::Disk, InFiles<F>>(rt, words, InFiles { opener }, hints)
 }
 
+/// Takes the numbers of the standard streams that are shut, so that no file and no connection gets one: what is said would go there.
+/// To read or to write there fails, as it does where the streams are shut.
+fn hold_streams(rt: &HostRuntime) -> io::Result<()> {
+    for _ in 0..STREAMS {
+        let folder = fs::File::open(rt, "/")?;
+        if folder.as_raw_fd() >= STREAMS {
+            return Ok(());
+        }
+        folder.into_raw_fd();
+    }
+    Ok(())
+}
+
 fn main(rt: HostRuntime) -> io::Result<ExitCode> {
+    hold_streams(&rt)?;
     let words: Vec<String> = match env::args(&rt) {
         Ok(words) => words.collect(rt.alloc())?,
         Err(error) if error.kind() == io::ErrorKind::InvalidData => {

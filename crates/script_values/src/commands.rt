@@ -55,7 +55,9 @@ fn say_serving(answer: &mut Answer, given: &Serving<'_>) {
     answer.say_number(given.count);
     answer.say(" connections, ");
     answer.say_number(given.waits.seconds);
-    answer.say(" seconds, ");
+    answer.say(" seconds, idle ");
+    answer.say_number(given.waits.idle);
+    answer.say(", ");
     match given.moment {
         Some(moment) => {
             answer.say("each at ");

@@ -3,7 +3,7 @@ ghost use Rattle.std.specs.Prelude.{◌≡◌};
 
 use super::connections::serve_text;
 use as2_agreement::Agreements;
-use as2_commands::Waits;
+use as2_commands::{ServingWaits, Waits};
 use as2_exchange::{Job, TryAnswer};
 use as2_host::{CannotListen, Listens, Network};
 use as2_http::{Journal, Served};
@@ -26,6 +26,8 @@ pub struct Peers<'a> {
     ends: &'a str,
     /// The wait of a listener or of links, in seconds.
     wait: u64,
+    /// The wait of a listener for another request, in seconds.
+    idle: u64,
     /// What was given: an address to listen at, or the partner of a request with the request behind it, each with its wait; and
     /// the moment that a connection was asked for.
     given: &'a RefCell<Answer>,
@@ -37,19 +39,21 @@ impl<'a> Peers<'a> {
             settings,
             ends: settings.text("connections").unwrap_or(""),
             wait: 0,
+            idle: 0,
             given,
         }
     }
 
-    /// The same, with this wait.
-    fn waiting(&self, waits: Waits) -> Peers<'a>
-        ensures wait { result.wait ≡ waits.seconds }
+    /// The same, with these waits.
+    fn waiting(&self, wait: u64, idle: u64) -> Peers<'a>
+        ensures wait { (result.wait ≡ wait) × (result.idle ≡ idle) }
         ensures ends { result.ends ≡ self.now.ends }
     {
         Peers {
             settings: self.settings,
             ends: self.ends,
-            wait: waits.seconds,
+            wait,
+            idle,
             given: self.given,
         }
     }
@@ -61,7 +65,13 @@ impl<'a> Peers<'a> {
             given.say_bytes(place);
             given.say(", wait ");
             given.say_number(self.wait);
-            given.say(" s\n");
+            given.say(" s");
+            if self.idle > 0 {
+                given.say(", idle ");
+                given.say_number(self.idle);
+                given.say(" s");
+            }
+            given.say("\n");
             given.say_bytes(bytes);
         }
     }
@@ -93,7 +103,7 @@ impl Listens for Peers<'_> {
 
     ghost bound = { λ _. codes "127.0.0.1:8080" };
 
-    ghost ended = { λ old _ _ _ new. new.wait ≡ old.wait };
+    ghost ended = { λ old _ _ _ new. (new.wait ≡ old.wait) × (new.idle ≡ old.idle) };
 
     fn address(&self, alloc: Global) -> Result<String, Memory> {
         let mut text = String::new(alloc);
@@ -209,7 +219,7 @@ impl<'a> Network for Peers<'a> {
 
     type Links = Peers<'a>;
 
-    ghost listens = { λ old _ waits l new. (l.wait ≡ waits.seconds) × (l.ends ≡ old.ends) × (new ≡ old) };
+    ghost listens = { λ old _ waits l new. (l.wait ≡ waits.seconds) × (l.idle ≡ waits.idle) × (l.ends ≡ old.ends) × (new ≡ old) };
 
     ghost refuses = { λ old _ _ new. new ≡ old };
 
@@ -223,9 +233,9 @@ impl<'a> Network for Peers<'a> {
         &mut self,
         _alloc: Global,
         address: &str,
-        waits: Waits,
+        waits: ServingWaits,
     ) -> Result<Peers<'a>, CannotListen> {
-        let peers = self.waiting(waits);
+        let peers = self.waiting(waits.seconds, waits.idle);
         peers.note("at ", address.as_bytes(), b"");
         if self.ends.is_empty() {
             return Err(CannotListen);
@@ -234,7 +244,7 @@ impl<'a> Network for Peers<'a> {
     }
 
     fn links(&mut self, waits: Waits) -> Peers<'a> {
-        self.waiting(waits)
+        self.waiting(waits.seconds, 0)
     }
 
     fn close(&mut self, _links: Peers<'a>) {}

@@ -72,6 +72,7 @@ fn found(alloc: Global, word: &str, first: FirstNumber) -> Result<Kept<MemStore>
     match word {
         "broken" => Err(OpenFault::Store(StoreFault::Disk)),
         "held" => Err(OpenFault::Held),
+        "log-alone" => Err(OpenFault::LogAlone),
         "other" => Err(OpenFault::Store(StoreFault::NotAStore)),
         "taken" => Err(OpenFault::Store(StoreFault::Refused)),
         "bare" => bare(alloc),

@@ -1,7 +1,6 @@
-use Rattle.std.proofs.Common.{◌≡◌, ◌≤◌, ℕ, List, Some, arith, subst}
+use Rattle.std.proofs.Common.{◌≡◌, ◌≤◌, ℕ, Some, arith, subst}
 use Rattle.as2_http.specs.InputReads.{ReadsNeeded}
 use Rattle.as2_messages.specs.Answering.{IsOpenAnswer}
-use Rattle.as2_connections.specs.Linking.{AnswersInput}
 use Rattle.as2_connections.proofs.links.exchange_counted.Goals as goal
 
 pub returns-clause-answer : goal.returns-clause-answer

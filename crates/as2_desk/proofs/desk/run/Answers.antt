@@ -2,7 +2,8 @@ use Rattle.std.proofs.Common.{◌≡◌, ◌∙◌, codes, sym, arith, inl, inr,
 use Rattle.as2_host.specs.Networks.{ExchangedOver, listening_of}
 use Rattle.clap.specs.Walk.{Text, texts}
 use Rattle.as2_commands.proofs.Given.{given_one}
-use Rattle.as2_desk.specs.Observed.{input_of, outcome_of, stored_of}
+use Rattle.as2_desk.proofs.Stopping.{stopped_by}
+use Rattle.as2_desk.specs.Observed.{errors_of, input_of, outcome_of, output_of, stored_of}
 use Rattle.as2_desk.specs.Runs.{Runs}
 use Rattle.as2_desk.specs.Statuses.{faulty, refused}
 use Rattle.as2_desk.specs.Stores.{Leaves}
@@ -38,6 +39,16 @@ returns-in-Ok-clause-memory g c = λ path task gives.
     given_one (texts c.args.words.now) c.args.clock read.agreements.now path read.store.now (codes ":memory:") read.task task
     (λ (p b : Text) (t : Task). b ≡ codes ":memory:" → c.carry_out-done.new.host.stores ≡ c.args.host.now.stores)
     c.in-Ok.ensures.given gives c.carry_out-done.ensures.memory refl
+
+pub returns-in-Ok-clause-store : goal.returns-in-Ok-clause-store
+returns-in-Ok-clause-store g c = λ is_failed.
+    let read = c.in-Ok.options in
+    let was = c.args.console.now in
+    let is = c.carry_out-done.new.console in
+    stopped_by (input_of g.R.Source was is) (output_of g.W.Sink was is) (errors_of g.E.Sink was is) c.carry_out-done.result
+    (λ sends. (read.agreements.now, read.store.now, read.task, c.in-Ok.ensures.given, sends))
+    (λ serves. (read.agreements.now, read.store.now, read.task, c.in-Ok.ensures.given, serves))
+    (c.carry_out-done.ensures.store is_failed)
 
 -- here memory was wanting, since the words ask for something
 pub returns-in-Err-clause-given : goal.returns-in-Err-clause-given

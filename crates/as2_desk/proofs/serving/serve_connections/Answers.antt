@@ -3,8 +3,8 @@ use Rattle.as2_commands.specs.Requests.{Serving}
 use Rattle.as2_desk.proofs.Connecting.{all_served, cut, none_served, one_more}
 use Rattle.as2_exchange.specs.Run.{Trace}
 use Rattle.as2_host.specs.Serving.{ServesOne}
-use Rattle.as2_desk.specs.Connections.{ServesNext, connection_line}
-use Rattle.as2_desk.specs.Written.{Breaks, WritesWhole, written_of}
+use Rattle.as2_desk.specs.Connections.{ServesNext, StopsAt, connection_line}
+use Rattle.as2_desk.specs.Written.{WritesWhole, written_of}
 use Rattle.as2_desk.proofs.serving.serve_connections.Goals as goal
 
 pub loop-served-init : goal.loop-served-init
@@ -27,11 +27,11 @@ loop-served-preserved g c =
           (subst (λ (m : Option ℕ). ServesNext then now (λ end. (trace : Trace) × g.L.Listens.ended mid m trace end last)
           (λ end s t. ServesOne c.args.terms.now.agreements.now m (λ trace. g.L.Listens.ended mid m trace end last) s t)
           (λ end. WritesWhole (written_of g.W.Sink c.loop-served.console.output c.serve_next.new.console.output) (connection_line end)))
-          given c.in_ok-serve_next.ensures.serves),
+          given c.in_default.ensures.serves),
     )
 
-pub returns-in_err-serve_next-clause-serves : goal.returns-in_err-serve_next-clause-serves
-returns-in_err-serve_next-clause-serves g c =
+pub returns-in-Err-clause-serves : goal.returns-in-Err-clause-serves
+returns-in-Err-clause-serves g c =
     let mid = c.loop-served.listener in
     let last = c.serve_next.new.listener in
     let then = g.K.Records.shows c.loop-served.station in
@@ -41,15 +41,15 @@ returns-in_err-serve_next-clause-serves g c =
     cut g.L.Listens.ended c.args.serving.now.moment c.args.terms.now.agreements.now g.W.Sink c.loop-served.served (g.K.Records.shows c.args.station.now) then now
     c.args.listener.now mid last c.args.console.now.output c.loop-served.console.output c.serve_next.new.console.output
     c.loop-served.invariant.2 c.serve_next.ensures.clean
-    c.args.serving.now.count c.from_residual.result c.from_residual.ensures.0
+    c.args.serving.now.count c.in-Err.stop
     (subst (λ (n : ℕ). c.loop-served.served < n) count c.loop-served-test.true)
     (subst (λ (m : Option ℕ). ServesNext then now (λ end. (trace : Trace) × g.L.Listens.ended mid m trace end last)
     (λ end s t. ServesOne c.args.terms.now.agreements.now m (λ trace. g.L.Listens.ended mid m trace end last) s t)
-    (λ end. Breaks (written_of g.W.Sink c.loop-served.console.output c.serve_next.new.console.output) (connection_line end)))
-    given c.in_err-serve_next.ensures.serves)
+    (λ end. StopsAt c.in-Err.stop (written_of g.W.Sink c.loop-served.console.output c.serve_next.new.console.output) (connection_line end)))
+    given c.in-Err.ensures.serves)
 
-pub returns-in_err-serve_next-clause-streams : goal.returns-in_err-serve_next-clause-streams
-returns-in_err-serve_next-clause-streams g c =
+pub returns-in-Err-clause-streams : goal.returns-in-Err-clause-streams
+returns-in-Err-clause-streams g c =
     let before = c.loop-served.invariant in
     let streams = c.serve_next.ensures.streams in
     (streams.0 ∙ before.0, streams.1 ∙ before.1)

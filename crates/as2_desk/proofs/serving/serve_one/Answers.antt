@@ -1,6 +1,6 @@
 use Rattle.std.proofs.Common.{◌∙◌}
 use Rattle.as2_desk.proofs.Saying.{pushed}
-use Rattle.as2_desk.proofs.serving.serve_next.Goals as goal
+use Rattle.as2_desk.proofs.serving.serve_one.Goals as goal
 
 pub returns-clause-serves : goal.returns-clause-serves
 returns-clause-serves g c = record {
