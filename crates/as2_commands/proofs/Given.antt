@@ -67,7 +67,7 @@ serving_one values own a b x y =
     ap (λ (t : List ℕ). record a { address = t }) (path_one _ a.address b.address x.listens y.listens)
     ∙ ap (λ (n : ℕ). record a { address = b.address; count = n }) (number_one _ a.count b.count x.connections.number y.connections.number)
     ∙ ap (λ (w : ServingWaits). record b { waits = w; moment = a.moment }) (serving_waits_one a.waits b.waits
-        (number_one _ a.waits.seconds b.waits.seconds x.wait.number y.wait.number) (number_one _ a.waits.idle b.waits.idle x.idle.number y.idle.number))
+    (number_one _ a.waits.seconds b.waits.seconds x.wait.number y.wait.number) (number_one _ a.waits.idle b.waits.idle x.idle.number y.idle.number))
     ∙ ap (λ (m : Option ℕ). record b { moment = m }) (told_one _ a.moment b.moment x.seconds.0 y.seconds.0)
 
 -- the state of a letter

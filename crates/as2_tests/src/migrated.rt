@@ -105,7 +105,10 @@ fn copied(alloc: Global, file: &Memory) -> Result<Memory, Fail> {
 }
 
 /// The files, open; None where they can't be opened.
-pub(crate) fn opened<D: Disk + Drop>(alloc: Global, files: Files<D>) -> Option<Connection<FileStore<D>>>
+pub(crate) fn opened<D: Disk + Drop>(
+    alloc: Global,
+    files: Files<D>,
+) -> Option<Connection<FileStore<D>>>
     ensures { IfSome result (λ conn. conn.in_transaction ≡ false) }
 {
     if !files.log.may_be_used() || !files.db.may_be_used() {
