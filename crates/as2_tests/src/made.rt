@@ -1,7 +1,5 @@
 //! A store that is being made while its files stop, after each number of calls of the disk: what they leave is a store without entries,
 //! or no store.
-ghost use Rattle.std.specs.Prelude.{◌≡◌, false};
-
 use crate::migrated::opened;
 use as2_exchange::StoreFault;
 use as2_kept::Kept;
@@ -16,9 +14,10 @@ use std::test::Fail;
 const MOST_CALLS: u64 = 10_000;
 
 /// Makes a store, and gives its files back, and whether it was made.
-fn made<D: Disk + Drop>(conn: Connection<FileStore<D>>) -> (Files<D>, bool)
-    requires { conn.in_transaction ≡ false }
-{
+fn made<D: Disk + Drop>(conn: Connection<FileStore<D>>) -> (Files<D>, bool) {
+    if !conn.is_autocommit() {
+        return (conn.into_store().close(), false);
+    }
     match Store::create(conn, 1) {
         Ok(store) => (store.into_connection().into_store().close(), true),
         Err((conn, _)) => (conn.into_store().close(), false),
@@ -27,10 +26,13 @@ fn made<D: Disk + Drop>(conn: Connection<FileStore<D>>) -> (Files<D>, bool)
 
 /// What a stop leaves of files in which a store was to be made, and whether it was.
 fn left<D: Crash + Drop>(alloc: Global, files: Files<D>) -> (Files<D>, bool) {
-    let (mut files, is_made) = match Connection::open_files(alloc, files, Options::new(1)) {
-        Ok(conn) if conn.is_autocommit() => made(conn),
-        Ok(conn) => (conn.into_store().close(), false),
-        Err((_, leftover)) => (leftover.into_files(), false),
+    let (mut files, is_made) = if files.log.may_be_used() && files.db.may_be_used() {
+        match Connection::open_files(alloc, files, Options::new(1)) {
+            Ok(conn) => made(conn),
+            Err((_, leftover)) => (leftover.into_files(), false),
+        }
+    } else {
+        (files, false)
     };
     files.log.crash();
     files.db.crash();
