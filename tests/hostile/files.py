@@ -530,6 +530,54 @@ def served_full(runner, answered, posts=6):
         differences.tell_known("serve answers 503 with room on the disk again; that it ends with `store: Disk` and status 3 is wanted")
 
 
+def faults_of_the_disk(runner, most=60):
+    """`serve` while the nth call of the system that syncs, or that writes to a file, fails, by `strace`: what was answered by 200 is recorded,
+    and where the fault has shut the file `serve` ends with it behind the connection in which it came."""
+    if not shutil.which("strace"):
+        print("no strace: no faults of the disk are tried", flush=True)
+        return
+    runner.desk.store, ended, went_on = "faults.db", 0, 0
+    for call in ("fdatasync", "pwrite64"):
+        for turn in range(1, most):
+            for name in os.listdir(runner.desk.folder):
+                if name.startswith("faults.db"):
+                    os.remove(runner.desk.path(name))
+            runner.desk.run("post", text=post_of(b"before"))
+            status, said, replies = served_with_a_fault(runner.desk, f"{call}:error=EIO:when={turn}")
+            refused = [reply == 503 for reply in replies]
+            what = f"serve, {call} {turn} fails"
+            if status == 3:
+                ended += bool(replies)
+                runner.differences.expect(f"{what}: how it ends", (said[-1:], replies == [] or replies[-1] == 503), (["store: Disk"], True))
+            else:
+                went_on += any(refused)
+                runner.differences.expect(f"{what}: how it ends", (status, set(replies) <= {200, 503}, len(replies)), (0, True, 3))
+            listed = runner.run(f"{what}, afterwards", "list", "in")[1]
+            lost = [turn for turn, reply in enumerate(replies) if reply == 200 and b"<fault-%d@x>" % turn not in listed]
+            runner.differences.count("lost", len(lost))
+            runner.differences.count("posts answered", replies.count(200))
+            runner.differences.expect(f"{what}: what was answered is recorded", lost, [])
+    print(f"ok    {2 * (most - 1)} faults of the disk: {ended} times serve ended behind a 503, {went_on} times it went on", flush=True)
+    runner.desk.store = "station.db"
+
+
+def served_with_a_fault(desk, fault, posts=3):
+    """`serve` under that fault: its status, what it said, and the statuses of its replies."""
+    words = ["strace", "-f", "-o", "/dev/null", "-e", "trace=" + fault.split(":")[0], "-e", "inject=" + fault,
+             *desk.words("serve", "--listen", "127.0.0.1:0", "--count", str(posts), "--timeout", "5")]
+    run = subprocess.Popen(words, cwd=desk.folder, stdin=subprocess.DEVNULL, stdout=subprocess.PIPE, stderr=subprocess.PIPE)
+    first, replies = run.stderr.readline().decode(), []
+    if first.startswith("listening: "):
+        host, port = first[len("listening: "):].strip().rsplit(":", 1)
+        for turn in range(posts):
+            reply = post_to((host, int(port)), post_of(b"fault-%d" % turn))
+            if reply is None:
+                break
+            replies.append(reply[0])
+    _, said = run.communicate(timeout=PATIENCE)
+    return run.returncode, [line for line in (first + said.decode()).splitlines() if line.startswith("store: ")], replies
+
+
 def while_full(runner, answered, more):
     """The commands on a full disk: those that read give what is there, those that write are refused."""
     write_all(runner.desk.path("rest"))
@@ -673,7 +721,7 @@ def main():
         program = shutil.copy(os.path.abspath(given.program), shared) if given.program != STARTER else STARTER
         runner = Runner(Desk(program, folder), differences)
         for section, more in ((agreements, [dice]), (endless, []), (paths, []), (inputs, []), (rights, []), (streams, []), (full_disk, []),
-                              (great_store, []), (stores, [given.stores, dice])):
+                              (faults_of_the_disk, []), (great_store, []), (stores, [given.stores, dice])):
             begun = time.monotonic()
             section(runner, *more)
             print(f"ok    {section.__name__.replace('_', ' ')}: {time.monotonic() - begun:.1f} s", flush=True)
