@@ -303,7 +303,7 @@ class Judge:
         wrong = None
         if not is_failed and not WANT.search(played.said):
             wrong = "another fault than want of memory"
-        elif played.tables not in (self.before, self.own.tables) and self.changed(played) - {"inbox", "outbox", "waiting"}:
+        elif played.tables not in (self.before, self.own.tables) and self.changed(played) - {"inbox2", "outbox", "waiting"}:
             wrong = "another state"
         elif played.later != self.own.later:
             wrong = f"another end later, {played.later}"
