@@ -3,13 +3,12 @@
     python3 tests/hostile/memory.py [--program FILE] [--jobs N] [--row NAME] [--control]
 
 The rows are those that the station's request names, as commands over a store in a file: posts, documents that are handed in and sent, their
-receipts, a moment that passes, agreements with a fault; and the commands that read, migrate and send anew. A library that stands before the
-C library's `malloc` (refuse.c) refuses one allocation, and for each tenth that one and all behind it. Of each run it is looked at that
+receipts, a moment that passes, agreements with a fault; and the commands that read, and `resend`. A library that stands before the C library's `malloc` (refuse.c) refuses one allocation, and for each tenth that one and all behind it. Of each run it is looked at that
 - it ends by itself, and what isn't the row's own is told as want of memory (`Memory`, 503, a try without an answer), and as nothing else;
 - each reply, and the store, are those of the row without the posts that were answered by 503, and of no others; what was cut off by the end
   may be in the store or not;
 - a command that did not do its work left the tables as they were, or, of `send`, as a try that began or failed leaves them;
-- the same command with memory then comes to the row's own end.
+- behind a `send` another one with memory comes to the row's own end.
 
 A line for each row has its counts. `--control` takes a post that is recorded for one that isn't, which has to be found out. The status is 1 where
 something differs. It takes some forty processor minutes: a command over a store makes some ten thousand allocations, most of them to open it.
