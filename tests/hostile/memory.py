@@ -21,13 +21,13 @@ import pathlib
 import random
 import re
 import shutil
-import socket
 import sqlite3
 import subprocess
 import sys
 import threading
 
 import expected
+import mutations
 from mutations import answer_of, content_of, receipt_post
 from station import PATIENCE, STARTER, Desk, Differences, post_of, room
 
@@ -53,36 +53,12 @@ def tables(path):
         return {name: sorted(store.execute(f"SELECT * FROM {name}").fetchall(), key=repr) for name in names}
 
 
-class Partner(threading.Thread):
+class Partner(mutations.Partner):
     """A partner that gives each document a good receipt, and takes each receipt."""
 
-    def __init__(self):
-        super().__init__(daemon=True)
-        self.listener = socket.create_server(("127.0.0.1", 0))
-        self.name = "127.0.0.1:%d" % self.listener.getsockname()[1]
-
-    def run(self):
-        while True:
-            link, _ = self.listener.accept()
-            with link:
-                try:
-                    link.settimeout(10)
-                    self.answer(link)
-                except OSError:
-                    pass
-
-    @staticmethod
-    def answer(link):
-        text = b""
-        while b"\r\n\r\n" not in text or len(text) < text.find(b"\r\n\r\n") + 4 + int(re.search(rb"\r\nContent-Length: (\d+)\r\n", text).group(1)):
-            piece = link.recv(65536)
-            if not piece:
-                return
-            text += piece
+    def answer_to(self, text):
         found = re.search(rb"\r\nMessage-ID: <out-(\d+)@", text)
-        link.sendall(answer_of(int(found.group(1)), random.Random(1)) if found else b"HTTP/1.1 200 OK\r\nContent-Length: 0\r\n\r\n")
-        link.shutdown(socket.SHUT_WR)
-        link.recv(1)
+        return answer_of(int(found.group(1)), random.Random(1)) if found else b"HTTP/1.1 200 OK\r\nContent-Length: 0\r\n\r\n"
 
 
 class Row:
@@ -319,7 +295,7 @@ def main():
     parser.add_argument("--row")
     parser.add_argument("--control", action="store_true")
     asked = parser.parse_args()
-    partner = Partner()
+    partner = Partner(1)
     partner.start()
     differences = Differences()
     with room() as folder:

@@ -315,11 +315,14 @@ class Partner(threading.Thread):
             if not piece:
                 return
             text += piece
-        number = int(re.search(rb"\r\nMessage-ID: <out-(\d+)@", text).group(1))
-        self.answers[number] = mutated(answer_of(number, self.dice), self.dice)
-        link.sendall(self.answers[number])
+        link.sendall(self.answer_to(text))
         link.shutdown(socket.SHUT_WR)
         link.recv(1)
+
+    def answer_to(self, text):
+        number = int(re.search(rb"\r\nMessage-ID: <out-(\d+)@", text).group(1))
+        self.answers[number] = mutated(answer_of(number, self.dice), self.dice)
+        return self.answers[number]
 
 
 def detail_by(answer, number, verdict):
