@@ -178,7 +178,8 @@ request is waited for as long as '--idle' says; where none comes the connection 
 
 An address that can't be listened on is 'refused: CannotListen' on standard error, exit status 1, and a
 line that can't be written 'refused: CannotWrite'. A store that can't be opened is 'store: NAME', exit
-status 3, and nothing is listened on then.
+status 3, and nothing is listened on then. So is one that can't be read behind a connection: no more are
+served.
 
 Example:
   as2desk --agreements agreements.toml --store station.db serve --listen 127.0.0.1:8080 --count 100";

@@ -13,6 +13,8 @@ use Rattle.as2_desk.specs.Works.{Begun, Does, IsWork}
 use Rattle.as2_desk.specs.Written.{Breaks, WritesWhole, Written}
 use Rattle.as2_desk.specs.declared.refusal.CommandFault.TheVariants.{CannotWrite, Memory}
 use Rattle.as2_desk.specs.declared.status.Ran.{Ran}
+use Rattle.clap.specs.Words.{Text}
+use Rattle.as2_commands.specs.Options.{Gives}
 use Rattle.as2_commands.specs.declared.tasks.RunOptions.{RunOptions}
 use Rattle.as2_commands.specs.declared.tasks.Task.{Task}
 use Rattle.as2_commands.specs.declared.tasks.Task.TheVariants.{Check, Migrate, Run}
@@ -59,3 +61,7 @@ IsSending other = ⊥
 abbrev pub IsServing : Task → Type 0
 IsServing (Run options (Serve serving)) = ⊤
 IsServing other = ⊥
+
+-- what the words ask for is such a task
+abbrev pub AsksFor : List Text → Option ℕ → (Task → Type 0) → Type 0
+AsksFor words clock P = (path store : List ℕ) × (task : Task) × Gives words clock path store task × P task

@@ -9,7 +9,7 @@ ghost use Rattle.as2_host.specs.Networks.{ExchangedOver, listening_of};
 ghost use Rattle.as2_desk.specs.Endings.{EndsRefused};
 ghost use Rattle.as2_desk.specs.Helping.{Helps, SaysFaulty};
 ghost use Rattle.as2_desk.specs.Observed.{errors_of, input_of, outcome_of, output_of, stored_of};
-ghost use Rattle.as2_desk.specs.Runs.{Comes, IsSending, IsServing, Runs};
+ghost use Rattle.as2_desk.specs.Runs.{AsksFor, Comes, IsSending, IsServing, Runs};
 ghost use Rattle.as2_desk.specs.Stops.{Stopped};
 ghost use Rattle.as2_desk.specs.Statuses.{done, failed, faulty, refused};
 ghost use Rattle.as2_desk.specs.Stores.{Leaves};
@@ -91,10 +91,9 @@ pub fn run<
     ensures untouched { result.status ≡ faulty → (console.new.input ≡ console.old.input) × (console.new.output ≡ console.old.output)
         × (host.new.stores ≡ host.old.stores) × (host.new.network ≡ host.old.network) }
     // A store with a fault is told, and nothing is read or written then; what was sent or served before stands, with its lines.
-    ensures store { result.status ≡ failed → Stopped
-        ((path store : List ℕ) × (task : TheTask) × Gives (texts words.entry.now) clock path store task × IsSending task)
-        ((path store : List ℕ) × (task : TheTask) × Gives (texts words.entry.now) clock path store task × IsServing task) (input_of R.Source console.old console.new)
-        (output_of W.Sink console.old console.new) (errors_of E.Sink console.old console.new) result }
+    ensures store { result.status ≡ failed
+        → Stopped (AsksFor (texts words.entry.now) clock IsSending) (AsksFor (texts words.entry.now) clock IsServing)
+        (input_of R.Source console.old console.new) (output_of W.Sink console.old console.new) (errors_of E.Sink console.old console.new) result }
 {
     match options_in(alloc, words, clock) {
         Ok(options) => {
