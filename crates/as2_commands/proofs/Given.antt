@@ -211,7 +211,8 @@ command_one values own (command.Serve s) (command.Serve t) is x y = ap command.S
 run_one : (values : List Row) (clock : Option ℕ) (a b : RunOptions) → AsksRun values clock a → AsksRun values clock b → a ≡ b
 run_one values clock a b x y =
     ap (λ (n : ℕ). record a { first = n }) (number_one _ a.first b.first x.number.number y.number.number)
-    ∙ ap (λ (m : ℕ). record b { moment = m }) (seconds_one _ clock a.moment b.moment x.seconds y.seconds)
+    ∙ ap (λ (m : ℕ). record a { first = b.first; moment = m }) (seconds_one _ clock a.moment b.moment x.seconds y.seconds)
+    ∙ ap (λ (n : ℕ). record b { limit = n }) (number_one _ a.limit b.limit x.limit.number y.limit.number)
 
 -- `check` is no command over the records
 no_check_question : (q : Question Submission) → codes "check" ≡ question_word q → ⊥

@@ -46,6 +46,10 @@ first = number 1 (end_of_numbers - 1) (default (codes "1") (option (codes "first
 abbrev pub moment : Rule
 moment = number 0 last_moment (option (codes "moment"))
 
+-- the most MiB of a store's files
+abbrev pub store_limit : Rule
+store_limit = number 1 1048576 (default (codes "2048") (option (codes "store-limit")))
+
 -- the number of an entry
 abbrev pub entry : Rule
 entry = number 1 (end_of_numbers - 1) (value (codes "number"))
@@ -75,7 +79,7 @@ abbrev pub program : App
 program = on_top (λ s. record s { subcommand_required = true; disable_help_subcommand = true }) titled
 
 abbrev pub options : App
-options = with_rule (with_rule (with_rule (with_rule program (required (option (codes "agreements")))) store) first) moment
+options = with_rule (with_rule (with_rule (with_rule (with_rule program (required (option (codes "agreements")))) store) store_limit) first) moment
 
 -- a command and what stands behind it
 abbrev pub command : Text → List Rule → Shape

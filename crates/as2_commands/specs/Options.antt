@@ -57,11 +57,12 @@ NameIs None name = ⊥
 abbrev pub first_number : ℕ → Option ℕ
 first_number n = if nat_le 1 n && nat_lt n end_of_numbers then Some n else None
 
--- the first number of a new store and the moment that the values before the command give
+-- the first number of a new store, the moment, and the most MiB of a store's files, that the values before the command give
 pub record AsksRun (values : List Row) (clock : Option ℕ) (options : RunOptions) : Type 0 where
   pub number : NumberFrom 1 (end_of_numbers - 1) (one_of (codes "first") values) options.first
   pub seconds : SecondsAre (one_of (codes "moment") values) clock options.moment
   pub early : options.moment ≤ last_moment
+  pub limit : NumberFrom 1 1048576 (one_of (codes "store-limit") values) options.limit
 
 -- the longest wait in seconds
 abbrev pub IsWait : List Row → ℕ → Type 0

@@ -1,7 +1,7 @@
 //! Options and values of commands.
 ghost use Rattle.std.specs.Prelude.{◌≡◌, ◌<◌, ◌≤◌, ◌^◌, codes, false};
 ghost use Rattle.clap.specs.Words.{rule_of};
-ghost use Rattle.as2_commands.specs.CommandLine.{count, default, entry, first, flag, idle, moment, nonempty, number, option, required, store, timeout, value};
+ghost use Rattle.as2_commands.specs.CommandLine.{count, default, entry, first, flag, idle, moment, nonempty, number, option, required, store, store_limit, timeout, value};
 
 use as2_exchange::END_OF_NUMBERS;
 use as2_text::LAST_MOMENT;
@@ -12,6 +12,9 @@ use std::alloc::Global;
 pub(crate) const AGREEMENTS: &str = "agreements";
 
 pub(crate) const STORE: &str = "store";
+
+/// The most MiB of a store's files.
+pub(crate) const STORE_LIMIT: &str = "store-limit";
 
 pub(crate) const FIRST: &str = "first";
 
@@ -53,6 +56,11 @@ pub(crate) const MOST_WAIT: u64 = 3600;
 
 /// The most connections that are served.
 pub(crate) const MOST_CONNECTIONS: u64 = 1_000_000;
+
+/// The least and the most MiB that a store's files may be given.
+pub(crate) const LEAST_LIMIT: u64 = 1;
+
+pub(crate) const MOST_LIMIT: u64 = 1_048_576;
 
 /// An option with a value.
 pub(crate) fn option<'a>(alloc: Global, name: &'a str, value: &'a str, help: &'a str) -> Arg<'a>
@@ -140,6 +148,15 @@ pub(crate) fn moment<'a>(alloc: Global) -> Arg<'a>
     let help =
         "Moment of the command, in seconds since 1970: 0 to 253402300799 [default: the clock]";
     numbered(option(alloc, MOMENT, "SECONDS", help), 0, LAST_MOMENT)
+}
+
+pub(crate) fn store_limit<'a>(alloc: Global) -> Arg<'a>
+    ensures rule { rule_of result ≡ store_limit }
+    ensures local { result.global ≡ false }
+{
+    let help = "Most MiB of the store's files with another document: 1 to 1048576";
+    let limit = default_option(alloc, STORE_LIMIT, "MIB", help, "2048");
+    numbered(limit, LEAST_LIMIT, MOST_LIMIT)
 }
 
 pub(crate) fn entry<'a>(alloc: Global, help: &'a str) -> Arg<'a>

@@ -3,7 +3,7 @@ ghost use Rattle.std.specs.Prelude.{◌≡◌, IfOk};
 ghost use Rattle.clap.specs.Words.{app_of};
 ghost use Rattle.as2_commands.specs.CommandLine.{command_line, options, program, titled};
 
-use crate::args::{AGREEMENTS, first, moment, required_option, store};
+use crate::args::{AGREEMENTS, first, moment, required_option, store, store_limit};
 use crate::building::{Made, with_command, with_option};
 use crate::{help, own};
 use clap::Command;
@@ -35,6 +35,7 @@ fn with_options<'a>(alloc: Global) -> Made<'a>
     let line = Ok(program(alloc));
     let line = with_option(line, required_option(alloc, AGREEMENTS, "FILE", agreements));
     let line = with_option(line, store(alloc));
+    let line = with_option(line, store_limit(alloc));
     with_option(with_option(line, first(alloc)), moment(alloc))
 }
 
@@ -43,7 +44,7 @@ fn titled<'a>(alloc: Global) -> Command<'a>
     ensures { app_of result ≡ titled }
 {
     Command::new(alloc, "as2desk")
-        .version("0.9.0")
+        .version("0.10.0")
         .about("An AS2 station: takes documents from partners and answers with receipts")
         .after_help(help::PROGRAM)
 }

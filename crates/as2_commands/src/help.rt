@@ -6,6 +6,10 @@ Options stand before the command. '--agreements' and '--store' must be given, an
 Exit status: 0 done; 1 refused, and one line on standard error says why; 2 a faulty command line;
 3 the store failed, and one line on standard error says how.
 
+A document that would take the store's files past '--store-limit' gets what a full disk gives: a post is
+answered by 503, and 'submit' is 'store: Disk'. How many there were is told on standard error:
+'hint: no room for 3 documents: --store-limit is 2048 MiB'.
+
 Examples:
   as2desk --agreements agreements.toml --store station.db check
   as2desk --agreements agreements.toml --store station.db post < plain-post.http
@@ -46,7 +50,8 @@ for one. A reply that says no, such as 403, is a reply too: the exit status is 0
 a reply can't be written.
 
 The documents are recorded in the store, and answered the same when they are posted again. A store that
-can't be opened is told before anything is read: 'store: NAME' on standard error, exit status 3.
+can't be opened is told before anything is read: 'store: NAME' on standard error, exit status 3. Where
+replies were 503, how many is told at the end: 'hint: replies with status 503: 3'.
 
 With '--log' a line is said on standard error for each reply: 'reply: MOMENT FROM TO IDENTIFIER STATUS',
 with a dash for each of the three that the request's head doesn't tell.
@@ -174,7 +179,8 @@ said on standard error, as 'post --log' says it: 'reply: MOMENT FROM TO IDENTIFI
 
 The SECONDS of '--timeout' are the longest wait for a peer's next byte, and for a write. A connection as a
 whole ends after ten times that. A wait that is over is a ReadFault or a WriteFault. Behind a reply another
-request is waited for as long as '--idle' says; where none comes the connection is Closed.
+request is waited for as long as '--idle' says; where none comes the connection is Closed. Where replies
+of a connection were 503, how many is told behind it: 'hint: replies with status 503: 3'.
 
 An address that can't be listened on is 'refused: CannotListen' on standard error, exit status 1, and a
 line that can't be written 'refused: CannotWrite'. A store that can't be opened is 'store: NAME', exit

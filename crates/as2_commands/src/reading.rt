@@ -13,8 +13,8 @@ ghost use Rattle.as2_commands.specs.declared.tasks.RunOptions.{RunOptions as The
 ghost use Rattle.as2_commands.specs.declared.tasks.Task.{Task as TheTask};
 
 use crate::args::{
-    AGREEMENTS, COUNT, FILE, FIRST, FROM, IDLE, KIND, LEAST_WAIT, LISTEN, LOG, MOMENT,
-    MOST_CONNECTIONS, MOST_WAIT, NUMBER, STATE, STORE, TIMEOUT, TO,
+    AGREEMENTS, COUNT, FILE, FIRST, FROM, IDLE, KIND, LEAST_LIMIT, LEAST_WAIT, LISTEN, LOG, MOMENT,
+    MOST_CONNECTIONS, MOST_LIMIT, MOST_WAIT, NUMBER, STATE, STORE, STORE_LIMIT, TIMEOUT, TO,
 };
 use crate::fault::OptionFault;
 use crate::first_number::FirstNumber;
@@ -264,7 +264,7 @@ fn given_moment<'a>(found: &ArgMatches<'a>) -> Result<Option<Moment>, OptionFaul
     }
 }
 
-/// The first number and the moment that the options give.
+/// The first number, the moment and the most MiB that the options give.
 fn run_options<'a>(
     found: &ArgMatches<'a>,
     clock: Option<u64>,
@@ -274,7 +274,12 @@ fn run_options<'a>(
 {
     let first = first(found)?;
     let moment = moment(found, clock)?;
-    Ok(RunOptions { first, moment })
+    let limit = number_from(found, STORE_LIMIT, LEAST_LIMIT, MOST_LIMIT)?;
+    Ok(RunOptions {
+        first,
+        moment,
+        limit,
+    })
 }
 
 /// The number that an option says, if it is there.

@@ -11,6 +11,8 @@ pub struct RunOptions {
     pub first: FirstNumber,
     /// The moment of `--moment`, or else the clock's.
     pub moment: Moment,
+    /// The most MiB that the store's files may have with a content more: 1 to 1,048,576.
+    pub limit: u64,
 }
 
 /// A document that is to be handed in.

@@ -1,5 +1,5 @@
 -- What may help whoever looks on, a line each.
-use Rattle.std.specs.Prelude.{ℕ, List, [], ◌++◌, Bool, codes, true, if◌then◌else◌}
+use Rattle.std.specs.Prelude.{ℕ, List, [], ◌++◌, ◌==◌, Bool, codes, decimal, true, if◌then◌else◌}
 use Rattle.as2_commands.specs.declared.tasks.Command.{Command}
 use Rattle.as2_commands.specs.declared.tasks.Command.TheVariants.{Ask}
 use Rattle.as2_commands.specs.declared.tasks.Question.TheVariants.{List as Listing}
@@ -17,3 +17,13 @@ file_hint path = codes "hint: file \"" ++ (escaped path ++ codes "\"\n")
 
 abbrev pub file_hint_if : Bool → List ℕ → List ℕ
 file_hint_if unread path = if unread then file_hint path else []
+
+-- how many replies had status 503, where one had
+abbrev pub busy_hint : ℕ → List ℕ
+busy_hint count = if count == 0 then [] else codes "hint: replies with status 503: " ++ (decimal count ++ codes "\n")
+
+-- how many documents there was no room for by that limit, where there was none for one
+abbrev pub limit_hint : ℕ → ℕ → List ℕ
+limit_hint count limit =
+    if count == 0 then []
+    else codes "hint: no room for " ++ (decimal count ++ (codes " documents: --store-limit is " ++ (decimal limit ++ codes " MiB\n")))

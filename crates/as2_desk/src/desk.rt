@@ -29,7 +29,7 @@ use crate::terms::{NamedStore, Terms};
 use crate::work::{work_of, work_over};
 use as2_agreement::Agreements;
 use as2_commands::{Options, Task, options_in};
-use as2_host::{Network, OpenStores, ReadFiles};
+use as2_host::{CountsBusy, Network, OpenStores, ReadFiles};
 use as2_http::{Journal, Sink, Source, push_all};
 use clap::Error;
 use clap::error::ErrorKind;
@@ -47,7 +47,7 @@ pub fn run<
     N: Network,
     R: Source,
     W: Sink,
-    H: Write + Journal,
+    H: Write + Journal + CountsBusy,
     E: Sink,
 >(
     alloc: Global,
@@ -117,7 +117,7 @@ fn carry_out<
     N: Network,
     R: Source,
     W: Sink,
-    H: Write + Journal,
+    H: Write + Journal + CountsBusy,
     E: Sink,
 >(
     alloc: Global,
@@ -161,6 +161,7 @@ fn carry_out<
                     let store = NamedStore {
                         path: store,
                         first: run.first,
+                        limit: run.limit,
                     };
                     work_over(&terms, store, work, host, console)
                 }

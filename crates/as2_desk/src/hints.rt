@@ -1,8 +1,8 @@
-//! What may help whoever looks on, a line each: what is given and not looked at, and which file can't be read. `places` has the
-//! lines on agreements, and `as2_sending` those on tries.
+//! What may help whoever looks on, a line each: what is given and not looked at, which file can't be read, how many replies were 503
+//! and how many documents there was no room for. `places` has the lines on agreements, and `as2_sending` those on tries.
 ghost use Rattle.std.specs.Prelude.{◌≡◌, OnOk, true};
 ghost use Rattle.std.specs.Io.KnownBytes.{Appends};
-ghost use Rattle.as2_desk.specs.Hints.{file_hint, file_hint_if, idle_hint};
+ghost use Rattle.as2_desk.specs.Hints.{busy_hint, file_hint, file_hint_if, idle_hint, limit_hint};
 
 use crate::escaping::write_escaped;
 use as2_commands::{Command, Question, Submission};
@@ -43,4 +43,30 @@ pub(crate) fn is_named<H: Write>(unread: bool, path: &str, hints: &mut H) -> boo
     ensures { result ≡ true → Appends (H.contents hints.old) (H.contents hints.new) (file_hint_if unread path.now) }
 {
     !unread || write_file(path, hints).is_ok()
+}
+
+/// Says how many replies had status 503, where one had; and whether that could be said.
+pub(crate) fn is_busy_told<H: Write>(count: u64, hints: &mut H) -> bool
+    ensures told { result ≡ true → Appends (H.contents hints.old) (H.contents hints.new) (busy_hint count) }
+    ensures none { count ≡ 0 → hints.new ≡ hints.old }
+{
+    if count == 0 {
+        return true;
+    }
+    write!(hints, "hint: replies with status 503: {count}\n").is_ok()
+}
+
+/// Says how many documents there was no room for by that limit in MiB, where there was none for one; and whether that could be said.
+pub(crate) fn is_limit_told<H: Write>(count: u64, limit: u64, hints: &mut H) -> bool
+    ensures told { result ≡ true → Appends (H.contents hints.old) (H.contents hints.new) (limit_hint count limit) }
+    ensures none { count ≡ 0 → hints.new ≡ hints.old }
+{
+    if count == 0 {
+        return true;
+    }
+    write!(
+        hints,
+        "hint: no room for {count} documents: --store-limit is {limit} MiB\n"
+    )
+    .is_ok()
 }

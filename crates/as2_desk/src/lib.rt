@@ -12,7 +12,6 @@ mod escaping;
 mod hints;
 mod lines;
 mod migrating;
-mod noting;
 mod places;
 mod posting;
 mod refusal;
@@ -24,5 +23,4 @@ mod work;
 
 pub use console::{Console, Host};
 pub use desk::run;
-pub use noting::Lines;
 pub use status::Ran;

@@ -11,34 +11,38 @@ ghost use Rattle.as2_desk.specs.Statuses.{done, exit_status, refused};
 ghost use Rattle.as2_desk.specs.Written.{written_of};
 
 use crate::console::Console;
+use crate::hints::is_busy_told;
 use crate::refusal::{CommandFault, refuse};
 use crate::status::{DONE, Ran};
 use crate::terms::Terms;
-use as2_http::{Journal, Served, Sink, Source, Unnoted, serve_stream};
+use as2_host::{CountsBusy, Tally};
+use as2_http::{Journal, Served, Sink, Source, serve_stream};
 use as2_records::Records;
 use as2_station::Station;
+use std::io::Write;
 
-/// Answers the requests of the input; the replies are noted where that is asked for.
-fn serve_input<K: Records, R: Source, W: Sink, H: Journal, E>(
+/// Answers the requests of the input; the replies are noted where that is asked for. How it ended, and how many replies had status 503.
+fn serve_input<K: Records, R: Source, W: Sink, H: Journal + CountsBusy, E>(
     terms: &Terms<'_>,
     station: &mut Station<K>,
     logs: bool,
     console: &mut Console<R, W, H, E>,
-) -> Served
+) -> (Served, u64)
     ensures errors { console.new.errors ≡ console.old.errors }
     ensures clean { (K.shows station.new).IsClean → (K.shows station.old).IsClean }
     ensures serves { (K.shows station.new).IsClean → (s : State) → (K.shows station.old).Rests s
         → (text : List ℕ) → R.left console.old.input ≡ Some text → (t : State) × (K.shows station.new).Rests t
         × Serves terms.now.agreements.now terms.now.moment s t text (R.left console.new.input)
         (spoken (W.written console.old.output) (if_noted logs (H.noted console.old.hints))) (spoken (W.written console.new.output) (if_noted logs (H.noted console.new.hints)))
-        (R.calls console.old.input) (R.calls console.new.input) result }
+        (R.calls console.old.input) (R.calls console.new.input) result.0 }
     ensures posts { (K.shows station.new).IsClean → (s : State) → (K.shows station.old).Rests s
         → (t : State) × (K.shows station.new).Rests t × RunsPosts terms.now.agreements.now terms.now.moment s t }
-    ensures cause { HasCause result (input_of R.Source console.old console.new) (output_of W.Sink console.old console.new) }
+    ensures cause { HasCause result.0 (input_of R.Source console.old console.new) (output_of W.Sink console.old console.new) }
     ensures silent { logs ≡ false → console.new.hints ≡ console.old.hints }
 {
+    let before = console.hints.busy();
     if logs {
-        return serve_stream(
+        let end = serve_stream(
             terms.alloc,
             terms.agreements,
             terms.moment,
@@ -47,20 +51,23 @@ fn serve_input<K: Records, R: Source, W: Sink, H: Journal, E>(
             &mut console.output,
             &mut console.hints,
         );
+        return (end, console.hints.busy().saturating_sub(before));
     }
-    serve_stream(
+    let mut replies = Tally::new();
+    let end = serve_stream(
         terms.alloc,
         terms.agreements,
         terms.moment,
         station,
         &mut console.input,
         &mut console.output,
-        &mut Unnoted,
-    )
+        &mut replies,
+    );
+    (end, replies.busy())
 }
 
 /// Answers the requests of the input.
-pub(crate) fn post<K: Records, R: Source, W: Sink, H: Journal, E: Sink>(
+pub(crate) fn post<K: Records, R: Source, W: Sink, H: Write + Journal + CountsBusy, E: Sink>(
     terms: &Terms<'_>,
     station: &mut Station<K>,
     logs: bool,
@@ -71,10 +78,11 @@ pub(crate) fn post<K: Records, R: Source, W: Sink, H: Journal, E: Sink>(
     ensures posts { (known : Option State) → IfSome known (λ s. (K.shows station.new).IsClean × (K.shows station.old).Rests s)
         → (it : Posts terms.now.agreements.now terms.now.moment known (input_of R.Source console.old console.new)
         (outcome_of W.Sink E.Sink console.old console.new (λ t. (K.shows station.new).Rests t)) result)
-        × (it.noted ≡ if_noted logs (H.noted console.old.hints)) × (it.new ≡ if_noted logs (H.noted console.new.hints)) }
-    ensures silent { logs ≡ false → console.new.hints ≡ console.old.hints }
+        × (it.noted ≡ if_noted logs (H.noted console.old.hints))
+        × ((told : H) × (busy : ℕ) × (it.new ≡ if_noted logs (H.noted told)) × (logs ≡ false → told ≡ console.old.hints) × (busy ≡ 0 → console.new.hints ≡ told)) }
 {
-    let end = serve_input(terms, station, logs, console);
+    let (end, busy) = serve_input(terms, station, logs, console);
+    let _ = is_busy_told(busy, &mut console.hints);
     tell_end(end, &mut console.errors)
 }
 

@@ -11,18 +11,20 @@ ghost use Rattle.as2_desk.specs.Written.{WritesBy};
 ghost use Rattle.as2_desk.specs.Statuses.{done, failed, refused};
 
 use crate::console::Console;
+use crate::hints::is_busy_told;
 use crate::lines::{Line, joined};
 use crate::refusal::{CommandFault, is_said, refuse, refuse_behind};
 use crate::status::{DONE, Ran, end_name};
 use crate::terms::Terms;
 use as2_commands::Serving;
 use as2_exchange::StoreFault;
-use as2_host::{Listens, Network, OpenFault};
+use as2_host::{CountsBusy, Listens, Network, OpenFault};
 use as2_http::{DeviceFault, Journal, Served, Sink, push_all};
 use as2_records::Records;
 use as2_station::Station;
 use as2_text::{Memory, Moment};
 use std::alloc::Global;
+use std::io::Write;
 
 /// Why no more connections are served.
 #[derive(Clone, Copy, Debug, PartialEq, Eq)]
@@ -49,7 +51,7 @@ fn listening_line<L: Listens>(alloc: Global, listener: &L) -> Result<String, Mem
 }
 
 /// Serves the next connection, notes its replies, and writes its line once it has ended.
-fn serve_one<K: Records, L: Listens, R, W: Sink, H: Journal, E>(
+fn serve_one<K: Records, L: Listens, R, W: Sink, H: Write + Journal + CountsBusy, E>(
     terms: &Terms<'_>,
     moment: &Option<Moment>,
     station: &mut Station<K>,
@@ -63,6 +65,7 @@ fn serve_one<K: Records, L: Listens, R, W: Sink, H: Journal, E>(
         (λ end s t. ServesOne terms.now.agreements.now moment.now (λ trace. L.ended listener.old moment.now trace end listener.new) s t)
         (λ end. WritesBy result (output_of W.Sink console.old console.new) (connection_line end)) }
 {
+    let before = console.hints.busy();
     let end = listener.serve(
         terms.alloc,
         terms.agreements,
@@ -70,6 +73,8 @@ fn serve_one<K: Records, L: Listens, R, W: Sink, H: Journal, E>(
         station,
         &mut console.hints,
     );
+    let busy = console.hints.busy().saturating_sub(before);
+    let _ = is_busy_told(busy, &mut console.hints);
     push_all(
         &mut console.output,
         connection_line(end).as_str().as_bytes(),
@@ -77,7 +82,7 @@ fn serve_one<K: Records, L: Listens, R, W: Sink, H: Journal, E>(
 }
 
 /// Serves the next connection, and looks then whether the records can still be read.
-fn serve_next<K: Records, L: Listens, R, W: Sink, H: Journal, E>(
+fn serve_next<K: Records, L: Listens, R, W: Sink, H: Write + Journal + CountsBusy, E>(
     terms: &Terms<'_>,
     moment: &Option<Moment>,
     station: &mut Station<K>,
@@ -101,7 +106,7 @@ fn serve_next<K: Records, L: Listens, R, W: Sink, H: Journal, E>(
 }
 
 /// Serves so many connections, one after the other, and writes a line for each as soon as it has ended.
-fn serve_connections<K: Records, L: Listens, R, W: Sink, H: Journal, E>(
+fn serve_connections<K: Records, L: Listens, R, W: Sink, H: Write + Journal + CountsBusy, E>(
     terms: &Terms<'_>,
     serving: &Serving<'_>,
     station: &mut Station<K>,
@@ -134,7 +139,7 @@ fn stop_fault(stop: Stop) -> CommandFault
 }
 
 /// Serves connections at an address.
-pub(crate) fn serve<K: Records, N: Network, R, W: Sink, H: Journal, E: Sink>(
+pub(crate) fn serve<K: Records, N: Network, R, W: Sink, H: Write + Journal + CountsBusy, E: Sink>(
     terms: &Terms<'_>,
     serving: Serving<'_>,
     station: &mut Station<K>,

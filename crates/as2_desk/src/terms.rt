@@ -22,4 +22,6 @@ pub(crate) struct NamedStore<'a> {
     pub path: &'a str,
     /// The number that a store begins with which is made.
     pub first: FirstNumber,
+    /// The most MiB that its files may have with a content more.
+    pub limit: u64,
 }

@@ -2,6 +2,8 @@
 ghost use Rattle.std.specs.Prelude.{◌≡◌, ◌⊎◌, ◌+◌, ℕ, Option, Ok, None, codes, IfErr, IfOk, IfSome, IsSomeAnd};
 ghost use Rattle.as2_exchange.specs.State.{State, content_limit};
 ghost use Rattle.as2_host.specs.Networks.{ExchangedOver, listening_of};
+ghost use Rattle.as2_host.specs.Stores.{Finds, opens_of};
+ghost use Rattle.as2_bounded.specs.Rooms.{room_of};
 ghost use Rattle.as2_desk.specs.Endings.{EndsRefused};
 ghost use Rattle.as2_desk.specs.Observed.{errors_of, input_of, outcome_of, output_of, stored_of};
 ghost use Rattle.as2_desk.specs.Runs.{Goes};
@@ -16,14 +18,16 @@ ghost use Rattle.as2_desk.specs.declared.refusal.CommandFault.TheVariants.{Store
 use crate::asking::ask;
 use crate::console::{Console, Host};
 use crate::documents::document_in;
+use crate::hints::is_limit_told;
 use crate::posting::post;
 use crate::refusal::{CommandFault, refuse};
 use crate::sending::send_due;
 use crate::serving::serve;
 use crate::status::Ran;
 use crate::terms::{NamedStore, Terms};
-use as2_commands::{Command, Question, Submission};
-use as2_host::{Network, OpenFault, OpenStores, ReadFiles};
+use as2_bounded::{Bounded, room_of};
+use as2_commands::{Command, FirstNumber, Question, Submission};
+use as2_host::{CountsBusy, Network, OpenFault, OpenStores, ReadFiles};
 use as2_http::{Journal, Sink, Source};
 use as2_records::Records;
 use as2_station::{NewDocument, Station};
@@ -86,7 +90,7 @@ pub(crate) fn work_of<'a, F: ReadFiles>(
 }
 
 /// Does the work at the station.
-fn do_at<K: Records, N: Network, R: Source, W: Sink, H: Write + Journal, E: Sink>(
+fn do_at<K: Records, N: Network, R: Source, W: Sink, H: Write + Journal + CountsBusy, E: Sink>(
     terms: &Terms<'_>,
     work: Work<'_>,
     station: &mut Station<K>,
@@ -120,7 +124,14 @@ fn do_at<K: Records, N: Network, R: Source, W: Sink, H: Write + Journal, E: Sink
 }
 
 /// Does the work, where there are records to do it over, and gives them back.
-fn do_over<K: Records + Drop, N: Network, R: Source, W: Sink, H: Write + Journal, E: Sink>(
+fn do_over<
+    K: Records + Drop,
+    N: Network,
+    R: Source,
+    W: Sink,
+    H: Write + Journal + CountsBusy,
+    E: Sink,
+>(
     terms: &Terms<'_>,
     work: Work<'_>,
     records: Result<K, OpenFault>,
@@ -156,16 +167,41 @@ fn do_over<K: Records + Drop, N: Network, R: Source, W: Sink, H: Write + Journal
     (ran, Some(station.into_records()))
 }
 
-/// Closes the records of that path, where they were opened.
-fn close_in<O: OpenStores>(stores: &mut O, path: &str, records: Option<O::Opened>)
-    ensures clean { IfSome records (λ last. O.is_clean stores.new → (O.Opened.shows last).IsClean) }
-    ensures kept { IfSome records (λ last. O.is_clean stores.new → (t : State) → (O.Opened.shows last).Rests t → (number : ℕ) → O.keeps stores.new path.now number t) }
+/// Opens the records of that path, or makes some that begin with `first`, with the room that a limit of so many MiB leaves.
+fn open_in<O: OpenStores>(
+    alloc: Global,
+    path: &str,
+    first: FirstNumber,
+    limit: u64,
+    stores: &mut O,
+) -> Result<Bounded<O::Opened>, OpenFault>
+    ensures found { Finds (λ b. O.Opened.shows b.records) (O.keeps stores.old path.now first) result }
+    ensures room { IfOk result (λ b. (size : ℕ) × O.takes stores.old path.now size × (b.room ≡ room_of limit size)) }
+    ensures fault { IfErr result (λ fault. O.fails stores.old path.now fault) }
+    ensures same { IfErr result (λ fault. (number : ℕ) (s : State) → O.keeps stores.old path.now number s → O.keeps stores.new path.now number s) }
+    ensures counted { O.opens stores.new ≡ O.opens stores.old + opens_of result }
+{
+    let room = room_of(limit, stores.size(path));
+    match stores.open(alloc, path, first) {
+        Ok(records) => Ok(Bounded::new(records, room)),
+        Err(fault) => Err(fault),
+    }
+}
+
+/// Closes the records of that path, where they were opened, and gives how many contents they had no room for.
+fn close_in<O: OpenStores>(stores: &mut O, path: &str, records: Option<Bounded<O::Opened>>) -> u64
+    ensures clean { IfSome records (λ last. O.is_clean stores.new → (O.Opened.shows last.records).IsClean) }
+    ensures kept { IfSome records (λ last. O.is_clean stores.new → (t : State) → (O.Opened.shows last.records).Rests t → (number : ℕ) → O.keeps stores.new path.now number t) }
     ensures none { records ≡ None → stores.new ≡ stores.old }
     ensures counted { O.opens stores.new ≡ O.opens stores.old }
+    ensures refused { IfSome records (λ last. result ≡ last.refused) }
 {
-    if let Some(records) = records {
-        stores.close(path, records);
-    }
+    let Some(records) = records else {
+        return 0;
+    };
+    let refused = records.refused();
+    stores.close(path, records.into_records());
+    refused
 }
 
 /// Does the work over the store that is named, which is opened and closed.
@@ -175,7 +211,7 @@ pub(crate) fn work_over<
     N: Network,
     R: Source,
     W: Sink,
-    H: Write + Journal,
+    H: Write + Journal + CountsBusy,
     E: Sink,
 >(
     terms: &Terms<'_>,
@@ -185,7 +221,7 @@ pub(crate) fn work_over<
     console: &mut Console<R, W, H, E>,
 ) -> Ran
     ensures status { (result.status ≡ done) ⊎ ((result.status ≡ refused) ⊎ (result.status ≡ failed)) }
-    ensures goes { Goes terms.now.agreements.now (record { first = store.entry.first; moment = terms.now.moment }) (Ok work.entry) (record {
+    ensures goes { Goes terms.now.agreements.now (record { first = store.entry.first; moment = terms.now.moment; limit = store.entry.limit }) (Ok work.entry) (record {
       input = input_of R.Source console.old console.new;
       outcome = outcome_of W.Sink E.Sink console.old console.new (Leaves store.entry.path.now (O.keeps host.new.stores store.entry.path.now));
       Unasked = host.new.network ≡ host.old.network;
@@ -196,14 +232,15 @@ pub(crate) fn work_over<
     ensures store { result.status ≡ failed → Stopped (SendsWork work.entry) (ServesWork work.entry) (input_of R.Source console.old console.new)
         (output_of W.Sink console.old console.new) (errors_of E.Sink console.old console.new) result }
 {
-    let NamedStore { path, first } = store;
+    let NamedStore { path, first, limit } = store;
     if path == ":memory:" {
         let records = host.stores.open_in_memory(terms.alloc, first);
         let (ran, _) = do_over(terms, work, records, &mut host.network, console);
         return ran;
     }
-    let records = host.stores.open(terms.alloc, path, first);
+    let records = open_in(terms.alloc, path, first, limit, &mut host.stores);
     let (ran, left) = do_over(terms, work, records, &mut host.network, console);
-    close_in(&mut host.stores, path, left);
+    let refused = close_in(&mut host.stores, path, left);
+    let _ = is_limit_told(refused, limit, &mut console.hints);
     ran
 }

@@ -75,6 +75,24 @@ impl FileSystem<'_> {
         self.beside(real.as_str(), "-wal")
     }
 
+    /// How many bytes the files of the store that stands under that path take: its own, and its log, where they can be seen.
+    pub(crate) fn size_of(&self, path: &str) -> u64 {
+        let own = self.length_of(self.name(path));
+        let log = self.length_of(self.log_of(path));
+        own.saturating_add(log)
+    }
+
+    /// How many bytes the file of that name has, where it can be seen.
+    fn length_of(&self, name: Result<String, OpenFault>) -> u64 {
+        let Ok(name) = name else {
+            return 0;
+        };
+        match fs::metadata(self.rt, &name) {
+            Ok(found) => found.len(),
+            Err(_) => 0,
+        }
+    }
+
     /// The place of the store that stands under that path.
     pub(crate) fn place_of(&self, path: &str) -> Result<Place, OpenFault>
         ensures { IfOk result (λ place. string_bytes place.name ≡ file_name path.now) }

@@ -74,6 +74,8 @@ impl<R: Records + Drop, K: KeepFiles<R> + Drop> OpenStores for StoreFiles<'_, R,
 
     ghost stays = { λ it path fault. ⊤ };
 
+    ghost takes = { λ it path size. ⊤ };
+
     ghost is_clean = { λ it. IsCleanEnd K.Disk.Disk it.end };
 
     ghost opens = { λ it. opens_by it.has_opened };
@@ -93,6 +95,10 @@ impl<R: Records + Drop, K: KeepFiles<R> + Drop> OpenStores for StoreFiles<'_, R,
         self.place = Some(place);
         self.has_opened = true;
         Ok(records)
+    }
+
+    fn size(&self, path: &str) -> u64 {
+        self.files.size_of(path)
     }
 
     fn open_in_memory(

@@ -3,3 +3,4 @@ pub mod Stores
 pub mod Migrating
 pub mod Serving
 pub mod Networks
+pub mod Busy

@@ -3,8 +3,10 @@
 
 mod files;
 mod network;
+mod noting;
 mod stores;
 
 pub use files::{FileFault, ReadFiles};
 pub use network::{CannotListen, Listens, Network};
+pub use noting::{CountsBusy, Lines, Tally};
 pub use stores::{Entries, Migration, OpenFault, OpenStores};

@@ -59,6 +59,9 @@ pub trait OpenStores {
     // what is kept under that path isn't migrated, for that fault
     ghost stays: { Self → List ℕ → TheFault → Type 0 };
 
+    // the files of that path take so many bytes
+    ghost takes: { Self → List ℕ → ℕ → Type 0 };
+
     // so far all that was read is what had been written
     ghost is_clean: { Self → Type 0 };
 
@@ -76,6 +79,10 @@ pub trait OpenStores {
         ensures fault { IfErr result (λ fault. fails self.old path.now fault) }
         ensures same { IfErr result (λ fault. (number : ℕ) (s : State) → keeps self.old path.now number s → keeps self.new path.now number s) }
         ensures counted { opens self.new ≡ opens self.old + opens_of result };
+
+    /// How many bytes the files of that path take, as far as that can be told; 0 where there are none.
+    fn size(&self, path: &str) -> u64
+        ensures { takes self.now path.now result };
 
     /// Opens new records in memory, which begin with `first`.
     fn open_in_memory(&self, alloc: Global, first: FirstNumber) -> Result<Self::InMemory, OpenFault>

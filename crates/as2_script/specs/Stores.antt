@@ -1,5 +1,5 @@
 -- What is kept of the stores of a script.
-use Rattle.std.specs.Prelude.{ℕ, Bool, true, false, Option, Some, None}
+use Rattle.std.specs.Prelude.{ℕ, List, Bool, true, false, Option, Some, None, bytes_eq, codes, if◌then◌else◌}
 use Rattle.sqlite.specs.Held.{Held, state}
 use Rattle.sqlite_trees.specs.declared.memory.MemStore.{MemStore}
 use Rattle.sqlite.specs.Steps.{over_memory}
@@ -15,3 +15,7 @@ Keeps (Some c) s = Rests (state over_memory c) s
 abbrev pub opens_by : Bool → ℕ
 opens_by true = 1
 opens_by false = 0
+
+-- how many bytes the files take by that word
+abbrev pub size_by : List ℕ → ℕ
+size_by word = if bytes_eq word (codes "large") then 1043576 else 0

@@ -9,8 +9,8 @@ mod files;
 mod network;
 mod stores;
 
-use as2_desk::{Console, Host, Lines, run};
-use as2_host::OpenStores;
+use as2_desk::{Console, Host, run};
+use as2_host::{Lines, OpenStores};
 use as2_http::Counted;
 use as2_kept::Kept;
 use files::Files;
@@ -80,9 +80,7 @@ fn run_counted<S: OpenStores, A: Ledger, B: Ledger, C: Ledger, D: Ledger, E: Led
     > = Console {
         input: Counted::new(input, reads.calls, reads.failed),
         output: Counted::new(output, writes.calls, writes.failed),
-        hints: Lines {
-            inner: Paper::new(alloc, given.calls.errors),
-        },
+        hints: Lines::new(Paper::new(alloc, given.calls.errors)),
         errors: Counted::new(errors, says.calls, says.failed),
     };
     let ran = run(
@@ -103,7 +101,10 @@ fn run_counted<S: OpenStores, A: Ledger, B: Ledger, C: Ledger, D: Ledger, E: Led
         status: ran.status,
         told: ran.told,
         output: output.into_inner().bytes,
-        errors: joined(hints.inner.bytes, errors.into_inner().bytes.as_slice()),
+        errors: joined(
+            hints.into_inner().bytes,
+            errors.into_inner().bytes.as_slice(),
+        ),
         is_unread: are_unread(given.parts.as_slice(), unread),
     };
     (ended, unread)

@@ -4,9 +4,9 @@
 ghost use Rattle.as2_http.specs.Devices.{Opens};
 
 use as2_connections::{Sockets, clock};
-use as2_desk::{Console, Host, Lines};
+use as2_desk::{Console, Host};
 use as2_files::{FileSystem, InFiles, KeepFiles, OpenFiles, Starting, StoreFiles};
-use as2_host::OpenStores;
+use as2_host::{Lines, OpenStores};
 use as2_http::Counted;
 use as2_kept::Kept;
 use as2_records::Records;
@@ -146,9 +146,7 @@ fn main(rt: HostRuntime) -> io::Result<ExitCode> {
     for word in &words {
         texts.push(word.as_str())?;
     }
-    let hints = Lines {
-        inner: LineWriter::new(rt.alloc(), rt.stderr())?,
-    };
+    let hints = Lines::new(LineWriter::new(rt.alloc(), rt.stderr())?);
     let status = run_over_files(&rt, texts.as_slice(), Starting { start: Unknown }, hints);
     Ok(ExitCode::from(status))
 }

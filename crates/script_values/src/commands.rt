@@ -128,7 +128,9 @@ fn say_options(answer: &mut Answer, options: &Options<'_>) {
             answer.say_number(run.first.get());
             answer.say(", moment ");
             answer.say_number(run.moment.seconds());
-            answer.say(": ");
+            answer.say(", at most ");
+            answer.say_number(run.limit);
+            answer.say(" MiB: ");
             say_command(answer, command)
         }
     }

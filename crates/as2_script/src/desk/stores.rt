@@ -4,7 +4,7 @@ ghost use Rattle.sqlite.specs.Held.{state};
 ghost use Rattle.sqlite.specs.Steps.{over_memory};
 ghost use Rattle.as2_exchange.specs.State.{State};
 ghost use Rattle.as2_host.specs.Stores.{MayCome};
-ghost use Rattle.as2_script.specs.Stores.{Keeps};
+ghost use Rattle.as2_script.specs.Stores.{Keeps, size_by};
 ghost use Rattle.as2_store.specs.Calls.{empty_store};
 ghost use Rattle.as2_store.specs.Stands.{Rests};
 
@@ -16,11 +16,14 @@ use as2_records::Records;
 use sqlite::{Connection, MemStore};
 use std::alloc::Global;
 
+/// How many bytes the files of a large store take: 5,000 below a MiB.
+const LARGE: u64 = 1_043_576;
+
 /// The stores of a command line: one, which is kept under every path.
 #[derive(Drop)]
 pub struct Stores<'a> {
     /// `broken`: nobody can say what stands there, the disk has a fault. `held`: a database that another process has. `other`: a file
-    /// that is no database. `bare`: a database without tables. `taken`: nothing, until a store is to be made. Else nothing.
+    /// that is no database. `bare`: a database without tables. `taken`: nothing, until a store is to be made. `large`: nothing, and its files take 5,000 bytes less than a MiB. Else nothing.
     pub word: &'a str,
     /// The store that stands there, where one does.
     pub kept: Option<Kept<MemStore>>,
@@ -80,6 +83,16 @@ fn found(alloc: Global, word: &str, first: FirstNumber) -> Result<Kept<MemStore>
     }
 }
 
+/// How many bytes the files take by that word.
+fn size_by(word: &str) -> u64
+    ensures { result ≡ size_by word.now }
+{
+    if word == "large" {
+        return LARGE;
+    }
+    0
+}
+
 /// Why what stands there isn't migrated: a store that is kept is of the version that is read.
 fn unmigrated(is_kept: bool, word: &str) -> OpenFault {
     if is_kept {
@@ -116,7 +129,7 @@ fn opened(
 
 impl OpenStores for Stores<'_> {
     ghost use Rattle.std.specs.Prelude.{⊤};
-    ghost use Rattle.as2_script.specs.Stores.{Keeps, opens_by};
+    ghost use Rattle.as2_script.specs.Stores.{Keeps, opens_by, size_by};
 
     type Opened = Kept<MemStore>;
 
@@ -129,6 +142,8 @@ impl OpenStores for Stores<'_> {
     ghost keeps_earlier = { λ _ _ _. ⊥ };
 
     ghost stays = { λ it path fault. ⊤ };
+
+    ghost takes = { λ it path size. size ≡ size_by it.word.now };
 
     ghost is_clean = { λ _. ⊤ };
 
@@ -153,6 +168,10 @@ impl OpenStores for Stores<'_> {
                 Err(fault)
             }
         }
+    }
+
+    fn size(&self, _path: &str) -> u64 {
+        size_by(self.word)
     }
 
     fn open_in_memory(

@@ -12,12 +12,12 @@ returns-clause-posts g c = λ known stood. (
   record {
     noted = if_noted c.args.logs (g.H.Journal.noted c.args.console.now.hints);
     new = if_noted c.args.logs (g.H.Journal.noted c.serve_input-end.new.console.hints);
-    end = c.serve_input-end.result;
+    end = c.serve_input-end.result.0;
     cause = c.serve_input-end.ensures.cause;
     posts = each_known _ _ known stood (λ s it. c.serve_input-end.ensures.posts it.0 s it.1);
     serves = each_known _ _ known stood (λ s it. c.serve_input-end.ensures.serves it.0 s it.1);
-    told = subst (λ (e : g.row.E.Denot). Ends (exit_status c.serve_input-end.result) (end_line c.serve_input-end.result) (written_of g.E.Sink e c.tell_end.new.errors) c.tell_end.result) c.serve_input-end.ensures.errors c.tell_end.ensures;
+    told = subst (λ (e : g.row.E.Denot). Ends (exit_status c.serve_input-end.result.0) (end_line c.serve_input-end.result.0) (written_of g.E.Sink e c.tell_end.new.errors) c.tell_end.result) c.serve_input-end.ensures.errors c.tell_end.ensures;
   },
   refl,
-  refl,
+  (c.serve_input-end.new.console.hints, c.serve_input-end.result.1, refl, c.serve_input-end.ensures.silent, c.is_busy_told.ensures.none),
 )

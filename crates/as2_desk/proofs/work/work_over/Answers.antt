@@ -18,7 +18,7 @@ returns-then-eq-clause-goes g c =
     let stores = c.args.host.now.stores in
     let opens = g.O.OpenStores.opens stores in
     let is : is_in_memory path ≡ true = sym c.eq.ensures ∙ c.if-eq.true in
-    goes_in_memory g.O.InMemory.Records.shows c.args.terms.now.agreements.now (record { first = c.args.store.first; moment = c.args.terms.now.moment }) c.args.work
+    goes_in_memory g.O.InMemory.Records.shows c.args.terms.now.agreements.now (record { first = c.args.store.first; moment = c.args.terms.now.moment; limit = c.args.store.limit }) c.args.work
     (record {
       input = input_of g.R.Source c.args.console.now c.do_over.new.console;
       outcome = outcome_of g.W.Sink g.E.Sink c.args.console.now c.do_over.new.console (Leaves path (g.O.OpenStores.keeps stores path));
@@ -49,12 +49,12 @@ returns-clause-goes g c =
     let path = c.args.store.path.now in
     let first = c.args.store.first in
     let was = c.args.host.now.stores in
-    let stores = c.close_in.new.stores in
+    let stores = c.close_in-refused.new.stores in
     let opened = g.O.OpenStores.opens was in
     let opens = g.O.OpenStores.opens stores in
     let Clean = g.O.OpenStores.is_clean stores in
     let is : is_in_memory path ≡ false = sym c.eq.ensures ∙ c.if-eq.false in
-    goes_kept g.O.Opened.Records.shows c.args.terms.now.agreements.now (record { first = c.args.store.first; moment = c.args.terms.now.moment }) c.args.work
+    goes_kept (λ b. g.O.Opened.Records.shows b.records) c.args.terms.now.agreements.now (record { first = c.args.store.first; moment = c.args.terms.now.moment; limit = c.args.store.limit }) c.args.work
     (record {
       input = input_of g.R.Source c.args.console.now c.do_over-left.new.console;
       outcome = outcome_of g.W.Sink g.E.Sink c.args.console.now c.do_over-left.new.console (Leaves path (g.O.OpenStores.keeps stores path));
@@ -63,10 +63,10 @@ returns-clause-goes g c =
       listening = listening_of g.N.Network g.N.Listener.Listens c.args.host.now.network c.do_over-left.new.network;
     })
     (stored_of g.O.OpenStores was stores path)
-    c.do_over-left.result.0 c.do_over-left.result.1 c.open-records.result Clean (g.O.OpenStores.keeps was path first) opened opens
-    c.open-records.ensures.found c.do_over-left.ensures.fails c.do_over-left.ensures.does
-    (λ none. not_opened g.O.OpenStores was c.open-records.new.self stores path c.open-records.result is c.open-records.ensures.fault c.open-records.ensures.same (c.close_in.ensures.none none))
-    (c.close_in.ensures.counted ∙ c.open-records.ensures.counted) (λ same. same) (λ more. subst (λ (b : Bool). opens ≡ opened + opens_at b) (sym is) more)
+    c.do_over-left.result.0 c.do_over-left.result.1 c.open_in-records.result Clean (g.O.OpenStores.keeps was path first) opened opens
+    c.open_in-records.ensures.found c.do_over-left.ensures.fails c.do_over-left.ensures.does
+    (λ none. not_opened g.O.OpenStores was c.open_in-records.new.stores stores path c.open_in-records.result is c.open_in-records.ensures.fault c.open_in-records.ensures.same (c.close_in-refused.ensures.none none))
+    (c.close_in-refused.ensures.counted ∙ c.open_in-records.ensures.counted) (λ same. same) (λ more. subst (λ (b : Bool). opens ≡ opened + opens_at b) (sym is) more)
     (λ s from. subst (λ (b : Bool). ByPlace b (s ≡ empty (LaterVersion 0) first) (g.O.OpenStores.keeps was path first s × Clean)) is from)
-    c.close_in.ensures.clean
-    (each_left c.do_over-left.result.1 Clean (λ l t. (g.O.Opened.Records.shows l).Rests t) (λ t. (number : ℕ) → g.O.OpenStores.keeps stores path number t) (Leaves path (g.O.OpenStores.keeps stores path)) c.close_in.ensures.kept (λ t keeps. subst (λ (b : Bool). ByPlace b ⊤ ((number : ℕ) → g.O.OpenStores.keeps stores path number t)) (sym is) keeps))
+    c.close_in-refused.ensures.clean
+    (each_left c.do_over-left.result.1 Clean (λ l t. (g.O.Opened.Records.shows l.records).Rests t) (λ t. (number : ℕ) → g.O.OpenStores.keeps stores path number t) (Leaves path (g.O.OpenStores.keeps stores path)) c.close_in-refused.ensures.kept (λ t keeps. subst (λ (b : Bool). ByPlace b ⊤ ((number : ℕ) → g.O.OpenStores.keeps stores path number t)) (sym is) keeps))

@@ -1,0 +1,15 @@
+-- Room for contents: how much of it one takes, and when there is none.
+use Rattle.std.specs.Prelude.{◌+◌, ◌-◌, ◌*◌, ◌/◌, ◌^◌, ℕ, min, nat_lt, Option, Some, None, if◌then◌else◌}
+
+-- how many bytes of a store's files a content of so many bytes is reckoned to take: itself, a thirty-second of it for what each page has
+-- of its own, and 2 KiB for its rows
+abbrev pub reckoned : ℕ → ℕ
+reckoned length = length + length / 32 + 2048
+
+-- the room that such a content leaves, where there is room for it
+abbrev pub room_behind : ℕ → ℕ → Option ℕ
+room_behind room length = if nat_lt room (reckoned length) then None else Some (room - reckoned length)
+
+-- the room that files have which take so many bytes, and may take so many MiB
+abbrev pub room_of : ℕ → ℕ → ℕ
+room_of limit size = min (limit * 1048576) (2 ^ 64 - 1) - size
