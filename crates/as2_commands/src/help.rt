@@ -8,7 +8,7 @@ Exit status: 0 done; 1 refused, and one line on standard error says why; 2 a fau
 
 A document that would take the store's files past '--store-limit' gets what a full disk gives: a post is
 answered by 503, and 'submit' is 'store: Disk'. How many there were is told on standard error:
-'hint: no room for 3 documents: --store-limit is 2048 MiB'.
+'hint: documents refused by --store-limit 2048: 3'.
 
 Examples:
   as2desk --agreements agreements.toml --store station.db check

@@ -22,8 +22,8 @@ file_hint_if unread path = if unread then file_hint path else []
 abbrev pub busy_hint : ℕ → List ℕ
 busy_hint count = if count == 0 then [] else codes "hint: replies with status 503: " ++ (decimal count ++ codes "\n")
 
--- how many documents there was no room for by that limit, where there was none for one
+-- how many documents were refused by that limit, where one was
 abbrev pub limit_hint : ℕ → ℕ → List ℕ
 limit_hint count limit =
     if count == 0 then []
-    else codes "hint: no room for " ++ (decimal count ++ (codes " documents: --store-limit is " ++ (decimal limit ++ codes " MiB\n")))
+    else codes "hint: documents refused by --store-limit " ++ (decimal limit ++ (codes ": " ++ (decimal count ++ codes "\n")))

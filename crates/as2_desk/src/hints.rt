@@ -1,5 +1,5 @@
 //! What may help whoever looks on, a line each: what is given and not looked at, which file can't be read, how many replies were 503
-//! and how many documents there was no room for. `places` has the lines on agreements, and `as2_sending` those on tries.
+//! and how many documents were refused by the limit of the store. `places` has the lines on agreements, and `as2_sending` those on tries.
 ghost use Rattle.std.specs.Prelude.{◌≡◌, OnOk, true};
 ghost use Rattle.std.specs.Io.KnownBytes.{Appends};
 ghost use Rattle.as2_desk.specs.Hints.{busy_hint, file_hint, file_hint_if, idle_hint, limit_hint};
@@ -56,7 +56,7 @@ pub(crate) fn is_busy_told<H: Write>(count: u64, hints: &mut H) -> bool
     write!(hints, "hint: replies with status 503: {count}\n").is_ok()
 }
 
-/// Says how many documents there was no room for by that limit in MiB, where there was none for one; and whether that could be said.
+/// Says how many documents were refused by that limit in MiB, where one was; and whether that could be said.
 pub(crate) fn is_limit_told<H: Write>(count: u64, limit: u64, hints: &mut H) -> bool
     ensures told { result ≡ true → Appends (H.contents hints.old) (H.contents hints.new) (limit_hint count limit) }
     ensures none { count ≡ 0 → hints.new ≡ hints.old }
@@ -66,7 +66,7 @@ pub(crate) fn is_limit_told<H: Write>(count: u64, limit: u64, hints: &mut H) -> 
     }
     write!(
         hints,
-        "hint: no room for {count} documents: --store-limit is {limit} MiB\n"
+        "hint: documents refused by --store-limit {limit}: {count}\n"
     )
     .is_ok()
 }
