@@ -1,10 +1,10 @@
 -- Room for contents: how much of it one takes, and when there is none.
 use Rattle.std.specs.Prelude.{◌+◌, ◌-◌, ◌*◌, ◌/◌, ◌^◌, ℕ, min, nat_lt, Option, Some, None, if◌then◌else◌}
 
--- how many bytes of a store's files a content of so many bytes is reckoned to take: itself, a thirty-second of it for what each page has
--- of its own, and 2 KiB for its rows
+-- how many bytes of a store's files a content of so many bytes is reckoned to take: itself; a thirty-second of it for what each page has
+-- of its own; the rest of its last page, which is as long as itself at most; and its rows
 abbrev pub reckoned : ℕ → ℕ
-reckoned length = length + length / 32 + 2048
+reckoned length = length + length / 32 + min length 2304 + 512
 
 -- the room that such a content leaves, where there is room for it
 abbrev pub room_behind : ℕ → ℕ → Option ℕ

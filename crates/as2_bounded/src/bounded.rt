@@ -12,8 +12,11 @@ use std::alloc::Global;
 /// What one part of a content takes more, for what each page of a file has of its own.
 const PAGE_SHARE: u64 = 32;
 
+/// The most bytes of its last page that a content leaves empty.
+const PAGE_REST: u64 = 2304;
+
 /// How many bytes the rows of an entry take.
-const ROWS: u64 = 2048;
+const ROWS: u64 = 512;
 
 /// How many bytes a MiB has.
 const MEBIBYTE: u64 = 1_048_576;
@@ -31,6 +34,7 @@ fn room_behind(room: u64, length: u64) -> Option<u64>
 {
     room.checked_sub(length)?
         .checked_sub(length / PAGE_SHARE)?
+        .checked_sub(length.min(PAGE_REST))?
         .checked_sub(ROWS)
 }
 

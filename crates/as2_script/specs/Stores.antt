@@ -18,4 +18,4 @@ opens_by false = 0
 
 -- how many bytes the files take by that word
 abbrev pub size_by : List ℕ → ℕ
-size_by word = if bytes_eq word (codes "large") then 1043576 else 0
+size_by word = if bytes_eq word (codes "large") then 1047476 else 0

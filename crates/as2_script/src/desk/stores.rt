@@ -16,14 +16,14 @@ use as2_records::Records;
 use sqlite::{Connection, MemStore};
 use std::alloc::Global;
 
-/// How many bytes the files of a large store take: 5,000 below a MiB.
-const LARGE: u64 = 1_043_576;
+/// How many bytes the files of a large store take: 1,100 below a MiB.
+const LARGE: u64 = 1_047_476;
 
 /// The stores of a command line: one, which is kept under every path.
 #[derive(Drop)]
 pub struct Stores<'a> {
     /// `broken`: nobody can say what stands there, the disk has a fault. `held`: a database that another process has. `other`: a file
-    /// that is no database. `bare`: a database without tables. `taken`: nothing, until a store is to be made. `large`: nothing, and its files take 5,000 bytes less than a MiB. Else nothing.
+    /// that is no database. `bare`: a database without tables. `taken`: nothing, until a store is to be made. `large`: nothing, and its files take 1,100 bytes less than a MiB. Else nothing.
     pub word: &'a str,
     /// The store that stands there, where one does.
     pub kept: Option<Kept<MemStore>>,
