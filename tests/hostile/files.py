@@ -282,7 +282,31 @@ def great_store(runner, documents=64):
     seconds, size = time.monotonic() - began, os.path.getsize(desk.path("great.db")) // MEBIBYTE
     runner.differences.expect("a great store: the status", status, 0)
     if peak // 1024 > size:
-        runner.differences.tell_known(f"to open a store of {size} MiB takes {peak // 1024} MiB of memory and {seconds:.2f} s; a `--store-limit` is wanted")
+        print(f"      to open a store of {size} MiB takes {peak // 1024} MiB of memory and {seconds:.2f} s", flush=True)
+    desk.store = "station.db"
+
+
+def store_limit(runner, limit=2):
+    """Stores that grow up to `--store-limit`, by documents of one size each: what the files take then, what is refused, and what goes on."""
+    desk, differences = runner.desk, runner.differences
+    for length in (0, 500, 2_100, 3_000, 4_100, 10_000, 100_000):
+        desk.store = f"limited-{length}.db"
+        what, posts = f"documents of {length} bytes up to {limit} MiB", limit * MEBIBYTE // (length + 512) + 2
+        text = b"".join(post_of(b"up-%d" % turn, bytes(length)) for turn in range(posts)) + post_of(b"up-0", bytes(length))
+        found = runner.run(what, "--store-limit", str(limit), "post", text=text)
+        replies = [reply[0] for reply in replies_of(found[1])[0]]
+        taken = replies[:-1].count(200)
+        differences.expect(f"{what}: the replies", (found[0], replies), (0, [200] * taken + [503] * (posts - taken) + [200]))
+        hints = f"hint: replies with status 503: {posts - taken}\nhint: documents refused by --store-limit {limit}: {posts - taken}\n"
+        differences.expect(f"{what}: the hints", found[2].decode(), hints)
+        size = os.path.getsize(desk.path(desk.store))
+        differences.expect(f"{what}: the file has no more", size <= limit * MEBIBYTE, True)
+        listed = runner.run(f"{what}: list in", "list", "in")[1].count(b"\n")
+        differences.expect(f"{what}: what is recorded", listed, taken)
+        write(desk, "great.edi", bytes(MEBIBYTE))
+        runner.want(f"{what}: a great document", 3, "store: Disk", "--store-limit", str(limit), "submit", "--from", "Supplier", "--to", "Buyer", "great.edi")
+        runner.want(f"{what}: without the limit", 0, "", "submit", "--from", "Supplier", "--to", "Buyer", "great.edi")
+        print(f"      {what}: {taken} taken, {100 * size // (limit * MEBIBYTE)} of 100 parts of it used", flush=True)
     desk.store = "station.db"
 
 
@@ -524,8 +548,8 @@ def served_full(runner, answered, posts=6):
     differences.expect("serve on a full disk", (status, set(ends)), (0, {"Closed"}))
     differences.expect("serve on a full disk: the replies", {reply and reply[:2] for reply in found} <= {(200, None), (503, "store fault")}, True)
     refused = sum(bool(reply) and reply[0] == 503 for reply in found)
-    if refused and not any("hint" in line for line in server.said):
-        differences.tell_known(f"serve on a full disk answers {refused} posts by 503, says no `hint:` and ends with status {status}")
+    told = [int(line.split(":")[-1]) for line in server.said if line.startswith("hint: replies with status 503: ")]
+    differences.expect("serve on a full disk: how many replies of 503 it tells", sum(told), refused)
     if found[-1] and found[-1][0] == 503:
         differences.tell_known("serve answers 503 with room on the disk again; that it ends with `store: Disk` and status 3 is wanted")
 
@@ -721,7 +745,7 @@ def main():
         program = shutil.copy(os.path.abspath(given.program), shared) if given.program != STARTER else STARTER
         runner = Runner(Desk(program, folder), differences)
         for section, more in ((agreements, [dice]), (endless, []), (paths, []), (inputs, []), (rights, []), (streams, []), (full_disk, []),
-                              (faults_of_the_disk, []), (great_store, []), (stores, [given.stores, dice])):
+                              (faults_of_the_disk, []), (great_store, []), (store_limit, []), (stores, [given.stores, dice])):
             begun = time.monotonic()
             section(runner, *more)
             print(f"ok    {section.__name__.replace('_', ' ')}: {time.monotonic() - begun:.1f} s", flush=True)
