@@ -18,7 +18,7 @@ use Rattle.as2_commands.specs.declared.tasks.Question.{Question}
 use Rattle.as2_commands.specs.declared.tasks.Question.TheVariants as question
 use Rattle.as2_commands.specs.declared.tasks.RunOptions.{RunOptions}
 use Rattle.as2_commands.specs.declared.tasks.Task.{Task}
-use Rattle.as2_commands.specs.declared.tasks.Task.TheVariants.{Check, Migrate, Run}
+use Rattle.as2_commands.specs.declared.tasks.Task.TheVariants.{Check, Migrate, Verify, Run}
 use Rattle.as2_commands.specs.declared.tasks.ServingWaits.{ServingWaits}
 use Rattle.as2_commands.specs.declared.tasks.Waits.{Waits}
 
@@ -250,6 +250,32 @@ no_migrate (command.Ask q) is = no_migrate_question q is
 no_migrate (command.Send s) is = absurd (apart 109103 115110 (lit< tt) (ap mark is))
 no_migrate (command.Serve s) is = absurd (apart 109103 115114 (lit< tt) (ap mark is))
 
+-- nor is `verify`
+no_verify_question : (q : Question Submission) → codes "verify" ≡ question_word q → ⊥
+unfolding mark
+no_verify_question (question.Submit s) is = absurd (apart 115098 118114 (lit< tt) (ap mark (sym is)))
+no_verify_question question.Tick is = absurd (apart 116099 118114 (lit< tt) (ap mark (sym is)))
+no_verify_question (question.Resend s) is = absurd (apart 114115 118114 (lit< tt) (ap mark (sym is)))
+no_verify_question (question.List s i) is = absurd (apart 108115 118114 (lit< tt) (ap mark (sym is)))
+no_verify_question question.Outstanding is = absurd (apart 111116 118114 (lit< tt) (ap mark (sym is)))
+no_verify_question (question.Show s) is = absurd (apart 115111 118114 (lit< tt) (ap mark (sym is)))
+no_verify_question (question.Fetch s) is = absurd (apart 102116 118114 (lit< tt) (ap mark (sym is)))
+
+no_verify : (command : Command Submission) → codes "verify" ≡ word_of command → ⊥
+unfolding mark
+no_verify (command.Post p) is = absurd (apart 112115 118114 (lit< tt) (ap mark (sym is)))
+no_verify (command.Ask q) is = no_verify_question q is
+no_verify (command.Send s) is = absurd (apart 115110 118114 (lit< tt) (ap mark (sym is)))
+no_verify (command.Serve s) is = absurd (apart 115114 118114 (lit< tt) (ap mark (sym is)))
+
+check_verify : codes "check" ≡ codes "verify" → ⊥
+unfolding mark
+check_verify is = absurd (apart 99101 118114 (lit< tt) (ap mark is))
+
+migrate_verify : codes "migrate" ≡ codes "verify" → ⊥
+unfolding mark
+migrate_verify is = absurd (apart 109103 118114 (lit< tt) (ap mark is))
+
 check_migrate : codes "check" ≡ codes "migrate" → ⊥
 unfolding mark
 check_migrate is = absurd (apart 99101 109103 (lit< tt) (ap mark is))
@@ -262,6 +288,13 @@ task_one values (Some named) clock Migrate Check x y = absurd (check_migrate (sy
 task_one values (Some named) clock Migrate Migrate x y = refl
 task_one values (Some named) clock Migrate (Run run asked) x y = absurd (no_migrate asked (sym x ∙ y.0.0))
 task_one values (Some named) clock (Run run asked) Migrate x y = absurd (no_migrate asked (sym y ∙ x.0.0))
+task_one values (Some named) clock Check (Verify run) x y = absurd (check_verify (sym x ∙ y.0))
+task_one values (Some named) clock Migrate (Verify run) x y = absurd (migrate_verify (sym x ∙ y.0))
+task_one values (Some named) clock (Verify run) Check x y = absurd (check_verify (sym y ∙ x.0))
+task_one values (Some named) clock (Verify run) Migrate x y = absurd (migrate_verify (sym y ∙ x.0))
+task_one values (Some named) clock (Verify run) (Verify other) x y = ap Verify (run_one values clock run other x.1 y.1)
+task_one values (Some named) clock (Verify run) (Run other asked) x y = absurd (no_verify asked (sym x.0 ∙ y.0.0))
+task_one values (Some named) clock (Run run asked) (Verify other) x y = absurd (no_verify asked (sym y.0 ∙ x.0.0))
 task_one values (Some named) clock Check (Run run asked) x y = absurd (no_check asked (sym x ∙ y.0.0))
 task_one values (Some named) clock (Run run asked) Check x y = absurd (no_check asked (sym y ∙ x.0.0))
 task_one values (Some named) clock (Run run asked) (Run other later) x y =

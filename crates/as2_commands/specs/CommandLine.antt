@@ -101,6 +101,7 @@ abbrev pub commands : List Shape
 commands =
     command (codes "check") []
     ∷ command (codes "migrate") []
+    ∷ command (codes "verify") []
     ∷ post
     ∷ submit
     ∷ command (codes "send") (timeout ∷ [])

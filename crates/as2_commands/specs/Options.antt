@@ -16,7 +16,7 @@ use Rattle.as2_commands.specs.declared.tasks.Question.{Question}
 use Rattle.as2_commands.specs.declared.tasks.Question.TheVariants.{Submit, Tick, Resend, List as Listing, Outstanding, Show, Fetch}
 use Rattle.as2_commands.specs.declared.tasks.RunOptions.{RunOptions}
 use Rattle.as2_commands.specs.declared.tasks.Task.{Task}
-use Rattle.as2_commands.specs.declared.tasks.Task.TheVariants.{Check, Migrate, Run}
+use Rattle.as2_commands.specs.declared.tasks.Task.TheVariants.{Check, Migrate, Verify, Run}
 
 -- the text says the number in decimal digits; a plus may stand before them
 abbrev pub Says : Text → ℕ → Type 0
@@ -148,6 +148,7 @@ abbrev pub Tasks : List Row → Option (Text × List Row) → Option ℕ → Tas
 Tasks values None clock task = ⊥
 Tasks values (Some command) clock Check = command.0 ≡ codes "check"
 Tasks values (Some command) clock Migrate = command.0 ≡ codes "migrate"
+Tasks values (Some command) clock (Verify options) = (command.0 ≡ codes "verify") × AsksRun values clock options
 Tasks values (Some command) clock (Run options asked) = Commands values command.0 command.1 asked × AsksRun values clock options
 
 -- the paths of the file of agreements and of the store, and what is asked for

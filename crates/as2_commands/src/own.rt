@@ -16,6 +16,8 @@ pub(crate) const CHECK: &str = "check";
 
 pub(crate) const MIGRATE: &str = "migrate";
 
+pub(crate) const VERIFY: &str = "verify";
+
 pub(crate) const POST: &str = "post";
 
 pub(crate) const SUBMIT: &str = "submit";
@@ -55,6 +57,13 @@ pub(crate) fn migrate<'a>(alloc: Global) -> Made<'a>
 {
     let about = "Makes a store of an earlier version one of this version";
     named(alloc, MIGRATE, about, help::MIGRATE)
+}
+
+pub(crate) fn verify<'a>(alloc: Global) -> Made<'a>
+    ensures { IfOk result (Looks (command (codes "verify") [])) }
+{
+    let about = "Looks through all records, and prints what is wrong with them";
+    named(alloc, VERIFY, about, help::VERIFY)
 }
 
 pub(crate) fn post<'a>(alloc: Global) -> Made<'a>

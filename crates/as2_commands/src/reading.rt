@@ -18,7 +18,7 @@ use crate::args::{
 };
 use crate::fault::OptionFault;
 use crate::first_number::FirstNumber;
-use crate::own::{CHECK, MIGRATE};
+use crate::own::{CHECK, MIGRATE, VERIFY};
 use crate::tasks::{
     Command, Options, Question, RunOptions, Serving, ServingWaits, Submission, Task, Waits,
 };
@@ -81,6 +81,9 @@ fn asked<'a>(found: &ArgMatches<'a>, clock: Option<u64>) -> Result<Task<'a>, Opt
     }
     if word == MIGRATE {
         return Ok(Task::Migrate);
+    }
+    if word == VERIFY {
+        return Ok(Task::Verify(run_options(found, clock)?));
     }
     let command = command_of(found, word, own)?;
     Ok(Task::Run(run_options(found, clock)?, command))

@@ -111,6 +111,8 @@ pub enum Task<'a> {
     Check,
     /// The store, which an earlier version made, becomes one of the version that is read.
     Migrate,
+    /// The entries of the records are looked through.
+    Verify(RunOptions),
     /// A command is carried out over the records.
     Run(RunOptions, Command<'a, Submission<'a>>),
 }

@@ -11,7 +11,8 @@ use Rattle.as2_desk.proofs.Working.{does_left, observing}
 use Rattle.as2_desk.specs.Endings.{EndsRefused}
 use Rattle.as2_desk.specs.Observed.{Observed, Stored}
 use Rattle.as2_desk.specs.Runs.{Goes}
-use Rattle.as2_desk.specs.Works.{Does, Work}
+use Rattle.as2_desk.specs.Works.{Does}
+use Rattle.as2_desk.specs.declared.work.Work.{Work}
 use Rattle.as2_desk.specs.declared.refusal.CommandFault.TheVariants.{Store}
 use Rattle.as2_desk.specs.declared.status.Ran.{Ran}
 

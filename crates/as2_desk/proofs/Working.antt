@@ -7,8 +7,10 @@ use Rattle.as2_http.specs.declared.stream.Served.{Served}
 use Rattle.as2_desk.proofs.HandedBack.{SaysAgain, both_known, leaving, posts_left}
 use Rattle.as2_desk.specs.Connections.{AwaitsFrom, ServesCount}
 use Rattle.as2_desk.specs.Observed.{Observed, Outcome}
-use Rattle.as2_desk.specs.Works.{Does, Work}
+use Rattle.as2_desk.specs.Works.{CarriesOut, Does, Read}
 use Rattle.as2_desk.specs.declared.status.Ran.{Ran}
+use Rattle.as2_desk.specs.declared.work.Work.{Work}
+use Rattle.as2_desk.specs.declared.work.Work.TheVariants.{At, Verify}
 use Rattle.as2_commands.specs.declared.tasks.Command.TheVariants as command
 
 module _ (count : ℕ) (known : Option State) (o : Outcome) (Left : State → Type 0) (l : Listening) (ran : Ran) (again : SaysAgain known Left o.Left) where
@@ -27,11 +29,17 @@ abbrev pub observing : Observed → (State → Type 0) → Observed
 observing o Left = record o { outcome = leaving o.outcome Left }
 
 -- the state may be said in other words
+pub carried_left : (A : AgreedValues) (m : ℕ) (c : Read) (known : Option State) (o : Observed) (Left : State → Type 0) (ran : Ran)
+    → SaysAgain known Left o.outcome.Left → CarriesOut A m c known (observing o Left) ran → CarriesOut A m c known o ran
+carried_left A m (command.Post logs) known o Left ran again it = (it.0, posts_left A m known o.input o.outcome Left ran again it.1)
+carried_left A m (command.Ask q) known o Left ran again it =
+    (it.0, it.1, record { told = it.2.told; refused = it.2.refused; fault = it.2.fault; tells = both_known _ _ _ known again it.2.tells (λ s later tells. (tells.0, later tells.0 tells.1, tells.2)); by_history = both_known _ _ _ known again it.2.by_history (λ s later by. (by.0, later by.0 by.1, by.2)); prints = it.2.prints })
+carried_left A m (command.Send waits) known o Left ran again it =
+    (it.0, record { end = it.1.end; sends = both_known _ _ _ known again it.1.sends (λ s later sends. (sends.0, later sends.0 sends.1, sends.2)); unwritten = it.1.unwritten; sound = it.1.sound; told = it.1.told })
+carried_left A m (command.Serve serving) known o Left ran again it = (it.0, serves_left serving.count known o.outcome Left (o.listening A serving) ran again it.1)
+
 pub does_left : (A : AgreedValues) (m : ℕ) (w : Work) (known : Option State) (o : Observed) (Left : State → Type 0) (ran : Ran)
     → SaysAgain known Left o.outcome.Left → Does A m w known (observing o Left) ran → Does A m w known o ran
-does_left A m (command.Post logs) known o Left ran again it = (it.0, posts_left A m known o.input o.outcome Left ran again it.1)
-does_left A m (command.Ask q) known o Left ran again it =
-    (it.0, it.1, record { told = it.2.told; refused = it.2.refused; fault = it.2.fault; tells = both_known _ _ _ known again it.2.tells (λ s later tells. (tells.0, later tells.0 tells.1, tells.2)); by_history = both_known _ _ _ known again it.2.by_history (λ s later by. (by.0, later by.0 by.1, by.2)); prints = it.2.prints })
-does_left A m (command.Send waits) known o Left ran again it =
-    (it.0, record { end = it.1.end; sends = both_known _ _ _ known again it.1.sends (λ s later sends. (sends.0, later sends.0 sends.1, sends.2)); unwritten = it.1.unwritten; sound = it.1.sound; told = it.1.told })
-does_left A m (command.Serve serving) known o Left ran again it = (it.0, serves_left serving.count known o.outcome Left (o.listening A serving) ran again it.1)
+does_left A m (At c) known o Left ran again it = carried_left A m c known o Left ran again it
+does_left A m Verify known o Left ran again it =
+    (it.0, it.1, record { came = it.2.came; audits = both_known _ _ _ known again it.2.audits (λ s later audits. (later s audits.0, audits.1)); prints = it.2.prints })

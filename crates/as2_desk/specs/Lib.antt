@@ -19,3 +19,4 @@ pub mod SendingDue
 pub mod Connections
 pub mod Works
 pub mod Runs
+pub mod Verifying

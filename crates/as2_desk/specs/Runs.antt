@@ -13,11 +13,12 @@ use Rattle.as2_desk.specs.Works.{Begun, Does, IsWork}
 use Rattle.as2_desk.specs.Written.{Breaks, WritesWhole, Written}
 use Rattle.as2_desk.specs.declared.refusal.CommandFault.TheVariants.{CannotWrite, Memory}
 use Rattle.as2_desk.specs.declared.status.Ran.{Ran}
+use Rattle.as2_desk.specs.declared.work.Work.TheVariants.{Verify as Looking}
 use Rattle.clap.specs.Words.{Text}
 use Rattle.as2_commands.specs.Options.{Gives}
 use Rattle.as2_commands.specs.declared.tasks.RunOptions.{RunOptions}
 use Rattle.as2_commands.specs.declared.tasks.Task.{Task}
-use Rattle.as2_commands.specs.declared.tasks.Task.TheVariants.{Check, Migrate, Run}
+use Rattle.as2_commands.specs.declared.tasks.Task.TheVariants.{Check, Migrate, Verify, Run}
 use Rattle.as2_commands.specs.declared.tasks.Command.TheVariants.{Send, Serve}
 
 -- the members were counted on standard output, and what to be warned of is said; or a write failed behind a part of that line; or
@@ -44,6 +45,7 @@ abbrev pub Comes : (List ℕ → Content) → Opened → Task → Observed → S
 Comes contents (Err refusal) task o stored ran = LeavesAll o stored × EndsRefused refusal o.outcome.errors ran
 Comes contents (Ok agreements) Check o stored ran = stored.Untouched × o.Unasked × o.input.Untouched × Counts agreements o.outcome.output o.outcome.errors ran
 Comes contents (Ok agreements) Migrate o stored ran = o.Unasked × o.input.Untouched × Migrates stored o.outcome.output o.outcome.errors ran
+Comes contents (Ok agreements) (Verify options) o stored ran = Goes agreements options (Ok Looking) o stored ran
 Comes contents (Ok agreements) (Run options command) o stored ran = (begun : Begun) × IsWork contents command begun × Goes agreements options begun o stored ran
 
 -- the file of that path comes to agreements or to a refusal, and the task to what follows from them

@@ -10,6 +10,7 @@ use Rattle.as2_desk.specs.Observed.{Observed}
 use Rattle.as2_desk.specs.Posting.{Posts}
 use Rattle.as2_desk.specs.Questions.{Asked, Asks}
 use Rattle.as2_desk.specs.SendingDue.{SendsDue}
+use Rattle.as2_desk.specs.Verifying.{Verifies}
 use Rattle.as2_commands.specs.Requests.{Submission}
 use Rattle.as2_commands.specs.declared.tasks.Command.{Command}
 use Rattle.as2_commands.specs.declared.tasks.Command.TheVariants.{Post, Ask, Send, Serve}
@@ -17,12 +18,14 @@ use Rattle.as2_commands.specs.declared.tasks.Question.{Question}
 use Rattle.as2_commands.specs.declared.tasks.Question.TheVariants as question
 use Rattle.as2_desk.specs.declared.refusal.CommandFault.{CommandFault}
 use Rattle.as2_desk.specs.declared.status.Ran.{Ran}
+use Rattle.as2_desk.specs.declared.work.Work.{Work}
+use Rattle.as2_desk.specs.declared.work.Work.TheVariants.{At, Verify}
 
--- what is done over the store: a command, whose document was read
-abbrev pub Work : Type 0
-Work = Command NewDocument
+-- a command, whose document was read
+abbrev pub Read : Type 0
+Read = Command NewDocument
 
--- .. or the refusal that stands in its place
+-- what is done over the store, or the refusal that stands in its place
 abbrev pub Begun : Type 0
 Begun = Result Work CommandFault
 
@@ -47,29 +50,42 @@ IsAsked contents (question.Show n) asked = asked ≡ Ok (question.Show n)
 IsAsked contents (question.Fetch n) asked = asked ≡ Ok (question.Fetch n)
 
 abbrev pub asking : Result Asked CommandFault → Begun
-asking (Ok asked) = Ok (Ask asked)
+asking (Ok asked) = Ok (At (Ask asked))
 asking (Err refusal) = Err refusal
 
 -- the same of a command
 abbrev pub IsWork : (List ℕ → Content) → Command Submission → Begun → Type 0
-IsWork contents (Post logs) begun = begun ≡ Ok (Post logs)
+IsWork contents (Post logs) begun = begun ≡ Ok (At (Post logs))
 IsWork contents (Ask question) begun = (asked : Result Asked CommandFault) × IsAsked contents question asked × (begun ≡ asking asked)
-IsWork contents (Send waits) begun = begun ≡ Ok (Send waits)
-IsWork contents (Serve serving) begun = begun ≡ Ok (Serve serving)
+IsWork contents (Send waits) begun = begun ≡ Ok (At (Send waits))
+IsWork contents (Serve serving) begun = begun ≡ Ok (At (Serve serving))
 
--- it is done, at this moment; no other command than `post` reads the input, and only `send` and `serve` ask something of the network
+-- the command is carried out, at this moment; no other than `post` reads the input, and only `send` and `serve` ask something of the network
+abbrev pub CarriesOut : AgreedValues → ℕ → Read → Option State → Observed → Ran → Type 0
+CarriesOut agreements moment (Post logs) known o ran = o.Unasked × Posts agreements moment known o.input o.outcome ran
+CarriesOut agreements moment (Ask asked) known o ran = o.Unasked × o.input.Untouched × Asks agreements moment asked known o.outcome ran
+CarriesOut agreements moment (Send waits) known o ran = o.input.Untouched × SendsDue agreements moment known o.outcome (o.Exchanged waits) ran
+CarriesOut agreements moment (Serve serving) known o ran = o.input.Untouched × ServesCount serving.count known o.outcome (o.listening agreements serving) ran
+
+-- that is done
 abbrev pub Does : AgreedValues → ℕ → Work → Option State → Observed → Ran → Type 0
-Does agreements moment (Post logs) known o ran = o.Unasked × Posts agreements moment known o.input o.outcome ran
-Does agreements moment (Ask asked) known o ran = o.Unasked × o.input.Untouched × Asks agreements moment asked known o.outcome ran
-Does agreements moment (Send waits) known o ran = o.input.Untouched × SendsDue agreements moment known o.outcome (o.Exchanged waits) ran
-Does agreements moment (Serve serving) known o ran = o.input.Untouched × ServesCount serving.count known o.outcome (o.listening agreements serving) ran
+Does agreements moment (At command) known o ran = CarriesOut agreements moment command known o ran
+Does agreements moment Verify known o ran = o.Unasked × o.input.Untouched × Verifies known o.outcome ran
 
 -- it sends
+abbrev pub Sends : Read → Type 0
+Sends (Send waits) = ⊤
+Sends other = ⊥
+
 abbrev pub SendsWork : Work → Type 0
-SendsWork (Send waits) = ⊤
-SendsWork other = ⊥
+SendsWork (At command) = Sends command
+SendsWork Verify = ⊥
 
 -- it serves
+abbrev pub ServesIt : Read → Type 0
+ServesIt (Serve serving) = ⊤
+ServesIt other = ⊥
+
 abbrev pub ServesWork : Work → Type 0
-ServesWork (Serve serving) = ⊤
-ServesWork other = ⊥
+ServesWork (At command) = ServesIt command
+ServesWork Verify = ⊥

@@ -26,7 +26,7 @@ use crate::places::is_told;
 use crate::refusal::{CommandFault, is_said, refuse};
 use crate::status::{DONE, FAULTY, Ran};
 use crate::terms::{NamedStore, Terms};
-use crate::work::{work_of, work_over};
+use crate::work::{Work, work_of, work_over};
 use as2_agreement::Agreements;
 use as2_commands::{Options, Task, options_in};
 use as2_host::{CountsBusy, Network, OpenStores, ReadFiles};
@@ -148,6 +148,15 @@ fn carry_out<
     match task {
         Task::Check => check(alloc, &agreements, &mut console.output, &mut console.errors),
         Task::Migrate => migrate(store, host, console),
+        Task::Verify(run) => {
+            let terms = Terms {
+                alloc,
+                agreements: &agreements,
+                moment: run.moment,
+            };
+            let store = NamedStore::of(store, run);
+            work_over(&terms, store, Work::Verify, host, console)
+        }
         Task::Run(run, command) => {
             let _ = is_noticed(&command, &mut console.hints);
             let path = document_path(&command);
@@ -158,12 +167,7 @@ fn carry_out<
                         agreements: &agreements,
                         moment: run.moment,
                     };
-                    let store = NamedStore {
-                        path: store,
-                        first: run.first,
-                        limit: run.limit,
-                    };
-                    work_over(&terms, store, work, host, console)
+                    work_over(&terms, NamedStore::of(store, run), work, host, console)
                 }
                 Err(refusal) => {
                     let ran = refuse(refusal, &mut console.errors);

@@ -19,6 +19,7 @@ mod sending;
 mod serving;
 mod status;
 mod terms;
+mod verifying;
 mod work;
 
 pub use console::{Console, Host};

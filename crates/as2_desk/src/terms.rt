@@ -1,6 +1,8 @@
 //! What a command does its work by.
+ghost use Rattle.std.specs.Prelude.{◌≡◌};
+
 use as2_agreement::Agreements;
-use as2_commands::FirstNumber;
+use as2_commands::{FirstNumber, RunOptions};
 use as2_text::Moment;
 use std::alloc::Global;
 
@@ -24,4 +26,19 @@ pub(crate) struct NamedStore<'a> {
     pub first: FirstNumber,
     /// The most MiB that its files may have with a content more.
     pub limit: u64,
+}
+
+impl<'a> NamedStore<'a> {
+    /// The store of that path, as the options have it.
+    pub(crate) fn of(path: &'a str, options: RunOptions) -> NamedStore<'a>
+        ensures path { result.path ≡ path.entry }
+        ensures first { result.first ≡ options.first }
+        ensures limit { result.limit ≡ options.limit }
+    {
+        NamedStore {
+            path,
+            first: options.first,
+            limit: options.limit,
+        }
+    }
 }

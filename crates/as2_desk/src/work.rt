@@ -12,7 +12,7 @@ ghost use Rattle.as2_desk.specs.Stops.{Stopped};
 ghost use Rattle.as2_desk.specs.Stores.{Leaves};
 ghost use Rattle.as2_host.specs.FileContents.{front};
 ghost use Rattle.as2_desk.specs.FileDocuments.{Document, HasDocument};
-ghost use Rattle.as2_desk.specs.Works.{Does, IsAsked, IsWork, SendsWork, ServesWork, asked_of, handing};
+ghost use Rattle.as2_desk.specs.Works.{CarriesOut, Does, IsAsked, IsWork, Sends, SendsWork, ServesIt, ServesWork, asked_of, handing};
 ghost use Rattle.as2_desk.specs.declared.refusal.CommandFault.TheVariants.{Store as Failing};
 
 use crate::asking::ask;
@@ -25,6 +25,7 @@ use crate::sending::send_due;
 use crate::serving::serve;
 use crate::status::Ran;
 use crate::terms::{NamedStore, Terms};
+use crate::verifying::look_through;
 use as2_bounded::{Bounded, room_of};
 use as2_commands::{Command, FirstNumber, Question, Submission};
 use as2_host::{CountsBusy, Network, OpenFault, OpenStores, ReadFiles};
@@ -34,8 +35,14 @@ use as2_station::{NewDocument, Station};
 use std::alloc::Global;
 use std::io::Write;
 
-/// What is done over the store: a command, whose document was read.
-pub(crate) type Work<'a> = Command<'a, NewDocument>;
+/// What is done over the store.
+#[derive(Drop)]
+pub(crate) enum Work<'a> {
+    /// A command is carried out, whose document was read.
+    At(Command<'a, NewDocument>),
+    /// The records are looked through.
+    Verify,
+}
 
 /// The document of a submission, whose file is read.
 fn handed<F: ReadFiles>(
@@ -82,17 +89,20 @@ pub(crate) fn work_of<'a, F: ReadFiles>(
     ensures { IsWork (F.content files.now) command.entry result }
 {
     match command {
-        Command::Post(logs) => Ok(Command::Post(logs)),
-        Command::Ask(question) => Ok(Command::Ask(asked(alloc, files, question)?)),
-        Command::Send(waits) => Ok(Command::Send(waits)),
-        Command::Serve(serving) => Ok(Command::Serve(serving)),
+        Command::Post(logs) => Ok(Work::At(Command::Post(logs))),
+        Command::Ask(question) => {
+            let asked = asked(alloc, files, question)?;
+            Ok(Work::At(Command::Ask(asked)))
+        }
+        Command::Send(waits) => Ok(Work::At(Command::Send(waits))),
+        Command::Serve(serving) => Ok(Work::At(Command::Serve(serving))),
     }
 }
 
-/// Does the work at the station.
+/// Carries out the command at the station.
 fn do_at<K: Records, N: Network, R: Source, W: Sink, H: Write + Journal + CountsBusy, E: Sink>(
     terms: &Terms<'_>,
-    work: Work<'_>,
+    command: Command<'_, NewDocument>,
     station: &mut Station<K>,
     network: &mut N,
     console: &mut Console<R, W, H, E>,
@@ -100,17 +110,17 @@ fn do_at<K: Records, N: Network, R: Source, W: Sink, H: Write + Journal + Counts
     ensures status { (result.status ≡ done) ⊎ ((result.status ≡ refused) ⊎ (result.status ≡ failed)) }
     ensures clean { (K.shows station.new).IsClean → (K.shows station.old).IsClean }
     ensures does { (known : Option State) → IfSome known (λ s. (K.shows station.new).IsClean × (K.shows station.old).Rests s)
-        → Does terms.now.agreements.now terms.now.moment work.entry known (record {
+        → CarriesOut terms.now.agreements.now terms.now.moment command.entry known (record {
           input = input_of R.Source console.old console.new;
           outcome = outcome_of W.Sink E.Sink console.old console.new (λ t. (K.shows station.new).Rests t);
           Unasked = network.new ≡ network.old;
           Exchanged = ExchangedOver N.Network N.Links.Links network.old network.new;
           listening = listening_of N.Network N.Listener.Listens network.old network.new;
         }) result }
-    ensures store { result.status ≡ failed → Stopped (SendsWork work.entry) (ServesWork work.entry) (input_of R.Source console.old console.new)
+    ensures store { result.status ≡ failed → Stopped (Sends command.entry) (ServesIt command.entry) (input_of R.Source console.old console.new)
         (output_of W.Sink console.old console.new) (errors_of E.Sink console.old console.new) result }
 {
-    match work {
+    match command {
         Command::Post(logs) => post(terms, station, logs, console),
         Command::Ask(question) => ask(terms, station, question, console),
         Command::Send(waits) => {
@@ -162,9 +172,18 @@ fn do_over<
             );
         }
     };
-    let mut station = Station::new(records);
-    let ran = do_at(terms, work, &mut station, network, console);
-    (ran, Some(station.into_records()))
+    match work {
+        Work::At(command) => {
+            let mut station = Station::new(records);
+            let ran = do_at(terms, command, &mut station, network, console);
+            (ran, Some(station.into_records()))
+        }
+        Work::Verify => {
+            let mut records = records;
+            let ran = look_through(terms, &mut records, console);
+            (ran, Some(records))
+        }
+    }
 }
 
 /// Opens the records of that path, or makes some that begin with `first`, with the room that a limit of so many MiB leaves.

@@ -1,7 +1,8 @@
 //! Command lines.
 use crate::arguments::{Arguments, parts_of};
 use as2_commands::{
-    Command, Filter, FirstNumber, Options, Question, Serving, Submission, Task, options_in,
+    Command, Filter, FirstNumber, Options, Question, RunOptions, Serving, Submission, Task,
+    options_in,
 };
 use clap::Error;
 use script_lines::Answer;
@@ -115,6 +116,17 @@ fn say_command(answer: &mut Answer, command: &Command<'_, Submission<'_>>) {
     }
 }
 
+/// Answers with what a command over the records is given besides.
+fn say_run(answer: &mut Answer, run: &RunOptions) {
+    answer.say(", first ");
+    answer.say_number(run.first.get());
+    answer.say(", moment ");
+    answer.say_number(run.moment.seconds());
+    answer.say(", at most ");
+    answer.say_number(run.limit);
+    answer.say(" MiB: ");
+}
+
 /// Answers with what a command line says.
 fn say_options(answer: &mut Answer, options: &Options<'_>) {
     answer.say(options.agreements);
@@ -123,14 +135,12 @@ fn say_options(answer: &mut Answer, options: &Options<'_>) {
     match &options.task {
         Task::Check => answer.say(": check"),
         Task::Migrate => answer.say(": migrate"),
+        Task::Verify(run) => {
+            say_run(answer, run);
+            answer.say("verify")
+        }
         Task::Run(run, command) => {
-            answer.say(", first ");
-            answer.say_number(run.first.get());
-            answer.say(", moment ");
-            answer.say_number(run.moment.seconds());
-            answer.say(", at most ");
-            answer.say_number(run.limit);
-            answer.say(" MiB: ");
+            say_run(answer, run);
             say_command(answer, command)
         }
     }

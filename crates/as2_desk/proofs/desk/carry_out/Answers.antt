@@ -6,8 +6,8 @@ pub returns-in-Ok-work_of-clause-store : goal.returns-in-Ok-work_of-clause-store
 returns-in-Ok-work_of-clause-store g c = λ is_failed.
     let contents = g.F.ReadFiles.content c.args.host.now.files in
     let was = c.args.console.now in
-    let is = c.work_over.new.console in
-    rw c.in-Run.is (stopped_by (input_of g.R.Source was is) (output_of g.W.Sink was is) (errors_of g.E.Sink was is) c.work_over.result
+    let is = c.work_over-in-Ok-work_of.new.console in
+    rw c.in-Run.is (stopped_by (input_of g.R.Source was is) (output_of g.W.Sink was is) (errors_of g.E.Sink was is) c.work_over-in-Ok-work_of.result
     (sends_task contents c.in-Run.run' c.in-Run.command c.in-Ok-work_of.work c.in-Ok-work_of.ensures)
     (serves_task contents c.in-Run.run' c.in-Run.command c.in-Ok-work_of.work c.in-Ok-work_of.ensures)
-    (c.work_over.ensures.store is_failed))
+    (c.work_over-in-Ok-work_of.ensures.store is_failed))

@@ -1,6 +1,12 @@
-use Rattle.std.proofs.Common.{sym}
+use Rattle.std.proofs.Common.{refl, sym}
 use Rattle.as2_desk.proofs.work.do_over.Goals as goal
 
 -- the records could be opened
-pub returns-clause-does : goal.returns-clause-does
-returns-clause-does g c = rw (c.in-Ok.is, c.into_records.ensures, sym c.new-station.ensures) (c.do_at-ran.ensures.clean, c.do_at-ran.ensures.does)
+pub returns-in-At-clause-does : goal.returns-in-At-clause-does
+returns-in-At-clause-does g c = rw (c.in-Ok.is, c.in-At.is, c.into_records.ensures, sym c.new-station.ensures) (c.do_at-ran.ensures.clean, c.do_at-ran.ensures.does)
+
+pub returns-in-Verify-clause-does : goal.returns-in-Verify-clause-does
+returns-in-Verify-clause-does g c = rw (c.in-Ok.is, c.in-Verify.is) (
+  c.look_through-ran.ensures.clean,
+  λ known stood. (refl, c.look_through-ran.ensures.unread, c.look_through-ran.ensures.verifies known stood),
+)

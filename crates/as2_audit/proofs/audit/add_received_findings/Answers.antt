@@ -1,0 +1,40 @@
+use Rattle.std.proofs.Common.{◌≡◌, ◌∙◌, ◌++◌, List, Option, length, ap, arith}
+use Rattle.std.specs.List.{flat_map}
+use Rattle.std.proofs.lemmas.List.{length-map}
+use Rattle.std.proofs.lemmas.List.Folds.{flat_map-map}
+use Rattle.as2_records.specs.Summaries.{in_summary}
+use Rattle.as2_records.specs.declared.summaries.InRow.{InRow}
+use Rattle.as2_records.proofs.Following.{read_bad, read_then}
+use Rattle.as2_audit.specs.Audits.{found, received_at, received_findings}
+use Rattle.as2_audit.specs.declared.findings.Mailbox.TheVariants.{Inbox}
+use Rattle.as2_audit.specs.declared.fault.Fault.{Fault}
+use Rattle.as2_audit.specs.declared.findings.Finding.{Finding}
+use Rattle.as2_audit.proofs.Audited.{all, one_more}
+use Rattle.as2_audit.proofs.audit.add_received_findings.Goals as goal
+
+pub returns-in_err-fault-clause-found : goal.returns-in_err-fault-clause-found
+returns-in_err-fault-clause-found g c =
+    read_then _ _ _ _ _ _ _ c.from_residual-in_err-fault.result (λ s n rests known more. more) c.loop-row.invariant
+    (read_bad _ _ _ _ _ c.from_residual-in_err-fault.result c.from_residual-in_err-fault.ensures.0 c.in_err-fault.ensures.fault)
+
+pub returns-in_err-add-clause-found : goal.returns-in_err-add-clause-found
+returns-in_err-add-clause-found g c =
+    read_then _ _ _ _ _ _ _ c.from_residual-in_err-add.result (λ s n rests known more. more) c.loop-row.invariant
+    (read_bad _ _ _ _ _ c.from_residual-in_err-add.result c.from_residual-in_err-add.ensures.0 c.in_ok-fault.ensures.fault)
+
+pub loop-row-preserved : goal.loop-row-preserved
+loop-row-preserved g c =
+    one_more _ _ (λ s fault. fault ≡ received_at s c.row-item.result.number) _ _ _ _ _ _ c.loop-row.row-index _ c.row-item.result c.in_ok-fault.fault c.loop-row-test.true
+    (λ s rows is. c.in_ok-add.ensures.found
+    ∙ ap (λ (f : Option Fault). c.loop-row.findings.items ++ found Inbox c.row-item.result.number f) is
+    ∙ ap (λ (r : InRow). c.loop-row.findings.items ++ found Inbox r.number (received_at s r.number)) c.row-item.is)
+    c.loop-row.invariant c.in_ok-fault.ensures.fault
+
+pub returns-clause-found : goal.returns-clause-found
+returns-clause-found g c =
+    all _ _ (λ s count. (c.loop-row.findings.items ≡ c.args.findings.now.items ++ received_findings s) × (count ≡ length s.inbox)) _ _ c.args.findings.now.items c.loop-row.findings.items c.loop-row.row-index _ c.len.result (omega (arith, c.loop-row.auto.row-index-end, c.loop-row-test.false))
+    (λ s rows is. (
+      is ∙ ap (λ (l : List InRow). c.args.findings.now.items ++ flat_map (λ r. found Inbox r.number (received_at s r.number)) l) rows
+          ∙ ap (λ (l : List Finding). c.args.findings.now.items ++ l) (flat_map-map (λ (r : InRow). found Inbox r.number (received_at s r.number)) in_summary s.inbox),
+      omega (arith, c.len.ensures, c.deref-row-items.ensures.len, ap (λ (l : List InRow). length l) rows, length-map s.inbox in_summary),
+    )) c.loop-row.invariant

@@ -1,0 +1,16 @@
+//! What is wrong with the entries of the records, as far as their own words tell.
+#![tactic(auto)]
+
+mod audit;
+mod fault;
+mod findings;
+mod received;
+mod sent;
+mod verifying;
+
+pub use audit::{add_received_findings, add_sent_findings};
+pub use fault::Fault;
+pub use findings::{Finding, Mailbox};
+pub use received::received_fault;
+pub use sent::sent_fault;
+pub use verifying::{Verification, verify};

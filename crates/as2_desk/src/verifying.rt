@@ -1,0 +1,72 @@
+//! The command `verify`: the records, looked through.
+ghost use Rattle.std.specs.Prelude.{◌≡◌, ◌⊎◌, Option, IfSome};
+ghost use Rattle.as2_exchange.specs.State.{State};
+ghost use Rattle.as2_desk.specs.Endings.{EndsRefused};
+ghost use Rattle.as2_desk.specs.Observed.{errors_of, outcome_of};
+ghost use Rattle.as2_desk.specs.Statuses.{done, failed, refused};
+ghost use Rattle.as2_desk.specs.Verifying.{PrintsAudit, Verifies, audit_status};
+ghost use Rattle.as2_desk.specs.Written.{written_of};
+ghost use Rattle.as2_desk.specs.declared.refusal.CommandFault.TheVariants.{Store as Failing};
+ghost use Rattle.as2_host.specs.declared.stores.OpenFault.{OpenFault as TheFault};
+
+use crate::console::Console;
+use crate::refusal::{CommandFault, refuse};
+use crate::status::{DONE, REFUSED, Ran};
+use crate::terms::Terms;
+use as2_audit::{Verification, verify};
+use as2_exchange::StoreFault;
+use as2_host::OpenFault;
+use as2_http::{Sink, push_all};
+use as2_records::Records;
+
+/// The status by how many findings there are.
+fn audit_status(found: u64) -> u8
+    ensures { result ≡ audit_status found }
+{
+    if found == 0 {
+        return DONE;
+    }
+    REFUSED
+}
+
+/// Prints what was found, or says why it can't be told.
+fn print_audit<W: Sink, E: Sink>(
+    came: Result<Verification, StoreFault>,
+    output: &mut W,
+    errors: &mut E,
+) -> Ran
+    ensures status { (result.status ≡ done) ⊎ ((result.status ≡ refused) ⊎ (result.status ≡ failed)) }
+    ensures prints { PrintsAudit came (written_of W.Sink output.old output.new) (written_of E.Sink errors.old errors.new) result }
+    ensures store { result.status ≡ failed → (output.new ≡ output.old)
+        × ((fault : TheFault) × EndsRefused (Failing fault) (written_of E.Sink errors.old errors.new) result) }
+{
+    let audit = match came {
+        Ok(audit) => audit,
+        Err(fault) => return refuse(CommandFault::Store(OpenFault::Store(fault)), errors),
+    };
+    if push_all(output, &audit.text).is_err() {
+        return refuse(CommandFault::CannotWrite, errors);
+    }
+    Ran {
+        status: audit_status(audit.findings),
+        told: true,
+    }
+}
+
+/// Looks through the records, and prints what is found.
+pub(crate) fn look_through<K: Records, R, W: Sink, H, E: Sink>(
+    terms: &Terms<'_>,
+    records: &mut K,
+    console: &mut Console<R, W, H, E>,
+) -> Ran
+    ensures status { (result.status ≡ done) ⊎ ((result.status ≡ refused) ⊎ (result.status ≡ failed)) }
+    ensures unread { console.new.input ≡ console.old.input }
+    ensures clean { (K.shows records.new).IsClean → (K.shows records.old).IsClean }
+    ensures verifies { (known : Option State) → IfSome known (λ s. (K.shows records.new).IsClean × (K.shows records.old).Rests s)
+        → Verifies known (outcome_of W.Sink E.Sink console.old console.new (λ t. (K.shows records.new).Rests t)) result }
+    ensures store { result.status ≡ failed → (console.new.output ≡ console.old.output)
+        × ((fault : TheFault) × EndsRefused (Failing fault) (errors_of E.Sink console.old console.new) result) }
+{
+    let came = verify(records, terms.alloc);
+    print_audit(came, &mut console.output, &mut console.errors)
+}
