@@ -62,6 +62,7 @@ def posts(folder):
     same("list out", run(store, ["list", "out"]), (0, "", ""))
     same("outstanding", run(store, ["outstanding"]), (0, NOTHING, ""))
     same("send, with nothing due", run(store, ["send"]), (0, "", ""))
+    same("verify", run(store, ["verify"]), (0, "verified: 1 received, 0 sent, 0 findings\n", ""))
 
 
 def tries(folder, agreements):
