@@ -39,17 +39,16 @@ class Unreadable(Exception):
 
 
 def pieces(tables, box):
-    """The contents of a box, by number, and whether each is whole: its pieces begin with 0 and follow one another."""
-    contents, places = {}, {}
-    for number, position, content in tables.execute(f"SELECT number, position, bytes FROM {box}_piece ORDER BY number, position"):
+    """The contents of a box, by number."""
+    contents = {}
+    for number, content in tables.execute(f"SELECT number, bytes FROM {box}_piece ORDER BY number, position"):
         contents[number] = contents.get(number, b"") + content
-        places.setdefault(number, []).append(position)
-    return contents, {number: at == list(range(len(at))) for number, at in places.items()}
+    return contents
 
 
 def received_findings(tables):
     """What is wrong with received documents."""
-    contents, _ = pieces(tables, "inbox2")
+    contents = pieces(tables, "inbox2")
     for number, outcome, digest, mic in tables.execute("SELECT number, outcome, digest, mic FROM inbox2 ORDER BY number"):
         if outcome == PROCESSED and mic is None:
             yield f"received {number}: no MIC is kept"
@@ -73,7 +72,7 @@ def receipt_fault(identifier, detail, content, content_type, body, migrated):
 
 def sent_findings(tables):
     """What is wrong with documents that are sent."""
-    contents, _ = pieces(tables, "outbox")
+    contents = pieces(tables, "outbox")
     migrated = tables.execute("SELECT number FROM origin").fetchone()[0] != 0
     kept = {row[0]: row[1:] for row in tables.execute("SELECT number, content_type, body FROM evidence")}
     for number, identifier, tries, attempt, due, code in tables.execute(
@@ -126,6 +125,7 @@ class Stores:
         fill(fresh, text)
         with sqlite3.connect(fresh) as tables:
             tables.execute("UPDATE origin SET number = 0")
+            judge_anew(tables)
         tables.close()
         return [text, subprocess.run(["sqlite3", str(fresh), ".dump"], capture_output=True, check=True).stdout.decode()]
 
@@ -150,7 +150,6 @@ class Stores:
             wanted = expected(store)
         except Unreadable:
             wanted = None
-        kept = store.read_bytes()
         ran = self.run(store, "verify")
         printed, said = ran.stdout.decode("utf-8", "replace").splitlines(), ran.stderr.decode("utf-8", "replace").splitlines()
         if ran.returncode == 3 and said and said[0] in NAMED and not printed:
@@ -163,17 +162,23 @@ class Stores:
             self.differ(what, f"wanted {wanted}, printed {printed}")
         else:
             self.count("found" if len(printed) > 1 else "nothing found")
-            if breaks and len(printed) == 1:
-                self.differ(what, "nothing is found")
+            if breaks is not None and breaks != (len(printed) > 1):
+                self.differ(what, f"{len(printed) - 1} findings")
             if wanted is None:
                 self.count("read where SQLite reads nothing")
-        if ran.returncode != 3 and store.read_bytes() != kept and breaks is not None:
-            self.count("the file was written to")
 
 
 def fill(store, text):
     """Makes a store of its text by SQLite's own program."""
     subprocess.run(["sqlite3", str(store)], input=text.encode(), capture_output=True, check=True)
+
+
+def judge_anew(tables):
+    """Gives documents whose receipts came while SHA-256 wasn't known the details that they have where it is."""
+    contents = pieces(tables, "outbox")
+    for number, content_type, body in tables.execute("SELECT number, content_type, body FROM evidence").fetchall():
+        detail = readers.verdict(readers.receipt_in(content_type, body), contents.get(number, b""))[2:]
+        tables.execute("UPDATE outbox SET detail = ? WHERE number = ?", (DETAILS.index(detail) + 1, number))
 
 
 def some(dice, tables, query):
