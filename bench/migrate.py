@@ -94,4 +94,5 @@ def main():
         compare(release, program, agreements, folder, count, size)
 
 
-main()
+if __name__ == "__main__":
+    main()
