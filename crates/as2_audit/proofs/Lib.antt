@@ -1,1 +1,2 @@
 mod Audited
+mod Passed

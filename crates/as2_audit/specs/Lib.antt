@@ -1,3 +1,4 @@
 pub mod Faults
 pub mod Audits
 pub mod Texts
+pub mod Laws

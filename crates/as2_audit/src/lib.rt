@@ -4,6 +4,7 @@
 mod audit;
 mod fault;
 mod findings;
+mod laws;
 mod received;
 mod sent;
 mod verifying;
@@ -11,6 +12,7 @@ mod verifying;
 pub use audit::{add_received_findings, add_sent_findings};
 pub use fault::Fault;
 pub use findings::{Finding, Mailbox};
+pub use laws::passed_success_is_confirmed;
 pub use received::received_fault;
 pub use sent::sent_fault;
 pub use verifying::{Verification, verify};

@@ -1,0 +1,17 @@
+-- What is kept of a document that stands as successful.
+use Rattle.std.specs.Prelude.{◌≡◌, Some}
+use Rattle.as2_mdn.specs.Verdicts.{Confirms}
+use Rattle.as2_mic.specs.Algs.{AllDigests}
+use Rattle.as2_exchange.specs.Readings.{Receipt, named_by, value_of}
+use Rattle.as2_exchange.specs.declared.outbox.Evidence.{Evidence}
+use Rattle.as2_exchange.specs.declared.outbox.OutEntry.{OutEntry}
+use Rattle.as2_audit.specs.Faults.{kept_receipt}
+
+-- a receipt is kept of it, can be read, names it, and confirms its content
+pub record IsConfirmed (d : OutEntry) : Type 0 where
+  pub evidence : Evidence
+  pub kept : d.evidence ≡ Some evidence
+  pub receipt : Receipt
+  pub read : kept_receipt evidence ≡ Some receipt
+  pub names : named_by receipt ≡ value_of d.id
+  pub confirms : Confirms AllDigests receipt d.content
