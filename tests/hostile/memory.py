@@ -94,6 +94,7 @@ def rows(partner):
         yield Row(" ".join(command), command, before=[post])
     for command in (("list", "out"), ("show", "1"), ("outstanding",)):
         yield Row(" ".join(command), command, before=[submit, send])
+    yield Row("verify", ("verify",), before=[post, submit, send])
     yield Row("resend", ("resend", "1"), before=[submit, nobody, send, again], moment=2000)
 
 
