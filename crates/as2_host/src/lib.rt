@@ -6,7 +6,7 @@ mod network;
 mod noting;
 mod stores;
 
-pub use files::{FileFault, ReadFiles};
+pub use files::{FileFault, MakeFiles, MakingFault, ReadFiles};
 pub use network::{CannotListen, Listens, Network};
 pub use noting::{CountsBusy, Lines, Tally};
 pub use stores::{Entries, Migration, OpenFault, OpenStores};
