@@ -12,7 +12,7 @@ use Rattle.as2_exchange.specs.Readings.{Receipt, named_by, value_of, verdict}
 use Rattle.as2_exchange.specs.declared.outbox.Evidence.{Evidence}
 use Rattle.as2_exchange.specs.declared.outbox.OutEntry.{OutEntry}
 use Rattle.as2_exchange.specs.Tries.{is_idle}
-use Rattle.as2_audit.specs.Faults.{gives, is_detail, kept_receipt, receipt_fault, sent_fault, settled_fault}
+use Rattle.as2_audit.specs.Faults.{gives, is_by_late, is_detail, kept_receipt, receipt_fault, sent_fault, settled_fault}
 use Rattle.as2_audit.specs.Laws.{IsConfirmed}
 use Rattle.as2_audit.specs.declared.fault.Fault.{Fault}
 use Rattle.as2_audit.specs.declared.fault.Fault.TheVariants.{NoReceipt, StrayReceipt, StillWaits, NeverBegun, ReceiptOfAnother, DetailDiffers}
@@ -56,7 +56,7 @@ either false false b is never = cc
 given_success : (migrated : Bool) (r : Receipt) (content : Text) → gives migrated r content detail.Processed ≡ true → verdict AllDigests r content ≡ detail.Processed
 given_success migrated r content is =
     one_name (verdict AllDigests r content)
-    (either (is_detail (verdict AllDigests r content) detail.Processed) migrated (is_detail (verdict AllDigests (record r { mic = Unreadable }) content) detail.Processed) is
+    (either (is_detail (verdict AllDigests r content) detail.Processed) (migrated && is_by_late r.mic) (is_detail (verdict AllDigests (record r { mic = Unreadable }) content) detail.Processed) is
     (λ other. unconfirmed r content (one_name _ other)))
 
 module _ (migrated : Bool) (d : OutEntry) (success : d.detail ≡ detail.Processed) where

@@ -1,9 +1,10 @@
 -- What is wrong with an entry of the records, as far as its own words tell: the first that fits.
-use Rattle.std.specs.Prelude.{Bool, not, ◌&&◌, ◌||◌, nat_le, Option, Some, None, option_and_then, is_some, is_none, bytes_eq, if◌then◌else◌}
+use Rattle.std.specs.Prelude.{Bool, false, not, ◌&&◌, ◌||◌, nat_le, Option, Some, None, option_and_then, is_some, is_none, bytes_eq, if◌then◌else◌}
+use Rattle.std.specs.Option.{option_map_or}
 use Rattle.as2_mdn.specs.Details.{name_of}
-use Rattle.as2_mdn.specs.Receipts.{Unreadable}
+use Rattle.as2_mdn.specs.Receipts.{Mic, Given, Unreadable}
 use Rattle.as2_mdn.specs.declared.detail.Detail.{Detail}
-use Rattle.as2_mic.specs.Algs.{AllDigests}
+use Rattle.as2_mic.specs.Algs.{AllDigests, alg_named, is_late}
 use Rattle.as2_exchange.specs.Agreement.{Text}
 use Rattle.as2_exchange.specs.Invariants.{is_by_receipt}
 use Rattle.as2_exchange.specs.Readings.{Receipt, is_processed, named_by, report_in, typed, value_of, verdict}
@@ -35,10 +36,16 @@ kept_receipt e = option_and_then (λ type. report_in type.0 e.body) (typed e.con
 abbrev pub is_detail : Detail → Detail → Bool
 is_detail one other = bytes_eq (name_of one) (name_of other)
 
--- The receipt gives the content this detail. In records that were migrated SHA-256 may not have been known when it came.
+-- the MIC is by a digest that earlier stores didn't know
+abbrev pub is_by_late : Mic → Bool
+is_by_late (Given field) = option_map_or is_late (alg_named AllDigests field.1) false
+is_by_late other = false
+
+-- The receipt gives the content this detail. In records that were migrated the digest may not have been known when it came.
 abbrev pub gives : Bool → Receipt → Text → Detail → Bool
 gives migrated r content detail =
-    is_detail (verdict AllDigests r content) detail || (migrated && is_detail (verdict AllDigests (record r { mic = Unreadable }) content) detail)
+    is_detail (verdict AllDigests r content) detail
+    || ((migrated && is_by_late r.mic) && is_detail (verdict AllDigests (record r { mic = Unreadable }) content) detail)
 
 -- a readable receipt that settled the document
 abbrev pub receipt_fault : Bool → OutEntry → Option Receipt → Option Fault

@@ -1,37 +1,13 @@
 //! Documents that are sent.
 ghost use Rattle.std.specs.Prelude.{◌≡◌, Some, IfOk};
-ghost use Rattle.as2_exchange.specs.Invariants.{is_by_receipt};
-ghost use Rattle.as2_exchange.specs.Tries.{is_idle};
-ghost use Rattle.as2_audit.specs.Faults.{gives, is_detail, kept_receipt, receipt_fault, sent_fault, settled_fault};
+ghost use Rattle.as2_mdn.specs.Receipts.{mic_of};
+ghost use Rattle.as2_audit.specs.Faults.{gives, is_by_late, is_detail, kept_receipt, receipt_fault, sent_fault, settled_fault};
 
 use crate::fault::Fault;
-use as2_exchange::{Attempt, Evidence, OutEntry};
+use as2_exchange::{Evidence, OutEntry, is_by_receipt};
 use as2_mdn::{Detail, MicPart, Receipt, read_report, verdict_pieces};
-use as2_mic::Pieces;
+use as2_mic::{Alg, Pieces};
 use as2_text::{MediaType, Memory};
-
-/// Whether a receipt alone gives the detail.
-fn is_by_receipt(detail: Detail) -> bool
-    ensures { result ≡ is_by_receipt detail }
-{
-    matches!(
-        detail,
-        Detail::Processed
-            | Detail::Warning
-            | Detail::NoMic
-            | Detail::UnknownMic
-            | Detail::NotProcessed
-            | Detail::ErrorModifier
-            | Detail::MicDiffers
-    )
-}
-
-/// Whether no try is open.
-fn is_idle(attempt: Attempt) -> bool
-    ensures { result ≡ is_idle attempt }
-{
-    matches!(attempt, Attempt::Idle)
-}
 
 /// Whether both are one detail.
 fn is_detail(one: Detail, other: Detail) -> bool
@@ -40,13 +16,29 @@ fn is_detail(one: Detail, other: Detail) -> bool
     one.name() == other.name()
 }
 
-/// Whether the receipt gives the content this detail; in records that were migrated SHA-256 may not have been known when it came.
+/// Whether the MIC is by a digest that earlier stores didn't know.
+fn is_by_late(mic: &MicPart<'_>) -> bool
+    ensures { result ≡ is_by_late (mic_of mic.now) }
+{
+    let MicPart::Given(field) = mic else {
+        return false;
+    };
+    match Alg::named(field.digest()) {
+        Some(digest) => digest.is_late(),
+        None => false,
+    }
+}
+
+/// Whether the receipt gives the content this detail; in records that were migrated the digest may not have been known when it came.
 #[tactic(auto, unfolding(as2_exchange::specs::Readings::verdict))]
 fn gives(migrated: bool, receipt: Receipt<'_>, content: &Pieces, detail: Detail) -> bool
     ensures { result ≡ gives migrated receipt.entry content.now detail }
 {
     if is_detail(verdict_pieces(&receipt, content), detail) {
         return true;
+    }
+    if !(migrated && is_by_late(&receipt.mic)) {
+        return false;
     }
     let Receipt {
         original_id,
@@ -58,7 +50,7 @@ fn gives(migrated: bool, receipt: Receipt<'_>, content: &Pieces, detail: Detail)
         disposition,
         mic: MicPart::Unreadable,
     };
-    migrated && is_detail(verdict_pieces(&unknown, content), detail)
+    is_detail(verdict_pieces(&unknown, content), detail)
 }
 
 /// What is wrong with a document and a readable receipt for it.
@@ -105,7 +97,7 @@ fn settled_fault(migrated: bool, document: &OutEntry) -> Result<Option<Fault>, M
     if !is_by_receipt {
         return Ok(Some(Fault::StrayReceipt));
     }
-    if !is_idle(document.attempt) || document.due.is_some() {
+    if !document.attempt.is_idle() || document.due.is_some() {
         return Ok(Some(Fault::StillWaits));
     }
     evidence_fault(migrated, document, evidence)

@@ -1,6 +1,10 @@
 //! Records with a room.
-ghost use Rattle.std.specs.Prelude.{◌≡◌, ◌+◌, ◌-◌, ◌^◌, min, IfSome, None, Ok, Err};
-ghost use Rattle.as2_exchange.specs.declared.fault.StoreFault.TheVariants.{Disk};
+ghost use Rattle.std.specs.Prelude.{◌≡◌, ◌⊎◌, ◌<◌, ◌≤◌, ◌+◌, ◌-◌, ◌^◌, min, length, true, IfErr, IfOk, IfSome, None, Some, Ok, Err};
+ghost use Rattle.as2_exchange.specs.State.{end_of_numbers};
+ghost use Rattle.as2_exchange.specs.declared.fault.StoreFault.TheVariants.{Disk, Full};
+ghost use Rattle.as2_records.specs.Adding.{added, added_document};
+ghost use Rattle.as2_records.specs.Calls.{Writes};
+ghost use Rattle.as2_records.specs.Standing.{may_come};
 ghost use Rattle.as2_bounded.specs.Rooms.{room_behind, room_of};
 
 use as2_exchange::{END_OF_NUMBERS, Evidence, InEntry, OutEntry, StoreFault};
@@ -81,13 +85,57 @@ impl<R: Records> Bounded<R> {
         ensures records { self.new.records ≡ self.old.records }
         ensures room { self.new.room ≡ self.old.room }
         ensures left { IfSome (room_behind self.old.room length) (λ left. (result ≡ Ok left) × (self.new.refused ≡ self.old.refused)) }
-        ensures none { room_behind self.old.room length ≡ None → (result ≡ Err Disk) × (self.new.refused ≡ min (self.old.refused + 1) (2 ^ 64 - 1)) }
+        ensures none { room_behind self.old.room length ≡ None
+            → (result ≡ Err Disk) × (self.new.refused ≡ min (self.old.refused + 1) (2 ^ 64 - 1)) }
     {
         if let Some(left) = room_behind(self.room, length as u64) {
             return Ok(left);
         }
         self.refused = self.refused.saturating_add(1);
         Err(StoreFault::Disk)
+    }
+
+    /// Adds an entry to the inbox, as `Records` has it, where there is room for its content, which it takes.
+    fn admit_in(&mut self, entry: &InEntry) -> Result<(), StoreFault>
+        ensures added { Writes (added entry.now) (R.shows self.old.records) (R.shows self.new.records) result }
+        ensures full { IfErr result (λ f. f ≡ Full → end_of_numbers ≤ entry.now.number) }
+        ensures full_alone { end_of_numbers ≤ entry.now.number → result ≡ Err Full }
+        ensures full_same { end_of_numbers ≤ entry.now.number → self.new ≡ self.old }
+        ensures fault { IfErr result (λ f. (f ≡ Full) ⊎ (may_come f ≡ true)) }
+        ensures taken { IfOk result (λ _. room_behind self.old.room (length entry.now.posted.content) ≡ Some self.new.room) }
+        ensures left { IfErr result (λ _. self.new.room ≡ self.old.room) }
+        ensures none { entry.now.number < end_of_numbers → room_behind self.old.room (length entry.now.posted.content) ≡ None
+            → (result ≡ Err Disk) × ((self.new.records ≡ self.old.records) × (self.new.refused ≡ min (self.old.refused + 1) (2 ^ 64 - 1))) }
+    {
+        if entry.number >= END_OF_NUMBERS {
+            return Err(StoreFault::Full);
+        }
+        let left = self.room_for(entry.posted.content.len())?;
+        self.records.add_in(entry)?;
+        self.room = left;
+        Ok(())
+    }
+
+    /// Adds a document to the outbox, as `Records` has it, where there is room for its content, which it takes.
+    fn admit_out(&mut self, entry: &OutEntry) -> Result<(), StoreFault>
+        requires unsettled { entry.now.evidence ≡ None }
+        ensures added { Writes (added_document entry.now) (R.shows self.old.records) (R.shows self.new.records) result }
+        ensures full { IfErr result (λ f. f ≡ Full → end_of_numbers ≤ entry.now.number) }
+        ensures full_alone { end_of_numbers ≤ entry.now.number → result ≡ Err Full }
+        ensures full_same { end_of_numbers ≤ entry.now.number → self.new ≡ self.old }
+        ensures fault { IfErr result (λ f. (f ≡ Full) ⊎ (may_come f ≡ true)) }
+        ensures taken { IfOk result (λ _. room_behind self.old.room (length entry.now.content) ≡ Some self.new.room) }
+        ensures left { IfErr result (λ _. self.new.room ≡ self.old.room) }
+        ensures none { entry.now.number < end_of_numbers → room_behind self.old.room (length entry.now.content) ≡ None
+            → (result ≡ Err Disk) × ((self.new.records ≡ self.old.records) × (self.new.refused ≡ min (self.old.refused + 1) (2 ^ 64 - 1))) }
+    {
+        if entry.number >= END_OF_NUMBERS {
+            return Err(StoreFault::Full);
+        }
+        let behind = self.room_for(entry.content.len())?;
+        self.records.add_out(entry)?;
+        self.room = behind;
+        Ok(())
     }
 }
 
@@ -105,23 +153,11 @@ impl<R: Records> Records for Bounded<R> {
     }
 
     fn add_in(&mut self, entry: &InEntry) -> Result<(), StoreFault> {
-        if entry.number >= END_OF_NUMBERS {
-            return self.records.add_in(entry);
-        }
-        let left = self.room_for(entry.posted.content.len())?;
-        self.records.add_in(entry)?;
-        self.room = left;
-        Ok(())
+        self.admit_in(entry)
     }
 
     fn add_out(&mut self, entry: &OutEntry) -> Result<(), StoreFault> {
-        if entry.number >= END_OF_NUMBERS {
-            return self.records.add_out(entry);
-        }
-        let left = self.room_for(entry.content.len())?;
-        self.records.add_out(entry)?;
-        self.room = left;
-        Ok(())
+        self.admit_out(entry)
     }
 
     fn requeue_mdn(&mut self, number: u64, moment: Moment) -> Result<(), StoreFault> {

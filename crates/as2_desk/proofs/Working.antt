@@ -42,4 +42,4 @@ pub does_left : (A : AgreedValues) (m : ℕ) (w : Work) (known : Option State) (
     → SaysAgain known Left o.outcome.Left → Does A m w known (observing o Left) ran → Does A m w known o ran
 does_left A m (At c) known o Left ran again it = carried_left A m c known o Left ran again it
 does_left A m Verify known o Left ran again it =
-    (it.0, it.1, record { came = it.2.came; audits = both_known _ _ _ known again it.2.audits (λ s later audits. (later s audits.0, audits.1)); prints = it.2.prints })
+    (it.0, it.1, record { came = it.2.came; fault = it.2.fault; audits = both_known _ _ _ known again it.2.audits (λ s later audits. (later s audits.0, audits.1)); prints = it.2.prints })

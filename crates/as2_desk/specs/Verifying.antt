@@ -1,7 +1,8 @@
 -- The records are looked through: what is printed, and the status.
-use Rattle.std.specs.Prelude.{◌≡◌, ◌⊎◌, ◌==◌, ℕ, Option, Result, Ok, Err, IfSome, codes, length, if◌then◌else◌, ⊤}
+use Rattle.std.specs.Prelude.{◌≡◌, ◌⊎◌, ◌==◌, ℕ, Option, Result, Ok, Err, IfErr, IfSome, true, codes, length, if◌then◌else◌, ⊤}
 use Rattle.as2_exchange.specs.State.{State}
 use Rattle.as2_exchange.specs.declared.fault.StoreFault.{StoreFault}
+use Rattle.as2_records.specs.Standing.{may_come}
 use Rattle.as2_audit.specs.Audits.{findings}
 use Rattle.as2_audit.specs.Texts.{verification}
 use Rattle.as2_audit.specs.declared.verifying.Verification.{Verification}
@@ -32,5 +33,7 @@ IsAuditOf s (Err fault) = ⊤
 -- where the state is known that the records stood for, they stand for it still, and what is printed is of it
 pub record Verifies (known : Option State) (o : Outcome) (ran : Ran) : Type 0 where
   pub came : Result Verification StoreFault
+  -- a fault is one that may come of any call
+  pub fault : IfErr came (λ f. may_come f ≡ true)
   pub audits : IfSome known (λ s. o.Left s × IsAuditOf s came)
   pub prints : PrintsAudit came o.output o.errors ran

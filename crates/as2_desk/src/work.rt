@@ -211,7 +211,7 @@ fn open_in<O: OpenStores>(
 fn close_in<O: OpenStores>(stores: &mut O, path: &str, records: Option<Bounded<O::Opened>>) -> u64
     ensures clean { IfSome records (λ last. O.is_clean stores.new → (O.Opened.shows last.records).IsClean) }
     ensures kept { IfSome records (λ last. O.is_clean stores.new → (t : State) → (O.Opened.shows last.records).Rests t → (number : ℕ) → O.keeps stores.new path.now number t) }
-    ensures none { records ≡ None → stores.new ≡ stores.old }
+    ensures none { records ≡ None → (stores.new ≡ stores.old) × (result ≡ 0) }
     ensures counted { O.opens stores.new ≡ O.opens stores.old }
     ensures refused { IfSome records (λ last. result ≡ last.refused) }
 {

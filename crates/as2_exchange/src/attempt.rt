@@ -1,3 +1,6 @@
+ghost use Rattle.std.specs.Prelude.{◌≡◌};
+ghost use Rattle.as2_exchange.specs.Tries.{is_idle};
+
 /// Whether a try to send is open.
 #[derive(Clone, Copy, Debug, PartialEq, Eq)]
 pub enum Attempt {
@@ -9,4 +12,13 @@ pub enum Attempt {
     Last,
     /// All tries of a receipt failed.
     Used,
+}
+
+impl Attempt {
+    /// Whether no try is open.
+    pub fn is_idle(self) -> bool
+        ensures { result ≡ is_idle self }
+    {
+        matches!(self, Attempt::Idle)
+    }
 }

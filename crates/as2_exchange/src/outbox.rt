@@ -1,3 +1,7 @@
+//! Documents that are sent, as they are kept.
+ghost use Rattle.std.specs.Prelude.{◌≡◌};
+ghost use Rattle.as2_exchange.specs.Invariants.{is_by_receipt};
+
 use crate::attempt::Attempt;
 use crate::bytes::Bytes;
 use as2_mdn::Detail;
@@ -43,4 +47,20 @@ pub struct OutEntry {
     pub detail: Detail,
     /// The receipt that settled it, if one has.
     pub evidence: Option<Evidence>,
+}
+
+/// Whether a receipt alone gives this detail.
+pub fn is_by_receipt(detail: Detail) -> bool
+    ensures { result ≡ is_by_receipt detail }
+{
+    matches!(
+        detail,
+        Detail::Processed
+            | Detail::Warning
+            | Detail::NoMic
+            | Detail::UnknownMic
+            | Detail::NotProcessed
+            | Detail::ErrorModifier
+            | Detail::MicDiffers
+    )
 }

@@ -4,7 +4,7 @@ ghost use Rattle.as2_lists.specs.Standing.{StandsFor};
 
 use crate::copies::{copy_evidence, copy_found_document, copy_found_entry};
 use crate::{inbox, outbox};
-use as2_exchange::{Attempt, END_OF_NUMBERS, Evidence, InEntry, MdnState, OutEntry, StoreFault};
+use as2_exchange::{Attempt, END_OF_NUMBERS, Evidence, InEntry, MdnState, OutEntry, StoreFault, is_by_receipt};
 use as2_mdn::{Detail, State};
 use as2_records::{Counts, InRow, MdnProgress, NextNumbers, OutRow, Progress, Records};
 use as2_text::{AsName, Moment};
@@ -135,7 +135,7 @@ impl Records for Lists {
         detail: Detail,
         evidence: &Evidence,
     ) -> Result<(), StoreFault> {
-        if !outbox::is_by_receipt(detail) || !outbox::is_unsettled(&self.outbox, number) {
+        if !is_by_receipt(detail) || !outbox::is_unsettled(&self.outbox, number) {
             return Err(StoreFault::Refused);
         }
         let evidence = copy_evidence(self.alloc, evidence)?;

@@ -5,7 +5,6 @@ ghost use Rattle.std.specs.List.{IsDistinct, position};
 ghost use Rattle.std.specs.Option.{option_map_or};
 ghost use Rattle.std.specs.Str.{bytes_eq};
 ghost use Rattle.as2_exchange.specs.Documents.{passed, passes_at, passes_into, settled_as};
-ghost use Rattle.as2_exchange.specs.Invariants.{is_by_receipt};
 ghost use Rattle.as2_exchange.specs.Readings.{value_of};
 ghost use Rattle.as2_exchange.specs.State.{is_settled};
 ghost use Rattle.as2_exchange.specs.Due.{is_due_document, may_begin};
@@ -125,22 +124,6 @@ pub fn is_unsettled(documents: &[OutEntry], number: u64) -> bool
         Some(document) => document.evidence.is_none(),
         None => false,
     }
-}
-
-/// Whether a receipt alone gives this detail.
-pub fn is_by_receipt(detail: Detail) -> bool
-    ensures { result ≡ is_by_receipt detail }
-{
-    matches!(
-        detail,
-        Detail::Processed
-            | Detail::Warning
-            | Detail::NoMic
-            | Detail::UnknownMic
-            | Detail::NotProcessed
-            | Detail::ErrorModifier
-            | Detail::MicDiffers
-    )
 }
 
 /// The place of the document of this number, if there is one.

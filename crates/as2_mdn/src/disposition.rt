@@ -109,6 +109,13 @@ impl<'a> Disposition<'a> {
         read(value)
     }
 
+    /// The type, as it is spelled, without the blanks and line ends at its ends.
+    pub fn disposition_type(&self) -> &'a [u8]
+        ensures { result.now ≡ self.now.0 }
+    {
+        self.disposition_type
+    }
+
     /// Whether the type is `processed`, whatever its case.
     pub fn is_processed(&self) -> bool
         ensures { result ≡ says_processed self.now }

@@ -23,6 +23,11 @@ alg_named known name =
     else if knows_sha256 known && (is_word name (codes "sha-256") || is_word name (codes "sha256")) then Some Sha256
     else None
 
+-- earlier stores didn't know it
+abbrev pub is_late : Alg → Bool
+is_late Sha256 = true
+is_late other = false
+
 -- the name that is written
 abbrev pub alg_name : Alg → List ℕ
 alg_name Md5 = codes "md5"

@@ -1,5 +1,5 @@
 ghost use Rattle.std.specs.Prelude.{◌≡◌};
-ghost use Rattle.as2_mic.specs.Algs.{AllDigests, alg_named, alg_name, first_known_of};
+ghost use Rattle.as2_mic.specs.Algs.{AllDigests, alg_named, alg_name, first_known_of, is_late};
 
 use as2_names::{cut_at, without_blanks};
 
@@ -42,6 +42,13 @@ impl Alg {
             Alg::Sha1 => "sha1",
             Alg::Sha256 => "sha-256",
         }
+    }
+
+    /// Whether stores of an earlier version didn't know it.
+    pub fn is_late(self) -> bool
+        ensures { result ≡ is_late self }
+    {
+        matches!(self, Alg::Sha256)
     }
 
     /// The first known name of a list with commas between its names.

@@ -44,6 +44,20 @@ fn compared_to(text: &[u8], mic: &MicText) -> Compared
 }
 
 impl<'a> MicField<'a> {
+    /// The text of the MIC, as it is spelled.
+    pub fn mic(&self) -> &'a [u8]
+        ensures { result.now ≡ self.now.0 }
+    {
+        self.mic
+    }
+
+    /// The name of the digest, as it is spelled.
+    pub fn digest(&self) -> &'a [u8]
+        ensures { result.now ≡ self.now.1 }
+    {
+        self.digest
+    }
+
     /// Reads a field's value: the text before the first comma and the text behind it, without the
     /// blanks and line ends at their ends, and neither empty.
     pub fn parse(value: &'a [u8]) -> Option<MicField<'a>>

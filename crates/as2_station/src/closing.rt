@@ -7,7 +7,6 @@ ghost use Rattle.as2_exchange.specs.Receipts.{is_success, receipt_in_answer};
 ghost use Rattle.as2_exchange.specs.State.{AllDigests, document};
 ghost use Rattle.as2_exchange.specs.declared.event.TryAnswer.TheVariants.{Reply};
 ghost use Rattle.as2_exchange.specs.Step.{on_document};
-ghost use Rattle.as2_exchange.specs.Tries.{is_idle};
 ghost use Rattle.as2_posts.specs.Openings.{receipt_as};
 ghost use Rattle.as2_station.specs.Closing.{LeavesUnsettled, after_failure, ended, settled_by, without_receipt};
 ghost use Rattle.as2_station.specs.Said.{said_to_outcome};
@@ -46,13 +45,6 @@ pub fn is_success(status: u16) -> bool
     ensures { result ≡ is_success status }
 {
     200 <= status && status < 300
-}
-
-/// Whether no try is open.
-fn is_idle(attempt: Attempt) -> bool
-    ensures { result ≡ is_idle attempt }
-{
-    matches!(attempt, Attempt::Idle)
 }
 
 /// How far the document has come once its try has failed.
@@ -208,7 +200,7 @@ fn close_found<R: Records>(
     if entry.evidence.is_some() {
         return Ok(Ok(Became::AlreadySettled));
     }
-    if is_idle(entry.attempt) {
+    if entry.attempt.is_idle() {
         return Ok(Err(Refusal::NoOpenTry));
     }
     let end = end_of(alloc, partner, entry, answer, moment)?;

@@ -44,22 +44,6 @@ fn set_settled<S: Alter>(
     )
 }
 
-/// Whether a receipt alone gives this detail.
-pub fn is_by_receipt(detail: Detail) -> bool
-    ensures { result ≡ is_by_receipt detail }
-{
-    matches!(
-        detail,
-        Detail::Processed
-            | Detail::Warning
-            | Detail::NoMic
-            | Detail::UnknownMic
-            | Detail::NotProcessed
-            | Detail::ErrorModifier
-            | Detail::MicDiffers
-    )
-}
-
 /// Settles the document of this number by a receipt, whose report is given in one piece too. No row is said to have the
 /// number of no document; and the key of the evidence is refused where a receipt has settled it.
 pub fn settle<S: Alter>(
