@@ -1,4 +1,7 @@
 //! What was found, and where.
+ghost use Rattle.std.specs.Prelude.{◌≡◌};
+ghost use Rattle.as2_audit.specs.Texts.{mailbox_word};
+
 use crate::fault::Fault;
 
 /// Whether a document was received, or is sent.
@@ -8,6 +11,18 @@ pub enum Mailbox {
     Inbox,
     /// It is sent.
     Outbox,
+}
+
+impl Mailbox {
+    /// The word for an entry of the box.
+    pub fn word(self) -> &'static str
+        ensures { result.now ≡ mailbox_word self }
+    {
+        match self {
+            Mailbox::Inbox => "received",
+            Mailbox::Outbox => "sent",
+        }
+    }
 }
 
 /// What is wrong with an entry of the records.

@@ -4,10 +4,10 @@ ghost use Rattle.std.specs.List.{flat_map};
 ghost use Rattle.as2_records.specs.Calls.{Reads};
 ghost use Rattle.as2_records.specs.Standing.{may_come};
 ghost use Rattle.as2_audit.specs.Audits.{findings};
-ghost use Rattle.as2_audit.specs.Texts.{finding_line, mailbox_word, summary_line, verification};
+ghost use Rattle.as2_audit.specs.Texts.{finding_line, summary_line, verification};
 
 use crate::audit::{add_received_findings, add_sent_findings};
-use crate::findings::{Finding, Mailbox};
+use crate::findings::Finding;
 use as2_exchange::StoreFault;
 use as2_records::Records;
 use as2_text::Memory;
@@ -22,21 +22,11 @@ pub struct Verification {
     pub findings: u64,
 }
 
-/// The word for an entry of that box.
-fn mailbox_word(mailbox: Mailbox) -> &'static str
-    ensures { result.now ≡ mailbox_word mailbox }
-{
-    match mailbox {
-        Mailbox::Inbox => "received",
-        Mailbox::Outbox => "sent",
-    }
-}
-
 /// The line of a finding.
 fn finding_line(alloc: Global, finding: Finding) -> Result<String, AllocError>
     ensures { IfOk result (λ line. string_bytes line ≡ finding_line finding) }
 {
-    let word = mailbox_word(finding.mailbox);
+    let word = finding.mailbox.word();
     let number = finding.number;
     let wrong = finding.fault.text();
     format!(in alloc; "{word} {number}: {wrong}\n")

@@ -1,1 +1,4 @@
 pub mod Files
+pub mod Words
+pub mod Pages
+pub mod Evidence

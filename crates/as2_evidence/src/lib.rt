@@ -1,6 +1,13 @@
-//! What shows how a document was delivered: its content, its receipt, and a page for people.
+//! What shows how a document stands: its content, its receipt, and a page for people that says what they are, and by which commands
+//! anybody can check them.
 #![tactic(auto)]
 
+mod evidence;
 mod files;
+mod lines;
+mod received;
+mod sent;
+mod words;
 
+pub use evidence::evidence;
 pub use files::NewFile;

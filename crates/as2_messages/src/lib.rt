@@ -16,5 +16,5 @@ pub use answer_parser::{AnswerParser, ParsedAnswer, ReceivedAnswer};
 pub use framing::{Method, Refused, RequestFault, Target};
 pub use laws::{one_beginning, one_refusal, one_reply_text, one_request};
 pub use parser::{Parsed, RequestParser};
-pub use reply::{Form, refusal, write_reply};
+pub use reply::{Form, date_of, refusal, write_reply};
 pub use request::Request;

@@ -21,8 +21,8 @@ pub struct Form {
     pub to_head: bool,
 }
 
-/// The date of a moment.
-fn date_of(moment: Moment) -> [u8; 29]
+/// The date of a moment, as HTTP writes it (RFC 9110, section 5.6.7).
+pub fn date_of(moment: Moment) -> [u8; 29]
     ensures { IsDateOf moment result }
 {
     HttpDate::from_unix_secs(moment.seconds())

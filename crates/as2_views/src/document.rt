@@ -22,7 +22,7 @@ fn add_label(text: &mut Vec<u8>, name: &[u8]) -> Result<(), AllocError>
 }
 
 /// Appends a line of a name and a text.
-fn add_text_line(text: &mut Vec<u8>, name: &[u8], value: &[u8]) -> Result<(), AllocError>
+pub fn add_text_line(text: &mut Vec<u8>, name: &[u8], value: &[u8]) -> Result<(), AllocError>
     ensures { OnOk result (text.new.items ≡ text.old.items ++ named_line name.now value.now) }
 {
     add_label(text, name)?;
@@ -31,7 +31,7 @@ fn add_text_line(text: &mut Vec<u8>, name: &[u8], value: &[u8]) -> Result<(), Al
 }
 
 /// Appends a line of a name and a number.
-fn add_number_line(text: &mut Vec<u8>, name: &[u8], number: u64) -> Result<(), AllocError>
+pub fn add_number_line(text: &mut Vec<u8>, name: &[u8], number: u64) -> Result<(), AllocError>
     ensures { OnOk result (text.new.items ≡ text.old.items ++ named_line name.now (decimal number)) }
 {
     add_label(text, name)?;
@@ -40,7 +40,7 @@ fn add_number_line(text: &mut Vec<u8>, name: &[u8], number: u64) -> Result<(), A
 }
 
 /// Appends a line of a name and the name of an organization or a partner, as it is spelled.
-fn add_name_line(text: &mut Vec<u8>, name: &[u8], value: &AsName) -> Result<(), AllocError>
+pub fn add_name_line(text: &mut Vec<u8>, name: &[u8], value: &AsName) -> Result<(), AllocError>
     ensures { OnOk result (text.new.items ≡ text.old.items ++ named_line name.now (spelling value.now)) }
 {
     add_label(text, name)?;
@@ -93,7 +93,7 @@ fn add_size(text: &mut Vec<u8>, size: usize) -> Result<(), AllocError>
 }
 
 /// Appends the line of how many bytes a content has.
-fn add_size_line(text: &mut Vec<u8>, size: usize) -> Result<(), AllocError>
+pub fn add_size_line(text: &mut Vec<u8>, size: usize) -> Result<(), AllocError>
     ensures { OnOk result (text.new.items ≡ text.old.items ++ named_line (codes "content") (size_text size)) }
 {
     add_label(text, b"content")?;

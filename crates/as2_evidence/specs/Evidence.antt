@@ -1,0 +1,82 @@
+-- The files that show how a document stands.
+use Rattle.std.specs.Prelude.{◌≡◌, ℕ, Bool, List, [], ◌∷◌, ◌++◌, codes, Option, Some, None, option_map, IsSomeAnd}
+use Rattle.as2_agreement.specs.Agreements.{AgreedValues}
+use Rattle.as2_audit.specs.Audits.{is_migrated}
+use Rattle.as2_audit.specs.declared.findings.Mailbox.{Mailbox}
+use Rattle.as2_audit.specs.declared.findings.Mailbox.TheVariants.{Inbox, Outbox}
+use Rattle.as2_exchange.specs.Agreement.{Text}
+use Rattle.as2_exchange.specs.Readings.{report_text}
+use Rattle.as2_exchange.specs.Recording.{report}
+use Rattle.as2_exchange.specs.State.{State, document, received}
+use Rattle.as2_exchange.specs.declared.inbox.InEntry.{InEntry}
+use Rattle.as2_exchange.specs.declared.inbox.MdnState.{MdnState}
+use Rattle.as2_exchange.specs.declared.inbox.MdnState.TheVariants.{Sent}
+use Rattle.as2_exchange.specs.declared.outbox.Evidence.{Evidence}
+use Rattle.as2_exchange.specs.declared.outbox.OutEntry.{OutEntry}
+use Rattle.as2_messages.specs.Replies.{IsDateOf}
+use Rattle.as2_evidence.specs.Files.{File}
+use Rattle.as2_evidence.specs.Pages.{received_page, sent_page, stem}
+
+-- the file of that name
+abbrev pub named : Text → Text → Text → File
+named stem end bytes = record { name = stem ++ end; bytes = bytes }
+
+-- a receipt, where there is one
+abbrev pub receipt_files : Text → Option Text → List File
+receipt_files stem None = []
+receipt_files stem (Some receipt) = named stem (codes ".receipt") receipt ∷ []
+
+-- a content, a receipt and a page
+abbrev pub files_named : Text → Text → Option Text → Text → List File
+files_named stem content receipt page =
+    named stem (codes ".content") content ∷ (receipt_files stem receipt ++ named stem (codes ".txt") page ∷ [])
+
+-- ---- a document that is sent
+
+-- its content, the receipt that settled it, as it came, and the page
+abbrev pub sent_files : Bool → OutEntry → Text → Text → List File
+sent_files migrated d submitted came =
+    files_named (stem Outbox d.number) d.content (option_map (λ e. e.body) d.evidence) (sent_page migrated d submitted came)
+
+-- the date of the receipt, where there is one
+abbrev pub IsCame : Option Evidence → Text → Type 0
+IsCame None came = came ≡ codes ""
+IsCame (Some e) came = IsDateOf e.moment came
+
+-- the files are those, with the dates of its moments
+pub record AreSentFiles (migrated : Bool) (d : OutEntry) (files : List File) : Type 0 where
+  pub submitted : Text
+  pub came : Text
+  pub on : IsDateOf d.moment submitted
+  pub then : IsCame d.evidence came
+  pub are : files ≡ sent_files migrated d submitted came
+
+-- ---- a document that was received
+
+-- the receipt that was given, as these agreements have it
+abbrev pub given_receipt : AgreedValues → InEntry → MdnState → Option Text
+given_receipt agreements e Sent = Some (report_text (report agreements e.number e.posted))
+given_receipt agreements e other = None
+
+-- its content, the receipt that was given and the page
+abbrev pub received_files : AgreedValues → InEntry → Text → List File
+received_files agreements e came =
+    files_named (stem Inbox e.number) e.posted.content (given_receipt agreements e e.mdn) (received_page e came)
+
+-- the files are those, with the date of its moment
+pub record AreReceivedFiles (agreements : AgreedValues) (e : InEntry) (files : List File) : Type 0 where
+  pub came : Text
+  pub on : IsDateOf e.moment came
+  pub are : files ≡ received_files agreements e came
+
+-- ---- of a state
+
+-- there are such files of what was found, or none
+abbrev pub AreOf : {A : Type 0} → (A → List File → Type 0) → Option A → Option (List File) → Type 0
+AreOf Are None files = files ≡ None
+AreOf Are (Some a) files = IsSomeAnd files (Are a)
+
+-- the files of the document of that number, where there is one
+abbrev pub IsEvidence : AgreedValues → State → Mailbox → ℕ → Option (List File) → Type 0
+IsEvidence agreements s Inbox number files = AreOf (AreReceivedFiles agreements) (received s number) files
+IsEvidence agreements s Outbox number files = AreOf (AreSentFiles (is_migrated s)) (document s number) files

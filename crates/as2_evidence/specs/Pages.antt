@@ -1,0 +1,121 @@
+-- The pages of evidence, for people.
+use Rattle.std.specs.Prelude.{◌≡◌, ℕ, codes, decimal, length, Option, Some, None, ◌++◌}
+use Rattle.as2_audit.specs.Faults.{kept_receipt, received_fault, sent_fault}
+use Rattle.as2_audit.specs.Texts.{fault_text, mailbox_word}
+use Rattle.as2_audit.specs.declared.fault.Fault.{Fault}
+use Rattle.as2_audit.specs.declared.findings.Mailbox.{Mailbox}
+use Rattle.as2_audit.specs.declared.findings.Mailbox.TheVariants.{Inbox, Outbox}
+use Rattle.as2_exchange.specs.Agreement.{Text}
+use Rattle.as2_exchange.specs.Readings.{Receipt}
+use Rattle.as2_exchange.specs.declared.inbox.InEntry.{InEntry}
+use Rattle.as2_exchange.specs.declared.outbox.Evidence.{Evidence}
+use Rattle.as2_exchange.specs.declared.outbox.OutEntry.{OutEntry}
+use Rattle.as2_mdn.specs.Outcomes.{outcome_text}
+use Rattle.as2_mic.specs.Algs.{alg_name}
+use Rattle.as2_mic.specs.Mic.{mic}
+use Rattle.as2_mic.specs.declared.alg.Alg.{Alg}
+use Rattle.as2_mic.specs.declared.alg.Alg.TheVariants.{Md5, Sha1, Sha256}
+use Rattle.as2_names.specs.Names.{spelling}
+use Rattle.as2_views.specs.Layout.{named_line}
+use Rattle.as2_views.specs.Pieces.{size_text}
+use Rattle.as2_views.specs.Texts.{shown_words}
+use Rattle.as2_evidence.specs.Words.{detail_words, disposition_words, given_words, kept_words, mdn_words}
+
+-- ---- both
+
+-- what the names of the files begin with: `sent-12`, `received-7`
+abbrev pub stem : Mailbox → ℕ → Text
+stem mailbox number = mailbox_word mailbox ++ codes "-" ++ decimal number
+
+-- the integrity check of a content under a digest (RFC 4130, section 7.3.1)
+abbrev pub check_line : Alg → Text → Text
+check_line digest content = named_line (codes "MIC by " ++ alg_name digest) (mic digest content)
+
+-- .. under each that is known
+abbrev pub check_lines : Text → Text
+check_lines content = check_line Md5 content ++ check_line Sha1 content ++ check_line Sha256 content
+
+-- what is found of it
+abbrev pub found_line : Option Fault → Text
+found_line None = named_line (codes "found") (codes "nothing is wrong with what is kept")
+found_line (Some fault) = named_line (codes "found") (fault_text fault)
+
+-- the command that makes the integrity check anew
+abbrev pub check_command : Text → Text → Text
+check_command digest stem = codes "    openssl dgst -" ++ digest ++ codes " -binary " ++ stem ++ codes ".content | base64\n"
+
+-- how the integrity checks are made anew without this station
+abbrev pub check_commands : Text → Text
+check_commands stem =
+    codes "\nThe integrity checks of the content, made anew beside these files:\n"
+    ++ check_command (codes "md5") stem
+    ++ check_command (codes "sha1") stem
+    ++ check_command (codes "sha256") stem
+
+-- how the fields of a receipt are read
+abbrev pub fields_command : Text → Text
+fields_command stem =
+    codes "\nWhat the receipt says; its integrity check has to be the one above that is by its digest:\n"
+    ++ codes "    grep -a -i -A 1 -E '^(Original-Message-ID|Disposition|Received-Content-MIC):' " ++ stem ++ codes ".receipt\n"
+
+-- ---- a document that is sent
+
+-- what a receipt says, where it can be read (RFC 8098, section 3.2; RFC 4130, section 7.4.3)
+abbrev pub said_lines : Option Receipt → Text
+said_lines None = named_line (codes "says") (codes "it can't be read")
+said_lines (Some r) =
+    named_line (codes "Original-Message-ID") r.original_id
+    ++ named_line (codes "Disposition") (disposition_words r.disposition)
+    ++ named_line (codes "Received-Content-MIC") (given_words r.mic)
+
+-- the receipt, and how it is read
+abbrev pub receipt_lines : Text → Text → Option Evidence → Text
+receipt_lines stem came None = codes ""
+receipt_lines stem came (Some e) =
+    codes "\nThe receipt (RFC 8098):\n"
+    ++ named_line (codes "came") came
+    ++ named_line (codes "Content-Type") e.content_type
+    ++ said_lines (kept_receipt e)
+    ++ fields_command stem
+
+-- The page of a document that is sent. The dates are when it was submitted, and when the receipt came.
+abbrev pub sent_page : Bool → OutEntry → Text → Text → Text
+sent_page migrated d submitted came =
+    codes "Evidence of a document that is sent by AS2 (RFC 4130)\n\n"
+    ++ shown_words d
+    ++ named_line (codes "submitted") submitted
+    ++ check_lines d.content
+    ++ named_line (codes "meaning") (detail_words d.detail)
+    ++ found_line (sent_fault migrated d)
+    ++ check_commands (stem Outbox d.number)
+    ++ receipt_lines (stem Outbox d.number) came d.evidence
+
+-- ---- a document that was received
+
+-- from whom and to whom it is, which, and how long
+abbrev pub received_names : InEntry → Text
+received_names e =
+    named_line (codes "number") (decimal e.number)
+    ++ named_line (codes "from") (spelling e.posted.sender)
+    ++ named_line (codes "to") (spelling e.posted.receiver)
+    ++ named_line (codes "identifier") e.posted.id
+    ++ named_line (codes "content type") e.posted.content_type
+    ++ named_line (codes "content") (size_text (length e.posted.content))
+
+-- what became of it, and how its receipt stands (RFC 4130, section 7.5; RFC 8098, section 3.2.6)
+abbrev pub outcome_lines : InEntry → Text
+outcome_lines e =
+    named_line (codes "disposition") (outcome_text e.posted.outcome)
+    ++ named_line (codes "MIC of the receipt") (kept_words e.posted.mic)
+    ++ named_line (codes "receipt") (mdn_words e.mdn)
+
+-- the page of a document that was received
+abbrev pub received_page : InEntry → Text → Text
+received_page e came =
+    codes "Evidence of a document that was received by AS2 (RFC 4130)\n\n"
+    ++ received_names e
+    ++ named_line (codes "received") came
+    ++ check_lines e.posted.content
+    ++ outcome_lines e
+    ++ found_line (received_fault e.posted)
+    ++ check_commands (stem Inbox e.number)

@@ -1,0 +1,58 @@
+-- What the pages of evidence say in words.
+use Rattle.std.specs.Prelude.{codes, Option, Some, None, ◌++◌}
+use Rattle.as2_exchange.specs.Agreement.{Text}
+use Rattle.as2_exchange.specs.declared.inbox.MdnState.{MdnState}
+use Rattle.as2_exchange.specs.declared.inbox.MdnState.TheVariants.{Unasked, Pending, Sent}
+use Rattle.as2_mdn.specs.Dispositions.{given_modifier}
+use Rattle.as2_mdn.specs.Receipts.{Mic, Missing, Unreadable, Given}
+use Rattle.as2_mdn.specs.Reports.{mic_with_digest}
+use Rattle.as2_mdn.specs.declared.detail.Detail.{Detail}
+use Rattle.as2_mdn.specs.declared.detail.Detail.TheVariants.{New, Sending, Awaiting, Retry, Processed, NoReceiptAsked, Warning, NoMic, UnknownMic, NotProcessed, ErrorModifier, MicDiffers, TriesUsed, Overdue}
+use Rattle.as2_mdn.specs.declared.report.ReportMic.{ReportMic}
+
+-- ---- documents that are sent
+
+-- what a detail says (RFC 4130, sections 7.4 and 7.5; RFC 8098, section 3.2.6)
+abbrev pub detail_words : Detail → Text
+detail_words New = codes "no try has begun since it was to be sent"
+detail_words Sending = codes "a try is open, or was cut off"
+detail_words Awaiting = codes "delivered, as the partner's answer says; the receipt is to come"
+detail_words Retry = codes "the last try failed, and another is to come"
+detail_words Processed = codes "a receipt says \"processed\" without modifier, and carries the integrity check (MIC) of this content"
+detail_words NoReceiptAsked = codes "delivered, as the partner's answer says; no receipt is agreed"
+detail_words Warning = codes "a receipt says \"processed\" with a warning"
+detail_words NoMic = codes "a receipt says \"processed\", and carries no integrity check (MIC)"
+detail_words UnknownMic = codes "a receipt says \"processed\", and its integrity check (MIC) can't be read, or is by a digest that isn't known"
+detail_words NotProcessed = codes "a receipt says something else than \"processed\""
+detail_words ErrorModifier = codes "a receipt says \"processed\" with an error or a failure"
+detail_words MicDiffers = codes "a receipt says \"processed\", and carries the integrity check (MIC) of another content"
+detail_words TriesUsed = codes "no try was answered as it is agreed; the partner may have it"
+detail_words Overdue = codes "delivered, as the partner's answer says; no receipt came in time"
+
+-- what stands behind a type
+abbrev pub modifier_words : Option Text → Text
+modifier_words None = codes ""
+modifier_words (Some modifier) = codes "/" ++ modifier
+
+-- a disposition's type and modifier, as they are spelled (RFC 8098, section 3.2.6)
+abbrev pub disposition_words : Text × Text → Text
+disposition_words disposition = disposition.0 ++ modifier_words (given_modifier disposition)
+
+-- the MIC that a receipt gives (RFC 4130, section 7.4.3)
+abbrev pub given_words : Mic → Text
+given_words Missing = codes "-"
+given_words Unreadable = codes "can't be read"
+given_words (Given field) = field.0 ++ codes ", " ++ field.1
+
+-- ---- documents that were received
+
+-- how the receipt stands
+abbrev pub mdn_words : MdnState → Text
+mdn_words Unasked = codes "none was asked for"
+mdn_words Pending = codes "to be sent"
+mdn_words Sent = codes "sent"
+
+-- the MIC that the receipt gives, where there is one
+abbrev pub kept_words : Option ReportMic → Text
+kept_words None = codes "-"
+kept_words (Some mic) = mic_with_digest mic

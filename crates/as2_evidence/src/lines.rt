@@ -1,0 +1,68 @@
+//! Lines that all pages have.
+ghost use Rattle.std.specs.Prelude.{◌≡◌, ◌++◌, IfOk, OnOk, string_bytes};
+ghost use Rattle.as2_evidence.specs.Pages.{check_command, check_commands, check_line, check_lines, found_line, stem};
+
+use as2_audit::{Fault, Mailbox};
+use as2_mic::{Alg, Pieces, mic_of_pieces};
+use as2_views::add_text_line;
+use std::alloc::{AllocError, Global};
+
+/// What the names of the files begin with.
+pub fn stem(alloc: Global, mailbox: Mailbox, number: u64) -> Result<String, AllocError>
+    ensures { IfOk result (λ text. string_bytes text ≡ stem mailbox number) }
+{
+    let word = mailbox.word();
+    format!(in alloc; "{word}-{number}")
+}
+
+/// Appends the integrity check of a content under a digest.
+fn add_check(text: &mut Vec<u8>, digest: Alg, content: &Pieces) -> Result<(), AllocError>
+    ensures { OnOk result (text.new.items ≡ text.old.items ++ check_line digest content.now) }
+{
+    text.extend_from_slice(b"MIC by ")?;
+    add_text_line(
+        text,
+        digest.name().as_bytes(),
+        mic_of_pieces(digest, content).bytes(),
+    )
+}
+
+/// Appends the integrity checks of a content.
+pub fn add_checks(text: &mut Vec<u8>, content: &Pieces) -> Result<(), AllocError>
+    ensures { OnOk result (text.new.items ≡ text.old.items ++ check_lines content.now) }
+{
+    add_check(text, Alg::Md5, content)?;
+    add_check(text, Alg::Sha1, content)?;
+    add_check(text, Alg::Sha256, content)
+}
+
+/// Appends what is found.
+pub fn add_found(text: &mut Vec<u8>, fault: Option<Fault>) -> Result<(), AllocError>
+    ensures { OnOk result (text.new.items ≡ text.old.items ++ found_line fault) }
+{
+    match fault {
+        None => add_text_line(text, b"found", b"nothing is wrong with what is kept"),
+        Some(fault) => add_text_line(text, b"found", fault.text().as_bytes()),
+    }
+}
+
+/// Appends the command that makes the integrity check under a digest anew.
+fn add_check_command(text: &mut Vec<u8>, digest: &str, stem: &str) -> Result<(), AllocError>
+    ensures { OnOk result (text.new.items ≡ text.old.items ++ check_command digest.now stem.now) }
+{
+    text.extend_from_slice(b"    openssl dgst -")?;
+    text.extend_from_slice(digest.as_bytes())?;
+    text.extend_from_slice(b" -binary ")?;
+    text.extend_from_slice(stem.as_bytes())?;
+    text.extend_from_slice(b".content | base64\n")
+}
+
+/// Appends how the integrity checks are made anew.
+pub fn add_check_commands(text: &mut Vec<u8>, stem: &str) -> Result<(), AllocError>
+    ensures { OnOk result (text.new.items ≡ text.old.items ++ check_commands stem.now) }
+{
+    text.extend_from_slice(b"\nThe integrity checks of the content, made anew beside these files:\n")?;
+    add_check_command(text, "md5", stem)?;
+    add_check_command(text, "sha1", stem)?;
+    add_check_command(text, "sha256", stem)
+}

@@ -1,0 +1,102 @@
+//! Documents that were received.
+ghost use Rattle.std.specs.Prelude.{◌≡◌, ◌++◌, IfOk, OnOk};
+ghost use Rattle.as2_evidence.specs.Evidence.{AreReceivedFiles, given_receipt};
+ghost use Rattle.as2_evidence.specs.Files.{files_of};
+ghost use Rattle.as2_evidence.specs.Pages.{outcome_lines, received_names, received_page};
+ghost use Rattle.as2_exchange.specs.Readings.{report_text};
+ghost use Rattle.as2_exchange.specs.Recording.{report};
+
+use crate::files::{NewFile, files_in, in_pieces};
+use crate::lines::{add_check_commands, add_checks, add_found, stem};
+use crate::words::{add_kept, mdn_words};
+use as2_agreement::Agreements;
+use as2_audit::{Mailbox, received_fault};
+use as2_exchange::{InEntry, MdnState, Posted};
+use as2_mdn::write_report;
+use as2_messages::date_of;
+use as2_mic::Pieces;
+use as2_posts::report;
+use as2_text::Memory;
+use as2_views::{add_name_line, add_number_line, add_size_line, add_text_line};
+use std::alloc::{AllocError, Global};
+
+/// Appends what the document is.
+fn add_names(text: &mut Vec<u8>, entry: &InEntry) -> Result<(), AllocError>
+    ensures { OnOk result (text.new.items ≡ text.old.items ++ received_names entry.now) }
+{
+    add_number_line(text, b"number", entry.number)?;
+    add_name_line(text, b"from", &entry.posted.sender)?;
+    add_name_line(text, b"to", &entry.posted.receiver)?;
+    add_text_line(text, b"identifier", entry.posted.id.as_received().as_bytes())?;
+    add_text_line(text, b"content type", entry.posted.content_type.as_slice())?;
+    add_size_line(text, entry.posted.content.len())
+}
+
+/// Appends what became of the document, and how its receipt stands.
+fn add_outcome(text: &mut Vec<u8>, entry: &InEntry) -> Result<(), AllocError>
+    ensures { OnOk result (text.new.items ≡ text.old.items ++ outcome_lines entry.now) }
+{
+    add_text_line(text, b"disposition", entry.posted.outcome.text().as_bytes())?;
+    text.extend_from_slice(b"MIC of the receipt: ")?;
+    add_kept(text, entry.posted.mic)?;
+    text.extend_from_slice(b"\n")?;
+    add_text_line(text, b"receipt", mdn_words(entry.mdn).as_bytes())
+}
+
+/// The page of a document.
+fn received_page(alloc: Global, entry: &InEntry, came: &[u8]) -> Result<Vec<u8>, Memory>
+    ensures { IfOk result (λ text. text.items ≡ received_page entry.now came.now) }
+{
+    let stem = stem(alloc, Mailbox::Inbox, entry.number)?;
+    let mut text = Vec::from_slice(
+        alloc,
+        b"Evidence of a document that was received by AS2 (RFC 4130)\n\n",
+    )?;
+    add_names(&mut text, entry)?;
+    add_text_line(&mut text, b"received", came)?;
+    add_checks(&mut text, &entry.posted.content)?;
+    add_outcome(&mut text, entry)?;
+    add_found(&mut text, received_fault(&entry.posted))?;
+    add_check_commands(&mut text, &stem)?;
+    Ok(text)
+}
+
+/// The body of the receipt that the station gives for a document.
+#[tactic(auto, unfolding(as2_exchange::specs::Readings::report_text))]
+fn receipt_of(alloc: Global, agreements: &Agreements, entry: &InEntry) -> Result<Pieces, Memory>
+    ensures { IfOk result (λ bytes. bytes ≡ report_text (report agreements.now entry.now.number entry.now.posted)) }
+{
+    let out = report(agreements, entry.number, &entry.posted)?;
+    in_pieces(alloc, &write_report(alloc, &out)?)
+}
+
+/// The receipt of a document, where it was given.
+fn given_receipt(
+    alloc: Global,
+    agreements: &Agreements,
+    entry: &InEntry,
+) -> Result<Option<Pieces>, Memory>
+    ensures { IfOk result (λ receipt. receipt ≡ given_receipt agreements.now entry.now entry.now.mdn) }
+{
+    match entry.mdn {
+        MdnState::Sent => Ok(Some(receipt_of(alloc, agreements, entry)?)),
+        MdnState::Unasked | MdnState::Pending => Ok(None),
+    }
+}
+
+/// The files of a document: its content, the receipt that was given, as these agreements have it, and the page. Memory where it runs
+/// out.
+pub fn received_files(
+    alloc: Global,
+    agreements: &Agreements,
+    entry: InEntry,
+) -> Result<Vec<NewFile>, Memory>
+    ensures { IfOk result (λ files. AreReceivedFiles agreements.now entry (files_of files.items)) }
+{
+    let came = date_of(entry.moment);
+    let page = received_page(alloc, &entry, &came)?;
+    let stem = stem(alloc, Mailbox::Inbox, entry.number)?;
+    let receipt = given_receipt(alloc, agreements, &entry)?;
+    let Posted { content, .. } = entry.posted;
+    files_in(alloc, &stem, content, receipt, &page)
+}
