@@ -9,16 +9,17 @@ use Rattle.as2_mdn.specs.declared.detail.State.TheVariants as state
 use Rattle.as2_views.specs.Layout.{state_text}
 use Rattle.as2_views.specs.declared.filter.Filter.{Filter}
 use Rattle.as2_views.specs.declared.filter.Filter.TheVariants.{Outbox, Inbox}
+use Rattle.as2_audit.specs.declared.findings.Mailbox.{Mailbox}
 use Rattle.as2_commands.specs.CommandLine.{command_in, option_values}
-use Rattle.as2_commands.specs.Options.{AsksRun, AsksServe, AsksSubmit, Gives, Lists, is_idle, NameIs, NumberIs, SecondsAre, Tasks, Tell, TellQuestion, TellsOption, question_word, word_of}
-use Rattle.as2_commands.specs.Requests.{Serving, Submission}
+use Rattle.as2_commands.specs.Options.{AsksEvidence, AsksRun, AsksServe, AsksSubmit, Gives, Lists, is_idle, NameIs, NumberIs, SecondsAre, Tasks, Tell, TellQuestion, TellsOption, question_word, word_of}
+use Rattle.as2_commands.specs.Requests.{Serving, Submission, Wanted}
 use Rattle.as2_commands.specs.declared.tasks.Command.{Command}
 use Rattle.as2_commands.specs.declared.tasks.Command.TheVariants as command
 use Rattle.as2_commands.specs.declared.tasks.Question.{Question}
 use Rattle.as2_commands.specs.declared.tasks.Question.TheVariants as question
 use Rattle.as2_commands.specs.declared.tasks.RunOptions.{RunOptions}
 use Rattle.as2_commands.specs.declared.tasks.Task.{Task}
-use Rattle.as2_commands.specs.declared.tasks.Task.TheVariants.{Check, Migrate, Verify, Run}
+use Rattle.as2_commands.specs.declared.tasks.Task.TheVariants.{Check, Migrate, Verify, Prove, Run}
 use Rattle.as2_commands.specs.declared.tasks.ServingWaits.{ServingWaits}
 use Rattle.as2_commands.specs.declared.tasks.Waits.{Waits}
 
@@ -280,6 +281,42 @@ check_migrate : codes "check" ≡ codes "migrate" → ⊥
 unfolding mark
 check_migrate is = absurd (apart 99101 109103 (lit< tt) (ap mark is))
 
+-- nor is `evidence`
+no_evidence_question : (q : Question Submission) → codes "evidence" ≡ question_word q → ⊥
+unfolding mark
+no_evidence_question (question.Submit s) is = absurd (apart 101105 115098 (lit< tt) (ap mark is))
+no_evidence_question question.Tick is = absurd (apart 101105 116099 (lit< tt) (ap mark is))
+no_evidence_question (question.Resend s) is = absurd (apart 101105 114115 (lit< tt) (ap mark is))
+no_evidence_question (question.List s i) is = absurd (apart 101105 108115 (lit< tt) (ap mark is))
+no_evidence_question question.Outstanding is = absurd (apart 101105 111116 (lit< tt) (ap mark is))
+no_evidence_question (question.Show s) is = absurd (apart 101105 115111 (lit< tt) (ap mark is))
+no_evidence_question (question.Fetch s) is = absurd (apart 101105 102116 (lit< tt) (ap mark is))
+
+no_evidence : (command : Command Submission) → codes "evidence" ≡ word_of command → ⊥
+unfolding mark
+no_evidence (command.Post p) is = absurd (apart 101105 112115 (lit< tt) (ap mark is))
+no_evidence (command.Ask q) is = no_evidence_question q is
+no_evidence (command.Send s) is = absurd (apart 101105 115110 (lit< tt) (ap mark is))
+no_evidence (command.Serve s) is = absurd (apart 101105 115114 (lit< tt) (ap mark is))
+
+check_evidence : codes "check" ≡ codes "evidence" → ⊥
+unfolding mark
+check_evidence is = absurd (apart 99101 101105 (lit< tt) (ap mark is))
+
+migrate_evidence : codes "migrate" ≡ codes "evidence" → ⊥
+unfolding mark
+migrate_evidence is = absurd (apart 101105 109103 (lit< tt) (ap mark (sym is)))
+
+verify_evidence : codes "verify" ≡ codes "evidence" → ⊥
+unfolding mark
+verify_evidence is = absurd (apart 101105 118114 (lit< tt) (ap mark (sym is)))
+
+wanted_one : (own : List Row) (a b : Wanted) → AsksEvidence own a → AsksEvidence own b → a ≡ b
+wanted_one own a b x y =
+    ap (λ (m : Mailbox). record a { mailbox = m }) (x.box ∙ sym y.box)
+    ∙ ap (λ (n : ℕ). record a { mailbox = b.mailbox; number = n }) (number_one _ a.number b.number x.entry.number y.entry.number)
+    ∙ ap (λ (p : List ℕ). record b { folder = p }) (path_one _ a.folder b.folder x.folder y.folder)
+
 task_one : (values : List Row) (named : Option (Text × List Row)) (clock : Option ℕ) (a b : Task) → Tasks values named clock a → Tasks values named clock b → a ≡ b
 task_one values None clock a b x y = absurd x
 task_one values (Some named) clock Check Check x y = refl
@@ -295,6 +332,15 @@ task_one values (Some named) clock (Verify run) Migrate x y = absurd (migrate_ve
 task_one values (Some named) clock (Verify run) (Verify other) x y = ap Verify (run_one values clock run other x.1 y.1)
 task_one values (Some named) clock (Verify run) (Run other asked) x y = absurd (no_verify asked (sym x.0 ∙ y.0.0))
 task_one values (Some named) clock (Run run asked) (Verify other) x y = absurd (no_verify asked (sym y.0 ∙ x.0.0))
+task_one values (Some named) clock Check (Prove run wanted) x y = absurd (check_evidence (sym x ∙ y.0))
+task_one values (Some named) clock Migrate (Prove run wanted) x y = absurd (migrate_evidence (sym x ∙ y.0))
+task_one values (Some named) clock (Verify run) (Prove other wanted) x y = absurd (verify_evidence (sym x.0 ∙ y.0))
+task_one values (Some named) clock (Prove run wanted) Check x y = absurd (check_evidence (sym y ∙ x.0))
+task_one values (Some named) clock (Prove run wanted) Migrate x y = absurd (migrate_evidence (sym y ∙ x.0))
+task_one values (Some named) clock (Prove run wanted) (Verify other) x y = absurd (verify_evidence (sym y.0 ∙ x.0))
+task_one values (Some named) clock (Prove run wanted) (Prove other later) x y = ap₂ Prove (run_one values clock run other x.2 y.2) (wanted_one named.1 wanted later x.1 y.1)
+task_one values (Some named) clock (Prove run wanted) (Run other asked) x y = absurd (no_evidence asked (sym x.0 ∙ y.0.0))
+task_one values (Some named) clock (Run run asked) (Prove other wanted) x y = absurd (no_evidence asked (sym y.0 ∙ x.0.0))
 task_one values (Some named) clock Check (Run run asked) x y = absurd (no_check asked (sym x ∙ y.0.0))
 task_one values (Some named) clock (Run run asked) Check x y = absurd (no_check asked (sym y ∙ x.0.0))
 task_one values (Some named) clock (Run run asked) (Run other later) x y =

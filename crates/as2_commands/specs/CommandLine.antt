@@ -66,6 +66,10 @@ store = nonempty (required (option (codes "store")))
 abbrev pub idle : Rule
 idle = number 1 3600 (default (codes "2") (option (codes "idle")))
 
+-- the folder that files are made in
+abbrev pub folder : Rule
+folder = nonempty (default (codes ".") (option (codes "out")))
+
 -- how many connections are served
 abbrev pub count : Rule
 count = number 1 1000000 (required (option (codes "count")))
@@ -94,6 +98,9 @@ submit = command (codes "submit") (required (option (codes "from")) ∷ required
 abbrev pub list : Shape
 list = command (codes "list") (value (codes "kind") ∷ option (codes "state") ∷ [])
 
+abbrev pub evidence : Shape
+evidence = command (codes "evidence") (entry ∷ flag (codes "received") ∷ folder ∷ [])
+
 abbrev pub serve : Shape
 serve = command (codes "serve") (required (option (codes "listen")) ∷ count ∷ timeout ∷ idle ∷ [])
 
@@ -102,6 +109,7 @@ commands =
     command (codes "check") []
     ∷ command (codes "migrate") []
     ∷ command (codes "verify") []
+    ∷ evidence
     ∷ post
     ∷ submit
     ∷ command (codes "send") (timeout ∷ [])

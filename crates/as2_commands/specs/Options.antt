@@ -1,5 +1,5 @@
 -- What a command line asks for.
-use Rattle.std.specs.Prelude.{◌≡◌, ◌≤◌, ◌-◌, ℕ, List, [], Option, Some, None, IfSome, option_map, codes, ⊤, Bool, bytes_eq, is_some, false, ◌&&◌, nat_le, nat_lt, if◌then◌else◌}
+use Rattle.std.specs.Prelude.{◌≡◌, ◌≤◌, ◌-◌, ℕ, List, [], Option, Some, None, IfSome, option_map, codes, ⊤, Bool, bytes_eq, is_some, true, false, ◌&&◌, nat_le, nat_lt, if◌then◌else◌}
 use Rattle.std.specs.Str.Parse.{IsNumeral, digits_value, without_leading_plus}
 use Rattle.as2_names.specs.Moments.{last_moment}
 use Rattle.as2_names.specs.Names.{Spells}
@@ -9,14 +9,16 @@ use Rattle.as2_views.specs.declared.filter.Filter.{Filter}
 use Rattle.as2_views.specs.declared.filter.Filter.TheVariants.{Outbox, Inbox}
 use Rattle.clap.specs.Words.{Row, Text, first_of, one_of}
 use Rattle.as2_commands.specs.CommandLine.{command_in, faults, option_values}
-use Rattle.as2_commands.specs.Requests.{Serving, Submission}
+use Rattle.as2_audit.specs.declared.findings.Mailbox.{Mailbox}
+use Rattle.as2_audit.specs.declared.findings.Mailbox.TheVariants as mailbox
+use Rattle.as2_commands.specs.Requests.{Serving, Submission, Wanted}
 use Rattle.as2_commands.specs.declared.tasks.Command.{Command}
 use Rattle.as2_commands.specs.declared.tasks.Command.TheVariants.{Post, Ask, Send, Serve}
 use Rattle.as2_commands.specs.declared.tasks.Question.{Question}
 use Rattle.as2_commands.specs.declared.tasks.Question.TheVariants.{Submit, Tick, Resend, List as Listing, Outstanding, Show, Fetch}
 use Rattle.as2_commands.specs.declared.tasks.RunOptions.{RunOptions}
 use Rattle.as2_commands.specs.declared.tasks.Task.{Task}
-use Rattle.as2_commands.specs.declared.tasks.Task.TheVariants.{Check, Migrate, Verify, Run}
+use Rattle.as2_commands.specs.declared.tasks.Task.TheVariants.{Check, Migrate, Verify, Prove, Run}
 
 -- the text says the number in decimal digits; a plus may stand before them
 abbrev pub Says : Text → ℕ → Type 0
@@ -106,6 +108,17 @@ abbrev pub is_set : Option Text → Bool
 is_set (Some text) = bytes_eq text (codes "true")
 is_set None = false
 
+-- the box of a document: what was received, where that flag is there
+abbrev pub box_of : Bool → Mailbox
+box_of true = mailbox.Inbox
+box_of false = mailbox.Outbox
+
+-- the box, the number and the folder
+pub record AsksEvidence (own : List Row) (w : Wanted) : Type 0 where
+  pub box : w.mailbox ≡ box_of (is_set (first_of (codes "received") own))
+  pub entry : IsEntry own w.number
+  pub folder : first_of (codes "out") own ≡ Some w.folder
+
 -- the word for a question
 abbrev pub question_word : Question Submission → Text
 question_word (Submit s) = codes "submit"
@@ -149,6 +162,7 @@ Tasks values None clock task = ⊥
 Tasks values (Some command) clock Check = command.0 ≡ codes "check"
 Tasks values (Some command) clock Migrate = command.0 ≡ codes "migrate"
 Tasks values (Some command) clock (Verify options) = (command.0 ≡ codes "verify") × AsksRun values clock options
+Tasks values (Some command) clock (Prove options wanted) = (command.0 ≡ codes "evidence") × AsksEvidence command.1 wanted × AsksRun values clock options
 Tasks values (Some command) clock (Run options asked) = Commands values command.0 command.1 asked × AsksRun values clock options
 
 -- the paths of the file of agreements and of the store, and what is asked for

@@ -1,5 +1,6 @@
 -- What commands are given.
 use Rattle.std.specs.Prelude.{ℕ, List, Option}
+use Rattle.as2_audit.specs.declared.findings.Mailbox.{Mailbox}
 use Rattle.as2_commands.specs.declared.tasks.ServingWaits.{ServingWaits}
 
 -- a document: from whom and to whom it goes, and the path of its file
@@ -14,3 +15,9 @@ pub record Serving : Type 0 where
   pub count : ℕ
   pub waits : ServingWaits
   pub moment : Option ℕ
+
+-- which document is to be proved: its box and its number; and the folder that the files are made in
+pub record Wanted : Type 0 where
+  pub mailbox : Mailbox
+  pub number : ℕ
+  pub folder : List ℕ

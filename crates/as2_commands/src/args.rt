@@ -1,7 +1,7 @@
 //! Options and values of commands.
 ghost use Rattle.std.specs.Prelude.{◌≡◌, ◌<◌, ◌≤◌, ◌^◌, codes, false};
 ghost use Rattle.clap.specs.Words.{rule_of};
-ghost use Rattle.as2_commands.specs.CommandLine.{count, default, entry, first, flag, idle, moment, nonempty, number, option, required, store, store_limit, timeout, value};
+ghost use Rattle.as2_commands.specs.CommandLine.{count, default, entry, first, flag, folder, idle, moment, nonempty, number, option, required, store, store_limit, timeout, value};
 
 use as2_exchange::END_OF_NUMBERS;
 use as2_text::LAST_MOMENT;
@@ -43,6 +43,12 @@ pub(crate) const STATE: &str = "state";
 
 /// The number of an entry.
 pub(crate) const NUMBER: &str = "number";
+
+/// The document was received.
+pub(crate) const RECEIVED: &str = "received";
+
+/// The folder that files are made in.
+pub(crate) const OUT: &str = "out";
 
 pub(crate) const LISTEN: &str = "listen";
 
@@ -198,6 +204,14 @@ pub(crate) fn store<'a>(alloc: Global) -> Arg<'a>
 {
     let help = "Records, an SQLite file, made where it is absent; ':memory:' keeps none";
     nonempty(required_option(alloc, STORE, "FILE", help))
+}
+
+pub(crate) fn folder<'a>(alloc: Global) -> Arg<'a>
+    ensures rule { rule_of result ≡ folder }
+    ensures local { result.global ≡ false }
+{
+    let help = "The folder that the files are made in";
+    nonempty(default_option(alloc, OUT, "FOLDER", help, "."))
 }
 
 pub(crate) fn count<'a>(alloc: Global) -> Arg<'a>

@@ -16,6 +16,7 @@ pub(crate) fn command<'a>(alloc: Global) -> Made<'a>
     let line = with_command(with_options(alloc), own::check(alloc));
     let line = with_command(line, own::migrate(alloc));
     let line = with_command(line, own::verify(alloc));
+    let line = with_command(line, own::evidence(alloc));
     let line = with_command(line, own::post(alloc));
     let line = with_command(line, own::submit(alloc));
     let line = with_command(line, own::send(alloc));

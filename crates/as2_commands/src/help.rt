@@ -56,6 +56,24 @@ error, exit status 1. A fault of the store is 'store: NAME', exit status 3, and 
 Example:
   as2desk --agreements agreements.toml --store station.db verify";
 
+pub(crate) const EVIDENCE: &str = "\
+Makes three files that show how document N stands, to somebody who trusts neither side: 'sent-N.content',
+the content as it was sent; 'sent-N.receipt', the body of the receipt that settled it, as it came; and
+'sent-N.txt', a page for people. It says from whom and to whom the document goes, under which identifier,
+when it was submitted, when the receipt came and what it says, the integrity checks (MIC) of the content,
+and the commands by which anybody can make those anew. Without a receipt there are two, and the page says
+how the document stands. The name of each file is printed.
+
+With '--received' it is a document that was received: 'received-N.content', 'received-N.receipt', the
+receipt that was given, and 'received-N.txt'.
+
+Nothing is written over: where something stands under one of the names, or a file can't be made, none is,
+and 'refused: CannotWrite' is said on standard error, exit status 1. A number that no document has is
+'refused: NoSuchNumber'. A fault of the store is 'store: NAME', exit status 3. The records aren't changed.
+
+Example:
+  as2desk --agreements agreements.toml --store station.db evidence 1 --out dispute";
+
 pub(crate) const POST: &str = "\
 Standard input is HTTP requests, as a partner sends them, one behind the other: documents and receipts.
 Each is answered in turn. The reply on standard output has the receipt in it where the document asks

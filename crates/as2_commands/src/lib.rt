@@ -15,6 +15,6 @@ mod words;
 pub use as2_views::Filter;
 pub use first_number::FirstNumber;
 pub use tasks::{
-    Command, Options, Question, RunOptions, Serving, ServingWaits, Submission, Task, Waits,
+    Command, Options, Question, RunOptions, Serving, ServingWaits, Submission, Task, Waits, Wanted,
 };
 pub use words::options_in;

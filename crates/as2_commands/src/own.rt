@@ -1,11 +1,11 @@
 //! Each command, with its own options.
 ghost use Rattle.std.specs.Prelude.{[], ◌∷◌, codes, IfOk};
 ghost use Rattle.as2_commands.specs.Building.{Looks};
-ghost use Rattle.as2_commands.specs.CommandLine.{command, entry, list, post, serve, submit, timeout};
+ghost use Rattle.as2_commands.specs.CommandLine.{command, entry, evidence, list, post, serve, submit, timeout};
 
 use crate::args::{
-    FILE, FROM, KIND, LISTEN, LOG, STATE, TO, count, entry, flag, idle, option, required_option,
-    timeout, value,
+    FILE, FROM, KIND, LISTEN, LOG, RECEIVED, STATE, TO, count, entry, flag, folder, idle, option,
+    required_option, timeout, value,
 };
 use crate::building::{Made, and};
 use crate::help;
@@ -17,6 +17,8 @@ pub(crate) const CHECK: &str = "check";
 pub(crate) const MIGRATE: &str = "migrate";
 
 pub(crate) const VERIFY: &str = "verify";
+
+pub(crate) const EVIDENCE: &str = "evidence";
 
 pub(crate) const POST: &str = "post";
 
@@ -64,6 +66,20 @@ pub(crate) fn verify<'a>(alloc: Global) -> Made<'a>
 {
     let about = "Looks through all records, and prints what is wrong with them";
     named(alloc, VERIFY, about, help::VERIFY)
+}
+
+pub(crate) fn evidence<'a>(alloc: Global) -> Made<'a>
+    ensures { IfOk result (Looks evidence) }
+{
+    let about = "Makes the files that show how a document stands: its content, its receipt, a page";
+    let number = entry(alloc, "Number of the document: 1 to 999999999999");
+    let received = "The document is one that was received, and not one that is sent";
+    let evidence = and(
+        named(alloc, EVIDENCE, about, help::EVIDENCE),
+        number,
+    );
+    let evidence = and(evidence, flag(alloc, RECEIVED, received));
+    and(evidence, folder(alloc))
 }
 
 pub(crate) fn post<'a>(alloc: Global) -> Made<'a>

@@ -6,22 +6,23 @@ ghost use Rattle.as2_views.specs.Layout.{state_text};
 ghost use Rattle.as2_mdn.specs.declared.detail.State.{State as TheState};
 ghost use Rattle.as2_views.specs.declared.filter.Filter.{Filter as TheFilter};
 ghost use Rattle.clap.specs.Words.{first_of, found_of, one_of, rows_of, subcommand_rows_of};
-ghost use Rattle.as2_commands.specs.Options.{AsksList, AsksRun, AsksServe, AsksSubmit, Commands, Give, IsEntry, IsWait, Lists, is_idle, is_set, NameIs, NumberFrom, NumberIs, SecondsAre, Tasks, TellsMoment, TellsOption};
-ghost use Rattle.as2_commands.specs.Requests.{Serving as TheServing, Submission as TheSubmission};
+ghost use Rattle.as2_commands.specs.Options.{AsksEvidence, AsksList, AsksRun, AsksServe, AsksSubmit, Commands, Give, IsEntry, IsWait, box_of, Lists, is_idle, is_set, NameIs, NumberFrom, NumberIs, SecondsAre, Tasks, TellsMoment, TellsOption};
+ghost use Rattle.as2_commands.specs.Requests.{Serving as TheServing, Submission as TheSubmission, Wanted as TheWanted};
 ghost use Rattle.as2_commands.specs.declared.tasks.Command.{Command as TheCommand};
 ghost use Rattle.as2_commands.specs.declared.tasks.RunOptions.{RunOptions as TheOptions};
 ghost use Rattle.as2_commands.specs.declared.tasks.Task.{Task as TheTask};
 
 use crate::args::{
     AGREEMENTS, COUNT, FILE, FIRST, FROM, IDLE, KIND, LEAST_LIMIT, LEAST_WAIT, LISTEN, LOG, MOMENT,
-    MOST_CONNECTIONS, MOST_LIMIT, MOST_WAIT, NUMBER, STATE, STORE, STORE_LIMIT, TIMEOUT, TO,
+    MOST_CONNECTIONS, MOST_LIMIT, MOST_WAIT, NUMBER, OUT, RECEIVED, STATE, STORE, STORE_LIMIT, TIMEOUT, TO,
 };
 use crate::fault::OptionFault;
 use crate::first_number::FirstNumber;
-use crate::own::{CHECK, MIGRATE, VERIFY};
+use crate::own::{CHECK, EVIDENCE, MIGRATE, VERIFY};
 use crate::tasks::{
-    Command, Options, Question, RunOptions, Serving, ServingWaits, Submission, Task, Waits,
+    Command, Options, Question, RunOptions, Serving, ServingWaits, Submission, Task, Waits, Wanted,
 };
+use as2_audit::Mailbox;
 use as2_exchange::END_OF_NUMBERS;
 use as2_mdn::State;
 use as2_text::{AsName, Moment};
@@ -84,6 +85,10 @@ fn asked<'a>(found: &ArgMatches<'a>, clock: Option<u64>) -> Result<Task<'a>, Opt
     }
     if word == VERIFY {
         return Ok(Task::Verify(run_options(found, clock)?));
+    }
+    if word == EVIDENCE {
+        let wanted = wanted(own)?;
+        return Ok(Task::Prove(run_options(found, clock)?, wanted));
     }
     let command = command_of(found, word, own)?;
     Ok(Task::Run(run_options(found, clock)?, command))
@@ -166,6 +171,32 @@ fn entry<'a>(own: &ArgMatches<'a>) -> Result<u64, OptionFault<'a>>
     ensures none { IfErr result (λ _. (n : ℕ) → ¬ IsEntry (rows_of (found_of own.now)) n) }
 {
     number_from(own, NUMBER, 1, END_OF_NUMBERS - 1)
+}
+
+/// The box of a document.
+fn box_of(received: bool) -> Mailbox
+    ensures { result ≡ box_of received }
+{
+    if received {
+        return Mailbox::Inbox;
+    }
+    Mailbox::Outbox
+}
+
+/// Which document is to be proved, and where the files go.
+fn wanted<'a>(own: &ArgMatches<'a>) -> Result<Wanted<'a>, OptionFault<'a>>
+    ensures given { IfOk result (AsksEvidence (rows_of (found_of own.now))) }
+    ensures none { IfErr result (λ _. (w : TheWanted) → ¬ AsksEvidence (rows_of (found_of own.now)) w) }
+{
+    let number = entry(own)?;
+    let Some(folder) = text(own, OUT) else {
+        return Err(OptionFault::NoValue(OUT));
+    };
+    Ok(Wanted {
+        mailbox: box_of(is_set(own, RECEIVED)),
+        number,
+        folder,
+    })
 }
 
 /// The question of `list`.

@@ -1,5 +1,6 @@
 //! What a command line can ask for.
 use crate::first_number::FirstNumber;
+use as2_audit::Mailbox;
 use as2_text::{AsName, Moment};
 use as2_views::Filter;
 use std::marker::Model;
@@ -71,6 +72,25 @@ impl<'a> Model for Serving<'a> {
     ghost view = { λ s. record { address = s.address.now; count = s.count; waits = s.waits; moment = s.moment } };
 }
 
+/// Which document is to be proved, and where the files go that show how it stands.
+#[derive(Drop)]
+pub struct Wanted<'a> {
+    /// The box that it stands in.
+    pub mailbox: Mailbox,
+    /// Its number: 1 to 999,999,999,999.
+    pub number: u64,
+    /// The folder that the files are made in.
+    pub folder: &'a str,
+}
+
+impl<'a> Model for Wanted<'a> {
+    ghost use Rattle.as2_commands.specs.Requests.{Wanted};
+
+    ghost Value = { Wanted };
+
+    ghost view = { λ w. record { mailbox = w.mailbox; number = w.number; folder = w.folder.now } };
+}
+
 /// What is asked of the records once, and answered by a text. `D` is a document that is handed in: a `Submission`, until its file
 /// is read.
 #[derive(Drop)]
@@ -113,6 +133,8 @@ pub enum Task<'a> {
     Migrate,
     /// The entries of the records are looked through.
     Verify(RunOptions),
+    /// The files are made that show how a document stands.
+    Prove(RunOptions, Wanted<'a>),
     /// A command is carried out over the records.
     Run(RunOptions, Command<'a, Submission<'a>>),
 }
