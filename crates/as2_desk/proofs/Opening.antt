@@ -25,7 +25,7 @@ each_left (Some l) Clean Rests Keeps Later kept f = λ clean t rests. f t (kept 
 module _ {A : Type 0} {M : Medium} (shows : A → Standing M) (agreements : AgreedValues) (options : RunOptions) (w : Work) (o : Observed) (stored : Stored) (ran : Ran) where
   -- no records could be opened, and that was told
   abbrev pub Failed : Option A → Result A OpenFault → Type 0
-  Failed last r = IfErr r (λ fault. (last ≡ None) × o.Unasked × o.input.Untouched × o.outcome.output.Untouched × EndsRefused (Store fault) o.outcome.errors ran)
+  Failed last r = IfErr r (λ fault. (last ≡ None) × o.filing.Untouched × o.Unasked × o.input.Untouched × o.outcome.output.Untouched × EndsRefused (Store fault) o.outcome.errors ran)
 
   -- the work was done over records that were opened, and they were given back
   abbrev pub Done : Option A → Result A OpenFault → Type 0
@@ -36,7 +36,7 @@ module _ {A : Type 0} {M : Medium} (shows : A → Standing M) (agreements : Agre
   pub goes_in_memory : (last : Option A) (r : Result A OpenFault) → BeginsNew shows options.first r → Failed last r → Done last r → ((fault : OpenFault) → MayCome fault → stored.Fails fault) → stored.Unopened → stored.Kept → stored.Opened
       → ((s : State) → stored.Begins options.first s → s ≡ empty (LaterVersion 0) options.first) → ((t : State) → o.outcome.Left t) → Goes agreements options (Ok w) o stored ran
   goes_in_memory last (Err fault) may failed done fails unopened kept opened begins left =
-      inl (unopened, kept, failed.1, failed.2, failed.3, record { fault = fault; cause = fails fault may; told = failed.4 })
+      inl (unopened, kept, failed.1, failed.2, failed.3, failed.4, record { fault = fault; cause = fails fault may; told = failed.5 })
   goes_in_memory None (Ok records) new failed done fails unopened kept opened begins left = absurd done
   goes_in_memory (Some l) (Ok records) new failed done fails unopened kept opened begins left = inr (
     opened,
@@ -49,7 +49,7 @@ module _ {A : Type 0} {M : Medium} (shows : A → Standing M) (agreements : Agre
       → now ≡ before + opens_of r → (now ≡ before → stored.Unopened) → (now ≡ before + 1 → stored.Opened) → ((s : State) → stored.Begins options.first s → Keeps s × Clean)
       → IfSome last (λ l. Clean → (shows l).IsClean) → IfSome last (λ l. Clean → (t : State) → (shows l).Rests t → o.outcome.Left t) → Goes agreements options (Ok w) o stored ran
   goes_kept last (Err fault) Clean Keeps before now found failed done same counted unopened opened begins clean left =
-      inl (unopened (omega (arith, counted)), (same failed.0).0, failed.1, failed.2, failed.3, record { fault = fault; cause = (same failed.0).1; told = failed.4 })
+      inl (unopened (omega (arith, counted)), (same failed.0).0, failed.1, failed.2, failed.3, failed.4, record { fault = fault; cause = (same failed.0).1; told = failed.5 })
   goes_kept None (Ok records) Clean Keeps before now found failed done same counted unopened opened begins clean left = absurd done
   goes_kept (Some l) (Ok records) Clean Keeps before now found failed done same counted unopened opened begins clean left = inr (
     opened counted,

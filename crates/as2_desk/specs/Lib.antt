@@ -12,6 +12,7 @@ pub mod FileAgreements
 pub mod FileDocuments
 pub mod Checks
 pub mod Posting
+pub mod Proving
 pub mod Questions
 pub mod Helping
 pub mod Migrating

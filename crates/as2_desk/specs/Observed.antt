@@ -4,8 +4,11 @@ use Rattle.as2_agreement.specs.Agreements.{AgreedValues}
 use Rattle.as2_commands.specs.Requests.{Serving}
 use Rattle.as2_commands.specs.declared.tasks.Waits.{Waits}
 use Rattle.as2_exchange.specs.State.{State}
+use Rattle.as2_evidence.specs.Files.{File}
 use Rattle.as2_host.specs.Migrating.{moved}
 use Rattle.as2_host.specs.Networks.{Listening}
+use Rattle.as2_host.specs.declared.files.MakeFiles.{Ghosts as Files}
+use Rattle.as2_host.specs.declared.files.MakingFault.{MakingFault}
 use Rattle.as2_host.specs.declared.stores.OpenFault.{OpenFault}
 use Rattle.as2_host.specs.declared.stores.OpenStores.{Ghosts as Stores}
 use Rattle.as2_http.specs.declared.device.Sink.{Ghosts as Sinks}
@@ -37,10 +40,20 @@ pub record Outcome : Type 1 where
   -- the records stand for that state then
   pub Left : State → Type 0
 
--- the streams, the network, and the state that is left
+-- the files, before and behind
+pub record Filing : Type 1 where
+  -- none was made
+  pub Untouched : Type 0
+  -- these were made in that folder
+  pub Makes : List ℕ → List File → Type 0
+  -- none of these was, for that fault
+  pub MakesNone : List ℕ → List File → MakingFault → Type 0
+
+-- the streams, the files, the network, and the state that is left
 pub record Observed : Type 1 where
   pub input : Input
   pub outcome : Outcome
+  pub filing : Filing
   -- the network wasn't asked for anything
   pub Unasked : Type 0
   -- it was asked once, for links with these waits, and these exchanges went over them
@@ -90,6 +103,14 @@ module _ {R W H E : Type 0} where
 
   abbrev pub outcome_of : Sinks W → Sinks E → Console R W H E → Console R W H E → (State → Type 0) → Outcome
   outcome_of w e old new Left = record { output = output_of w old new; errors = errors_of e old new; Left = Left }
+
+-- of files, before and behind
+abbrev pub filing_of : {F : Type 0} → Files F → F → F → Filing
+filing_of g old new = record {
+  Untouched = new ≡ old;
+  Makes = λ folder files. g.makes old folder files new;
+  MakesNone = λ folder files fault. g.makes_none old folder files fault new;
+}
 
 -- of stores, before and behind, and the path of the one that is asked for
 abbrev pub stored_of : {O Opened InMemory : Type 0} → Stores O Opened InMemory → O → O → List ℕ → Stored

@@ -56,6 +56,7 @@ refusal_name station.TooLarge = codes "TooLarge"
 abbrev pub error_line : CommandFault → List ℕ
 error_line refusal.CannotRead = refused_line (codes "CannotRead")
 error_line refusal.CannotWrite = refused_line (codes "CannotWrite")
+error_line refusal.Exists = codes "refused: CannotWrite\nhint: something of that name is there; nothing was made\n"
 error_line refusal.Memory = refused_line (codes "Memory")
 error_line (refusal.Agreements fault) = agreements_line fault
 error_line (refusal.Store fault) = store_lines fault

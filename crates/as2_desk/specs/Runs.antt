@@ -13,12 +13,12 @@ use Rattle.as2_desk.specs.Works.{Begun, Does, IsWork}
 use Rattle.as2_desk.specs.Written.{Breaks, WritesWhole, Written}
 use Rattle.as2_desk.specs.declared.refusal.CommandFault.TheVariants.{CannotWrite, Memory}
 use Rattle.as2_desk.specs.declared.status.Ran.{Ran}
-use Rattle.as2_desk.specs.declared.work.Work.TheVariants.{Verify as Looking}
+use Rattle.as2_desk.specs.declared.work.Work.TheVariants.{Prove as Proving, Verify as Looking}
 use Rattle.clap.specs.Words.{Text}
 use Rattle.as2_commands.specs.Options.{Gives}
 use Rattle.as2_commands.specs.declared.tasks.RunOptions.{RunOptions}
 use Rattle.as2_commands.specs.declared.tasks.Task.{Task}
-use Rattle.as2_commands.specs.declared.tasks.Task.TheVariants.{Check, Migrate, Verify, Run}
+use Rattle.as2_commands.specs.declared.tasks.Task.TheVariants.{Check, Migrate, Verify, Prove, Run}
 use Rattle.as2_commands.specs.declared.tasks.Command.TheVariants.{Send, Serve}
 
 -- the members were counted on standard output, and what to be warned of is said; or a write failed behind a part of that line; or
@@ -28,24 +28,25 @@ Counts agreements output errors ran =
     (WritesWhole output (counts_line agreements) × Ends done (warnings agreements) errors ran)
     ⊎ ((Breaks output (counts_line agreements) × EndsRefused CannotWrite errors ran) ⊎ (output.Untouched × EndsRefused Memory errors ran))
 
--- nothing was read, written, asked of the network or done to the stores
+-- nothing was read, written, made, asked of the network or done to the stores
 abbrev pub LeavesAll : Observed → Stored → Type 0
-LeavesAll o stored = stored.Untouched × o.Unasked × o.input.Untouched × o.outcome.output.Untouched
+LeavesAll o stored = stored.Untouched × o.filing.Untouched × o.Unasked × o.input.Untouched × o.outcome.output.Untouched
 
 -- Without a document the refusal is told, and nothing is done. Where its store can't be opened that is told, and what was kept is kept. Else the work is done,
 -- from the state that the store began with, where one is known.
 abbrev pub Goes : AgreedValues → RunOptions → Begun → Observed → Stored → Ran → Type 0
 Goes agreements options (Err refusal) o stored ran = LeavesAll o stored × EndsRefused refusal o.outcome.errors ran
 Goes agreements options (Ok work) o stored ran =
-    (stored.Unopened × stored.Kept × o.Unasked × o.input.Untouched × o.outcome.output.Untouched × Fails stored.Fails o.outcome.errors ran)
+    (stored.Unopened × stored.Kept × o.filing.Untouched × o.Unasked × o.input.Untouched × o.outcome.output.Untouched × Fails stored.Fails o.outcome.errors ran)
     ⊎ (stored.Opened × ((known : Option State) → IfSome known (stored.Begins options.first) → Does agreements options.moment work known o ran))
 
 -- over agreements and a store the task is done; without any of them the refusal is told, and nothing is done. Counting needs no store.
 abbrev pub Comes : (List ℕ → Content) → Opened → Task → Observed → Stored → Ran → Type 0
 Comes contents (Err refusal) task o stored ran = LeavesAll o stored × EndsRefused refusal o.outcome.errors ran
-Comes contents (Ok agreements) Check o stored ran = stored.Untouched × o.Unasked × o.input.Untouched × Counts agreements o.outcome.output o.outcome.errors ran
-Comes contents (Ok agreements) Migrate o stored ran = o.Unasked × o.input.Untouched × Migrates stored o.outcome.output o.outcome.errors ran
+Comes contents (Ok agreements) Check o stored ran = stored.Untouched × o.filing.Untouched × o.Unasked × o.input.Untouched × Counts agreements o.outcome.output o.outcome.errors ran
+Comes contents (Ok agreements) Migrate o stored ran = o.filing.Untouched × o.Unasked × o.input.Untouched × Migrates stored o.outcome.output o.outcome.errors ran
 Comes contents (Ok agreements) (Verify options) o stored ran = Goes agreements options (Ok Looking) o stored ran
+Comes contents (Ok agreements) (Prove options wanted) o stored ran = Goes agreements options (Ok (Proving wanted)) o stored ran
 Comes contents (Ok agreements) (Run options command) o stored ran = (begun : Begun) × IsWork contents command begun × Goes agreements options begun o stored ran
 
 -- the file of that path comes to agreements or to a refusal, and the task to what follows from them

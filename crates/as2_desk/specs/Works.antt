@@ -8,6 +8,7 @@ use Rattle.as2_host.specs.FileContents.{Content, front}
 use Rattle.as2_desk.specs.FileDocuments.{Document, HasDocument}
 use Rattle.as2_desk.specs.Observed.{Observed}
 use Rattle.as2_desk.specs.Posting.{Posts}
+use Rattle.as2_desk.specs.Proving.{Proves}
 use Rattle.as2_desk.specs.Questions.{Asked, Asks}
 use Rattle.as2_desk.specs.SendingDue.{SendsDue}
 use Rattle.as2_desk.specs.Verifying.{Verifies}
@@ -19,7 +20,7 @@ use Rattle.as2_commands.specs.declared.tasks.Question.TheVariants as question
 use Rattle.as2_desk.specs.declared.refusal.CommandFault.{CommandFault}
 use Rattle.as2_desk.specs.declared.status.Ran.{Ran}
 use Rattle.as2_desk.specs.declared.work.Work.{Work}
-use Rattle.as2_desk.specs.declared.work.Work.TheVariants.{At, Verify}
+use Rattle.as2_desk.specs.declared.work.Work.TheVariants.{At, Verify, Prove}
 
 -- a command, whose document was read
 abbrev pub Read : Type 0
@@ -69,8 +70,9 @@ CarriesOut agreements moment (Serve serving) known o ran = o.input.Untouched × 
 
 -- that is done
 abbrev pub Does : AgreedValues → ℕ → Work → Option State → Observed → Ran → Type 0
-Does agreements moment (At command) known o ran = CarriesOut agreements moment command known o ran
-Does agreements moment Verify known o ran = o.Unasked × o.input.Untouched × Verifies known o.outcome ran
+Does agreements moment (At command) known o ran = o.filing.Untouched × CarriesOut agreements moment command known o ran
+Does agreements moment Verify known o ran = o.filing.Untouched × o.Unasked × o.input.Untouched × Verifies known o.outcome ran
+Does agreements moment (Prove wanted) known o ran = o.Unasked × o.input.Untouched × Proves agreements wanted known o.filing o.outcome ran
 
 -- it sends
 abbrev pub Sends : Read → Type 0
@@ -79,7 +81,7 @@ Sends other = ⊥
 
 abbrev pub SendsWork : Work → Type 0
 SendsWork (At command) = Sends command
-SendsWork Verify = ⊥
+SendsWork other = ⊥
 
 -- it serves
 abbrev pub ServesIt : Read → Type 0
@@ -88,4 +90,4 @@ ServesIt other = ⊥
 
 abbrev pub ServesWork : Work → Type 0
 ServesWork (At command) = ServesIt command
-ServesWork Verify = ⊥
+ServesWork other = ⊥

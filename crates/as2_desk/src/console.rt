@@ -13,13 +13,20 @@ pub struct Console<R, W, H, E> {
     pub errors: E,
 }
 
-/// A host: its files, its stores of records and its network.
+/// What a command does its work with beside the records.
 #[derive(Drop)]
-pub struct Host<F, O, N> {
-    /// Files, which are read.
+pub struct Outside<F, N> {
+    /// Files, which are read and made.
     pub files: F,
-    /// Stores, which are opened and closed by a path.
-    pub stores: O,
     /// Where connections and links come from.
     pub network: N,
+}
+
+/// A host: its stores of records, its files and its network.
+#[derive(Drop)]
+pub struct Host<F, O, N> {
+    /// Stores, which are opened and closed by a path.
+    pub stores: O,
+    /// Files and the network.
+    pub outside: Outside<F, N>,
 }

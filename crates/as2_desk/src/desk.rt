@@ -8,7 +8,7 @@ ghost use Rattle.as2_commands.specs.Options.{Gives, GivesNone};
 ghost use Rattle.as2_host.specs.Networks.{ExchangedOver, listening_of};
 ghost use Rattle.as2_desk.specs.Endings.{EndsRefused};
 ghost use Rattle.as2_desk.specs.Helping.{Helps, SaysFaulty};
-ghost use Rattle.as2_desk.specs.Observed.{errors_of, input_of, outcome_of, output_of, stored_of};
+ghost use Rattle.as2_desk.specs.Observed.{errors_of, filing_of, input_of, outcome_of, output_of, stored_of};
 ghost use Rattle.as2_desk.specs.Runs.{AsksFor, Comes, IsSending, IsServing, Runs};
 ghost use Rattle.as2_desk.specs.Stops.{Stopped};
 ghost use Rattle.as2_desk.specs.Statuses.{done, failed, faulty, refused};
@@ -29,7 +29,7 @@ use crate::terms::{NamedStore, Terms};
 use crate::work::{Work, work_of, work_over};
 use as2_agreement::Agreements;
 use as2_commands::{Options, Task, options_in};
-use as2_host::{CountsBusy, Network, OpenStores, ReadFiles};
+use as2_host::{CountsBusy, MakeFiles, Network, OpenStores, ReadFiles};
 use as2_http::{Journal, Sink, Source, push_all};
 use clap::Error;
 use clap::error::ErrorKind;
@@ -38,11 +38,11 @@ use std::io::Write;
 
 /// Runs the command line `words`, which begin with the program's name. `clock` is the moment where the options give
 /// none, in seconds since 1970, if it can be told. The agreements, and the document of a submission, are read from the host's
-/// files; a store is opened from its stores, and closed, or is in memory where its path is `:memory:`. What the command has to
+/// files, and the files of evidence are made there; a store is opened from its stores, and closed, or is in memory where its path is `:memory:`. What the command has to
 /// say goes to the console's output; why something was refused or is faulty, to its errors; why a try failed and what wasn't
 /// looked at, to its hints, where replies are noted, too.
 pub fn run<
-    F: ReadFiles,
+    F: ReadFiles + MakeFiles,
     O: OpenStores,
     N: Network,
     R: Source,
@@ -63,23 +63,24 @@ pub fn run<
     // memory for the words was wanting nothing is done.
     ensures runs { (path store : List ℕ) (task : TheTask)
         → Gives (texts words.entry.now) clock path store task
-        → Runs (F.content host.old.files) path task
+        → Runs (F.content host.old.outside.files) path task
         (record {
           input = input_of R.Source console.old console.new;
           outcome = outcome_of W.Sink E.Sink console.old console.new (Leaves store (O.keeps host.new.stores store));
-          Unasked = host.new.network ≡ host.old.network;
-          Exchanged = ExchangedOver N.Network N.Links.Links host.old.network host.new.network;
-          listening = listening_of N.Network N.Listener.Listens host.old.network host.new.network;
+          filing = filing_of F.MakeFiles host.old.outside.files host.new.outside.files;
+          Unasked = host.new.outside.network ≡ host.old.outside.network;
+          Exchanged = ExchangedOver N.Network N.Links.Links host.old.outside.network host.new.outside.network;
+          listening = listening_of N.Network N.Listener.Listens host.old.outside.network host.new.outside.network;
         })
         (stored_of O.OpenStores host.old.stores host.new.stores store) result
-        ⊎ ((host.new.stores ≡ host.old.stores) × (host.new.network ≡ host.old.network) × (console.new.input ≡ console.old.input) × (console.new.output ≡ console.old.output)
+        ⊎ ((host.new.stores ≡ host.old.stores) × (host.new.outside ≡ host.old.outside) × (console.new.input ≡ console.old.input) × (console.new.output ≡ console.old.output)
         × EndsRefused Memory (errors_of E.Sink console.old console.new) result) }
     // A store in memory leaves the others as they were.
     ensures memory { (path : List ℕ) (task : TheTask) → Gives (texts words.entry.now) clock path (codes ":memory:") task
         → host.new.stores ≡ host.old.stores }
-    // Words that ask for nothing run nothing, open nothing, and ask nothing of the network.
+    // Words that ask for nothing run nothing, open nothing, make no file, and ask nothing of the network.
     ensures unread { GivesNone (texts words.entry.now) clock → (console.new.input ≡ console.old.input) × (host.new.stores ≡ host.old.stores)
-        × (host.new.network ≡ host.old.network) }
+        × (host.new.outside ≡ host.old.outside) }
     // They are faulty, unless they ask for the help or the version; memory may be wanting to say so.
     ensures none { GivesNone (texts words.entry.now) clock → ¬ AsksForHelp (texts words.entry.now)
         → ((result.status ≡ faulty) ⊎ EndsRefused Memory (errors_of E.Sink console.old console.new) result) × (console.new.output ≡ console.old.output) }
@@ -87,9 +88,9 @@ pub fn run<
     ensures said { result.status ≡ faulty → SaysFaulty (errors_of E.Sink console.old console.new) result }
     ensures help { GivesNone (texts words.entry.now) clock → result.status ≢ faulty
         → Helps (output_of W.Sink console.old console.new) (errors_of E.Sink console.old console.new) result }
-    // A faulty command line reads and prints nothing, opens nothing, and asks nothing of the network.
+    // A faulty command line reads and prints nothing, opens nothing, makes no file, and asks nothing of the network.
     ensures untouched { result.status ≡ faulty → (console.new.input ≡ console.old.input) × (console.new.output ≡ console.old.output)
-        × (host.new.stores ≡ host.old.stores) × (host.new.network ≡ host.old.network) }
+        × (host.new.stores ≡ host.old.stores) × (host.new.outside ≡ host.old.outside) }
     // A store with a fault is told, and nothing is read or written then; what was sent or served before stands, with its lines.
     ensures store { result.status ≡ failed
         → Stopped (AsksFor (texts words.entry.now) clock IsSending) (AsksFor (texts words.entry.now) clock IsServing)
@@ -99,7 +100,7 @@ pub fn run<
         Ok(options) => {
             let path = options.agreements;
             let is_checked = is_check(&options.task);
-            let (agreed, noticed) = agreements_in(alloc, &host.files, path, is_checked);
+            let (agreed, noticed) = agreements_in(alloc, &host.outside.files, path, is_checked);
             let unread = is_unread(&agreed);
             let done = carry_out(alloc, options, agreed, host, console);
             let _ = is_told(&noticed, &mut console.hints);
@@ -112,7 +113,7 @@ pub fn run<
 
 /// Does what is asked for, where there are agreements to do it over.
 fn carry_out<
-    F: ReadFiles,
+    F: ReadFiles + MakeFiles,
     O: OpenStores,
     N: Network,
     R: Source,
@@ -127,13 +128,14 @@ fn carry_out<
     console: &mut Console<R, W, H, E>,
 ) -> Ran
     ensures status { (result.status ≡ done) ⊎ ((result.status ≡ refused) ⊎ (result.status ≡ failed)) }
-    ensures comes { Comes (F.content host.old.files) agreed options.entry.task
+    ensures comes { Comes (F.content host.old.outside.files) agreed options.entry.task
         (record {
           input = input_of R.Source console.old console.new;
           outcome = outcome_of W.Sink E.Sink console.old console.new (Leaves options.entry.store.now (O.keeps host.new.stores options.entry.store.now));
-          Unasked = host.new.network ≡ host.old.network;
-          Exchanged = ExchangedOver N.Network N.Links.Links host.old.network host.new.network;
-          listening = listening_of N.Network N.Listener.Listens host.old.network host.new.network;
+          filing = filing_of F.MakeFiles host.old.outside.files host.new.outside.files;
+          Unasked = host.new.outside.network ≡ host.old.outside.network;
+          Exchanged = ExchangedOver N.Network N.Links.Links host.old.outside.network host.new.outside.network;
+          listening = listening_of N.Network N.Listener.Listens host.old.outside.network host.new.outside.network;
         })
         (stored_of O.OpenStores host.old.stores host.new.stores options.entry.store.now) result }
     ensures memory { options.entry.store.now ≡ codes ":memory:" → host.new.stores ≡ host.old.stores }
@@ -149,24 +151,21 @@ fn carry_out<
         Task::Check => check(alloc, &agreements, &mut console.output, &mut console.errors),
         Task::Migrate => migrate(store, host, console),
         Task::Verify(run) => {
-            let terms = Terms {
-                alloc,
-                agreements: &agreements,
-                moment: run.moment,
-            };
+            let terms = Terms::of(alloc, &agreements, run);
             let store = NamedStore::of(store, run);
             work_over(&terms, store, Work::Verify, host, console)
+        }
+        Task::Prove(run, wanted) => {
+            let terms = Terms::of(alloc, &agreements, run);
+            let store = NamedStore::of(store, run);
+            work_over(&terms, store, Work::Prove(wanted), host, console)
         }
         Task::Run(run, command) => {
             let _ = is_noticed(&command, &mut console.hints);
             let path = document_path(&command);
-            match work_of(alloc, &host.files, command) {
+            match work_of(alloc, &host.outside.files, command) {
                 Ok(work) => {
-                    let terms = Terms {
-                        alloc,
-                        agreements: &agreements,
-                        moment: run.moment,
-                    };
+                    let terms = Terms::of(alloc, &agreements, run);
                     work_over(&terms, NamedStore::of(store, run), work, host, console)
                 }
                 Err(refusal) => {

@@ -14,6 +14,7 @@ mod lines;
 mod migrating;
 mod places;
 mod posting;
+mod proving;
 mod refusal;
 mod sending;
 mod serving;
@@ -22,6 +23,6 @@ mod terms;
 mod verifying;
 mod work;
 
-pub use console::{Console, Host};
+pub use console::{Console, Host, Outside};
 pub use desk::run;
 pub use status::Ran;

@@ -67,7 +67,7 @@ pub(crate) fn migrate<F, O: OpenStores, N, R, W: Sink, H: Write, E: Sink>(
 ) -> Ran
     ensures status { (result.status ≡ done) ⊎ ((result.status ≡ refused) ⊎ (result.status ≡ failed)) }
     ensures unread { console.new.input ≡ console.old.input }
-    ensures unasked { host.new.network ≡ host.old.network }
+    ensures unasked { host.new.outside ≡ host.old.outside }
     ensures migrates { Migrates (stored_of O.OpenStores host.old.stores host.new.stores path.now)
         (written_of W.Sink console.old.output console.new.output) (written_of E.Sink console.old.errors console.new.errors) result }
     ensures memory { path.now ≡ codes ":memory:" → host.new.stores ≡ host.old.stores }

@@ -19,8 +19,10 @@ use as2_http::{Served, Sink, push_all};
 pub(crate) enum CommandFault {
     /// A file can't be read.
     CannotRead,
-    /// Standard output can't be written.
+    /// Standard output or a file can't be written.
     CannotWrite,
+    /// Something stands where a file is to be made.
+    Exists,
     /// There was no memory for the command line.
     Memory,
     /// The agreements have a fault.
@@ -129,6 +131,11 @@ fn error_line(refusal: CommandFault) -> Line
     match refusal {
         CommandFault::CannotRead => refused_line("CannotRead"),
         CommandFault::CannotWrite => refused_line("CannotWrite"),
+        CommandFault::Exists => joined(
+            "refused: ",
+            "CannotWrite",
+            "\nhint: something of that name is there; nothing was made\n",
+        ),
         CommandFault::Memory => refused_line("Memory"),
         CommandFault::Agreements(fault) => agreements_line(fault),
         CommandFault::Store(fault) => store_lines(fault),

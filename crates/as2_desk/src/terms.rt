@@ -17,6 +17,20 @@ pub(crate) struct Terms<'a> {
     pub moment: Moment,
 }
 
+impl<'a> Terms<'a> {
+    /// The terms under these agreements, as the options have them.
+    pub(crate) fn of(alloc: Global, agreements: &'a Agreements, options: RunOptions) -> Terms<'a>
+        ensures agreements { result.agreements ≡ agreements.entry }
+        ensures moment { result.moment ≡ options.moment }
+    {
+        Terms {
+            alloc,
+            agreements,
+            moment: options.moment,
+        }
+    }
+}
+
 /// The store that a command names.
 #[derive(Drop)]
 pub(crate) struct NamedStore<'a> {

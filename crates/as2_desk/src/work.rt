@@ -5,7 +5,7 @@ ghost use Rattle.as2_host.specs.Networks.{ExchangedOver, listening_of};
 ghost use Rattle.as2_host.specs.Stores.{Finds, opens_of};
 ghost use Rattle.as2_bounded.specs.Rooms.{room_of};
 ghost use Rattle.as2_desk.specs.Endings.{EndsRefused};
-ghost use Rattle.as2_desk.specs.Observed.{errors_of, input_of, outcome_of, output_of, stored_of};
+ghost use Rattle.as2_desk.specs.Observed.{errors_of, filing_of, input_of, outcome_of, output_of, stored_of};
 ghost use Rattle.as2_desk.specs.Runs.{Goes};
 ghost use Rattle.as2_desk.specs.Statuses.{done, failed, refused};
 ghost use Rattle.as2_desk.specs.Stops.{Stopped};
@@ -16,10 +16,11 @@ ghost use Rattle.as2_desk.specs.Works.{CarriesOut, Does, IsAsked, IsWork, Sends,
 ghost use Rattle.as2_desk.specs.declared.refusal.CommandFault.TheVariants.{Store as Failing};
 
 use crate::asking::ask;
-use crate::console::{Console, Host};
+use crate::console::{Console, Host, Outside};
 use crate::documents::document_in;
 use crate::hints::is_limit_told;
 use crate::posting::post;
+use crate::proving::prove;
 use crate::refusal::{CommandFault, refuse};
 use crate::sending::send_due;
 use crate::serving::serve;
@@ -27,8 +28,8 @@ use crate::status::Ran;
 use crate::terms::{NamedStore, Terms};
 use crate::verifying::look_through;
 use as2_bounded::{Bounded, room_of};
-use as2_commands::{Command, FirstNumber, Question, Submission};
-use as2_host::{CountsBusy, Network, OpenFault, OpenStores, ReadFiles};
+use as2_commands::{Command, FirstNumber, Question, Submission, Wanted};
+use as2_host::{CountsBusy, MakeFiles, Network, OpenFault, OpenStores, ReadFiles};
 use as2_http::{Journal, Sink, Source};
 use as2_records::Records;
 use as2_station::{NewDocument, Station};
@@ -42,6 +43,8 @@ pub(crate) enum Work<'a> {
     At(Command<'a, NewDocument>),
     /// The records are looked through.
     Verify,
+    /// The files are made that show how a document stands.
+    Prove(Wanted<'a>),
 }
 
 /// The document of a submission, whose file is read.
@@ -100,22 +103,32 @@ pub(crate) fn work_of<'a, F: ReadFiles>(
 }
 
 /// Carries out the command at the station.
-fn do_at<K: Records, N: Network, R: Source, W: Sink, H: Write + Journal + CountsBusy, E: Sink>(
+fn do_at<
+    K: Records,
+    F: MakeFiles,
+    N: Network,
+    R: Source,
+    W: Sink,
+    H: Write + Journal + CountsBusy,
+    E: Sink,
+>(
     terms: &Terms<'_>,
     command: Command<'_, NewDocument>,
     station: &mut Station<K>,
-    network: &mut N,
+    outside: &mut Outside<F, N>,
     console: &mut Console<R, W, H, E>,
 ) -> Ran
     ensures status { (result.status ≡ done) ⊎ ((result.status ≡ refused) ⊎ (result.status ≡ failed)) }
+    ensures unmade { outside.new.files ≡ outside.old.files }
     ensures clean { (K.shows station.new).IsClean → (K.shows station.old).IsClean }
     ensures does { (known : Option State) → IfSome known (λ s. (K.shows station.new).IsClean × (K.shows station.old).Rests s)
         → CarriesOut terms.now.agreements.now terms.now.moment command.entry known (record {
           input = input_of R.Source console.old console.new;
           outcome = outcome_of W.Sink E.Sink console.old console.new (λ t. (K.shows station.new).Rests t);
-          Unasked = network.new ≡ network.old;
-          Exchanged = ExchangedOver N.Network N.Links.Links network.old network.new;
-          listening = listening_of N.Network N.Listener.Listens network.old network.new;
+          filing = filing_of F.MakeFiles outside.old.files outside.new.files;
+          Unasked = outside.new.network ≡ outside.old.network;
+          Exchanged = ExchangedOver N.Network N.Links.Links outside.old.network outside.new.network;
+          listening = listening_of N.Network N.Listener.Listens outside.old.network outside.new.network;
         }) result }
     ensures store { result.status ≡ failed → Stopped (Sends command.entry) (ServesIt command.entry) (input_of R.Source console.old console.new)
         (output_of W.Sink console.old console.new) (errors_of E.Sink console.old console.new) result }
@@ -124,18 +137,21 @@ fn do_at<K: Records, N: Network, R: Source, W: Sink, H: Write + Journal + Counts
         Command::Post(logs) => post(terms, station, logs, console),
         Command::Ask(question) => ask(terms, station, question, console),
         Command::Send(waits) => {
-            let mut links = network.links(waits);
+            let mut links = outside.network.links(waits);
             let ran = send_due(terms, station, &mut links, console);
-            network.close(links);
+            outside.network.close(links);
             ran
         }
-        Command::Serve(serving) => serve(terms, serving, station, network, console),
+        Command::Serve(serving) => {
+            serve(terms, serving, station, &mut outside.network, console)
+        }
     }
 }
 
 /// Does the work, where there are records to do it over, and gives them back.
 fn do_over<
     K: Records + Drop,
+    F: MakeFiles,
     N: Network,
     R: Source,
     W: Sink,
@@ -145,20 +161,21 @@ fn do_over<
     terms: &Terms<'_>,
     work: Work<'_>,
     records: Result<K, OpenFault>,
-    network: &mut N,
+    outside: &mut Outside<F, N>,
     console: &mut Console<R, W, H, E>,
 ) -> (Ran, Option<K>)
     ensures status { (result.0.status ≡ done) ⊎ ((result.0.status ≡ refused) ⊎ (result.0.status ≡ failed)) }
-    ensures fails { IfErr records (λ fault. (result.1 ≡ None) × (network.new ≡ network.old) × (console.new.input ≡ console.old.input) × (console.new.output ≡ console.old.output)
+    ensures fails { IfErr records (λ fault. (result.1 ≡ None) × (outside.new.files ≡ outside.old.files) × (outside.new.network ≡ outside.old.network) × (console.new.input ≡ console.old.input) × (console.new.output ≡ console.old.output)
         × EndsRefused (Failing fault) (errors_of E.Sink console.old console.new) result.0) }
     ensures does { IfOk records (λ opened. IsSomeAnd result.1 (λ last. ((K.shows last).IsClean → (K.shows opened).IsClean)
         × ((known : Option State) → IfSome known (λ s. (K.shows last).IsClean × (K.shows opened).Rests s)
         → Does terms.now.agreements.now terms.now.moment work.entry known (record {
           input = input_of R.Source console.old console.new;
           outcome = outcome_of W.Sink E.Sink console.old console.new (λ t. (K.shows last).Rests t);
-          Unasked = network.new ≡ network.old;
-          Exchanged = ExchangedOver N.Network N.Links.Links network.old network.new;
-          listening = listening_of N.Network N.Listener.Listens network.old network.new;
+          filing = filing_of F.MakeFiles outside.old.files outside.new.files;
+          Unasked = outside.new.network ≡ outside.old.network;
+          Exchanged = ExchangedOver N.Network N.Links.Links outside.old.network outside.new.network;
+          listening = listening_of N.Network N.Listener.Listens outside.old.network outside.new.network;
         }) result.0))) }
     ensures store { result.0.status ≡ failed → Stopped (SendsWork work.entry) (ServesWork work.entry) (input_of R.Source console.old console.new)
         (output_of W.Sink console.old console.new) (errors_of E.Sink console.old console.new) result.0 }
@@ -175,12 +192,17 @@ fn do_over<
     match work {
         Work::At(command) => {
             let mut station = Station::new(records);
-            let ran = do_at(terms, command, &mut station, network, console);
+            let ran = do_at(terms, command, &mut station, outside, console);
             (ran, Some(station.into_records()))
         }
         Work::Verify => {
             let mut records = records;
             let ran = look_through(terms, &mut records, console);
+            (ran, Some(records))
+        }
+        Work::Prove(wanted) => {
+            let mut records = records;
+            let ran = prove(terms, wanted, &mut records, &mut outside.files, console);
             (ran, Some(records))
         }
     }
@@ -225,7 +247,7 @@ fn close_in<O: OpenStores>(stores: &mut O, path: &str, records: Option<Bounded<O
 
 /// Does the work over the store that is named, which is opened and closed.
 pub(crate) fn work_over<
-    F,
+    F: MakeFiles,
     O: OpenStores,
     N: Network,
     R: Source,
@@ -243,9 +265,10 @@ pub(crate) fn work_over<
     ensures goes { Goes terms.now.agreements.now (record { first = store.entry.first; moment = terms.now.moment; limit = store.entry.limit }) (Ok work.entry) (record {
       input = input_of R.Source console.old console.new;
       outcome = outcome_of W.Sink E.Sink console.old console.new (Leaves store.entry.path.now (O.keeps host.new.stores store.entry.path.now));
-      Unasked = host.new.network ≡ host.old.network;
-      Exchanged = ExchangedOver N.Network N.Links.Links host.old.network host.new.network;
-      listening = listening_of N.Network N.Listener.Listens host.old.network host.new.network;
+      filing = filing_of F.MakeFiles host.old.outside.files host.new.outside.files;
+      Unasked = host.new.outside.network ≡ host.old.outside.network;
+      Exchanged = ExchangedOver N.Network N.Links.Links host.old.outside.network host.new.outside.network;
+      listening = listening_of N.Network N.Listener.Listens host.old.outside.network host.new.outside.network;
     }) (stored_of O.OpenStores host.old.stores host.new.stores store.entry.path.now) result }
     ensures memory { store.entry.path.now ≡ codes ":memory:" → host.new.stores ≡ host.old.stores }
     ensures store { result.status ≡ failed → Stopped (SendsWork work.entry) (ServesWork work.entry) (input_of R.Source console.old console.new)
@@ -254,11 +277,11 @@ pub(crate) fn work_over<
     let NamedStore { path, first, limit } = store;
     if path == ":memory:" {
         let records = host.stores.open_in_memory(terms.alloc, first);
-        let (ran, _) = do_over(terms, work, records, &mut host.network, console);
+        let (ran, _) = do_over(terms, work, records, &mut host.outside, console);
         return ran;
     }
     let records = open_in(terms.alloc, path, first, limit, &mut host.stores);
-    let (ran, left) = do_over(terms, work, records, &mut host.network, console);
+    let (ran, left) = do_over(terms, work, records, &mut host.outside, console);
     let refused = close_in(&mut host.stores, path, left);
     let _ = is_limit_told(refused, limit, &mut console.hints);
     ran

@@ -4,7 +4,7 @@ use Rattle.as2_desk.proofs.desk.carry_out.Goals as goal
 
 pub returns-in-Ok-work_of-clause-store : goal.returns-in-Ok-work_of-clause-store
 returns-in-Ok-work_of-clause-store g c = λ is_failed.
-    let contents = g.F.ReadFiles.content c.args.host.now.files in
+    let contents = g.F.ReadFiles.content c.args.host.now.outside.files in
     let was = c.args.console.now in
     let is = c.work_over-in-Ok-work_of.new.console in
     rw c.in-Run.is (stopped_by (input_of g.R.Source was is) (output_of g.W.Sink was is) (errors_of g.E.Sink was is) c.work_over-in-Ok-work_of.result

@@ -3,7 +3,7 @@ use Rattle.as2_host.specs.Networks.{ExchangedOver, listening_of}
 use Rattle.clap.specs.Walk.{Text, texts}
 use Rattle.as2_commands.proofs.Given.{given_one}
 use Rattle.as2_desk.proofs.Stopping.{stopped_by}
-use Rattle.as2_desk.specs.Observed.{errors_of, input_of, outcome_of, output_of, stored_of}
+use Rattle.as2_desk.specs.Observed.{errors_of, filing_of, input_of, outcome_of, output_of, stored_of}
 use Rattle.as2_desk.specs.Runs.{Runs}
 use Rattle.as2_desk.specs.Statuses.{faulty, refused}
 use Rattle.as2_desk.specs.Stores.{Leaves}
@@ -14,7 +14,7 @@ use Rattle.as2_desk.proofs.desk.run.Goals as goal
 pub returns-in-Ok-clause-unread : goal.returns-in-Ok-clause-unread
 returns-in-Ok-clause-unread g c = λ none.
     let read = c.in-Ok.options in
-    absurd {A = (c.carry_out-done.new.console.input ≡ c.args.console.now.input) × (c.carry_out-done.new.host.stores ≡ c.args.host.now.stores) × (c.carry_out-done.new.host.network ≡ c.args.host.now.network)} (none read.agreements.now read.store.now read.task c.in-Ok.ensures.given)
+    absurd {A = (c.carry_out-done.new.console.input ≡ c.args.console.now.input) × (c.carry_out-done.new.host.stores ≡ c.args.host.now.stores) × (c.carry_out-done.new.host.outside ≡ c.args.host.now.outside)} (none read.agreements.now read.store.now read.task c.in-Ok.ensures.given)
 
 pub returns-in-Ok-clause-runs : goal.returns-in-Ok-clause-runs
 returns-in-Ok-clause-runs g c = λ path store task gives.
@@ -22,13 +22,14 @@ returns-in-Ok-clause-runs g c = λ path store task gives.
     let was = c.args.host.now.stores in
     let is = c.carry_out-done.new.host.stores in
     inl (given_one (texts c.args.words.now) c.args.clock read.agreements.now path read.store.now store read.task task
-    (λ (p b : Text) (t : Task). Runs (g.F.ReadFiles.content c.args.host.now.files) p t
+    (λ (p b : Text) (t : Task). Runs (g.F.ReadFiles.content c.args.host.now.outside.files) p t
     (record {
       input = input_of g.R.Source c.args.console.now c.carry_out-done.new.console;
       outcome = outcome_of g.W.Sink g.E.Sink c.args.console.now c.carry_out-done.new.console (Leaves b (g.O.OpenStores.keeps is b));
-      Unasked = c.carry_out-done.new.host.network ≡ c.args.host.now.network;
-      Exchanged = ExchangedOver g.N.Network g.N.Links.Links c.args.host.now.network c.carry_out-done.new.host.network;
-      listening = listening_of g.N.Network g.N.Listener.Listens c.args.host.now.network c.carry_out-done.new.host.network;
+      filing = filing_of g.F.MakeFiles c.args.host.now.outside.files c.carry_out-done.new.host.outside.files;
+      Unasked = c.carry_out-done.new.host.outside.network ≡ c.args.host.now.outside.network;
+      Exchanged = ExchangedOver g.N.Network g.N.Links.Links c.args.host.now.outside.network c.carry_out-done.new.host.outside.network;
+      listening = listening_of g.N.Network g.N.Listener.Listens c.args.host.now.outside.network c.carry_out-done.new.host.outside.network;
     })
     (stored_of g.O.OpenStores was is b) c.carry_out-done.result)
     c.in-Ok.ensures.given gives (record { opened = c.agreements_in-agreed.result.0; opens = c.agreements_in-agreed.ensures; comes = c.carry_out-done.ensures.comes }))

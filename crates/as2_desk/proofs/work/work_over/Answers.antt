@@ -6,7 +6,7 @@ use Rattle.as2_host.specs.declared.stores.OpenFault.{OpenFault}
 use Rattle.as2_host.specs.declared.stores.OpenStores.{Ghosts as Stores}
 use Rattle.as2_exchange.specs.State.{LaterVersion, State, empty}
 use Rattle.as2_desk.proofs.Opening.{each_left, goes_in_memory, goes_kept}
-use Rattle.as2_desk.specs.Observed.{input_of, outcome_of, stored_of}
+use Rattle.as2_desk.specs.Observed.{filing_of, input_of, outcome_of, stored_of}
 use Rattle.as2_desk.specs.Stores.{ByPlace, Leaves, is_in_memory, opens_at}
 use Rattle.as2_desk.proofs.work.work_over.Goals as goal
 
@@ -22,9 +22,10 @@ returns-then-eq-clause-goes g c =
     (record {
       input = input_of g.R.Source c.args.console.now c.do_over.new.console;
       outcome = outcome_of g.W.Sink g.E.Sink c.args.console.now c.do_over.new.console (Leaves path (g.O.OpenStores.keeps stores path));
-      Unasked = c.do_over.new.network ≡ c.args.host.now.network;
-      Exchanged = ExchangedOver g.N.Network g.N.Links.Links c.args.host.now.network c.do_over.new.network;
-      listening = listening_of g.N.Network g.N.Listener.Listens c.args.host.now.network c.do_over.new.network;
+      filing = filing_of g.F.MakeFiles c.args.host.now.outside.files c.do_over.new.outside.files;
+      Unasked = c.do_over.new.outside.network ≡ c.args.host.now.outside.network;
+      Exchanged = ExchangedOver g.N.Network g.N.Links.Links c.args.host.now.outside.network c.do_over.new.outside.network;
+      listening = listening_of g.N.Network g.N.Listener.Listens c.args.host.now.outside.network c.do_over.new.outside.network;
     })
     (stored_of g.O.OpenStores stores stores path)
     c.do_over.result.0 c.do_over.result.1 c.open_in_memory-records.result c.open_in_memory-records.ensures c.do_over.ensures.fails c.do_over.ensures.does
@@ -58,9 +59,10 @@ returns-clause-goes g c =
     (record {
       input = input_of g.R.Source c.args.console.now c.do_over-left.new.console;
       outcome = outcome_of g.W.Sink g.E.Sink c.args.console.now c.do_over-left.new.console (Leaves path (g.O.OpenStores.keeps stores path));
-      Unasked = c.do_over-left.new.network ≡ c.args.host.now.network;
-      Exchanged = ExchangedOver g.N.Network g.N.Links.Links c.args.host.now.network c.do_over-left.new.network;
-      listening = listening_of g.N.Network g.N.Listener.Listens c.args.host.now.network c.do_over-left.new.network;
+      filing = filing_of g.F.MakeFiles c.args.host.now.outside.files c.do_over-left.new.outside.files;
+      Unasked = c.do_over-left.new.outside.network ≡ c.args.host.now.outside.network;
+      Exchanged = ExchangedOver g.N.Network g.N.Links.Links c.args.host.now.outside.network c.do_over-left.new.outside.network;
+      listening = listening_of g.N.Network g.N.Listener.Listens c.args.host.now.outside.network c.do_over-left.new.outside.network;
     })
     (stored_of g.O.OpenStores was stores path)
     c.do_over-left.result.0 c.do_over-left.result.1 c.open_in-records.result Clean (g.O.OpenStores.keeps was path first) opened opens
