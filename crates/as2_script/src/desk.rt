@@ -9,7 +9,7 @@ mod files;
 mod network;
 mod stores;
 
-use as2_desk::{Console, Host, run};
+use as2_desk::{Console, Host, Outside, run};
 use as2_host::{Lines, OpenStores};
 use as2_http::Counted;
 use as2_kept::Kept;
@@ -24,12 +24,13 @@ use std::marker::Brand;
 use std::sync::ledger::{Blank, Ledger};
 use stores::Stores;
 
-/// The store that was closed last, what the last command line left of its input, and what it gave to the network.
+/// The store that was closed last, what the last command line left of its input, what it gave to the network, and the files that it made.
 #[derive(Drop)]
 pub struct Desk {
     kept: Option<Kept<MemStore>>,
     unread: (usize, usize),
     given: Option<Answer>,
+    made: Option<Answer>,
 }
 
 /// Whether the first of the parts has a byte, and all of them are left.
@@ -140,6 +141,7 @@ impl Desk {
             kept: None,
             unread: (0, 0),
             given: None,
+            made: None,
         }
     }
 }
@@ -155,22 +157,27 @@ impl Runs for Desk {
             (None, last)
         };
         let to_network = RefCell::new(Answer::new(alloc));
+        let to_files = RefCell::new(Answer::new(alloc));
         let mut host = Host {
-            files: Files {
-                settings: given.settings,
-            },
             stores: Stores {
                 word,
                 kept,
                 has_opened: false,
             },
-            network: Peers::new(given.settings, &to_network),
+            outside: Outside {
+                files: Files {
+                    settings: given.settings,
+                    made: &to_files,
+                },
+                network: Peers::new(given.settings, &to_network),
+            },
         };
         let (ended, unread) = run_over(alloc, given, &mut host);
         let Host { stores, .. } = host;
         self.unread = unread;
         self.kept = stores.kept.or(aside);
         self.given = Some(to_network.into_inner());
+        self.made = Some(to_files.into_inner());
         ended
     }
 
@@ -181,6 +188,13 @@ impl Runs for Desk {
     fn given_to_network(&self) -> &[u8] {
         match &self.given {
             Some(given) => given.bytes.as_slice(),
+            None => &[],
+        }
+    }
+
+    fn made_files(&self) -> &[u8] {
+        match &self.made {
+            Some(made) => made.bytes.as_slice(),
             None => &[],
         }
     }

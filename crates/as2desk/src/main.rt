@@ -4,7 +4,7 @@
 ghost use Rattle.as2_http.specs.Devices.{Opens};
 
 use as2_connections::{Sockets, clock};
-use as2_desk::{Console, Host};
+use as2_desk::{Console, Host, Outside};
 use as2_files::{FileSystem, InFiles, KeepFiles, OpenFiles, Starting, StoreFiles};
 use as2_host::{Lines, OpenStores};
 use as2_http::Counted;
@@ -61,9 +61,11 @@ fn run<O: OpenStores, A: Ledger, B: Ledger, C: Ledger, D: Ledger, E: Ledger, G: 
         errors: Counted::new(rt.stderr(), says.calls, says.failed),
     };
     let mut host = Host {
-        files: FileSystem { rt },
         stores,
-        network: Sockets { rt },
+        outside: Outside {
+            files: FileSystem { rt },
+            network: Sockets { rt },
+        },
     };
     let ran = as2_desk::run(rt.alloc(), words, clock(rt), &mut host, &mut console);
     let Host { stores, .. } = host;

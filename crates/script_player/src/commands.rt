@@ -162,6 +162,7 @@ pub fn answer<D: Runs>(asked: &Asked<'_>, desk: &mut D, answer: &mut Answer) -> 
         "run" => run(asked, desk, answer),
         "unread-at-least" => say_left(desk, asked.words, answer),
         "given-to-network" => answer.say_bytes(desk.given_to_network()),
+        "made-files" => answer.say_bytes(desk.made_files()),
         "cut-each" => cut_each(asked, desk, answer),
         "fail-each-read" => fail_each_read(asked, desk, answer),
         "fail-each-write" => fail_each_write(asked, desk, answer),

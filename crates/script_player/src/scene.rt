@@ -34,4 +34,7 @@ pub trait Runs {
 
     /// What the last command line gave to the network, in lines.
     fn given_to_network(&self) -> &[u8];
+
+    /// The files that the last command line made: the path and the length of each, and its bytes behind them.
+    fn made_files(&self) -> &[u8];
 }

@@ -2,8 +2,7 @@
 use crate::arguments::{Arguments, parts_of};
 use as2_commands::{
     Command, Filter, FirstNumber, Options, Question, RunOptions, Serving, Submission, Task,
-    options_in,
-};
+    options_in, Wanted};
 use clap::Error;
 use script_lines::Answer;
 
@@ -127,6 +126,16 @@ fn say_run(answer: &mut Answer, run: &RunOptions) {
     answer.say(" MiB: ");
 }
 
+/// Answers with which document is to be proved, and where the files go.
+fn say_wanted(answer: &mut Answer, wanted: &Wanted<'_>) {
+    answer.say("evidence ");
+    answer.say(wanted.mailbox.word());
+    answer.say(" ");
+    answer.say_number(wanted.number);
+    answer.say(" in ");
+    answer.say(wanted.folder);
+}
+
 /// Answers with what a command line says.
 fn say_options(answer: &mut Answer, options: &Options<'_>) {
     answer.say(options.agreements);
@@ -138,6 +147,10 @@ fn say_options(answer: &mut Answer, options: &Options<'_>) {
         Task::Verify(run) => {
             say_run(answer, run);
             answer.say("verify")
+        }
+        Task::Prove(run, wanted) => {
+            say_run(answer, run);
+            say_wanted(answer, wanted)
         }
         Task::Run(run, command) => {
             say_run(answer, run);
