@@ -120,7 +120,8 @@ impl<'a> Disposition<'a> {
     pub fn is_processed(&self) -> bool
         ensures { result ≡ says_processed self.now }
     {
-        self.disposition_type.eq_ignore_ascii_case(b"processed")
+        let spelled = self.disposition_type;
+        spelled.eq_ignore_ascii_case(b"processed")
     }
 
     /// The modifier: all that stands behind the type's `/`, without the blanks and line ends at its ends; none where
