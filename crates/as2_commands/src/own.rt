@@ -74,10 +74,7 @@ pub(crate) fn evidence<'a>(alloc: Global) -> Made<'a>
     let about = "Makes the files that show how a document stands: its content, its receipt, a page";
     let number = entry(alloc, "Number of the document: 1 to 999999999999");
     let received = "The document is one that was received, and not one that is sent";
-    let evidence = and(
-        named(alloc, EVIDENCE, about, help::EVIDENCE),
-        number,
-    );
+    let evidence = and(named(alloc, EVIDENCE, about, help::EVIDENCE), number);
     let evidence = and(evidence, flag(alloc, RECEIVED, received));
     and(evidence, folder(alloc))
 }

@@ -14,7 +14,8 @@ ghost use Rattle.as2_commands.specs.declared.tasks.Task.{Task as TheTask};
 
 use crate::args::{
     AGREEMENTS, COUNT, FILE, FIRST, FROM, IDLE, KIND, LEAST_LIMIT, LEAST_WAIT, LISTEN, LOG, MOMENT,
-    MOST_CONNECTIONS, MOST_LIMIT, MOST_WAIT, NUMBER, OUT, RECEIVED, STATE, STORE, STORE_LIMIT, TIMEOUT, TO,
+    MOST_CONNECTIONS, MOST_LIMIT, MOST_WAIT, NUMBER, OUT, RECEIVED, STATE, STORE, STORE_LIMIT,
+    TIMEOUT, TO,
 };
 use crate::fault::OptionFault;
 use crate::first_number::FirstNumber;

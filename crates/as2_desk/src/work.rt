@@ -142,9 +142,7 @@ fn do_at<
             outside.network.close(links);
             ran
         }
-        Command::Serve(serving) => {
-            serve(terms, serving, station, &mut outside.network, console)
-        }
+        Command::Serve(serving) => { serve(terms, serving, station, &mut outside.network, console) }
     }
 }
 

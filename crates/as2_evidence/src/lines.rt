@@ -61,7 +61,9 @@ fn add_check_command(text: &mut Vec<u8>, digest: &str, stem: &str) -> Result<(),
 pub fn add_check_commands(text: &mut Vec<u8>, stem: &str) -> Result<(), AllocError>
     ensures { OnOk result (text.new.items ≡ text.old.items ++ check_commands stem.now) }
 {
-    text.extend_from_slice(b"\nThe integrity checks of the content, made anew beside these files:\n")?;
+    text.extend_from_slice(
+        b"\nThe integrity checks of the content, made anew beside these files:\n",
+    )?;
     add_check_command(text, "md5", stem)?;
     add_check_command(text, "sha1", stem)?;
     add_check_command(text, "sha256", stem)

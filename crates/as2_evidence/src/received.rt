@@ -27,7 +27,11 @@ fn add_names(text: &mut Vec<u8>, entry: &InEntry) -> Result<(), AllocError>
     add_number_line(text, b"number", entry.number)?;
     add_name_line(text, b"from", &entry.posted.sender)?;
     add_name_line(text, b"to", &entry.posted.receiver)?;
-    add_text_line(text, b"identifier", entry.posted.id.as_received().as_bytes())?;
+    add_text_line(
+        text,
+        b"identifier",
+        entry.posted.id.as_received().as_bytes(),
+    )?;
     add_text_line(text, b"content type", entry.posted.content_type.as_slice())?;
     add_size_line(text, entry.posted.content.len())
 }

@@ -98,11 +98,18 @@ fn sent_page(
     ensures { IfOk result (λ text. text.items ≡ sent_page migrated document.now submitted.now came.now) }
 {
     let stem = stem(alloc, Mailbox::Outbox, document.number)?;
-    let mut text = Vec::from_slice(alloc, b"Evidence of a document that is sent by AS2 (RFC 4130)\n\n")?;
+    let mut text = Vec::from_slice(
+        alloc,
+        b"Evidence of a document that is sent by AS2 (RFC 4130)\n\n",
+    )?;
     add_document(&mut text, document)?;
     add_text_line(&mut text, b"submitted", submitted)?;
     add_checks(&mut text, &document.content)?;
-    add_text_line(&mut text, b"meaning", detail_words(document.detail).as_bytes())?;
+    add_text_line(
+        &mut text,
+        b"meaning",
+        detail_words(document.detail).as_bytes(),
+    )?;
     add_found(&mut text, sent_fault(migrated, document)?)?;
     add_check_commands(&mut text, &stem)?;
     add_evidence(&mut text, &stem, came, document.evidence.as_ref())?;
@@ -129,11 +136,7 @@ fn body_of(evidence: Option<Evidence>) -> Option<Pieces>
 
 /// The files of a document: its content, its receipt where one settled it, and the page. In migrated records the receipt may be of
 /// before. Memory where it runs out.
-pub fn sent_files(
-    alloc: Global,
-    migrated: bool,
-    document: OutEntry,
-) -> Result<Vec<NewFile>, Memory>
+pub fn sent_files(alloc: Global, migrated: bool, document: OutEntry) -> Result<Vec<NewFile>, Memory>
     ensures { IfOk result (λ files. AreSentFiles migrated document (files_of files.items)) }
 {
     let submitted = date_of(document.moment);
@@ -141,7 +144,9 @@ pub fn sent_files(
     let page = sent_page(alloc, migrated, &document, &submitted, &came)?;
     let stem = stem(alloc, Mailbox::Outbox, document.number)?;
     let OutEntry {
-        content, evidence, ..
+        content,
+        evidence,
+        ..
     } = document;
     files_in(alloc, &stem, content, body_of(evidence), &page)
 }

@@ -4,7 +4,9 @@ ghost use Rattle.as2_lists.specs.Standing.{StandsFor};
 
 use crate::copies::{copy_evidence, copy_found_document, copy_found_entry};
 use crate::{inbox, outbox};
-use as2_exchange::{Attempt, END_OF_NUMBERS, Evidence, InEntry, MdnState, OutEntry, StoreFault, is_by_receipt};
+use as2_exchange::{
+    Attempt, END_OF_NUMBERS, Evidence, InEntry, MdnState, OutEntry, StoreFault, is_by_receipt,
+};
 use as2_mdn::{Detail, State};
 use as2_records::{Counts, InRow, MdnProgress, NextNumbers, OutRow, Progress, Records};
 use as2_text::{AsName, Moment};

@@ -43,7 +43,9 @@ use crate::settled::{numbers_in, settled_rows};
 use crate::settling::settle;
 use crate::submitting::{add_document, is_begun_by_tries};
 use crate::{inbox, listing, outbox, owed};
-use as2_exchange::{Attempt, END_OF_NUMBERS, Evidence, InEntry, MdnState, OutEntry, StoreFault, is_by_receipt};
+use as2_exchange::{
+    Attempt, END_OF_NUMBERS, Evidence, InEntry, MdnState, OutEntry, StoreFault, is_by_receipt,
+};
 use as2_mdn::{Detail, State};
 use as2_records::{Counts, InRow, MdnProgress, NextNumbers, OutRow, Progress};
 use as2_rows::Wait;

@@ -1,8 +1,9 @@
 //! Command lines.
 use crate::arguments::{Arguments, parts_of};
 use as2_commands::{
-    Command, Filter, FirstNumber, Options, Question, RunOptions, Serving, Submission, Task,
-    options_in, Wanted};
+    Command, Filter, FirstNumber, Options, Question, RunOptions, Serving, Submission, Task, Wanted,
+    options_in,
+};
 use clap::Error;
 use script_lines::Answer;
 
