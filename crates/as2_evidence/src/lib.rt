@@ -2,12 +2,12 @@
 //! anybody can check them.
 #![tactic(auto)]
 
-mod evidence;
 mod files;
+mod gathering;
 mod lines;
 mod received;
 mod sent;
 mod words;
 
-pub use evidence::evidence;
 pub use files::NewFile;
+pub use gathering::evidence;
