@@ -1,5 +1,5 @@
 -- The pages of evidence, for people.
-use Rattle.std.specs.Prelude.{◌≡◌, ℕ, codes, decimal, length, Option, Some, None, ◌++◌}
+use Rattle.std.specs.Prelude.{ℕ, Bool, codes, decimal, length, Option, Some, None, ◌++◌}
 use Rattle.as2_audit.specs.Faults.{kept_receipt, received_fault, sent_fault}
 use Rattle.as2_audit.specs.Texts.{fault_text, mailbox_word}
 use Rattle.as2_audit.specs.declared.fault.Fault.{Fault}
@@ -32,7 +32,7 @@ abbrev pub check_line : Alg → Text → Text
 check_line digest content = named_line (codes "MIC by " ++ alg_name digest) (mic digest content)
 
 -- .. under each that is known
-abbrev pub check_lines : Text → Text
+unfoldable pub check_lines : Text → Text
 check_lines content = check_line Md5 content ++ check_line Sha1 content ++ check_line Sha256 content
 
 -- what is found of it
@@ -41,22 +41,25 @@ found_line None = named_line (codes "found") (codes "nothing is wrong with what 
 found_line (Some fault) = named_line (codes "found") (fault_text fault)
 
 -- the command that makes the integrity check anew
-abbrev pub check_command : Text → Text → Text
-check_command digest stem = codes "    openssl dgst -" ++ digest ++ codes " -binary " ++ stem ++ codes ".content | base64\n"
+unfoldable pub check_command : Text → Text → Text
+check_command digest stem = codes "    openssl dgst -" ++ (digest ++ (codes " -binary " ++ (stem ++ codes ".content | base64\n")))
+
+unfoldable pub checks_heading : Text
+checks_heading = codes "\nThe integrity checks of the content, made anew beside these files:\n"
 
 -- how the integrity checks are made anew without this station
-abbrev pub check_commands : Text → Text
+unfoldable pub check_commands : Text → Text
 check_commands stem =
-    codes "\nThe integrity checks of the content, made anew beside these files:\n"
+    checks_heading
     ++ check_command (codes "md5") stem
     ++ check_command (codes "sha1") stem
     ++ check_command (codes "sha256") stem
 
 -- how the fields of a receipt are read
-abbrev pub fields_command : Text → Text
+unfoldable pub fields_command : Text → Text
 fields_command stem =
-    codes "\nWhat the receipt says; its integrity check has to be the one above that is by its digest:\n"
-    ++ codes "    grep -a -i -A 1 -E '^(Original-Message-ID|Disposition|Received-Content-MIC):' " ++ stem ++ codes ".receipt\n"
+    codes "\nWhat the receipt says; its integrity check has to be the one by its digest:\n    grep -a -i -A 1 -E '^(Original-Message-ID|Disposition|Received-Content-MIC):' "
+    ++ (stem ++ codes ".receipt\n")
 
 -- ---- a document that is sent
 
@@ -64,58 +67,66 @@ fields_command stem =
 abbrev pub said_lines : Option Receipt → Text
 said_lines None = named_line (codes "says") (codes "it can't be read")
 said_lines (Some r) =
-    named_line (codes "Original-Message-ID") r.original_id
-    ++ named_line (codes "Disposition") (disposition_words r.disposition)
-    ++ named_line (codes "Received-Content-MIC") (given_words r.mic)
+    named_line (codes "document") r.original_id
+    ++ named_line (codes "says") (disposition_words r.disposition)
+    ++ named_line (codes "MIC") (given_words r.mic)
+
+unfoldable pub receipt_heading : Text
+receipt_heading = codes "\nThe receipt (RFC 8098):\n"
 
 -- the receipt, and how it is read
-abbrev pub receipt_lines : Text → Text → Option Evidence → Text
+unfoldable pub receipt_lines : Text → Text → Option Evidence → Text
 receipt_lines stem came None = codes ""
 receipt_lines stem came (Some e) =
-    codes "\nThe receipt (RFC 8098):\n"
-    ++ named_line (codes "came") came
-    ++ named_line (codes "Content-Type") e.content_type
-    ++ said_lines (kept_receipt e)
-    ++ fields_command stem
+    receipt_heading
+    ++ (named_line (codes "came") came ++ named_line (codes "type") e.content_type)
+    ++ (said_lines (kept_receipt e) ++ fields_command stem)
+
+unfoldable pub sent_title : Text
+sent_title = codes "Evidence of a document that is sent by AS2 (RFC 4130)\n\n"
+
+-- all that is known of it
+unfoldable pub known_lines : OutEntry → Text
+known_lines d = shown_words d
 
 -- The page of a document that is sent. The dates are when it was submitted, and when the receipt came.
 abbrev pub sent_page : Bool → OutEntry → Text → Text → Text
 sent_page migrated d submitted came =
-    codes "Evidence of a document that is sent by AS2 (RFC 4130)\n\n"
-    ++ shown_words d
-    ++ named_line (codes "submitted") submitted
-    ++ check_lines d.content
-    ++ named_line (codes "meaning") (detail_words d.detail)
-    ++ found_line (sent_fault migrated d)
-    ++ check_commands (stem Outbox d.number)
-    ++ receipt_lines (stem Outbox d.number) came d.evidence
+    sent_title
+    ++ (known_lines d ++ named_line (codes "submitted") submitted ++ check_lines d.content)
+    ++ (named_line (codes "meaning") (detail_words d.detail) ++ found_line (sent_fault migrated d))
+    ++ (check_commands (stem Outbox d.number) ++ receipt_lines (stem Outbox d.number) came d.evidence)
 
 -- ---- a document that was received
 
--- from whom and to whom it is, which, and how long
-abbrev pub received_names : InEntry → Text
+-- from whom and to whom it is, and which
+unfoldable pub received_names : InEntry → Text
 received_names e =
     named_line (codes "number") (decimal e.number)
     ++ named_line (codes "from") (spelling e.posted.sender)
     ++ named_line (codes "to") (spelling e.posted.receiver)
     ++ named_line (codes "identifier") e.posted.id
-    ++ named_line (codes "content type") e.posted.content_type
+
+-- .. what it is and how long, and the integrity checks of its content
+unfoldable pub received_content : InEntry → Text
+received_content e =
+    named_line (codes "type") e.posted.content_type
     ++ named_line (codes "content") (size_text (length e.posted.content))
+    ++ check_lines e.posted.content
 
 -- what became of it, and how its receipt stands (RFC 4130, section 7.5; RFC 8098, section 3.2.6)
-abbrev pub outcome_lines : InEntry → Text
+unfoldable pub outcome_lines : InEntry → Text
 outcome_lines e =
-    named_line (codes "disposition") (outcome_text e.posted.outcome)
-    ++ named_line (codes "MIC of the receipt") (kept_words e.posted.mic)
-    ++ named_line (codes "receipt") (mdn_words e.mdn)
+    named_line (codes "receipt") (mdn_words e.mdn)
+    ++ named_line (codes "says") (outcome_text e.posted.outcome)
+    ++ named_line (codes "MIC") (kept_words e.posted.mic)
+
+unfoldable pub received_title : Text
+received_title = codes "Evidence of a document that was received by AS2 (RFC 4130)\n\n"
 
 -- the page of a document that was received
 abbrev pub received_page : InEntry → Text → Text
 received_page e came =
-    codes "Evidence of a document that was received by AS2 (RFC 4130)\n\n"
-    ++ received_names e
-    ++ named_line (codes "received") came
-    ++ check_lines e.posted.content
-    ++ outcome_lines e
-    ++ found_line (received_fault e.posted)
-    ++ check_commands (stem Inbox e.number)
+    received_title
+    ++ (received_names e ++ named_line (codes "received") came ++ received_content e)
+    ++ (outcome_lines e ++ found_line (received_fault e.posted) ++ check_commands (stem Inbox e.number))

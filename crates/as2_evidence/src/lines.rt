@@ -1,6 +1,6 @@
 //! Lines that all pages have.
 ghost use Rattle.std.specs.Prelude.{◌≡◌, ◌++◌, IfOk, OnOk, string_bytes};
-ghost use Rattle.as2_evidence.specs.Pages.{check_command, check_commands, check_line, check_lines, found_line, stem};
+ghost use Rattle.as2_evidence.specs.Pages.{check_command, check_commands, checks_heading, check_line, check_lines, found_line, stem};
 
 use as2_audit::{Fault, Mailbox};
 use as2_mic::{Alg, Pieces, mic_of_pieces};
@@ -28,6 +28,7 @@ fn add_check(text: &mut Vec<u8>, digest: Alg, content: &Pieces) -> Result<(), Al
 }
 
 /// Appends the integrity checks of a content.
+#[tactic(auto, unfolding(crate::specs::Pages::check_lines))]
 pub fn add_checks(text: &mut Vec<u8>, content: &Pieces) -> Result<(), AllocError>
     ensures { OnOk result (text.new.items ≡ text.old.items ++ check_lines content.now) }
 {
@@ -46,25 +47,32 @@ pub fn add_found(text: &mut Vec<u8>, fault: Option<Fault>) -> Result<(), AllocEr
     }
 }
 
-/// Appends the command that makes the integrity check under a digest anew.
-fn add_check_command(text: &mut Vec<u8>, digest: &str, stem: &str) -> Result<(), AllocError>
-    ensures { OnOk result (text.new.items ≡ text.old.items ++ check_command digest.now stem.now) }
+/// The command that makes the integrity check under a digest anew.
+#[tactic(auto, unfolding(crate::specs::Pages::check_command))]
+fn check_command(alloc: Global, digest: &str, stem: &str) -> Result<String, AllocError>
+    ensures { IfOk result (λ line. string_bytes line ≡ check_command digest.now stem.now) }
 {
-    text.extend_from_slice(b"    openssl dgst -")?;
-    text.extend_from_slice(digest.as_bytes())?;
-    text.extend_from_slice(b" -binary ")?;
-    text.extend_from_slice(stem.as_bytes())?;
-    text.extend_from_slice(b".content | base64\n")
+    format!(in alloc; "    openssl dgst -{digest} -binary {stem}.content | base64\n")
+}
+
+/// What stands before the commands.
+#[tactic(auto, unfolding(crate::specs::Pages::checks_heading))]
+fn checks_heading() -> &'static str
+    ensures { result.now ≡ checks_heading }
+{
+    "\nThe integrity checks of the content, made anew beside these files:\n"
 }
 
 /// Appends how the integrity checks are made anew.
-pub fn add_check_commands(text: &mut Vec<u8>, stem: &str) -> Result<(), AllocError>
+#[tactic(auto, unfolding(crate::specs::Pages::check_commands))]
+pub fn add_check_commands(alloc: Global, text: &mut Vec<u8>, stem: &str) -> Result<(), AllocError>
     ensures { OnOk result (text.new.items ≡ text.old.items ++ check_commands stem.now) }
 {
-    text.extend_from_slice(
-        b"\nThe integrity checks of the content, made anew beside these files:\n",
-    )?;
-    add_check_command(text, "md5", stem)?;
-    add_check_command(text, "sha1", stem)?;
-    add_check_command(text, "sha256", stem)
+    let by_md5 = check_command(alloc, "md5", stem)?;
+    let by_sha1 = check_command(alloc, "sha1", stem)?;
+    let by_sha256 = check_command(alloc, "sha256", stem)?;
+    text.extend_from_slice(checks_heading().as_bytes())?;
+    text.extend_from_slice(by_md5.as_bytes())?;
+    text.extend_from_slice(by_sha1.as_bytes())?;
+    text.extend_from_slice(by_sha256.as_bytes())
 }

@@ -2,13 +2,13 @@
 ghost use Rattle.std.specs.Prelude.{◌≡◌, ◌++◌, IfOk, OnOk};
 ghost use Rattle.as2_evidence.specs.Evidence.{AreReceivedFiles, given_receipt};
 ghost use Rattle.as2_evidence.specs.Files.{files_of};
-ghost use Rattle.as2_evidence.specs.Pages.{outcome_lines, received_names, received_page};
+ghost use Rattle.as2_evidence.specs.Pages.{outcome_lines, received_content, received_names, received_page, received_title};
 ghost use Rattle.as2_exchange.specs.Readings.{report_text};
 ghost use Rattle.as2_exchange.specs.Recording.{report};
 
 use crate::files::{NewFile, files_in, in_pieces};
 use crate::lines::{add_check_commands, add_checks, add_found, stem};
-use crate::words::{add_kept, mdn_words};
+use crate::words::{kept_words, mdn_words};
 use as2_agreement::Agreements;
 use as2_audit::{Mailbox, received_fault};
 use as2_exchange::{InEntry, MdnState, Posted};
@@ -20,7 +20,8 @@ use as2_text::Memory;
 use as2_views::{add_name_line, add_number_line, add_size_line, add_text_line};
 use std::alloc::{AllocError, Global};
 
-/// Appends what the document is.
+/// Appends from whom and to whom the document is, and which.
+#[tactic(auto, unfolding(crate::specs::Pages::received_names))]
 fn add_names(text: &mut Vec<u8>, entry: &InEntry) -> Result<(), AllocError>
     ensures { OnOk result (text.new.items ≡ text.old.items ++ received_names entry.now) }
 {
@@ -31,20 +32,36 @@ fn add_names(text: &mut Vec<u8>, entry: &InEntry) -> Result<(), AllocError>
         text,
         b"identifier",
         entry.posted.id.as_received().as_bytes(),
-    )?;
-    add_text_line(text, b"content type", entry.posted.content_type.as_slice())?;
-    add_size_line(text, entry.posted.content.len())
+    )
+}
+
+/// Appends what the document is, how long, and the integrity checks of its content.
+#[tactic(auto, unfolding(crate::specs::Pages::received_content))]
+fn add_content(text: &mut Vec<u8>, entry: &InEntry) -> Result<(), AllocError>
+    ensures { OnOk result (text.new.items ≡ text.old.items ++ received_content entry.now) }
+{
+    add_text_line(text, b"type", entry.posted.content_type.as_slice())?;
+    add_size_line(text, entry.posted.content.len())?;
+    add_checks(text, &entry.posted.content)
 }
 
 /// Appends what became of the document, and how its receipt stands.
-fn add_outcome(text: &mut Vec<u8>, entry: &InEntry) -> Result<(), AllocError>
+#[tactic(auto, unfolding(crate::specs::Pages::outcome_lines))]
+fn add_outcome(alloc: Global, text: &mut Vec<u8>, entry: &InEntry) -> Result<(), AllocError>
     ensures { OnOk result (text.new.items ≡ text.old.items ++ outcome_lines entry.now) }
 {
-    add_text_line(text, b"disposition", entry.posted.outcome.text().as_bytes())?;
-    text.extend_from_slice(b"MIC of the receipt: ")?;
-    add_kept(text, entry.posted.mic)?;
-    text.extend_from_slice(b"\n")?;
-    add_text_line(text, b"receipt", mdn_words(entry.mdn).as_bytes())
+    let mic = kept_words(alloc, entry.posted.mic)?;
+    add_text_line(text, b"receipt", mdn_words(entry.mdn).as_bytes())?;
+    add_text_line(text, b"says", entry.posted.outcome.text().as_bytes())?;
+    add_text_line(text, b"MIC", &mic)
+}
+
+/// What the page begins with.
+#[tactic(auto, unfolding(crate::specs::Pages::received_title))]
+fn received_title() -> &'static str
+    ensures { result.now ≡ received_title }
+{
+    "Evidence of a document that was received by AS2 (RFC 4130)\n\n"
 }
 
 /// The page of a document.
@@ -52,16 +69,13 @@ fn received_page(alloc: Global, entry: &InEntry, came: &[u8]) -> Result<Vec<u8>,
     ensures { IfOk result (λ text. text.items ≡ received_page entry.now came.now) }
 {
     let stem = stem(alloc, Mailbox::Inbox, entry.number)?;
-    let mut text = Vec::from_slice(
-        alloc,
-        b"Evidence of a document that was received by AS2 (RFC 4130)\n\n",
-    )?;
+    let mut text = Vec::from_slice(alloc, received_title().as_bytes())?;
     add_names(&mut text, entry)?;
     add_text_line(&mut text, b"received", came)?;
-    add_checks(&mut text, &entry.posted.content)?;
-    add_outcome(&mut text, entry)?;
+    add_content(&mut text, entry)?;
+    add_outcome(alloc, &mut text, entry)?;
     add_found(&mut text, received_fault(&entry.posted))?;
-    add_check_commands(&mut text, &stem)?;
+    add_check_commands(alloc, &mut text, &stem)?;
     Ok(text)
 }
 
@@ -71,7 +85,8 @@ fn receipt_of(alloc: Global, agreements: &Agreements, entry: &InEntry) -> Result
     ensures { IfOk result (λ bytes. bytes ≡ report_text (report agreements.now entry.now.number entry.now.posted)) }
 {
     let out = report(agreements, entry.number, &entry.posted)?;
-    in_pieces(alloc, &write_report(alloc, &out)?)
+    let text = write_report(alloc, &out)?;
+    in_pieces(alloc, &text)
 }
 
 /// The receipt of a document, where it was given.

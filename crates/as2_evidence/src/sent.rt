@@ -1,13 +1,13 @@
 //! Documents that are sent.
-ghost use Rattle.std.specs.Prelude.{◌≡◌, ◌++◌, IfOk, OnOk, None, Some, option_map};
+ghost use Rattle.std.specs.Prelude.{◌≡◌, ◌++◌, IfOk, OnOk, None, Some, option_map, string_bytes};
 ghost use Rattle.as2_audit.specs.Faults.{kept_receipt};
 ghost use Rattle.as2_evidence.specs.Evidence.{AreSentFiles, IsCame};
 ghost use Rattle.as2_evidence.specs.Files.{files_of};
-ghost use Rattle.as2_evidence.specs.Pages.{fields_command, receipt_lines, said_lines, sent_page};
+ghost use Rattle.as2_evidence.specs.Pages.{fields_command, known_lines, receipt_heading, receipt_lines, said_lines, sent_page, sent_title};
 
 use crate::files::{NewFile, files_in};
 use crate::lines::{add_check_commands, add_checks, add_found, stem};
-use crate::words::{add_disposition, add_given, detail_words};
+use crate::words::{detail_words, disposition_words, given_words};
 use as2_audit::{Mailbox, sent_fault};
 use as2_exchange::{Evidence, OutEntry};
 use as2_mdn::{Receipt, read_report};
@@ -17,30 +17,25 @@ use as2_text::{MediaType, Memory};
 use as2_views::{add_document, add_text_line};
 use std::alloc::{AllocError, Global};
 
-/// Appends how the fields of a receipt are read.
-fn add_fields_command(text: &mut Vec<u8>, stem: &str) -> Result<(), AllocError>
-    ensures { OnOk result (text.new.items ≡ text.old.items ++ fields_command stem.now) }
+/// How the fields of a receipt are read.
+#[tactic(auto, unfolding(crate::specs::Pages::fields_command))]
+fn fields_command(alloc: Global, stem: &str) -> Result<String, AllocError>
+    ensures { IfOk result (λ text. string_bytes text ≡ fields_command stem.now) }
 {
-    text.extend_from_slice(
-        b"\nWhat the receipt says; its integrity check has to be the one above that is by its digest:\n",
-    )?;
-    text.extend_from_slice(
-        b"    grep -a -i -A 1 -E '^(Original-Message-ID|Disposition|Received-Content-MIC):' ",
-    )?;
-    text.extend_from_slice(stem.as_bytes())?;
-    text.extend_from_slice(b".receipt\n")
+    format!(in alloc;
+        "\nWhat the receipt says; its integrity check has to be the one by its digest:\n    grep -a -i -A 1 -E '^(Original-Message-ID|Disposition|Received-Content-MIC):' {stem}.receipt\n"
+    )
 }
 
 /// Appends what a receipt says.
-fn add_receipt(text: &mut Vec<u8>, receipt: &Receipt<'_>) -> Result<(), AllocError>
+fn add_receipt(alloc: Global, text: &mut Vec<u8>, receipt: &Receipt<'_>) -> Result<(), AllocError>
     ensures { OnOk result (text.new.items ≡ text.old.items ++ said_lines (Some receipt.now)) }
 {
-    add_text_line(text, b"Original-Message-ID", receipt.original_id)?;
-    text.extend_from_slice(b"Disposition: ")?;
-    add_disposition(text, &receipt.disposition)?;
-    text.extend_from_slice(b"\nReceived-Content-MIC: ")?;
-    add_given(text, &receipt.mic)?;
-    text.extend_from_slice(b"\n")
+    let disposition = disposition_words(alloc, &receipt.disposition)?;
+    let mic = given_words(alloc, &receipt.mic)?;
+    add_text_line(text, b"document", receipt.original_id)?;
+    add_text_line(text, b"says", &disposition)?;
+    add_text_line(text, b"MIC", &mic)
 }
 
 /// Appends that a receipt can't be read.
@@ -53,7 +48,7 @@ fn add_unread(text: &mut Vec<u8>) -> Result<(), Memory>
 
 /// Appends what the receipt that is kept says, where it can be read.
 #[tactic(auto, unfolding(as2_exchange::specs::Readings::report_in))]
-fn add_said(text: &mut Vec<u8>, evidence: &Evidence) -> Result<(), Memory>
+fn add_said(alloc: Global, text: &mut Vec<u8>, evidence: &Evidence) -> Result<(), Memory>
     ensures { OnOk result (text.new.items ≡ text.old.items ++ said_lines (kept_receipt evidence.now)) }
 {
     let body = evidence.body.joined()?;
@@ -63,12 +58,22 @@ fn add_said(text: &mut Vec<u8>, evidence: &Evidence) -> Result<(), Memory>
     let Ok(receipt) = read_report(&media, &body) else {
         return add_unread(text);
     };
-    add_receipt(text, &receipt)?;
+    add_receipt(alloc, text, &receipt)?;
     Ok(())
 }
 
+/// What stands before a receipt.
+#[tactic(auto, unfolding(crate::specs::Pages::receipt_heading))]
+fn receipt_heading() -> &'static str
+    ensures { result.now ≡ receipt_heading }
+{
+    "\nThe receipt (RFC 8098):\n"
+}
+
 /// Appends the receipt, where one settled the document, and how it is read.
+#[tactic(auto, unfolding(crate::specs::Pages::receipt_lines))]
 fn add_evidence(
+    alloc: Global,
     text: &mut Vec<u8>,
     stem: &str,
     came: &[u8],
@@ -79,12 +84,28 @@ fn add_evidence(
     let Some(evidence) = evidence else {
         return Ok(());
     };
-    text.extend_from_slice(b"\nThe receipt (RFC 8098):\n")?;
+    text.extend_from_slice(receipt_heading().as_bytes())?;
     add_text_line(text, b"came", came)?;
-    add_text_line(text, b"Content-Type", evidence.content_type.as_slice())?;
-    add_said(text, evidence)?;
-    add_fields_command(text, stem)?;
+    add_text_line(text, b"type", evidence.content_type.as_slice())?;
+    add_said(alloc, text, evidence)?;
+    text.extend_from_slice(fields_command(alloc, stem)?.as_bytes())?;
     Ok(())
+}
+
+/// Appends all that is known of a document.
+#[tactic(auto, unfolding(crate::specs::Pages::known_lines))]
+fn add_known(text: &mut Vec<u8>, document: &OutEntry) -> Result<(), Memory>
+    ensures { OnOk result (text.new.items ≡ text.old.items ++ known_lines document.now) }
+{
+    add_document(text, document)
+}
+
+/// What the page begins with.
+#[tactic(auto, unfolding(crate::specs::Pages::sent_title))]
+fn sent_title() -> &'static str
+    ensures { result.now ≡ sent_title }
+{
+    "Evidence of a document that is sent by AS2 (RFC 4130)\n\n"
 }
 
 /// The page of a document.
@@ -98,11 +119,8 @@ fn sent_page(
     ensures { IfOk result (λ text. text.items ≡ sent_page migrated document.now submitted.now came.now) }
 {
     let stem = stem(alloc, Mailbox::Outbox, document.number)?;
-    let mut text = Vec::from_slice(
-        alloc,
-        b"Evidence of a document that is sent by AS2 (RFC 4130)\n\n",
-    )?;
-    add_document(&mut text, document)?;
+    let mut text = Vec::from_slice(alloc, sent_title().as_bytes())?;
+    add_known(&mut text, document)?;
     add_text_line(&mut text, b"submitted", submitted)?;
     add_checks(&mut text, &document.content)?;
     add_text_line(
@@ -111,8 +129,8 @@ fn sent_page(
         detail_words(document.detail).as_bytes(),
     )?;
     add_found(&mut text, sent_fault(migrated, document)?)?;
-    add_check_commands(&mut text, &stem)?;
-    add_evidence(&mut text, &stem, came, document.evidence.as_ref())?;
+    add_check_commands(alloc, &mut text, &stem)?;
+    add_evidence(alloc, &mut text, &stem, came, document.evidence.as_ref())?;
     Ok(text)
 }
 

@@ -1,11 +1,11 @@
 //! What the pages say in words.
-ghost use Rattle.std.specs.Prelude.{◌≡◌, ◌++◌, OnOk, option_map};
+ghost use Rattle.std.specs.Prelude.{◌≡◌, ◌++◌, IfOk, OnOk, option_map};
 ghost use Rattle.as2_evidence.specs.Words.{detail_words, disposition_words, given_words, kept_words, mdn_words, modifier_words};
 ghost use Rattle.as2_mdn.specs.Receipts.{mic_of};
 
 use as2_exchange::MdnState;
 use as2_mdn::{Detail, Disposition, MicPart, ReportMic};
-use std::alloc::AllocError;
+use std::alloc::{AllocError, Global};
 
 /// What a detail says.
 pub fn detail_words(detail: Detail) -> &'static str
@@ -48,7 +48,7 @@ pub fn mdn_words(mdn: MdnState) -> &'static str
 
 /// Appends a disposition's modifier, where there is one.
 fn add_modifier(text: &mut Vec<u8>, modifier: Option<&[u8]>) -> Result<(), AllocError>
-    ensures { OnOk result (text.new.items ≡ text.old.items ++ modifier_words (option_map (λ m. m.now) modifier)) }
+    ensures { OnOk result (text.new.items ≡ text.old.items ++ modifier_words (option_map (λ m. m.now) modifier.entry)) }
 {
     let Some(modifier) = modifier else {
         return Ok(());
@@ -57,37 +57,42 @@ fn add_modifier(text: &mut Vec<u8>, modifier: Option<&[u8]>) -> Result<(), Alloc
     text.extend_from_slice(modifier)
 }
 
-/// Appends a disposition's type and modifier, as they are spelled.
-pub fn add_disposition(text: &mut Vec<u8>, disposition: &Disposition<'_>) -> Result<(), AllocError>
-    ensures { OnOk result (text.new.items ≡ text.old.items ++ disposition_words disposition.now) }
+/// A disposition's type and modifier, as they are spelled.
+pub fn disposition_words(
+    alloc: Global,
+    disposition: &Disposition<'_>,
+) -> Result<Vec<u8>, AllocError>
+    ensures { IfOk result (λ text. text.items ≡ disposition_words disposition.now) }
 {
-    text.extend_from_slice(disposition.disposition_type())?;
-    add_modifier(text, disposition.modifier())
+    let mut text = Vec::from_slice(alloc, disposition.disposition_type())?;
+    add_modifier(&mut text, disposition.modifier())?;
+    Ok(text)
 }
 
-/// Appends the MIC that a receipt gives.
-pub fn add_given(text: &mut Vec<u8>, mic: &MicPart<'_>) -> Result<(), AllocError>
-    ensures { OnOk result (text.new.items ≡ text.old.items ++ given_words (mic_of mic.now)) }
+/// The MIC that a receipt gives.
+pub fn given_words(alloc: Global, mic: &MicPart<'_>) -> Result<Vec<u8>, AllocError>
+    ensures { IfOk result (λ text. text.items ≡ given_words (mic_of mic.now)) }
 {
-    match mic {
-        MicPart::Missing => text.extend_from_slice(b"-"),
-        MicPart::Unreadable => text.extend_from_slice(b"can't be read"),
-        MicPart::Given(field) => {
-            text.extend_from_slice(field.mic())?;
-            text.extend_from_slice(b", ")?;
-            text.extend_from_slice(field.digest())
-        }
-    }
+    let field = match mic {
+        MicPart::Missing => return Vec::from_slice(alloc, b"-"),
+        MicPart::Unreadable => return Vec::from_slice(alloc, b"can't be read"),
+        MicPart::Given(field) => field,
+    };
+    let mut text = Vec::from_slice(alloc, field.mic())?;
+    text.extend_from_slice(b", ")?;
+    text.extend_from_slice(field.digest())?;
+    Ok(text)
 }
 
-/// Appends the MIC that the receipt of a received document gives, where there is one.
-pub fn add_kept(text: &mut Vec<u8>, mic: Option<ReportMic>) -> Result<(), AllocError>
-    ensures { OnOk result (text.new.items ≡ text.old.items ++ kept_words mic) }
+/// The MIC that the receipt of a received document gives, where there is one.
+pub fn kept_words(alloc: Global, mic: Option<ReportMic>) -> Result<Vec<u8>, AllocError>
+    ensures { IfOk result (λ text. text.items ≡ kept_words mic) }
 {
     let Some(mic) = mic else {
-        return text.extend_from_slice(b"-");
+        return Vec::from_slice(alloc, b"-");
     };
-    text.extend_from_slice(mic.text.bytes())?;
+    let mut text = Vec::from_slice(alloc, mic.text.bytes())?;
     text.extend_from_slice(b", ")?;
-    text.extend_from_slice(mic.digest.name().as_bytes())
+    text.extend_from_slice(mic.digest.name().as_bytes())?;
+    Ok(text)
 }
