@@ -619,8 +619,7 @@ def while_full(runner, answered, more):
         if command[0] == "submit" and found[0] == 0:
             runner.differences.tell_known("a submit on the full disk found room")
     empty = [name for name in os.listdir(runner.desk.folder) if name.endswith("-wal") and not os.path.getsize(runner.desk.path(name))]
-    if empty:
-        runner.differences.tell_known(f"on a full disk an empty log is left: {empty[0]}")
+    runner.differences.expect("empty logs that are left on a full disk", empty, [])
     os.remove(runner.desk.path("rest"))
 
 

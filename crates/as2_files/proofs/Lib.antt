@@ -1,2 +1,3 @@
 mod Reached
 mod Earlier
+mod Pieced

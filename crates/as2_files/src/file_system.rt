@@ -49,7 +49,7 @@ fn unlocked(error: OpenError) -> OpenFault {
 
 impl FileSystem<'_> {
     /// Whether something stands at that name, be it a link to nothing.
-    fn is_there(&self, name: &str) -> Result<bool, OpenFault> {
+    pub(crate) fn is_there(&self, name: &str) -> Result<bool, OpenFault> {
         match fs::symlink_metadata(self.rt, name) {
             Ok(_) => Ok(true),
             Err(error) if error.kind() == ErrorKind::NotFound => Ok(false),

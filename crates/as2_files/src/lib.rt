@@ -5,6 +5,7 @@ mod closing;
 mod file_system;
 mod fronts;
 mod keeping;
+mod making;
 mod migrating;
 mod opening;
 mod places;

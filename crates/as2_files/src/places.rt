@@ -5,9 +5,10 @@ ghost use Rattle.as2_files.specs.Stores.{NeedsNoLog};
 
 use crate::file_system::{FileSystem, MEMORY, fault_of};
 use as2_host::OpenFault;
-use sqlite_disk::{Disk, Files};
+use sqlite_disk::{Disk, Files, Unknown};
 use std::alloc::{AllocError, Global};
 use std::fs;
+use std::path::PathBuf;
 
 /// What an address begins with, for SQLite.
 const ADDRESS: &[u8] = b"file:";
@@ -38,8 +39,12 @@ fn named(alloc: Global, path: &str, behind: &str) -> Result<String, AllocError>
 pub(crate) struct Place {
     /// The name of its file.
     name: String,
-    /// The name of its log, which lies beside the file, where a link leads.
+    /// The file itself, where a link leads.
+    real: PathBuf,
+    /// The name of its log, which lies beside the file itself.
     log: String,
+    /// Whether its log lay there already, before the store was opened.
+    had_log: bool,
 }
 
 impl Place {
@@ -69,10 +74,14 @@ impl FileSystem<'_> {
         }
     }
 
+    /// The file that stands under that path, where a link leads.
+    fn real(&self, path: &str) -> Result<PathBuf, OpenFault> {
+        fs::canonicalize(self.rt, &self.name(path)?).map_err(fault_of)
+    }
+
     /// The name of the log of the store that stands under that path.
     pub(crate) fn log_of(&self, path: &str) -> Result<String, OpenFault> {
-        let real = fs::canonicalize(self.rt, &self.name(path)?).map_err(fault_of)?;
-        self.beside(real.as_str(), "-wal")
+        self.beside(self.real(path)?.as_str(), "-wal")
     }
 
     /// How many bytes the files of the store that stands under that path take: its own, and its log, where they can be seen.
@@ -98,8 +107,15 @@ impl FileSystem<'_> {
         ensures { IfOk result (λ place. string_bytes place.name ≡ file_name path.now) }
     {
         let name = self.name(path)?;
-        let log = self.log_of(path)?;
-        Ok(Place { name, log })
+        let real = self.real(path)?;
+        let log = self.beside(real.as_str(), "-wal")?;
+        let had_log = self.is_there(&log)?;
+        Ok(Place {
+            name,
+            real,
+            log,
+            had_log,
+        })
     }
 
     /// Takes away the log of the store of that place, which was closed into these files. They do without it, and are locked meanwhile.
@@ -107,5 +123,42 @@ impl FileSystem<'_> {
         requires { NeedsNoLog D.Disk _files.now }
     {
         self.remove(&place.log);
+    }
+
+    /// What came of opening the store of that place. Where that failed, a log that it began and wrote nothing into is taken away.
+    pub(crate) fn leave_no_log<T>(
+        &self,
+        place: &Place,
+        outcome: Result<T, OpenFault>,
+    ) -> Result<T, OpenFault>
+        ensures { result ≡ outcome }
+    {
+        if outcome.is_err() && !place.had_log {
+            self.remove_empty_log(place);
+        }
+        outcome
+    }
+
+    /// Takes away the log of the store of that place if it is empty. It is looked at while the store's files are locked, since no other
+    /// process has begun with it then.
+    fn remove_empty_log(&self, place: &Place) {
+        if !self.is_empty_file(&place.log) {
+            return;
+        }
+        let Ok(files) = sqlite_std_file::open(self.rt, place.real.as_str(), Unknown) else {
+            return;
+        };
+        if self.is_empty_file(&place.log) {
+            self.remove(&place.log);
+        }
+        drop(files);
+    }
+
+    /// Whether a file without a byte stands at that name.
+    fn is_empty_file(&self, name: &str) -> bool {
+        match fs::symlink_metadata(self.rt, name) {
+            Ok(found) => found.is_file() && found.len() == 0,
+            Err(_) => false,
+        }
     }
 }

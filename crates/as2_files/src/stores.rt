@@ -91,7 +91,8 @@ impl<R: Records + Drop, K: KeepFiles<R> + Drop> OpenStores for StoreFiles<'_, R,
         let Some(keeper) = self.keeper.take() else {
             return Err(OpenFault::Held);
         };
-        let records = keeper.open_records(self.files.rt, place.name())?;
+        let opened = keeper.open_records(self.files.rt, place.name());
+        let records = self.files.leave_no_log(&place, opened)?;
         self.place = Some(place);
         self.has_opened = true;
         Ok(records)
@@ -128,7 +129,8 @@ impl<R: Records + Drop, K: KeepFiles<R> + Drop> OpenStores for StoreFiles<'_, R,
         let Some(keeper) = self.keeper.take() else {
             return Err(OpenFault::Held);
         };
-        let Moved { end, migration } = keeper.migrate_records(self.files.rt, place.name())?;
+        let moved = keeper.migrate_records(self.files.rt, place.name());
+        let Moved { end, migration } = self.files.leave_no_log(&place, moved)?;
         if let End::Closed(files) = &end {
             self.files.remove_log(&place, files);
         }
