@@ -7,4 +7,5 @@ mod Connecting
 mod Working
 mod Unhinted
 mod Saying
+mod Gathered
 pub mod Stopping

@@ -151,12 +151,12 @@ fn carry_out<
         Task::Check => check(alloc, &agreements, &mut console.output, &mut console.errors),
         Task::Migrate => migrate(store, host, console),
         Task::Verify(run) => {
-            let terms = Terms::of(alloc, &agreements, run);
+            let terms = Terms::of(alloc, &agreements, run.moment);
             let store = NamedStore::of(store, run);
             work_over(&terms, store, Work::Verify, host, console)
         }
         Task::Prove(run, wanted) => {
-            let terms = Terms::of(alloc, &agreements, run);
+            let terms = Terms::of(alloc, &agreements, run.moment);
             let store = NamedStore::of(store, run);
             work_over(&terms, store, Work::Prove(wanted), host, console)
         }
@@ -165,7 +165,11 @@ fn carry_out<
             let path = document_path(&command);
             match work_of(alloc, &host.outside.files, command) {
                 Ok(work) => {
-                    let terms = Terms::of(alloc, &agreements, run);
+                    let terms = Terms {
+                        alloc,
+                        agreements: &agreements,
+                        moment: run.moment,
+                    };
                     work_over(&terms, NamedStore::of(store, run), work, host, console)
                 }
                 Err(refusal) => {

@@ -18,15 +18,15 @@ pub(crate) struct Terms<'a> {
 }
 
 impl<'a> Terms<'a> {
-    /// The terms under these agreements, as the options have them.
-    pub(crate) fn of(alloc: Global, agreements: &'a Agreements, options: RunOptions) -> Terms<'a>
+    /// The terms under these agreements, at that moment.
+    pub(crate) fn of(alloc: Global, agreements: &'a Agreements, moment: Moment) -> Terms<'a>
         ensures agreements { result.agreements ≡ agreements.entry }
-        ensures moment { result.moment ≡ options.moment }
+        ensures moment { result.moment ≡ moment }
     {
         Terms {
             alloc,
             agreements,
-            moment: options.moment,
+            moment,
         }
     }
 }
