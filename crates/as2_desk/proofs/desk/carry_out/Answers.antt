@@ -17,5 +17,5 @@ pub returns-in-Ok-work_of-clause-comes : goal.returns-in-Ok-work_of-clause-comes
 returns-in-Ok-work_of-clause-comes g c = rw (c.in-Ok.is, c.in-Run.is) (
   Ok c.in-Ok-work_of.work,
   c.in-Ok-work_of.ensures,
-  rw (c.of.ensures.path, c.of.ensures.first, c.of.ensures.limit) at c.work_over-in-Ok-work_of.ensures.goes,
+  rw (c.of.ensures.path, c.of.ensures.first) at c.work_over-in-Ok-work_of.ensures.goes,
 )

@@ -1,4 +1,4 @@
-use Rattle.std.proofs.Common.{◌≡◌, ◌==◌, ℕ, Bool, List, Option, not, option_map, ap, subst}
+use Rattle.std.proofs.Common.{◌≡◌, ◌==◌, ℕ, Bool, not, option_map, ap, subst}
 use Rattle.as2_exchange.specs.State.{document, origin_of}
 use Rattle.as2_records.proofs.Following.{read_then}
 use Rattle.as2_evidence.specs.Evidence.{AreOf, AreSentFiles}
