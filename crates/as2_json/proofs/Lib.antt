@@ -1,0 +1,4 @@
+mod Clean
+mod Reading
+pub mod Cutting
+pub mod Returning

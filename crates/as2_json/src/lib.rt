@@ -1,0 +1,16 @@
+//! The listings of the station for programs: one object of JSON a line, over the kit's `serde_json`.
+#![tactic(auto)]
+
+mod counts;
+mod document;
+mod findings;
+mod laws;
+mod lines;
+mod rows;
+mod words;
+
+pub use counts::add_counts_object;
+pub use document::add_document_object;
+pub use findings::{add_finding_object, add_verified_object};
+pub use laws::{lines_part_objects, listings_read_back, verifications_read_back};
+pub use rows::{add_in_object, add_out_object};
