@@ -1,4 +1,6 @@
 mod Clean
+mod Encoded
+mod Named
 mod Reading
 pub mod Cutting
 pub mod Returning

@@ -1,4 +1,4 @@
 pub mod Words
 pub mod Objects
 pub mod Lines
-pub mod Ranges
+pub mod Types

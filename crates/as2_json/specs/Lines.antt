@@ -1,5 +1,5 @@
 -- Lines of JSON (RFC 8259): a value without a blank, and a line feed behind it.
-use Rattle.std.specs.Prelude.{◌≡◌, ◌++◌, codes, Some}
+use Rattle.std.specs.Prelude.{◌≡◌, ◌++◌, codes, Some, IsUtf8}
 use Rattle.serde_json.specs.Data.{Data}
 use Rattle.serde_json.specs.Read.{read}
 use Rattle.serde_json.specs.Written.{compact_text}
@@ -9,6 +9,7 @@ use Rattle.as2_exchange.specs.Agreement.{Text}
 unfoldable pub line : Data → Text
 line d = compact_text d ++ codes "\n"
 
--- the kit's reader finds the value in its text
-abbrev pub ReadsBack : Data → Type 0
-ReadsBack d = read (compact_text d) ≡ Some d
+-- the value's text is one for the kit's reader, which finds the value in it
+pub record ReadsBack (d : Data) : Type 0 where
+  pub utf8 : IsUtf8 (compact_text d)
+  pub same : read (compact_text d) ≡ Some d

@@ -1,5 +1,5 @@
 //! What holds of the lines, as laws: they are proved, and do nothing.
-ghost use Rattle.std.specs.Prelude.{◌++◌, ℕ, ◌^◌, ◌<◌, Bool};
+ghost use Rattle.std.specs.Prelude.{◌++◌, ℕ, Bool};
 ghost use Rattle.as2_names.specs.Ascii.{line_feed};
 ghost use Rattle.as2_names.specs.Cuts.{IsCutAt};
 ghost use Rattle.as2_exchange.specs.Agreement.{Text};
@@ -12,24 +12,23 @@ ghost use Rattle.serde_json.specs.Data.{Data};
 ghost use Rattle.serde_json.specs.Written.{compact_text};
 ghost use Rattle.as2_json.specs.Lines.{ReadsBack, line};
 ghost use Rattle.as2_json.specs.Objects.{counts_object, document_object, finding_object, in_object, out_object, verified_object};
-ghost use Rattle.as2_json.specs.Ranges.{CountsFit, DocumentFits};
+ghost use Rattle.as2_json.specs.Types.{AreCounts, Fits, IsDocument, IsInRow, IsOutRow};
 
 /// What stands before the first line feed of a line, with any text behind it, is the whole text of its object.
 pub fn lines_part_objects()
     ensures { (d : Data) (rest : Text) → IsCutAt line_feed (line d ++ rest) (compact_text d) rest }
 {}
 
-/// The kit's reader finds in the text of each object of a listing what was written. The numbers are those of 64 bits.
+/// The text of each object of a listing is UTF-8, and the kit's reader finds in it what was written.
 pub fn listings_read_back()
-    ensures outbox { (is_settled : Bool) (r : OutRow) → r.number < 2 ^ 64 → r.tries < 2 ^ 64 → ReadsBack (out_object is_settled r) }
-    ensures inbox { (r : InRow) → r.number < 2 ^ 64 → ReadsBack (in_object r) }
-    ensures counts { (c : Counts) → CountsFit c → ReadsBack (counts_object c) }
-    ensures document { (d : OutEntry) → DocumentFits d → ReadsBack (document_object d) }
+    ensures outbox { (is_settled : Bool) (r : OutRow) → IsOutRow r → ReadsBack (out_object is_settled r) }
+    ensures inbox { (r : InRow) → IsInRow r → ReadsBack (in_object r) }
+    ensures counts { (c : Counts) → AreCounts c → ReadsBack (counts_object c) }
+    ensures document { (d : OutEntry) → IsDocument d → ReadsBack (document_object d) }
 {}
 
-/// The kit's reader finds in the text of each object of a verification what was written.
+/// The text of each object of a verification is UTF-8, and the kit's reader finds in it what was written.
 pub fn verifications_read_back()
-    ensures finding { (f : Finding) → f.number < 2 ^ 64 → ReadsBack (finding_object f) }
-    ensures verified { (received sent findings : ℕ) → received < 2 ^ 64 → sent < 2 ^ 64 → findings < 2 ^ 64 →
-        ReadsBack (verified_object received sent findings) }
+    ensures finding { (f : Finding) → Fits f.number → ReadsBack (finding_object f) }
+    ensures verified { (received sent findings : ℕ) → Fits received → Fits sent → Fits findings → ReadsBack (verified_object received sent findings) }
 {}
