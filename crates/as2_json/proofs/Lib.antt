@@ -2,5 +2,6 @@ mod Clean
 mod Encoded
 mod Named
 mod Reading
+pub mod Entries
 pub mod Cutting
 pub mod Returning

@@ -12,5 +12,5 @@ mod words;
 pub use counts::add_counts_object;
 pub use document::add_document_object;
 pub use findings::{add_finding_object, add_verified_object};
-pub use laws::{lines_part_objects, listings_read_back, verifications_read_back};
+pub use laws::{lines_read_back, listings_of_rows, listings_read_back, verifications_read_back};
 pub use rows::{add_in_object, add_out_object};
