@@ -1,5 +1,6 @@
 mod Clean
 mod Encoded
+mod Endings
 mod Named
 mod Reading
 pub mod Entries

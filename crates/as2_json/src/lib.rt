@@ -7,6 +7,7 @@ mod findings;
 mod laws;
 mod lines;
 mod rows;
+mod verifying;
 mod words;
 
 pub use counts::add_counts_object;
@@ -14,3 +15,4 @@ pub use document::add_document_object;
 pub use findings::{add_finding_object, add_verified_object};
 pub use laws::{lines_read_back, listings_of_rows, listings_read_back, verifications_read_back};
 pub use rows::{add_in_object, add_out_object};
+pub use verifying::verify_in_objects;
