@@ -1,0 +1,16 @@
+-- The lines of objects, and with one behind them.
+use Rattle.std.proofs.Common.{◌≡◌, ◌∙◌, List, [], ◌∷◌, ◌++◌, map, sym, ap, append_assoc, append-nil}
+use Rattle.std.proofs.lemmas.List.Folds.{flat_map-map}
+use Rattle.std.specs.List.{flat_map}
+use Rattle.serde_json.specs.Data.{Data}
+use Rattle.as2_records.specs.declared.summaries.InRow.{InRow}
+use Rattle.as2_audit.specs.declared.findings.Finding.{Finding}
+use Rattle.as2_json.specs.Lines.{line, lines}
+use Rattle.as2_json.specs.Objects.{finding_object, in_object}
+
+pub in_lines : (rs : List InRow) → flat_map (λ r. line (in_object r)) rs ≡ lines (map in_object rs)
+in_lines rs = sym (flat_map-map line in_object rs)
+
+pub ended : (fs : List Finding) (d : Data) → flat_map (λ f. line (finding_object f)) fs ++ line d ≡ lines (map finding_object fs ++ d ∷ [])
+ended [] d = sym (append-nil (line d))
+ended (f ∷ fs) d = append_assoc (line (finding_object f)) _ (line d) ∙ ap (λ l. line (finding_object f) ++ l) (ended fs d)

@@ -1,0 +1,8 @@
+mod Clean
+mod Encoded
+mod Endings
+mod Named
+mod Reading
+pub mod Entries
+pub mod Cutting
+pub mod Returning

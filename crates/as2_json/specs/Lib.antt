@@ -1,0 +1,5 @@
+pub mod Words
+pub mod Objects
+pub mod Lines
+pub mod Listings
+pub mod Types
