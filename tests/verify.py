@@ -58,6 +58,12 @@ def received_findings(tables):
             yield f"received {number}: MIC differs"
 
 
+def is_late(receipt):
+    """Whether the MIC is by SHA-256, which stores of an earlier version didn't know."""
+    mics = receipt[2]
+    return len(mics) == 1 and mics[0].partition(b",")[2].strip().lower() in (b"sha-256", b"sha256")
+
+
 def receipt_fault(identifier, detail, content, content_type, body, migrated):
     """What is wrong with the receipt that is kept of a document."""
     receipt = readers.receipt_in(content_type, body)
@@ -67,7 +73,7 @@ def receipt_fault(identifier, detail, content, content_type, body, migrated):
         return "receipt is of another document"
     told = readers.verdict(receipt, content)[2:]
     unknown = readers.verdict((receipt[0], receipt[1], [b"x"]), content)[2:]
-    return None if told == detail or migrated and unknown == detail else "receipt says something else"
+    return None if told == detail or migrated and is_late(receipt) and unknown == detail else "receipt says something else"
 
 
 def sent_findings(tables):
