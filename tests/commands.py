@@ -63,6 +63,12 @@ def posts(folder):
     same("outstanding", run(store, ["outstanding"]), (0, NOTHING, ""))
     same("send, with nothing due", run(store, ["send"]), (0, "", ""))
     same("verify", run(store, ["verify"]), (0, "verified: 1 received, 0 sent, 0 findings\n", ""))
+    evidence = ["evidence", "--received", "1", "--out", folder]
+    same("evidence", run(store, evidence), (0, "received-1.content\nreceived-1.receipt\nreceived-1.txt\n", ""))
+    with open(f"{folder}/received-1.content", "rb") as content:
+        same("evidence, the content", content.read(), b"abc")
+    same("evidence, once more", run(store, evidence), (1, "", "refused: CannotWrite\nhint: something of that name is there; nothing was made\n"))
+    same("evidence, another number", run(store, ["evidence", "1", "--out", folder]), (1, "", "refused: NoSuchNumber\n"))
 
 
 def tries(folder, agreements):

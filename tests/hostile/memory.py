@@ -53,6 +53,9 @@ def tables(path):
         return {name: sorted(store.execute(f"SELECT * FROM {name}").fetchall(), key=repr) for name in names}
 
 
+OUT = "OUT"  # stands for the folder of a run's own
+
+
 class Partner(mutations.Partner):
     """A partner that gives each document a good receipt, and takes each receipt."""
 
@@ -95,6 +98,8 @@ def rows(partner):
     for command in (("list", "out"), ("show", "1"), ("outstanding",)):
         yield Row(" ".join(command), command, before=[submit, send])
     yield Row("verify", ("verify",), before=[post, submit, send])
+    yield Row("evidence", ("evidence", "1", "--out", OUT), before=[post, submit, send])
+    yield Row("evidence --received", ("evidence", "--received", "1", "--out", OUT), before=[post, submit, send])
     yield Row("resend", ("resend", "1"), before=[submit, nobody, send, again], moment=2000)
 
 
@@ -114,9 +119,9 @@ def change(desk, old, new):
 class Played:
     """What a run came to: its status, what it wrote, how many allocations it made, the tables of its store then, and what a later one shows."""
 
-    def __init__(self, ran, count, found, later):
+    def __init__(self, ran, count, found, later, made):
         self.status, self.output, self.said = ran.returncode, ran.stdout, ran.stderr
-        self.count, self.tables, self.later = count, found, later
+        self.count, self.tables, self.later, self.made = count, found, later, made
         # a hint may be left out where memory is wanting
         self.faults = [line for line in self.said.splitlines() if not line.startswith(b"hint: ")]
         self.replies, at = [], 0
@@ -126,7 +131,8 @@ class Played:
         self.is_cut = at < len(self.output)
 
     def is_as(self, other):
-        return (self.status, self.output, self.faults, self.tables) == (other.status, other.output, other.faults, other.tables)
+        mine, others = ((it.status, it.output, it.faults, it.tables, it.made) for it in (self, other))
+        return mine == others
 
 
 class Over:
@@ -134,12 +140,14 @@ class Over:
 
     def __init__(self, desk, store):
         self.desk, self.store = desk, store
+        os.makedirs(desk.path(f"{store}-made"))
         if os.path.exists(desk.path(desk.store)):
             shutil.copy(desk.path(desk.store), desk.path(store))
 
     def run(self, *command, moment=5000, text=b"", **more):
         words = self.desk.words(*command, moment=moment)
         words[words.index(self.desk.store)] = self.store
+        words = [f"{self.store}-made" if word == OUT else word for word in words]
         return subprocess.run(words, cwd=self.desk.folder, input=text, capture_output=True, timeout=PATIENCE, check=False, env={**os.environ, **more})
 
     def tables(self):
@@ -153,7 +161,13 @@ class Over:
         self.run("send", "--timeout", "5")
         return [re.sub(rb"(?m)^( *\d+ [A-Z] ) ?\d+ ", rb"\1", self.run("list", box).stdout) for box in ("in", "out")]
 
+    def made(self):
+        """The files that were made, by their names."""
+        folder = pathlib.Path(self.desk.path(f"{self.store}-made"))
+        return {it.name: it.read_bytes() for it in folder.iterdir()}
+
     def end(self):
+        shutil.rmtree(self.desk.path(f"{self.store}-made"))
         for name in os.listdir(self.desk.folder):
             if name.startswith(self.store):
                 os.remove(self.desk.path(name))
@@ -192,7 +206,7 @@ class Rows:
             ran = over.run(*row.command, moment=row.moment, text=row.text if text is None else text, **refused)
             with open(told, encoding="ascii") as file:
                 count = int(file.read())
-            return Played(ran, count, over.tables(), over.later() if row.command[0] == "send" else None)
+            return Played(ran, count, over.tables(), over.later() if row.command[0] == "send" else None, over.made())
         finally:
             over.end()
 
@@ -252,6 +266,8 @@ class Judge:
         """Nothing is done, or all."""
         if not WANT.search(played.said):
             return "wrong", "another fault than want of memory"
+        if played.made and played.made != self.own.made:
+            return "wrong", "a part of the files is made"
         wrong = "another state" if played.tables not in (self.before, self.opened, self.own.tables) else None
         return "refused for want of memory", wrong
 
