@@ -117,24 +117,26 @@ class Evidence:
             else:
                 self.count("received without one")
 
-    def judge_refused(self, store):
+    def judge_refused(self, store, tables):
         """What has to be refused: nothing is made, and nothing changes."""
+        number, = tables.execute("SELECT CAST(min(number) AS TEXT) FROM outbox").fetchone()
         place = pathlib.Path(tempfile.mkdtemp(dir=self.folder))
         for what, words, line in (("no number", ("999999", "--out", str(place)), b"refused: NoSuchNumber\n"),
                                   ("none received", ("--received", "999999", "--out", str(place)), b"refused: NoSuchNumber\n"),
-                                  ("no folder", ("1", "--out", str(place / "none")), b"refused: CannotWrite\n"),
-                                  ("a file for a folder", ("1", "--out", str(store)), b"refused: CannotWrite\n")):
+                                  ("no folder", (number, "--out", str(place / "none")), b"refused: CannotWrite\n"),
+                                  ("a file for a folder", (number, "--out", str(store)), b"refused: CannotWrite\n")):
             ran = self.run(store, *words)
             need((ran.returncode, ran.stdout, ran.stderr) == (1, b"", line), f"{what}: {ran}")
             need(not list(place.iterdir()), f"{what}: something was made")
             self.count("refused")
-        (place / "sent-1.txt").symlink_to(place / "nowhere")
-        ran = self.run(store, "1", "--out", str(place))
-        need(ran.returncode == 1 and [it.name for it in place.iterdir()] == ["sent-1.txt"], f"a link to nothing: {ran}")
+        (place / f"sent-{number}.txt").symlink_to(place / "nowhere")
+        ran = self.run(store, number, "--out", str(place))
+        need(ran.returncode == 1 and [it.name for it in place.iterdir()] == [f"sent-{number}.txt"], f"a link to nothing: {ran}")
+        received, = tables.execute("SELECT CAST(min(number) AS TEXT) FROM inbox2").fetchone()
         ran = subprocess.run(["sh", "-c", 'ulimit -f 0; trap "" XFSZ; exec "$@"', "sh", self.stores.program, "--agreements",
-                              str(verify.HERE / "migration" / "agreements.toml"), "--store", str(store), "evidence", "2", "--out", str(place)],
+                              str(verify.HERE / "migration" / "agreements.toml"), "--store", str(store), "evidence", "--received", received, "--out", str(place)],
                              capture_output=True, check=False, timeout=60)
-        need(ran.returncode != 0 and [it.name for it in place.iterdir()] == ["sent-1.txt"], f"files of no length: {ran}")
+        need(ran.returncode != 0 and [it.name for it in place.iterdir()] == [f"sent-{number}.txt"], f"files of no length: {ran}")
         self.count("refused")
         self.count("refused")
 
@@ -149,7 +151,7 @@ def main():
         for which in range(len(evidence.stores.texts)):
             store = evidence.stores.store(which)
             tables = sqlite3.connect(f"file:{store}?mode=ro&immutable=1", uri=True)
-            for judge in (lambda: evidence.judge_sent(store, tables), lambda: evidence.judge_received(store, tables), lambda: evidence.judge_refused(store)):
+            for judge in (lambda: evidence.judge_sent(store, tables), lambda: evidence.judge_received(store, tables), lambda: evidence.judge_refused(store, tables)):
                 try:
                     judge()
                 except Differs as differs:
