@@ -66,7 +66,7 @@ class Evidence:
         checks = [base64.b64encode(hashlib.new(name, content).digest()).decode() for _, name in DIGESTS]
         for (name, _), check in zip(DIGESTS, checks):
             need(f"\nMIC by {name}: {check}\n" in page, f"{stem}: {name}")
-        need(f"\nfound: {found or 'nothing is wrong with what is kept'}\n" in page, f"{stem}: found")
+        need(f"\nfound: {found or 'nothing that is kept contradicts itself'}\n" in page, f"{stem}: found")
         commands = [line for line in page.splitlines() if line.startswith("    ")]
         for command, check in zip(commands, checks):
             ran = subprocess.run(command, shell=True, cwd=place, capture_output=True, check=True)
@@ -108,7 +108,7 @@ class Evidence:
             page = self.judge_page(place, stem, files, content, found.get(f"received {number}"))
             need(f"\nidentifier: {identifier.decode()}\n" in page, f"{stem}: identifier")
             need(f"\nreceived: {email.utils.formatdate(moment, usegmt=True)}\n" in page, f"{stem}: received")
-            need(("\nsays: processed\n" in page) == (outcome == verify.PROCESSED), f"{stem}: outcome")
+            need(("\noutcome: processed\n" in page) == (outcome == verify.PROCESSED), f"{stem}: outcome")
             if mdn == SENT:
                 receipt = files[".receipt"]
                 need(b"Original-Message-ID: " + identifier in receipt, f"{stem}: of another")

@@ -104,6 +104,7 @@ impl<R: Records> Bounded<R> {
         ensures fault { IfErr result (λ f. (f ≡ Full) ⊎ (may_come f ≡ true)) }
         ensures taken { IfOk result (λ _. room_behind self.old.room (length entry.now.posted.content) ≡ Some self.new.room) }
         ensures left { IfErr result (λ _. self.new.room ≡ self.old.room) }
+        ensures uncounted { IfSome (room_behind self.old.room (length entry.now.posted.content)) (λ _. self.new.refused ≡ self.old.refused) }
         ensures none { entry.now.number < end_of_numbers → room_behind self.old.room (length entry.now.posted.content) ≡ None
             → (result ≡ Err Disk) × ((self.new.records ≡ self.old.records) × (self.new.refused ≡ min (self.old.refused + 1) (2 ^ 64 - 1))) }
     {
@@ -126,6 +127,7 @@ impl<R: Records> Bounded<R> {
         ensures fault { IfErr result (λ f. (f ≡ Full) ⊎ (may_come f ≡ true)) }
         ensures taken { IfOk result (λ _. room_behind self.old.room (length entry.now.content) ≡ Some self.new.room) }
         ensures left { IfErr result (λ _. self.new.room ≡ self.old.room) }
+        ensures uncounted { IfSome (room_behind self.old.room (length entry.now.content)) (λ _. self.new.refused ≡ self.old.refused) }
         ensures none { entry.now.number < end_of_numbers → room_behind self.old.room (length entry.now.content) ≡ None
             → (result ≡ Err Disk) × ((self.new.records ≡ self.old.records) × (self.new.refused ≡ min (self.old.refused + 1) (2 ^ 64 - 1))) }
     {

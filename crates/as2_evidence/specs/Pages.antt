@@ -19,7 +19,7 @@ use Rattle.as2_names.specs.Names.{spelling}
 use Rattle.as2_views.specs.Layout.{named_line}
 use Rattle.as2_views.specs.Pieces.{size_text}
 use Rattle.as2_views.specs.Texts.{shown_words}
-use Rattle.as2_evidence.specs.Words.{detail_words, disposition_words, given_words, kept_words, mdn_words}
+use Rattle.as2_evidence.specs.Words.{detail_words, disposition_words, given_words, kept_words, mdn_words, shown_text}
 
 -- ---- both
 
@@ -37,7 +37,7 @@ check_lines content = check_line Md5 content ++ check_line Sha1 content ++ check
 
 -- what is found of it
 abbrev pub found_line : Option Fault → Text
-found_line None = named_line (codes "found") (codes "nothing is wrong with what is kept")
+found_line None = named_line (codes "found") (codes "nothing that is kept contradicts itself")
 found_line (Some fault) = named_line (codes "found") (fault_text fault)
 
 -- the command that makes the integrity check anew
@@ -45,7 +45,7 @@ unfoldable pub check_command : Text → Text → Text
 check_command digest stem = codes "    openssl dgst -" ++ (digest ++ (codes " -binary " ++ (stem ++ codes ".content | base64\n")))
 
 unfoldable pub checks_heading : Text
-checks_heading = codes "\nThe integrity checks of the content, made anew beside these files:\n"
+checks_heading = codes "\nTo make the checks again, in the folder of these files:\n"
 
 -- how the integrity checks are made anew without this station
 unfoldable pub check_commands : Text → Text
@@ -58,7 +58,7 @@ check_commands stem =
 -- how the fields of a receipt are read
 unfoldable pub fields_command : Text → Text
 fields_command stem =
-    codes "\nWhat the receipt says; its integrity check has to be the one by its digest:\n    grep -a -i -A 1 -E '^(Original-Message-ID|Disposition|Received-Content-MIC):' "
+    codes "\nIts fields; those of its second part count, and a MIC there has to be the one by its digest:\n    grep -a -i -A 2 -E '^(Original-Message-ID|Disposition|Received-Content-MIC):' "
     ++ (stem ++ codes ".receipt\n")
 
 -- ---- a document that is sent
@@ -67,19 +67,19 @@ fields_command stem =
 abbrev pub said_lines : Option Receipt → Text
 said_lines None = named_line (codes "says") (codes "it can't be read")
 said_lines (Some r) =
-    named_line (codes "document") r.original_id
-    ++ named_line (codes "says") (disposition_words r.disposition)
-    ++ named_line (codes "MIC") (given_words r.mic)
+    named_line (codes "document") (shown_text r.original_id)
+    ++ named_line (codes "says") (shown_text (disposition_words r.disposition))
+    ++ named_line (codes "MIC") (shown_text (given_words r.mic))
 
 unfoldable pub receipt_heading : Text
-receipt_heading = codes "\nThe receipt (RFC 8098):\n"
+receipt_heading = codes "\nThe receipt that settled it (RFC 8098); it isn't signed:\n"
 
 -- the receipt, and how it is read
 unfoldable pub receipt_lines : Text → Text → Option Evidence → Text
 receipt_lines stem came None = codes ""
 receipt_lines stem came (Some e) =
     receipt_heading
-    ++ (named_line (codes "came") came ++ named_line (codes "type") e.content_type)
+    ++ (named_line (codes "came") came ++ named_line (codes "type") (shown_text e.content_type))
     ++ (said_lines (kept_receipt e) ++ fields_command stem)
 
 unfoldable pub sent_title : Text
@@ -110,15 +110,15 @@ received_names e =
 -- .. what it is and how long, and the integrity checks of its content
 unfoldable pub received_content : InEntry → Text
 received_content e =
-    named_line (codes "type") e.posted.content_type
+    named_line (codes "type") (shown_text e.posted.content_type)
     ++ named_line (codes "content") (size_text (length e.posted.content))
     ++ check_lines e.posted.content
 
 -- what became of it, and how its receipt stands (RFC 4130, section 7.5; RFC 8098, section 3.2.6)
 unfoldable pub outcome_lines : InEntry → Text
 outcome_lines e =
-    named_line (codes "receipt") (mdn_words e.mdn)
-    ++ named_line (codes "says") (outcome_text e.posted.outcome)
+    named_line (codes "receipt") (mdn_words e.posted.how e.mdn)
+    ++ named_line (codes "outcome") (outcome_text e.posted.outcome)
     ++ named_line (codes "MIC") (kept_words e.posted.mic)
 
 unfoldable pub received_title : Text

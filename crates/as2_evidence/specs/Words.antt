@@ -1,8 +1,10 @@
 -- What the pages of evidence say in words.
-use Rattle.std.specs.Prelude.{codes, Option, Some, None, ◌++◌}
+use Rattle.std.specs.Prelude.{ℕ, ◌&&◌, codes, map, nat_le, Option, Some, None, ◌++◌, if◌then◌else◌}
 use Rattle.as2_exchange.specs.Agreement.{Text}
 use Rattle.as2_exchange.specs.declared.inbox.MdnState.{MdnState}
-use Rattle.as2_exchange.specs.declared.inbox.MdnState.TheVariants.{Unasked, Pending, Sent}
+use Rattle.as2_exchange.specs.declared.inbox.MdnState.TheVariants.{Sent}
+use Rattle.as2_exchange.specs.declared.inbox.ReceiptDelivery.{ReceiptDelivery}
+use Rattle.as2_exchange.specs.declared.inbox.ReceiptDelivery.TheVariants.{NoReceipt, Sync, Async}
 use Rattle.as2_mdn.specs.Dispositions.{given_modifier}
 use Rattle.as2_mdn.specs.Receipts.{Mic, Missing, Unreadable, Given}
 use Rattle.as2_mdn.specs.Reports.{mic_with_digest}
@@ -10,23 +12,31 @@ use Rattle.as2_mdn.specs.declared.detail.Detail.{Detail}
 use Rattle.as2_mdn.specs.declared.detail.Detail.TheVariants.{New, Sending, Awaiting, Retry, Processed, NoReceiptAsked, Warning, NoMic, UnknownMic, NotProcessed, ErrorModifier, MicDiffers, TriesUsed, Overdue}
 use Rattle.as2_mdn.specs.declared.report.ReportMic.{ReportMic}
 
+-- a byte, where it prints, or a question mark
+abbrev pub shown_byte : ℕ → ℕ
+shown_byte byte = if nat_le 32 byte && nat_le byte 126 then byte else 63
+
+-- a text of somebody else, each of its bytes so, so that it is one line
+abbrev pub shown_text : Text → Text
+shown_text text = map shown_byte text
+
 -- ---- documents that are sent
 
 -- what a detail says (RFC 4130, sections 7.4 and 7.5; RFC 8098, section 3.2.6)
 abbrev pub detail_words : Detail → Text
-detail_words New = codes "no try has begun since it was to be sent"
-detail_words Sending = codes "a try is open, or was cut off"
+detail_words New = codes "no try has begun since it was submitted or sent anew"
+detail_words Sending = codes "a try is open, or was cut off; the partner may have it"
 detail_words Awaiting = codes "delivered, as the partner's answer says; the receipt is to come"
-detail_words Retry = codes "the last try failed, and another is to come"
+detail_words Retry = codes "the last try failed, and another is to come; the partner may have it"
 detail_words Processed = codes "a receipt says \"processed\" without modifier, and carries the integrity check (MIC) of this content"
 detail_words NoReceiptAsked = codes "delivered, as the partner's answer says; no receipt is agreed"
-detail_words Warning = codes "a receipt says \"processed\" with a warning"
+detail_words Warning = codes "a receipt says \"processed\" with a modifier that is no error and no failure; it doesn't confirm this content"
 detail_words NoMic = codes "a receipt says \"processed\", and carries no integrity check (MIC)"
 detail_words UnknownMic = codes "a receipt says \"processed\", and its integrity check (MIC) can't be read, or is by a digest that isn't known"
-detail_words NotProcessed = codes "a receipt says something else than \"processed\""
+detail_words NotProcessed = codes "a receipt says other than \"processed\""
 detail_words ErrorModifier = codes "a receipt says \"processed\" with an error or a failure"
-detail_words MicDiffers = codes "a receipt says \"processed\", and carries the integrity check (MIC) of another content"
-detail_words TriesUsed = codes "no try was answered as it is agreed; the partner may have it"
+detail_words MicDiffers = codes "a receipt says \"processed\", and the integrity check (MIC) that it carries isn't this content's"
+detail_words TriesUsed = codes "no try since it was last to be sent was answered as it is agreed; the partner may have it"
 detail_words Overdue = codes "delivered, as the partner's answer says; no receipt came in time"
 
 -- what stands behind a type
@@ -46,11 +56,16 @@ given_words (Given field) = field.0 ++ codes ", " ++ field.1
 
 -- ---- documents that were received
 
+-- whether a receipt that is sent by a request of its own was taken
+abbrev pub taken_words : MdnState → Text
+taken_words Sent = codes "by a request of its own, which was taken"
+taken_words other = codes "by a request of its own, which wasn't taken since it was last to be sent"
+
 -- how the receipt stands
-abbrev pub mdn_words : MdnState → Text
-mdn_words Unasked = codes "none was asked for"
-mdn_words Pending = codes "to be sent"
-mdn_words Sent = codes "sent"
+abbrev pub mdn_words : ReceiptDelivery → MdnState → Text
+mdn_words NoReceipt mdn = codes "none was asked for"
+mdn_words Sync mdn = codes "in the answer to the post; whether that arrived isn't known"
+mdn_words (Async url) mdn = taken_words mdn
 
 -- the MIC that the receipt gives, where there is one
 abbrev pub kept_words : Option ReportMic → Text

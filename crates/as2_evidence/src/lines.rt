@@ -42,7 +42,7 @@ pub fn add_found(text: &mut Vec<u8>, fault: Option<Fault>) -> Result<(), AllocEr
     ensures { OnOk result (text.new.items ≡ text.old.items ++ found_line fault) }
 {
     match fault {
-        None => add_text_line(text, b"found", b"nothing is wrong with what is kept"),
+        None => add_text_line(text, b"found", b"nothing that is kept contradicts itself"),
         Some(fault) => add_text_line(text, b"found", fault.text().as_bytes()),
     }
 }
@@ -60,7 +60,7 @@ fn check_command(alloc: Global, digest: &str, stem: &str) -> Result<String, Allo
 fn checks_heading() -> &'static str
     ensures { result.now ≡ checks_heading }
 {
-    "\nThe integrity checks of the content, made anew beside these files:\n"
+    "\nTo make the checks again, in the folder of these files:\n"
 }
 
 /// Appends how the integrity checks are made anew.

@@ -8,7 +8,7 @@ ghost use Rattle.as2_exchange.specs.Recording.{report};
 
 use crate::files::{NewFile, files_in, in_pieces};
 use crate::lines::{add_check_commands, add_checks, add_found, stem};
-use crate::words::{kept_words, mdn_words};
+use crate::words::{kept_words, mdn_words, shown_text};
 use as2_agreement::Agreements;
 use as2_audit::{Mailbox, received_fault};
 use as2_exchange::{InEntry, MdnState, Posted};
@@ -37,10 +37,11 @@ fn add_names(text: &mut Vec<u8>, entry: &InEntry) -> Result<(), AllocError>
 
 /// Appends what the document is, how long, and the integrity checks of its content.
 #[tactic(auto, unfolding(crate::specs::Pages::received_content))]
-fn add_content(text: &mut Vec<u8>, entry: &InEntry) -> Result<(), AllocError>
+fn add_content(alloc: Global, text: &mut Vec<u8>, entry: &InEntry) -> Result<(), AllocError>
     ensures { OnOk result (text.new.items ≡ text.old.items ++ received_content entry.now) }
 {
-    add_text_line(text, b"type", entry.posted.content_type.as_slice())?;
+    let media = shown_text(alloc, entry.posted.content_type.as_slice())?;
+    add_text_line(text, b"type", &media)?;
     add_size_line(text, entry.posted.content.len())?;
     add_checks(text, &entry.posted.content)
 }
@@ -51,8 +52,12 @@ fn add_outcome(alloc: Global, text: &mut Vec<u8>, entry: &InEntry) -> Result<(),
     ensures { OnOk result (text.new.items ≡ text.old.items ++ outcome_lines entry.now) }
 {
     let mic = kept_words(alloc, entry.posted.mic)?;
-    add_text_line(text, b"receipt", mdn_words(entry.mdn).as_bytes())?;
-    add_text_line(text, b"says", entry.posted.outcome.text().as_bytes())?;
+    add_text_line(
+        text,
+        b"receipt",
+        mdn_words(&entry.posted.how, entry.mdn).as_bytes(),
+    )?;
+    add_text_line(text, b"outcome", entry.posted.outcome.text().as_bytes())?;
     add_text_line(text, b"MIC", &mic)
 }
 
@@ -72,7 +77,7 @@ fn received_page(alloc: Global, entry: &InEntry, came: &[u8]) -> Result<Vec<u8>,
     let mut text = Vec::from_slice(alloc, received_title().as_bytes())?;
     add_names(&mut text, entry)?;
     add_text_line(&mut text, b"received", came)?;
-    add_content(&mut text, entry)?;
+    add_content(alloc, &mut text, entry)?;
     add_outcome(alloc, &mut text, entry)?;
     add_found(&mut text, received_fault(&entry.posted))?;
     add_check_commands(alloc, &mut text, &stem)?;

@@ -7,7 +7,7 @@ ghost use Rattle.as2_evidence.specs.Pages.{fields_command, known_lines, receipt_
 
 use crate::files::{NewFile, files_in};
 use crate::lines::{add_check_commands, add_checks, add_found, stem};
-use crate::words::{detail_words, disposition_words, given_words};
+use crate::words::{detail_words, disposition_words, given_words, shown_text};
 use as2_audit::{Mailbox, sent_fault};
 use as2_exchange::{Evidence, OutEntry};
 use as2_mdn::{Receipt, read_report};
@@ -23,7 +23,7 @@ fn fields_command(alloc: Global, stem: &str) -> Result<String, AllocError>
     ensures { IfOk result (λ text. string_bytes text ≡ fields_command stem.now) }
 {
     format!(in alloc;
-        "\nWhat the receipt says; its integrity check has to be the one by its digest:\n    grep -a -i -A 1 -E '^(Original-Message-ID|Disposition|Received-Content-MIC):' {stem}.receipt\n"
+        "\nIts fields; those of its second part count, and a MIC there has to be the one by its digest:\n    grep -a -i -A 2 -E '^(Original-Message-ID|Disposition|Received-Content-MIC):' {stem}.receipt\n"
     )
 }
 
@@ -31,9 +31,12 @@ fn fields_command(alloc: Global, stem: &str) -> Result<String, AllocError>
 fn add_receipt(alloc: Global, text: &mut Vec<u8>, receipt: &Receipt<'_>) -> Result<(), AllocError>
     ensures { OnOk result (text.new.items ≡ text.old.items ++ said_lines (Some receipt.now)) }
 {
+    let document = shown_text(alloc, receipt.original_id)?;
     let disposition = disposition_words(alloc, &receipt.disposition)?;
+    let disposition = shown_text(alloc, &disposition)?;
     let mic = given_words(alloc, &receipt.mic)?;
-    add_text_line(text, b"document", receipt.original_id)?;
+    let mic = shown_text(alloc, &mic)?;
+    add_text_line(text, b"document", &document)?;
     add_text_line(text, b"says", &disposition)?;
     add_text_line(text, b"MIC", &mic)
 }
@@ -67,7 +70,7 @@ fn add_said(alloc: Global, text: &mut Vec<u8>, evidence: &Evidence) -> Result<()
 fn receipt_heading() -> &'static str
     ensures { result.now ≡ receipt_heading }
 {
-    "\nThe receipt (RFC 8098):\n"
+    "\nThe receipt that settled it (RFC 8098); it isn't signed:\n"
 }
 
 /// Appends the receipt, where one settled the document, and how it is read.
@@ -86,7 +89,8 @@ fn add_evidence(
     };
     text.extend_from_slice(receipt_heading().as_bytes())?;
     add_text_line(text, b"came", came)?;
-    add_text_line(text, b"type", evidence.content_type.as_slice())?;
+    let media = shown_text(alloc, evidence.content_type.as_slice())?;
+    add_text_line(text, b"type", &media)?;
     add_said(alloc, text, evidence)?;
     text.extend_from_slice(fields_command(alloc, stem)?.as_bytes())?;
     Ok(())

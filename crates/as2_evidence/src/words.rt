@@ -1,9 +1,9 @@
 //! What the pages say in words.
 ghost use Rattle.std.specs.Prelude.{◌≡◌, ◌++◌, IfOk, OnOk, option_map};
-ghost use Rattle.as2_evidence.specs.Words.{detail_words, disposition_words, given_words, kept_words, mdn_words, modifier_words};
+ghost use Rattle.as2_evidence.specs.Words.{detail_words, disposition_words, given_words, kept_words, mdn_words, modifier_words, shown_byte, shown_text, taken_words};
 ghost use Rattle.as2_mdn.specs.Receipts.{mic_of};
 
-use as2_exchange::MdnState;
+use as2_exchange::{MdnState, ReceiptDelivery};
 use as2_mdn::{Detail, Disposition, MicPart, ReportMic};
 use std::alloc::{AllocError, Global};
 
@@ -12,38 +12,73 @@ pub fn detail_words(detail: Detail) -> &'static str
     ensures { result.now ≡ detail_words detail }
 {
     match detail {
-        Detail::New => "no try has begun since it was to be sent",
-        Detail::Sending => "a try is open, or was cut off",
+        Detail::New => "no try has begun since it was submitted or sent anew",
+        Detail::Sending => "a try is open, or was cut off; the partner may have it",
         Detail::Awaiting => "delivered, as the partner's answer says; the receipt is to come",
-        Detail::Retry => "the last try failed, and another is to come",
+        Detail::Retry => "the last try failed, and another is to come; the partner may have it",
         Detail::Processed => {
             "a receipt says \"processed\" without modifier, and carries the integrity check (MIC) of this content"
         }
         Detail::NoReceiptAsked => "delivered, as the partner's answer says; no receipt is agreed",
-        Detail::Warning => "a receipt says \"processed\" with a warning",
+        Detail::Warning =>
+            "a receipt says \"processed\" with a modifier that is no error and no failure; it doesn't confirm this content",
         Detail::NoMic => "a receipt says \"processed\", and carries no integrity check (MIC)",
         Detail::UnknownMic => {
             "a receipt says \"processed\", and its integrity check (MIC) can't be read, or is by a digest that isn't known"
         }
-        Detail::NotProcessed => "a receipt says something else than \"processed\"",
+        Detail::NotProcessed => "a receipt says other than \"processed\"",
         Detail::ErrorModifier => "a receipt says \"processed\" with an error or a failure",
         Detail::MicDiffers => {
-            "a receipt says \"processed\", and carries the integrity check (MIC) of another content"
+            "a receipt says \"processed\", and the integrity check (MIC) that it carries isn't this content's"
         }
-        Detail::TriesUsed => "no try was answered as it is agreed; the partner may have it",
+        Detail::TriesUsed =>
+            "no try since it was last to be sent was answered as it is agreed; the partner may have it",
         Detail::Overdue => "delivered, as the partner's answer says; no receipt came in time",
     }
 }
 
-/// How the receipt of a received document stands.
-pub fn mdn_words(mdn: MdnState) -> &'static str
-    ensures { result.now ≡ mdn_words mdn }
+/// Whether a receipt that is sent by a request of its own was taken.
+fn taken_words(mdn: MdnState) -> &'static str
+    ensures { result.now ≡ taken_words mdn }
 {
     match mdn {
-        MdnState::Unasked => "none was asked for",
-        MdnState::Pending => "to be sent",
-        MdnState::Sent => "sent",
+        MdnState::Sent => "by a request of its own, which was taken",
+        MdnState::Unasked | MdnState::Pending => {
+            "by a request of its own, which wasn't taken since it was last to be sent"
+        }
     }
+}
+
+/// How the receipt of a received document stands.
+pub fn mdn_words(how: &ReceiptDelivery, mdn: MdnState) -> &'static str
+    ensures { result.now ≡ mdn_words how.now mdn }
+{
+    match how {
+        ReceiptDelivery::NoReceipt => "none was asked for",
+        ReceiptDelivery::Sync => "in the answer to the post; whether that arrived isn't known",
+        ReceiptDelivery::Async(_) => taken_words(mdn),
+    }
+}
+
+/// A byte, where it prints, or a question mark.
+fn shown_byte(byte: u8) -> u8
+    ensures { result ≡ shown_byte byte }
+{
+    if 32 <= byte && byte <= 126 {
+        return byte;
+    }
+    b'?'
+}
+
+/// A text of somebody else, each byte that doesn't print as a question mark, so that it is one line.
+pub fn shown_text(alloc: Global, text: &[u8]) -> Result<Vec<u8>, AllocError>
+    ensures { IfOk result (λ shown. shown.items ≡ shown_text text.now) }
+{
+    let mut shown = Vec::new(alloc);
+    for byte in text {
+        shown.push(shown_byte(*byte))?;
+    }
+    Ok(shown)
 }
 
 /// Appends a disposition's modifier, where there is one.
