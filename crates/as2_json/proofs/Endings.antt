@@ -1,15 +1,20 @@
 -- The lines of objects, and with one behind them.
-use Rattle.std.proofs.Common.{◌≡◌, ◌∙◌, List, [], ◌∷◌, ◌++◌, map, sym, ap, append_assoc, append-nil}
+use Rattle.std.proofs.Common.{◌≡◌, ◌∙◌, ℕ, List, [], ◌∷◌, ◌++◌, map, sym, ap, append_assoc, append-nil}
 use Rattle.std.proofs.lemmas.List.Folds.{flat_map-map}
 use Rattle.std.specs.List.{flat_map}
 use Rattle.serde_json.specs.Data.{Data}
 use Rattle.as2_records.specs.declared.summaries.InRow.{InRow}
+use Rattle.as2_records.specs.declared.summaries.OutRow.{OutRow}
 use Rattle.as2_audit.specs.declared.findings.Finding.{Finding}
 use Rattle.as2_json.specs.Lines.{line, lines}
+use Rattle.as2_json.specs.Listings.{marked_object}
 use Rattle.as2_json.specs.Objects.{finding_object, in_object}
 
 pub in_lines : (rs : List InRow) → flat_map (λ r. line (in_object r)) rs ≡ lines (map in_object rs)
 in_lines rs = sym (flat_map-map line in_object rs)
+
+pub marked_lines : (settled : List ℕ) (rs : List OutRow) → flat_map (λ r. line (marked_object settled r)) rs ≡ lines (map (marked_object settled) rs)
+marked_lines settled rs = sym (flat_map-map line (marked_object settled) rs)
 
 pub ended : (fs : List Finding) (d : Data) → flat_map (λ f. line (finding_object f)) fs ++ line d ≡ lines (map finding_object fs ++ d ∷ [])
 ended [] d = sym (append-nil (line d))

@@ -37,7 +37,8 @@ kept_object : (b : Bool) (settled : List ℕ) (d : OutEntry) (rest : List OutEnt
 kept_object true settled d rest mark same = ap₂ (λ marked more. out_object marked (out_summary d) ∷ more) mark same
 kept_object false settled d rest mark same = same
 
-same_objects : (settled : List ℕ) (p : OutEntry → Bool) (ds : List OutEntry) → AllByRecursion (IsMarked settled) ds → of_rows settled (filter p ds) ≡ map entry_object (filter p ds)
+-- of documents of which something holds
+pub same_objects : (settled : List ℕ) (p : OutEntry → Bool) (ds : List OutEntry) → AllByRecursion (IsMarked settled) ds → of_rows settled (filter p ds) ≡ map entry_object (filter p ds)
 same_objects settled p [] m = refl
 same_objects settled p (d ∷ ds) m = kept_object (p d) settled d (filter p ds) m.0 (same_objects settled p ds m.1)
 

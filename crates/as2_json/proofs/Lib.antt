@@ -1,4 +1,5 @@
 mod Clean
+mod Continued
 mod Encoded
 mod Endings
 mod Named

@@ -1,8 +1,9 @@
 -- The listings of a state for programs: which objects there are, in order of number. Each stands in a line of its own.
-use Rattle.std.specs.Prelude.{ℕ, ◌&&◌, ◌++◌, List, [], ◌∷◌, length, Option, map, option_map}
+use Rattle.std.specs.Prelude.{◌≡◌, ℕ, Bool, ◌&&◌, ◌++◌, List, [], ◌∷◌, length, Option, map, option_map}
 use Rattle.std.specs.List.{filter}
 use Rattle.serde_json.specs.Data.{Data}
 use Rattle.as2_mdn.specs.declared.detail.State.{State as StateOf}
+use Rattle.as2_exchange.specs.Agreement.{Text}
 use Rattle.as2_exchange.specs.Progress.{is_in, is_under_way}
 use Rattle.as2_exchange.specs.State.{State, document, is_settled}
 use Rattle.as2_exchange.specs.Tries.{is_due}
@@ -12,6 +13,7 @@ use Rattle.as2_records.specs.Summaries.{in_summary, out_summary}
 use Rattle.as2_records.specs.declared.summaries.OutRow.{OutRow}
 use Rattle.as2_audit.specs.Audits.{findings}
 use Rattle.as2_views.specs.Lists.{is_one_of}
+use Rattle.as2_json.specs.Lines.{lines}
 use Rattle.as2_json.specs.Objects.{counts_object, document_object, finding_object, in_object, out_object, verified_object}
 
 -- of a document that is sent, as it is listed
@@ -26,9 +28,13 @@ list_out_objects s wanted = map entry_object (filter (is_in wanted) s.outbox)
 abbrev pub list_in_objects : State → List Data
 list_in_objects s = map (λ e. in_object (in_summary e)) s.inbox
 
+-- the documents under way whose moment has come
+abbrev pub outstanding_documents : State → ℕ → List OutEntry
+outstanding_documents s m = filter (λ d. is_under_way d.detail && is_due m d.due) s.outbox
+
 -- `outstanding`: the counts, and each document under way whose moment has come
 abbrev pub outstanding_objects : State → ℕ → List Data
-outstanding_objects s m = counts_object (counts_of s) ∷ map entry_object (filter (λ d. is_under_way d.detail && is_due m d.due) s.outbox)
+outstanding_objects s m = counts_object (counts_of s) ∷ map entry_object (outstanding_documents s m)
 
 -- `show` of the document of this number, if there is one
 abbrev pub shown_object : State → ℕ → Option Data
@@ -43,3 +49,11 @@ verification_objects s = map finding_object (findings s) ++ verified_object (len
 -- of a row, marked where its number is one of those that a receipt has settled
 abbrev pub marked_object : List ℕ → OutRow → Data
 marked_object settled r = out_object (is_one_of settled r.number) r
+
+-- where the rows are those of the documents of which something holds, the lines of their objects stand behind the text
+abbrev pub Continues : State → List OutRow → Text → Text → Type 0
+Continues s rows text made = (p : OutEntry → Bool) → rows ≡ map out_summary (filter p s.outbox) → made ≡ text ++ lines (map entry_object (filter p s.outbox))
+
+-- the lines of what is outstanding stand behind the text
+abbrev pub HasOutstanding : State → ℕ → Text → Text → Type 0
+HasOutstanding s m text made = made ≡ text ++ lines (map entry_object (outstanding_documents s m))

@@ -22,7 +22,7 @@ pub fn add_in_lines(text: &mut Vec<u8>, rows: &[InRow]) -> Result<(), Memory>
 }
 
 /// Whether the number is one of these, where they rise.
-fn is_one_of(numbers: &[u64], number: u64) -> bool
+pub fn is_one_of(numbers: &[u64], number: u64) -> bool
     ensures { Rise numbers.now → result ≡ is_one_of numbers.now number }
 {
     numbers.binary_search(&number).is_ok()
