@@ -9,7 +9,7 @@ ghost use Rattle.as2_bounded.specs.Rooms.{room_behind, room_of};
 
 use as2_exchange::{END_OF_NUMBERS, Evidence, InEntry, OutEntry, StoreFault};
 use as2_mdn::{Detail, State};
-use as2_records::{Counts, InRow, MdnProgress, NextNumbers, OutRow, Progress, Records};
+use as2_records::{Counts, Discrepancy, InRow, MdnProgress, NextNumbers, OutRow, Progress, Records};
 use as2_text::{AsName, Moment};
 use std::alloc::Global;
 
@@ -247,6 +247,10 @@ impl<R: Records> Records for Bounded<R> {
 
     fn counts(&mut self, alloc: Global) -> Result<Counts, StoreFault> {
         self.records.counts(alloc)
+    }
+
+    fn discrepancy(&mut self, alloc: Global) -> Result<Option<Discrepancy>, StoreFault> {
+        self.records.discrepancy(alloc)
     }
 
     ghost open_is_clean = { λ b. R.open_is_clean b.records };

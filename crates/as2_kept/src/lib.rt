@@ -7,7 +7,7 @@ ghost use Rattle.std.specs.Prelude.{◌≡◌};
 
 use as2_exchange::{Evidence, InEntry, OutEntry, StoreFault};
 use as2_mdn::{Detail, State};
-use as2_records::{Counts, InRow, MdnProgress, NextNumbers, OutRow, Progress, Records};
+use as2_records::{Counts, Discrepancy, InRow, MdnProgress, NextNumbers, OutRow, Progress, Records};
 use as2_store::Store;
 use as2_text::{AsName, Moment};
 pub use opening::{adopt, create, in_memory};
@@ -164,6 +164,10 @@ impl<S: Alter> Records for Kept<S> {
 
     fn counts(&mut self, alloc: Global) -> Result<Counts, StoreFault> {
         self.store.counts(alloc)
+    }
+
+    fn discrepancy(&mut self, alloc: Global) -> Result<Option<Discrepancy>, StoreFault> {
+        self.store.discrepancy(alloc)
     }
 
     ghost open_is_clean = { λ c opened. clean_if_open _ _ (λ dirty. S.Store.shut_if_dirty c.store dirty) opened };

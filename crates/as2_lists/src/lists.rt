@@ -8,7 +8,7 @@ use as2_exchange::{
     Attempt, END_OF_NUMBERS, Evidence, InEntry, MdnState, OutEntry, StoreFault, is_by_receipt,
 };
 use as2_mdn::{Detail, State};
-use as2_records::{Counts, InRow, MdnProgress, NextNumbers, OutRow, Progress, Records};
+use as2_records::{Counts, Discrepancy, InRow, MdnProgress, NextNumbers, OutRow, Progress, Records};
 use as2_text::{AsName, Moment};
 use std::alloc::Global;
 use std::marker::Model;
@@ -211,6 +211,11 @@ impl Records for Lists {
             in_error: outbox::in_state(&self.outbox, State::E),
             to_send: inbox::pending(&self.inbox),
         })
+    }
+
+    // Nothing is kept beside the entries but the counters, which are above all numbers.
+    fn discrepancy(&mut self, _alloc: Global) -> Result<Option<Discrepancy>, StoreFault> {
+        Ok(None)
     }
 
     ghost open_is_clean = { λ c opened. tt };

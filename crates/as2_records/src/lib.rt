@@ -8,12 +8,14 @@ ghost use Rattle.as2_exchange.specs.declared.outbox.OutEntry.{OutEntry};
 ghost use Rattle.as2_records.specs.Summaries.{in_entry, in_summary, out_entry, out_summary};
 
 mod counts;
+mod discrepancy;
 mod numbers;
 mod progress;
 mod records;
 mod summaries;
 
 pub use counts::Counts;
+pub use discrepancy::Discrepancy;
 pub use numbers::NextNumbers;
 pub use progress::{MdnProgress, Progress};
 pub use records::Records;

@@ -20,6 +20,7 @@ ghost use Rattle.as2_records.specs.Settling.{settled_in};
 ghost use Rattle.as2_records.specs.Standing.{Medium, Standing, may_come};
 
 use crate::counts::Counts;
+use crate::discrepancy::Discrepancy;
 use crate::numbers::NextNumbers;
 use crate::progress::{MdnProgress, Progress};
 use crate::summaries::{InRow, OutRow};
@@ -169,6 +170,12 @@ pub trait Records {
     /// How much is outstanding. Answers Memory, Disk or Refused.
     fn counts(&mut self, alloc: Global) -> Result<Counts, StoreFault>
         ensures counts { Reads (λ s counts. counts ≡ counts_of s) (shows self.old) (shows self.new) result }
+        ensures fault { IfErr result (λ f. may_come f ≡ true) };
+
+    /// The first discrepancy between the entries and what is kept beside them, the counters and what waits. Records that stand for a state
+    /// have none. Answers Memory, Disk or Refused.
+    fn discrepancy(&mut self, alloc: Global) -> Result<Option<Discrepancy>, StoreFault>
+        ensures none { Reads (λ s found. found ≡ None) (shows self.old) (shows self.new) result }
         ensures fault { IfErr result (λ f. may_come f ≡ true) };
 
     // So far the medium of open records has returned what was written.

@@ -47,7 +47,7 @@ use as2_exchange::{
     Attempt, END_OF_NUMBERS, Evidence, InEntry, MdnState, OutEntry, StoreFault, is_by_receipt,
 };
 use as2_mdn::{Detail, State};
-use as2_records::{Counts, InRow, MdnProgress, NextNumbers, OutRow, Progress};
+use as2_records::{Counts, Discrepancy, InRow, MdnProgress, NextNumbers, OutRow, Progress};
 use as2_rows::Wait;
 use as2_text::{AsName, Moment};
 use sqlite::{Alter, Connection};
