@@ -1,5 +1,5 @@
 -- The words ask for one thing.
-use Rattle.std.proofs.Common.{◌≡◌, ◌∙◌, ◌==◌, ◌<◌, ◌+◌, ◌*◌, slice_index, lit<, arith, if◌then◌else◌, [], ◌∷◌, ℕ, List, Option, Some, None, option_map, refl, sym, ap, ap₂, subst, codes}
+use Rattle.std.proofs.Common.{◌≡◌, ◌∙◌, ◌==◌, ◌<◌, ◌+◌, ◌*◌, slice_index, lit<, arith, if◌then◌else◌, [], ◌∷◌, ℕ, Bool, List, Option, Some, None, option_map, refl, sym, ap, ap₂, subst, codes}
 use Rattle.clap.specs.Walk.{Row, Text}
 use Rattle.clap.specs.Words.{first_of}
 use Rattle.as2_names.specs.Names.{Spells}
@@ -11,10 +11,12 @@ use Rattle.as2_views.specs.declared.filter.Filter.{Filter}
 use Rattle.as2_views.specs.declared.filter.Filter.TheVariants.{Outbox, Inbox}
 use Rattle.as2_audit.specs.declared.findings.Mailbox.{Mailbox}
 use Rattle.as2_commands.specs.CommandLine.{command_in, option_values}
-use Rattle.as2_commands.specs.Options.{AsksEvidence, AsksRun, AsksServe, AsksSubmit, Gives, Lists, is_idle, NameIs, NumberIs, SecondsAre, Tasks, Tell, TellQuestion, TellsOption, question_word, word_of}
+use Rattle.as2_commands.specs.Options.{AsksEvidence, AsksRun, AsksServe, AsksSubmit, Gives, IsFormat, Lists, is_idle, NameIs, NumberIs, SecondsAre, Tasks, Tell, TellQuestion, TellsOption, question_word, word_of}
 use Rattle.as2_commands.specs.Requests.{Serving, Submission, Wanted}
 use Rattle.as2_commands.specs.declared.tasks.Command.{Command}
 use Rattle.as2_commands.specs.declared.tasks.Command.TheVariants as command
+use Rattle.as2_commands.specs.declared.tasks.Format.{Format}
+use Rattle.as2_commands.specs.declared.tasks.Format.TheVariants as format
 use Rattle.as2_commands.specs.declared.tasks.Question.{Question}
 use Rattle.as2_commands.specs.declared.tasks.Question.TheVariants as question
 use Rattle.as2_commands.specs.declared.tasks.RunOptions.{RunOptions}
@@ -99,6 +101,13 @@ filter_one kind state Inbox (Outbox o) x y = let same : Some (codes "in") ≡ So
 filter_one kind state (Outbox o) Inbox x y = let same : Some (codes "in") ≡ Some (codes "out") = sym y ∙ x.0 in cc
 filter_one kind state (Outbox o) (Outbox p) x y = ap Outbox (letters_one o p (sym x.1 ∙ y.1))
 
+-- the format of a word
+format_one : (own : List Row) (a b : Format) → IsFormat own a → IsFormat own b → a ≡ b
+format_one own format.Text format.Text x y = refl
+format_one own format.Text format.Json x y = let same : Some (codes "text") ≡ Some (codes "json") = sym x ∙ y in cc
+format_one own format.Json format.Text x y = let same : Some (codes "json") ≡ Some (codes "text") = sym x ∙ y in cc
+format_one own format.Json format.Json x y = refl
+
 -- the words of the commands differ in their first and third letters
 mark : Text → ℕ
 mark word = slice_index word 0 * 1000 + slice_index word 2
@@ -111,53 +120,54 @@ unfolding mark
 question_one own (question.Submit s) (question.Submit t) is x y = ap question.Submit (submission_one own s t x y)
 question_one own (question.Submit s) question.Tick is x y = absurd (apart 115098 116099 (lit< tt) (ap mark is))
 question_one own (question.Submit s) (question.Resend t) is x y = absurd (apart 114115 115098 (lit< tt) (ap mark (sym is)))
-question_one own (question.Submit s) (question.List t j) is x y = absurd (apart 108115 115098 (lit< tt) (ap mark (sym is)))
-question_one own (question.Submit s) question.Outstanding is x y = absurd (apart 111116 115098 (lit< tt) (ap mark (sym is)))
-question_one own (question.Submit s) (question.Show t) is x y = absurd (apart 115098 115111 (lit< tt) (ap mark is))
+question_one own (question.Submit s) (question.List t j g) is x y = absurd (apart 108115 115098 (lit< tt) (ap mark (sym is)))
+question_one own (question.Submit s) (question.Outstanding g) is x y = absurd (apart 111116 115098 (lit< tt) (ap mark (sym is)))
+question_one own (question.Submit s) (question.Show t g) is x y = absurd (apart 115098 115111 (lit< tt) (ap mark is))
 question_one own (question.Submit s) (question.Fetch t) is x y = absurd (apart 102116 115098 (lit< tt) (ap mark (sym is)))
 question_one own question.Tick (question.Submit t) is x y = absurd (apart 115098 116099 (lit< tt) (ap mark (sym is)))
 question_one own question.Tick question.Tick is x y = refl
 question_one own question.Tick (question.Resend t) is x y = absurd (apart 114115 116099 (lit< tt) (ap mark (sym is)))
-question_one own question.Tick (question.List t j) is x y = absurd (apart 108115 116099 (lit< tt) (ap mark (sym is)))
-question_one own question.Tick question.Outstanding is x y = absurd (apart 111116 116099 (lit< tt) (ap mark (sym is)))
-question_one own question.Tick (question.Show t) is x y = absurd (apart 115111 116099 (lit< tt) (ap mark (sym is)))
+question_one own question.Tick (question.List t j g) is x y = absurd (apart 108115 116099 (lit< tt) (ap mark (sym is)))
+question_one own question.Tick (question.Outstanding g) is x y = absurd (apart 111116 116099 (lit< tt) (ap mark (sym is)))
+question_one own question.Tick (question.Show t g) is x y = absurd (apart 115111 116099 (lit< tt) (ap mark (sym is)))
 question_one own question.Tick (question.Fetch t) is x y = absurd (apart 102116 116099 (lit< tt) (ap mark (sym is)))
 question_one own (question.Resend s) (question.Submit t) is x y = absurd (apart 114115 115098 (lit< tt) (ap mark is))
 question_one own (question.Resend s) question.Tick is x y = absurd (apart 114115 116099 (lit< tt) (ap mark is))
 question_one own (question.Resend s) (question.Resend t) is x y = ap question.Resend (number_one _ s t x.number y.number)
-question_one own (question.Resend s) (question.List t j) is x y = absurd (apart 108115 114115 (lit< tt) (ap mark (sym is)))
-question_one own (question.Resend s) question.Outstanding is x y = absurd (apart 111116 114115 (lit< tt) (ap mark (sym is)))
-question_one own (question.Resend s) (question.Show t) is x y = absurd (apart 114115 115111 (lit< tt) (ap mark is))
+question_one own (question.Resend s) (question.List t j g) is x y = absurd (apart 108115 114115 (lit< tt) (ap mark (sym is)))
+question_one own (question.Resend s) (question.Outstanding g) is x y = absurd (apart 111116 114115 (lit< tt) (ap mark (sym is)))
+question_one own (question.Resend s) (question.Show t g) is x y = absurd (apart 114115 115111 (lit< tt) (ap mark is))
 question_one own (question.Resend s) (question.Fetch t) is x y = absurd (apart 102116 114115 (lit< tt) (ap mark (sym is)))
-question_one own (question.List s i) (question.Submit t) is x y = absurd (apart 108115 115098 (lit< tt) (ap mark is))
-question_one own (question.List s i) question.Tick is x y = absurd (apart 108115 116099 (lit< tt) (ap mark is))
-question_one own (question.List s i) (question.Resend t) is x y = absurd (apart 108115 114115 (lit< tt) (ap mark is))
-question_one own (question.List s i) (question.List t j) is x y =
+question_one own (question.List s i f) (question.Submit t) is x y = absurd (apart 108115 115098 (lit< tt) (ap mark is))
+question_one own (question.List s i f) question.Tick is x y = absurd (apart 108115 116099 (lit< tt) (ap mark is))
+question_one own (question.List s i f) (question.Resend t) is x y = absurd (apart 108115 114115 (lit< tt) (ap mark is))
+question_one own (question.List s i f) (question.List t j g) is x y =
     let same = filter_one _ _ s t x.0 y.0 in
-    ap₂ question.List same (x.1 ∙ ap (λ (f : Filter). is_idle f (first_of (codes "state") own)) same ∙ sym y.1)
-question_one own (question.List s i) question.Outstanding is x y = absurd (apart 108115 111116 (lit< tt) (ap mark is))
-question_one own (question.List s i) (question.Show t) is x y = absurd (apart 108115 115111 (lit< tt) (ap mark is))
-question_one own (question.List s i) (question.Fetch t) is x y = absurd (apart 102116 108115 (lit< tt) (ap mark (sym is)))
-question_one own question.Outstanding (question.Submit t) is x y = absurd (apart 111116 115098 (lit< tt) (ap mark is))
-question_one own question.Outstanding question.Tick is x y = absurd (apart 111116 116099 (lit< tt) (ap mark is))
-question_one own question.Outstanding (question.Resend t) is x y = absurd (apart 111116 114115 (lit< tt) (ap mark is))
-question_one own question.Outstanding (question.List t j) is x y = absurd (apart 108115 111116 (lit< tt) (ap mark (sym is)))
-question_one own question.Outstanding question.Outstanding is x y = refl
-question_one own question.Outstanding (question.Show t) is x y = absurd (apart 111116 115111 (lit< tt) (ap mark is))
-question_one own question.Outstanding (question.Fetch t) is x y = absurd (apart 102116 111116 (lit< tt) (ap mark (sym is)))
-question_one own (question.Show s) (question.Submit t) is x y = absurd (apart 115098 115111 (lit< tt) (ap mark (sym is)))
-question_one own (question.Show s) question.Tick is x y = absurd (apart 115111 116099 (lit< tt) (ap mark is))
-question_one own (question.Show s) (question.Resend t) is x y = absurd (apart 114115 115111 (lit< tt) (ap mark (sym is)))
-question_one own (question.Show s) (question.List t j) is x y = absurd (apart 108115 115111 (lit< tt) (ap mark (sym is)))
-question_one own (question.Show s) question.Outstanding is x y = absurd (apart 111116 115111 (lit< tt) (ap mark (sym is)))
-question_one own (question.Show s) (question.Show t) is x y = ap question.Show (number_one _ s t x.number y.number)
-question_one own (question.Show s) (question.Fetch t) is x y = absurd (apart 102116 115111 (lit< tt) (ap mark (sym is)))
+    ap₂ (λ (a : Filter) (b : Bool). question.List a b f) same (x.1 ∙ ap (λ (a : Filter). is_idle a (first_of (codes "state") own)) same ∙ sym y.1)
+    ∙ ap (question.List t j) (format_one own f g x.2 y.2)
+question_one own (question.List s i f) (question.Outstanding g) is x y = absurd (apart 108115 111116 (lit< tt) (ap mark is))
+question_one own (question.List s i f) (question.Show t g) is x y = absurd (apart 108115 115111 (lit< tt) (ap mark is))
+question_one own (question.List s i f) (question.Fetch t) is x y = absurd (apart 102116 108115 (lit< tt) (ap mark (sym is)))
+question_one own (question.Outstanding f) (question.Submit t) is x y = absurd (apart 111116 115098 (lit< tt) (ap mark is))
+question_one own (question.Outstanding f) question.Tick is x y = absurd (apart 111116 116099 (lit< tt) (ap mark is))
+question_one own (question.Outstanding f) (question.Resend t) is x y = absurd (apart 111116 114115 (lit< tt) (ap mark is))
+question_one own (question.Outstanding f) (question.List t j g) is x y = absurd (apart 108115 111116 (lit< tt) (ap mark (sym is)))
+question_one own (question.Outstanding f) (question.Outstanding g) is x y = ap question.Outstanding (format_one own f g x y)
+question_one own (question.Outstanding f) (question.Show t g) is x y = absurd (apart 111116 115111 (lit< tt) (ap mark is))
+question_one own (question.Outstanding f) (question.Fetch t) is x y = absurd (apart 102116 111116 (lit< tt) (ap mark (sym is)))
+question_one own (question.Show s f) (question.Submit t) is x y = absurd (apart 115098 115111 (lit< tt) (ap mark (sym is)))
+question_one own (question.Show s f) question.Tick is x y = absurd (apart 115111 116099 (lit< tt) (ap mark is))
+question_one own (question.Show s f) (question.Resend t) is x y = absurd (apart 114115 115111 (lit< tt) (ap mark (sym is)))
+question_one own (question.Show s f) (question.List t j g) is x y = absurd (apart 108115 115111 (lit< tt) (ap mark (sym is)))
+question_one own (question.Show s f) (question.Outstanding g) is x y = absurd (apart 111116 115111 (lit< tt) (ap mark (sym is)))
+question_one own (question.Show s f) (question.Show t g) is x y = ap₂ question.Show (number_one _ s t x.0.number y.0.number) (format_one own f g x.1 y.1)
+question_one own (question.Show s f) (question.Fetch t) is x y = absurd (apart 102116 115111 (lit< tt) (ap mark (sym is)))
 question_one own (question.Fetch s) (question.Submit t) is x y = absurd (apart 102116 115098 (lit< tt) (ap mark is))
 question_one own (question.Fetch s) question.Tick is x y = absurd (apart 102116 116099 (lit< tt) (ap mark is))
 question_one own (question.Fetch s) (question.Resend t) is x y = absurd (apart 102116 114115 (lit< tt) (ap mark is))
-question_one own (question.Fetch s) (question.List t j) is x y = absurd (apart 102116 108115 (lit< tt) (ap mark is))
-question_one own (question.Fetch s) question.Outstanding is x y = absurd (apart 102116 111116 (lit< tt) (ap mark is))
-question_one own (question.Fetch s) (question.Show t) is x y = absurd (apart 102116 115111 (lit< tt) (ap mark is))
+question_one own (question.Fetch s) (question.List t j g) is x y = absurd (apart 102116 108115 (lit< tt) (ap mark is))
+question_one own (question.Fetch s) (question.Outstanding g) is x y = absurd (apart 102116 111116 (lit< tt) (ap mark is))
+question_one own (question.Fetch s) (question.Show t g) is x y = absurd (apart 102116 115111 (lit< tt) (ap mark is))
 question_one own (question.Fetch s) (question.Fetch t) is x y = ap question.Fetch (number_one _ s t x.number y.number)
 
 no_post : (q : Question Submission) → codes "post" ≡ question_word q → ⊥
@@ -165,9 +175,9 @@ unfolding mark
 no_post (question.Submit s) is = absurd (apart 112115 115098 (lit< tt) (ap mark is))
 no_post question.Tick is = absurd (apart 112115 116099 (lit< tt) (ap mark is))
 no_post (question.Resend s) is = absurd (apart 112115 114115 (lit< tt) (ap mark is))
-no_post (question.List s i) is = absurd (apart 108115 112115 (lit< tt) (ap mark (sym is)))
-no_post question.Outstanding is = absurd (apart 111116 112115 (lit< tt) (ap mark (sym is)))
-no_post (question.Show s) is = absurd (apart 112115 115111 (lit< tt) (ap mark is))
+no_post (question.List s i f) is = absurd (apart 108115 112115 (lit< tt) (ap mark (sym is)))
+no_post (question.Outstanding f) is = absurd (apart 111116 112115 (lit< tt) (ap mark (sym is)))
+no_post (question.Show s f) is = absurd (apart 112115 115111 (lit< tt) (ap mark is))
 no_post (question.Fetch s) is = absurd (apart 102116 112115 (lit< tt) (ap mark (sym is)))
 
 no_send : (q : Question Submission) → codes "send" ≡ question_word q → ⊥
@@ -175,9 +185,9 @@ unfolding mark
 no_send (question.Submit s) is = absurd (apart 115098 115110 (lit< tt) (ap mark (sym is)))
 no_send question.Tick is = absurd (apart 115110 116099 (lit< tt) (ap mark is))
 no_send (question.Resend s) is = absurd (apart 114115 115110 (lit< tt) (ap mark (sym is)))
-no_send (question.List s i) is = absurd (apart 108115 115110 (lit< tt) (ap mark (sym is)))
-no_send question.Outstanding is = absurd (apart 111116 115110 (lit< tt) (ap mark (sym is)))
-no_send (question.Show s) is = absurd (apart 115110 115111 (lit< tt) (ap mark is))
+no_send (question.List s i f) is = absurd (apart 108115 115110 (lit< tt) (ap mark (sym is)))
+no_send (question.Outstanding f) is = absurd (apart 111116 115110 (lit< tt) (ap mark (sym is)))
+no_send (question.Show s f) is = absurd (apart 115110 115111 (lit< tt) (ap mark is))
 no_send (question.Fetch s) is = absurd (apart 102116 115110 (lit< tt) (ap mark (sym is)))
 
 no_serve : (q : Question Submission) → codes "serve" ≡ question_word q → ⊥
@@ -185,9 +195,9 @@ unfolding mark
 no_serve (question.Submit s) is = absurd (apart 115098 115114 (lit< tt) (ap mark (sym is)))
 no_serve question.Tick is = absurd (apart 115114 116099 (lit< tt) (ap mark is))
 no_serve (question.Resend s) is = absurd (apart 114115 115114 (lit< tt) (ap mark (sym is)))
-no_serve (question.List s i) is = absurd (apart 108115 115114 (lit< tt) (ap mark (sym is)))
-no_serve question.Outstanding is = absurd (apart 111116 115114 (lit< tt) (ap mark (sym is)))
-no_serve (question.Show s) is = absurd (apart 115111 115114 (lit< tt) (ap mark (sym is)))
+no_serve (question.List s i f) is = absurd (apart 108115 115114 (lit< tt) (ap mark (sym is)))
+no_serve (question.Outstanding f) is = absurd (apart 111116 115114 (lit< tt) (ap mark (sym is)))
+no_serve (question.Show s f) is = absurd (apart 115111 115114 (lit< tt) (ap mark (sym is)))
 no_serve (question.Fetch s) is = absurd (apart 102116 115114 (lit< tt) (ap mark (sym is)))
 
 command_one : (values own : List Row) (a b : Command Submission) → word_of a ≡ word_of b → Tell values own a → Tell values own b → a ≡ b
@@ -221,9 +231,9 @@ unfolding mark
 no_check_question (question.Submit s) is = absurd (apart 99101 115098 (lit< tt) (ap mark is))
 no_check_question question.Tick is = absurd (apart 99101 116099 (lit< tt) (ap mark is))
 no_check_question (question.Resend s) is = absurd (apart 99101 114115 (lit< tt) (ap mark is))
-no_check_question (question.List s i) is = absurd (apart 99101 108115 (lit< tt) (ap mark is))
-no_check_question question.Outstanding is = absurd (apart 99101 111116 (lit< tt) (ap mark is))
-no_check_question (question.Show s) is = absurd (apart 99101 115111 (lit< tt) (ap mark is))
+no_check_question (question.List s i f) is = absurd (apart 99101 108115 (lit< tt) (ap mark is))
+no_check_question (question.Outstanding f) is = absurd (apart 99101 111116 (lit< tt) (ap mark is))
+no_check_question (question.Show s f) is = absurd (apart 99101 115111 (lit< tt) (ap mark is))
 no_check_question (question.Fetch s) is = absurd (apart 99101 102116 (lit< tt) (ap mark is))
 
 no_check : (command : Command Submission) → codes "check" ≡ word_of command → ⊥
@@ -239,9 +249,9 @@ unfolding mark
 no_migrate_question (question.Submit s) is = absurd (apart 109103 115098 (lit< tt) (ap mark is))
 no_migrate_question question.Tick is = absurd (apart 109103 116099 (lit< tt) (ap mark is))
 no_migrate_question (question.Resend s) is = absurd (apart 109103 114115 (lit< tt) (ap mark is))
-no_migrate_question (question.List s i) is = absurd (apart 108115 109103 (lit< tt) (ap mark (sym is)))
-no_migrate_question question.Outstanding is = absurd (apart 109103 111116 (lit< tt) (ap mark is))
-no_migrate_question (question.Show s) is = absurd (apart 109103 115111 (lit< tt) (ap mark is))
+no_migrate_question (question.List s i f) is = absurd (apart 108115 109103 (lit< tt) (ap mark (sym is)))
+no_migrate_question (question.Outstanding f) is = absurd (apart 109103 111116 (lit< tt) (ap mark is))
+no_migrate_question (question.Show s f) is = absurd (apart 109103 115111 (lit< tt) (ap mark is))
 no_migrate_question (question.Fetch s) is = absurd (apart 102116 109103 (lit< tt) (ap mark (sym is)))
 
 no_migrate : (command : Command Submission) → codes "migrate" ≡ word_of command → ⊥
@@ -257,9 +267,9 @@ unfolding mark
 no_verify_question (question.Submit s) is = absurd (apart 115098 118114 (lit< tt) (ap mark (sym is)))
 no_verify_question question.Tick is = absurd (apart 116099 118114 (lit< tt) (ap mark (sym is)))
 no_verify_question (question.Resend s) is = absurd (apart 114115 118114 (lit< tt) (ap mark (sym is)))
-no_verify_question (question.List s i) is = absurd (apart 108115 118114 (lit< tt) (ap mark (sym is)))
-no_verify_question question.Outstanding is = absurd (apart 111116 118114 (lit< tt) (ap mark (sym is)))
-no_verify_question (question.Show s) is = absurd (apart 115111 118114 (lit< tt) (ap mark (sym is)))
+no_verify_question (question.List s i f) is = absurd (apart 108115 118114 (lit< tt) (ap mark (sym is)))
+no_verify_question (question.Outstanding f) is = absurd (apart 111116 118114 (lit< tt) (ap mark (sym is)))
+no_verify_question (question.Show s f) is = absurd (apart 115111 118114 (lit< tt) (ap mark (sym is)))
 no_verify_question (question.Fetch s) is = absurd (apart 102116 118114 (lit< tt) (ap mark (sym is)))
 
 no_verify : (command : Command Submission) → codes "verify" ≡ word_of command → ⊥
@@ -287,9 +297,9 @@ unfolding mark
 no_evidence_question (question.Submit s) is = absurd (apart 101105 115098 (lit< tt) (ap mark is))
 no_evidence_question question.Tick is = absurd (apart 101105 116099 (lit< tt) (ap mark is))
 no_evidence_question (question.Resend s) is = absurd (apart 101105 114115 (lit< tt) (ap mark is))
-no_evidence_question (question.List s i) is = absurd (apart 101105 108115 (lit< tt) (ap mark is))
-no_evidence_question question.Outstanding is = absurd (apart 101105 111116 (lit< tt) (ap mark is))
-no_evidence_question (question.Show s) is = absurd (apart 101105 115111 (lit< tt) (ap mark is))
+no_evidence_question (question.List s i f) is = absurd (apart 101105 108115 (lit< tt) (ap mark is))
+no_evidence_question (question.Outstanding f) is = absurd (apart 101105 111116 (lit< tt) (ap mark is))
+no_evidence_question (question.Show s f) is = absurd (apart 101105 115111 (lit< tt) (ap mark is))
 no_evidence_question (question.Fetch s) is = absurd (apart 101105 102116 (lit< tt) (ap mark is))
 
 no_evidence : (command : Command Submission) → codes "evidence" ≡ word_of command → ⊥
@@ -325,19 +335,19 @@ task_one values (Some named) clock Migrate Check x y = absurd (check_migrate (sy
 task_one values (Some named) clock Migrate Migrate x y = refl
 task_one values (Some named) clock Migrate (Run run asked) x y = absurd (no_migrate asked (sym x ∙ y.0.0))
 task_one values (Some named) clock (Run run asked) Migrate x y = absurd (no_migrate asked (sym y ∙ x.0.0))
-task_one values (Some named) clock Check (Verify run) x y = absurd (check_verify (sym x ∙ y.0))
-task_one values (Some named) clock Migrate (Verify run) x y = absurd (migrate_verify (sym x ∙ y.0))
-task_one values (Some named) clock (Verify run) Check x y = absurd (check_verify (sym y ∙ x.0))
-task_one values (Some named) clock (Verify run) Migrate x y = absurd (migrate_verify (sym y ∙ x.0))
-task_one values (Some named) clock (Verify run) (Verify other) x y = ap Verify (run_one values clock run other x.1 y.1)
-task_one values (Some named) clock (Verify run) (Run other asked) x y = absurd (no_verify asked (sym x.0 ∙ y.0.0))
-task_one values (Some named) clock (Run run asked) (Verify other) x y = absurd (no_verify asked (sym y.0 ∙ x.0.0))
+task_one values (Some named) clock Check (Verify run f) x y = absurd (check_verify (sym x ∙ y.0))
+task_one values (Some named) clock Migrate (Verify run f) x y = absurd (migrate_verify (sym x ∙ y.0))
+task_one values (Some named) clock (Verify run f) Check x y = absurd (check_verify (sym y ∙ x.0))
+task_one values (Some named) clock (Verify run f) Migrate x y = absurd (migrate_verify (sym y ∙ x.0))
+task_one values (Some named) clock (Verify run f) (Verify other g) x y = ap₂ Verify (run_one values clock run other x.2 y.2) (format_one named.1 f g x.1 y.1)
+task_one values (Some named) clock (Verify run f) (Run other asked) x y = absurd (no_verify asked (sym x.0 ∙ y.0.0))
+task_one values (Some named) clock (Run run asked) (Verify other g) x y = absurd (no_verify asked (sym y.0 ∙ x.0.0))
 task_one values (Some named) clock Check (Prove run wanted) x y = absurd (check_evidence (sym x ∙ y.0))
 task_one values (Some named) clock Migrate (Prove run wanted) x y = absurd (migrate_evidence (sym x ∙ y.0))
-task_one values (Some named) clock (Verify run) (Prove other wanted) x y = absurd (verify_evidence (sym x.0 ∙ y.0))
+task_one values (Some named) clock (Verify run f) (Prove other wanted) x y = absurd (verify_evidence (sym x.0 ∙ y.0))
 task_one values (Some named) clock (Prove run wanted) Check x y = absurd (check_evidence (sym y ∙ x.0))
 task_one values (Some named) clock (Prove run wanted) Migrate x y = absurd (migrate_evidence (sym y ∙ x.0))
-task_one values (Some named) clock (Prove run wanted) (Verify other) x y = absurd (verify_evidence (sym y.0 ∙ x.0))
+task_one values (Some named) clock (Prove run wanted) (Verify other g) x y = absurd (verify_evidence (sym y.0 ∙ x.0))
 task_one values (Some named) clock (Prove run wanted) (Prove other later) x y = ap₂ Prove (run_one values clock run other x.2 y.2) (wanted_one named.1 wanted later x.1 y.1)
 task_one values (Some named) clock (Prove run wanted) (Run other asked) x y = absurd (no_evidence asked (sym x.0 ∙ y.0.0))
 task_one values (Some named) clock (Run run asked) (Prove other wanted) x y = absurd (no_evidence asked (sym y.0 ∙ x.0.0))

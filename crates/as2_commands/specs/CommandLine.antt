@@ -58,6 +58,10 @@ entry = number 1 (end_of_numbers - 1) (value (codes "number"))
 abbrev pub timeout : Rule
 timeout = number 1 3600 (default (codes "30") (option (codes "timeout")))
 
+-- how what is told is printed
+abbrev pub format : Rule
+format = default (codes "text") (option (codes "format"))
+
 -- the path of a store
 abbrev pub store : Rule
 store = nonempty (required (option (codes "store")))
@@ -96,7 +100,10 @@ abbrev pub submit : Shape
 submit = command (codes "submit") (required (option (codes "from")) ∷ required (option (codes "to")) ∷ value (codes "file") ∷ [])
 
 abbrev pub list : Shape
-list = command (codes "list") (value (codes "kind") ∷ option (codes "state") ∷ [])
+list = command (codes "list") (value (codes "kind") ∷ option (codes "state") ∷ format ∷ [])
+
+abbrev pub show : Shape
+show = command (codes "show") (entry ∷ format ∷ [])
 
 abbrev pub evidence : Shape
 evidence = command (codes "evidence") (entry ∷ flag (codes "received") ∷ folder ∷ [])
@@ -108,7 +115,7 @@ abbrev pub commands : List Shape
 commands =
     command (codes "check") []
     ∷ command (codes "migrate") []
-    ∷ command (codes "verify") []
+    ∷ command (codes "verify") (format ∷ [])
     ∷ evidence
     ∷ post
     ∷ submit
@@ -116,8 +123,8 @@ commands =
     ∷ command (codes "tick") []
     ∷ command (codes "resend") (entry ∷ [])
     ∷ list
-    ∷ command (codes "outstanding") []
-    ∷ command (codes "show") (entry ∷ [])
+    ∷ command (codes "outstanding") (format ∷ [])
+    ∷ show
     ∷ command (codes "fetch") (entry ∷ [])
     ∷ serve
     ∷ []

@@ -14,6 +14,8 @@ use Rattle.as2_audit.specs.declared.findings.Mailbox.TheVariants as mailbox
 use Rattle.as2_commands.specs.Requests.{Serving, Submission, Wanted}
 use Rattle.as2_commands.specs.declared.tasks.Command.{Command}
 use Rattle.as2_commands.specs.declared.tasks.Command.TheVariants.{Post, Ask, Send, Serve}
+use Rattle.as2_commands.specs.declared.tasks.Format.{Format}
+use Rattle.as2_commands.specs.declared.tasks.Format.TheVariants as format
 use Rattle.as2_commands.specs.declared.tasks.Question.{Question}
 use Rattle.as2_commands.specs.declared.tasks.Question.TheVariants.{Submit, Tick, Resend, List as Listing, Outstanding, Show, Fetch}
 use Rattle.as2_commands.specs.declared.tasks.RunOptions.{RunOptions}
@@ -90,10 +92,25 @@ abbrev pub is_idle : Filter → Option Text → Bool
 is_idle Inbox state = is_some state
 is_idle (Outbox only) state = false
 
--- .. and whether a state was given in vain
+-- the word for a format
+abbrev pub format_word : Format → Text
+format_word format.Text = codes "text"
+format_word format.Json = codes "json"
+
+-- how what is told is printed
+abbrev pub IsFormat : List Row → Format → Type 0
+IsFormat own f = first_of (codes "format") own ≡ Some (format_word f)
+
+-- .. and whether a state was given in vain, and the format
 abbrev pub AsksList : List Row → Question Submission → Type 0
-AsksList own (Listing f idle) = Lists (first_of (codes "kind") own) (first_of (codes "state") own) f × (idle ≡ is_idle f (first_of (codes "state") own))
+AsksList own (Listing f idle form) =
+    Lists (first_of (codes "kind") own) (first_of (codes "state") own) f × (idle ≡ is_idle f (first_of (codes "state") own)) × IsFormat own form
 AsksList own other = ⊥
+
+-- the number of the document and the format
+abbrev pub AsksShow : List Row → Question Submission → Type 0
+AsksShow own (Show n form) = IsEntry own n × IsFormat own form
+AsksShow own other = ⊥
 
 -- the address, the count and the waits, and the moment where the values before the command give it
 pub record AsksServe (values own : List Row) (s : Serving) : Type 0 where
@@ -124,9 +141,9 @@ abbrev pub question_word : Question Submission → Text
 question_word (Submit s) = codes "submit"
 question_word Tick = codes "tick"
 question_word (Resend n) = codes "resend"
-question_word (Listing f idle) = codes "list"
-question_word Outstanding = codes "outstanding"
-question_word (Show n) = codes "show"
+question_word (Listing f idle form) = codes "list"
+question_word (Outstanding form) = codes "outstanding"
+question_word (Show n form) = codes "show"
 question_word (Fetch n) = codes "fetch"
 
 -- .. and for a command
@@ -140,8 +157,9 @@ word_of (Serve s) = codes "serve"
 abbrev pub TellQuestion : List Row → Question Submission → Type 0
 TellQuestion own (Submit s) = AsksSubmit own s
 TellQuestion own (Resend n) = IsEntry own n
-TellQuestion own (Listing f idle) = AsksList own (Listing f idle)
-TellQuestion own (Show n) = IsEntry own n
+TellQuestion own (Listing f idle form) = AsksList own (Listing f idle form)
+TellQuestion own (Outstanding form) = IsFormat own form
+TellQuestion own (Show n form) = AsksShow own (Show n form)
 TellQuestion own (Fetch n) = IsEntry own n
 TellQuestion own _ = ⊤
 
@@ -161,7 +179,7 @@ abbrev pub Tasks : List Row → Option (Text × List Row) → Option ℕ → Tas
 Tasks values None clock task = ⊥
 Tasks values (Some command) clock Check = command.0 ≡ codes "check"
 Tasks values (Some command) clock Migrate = command.0 ≡ codes "migrate"
-Tasks values (Some command) clock (Verify options) = (command.0 ≡ codes "verify") × AsksRun values clock options
+Tasks values (Some command) clock (Verify options form) = (command.0 ≡ codes "verify") × IsFormat command.1 form × AsksRun values clock options
 Tasks values (Some command) clock (Prove options wanted) = (command.0 ≡ codes "evidence") × AsksEvidence command.1 wanted × AsksRun values clock options
 Tasks values (Some command) clock (Run options asked) = Commands values command.0 command.1 asked × AsksRun values clock options
 

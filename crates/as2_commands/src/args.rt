@@ -1,7 +1,7 @@
 //! Options and values of commands.
 ghost use Rattle.std.specs.Prelude.{◌≡◌, ◌<◌, ◌≤◌, ◌^◌, codes, false};
 ghost use Rattle.clap.specs.Words.{rule_of};
-ghost use Rattle.as2_commands.specs.CommandLine.{count, default, entry, first, flag, folder, idle, moment, nonempty, number, option, required, store, store_limit, timeout, value};
+ghost use Rattle.as2_commands.specs.CommandLine.{count, default, entry, first, flag, folder, format, idle, moment, nonempty, number, option, required, store, store_limit, timeout, value};
 
 use as2_exchange::END_OF_NUMBERS;
 use as2_text::LAST_MOMENT;
@@ -40,6 +40,9 @@ pub(crate) const IDLE: &str = "idle";
 pub(crate) const KIND: &str = "kind";
 
 pub(crate) const STATE: &str = "state";
+
+/// How what is told is printed.
+pub(crate) const FORMAT: &str = "format";
 
 /// The number of an entry.
 pub(crate) const NUMBER: &str = "number";
@@ -212,6 +215,14 @@ pub(crate) fn folder<'a>(alloc: Global) -> Arg<'a>
 {
     let help = "The folder that the files are made in";
     nonempty(default_option(alloc, OUT, "FOLDER", help, "."))
+}
+
+pub(crate) fn format<'a>(alloc: Global) -> Arg<'a>
+    ensures rule { rule_of result ≡ format }
+    ensures local { result.global ≡ false }
+{
+    let help = "'text' for people, or 'json' for programs: an object in each line";
+    default_option(alloc, FORMAT, "FORMAT", help, "text")
 }
 
 pub(crate) fn count<'a>(alloc: Global) -> Arg<'a>

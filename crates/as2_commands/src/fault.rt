@@ -12,6 +12,8 @@ pub(crate) enum OptionFault<'a> {
     NoKind,
     /// There is no such state.
     NoState,
+    /// There is no such format.
+    NoFormat,
     /// There is neither a moment nor a clock that tells one.
     NoMoment,
     /// There is no such command.
@@ -31,6 +33,7 @@ impl fmt::Display for OptionFault<'_> {
             ),
             OptionFault::NoKind => f.write_str("'<KIND>' is 'out' or 'in'"),
             OptionFault::NoState => f.write_str("'--state <S>' is P, R, S, W or E"),
+            OptionFault::NoFormat => f.write_str("'--format <FORMAT>' is 'text' or 'json'"),
             OptionFault::NoMoment => f.write_str(
                 "the clock tells no moment from 0 to 253402300799, and '--moment <SECONDS>' gives none",
             ),

@@ -46,19 +46,24 @@ pub(crate) const VERIFY: &str = "\
 Each entry is read again, and held against itself. Of a received document: a MIC is kept exactly where it
 was processed, and is that of its content. Of a document that is sent: one that was tried was begun; a
 receipt is kept exactly where its detail is one that a receipt gives; that receipt can be read, names the
-document, and says of its content what the detail says; and nothing is waited for any more.
+document, and says of its content what the detail says; and nothing is waited for any more. Then what is
+kept beside the entries is held against them: the counters, and what waits; the first that differs is told.
 
 A line is printed for each that isn't so, as 'received 12: MIC differs', and at the end one for all:
 'verified: 27 received, 24 sent, 0 findings'. Nothing is changed. The exit status is 0 where there is no
 finding, and 1 where there is one. A line that can't be written is 'refused: CannotWrite' on standard
-error, exit status 1. A fault of the store is 'store: NAME', exit status 3, and nothing is printed.
+error, exit status 1. A fault of the store is 'store: NAME', exit status 3, and nothing is printed. Where
+standard error is a terminal, a long look says there how far it has come, once a second.
+
+With '--format json' each line is an object: 'box', 'fault' and 'number' of a finding; at the end
+'findings', 'received' and 'sent'.
 
 Example:
   as2desk --agreements agreements.toml --store station.db verify";
 
 pub(crate) const EVIDENCE: &str = "\
-Makes three files that show how document N stands, to somebody who trusts neither side: 'sent-N.content',
-the content as it was sent; 'sent-N.receipt', the body of the receipt that settled it, as it came; and
+Makes three files that show how document N stands, to hand to somebody else: 'sent-N.content', the content
+as it was handed in; 'sent-N.receipt', the body of the receipt that settled it, as it came; and
 'sent-N.txt', a page for people. It says from whom and to whom the document goes, under which identifier,
 when it was submitted, when the receipt came and what it says, the integrity checks (MIC) of the content,
 and the commands by which anybody can make those anew. Without a receipt there are two, and the page says
@@ -161,6 +166,9 @@ A line of 'in' has the number, 'S' where the document was processed, else 'E', t
 for ('-' none, 'P' not sent yet, 'S' sent), 'SENDER -> RECEIVER' and the identifier. '--state' isn't
 looked at there.
 
+With '--format json' each line is an object: 'box', 'number', 'from', 'to', 'receipt', and of 'out' also
+'state', 'detail' and 'tries', of 'in' also 'identifier' and 'processed'.
+
 A listing that can't be written is 'refused: CannotWrite' on standard error, exit status 1. A fault of
 the store is 'store: NAME', exit status 3. Nothing is changed.
 
@@ -173,6 +181,9 @@ Prints a line for each count: 'documents not sent: A', 'documents in retry: B', 
 document that is still to be sent, or whose receipt is awaited, and that is due at the moment. The
 moment is that of '--moment', in seconds since 1970, or else the clock's.
 
+With '--format json' the counts are one object: 'documents_not_sent', 'documents_in_retry',
+'receipts_awaited', 'documents_in_error' and 'receipts_to_send'. The others are those of 'list out'.
+
 A text that can't be written is 'refused: CannotWrite' on standard error, exit status 1. A fault of
 the store is 'store: NAME', exit status 3. Nothing is changed.
 
@@ -183,6 +194,9 @@ pub(crate) const SHOW: &str = "\
 Prints the number, the state and the detail, how many tries were begun, the moment when it is due in
 seconds since 1970, from whom and to whom it goes, its identifier, the length of its content and of its
 receipt in bytes, and the moment of the receipt; '-' stands for what there isn't.
+
+With '--format json' it is one object in a line: 'box', 'number', 'state', 'detail', 'tries', 'due',
+'from', 'to', 'identifier', 'length', and 'receipt', an object of 'length' and 'moment', or null.
 
 A number that no document has is 'refused: NoSuchNumber' on standard error, exit status 1, and a text
 that can't be written 'refused: CannotWrite'. A fault of the store is 'store: NAME', exit status 3.

@@ -15,6 +15,7 @@ mod words;
 pub use as2_views::Filter;
 pub use first_number::FirstNumber;
 pub use tasks::{
-    Command, Options, Question, RunOptions, Serving, ServingWaits, Submission, Task, Waits, Wanted,
+    Command, Format, Options, Question, RunOptions, Serving, ServingWaits, Submission, Task, Waits,
+    Wanted,
 };
 pub use words::options_in;

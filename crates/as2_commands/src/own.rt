@@ -1,11 +1,11 @@
 //! Each command, with its own options.
 ghost use Rattle.std.specs.Prelude.{[], ◌∷◌, codes, IfOk};
 ghost use Rattle.as2_commands.specs.Building.{Looks};
-ghost use Rattle.as2_commands.specs.CommandLine.{command, entry, evidence, list, post, serve, submit, timeout};
+ghost use Rattle.as2_commands.specs.CommandLine.{command, entry, evidence, format, list, post, serve, show, submit, timeout};
 
 use crate::args::{
-    FILE, FROM, KIND, LISTEN, LOG, RECEIVED, STATE, TO, count, entry, flag, folder, idle, option,
-    required_option, timeout, value,
+    FILE, FROM, KIND, LISTEN, LOG, RECEIVED, STATE, TO, count, entry, flag, folder, format, idle,
+    option, required_option, timeout, value,
 };
 use crate::building::{Made, and};
 use crate::help;
@@ -62,10 +62,10 @@ pub(crate) fn migrate<'a>(alloc: Global) -> Made<'a>
 }
 
 pub(crate) fn verify<'a>(alloc: Global) -> Made<'a>
-    ensures { IfOk result (Looks (command (codes "verify") [])) }
+    ensures { IfOk result (Looks (command (codes "verify") (format ∷ []))) }
 {
     let about = "Looks through all records, and prints what is wrong with them";
-    named(alloc, VERIFY, about, help::VERIFY)
+    and(named(alloc, VERIFY, about, help::VERIFY), format(alloc))
 }
 
 pub(crate) fn evidence<'a>(alloc: Global) -> Made<'a>
@@ -133,25 +133,30 @@ pub(crate) fn list<'a>(alloc: Global) -> Made<'a>
     let state = "Only those in this state, of 'out': P, R, S, W or E";
     let list = named(alloc, LIST, about, help::LIST);
     let list = and(list, value(alloc, KIND, "KIND", kind));
-    and(list, option(alloc, STATE, "S", state))
+    let list = and(list, option(alloc, STATE, "S", state));
+    and(list, format(alloc))
 }
 
 pub(crate) fn outstanding<'a>(alloc: Global) -> Made<'a>
-    ensures { IfOk result (Looks (command (codes "outstanding") [])) }
+    ensures { IfOk result (Looks (command (codes "outstanding") (format ∷ []))) }
 {
     let about = "Counts what is outstanding, and lists the documents that are due";
-    named(alloc, OUTSTANDING, about, help::OUTSTANDING)
+    and(
+        named(alloc, OUTSTANDING, about, help::OUTSTANDING),
+        format(alloc),
+    )
 }
 
 pub(crate) fn show<'a>(alloc: Global) -> Made<'a>
-    ensures { IfOk result (Looks (command (codes "show") (entry ∷ []))) }
+    ensures { IfOk result (Looks show) }
 {
     let about = "Shows a document of the outbox, a line for each thing that is known of it";
     let number = entry(
         alloc,
         "Number of a document of the outbox: 1 to 999999999999",
     );
-    and(named(alloc, SHOW, about, help::SHOW), number)
+    let show = and(named(alloc, SHOW, about, help::SHOW), number);
+    and(show, format(alloc))
 }
 
 pub(crate) fn fetch<'a>(alloc: Global) -> Made<'a>

@@ -6,14 +6,16 @@ ghost use Rattle.as2_views.specs.Layout.{state_text};
 ghost use Rattle.as2_mdn.specs.declared.detail.State.{State as TheState};
 ghost use Rattle.as2_views.specs.declared.filter.Filter.{Filter as TheFilter};
 ghost use Rattle.clap.specs.Words.{first_of, found_of, one_of, rows_of, subcommand_rows_of};
-ghost use Rattle.as2_commands.specs.Options.{AsksEvidence, AsksList, AsksRun, AsksServe, AsksSubmit, Commands, Give, IsEntry, IsWait, box_of, Lists, is_idle, is_set, NameIs, NumberFrom, NumberIs, SecondsAre, Tasks, TellsMoment, TellsOption};
+ghost use Rattle.as2_commands.specs.Options.{AsksEvidence, AsksList, AsksRun, AsksServe, AsksShow, AsksSubmit, Commands, Give, IsEntry, IsFormat, IsWait, box_of, Lists, is_idle, is_set, NameIs, NumberFrom, NumberIs, SecondsAre, Tasks, TellsMoment, TellsOption};
 ghost use Rattle.as2_commands.specs.Requests.{Serving as TheServing, Submission as TheSubmission, Wanted as TheWanted};
 ghost use Rattle.as2_commands.specs.declared.tasks.Command.{Command as TheCommand};
+ghost use Rattle.as2_commands.specs.declared.tasks.Format.{Format as TheFormat};
+ghost use Rattle.as2_commands.specs.declared.tasks.Question.{Question as TheQuestion};
 ghost use Rattle.as2_commands.specs.declared.tasks.RunOptions.{RunOptions as TheOptions};
 ghost use Rattle.as2_commands.specs.declared.tasks.Task.{Task as TheTask};
 
 use crate::args::{
-    AGREEMENTS, COUNT, FILE, FIRST, FROM, IDLE, KIND, LEAST_LIMIT, LEAST_WAIT, LISTEN, LOG, MOMENT,
+    AGREEMENTS, COUNT, FILE, FIRST, FORMAT, FROM, IDLE, KIND, LEAST_LIMIT, LEAST_WAIT, LISTEN, LOG, MOMENT,
     MOST_CONNECTIONS, MOST_LIMIT, MOST_WAIT, NUMBER, OUT, RECEIVED, STATE, STORE, STORE_LIMIT,
     TIMEOUT, TO,
 };
@@ -21,7 +23,8 @@ use crate::fault::OptionFault;
 use crate::first_number::FirstNumber;
 use crate::own::{CHECK, EVIDENCE, MIGRATE, VERIFY};
 use crate::tasks::{
-    Command, Options, Question, RunOptions, Serving, ServingWaits, Submission, Task, Waits, Wanted,
+    Command, Format, Options, Question, RunOptions, Serving, ServingWaits, Submission, Task, Waits,
+    Wanted,
 };
 use as2_audit::Mailbox;
 use as2_exchange::END_OF_NUMBERS;
@@ -85,7 +88,8 @@ fn asked<'a>(found: &ArgMatches<'a>, clock: Option<u64>) -> Result<Task<'a>, Opt
         return Ok(Task::Migrate);
     }
     if word == VERIFY {
-        return Ok(Task::Verify(run_options(found, clock)?));
+        let format = format(own)?;
+        return Ok(Task::Verify(run_options(found, clock)?, format));
     }
     if word == EVIDENCE {
         let wanted = wanted(own)?;
@@ -112,8 +116,8 @@ fn command_of<'a>(
         "tick" => Ok(Command::Ask(Question::Tick)),
         "resend" => Ok(Command::Ask(Question::Resend(entry(own)?))),
         "list" => Ok(Command::Ask(listing(own)?)),
-        "outstanding" => Ok(Command::Ask(Question::Outstanding)),
-        "show" => Ok(Command::Ask(Question::Show(entry(own)?))),
+        "outstanding" => Ok(Command::Ask(Question::Outstanding(format(own)?))),
+        "show" => Ok(Command::Ask(showing(own)?)),
         "fetch" => Ok(Command::Ask(Question::Fetch(entry(own)?))),
         "serve" => Ok(Command::Serve(serving(found, own)?)),
         _ => Err(OptionFault::NoCommand),
@@ -203,10 +207,33 @@ fn wanted<'a>(own: &ArgMatches<'a>) -> Result<Wanted<'a>, OptionFault<'a>>
 /// The question of `list`.
 fn listing<'a>(own: &ArgMatches<'a>) -> Result<Question<Submission<'a>>, OptionFault<'a>>
     ensures given { IfOk result (λ c. AsksList (rows_of (found_of own.now)) c) }
-    ensures none { IfErr result (λ _. (f : TheFilter) → ¬ Lists (first_of (codes "kind") (rows_of (found_of own.now))) (first_of (codes "state") (rows_of (found_of own.now))) f) }
+    ensures none { IfErr result (λ _. (q : TheQuestion TheSubmission) → ¬ AsksList (rows_of (found_of own.now)) q) }
 {
     let filter = filter(own)?;
-    Ok(Question::List(filter, is_idle(filter, own)))
+    let format = format(own)?;
+    Ok(Question::List(filter, is_idle(filter, own), format))
+}
+
+/// The question of `show`.
+fn showing<'a>(own: &ArgMatches<'a>) -> Result<Question<Submission<'a>>, OptionFault<'a>>
+    ensures given { IfOk result (AsksShow (rows_of (found_of own.now))) }
+    ensures none { IfErr result (λ _. (q : TheQuestion TheSubmission) → ¬ AsksShow (rows_of (found_of own.now)) q) }
+{
+    let number = entry(own)?;
+    let format = format(own)?;
+    Ok(Question::Show(number, format))
+}
+
+/// How what is told is printed.
+fn format<'a>(own: &ArgMatches<'a>) -> Result<Format, OptionFault<'a>>
+    ensures given { IfOk result (IsFormat (rows_of (found_of own.now))) }
+    ensures none { IfErr result (λ _. (f : TheFormat) → ¬ IsFormat (rows_of (found_of own.now)) f) }
+{
+    match text(own, FORMAT) {
+        Some("text") => Ok(Format::Text),
+        Some("json") => Ok(Format::Json),
+        _ => Err(OptionFault::NoFormat),
+    }
 }
 
 /// Whether a state is given and isn't looked at.

@@ -91,6 +91,15 @@ impl<'a> Model for Wanted<'a> {
     ghost view = { λ w. record { mailbox = w.mailbox; number = w.number; folder = w.folder.now } };
 }
 
+/// How what is told of the records is printed.
+#[derive(Clone, Copy, Debug, PartialEq, Eq)]
+pub enum Format {
+    /// In lines for people.
+    Text,
+    /// In objects for programs, each in a line (JSON Lines).
+    Json,
+}
+
 /// What is asked of the records once, and answered by a text. `D` is a document that is handed in: a `Submission`, until its file
 /// is read.
 #[derive(Drop)]
@@ -102,11 +111,11 @@ pub enum Question<D> {
     /// To send the document of that number of the outbox anew: 1 to 999,999,999,999.
     Resend(u64),
     /// For the lines of entries; and whether a state was given that isn't looked at, since what was received has none.
-    List(Filter, bool),
+    List(Filter, bool, Format),
     /// For what is outstanding.
-    Outstanding,
+    Outstanding(Format),
     /// For the document of that number of the outbox: 1 to 999,999,999,999.
-    Show(u64),
+    Show(u64, Format),
     /// For the content of the document of that number of the inbox: 1 to 999,999,999,999.
     Fetch(u64),
 }
@@ -132,7 +141,7 @@ pub enum Task<'a> {
     /// The store, which an earlier version made, becomes one of the version that is read.
     Migrate,
     /// The entries of the records are looked through.
-    Verify(RunOptions),
+    Verify(RunOptions, Format),
     /// The files are made that show how a document stands.
     Prove(RunOptions, Wanted<'a>),
     /// A command is carried out over the records.

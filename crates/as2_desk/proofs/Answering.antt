@@ -47,9 +47,9 @@ resend_may : (q p : Asked) (told : Told) → told_of_resend q ≡ Some told → 
 resend_may (question.Resend n) p told is = let same : Ok (resent_line n) ≡ told = cc in subst (FaultMayCome p) same tt
 resend_may (question.Submit d) p told is = absurd cc
 resend_may question.Tick p told is = absurd cc
-resend_may (question.List filter idle) p told is = absurd cc
-resend_may question.Outstanding p told is = absurd cc
-resend_may (question.Show n) p told is = absurd cc
+resend_may (question.List filter idle format) p told is = absurd cc
+resend_may (question.Outstanding format) p told is = absurd cc
+resend_may (question.Show n format) p told is = absurd cc
 resend_may (question.Fetch n) p told is = absurd cc
 
 answer_may : (q : Asked) (x : Answer) (told : Told) → told_of q x ≡ Some told → FaultMayCome q told
@@ -104,9 +104,9 @@ module _ {M : Medium} (A : AgreedValues) (m : ℕ) (q : Asked) (old new : Standi
   resend_tells s t (question.Resend n) told is by = let same : Ok (resent_line n) ≡ told = cc in subst (Tells A m q s t) same (subst (λ (y : Told). told_by A m q s ≡ Some (y, t)) (sym same) by)
   resend_tells s t (question.Submit d) told is by = absurd cc
   resend_tells s t question.Tick told is by = absurd cc
-  resend_tells s t (question.List filter idle) told is by = absurd cc
-  resend_tells s t question.Outstanding told is by = absurd cc
-  resend_tells s t (question.Show n) told is by = absurd cc
+  resend_tells s t (question.List filter idle format) told is by = absurd cc
+  resend_tells s t (question.Outstanding format) told is by = absurd cc
+  resend_tells s t (question.Show n format) told is by = absurd cc
   resend_tells s t (question.Fetch n) told is by = absurd cc
 
   answered_tells : (s t : State) (x : Answer) (told : Told) → told_of q x ≡ Some told → told_by A m q s ≡ Some (told, t) → Tells A m q s t told

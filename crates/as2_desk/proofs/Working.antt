@@ -41,7 +41,7 @@ carried_left A m (command.Serve serving) known o Left ran again it = (it.0, serv
 pub does_left : (A : AgreedValues) (m : ℕ) (w : Work) (known : Option State) (o : Observed) (Left : State → Type 0) (ran : Ran)
     → SaysAgain known Left o.outcome.Left → Does A m w known (observing o Left) ran → Does A m w known o ran
 does_left A m (At c) known o Left ran again it = (it.0, carried_left A m c known o Left ran again it.1)
-does_left A m Verify known o Left ran again it =
+does_left A m (Verify format) known o Left ran again it =
     (it.0, it.1, it.2, record { came = it.3.came; fault = it.3.fault; audits = both_known _ _ _ known again it.3.audits (λ s later audits. (later s audits.0, audits.1)); prints = it.3.prints })
 does_left A m (Prove wanted) known o Left ran again it =
     (it.0, it.1, record { came = it.2.came; fault = it.2.fault; reads = both_known _ _ _ known again it.2.reads (λ s later reads. (later s reads.0, reads.1)); makes = it.2.makes })

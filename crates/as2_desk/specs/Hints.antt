@@ -8,7 +8,7 @@ use Rattle.as2_desk.specs.Escapes.{escaped}
 
 -- what is given and not looked at: a state, where what was received is listed
 abbrev pub idle_hint : Command Submission → List ℕ
-idle_hint (Ask (Listing filter true)) = codes "hint: 'list in' doesn't look at --state\n"
+idle_hint (Ask (Listing filter true format)) = codes "hint: 'list in' doesn't look at --state\n"
 idle_hint other = []
 
 -- which file can't be read

@@ -9,6 +9,7 @@ pub mod Written
 pub mod Observed
 pub mod Endings
 pub mod FileAgreements
+pub mod Formats
 pub mod FileDocuments
 pub mod Checks
 pub mod Posting

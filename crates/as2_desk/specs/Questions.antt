@@ -3,7 +3,7 @@ use Rattle.std.specs.Prelude.{◌≡◌, ◌⊎◌, ℕ, List, ◌++◌, Bool, t
 use Rattle.as2_agreement.specs.Agreements.{AgreedValues}
 use Rattle.as2_exchange.specs.State.{State}
 use Rattle.as2_exchange.specs.Step.{step}
-use Rattle.as2_views.specs.Texts.{fetch, outstanding, show}
+use Rattle.as2_views.specs.Texts.{fetch}
 use Rattle.as2_exchange.specs.declared.answer.Answer.{Answer}
 use Rattle.as2_exchange.specs.declared.answer.Answer.TheVariants.{Submitted, Resent, Ticked, Refused}
 use Rattle.as2_exchange.specs.declared.answer.Refusal.{Refusal}
@@ -17,13 +17,13 @@ use Rattle.as2_station.specs.Heads.{submit_refusal}
 use Rattle.as2_station.specs.Theorem.{EndsByHistory}
 use Rattle.as2_station.specs.declared.said.NewDocument.{NewDocument}
 use Rattle.as2_records.specs.Standing.{may_come}
-use Rattle.as2_views.specs.Filtering.{listing}
+use Rattle.as2_desk.specs.Formats.{listing_in, outstanding_in, show_in}
 use Rattle.as2_desk.specs.Endings.{Ends, EndsRefused}
 use Rattle.as2_desk.specs.Observed.{Outcome}
 use Rattle.as2_desk.specs.Statuses.{done}
 use Rattle.as2_desk.specs.Written.{Breaks, WritesWhole, Written}
 use Rattle.as2_desk.specs.declared.asking.Printed.{Printed}
-use Rattle.as2_desk.specs.declared.asking.Printed.TheVariants.{Number, Requeued, Words, Content}
+use Rattle.as2_desk.specs.declared.asking.Printed.TheVariants.{Number, Requeued, Words, Bytes}
 use Rattle.as2_commands.specs.declared.tasks.Question.{Question}
 use Rattle.as2_commands.specs.declared.tasks.Question.TheVariants.{Submit, Tick, Resend, List as Listing, Outstanding, Show, Fetch}
 use Rattle.as2_desk.specs.declared.refusal.CommandFault.{CommandFault}
@@ -48,7 +48,7 @@ abbrev pub printed_text : Printed → List ℕ
 printed_text (Number n) = number_line n
 printed_text (Requeued n) = resent_line n
 printed_text (Words text) = string_bytes text
-printed_text (Content bytes) = bytes.items
+printed_text (Bytes bytes) = bytes.items
 
 -- what is to be printed, or why there is nothing
 abbrev pub Told : Type 0
@@ -102,9 +102,9 @@ abbrev pub told_by : AgreedValues → ℕ → Asked → State → Option (Told �
 told_by A m (Submit d) s = told_by_step (Submit d) (step A s (event.Submit d.organization d.partner d.content m))
 told_by A m Tick s = told_by_step Tick (step A s (event.Tick m))
 told_by A m (Resend n) s = told_by_step (Resend n) (step A s (event.Resend n m))
-told_by A m (Listing filter idle) s = Some (Ok (listing filter s), s)
-told_by A m Outstanding s = Some (Ok (outstanding s m), s)
-told_by A m (Show n) s = Some (found_told (show s n), s)
+told_by A m (Listing filter idle format) s = Some (Ok (listing_in format filter s), s)
+told_by A m (Outstanding format) s = Some (Ok (outstanding_in format s m), s)
+told_by A m (Show n format) s = Some (found_told (show_in format s n), s)
 told_by A m (Fetch n) s = Some (found_told (fetch s n), s)
 
 -- That is told in the state s, and t is left: what the machine and the views answer there; or a fault of the store, which

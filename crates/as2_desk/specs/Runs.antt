@@ -45,7 +45,7 @@ abbrev pub Comes : (List ℕ → Content) → Opened → Task → Observed → S
 Comes contents (Err refusal) task o stored ran = LeavesAll o stored × EndsRefused refusal o.outcome.errors ran
 Comes contents (Ok agreements) Check o stored ran = stored.Untouched × o.filing.Untouched × o.Unasked × o.input.Untouched × Counts agreements o.outcome.output o.outcome.errors ran
 Comes contents (Ok agreements) Migrate o stored ran = o.filing.Untouched × o.Unasked × o.input.Untouched × Migrates stored o.outcome.output o.outcome.errors ran
-Comes contents (Ok agreements) (Verify options) o stored ran = Goes agreements options (Ok Looking) o stored ran
+Comes contents (Ok agreements) (Verify options format) o stored ran = Goes agreements options (Ok (Looking format)) o stored ran
 Comes contents (Ok agreements) (Prove options wanted) o stored ran = Goes agreements options (Ok (Proving wanted)) o stored ran
 Comes contents (Ok agreements) (Run options command) o stored ran = (begun : Begun) × IsWork contents command begun × Goes agreements options begun o stored ran
 

@@ -4,9 +4,10 @@ use Rattle.as2_exchange.specs.State.{State}
 use Rattle.as2_exchange.specs.declared.fault.StoreFault.{StoreFault}
 use Rattle.as2_records.specs.Standing.{may_come}
 use Rattle.as2_audit.specs.Audits.{findings}
-use Rattle.as2_audit.specs.Texts.{verification}
 use Rattle.as2_audit.specs.declared.verifying.Verification.{Verification}
+use Rattle.as2_commands.specs.declared.tasks.Format.{Format}
 use Rattle.as2_desk.specs.Endings.{Ends, EndsRefused}
+use Rattle.as2_desk.specs.Formats.{verification_in}
 use Rattle.as2_desk.specs.Observed.{Outcome}
 use Rattle.as2_desk.specs.Statuses.{done, refused}
 use Rattle.as2_desk.specs.Written.{Breaks, WritesWhole, Written}
@@ -26,14 +27,14 @@ PrintsAudit (Ok audit) output errors ran =
 PrintsAudit (Err fault) output errors ran = output.Untouched × EndsRefused (Store (open_fault.Store fault)) errors ran
 
 -- the lines are those of the state, and there are so many findings as are counted
-abbrev pub IsAuditOf : State → Result Verification StoreFault → Type 0
-IsAuditOf s (Ok audit) = (audit.text.items ≡ verification s) × (audit.findings ≡ length (findings s))
-IsAuditOf s (Err fault) = ⊤
+abbrev pub IsAuditOf : Format → State → Result Verification StoreFault → Type 0
+IsAuditOf format s (Ok audit) = (audit.text.items ≡ verification_in format s) × (audit.findings ≡ length (findings s))
+IsAuditOf format s (Err fault) = ⊤
 
 -- where the state is known that the records stood for, they stand for it still, and what is printed is of it
-pub record Verifies (known : Option State) (o : Outcome) (ran : Ran) : Type 0 where
+pub record Verifies (format : Format) (known : Option State) (o : Outcome) (ran : Ran) : Type 0 where
   pub came : Result Verification StoreFault
   -- a fault is one that may come of any call
   pub fault : IfErr came (λ f. may_come f ≡ true)
-  pub audits : IfSome known (λ s. o.Left s × IsAuditOf s came)
+  pub audits : IfSome known (λ s. o.Left s × IsAuditOf format s came)
   pub prints : PrintsAudit came o.output o.errors ran

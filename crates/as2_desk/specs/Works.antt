@@ -45,9 +45,9 @@ abbrev pub IsAsked : (List ℕ → Content) → Question Submission → Result A
 IsAsked contents (question.Submit s) asked = (document : Document) × HasDocument (front (content_limit + 1) (contents s.path)) document × (asked ≡ handing s document)
 IsAsked contents question.Tick asked = asked ≡ Ok question.Tick
 IsAsked contents (question.Resend n) asked = asked ≡ Ok (question.Resend n)
-IsAsked contents (question.List filter idle) asked = asked ≡ Ok (question.List filter idle)
-IsAsked contents question.Outstanding asked = asked ≡ Ok question.Outstanding
-IsAsked contents (question.Show n) asked = asked ≡ Ok (question.Show n)
+IsAsked contents (question.List filter idle format) asked = asked ≡ Ok (question.List filter idle format)
+IsAsked contents (question.Outstanding format) asked = asked ≡ Ok (question.Outstanding format)
+IsAsked contents (question.Show n format) asked = asked ≡ Ok (question.Show n format)
 IsAsked contents (question.Fetch n) asked = asked ≡ Ok (question.Fetch n)
 
 abbrev pub asking : Result Asked CommandFault → Begun
@@ -71,7 +71,7 @@ CarriesOut agreements moment (Serve serving) known o ran = o.input.Untouched × 
 -- that is done
 abbrev pub Does : AgreedValues → ℕ → Work → Option State → Observed → Ran → Type 0
 Does agreements moment (At command) known o ran = o.filing.Untouched × CarriesOut agreements moment command known o ran
-Does agreements moment Verify known o ran = o.filing.Untouched × o.Unasked × o.input.Untouched × Verifies known o.outcome ran
+Does agreements moment (Verify format) known o ran = o.filing.Untouched × o.Unasked × o.input.Untouched × Verifies format known o.outcome ran
 Does agreements moment (Prove wanted) known o ran = o.Unasked × o.input.Untouched × Proves agreements wanted known o.filing o.outcome ran
 
 -- it sends

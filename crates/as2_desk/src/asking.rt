@@ -1,5 +1,5 @@
 //! What is asked of the station once, and what is printed of its answer.
-ghost use Rattle.std.specs.Prelude.{◌≡◌, ◌⊎◌, Option, Some, Err, IfSome, string_bytes};
+ghost use Rattle.std.specs.Prelude.{◌≡◌, ◌⊎◌, Option, Some, Err, IfSome};
 ghost use Rattle.as2_exchange.specs.State.{State};
 ghost use Rattle.as2_exchange.specs.declared.answer.Refusal.{Refusal as TheRefusal};
 ghost use Rattle.as2_exchange.specs.declared.answer.Answer.TheVariants.{Ticked};
@@ -15,6 +15,7 @@ ghost use Rattle.as2_desk.specs.declared.refusal.CommandFault.TheVariants.{Stati
 ghost use Rattle.as2_host.specs.declared.stores.OpenFault.{OpenFault as TheFault};
 
 use crate::console::Console;
+use crate::formats::{listing_in, outstanding_in, show_in};
 use crate::lines::joined;
 use crate::refusal::{CommandFault, refuse};
 use crate::status::{DONE, Ran};
@@ -36,8 +37,8 @@ pub(crate) enum Printed {
     Requeued(u64),
     /// A text.
     Words(String),
-    /// The content of a document.
-    Content(Vec<u8>),
+    /// The content of a document, or objects in lines.
+    Bytes(Vec<u8>),
 }
 
 /// The number of a document that was handed in, or why there is none.
@@ -73,21 +74,21 @@ fn resent_told(number: u64, said: Result<Resent, StoreFault>) -> Result<Printed,
 }
 
 /// A text that was read, or why it wasn't.
-fn read_told(said: Result<String, StoreFault>) -> Result<Printed, CommandFault>
-    ensures { told_as result ≡ read_told string_bytes said }
+fn read_told(said: Result<Printed, StoreFault>) -> Result<Printed, CommandFault>
+    ensures { told_as result ≡ read_told printed_text said }
 {
     match said {
-        Ok(text) => Ok(Printed::Words(text)),
+        Ok(text) => Ok(text),
         Err(fault) => Err(CommandFault::Store(OpenFault::Store(fault))),
     }
 }
 
 /// The text of a number, where an entry has it.
-fn shown_told(said: Result<Option<String>, StoreFault>) -> Result<Printed, CommandFault>
-    ensures { told_as result ≡ looked_up string_bytes said }
+fn shown_told(said: Result<Option<Printed>, StoreFault>) -> Result<Printed, CommandFault>
+    ensures { told_as result ≡ looked_up printed_text said }
 {
     match said {
-        Ok(Some(text)) => Ok(Printed::Words(text)),
+        Ok(Some(text)) => Ok(text),
         Ok(None) => Err(CommandFault::Station(Refusal::NoSuchNumber)),
         Err(fault) => Err(CommandFault::Store(OpenFault::Store(fault))),
     }
@@ -98,7 +99,7 @@ fn fetched_told(said: Result<Option<Vec<u8>>, StoreFault>) -> Result<Printed, Co
     ensures { told_as result ≡ looked_up (λ v. v.items) said }
 {
     match said {
-        Ok(Some(bytes)) => Ok(Printed::Content(bytes)),
+        Ok(Some(bytes)) => Ok(Printed::Bytes(bytes)),
         Ok(None) => Err(CommandFault::Station(Refusal::NoSuchNumber)),
         Err(fault) => Err(CommandFault::Store(OpenFault::Store(fault))),
     }
@@ -127,9 +128,15 @@ fn answer<K: Records>(
             number,
             station.resend(terms.alloc, terms.agreements, number, terms.moment),
         ),
-        Question::List(filter, _) => read_told(station.listing(terms.alloc, filter)),
-        Question::Outstanding => read_told(station.outstanding(terms.alloc, terms.moment)),
-        Question::Show(number) => shown_told(station.show(terms.alloc, number)),
+        Question::List(filter, _, format) => {
+            read_told(listing_in(terms.alloc, format, station, filter))
+        }
+        Question::Outstanding(format) => {
+            read_told(outstanding_in(terms.alloc, format, station, terms.moment))
+        }
+        Question::Show(number, format) => {
+            shown_told(show_in(terms.alloc, format, station, number))
+        }
         Question::Fetch(number) => fetched_told(station.fetch(terms.alloc, number)),
     }
 }
@@ -169,7 +176,7 @@ fn write_printed<W: Sink>(printed: Printed, output: &mut W) -> Result<(), Device
             push_all(output, line.as_str().as_bytes())
         }
         Printed::Words(text) => push_all(output, text.as_bytes()),
-        Printed::Content(bytes) => push_all(output, &bytes),
+        Printed::Bytes(bytes) => push_all(output, &bytes),
     }
 }
 

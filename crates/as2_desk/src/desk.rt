@@ -28,6 +28,7 @@ use crate::status::{DONE, FAULTY, Ran};
 use crate::terms::{NamedStore, Terms};
 use crate::work::{Work, work_of, work_over};
 use as2_agreement::Agreements;
+use as2_audit::Watch;
 use as2_commands::{Options, Task, options_in};
 use as2_host::{CountsBusy, MakeFiles, Network, OpenStores, ReadFiles};
 use as2_http::{Journal, Sink, Source, push_all};
@@ -47,7 +48,7 @@ pub fn run<
     N: Network,
     R: Source,
     W: Sink,
-    H: Write + Journal + CountsBusy,
+    H: Write + Journal + CountsBusy + Watch,
     E: Sink,
 >(
     alloc: Global,
@@ -118,7 +119,7 @@ fn carry_out<
     N: Network,
     R: Source,
     W: Sink,
-    H: Write + Journal + CountsBusy,
+    H: Write + Journal + CountsBusy + Watch,
     E: Sink,
 >(
     alloc: Global,
@@ -150,10 +151,10 @@ fn carry_out<
     match task {
         Task::Check => check(alloc, &agreements, &mut console.output, &mut console.errors),
         Task::Migrate => migrate(store, host, console),
-        Task::Verify(run) => {
+        Task::Verify(run, format) => {
             let terms = Terms::of(alloc, &agreements, run.moment);
             let store = NamedStore::of(store, run);
-            work_over(&terms, store, Work::Verify, host, console)
+            work_over(&terms, store, Work::Verify(format), host, console)
         }
         Task::Prove(run, wanted) => {
             let terms = Terms::of(alloc, &agreements, run.moment);
@@ -165,11 +166,7 @@ fn carry_out<
             let path = document_path(&command);
             match work_of(alloc, &host.outside.files, command) {
                 Ok(work) => {
-                    let terms = Terms {
-                        alloc,
-                        agreements: &agreements,
-                        moment: run.moment,
-                    };
+                    let terms = Terms::of(alloc, &agreements, run.moment);
                     work_over(&terms, NamedStore::of(store, run), work, host, console)
                 }
                 Err(refusal) => {

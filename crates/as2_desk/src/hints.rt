@@ -16,7 +16,7 @@ pub(crate) fn is_noticed<H: Write>(command: &Command<'_, Submission<'_>>, hints:
     ensures { result ≡ true → Appends (H.contents hints.old) (H.contents hints.new) (idle_hint command.now) }
 {
     match command {
-        Command::Ask(Question::List(_, true)) => hints.write_all(IDLE_STATE.as_bytes()).is_ok(),
+        Command::Ask(Question::List(_, true, _)) => hints.write_all(IDLE_STATE.as_bytes()).is_ok(),
         _ => true,
     }
 }

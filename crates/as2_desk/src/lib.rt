@@ -9,6 +9,7 @@ mod console;
 mod desk;
 mod documents;
 mod escaping;
+mod formats;
 mod hints;
 mod lines;
 mod migrating;

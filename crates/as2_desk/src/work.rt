@@ -27,8 +27,9 @@ use crate::serving::serve;
 use crate::status::Ran;
 use crate::terms::{NamedStore, Terms};
 use crate::verifying::look_through;
+use as2_audit::Watch;
 use as2_bounded::{Bounded, room_of};
-use as2_commands::{Command, FirstNumber, Question, Submission, Wanted};
+use as2_commands::{Command, FirstNumber, Format, Question, Submission, Wanted};
 use as2_host::{CountsBusy, MakeFiles, Network, OpenFault, OpenStores, ReadFiles};
 use as2_http::{Journal, Sink, Source};
 use as2_records::Records;
@@ -42,7 +43,7 @@ pub(crate) enum Work<'a> {
     /// A command is carried out, whose document was read.
     At(Command<'a, NewDocument>),
     /// The records are looked through.
-    Verify,
+    Verify(Format),
     /// The files are made that show how a document stands.
     Prove(Wanted<'a>),
 }
@@ -76,9 +77,9 @@ fn asked<F: ReadFiles>(
         Question::Submit(submission) => Ok(Question::Submit(handed(alloc, files, submission)?)),
         Question::Tick => Ok(Question::Tick),
         Question::Resend(number) => Ok(Question::Resend(number)),
-        Question::List(filter, idle) => Ok(Question::List(filter, idle)),
-        Question::Outstanding => Ok(Question::Outstanding),
-        Question::Show(number) => Ok(Question::Show(number)),
+        Question::List(filter, idle, format) => Ok(Question::List(filter, idle, format)),
+        Question::Outstanding(format) => Ok(Question::Outstanding(format)),
+        Question::Show(number, format) => Ok(Question::Show(number, format)),
         Question::Fetch(number) => Ok(Question::Fetch(number)),
     }
 }
@@ -153,7 +154,7 @@ fn do_over<
     N: Network,
     R: Source,
     W: Sink,
-    H: Write + Journal + CountsBusy,
+    H: Write + Journal + CountsBusy + Watch,
     E: Sink,
 >(
     terms: &Terms<'_>,
@@ -193,9 +194,9 @@ fn do_over<
             let ran = do_at(terms, command, &mut station, outside, console);
             (ran, Some(station.into_records()))
         }
-        Work::Verify => {
+        Work::Verify(format) => {
             let mut records = records;
-            let ran = look_through(terms, &mut records, console);
+            let ran = look_through(terms, format, &mut records, console);
             (ran, Some(records))
         }
         Work::Prove(wanted) => {
@@ -250,7 +251,7 @@ pub(crate) fn work_over<
     N: Network,
     R: Source,
     W: Sink,
-    H: Write + Journal + CountsBusy,
+    H: Write + Journal + CountsBusy + Watch,
     E: Sink,
 >(
     terms: &Terms<'_>,

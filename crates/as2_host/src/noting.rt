@@ -2,6 +2,7 @@
 ghost use Rattle.std.specs.Prelude.{◌≡◌, ℕ};
 ghost use Rattle.as2_host.specs.Busy.{busy_behind, is_busy_word};
 
+use as2_audit::{Mailbox, Watch};
 use as2_http::Journal;
 use std::io;
 use std::io::Write;
@@ -70,21 +71,25 @@ impl Journal for Tally {
     }
 }
 
-/// A writer of lines for people, where replies are noted, too. A line that can't be written is lost, and stops nothing.
+/// A writer of lines for people, where replies are noted, too, with somebody who watches a long look through the records. A line that
+/// can't be written is lost, and stops nothing.
 #[derive(Drop)]
-pub struct Lines<E> {
+pub struct Lines<E, P> {
     inner: E,
+    watch: P,
     tally: Tally,
 }
 
-impl<E> Lines<E> {
-    /// The lines are written to that.
-    pub fn new(inner: E) -> Lines<E>
+impl<E, P> Lines<E, P> {
+    /// The lines are written to that, and that watches.
+    pub fn new(inner: E, watch: P) -> Lines<E, P>
         ensures inner { result.inner ≡ inner }
+        ensures watch { result.watch ≡ watch }
         ensures busy { result.tally.busy ≡ 0 }
     {
         Lines {
             inner,
+            watch,
             tally: Tally::new(),
         }
     }
@@ -98,7 +103,7 @@ impl<E> Lines<E> {
     }
 }
 
-impl<E: Write> Write for Lines<E> {
+impl<E: Write, P> Write for Lines<E, P> {
     ghost contents = { λ l. E.contents l.inner };
 
     fn write(&mut self, buf: &[u8]) -> io::Result<usize> {
@@ -110,7 +115,7 @@ impl<E: Write> Write for Lines<E> {
     }
 }
 
-impl<E: Write> Journal for Lines<E> {
+impl<E: Write, P> Journal for Lines<E, P> {
     ghost use Rattle.std.specs.Prelude.{None};
 
     ghost noted = { λ _. None };
@@ -121,7 +126,13 @@ impl<E: Write> Journal for Lines<E> {
     }
 }
 
-impl<E> CountsBusy for Lines<E> {
+impl<E, P: Watch> Watch for Lines<E, P> {
+    fn looked_at(&mut self, mailbox: Mailbox, entries: u64, all: u64) {
+        self.watch.looked_at(mailbox, entries, all);
+    }
+}
+
+impl<E, P> CountsBusy for Lines<E, P> {
     ghost counted = { λ l. l.tally.busy };
 
     fn busy(&self) -> u64 {

@@ -30,7 +30,7 @@ word = IsUtf8-are_ascii
 pub out_back : (is_settled : Bool) (r : OutRow) → IsOutRow r → ReadsBack (out_object is_settled r)
 out_back is_settled r h = back _ (record {
   known = rw (number_of-decimal r.number h.number, number_of-decimal r.tries h.tries);
-  numerals = (tt, (tt, (tt, (IsNumber-decimal r.number h.number, (tt, (tt, (tt, (IsNumber-decimal r.tries h.tries, tt))))))));
+  numerals = (tt, (tt, (tt, (tt, (IsNumber-decimal r.number h.number, (tt, (tt, (tt, (IsNumber-decimal r.tries h.tries, tt)))))))));
   texts = (
     word _ refl,
     (
@@ -46,22 +46,28 @@ out_back is_settled r h = back _ (record {
               (
                 word _ refl,
                 (
-                  IsUtf8-decimal _ h.number,
+                  id_utf8 _ h.id,
                   (
                     word _ refl,
                     (
-                      tt,
+                      IsUtf8-decimal _ h.number,
                       (
                         word _ refl,
                         (
-                          state_utf8 (state_of r.detail),
+                          tt,
                           (
                             word _ refl,
                             (
-                              name_utf8 _ h.partner,
+                              state_utf8 (state_of r.detail),
                               (
                                 word _ refl,
-                                (IsUtf8-decimal _ h.tries, tt),
+                                (
+                                  name_utf8 _ h.partner,
+                                  (
+                                    word _ refl,
+                                    (IsUtf8-decimal _ h.tries, tt),
+                                  ),
+                                ),
                               ),
                             ),
                           ),

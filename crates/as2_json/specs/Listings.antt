@@ -13,6 +13,8 @@ use Rattle.as2_records.specs.Summaries.{in_summary, out_summary}
 use Rattle.as2_records.specs.declared.summaries.OutRow.{OutRow}
 use Rattle.as2_audit.specs.Audits.{findings}
 use Rattle.as2_views.specs.Lists.{is_one_of}
+use Rattle.as2_views.specs.declared.filter.Filter.{Filter}
+use Rattle.as2_views.specs.declared.filter.Filter.TheVariants.{Inbox, Outbox}
 use Rattle.as2_json.specs.Lines.{lines}
 use Rattle.as2_json.specs.Objects.{counts_object, document_object, finding_object, in_object, out_object, verified_object}
 
@@ -27,6 +29,11 @@ list_out_objects s wanted = map entry_object (filter (is_in wanted) s.outbox)
 -- `list` of the documents that were received
 abbrev pub list_in_objects : State → List Data
 list_in_objects s = map (λ e. in_object (in_summary e)) s.inbox
+
+-- of the documents that are sent, those of a state or all; or of those that were received
+abbrev pub listing_objects : Filter → State → List Data
+listing_objects (Outbox wanted) s = list_out_objects s wanted
+listing_objects Inbox s = list_in_objects s
 
 -- the documents under way whose moment has come
 abbrev pub outstanding_documents : State → ℕ → List OutEntry

@@ -30,14 +30,15 @@ whole n = number (unsigned n)
 
 -- ---- listings
 
--- a document that is sent
+-- a document that is sent; whether a receipt has settled it
 abbrev pub out_object : Bool → OutRow → Data
 out_object is_settled r = object_of (
     (codes "box", string (codes "out"))
     ∷ (codes "detail", string (name_of r.detail))
     ∷ (codes "from", string r.organization)
+    ∷ (codes "identifier", string r.id)
     ∷ (codes "number", whole r.number)
-    ∷ (codes "receipt", boolean is_settled)
+    ∷ (codes "settled", boolean is_settled)
     ∷ (codes "state", string (state_text (state_of r.detail)))
     ∷ (codes "to", string r.partner)
     ∷ (codes "tries", whole r.tries)

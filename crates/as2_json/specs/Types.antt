@@ -16,6 +16,7 @@ pub record IsOutRow (r : OutRow) : Type 0 where
   pub tries : Fits r.tries
   pub organization : IsName r.organization
   pub partner : IsName r.partner
+  pub id : IsIdentifier r.id
 
 pub record IsInRow (r : InRow) : Type 0 where
   pub number : Fits r.number

@@ -3,7 +3,7 @@ ghost use Rattle.std.specs.Prelude.{◌≡◌, IfErr, IfOk, map, option_map, tru
 ghost use Rattle.as2_records.specs.Calls.{Reads};
 ghost use Rattle.as2_records.specs.Standing.{may_come};
 ghost use Rattle.as2_json.specs.Lines.{line, lines};
-ghost use Rattle.as2_json.specs.Listings.{Continues, HasOutstanding, list_in_objects, list_out_objects, outstanding_objects, shown_object};
+ghost use Rattle.as2_json.specs.Listings.{Continues, HasOutstanding, list_in_objects, list_out_objects, listing_objects, outstanding_objects, shown_object};
 ghost use Rattle.as2_json.specs.Objects.{counts_object, document_object, in_object};
 
 use crate::counts::add_counts_object;
@@ -13,7 +13,7 @@ use as2_exchange::{OutEntry, StoreFault};
 use as2_mdn::State;
 use as2_records::{Counts, InRow, OutRow, Records};
 use as2_text::Moment;
-use as2_views::keep_outstanding;
+use as2_views::{Filter, keep_outstanding};
 use std::alloc::Global;
 
 /// The lines of rows of received documents. Memory where it runs out.
@@ -75,7 +75,7 @@ fn with_outstanding<R: Records>(
 }
 
 /// The lines of received documents, in order of number. Answers Memory, Disk or Refused.
-pub fn received_in_objects<R: Records>(
+fn received_in_objects<R: Records>(
     records: &mut R,
     alloc: Global,
 ) -> Result<Vec<u8>, StoreFault>
@@ -87,7 +87,7 @@ pub fn received_in_objects<R: Records>(
 }
 
 /// The lines of the documents that are sent, in order of number: those of that state, or all. Answers Memory, Disk or Refused.
-pub fn sent_in_objects<R: Records>(
+fn sent_in_objects<R: Records>(
     records: &mut R,
     alloc: Global,
     wanted: Option<State>,
@@ -97,6 +97,21 @@ pub fn sent_in_objects<R: Records>(
 {
     let rows = records.list_out(alloc, wanted)?;
     with_rows(records, Vec::new(alloc), rows.as_slice())
+}
+
+/// The lines of the listing, in order of number. Answers Memory, Disk or Refused.
+pub fn listing_in_objects<R: Records>(
+    records: &mut R,
+    alloc: Global,
+    filter: Filter,
+) -> Result<Vec<u8>, StoreFault>
+    ensures listed { Reads (λ s text. text.items ≡ lines (listing_objects filter s)) (R.shows records.old) (R.shows records.new) result }
+    ensures may { IfErr result (λ f. may_come f ≡ true) }
+{
+    match filter {
+        Filter::Outbox(wanted) => sent_in_objects(records, alloc, wanted),
+        Filter::Inbox => received_in_objects(records, alloc),
+    }
 }
 
 /// The line of how much is outstanding, and those of the documents that are outstanding at this moment, in order of number. Answers

@@ -19,16 +19,17 @@ fn out_value(alloc: Global, row: &OutRow, is_settled: bool) -> Result<Value, All
         "box": "out",
         "detail": row.detail.name(),
         "from": name_text(&row.organization),
+        "identifier": row.id.as_received(),
         "number": row.number,
-        "receipt": is_settled,
+        "settled": is_settled,
         "state": state_letter(row.detail.state()),
         "to": name_text(&row.partner),
         "tries": row.tries
     })
 }
 
-/// Appends the object of a document that is sent, in a line: its number, state and detail, how often it was tried, whether a receipt has
-/// settled it, and from whom and to whom it is. Memory where it runs out; a part of the line may be appended then.
+/// Appends the object of a document that is sent, in a line: its number, identifier, state and detail, how often it was tried, whether a
+/// receipt has settled it, and from whom and to whom it is. Memory where it runs out; a part of the line may be appended then.
 pub fn add_out_object(text: &mut Vec<u8>, row: &OutRow, is_settled: bool) -> Result<(), Memory>
     ensures { OnOk result (text.new.items ≡ text.old.items ++ line (out_object is_settled row.now)) }
 {

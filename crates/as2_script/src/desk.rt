@@ -9,6 +9,7 @@ mod files;
 mod network;
 mod stores;
 
+use as2_audit::Unwatched;
 use as2_desk::{Console, Host, Outside, run};
 use as2_host::{Lines, OpenStores};
 use as2_http::Counted;
@@ -76,12 +77,12 @@ fn run_counted<S: OpenStores, A: Ledger, B: Ledger, C: Ledger, D: Ledger, E: Led
     let mut console: Console<
         Counted<Input<'_>, A, B>,
         Counted<Paper, C, D>,
-        Lines<Paper>,
+        Lines<Paper, Unwatched>,
         Counted<Paper, E, F>,
     > = Console {
         input: Counted::new(input, reads.calls, reads.failed),
         output: Counted::new(output, writes.calls, writes.failed),
-        hints: Lines::new(Paper::new(alloc, given.calls.errors)),
+        hints: Lines::new(Paper::new(alloc, given.calls.errors), Unwatched),
         errors: Counted::new(errors, says.calls, says.failed),
     };
     let ran = run(

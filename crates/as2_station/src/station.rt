@@ -6,6 +6,8 @@ ghost use Rattle.as2_exchange.specs.declared.answer.Answer.TheVariants.{Http, Re
 ghost use Rattle.as2_exchange.specs.Due.{IsNext, next};
 ghost use Rattle.as2_views.specs.Texts.{fetch, outstanding, show};
 ghost use Rattle.as2_views.specs.Filtering.{listing};
+ghost use Rattle.as2_json.specs.Lines.{line, lines};
+ghost use Rattle.as2_json.specs.Listings.{listing_objects, outstanding_objects, shown_object};
 ghost use Rattle.as2_records.specs.Calls.{Reads};
 ghost use Rattle.as2_records.specs.Standing.{may_come};
 ghost use Rattle.as2_posts.specs.Openings.{reading_by};
@@ -298,6 +300,44 @@ impl<R: Records> Station<R> {
         ensures fault { IfErr result (λ f. may_come f ≡ true) }
     {
         viewing::show(&mut self.records, alloc, number)
+    }
+
+    /// The listing for programs: an object in each line. Answers Memory, Disk or Refused.
+    pub fn listing_in_objects(
+        &mut self,
+        alloc: Global,
+        filter: Filter,
+    ) -> Result<Vec<u8>, StoreFault>
+        ensures listing { Reads (λ s text. text.items ≡ lines (listing_objects filter s)) (R.shows self.old) (R.shows self.new) result }
+        ensures fault { IfErr result (λ f. may_come f ≡ true) }
+    {
+        as2_json::listing_in_objects(&mut self.records, alloc, filter)
+    }
+
+    /// How much is outstanding, for programs: the counts in one object, and one for each document that is under way and due at this moment.
+    /// Answers Memory, Disk or Refused.
+    pub fn outstanding_in_objects(
+        &mut self,
+        alloc: Global,
+        moment: Moment,
+    ) -> Result<Vec<u8>, StoreFault>
+        ensures outstanding { Reads (λ s text. text.items ≡ lines (outstanding_objects s moment)) (R.shows self.old) (R.shows self.new) result }
+        ensures fault { IfErr result (λ f. may_come f ≡ true) }
+    {
+        as2_json::outstanding_in_objects(&mut self.records, alloc, moment)
+    }
+
+    /// All that is known of the document of this number, for programs: an object in a line; None where there is no such document. Answers
+    /// Memory, Disk or Refused.
+    pub fn show_in_objects(
+        &mut self,
+        alloc: Global,
+        number: u64,
+    ) -> Result<Option<Vec<u8>>, StoreFault>
+        ensures shown { Reads (λ s text. option_map (λ t. t.items) text ≡ option_map line (shown_object s number)) (R.shows self.old) (R.shows self.new) result }
+        ensures fault { IfErr result (λ f. may_come f ≡ true) }
+    {
+        as2_json::shown_in_objects(&mut self.records, alloc, number)
     }
 
     /// The content of the received document of this number; None where there is no such entry. Answers Memory, Disk or Refused.

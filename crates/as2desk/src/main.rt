@@ -3,7 +3,7 @@
 
 ghost use Rattle.as2_http.specs.Devices.{Opens};
 
-use as2_connections::{Sockets, clock};
+use as2_connections::{Progress, Sockets, clock};
 use as2_desk::{Console, Host, Outside};
 use as2_files::{FileSystem, InFiles, KeepFiles, OpenFiles, Starting, StoreFiles};
 use as2_host::{Lines, OpenStores};
@@ -37,7 +37,7 @@ fn run<O: OpenStores, A: Ledger, B: Ledger, C: Ledger, D: Ledger, E: Ledger, G: 
     rt: &HostRuntime,
     words: &[&str],
     stores: O,
-    hints: Lines<LineWriter<Stderr>>,
+    hints: Lines<LineWriter<Stderr>, Progress<'_>>,
     reads: Counts,
     writes: Counts,
     says: Counts,
@@ -52,7 +52,7 @@ fn run<O: OpenStores, A: Ledger, B: Ledger, C: Ledger, D: Ledger, E: Ledger, G: 
     let mut console: Console<
         Counted<Stdin, A, B>,
         Counted<Stdout, C, D>,
-        Lines<LineWriter<Stderr>>,
+        Lines<LineWriter<Stderr>, Progress<'_>>,
         Counted<Stderr, E, G>,
     > = Console {
         input: Counted::new(rt.stdin(), reads.calls, reads.failed),
@@ -77,7 +77,7 @@ fn run_over_stores<R: Records + Drop, K: KeepFiles<R> + Drop>(
     rt: &HostRuntime,
     words: &[&str],
     keeper: K,
-    hints: Lines<LineWriter<Stderr>>,
+    hints: Lines<LineWriter<Stderr>, Progress<'_>>,
 ) -> u8 {
     let stores: StoreFiles<'_, R, K> = StoreFiles::new(FileSystem { rt }, keeper);
     let (status, _stores) = run::<StoreFiles<'_, R, K>, Brand, Brand, Brand, Brand, Brand, Brand>(
@@ -106,7 +106,7 @@ fn run_over_kept<D: Disk + Drop, K: KeepFiles<Kept<FileStore<D>>> + Drop>(
     rt: &HostRuntime,
     words: &[&str],
     keeper: K,
-    hints: Lines<LineWriter<Stderr>>,
+    hints: Lines<LineWriter<Stderr>, Progress<'_>>,
 ) -> u8 {
     run_over_stores::<Kept<FileStore<D>>, K>(rt, words, keeper, hints)
 }
@@ -116,7 +116,7 @@ fn run_over_files<F: OpenFiles + Drop>(
     rt: &HostRuntime,
     words: &[&str],
     opener: F,
-    hints: Lines<LineWriter<Stderr>>,
+    hints: Lines<LineWriter<Stderr>, Progress<'_>>,
 ) -> u8 {
     run_over_kept::<F::Disk, InFiles<F>>(rt, words, InFiles { opener }, hints)
 }
@@ -148,7 +148,8 @@ fn main(rt: HostRuntime) -> io::Result<ExitCode> {
     for word in &words {
         texts.push(word.as_str())?;
     }
-    let hints = Lines::new(LineWriter::new(rt.alloc(), rt.stderr())?);
+    let lines = LineWriter::new(rt.alloc(), rt.stderr())?;
+    let hints = Lines::new(lines, Progress::new(&rt));
     let status = run_over_files(&rt, texts.as_slice(), Starting { start: Unknown }, hints);
     Ok(ExitCode::from(status))
 }

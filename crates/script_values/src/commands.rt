@@ -1,7 +1,7 @@
 //! Command lines.
 use crate::arguments::{Arguments, parts_of};
 use as2_commands::{
-    Command, Filter, FirstNumber, Options, Question, RunOptions, Serving, Submission, Task, Wanted,
+    Command, Filter, FirstNumber, Format, Options, Question, RunOptions, Serving, Submission, Task, Wanted,
     options_in,
 };
 use clap::Error;
@@ -87,20 +87,34 @@ fn say_with(answer: &mut Answer, word: &str, number: u64) {
     answer.say_number(number);
 }
 
+/// Answers with a format, where it isn't that for people.
+fn say_format(answer: &mut Answer, format: Format) {
+    if format == Format::Json {
+        answer.say(" in objects");
+    }
+}
+
 /// Answers with what is asked of the records once.
 fn say_question(answer: &mut Answer, question: &Question<Submission<'_>>) {
     match question {
         Question::Submit(given) => say_submission(answer, given),
         Question::Tick => answer.say("tick"),
         Question::Resend(number) => say_with(answer, "resend", *number),
-        Question::List(given, idle) => {
+        Question::List(given, idle, format) => {
             say_filter(answer, given);
+            say_format(answer, *format);
             if *idle {
                 answer.say(", whose state isn't looked at");
             }
         }
-        Question::Outstanding => answer.say("outstanding"),
-        Question::Show(number) => say_with(answer, "show", *number),
+        Question::Outstanding(format) => {
+            answer.say("outstanding");
+            say_format(answer, *format)
+        }
+        Question::Show(number, format) => {
+            say_with(answer, "show", *number);
+            say_format(answer, *format)
+        }
         Question::Fetch(number) => say_with(answer, "fetch", *number),
     }
 }
@@ -145,9 +159,10 @@ fn say_options(answer: &mut Answer, options: &Options<'_>) {
     match &options.task {
         Task::Check => answer.say(": check"),
         Task::Migrate => answer.say(": migrate"),
-        Task::Verify(run) => {
+        Task::Verify(run, format) => {
             say_run(answer, run);
-            answer.say("verify")
+            answer.say("verify");
+            say_format(answer, *format)
         }
         Task::Prove(run, wanted) => {
             say_run(answer, run);

@@ -1,14 +1,14 @@
-use Rattle.std.proofs.Common.{◌≡◌, ◌∙◌, Some, sym, subst, ap, string_bytes}
-use Rattle.as2_views.specs.Texts.{fetch, outstanding, show}
+use Rattle.std.proofs.Common.{◌≡◌, ◌∙◌, Some, sym, subst, ap}
+use Rattle.as2_views.specs.Texts.{fetch}
 use Rattle.as2_exchange.specs.declared.answer.Answer.TheVariants.{Ticked}
 use Rattle.as2_exchange.specs.declared.event.Event.TheVariants as event
 use Rattle.as2_exchange.specs.Step.{step}
 use Rattle.as2_station.specs.Said.{said_to_resend, said_to_submit}
 use Rattle.as2_station.specs.Theorem.{said_as}
 use Rattle.as2_commands.specs.declared.tasks.Question.TheVariants as question
-use Rattle.as2_views.specs.Filtering.{listing}
+use Rattle.as2_desk.specs.Formats.{listing_in, outstanding_in, show_in}
 use Rattle.as2_desk.proofs.Answering.{TellsFrom, ends_by, event_may, looked, looked_may, read, read_may, stepped, submission_refused}
-use Rattle.as2_desk.specs.Questions.{Asked, EndsByEvent, FaultMayCome, IsToldOf, Told, is_event, refusal_to, told_as, told_by, told_by_step}
+use Rattle.as2_desk.specs.Questions.{Asked, EndsByEvent, FaultMayCome, IsToldOf, Told, is_event, printed_text, refusal_to, told_as, told_by, told_by_step}
 use Rattle.as2_desk.proofs.asking.answer.Goals as goal
 
 pub returns-in-Submit-clause-tells : goal.returns-in-Submit-clause-tells
@@ -36,24 +36,24 @@ returns-in-Resend-clause-tells g c = λ clean.
 
 pub returns-in-List-clause-tells : goal.returns-in-List-clause-tells
 returns-in-List-clause-tells g c = λ clean.
-    subst (λ (told : Told). TellsFrom c.args.terms.now.agreements.now c.args.terms.now.moment c.args.question (g.K.Records.shows c.args.station.now) (g.K.Records.shows c.listing.new.self) told) (sym c.read_told.ensures)
-    (read c.args.terms.now.agreements.now c.args.terms.now.moment c.args.question (g.K.Records.shows c.args.station.now) (g.K.Records.shows c.listing.new.self) clean string_bytes (listing c.in-List.filter)
+    subst (λ (told : Told). TellsFrom c.args.terms.now.agreements.now c.args.terms.now.moment c.args.question (g.K.Records.shows c.args.station.now) (g.K.Records.shows c.listing_in.new.station) told) (sym c.read_told.ensures)
+    (read c.args.terms.now.agreements.now c.args.terms.now.moment c.args.question (g.K.Records.shows c.args.station.now) (g.K.Records.shows c.listing_in.new.station) clean printed_text (listing_in c.in-List.format c.in-List.filter)
     (λ s. ap (λ (q : Asked). told_by c.args.terms.now.agreements.now c.args.terms.now.moment q s) c.in-List.is)
-    c.listing.result c.listing.ensures.listing c.listing.ensures.fault)
+    c.listing_in.result c.listing_in.ensures.listing c.listing_in.ensures.fault)
 
 pub returns-in-Outstanding-clause-tells : goal.returns-in-Outstanding-clause-tells
 returns-in-Outstanding-clause-tells g c = λ clean.
-    subst (λ (told : Told). TellsFrom c.args.terms.now.agreements.now c.args.terms.now.moment c.args.question (g.K.Records.shows c.args.station.now) (g.K.Records.shows c.outstanding.new.self) told) (sym c.read_told-in-Outstanding.ensures)
-    (read c.args.terms.now.agreements.now c.args.terms.now.moment c.args.question (g.K.Records.shows c.args.station.now) (g.K.Records.shows c.outstanding.new.self) clean string_bytes (λ s. outstanding s c.args.terms.now.moment)
+    subst (λ (told : Told). TellsFrom c.args.terms.now.agreements.now c.args.terms.now.moment c.args.question (g.K.Records.shows c.args.station.now) (g.K.Records.shows c.outstanding_in.new.station) told) (sym c.read_told-in-Outstanding.ensures)
+    (read c.args.terms.now.agreements.now c.args.terms.now.moment c.args.question (g.K.Records.shows c.args.station.now) (g.K.Records.shows c.outstanding_in.new.station) clean printed_text (λ s. outstanding_in c.in-Outstanding.format s c.args.terms.now.moment)
     (λ s. ap (λ (q : Asked). told_by c.args.terms.now.agreements.now c.args.terms.now.moment q s) c.in-Outstanding.is)
-    c.outstanding.result c.outstanding.ensures.outstanding c.outstanding.ensures.fault)
+    c.outstanding_in.result c.outstanding_in.ensures.outstanding c.outstanding_in.ensures.fault)
 
 pub returns-in-Show-clause-tells : goal.returns-in-Show-clause-tells
 returns-in-Show-clause-tells g c = λ clean.
-    subst (λ (told : Told). TellsFrom c.args.terms.now.agreements.now c.args.terms.now.moment c.args.question (g.K.Records.shows c.args.station.now) (g.K.Records.shows c.show.new.self) told) (sym c.shown_told.ensures)
-    (looked c.args.terms.now.agreements.now c.args.terms.now.moment c.args.question (g.K.Records.shows c.args.station.now) (g.K.Records.shows c.show.new.self) clean string_bytes (λ s. show s c.in-Show.number)
+    subst (λ (told : Told). TellsFrom c.args.terms.now.agreements.now c.args.terms.now.moment c.args.question (g.K.Records.shows c.args.station.now) (g.K.Records.shows c.show_in.new.station) told) (sym c.shown_told.ensures)
+    (looked c.args.terms.now.agreements.now c.args.terms.now.moment c.args.question (g.K.Records.shows c.args.station.now) (g.K.Records.shows c.show_in.new.station) clean printed_text (λ s. show_in c.in-Show.format s c.in-Show.number)
     (λ s. ap (λ (q : Asked). told_by c.args.terms.now.agreements.now c.args.terms.now.moment q s) c.in-Show.is)
-    c.show.result c.show.ensures.shown c.show.ensures.fault)
+    c.show_in.result c.show_in.ensures.shown c.show_in.ensures.fault)
 
 pub returns-in-Fetch-clause-tells : goal.returns-in-Fetch-clause-tells
 returns-in-Fetch-clause-tells g c = λ clean.
@@ -78,13 +78,13 @@ returns-in-Resend-clause-fault g c = event_may c.args.question (ap is_event c.in
     (subst (λ (q : Asked). IsToldOf q (said_as said_to_resend c.resend.result) (told_as c.resent_told.result)) (sym c.in-Resend.is) c.resent_told.ensures) c.resend.ensures.taken.does.fault
 
 pub returns-in-List-clause-fault : goal.returns-in-List-clause-fault
-returns-in-List-clause-fault g c = subst (FaultMayCome c.args.question) (sym c.read_told.ensures) (read_may c.args.question string_bytes c.listing.result c.listing.ensures.fault)
+returns-in-List-clause-fault g c = subst (FaultMayCome c.args.question) (sym c.read_told.ensures) (read_may c.args.question printed_text c.listing_in.result c.listing_in.ensures.fault)
 
 pub returns-in-Outstanding-clause-fault : goal.returns-in-Outstanding-clause-fault
-returns-in-Outstanding-clause-fault g c = subst (FaultMayCome c.args.question) (sym c.read_told-in-Outstanding.ensures) (read_may c.args.question string_bytes c.outstanding.result c.outstanding.ensures.fault)
+returns-in-Outstanding-clause-fault g c = subst (FaultMayCome c.args.question) (sym c.read_told-in-Outstanding.ensures) (read_may c.args.question printed_text c.outstanding_in.result c.outstanding_in.ensures.fault)
 
 pub returns-in-Show-clause-fault : goal.returns-in-Show-clause-fault
-returns-in-Show-clause-fault g c = subst (FaultMayCome c.args.question) (sym c.shown_told.ensures) (looked_may c.args.question string_bytes c.show.result c.show.ensures.fault)
+returns-in-Show-clause-fault g c = subst (FaultMayCome c.args.question) (sym c.shown_told.ensures) (looked_may c.args.question printed_text c.show_in.result c.show_in.ensures.fault)
 
 pub returns-in-Fetch-clause-fault : goal.returns-in-Fetch-clause-fault
 returns-in-Fetch-clause-fault g c = subst (FaultMayCome c.args.question) (sym c.fetched_told.ensures) (looked_may c.args.question (λ v. v.items) c.fetch.result c.fetch.ensures.fault)
@@ -109,13 +109,13 @@ returns-in-Resend-clause-by_history g c = λ clean s rests.
     (by.0, by.1, subst (λ (q : Asked). EndsByEvent c.args.terms.now.agreements.now c.args.terms.now.moment q s by.0 told) (sym c.in-Resend.is) by.2)
 
 pub returns-in-List-clause-by_history : goal.returns-in-List-clause-by_history
-returns-in-List-clause-by_history g c = λ clean s rests. (s, c.listing.ensures.listing.same clean s rests, subst (λ (q : Asked). EndsByEvent c.args.terms.now.agreements.now c.args.terms.now.moment q s s (told_as c.read_told.result)) (sym c.in-List.is) tt)
+returns-in-List-clause-by_history g c = λ clean s rests. (s, c.listing_in.ensures.listing.same clean s rests, subst (λ (q : Asked). EndsByEvent c.args.terms.now.agreements.now c.args.terms.now.moment q s s (told_as c.read_told.result)) (sym c.in-List.is) tt)
 
 pub returns-in-Outstanding-clause-by_history : goal.returns-in-Outstanding-clause-by_history
-returns-in-Outstanding-clause-by_history g c = λ clean s rests. (s, c.outstanding.ensures.outstanding.same clean s rests, subst (λ (q : Asked). EndsByEvent c.args.terms.now.agreements.now c.args.terms.now.moment q s s (told_as c.read_told-in-Outstanding.result)) (sym c.in-Outstanding.is) tt)
+returns-in-Outstanding-clause-by_history g c = λ clean s rests. (s, c.outstanding_in.ensures.outstanding.same clean s rests, subst (λ (q : Asked). EndsByEvent c.args.terms.now.agreements.now c.args.terms.now.moment q s s (told_as c.read_told-in-Outstanding.result)) (sym c.in-Outstanding.is) tt)
 
 pub returns-in-Show-clause-by_history : goal.returns-in-Show-clause-by_history
-returns-in-Show-clause-by_history g c = λ clean s rests. (s, c.show.ensures.shown.same clean s rests, subst (λ (q : Asked). EndsByEvent c.args.terms.now.agreements.now c.args.terms.now.moment q s s (told_as c.shown_told.result)) (sym c.in-Show.is) tt)
+returns-in-Show-clause-by_history g c = λ clean s rests. (s, c.show_in.ensures.shown.same clean s rests, subst (λ (q : Asked). EndsByEvent c.args.terms.now.agreements.now c.args.terms.now.moment q s s (told_as c.shown_told.result)) (sym c.in-Show.is) tt)
 
 pub returns-in-Fetch-clause-by_history : goal.returns-in-Fetch-clause-by_history
 returns-in-Fetch-clause-by_history g c = λ clean s rests. (s, c.fetch.ensures.fetched.same clean s rests, subst (λ (q : Asked). EndsByEvent c.args.terms.now.agreements.now c.args.terms.now.moment q s s (told_as c.fetched_told.result)) (sym c.in-Fetch.is) tt)
