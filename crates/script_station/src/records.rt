@@ -1,6 +1,7 @@
 //! How documents, receipts and what waits stand in the records.
 use crate::stage::Stage;
 use crate::station::state_in;
+use as2_audit::{Unwatched, Verification, verify};
 use as2_exchange::{Evidence, InEntry, OutEntry, StoreFault};
 use as2_kept::Kept;
 use as2_mdn::Detail;
@@ -247,6 +248,13 @@ fn say_origin(answer: &mut Answer, origin: Result<u64, StoreFault>) {
     }
 }
 
+/// Answers with what a look through the records finds.
+fn say_verified(answer: &mut Answer, came: Result<Verification, StoreFault>) {
+    if let Some(verification) = answer.unless_fault(came) {
+        answer.say_bytes(verification.text.as_slice());
+    }
+}
+
 /// What is asked of the records.
 #[derive(Clone, Copy)]
 enum Asked {
@@ -264,6 +272,7 @@ enum Asked {
     Submitted,
     Begun,
     Receipt,
+    Verified,
 }
 
 /// What a verb asks.
@@ -283,6 +292,7 @@ fn asked_by(verb: &str) -> Option<Asked> {
         "submitted" => Some(Asked::Submitted),
         "begun" => Some(Asked::Begun),
         "receipt" => Some(Asked::Receipt),
+        "verified" => Some(Asked::Verified),
         _ => None,
     }
 }
@@ -329,6 +339,7 @@ fn look<K: Records>(records: &mut K, asked: Asked, rest: &str, answer: &mut Answ
         Asked::Origin => say_origin(answer, records.origin()),
         Asked::Counts => look_at_counts(records, answer),
         Asked::Settled => say_settled(answer, records.settled(alloc)),
+        Asked::Verified => say_verified(answer, verify(records, alloc, &mut Unwatched)),
         Asked::Inbox => say_inbox(answer, records.list_in(alloc)),
         Asked::InboxRows => say_inbox_rows(answer, records.list_in(alloc)),
         Asked::Outbox => look_out(records, rest, answer),
