@@ -80,7 +80,7 @@ pub struct Lines<E, P> {
     tally: Tally,
 }
 
-impl<E, P> Lines<E, P> {
+impl<E, P: Drop> Lines<E, P> {
     /// The lines are written to that, and that watches.
     pub fn new(inner: E, watch: P) -> Lines<E, P>
         ensures inner { result.inner ≡ inner }
