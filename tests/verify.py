@@ -12,6 +12,7 @@ refuses the store, which it may always do; and what the change breaks is found. 
 import argparse
 import base64
 import hashlib
+import itertools
 import os
 import pathlib
 import random
@@ -30,6 +31,9 @@ DETAILS = ["new", "sending", "awaiting", "retry", "processed", "no-receipt-asked
            "error-modifier", "mic-differs", "tries-used", "overdue"]
 BY_RECEIPT = {"processed", "warning", "no-mic", "unknown-mic", "not-processed", "error-modifier", "mic-differs"}
 PROCESSED, IDLE = 6, 1
+RUNNING, LAST, PENDING = 2, 3, 2
+TO_SEND, TO_ANSWER, TO_HEAR, TO_END = 1, 2, 3, 4  # what is waited for
+END_OF_NUMBERS = 1_000_000_000_000
 DIGESTS = {"sha1": "sha1", "md5": "md5", "sha-256": "sha256"}
 NAMED = ("store: NotAStore", "store: Disk", "store: Refused", "store: OtherVersion", "store: Memory")
 
@@ -96,12 +100,47 @@ def sent_findings(tables):
             yield f"sent {number}: {fault}"
 
 
+def kind_of(detail, attempt):
+    """What a document waits for."""
+    if detail in ("new", "retry"):
+        return TO_SEND
+    if detail == "awaiting":
+        return TO_HEAR
+    return {RUNNING: TO_SEND, LAST: TO_END}.get(attempt) if detail == "sending" else None
+
+
+def wanted_waits(tables):
+    """The rows of what waits, by the entries."""
+    for number, attempt, due, code in tables.execute("SELECT number, attempt, due, detail FROM outbox"):
+        kind = kind_of(DETAILS[code - 1], attempt)
+        if kind:
+            yield kind * END_OF_NUMBERS + number, kind, number, due
+    for number, mdn, attempt, due in tables.execute("SELECT number, mdn, attempt, due FROM inbox2"):
+        if mdn == PENDING and attempt in (IDLE, RUNNING):
+            yield TO_ANSWER * END_OF_NUMBERS + number, TO_ANSWER, number, due
+
+
+def discrepancies(tables):
+    """What is first told of the counters and of what waits."""
+    counters = tables.execute("SELECT next_receipt, next_document FROM meta").fetchone()
+    for word, box, counter in (("received", "inbox2", counters[0]), ("sent", "outbox", counters[1])):
+        last = tables.execute(f"SELECT max(number) FROM {box}").fetchone()[0]
+        if last is not None and last >= counter:
+            yield f"{word} {last}: its number isn't below the counter"
+            return
+    wanted, kept = sorted(wanted_waits(tables)), tables.execute("SELECT place, kind, number, due FROM waiting ORDER BY place").fetchall()
+    differ = [pair for pair in itertools.zip_longest(wanted, kept) if pair[0] != pair[1]]
+    if differ:
+        _, kind, number, _ = min((row for row in differ[0] if row), key=lambda row: row[0])
+        yield f"{'received' if kind == TO_ANSWER else 'sent'} {number}: waits otherwise than it should"
+
+
 def expected(store):
     """The lines that are to be printed of a store, by SQLite's own reading."""
     try:
         with sqlite3.connect(f"file:{store}?mode=ro&immutable=1", uri=True) as tables:
             received, sent = (tables.execute(f"SELECT count(*) FROM {box}").fetchone()[0] for box in ("inbox2", "outbox"))
-            found = [*received_findings(tables), *sent_findings(tables)]
+            found = [*received_findings(tables), *sent_findings(tables), *discrepancies(tables)]
     except (sqlite3.Error, KeyError, IndexError, TypeError, AttributeError, ValueError) as error:
         raise Unreadable(error) from error
     return [*found, f"verified: {received} received, {sent} sent, {len(found)} findings"]
@@ -234,10 +273,16 @@ def change(dice, tables, kind):
         tables.execute("UPDATE outbox SET due = 7 WHERE number = ?", (number,))
         return True
     if kind == "a waiting row":
-        tables.execute("DELETE FROM waiting WHERE place = (SELECT min(place) FROM waiting)")
-        return None
-    tables.execute("UPDATE meta SET next_receipt = 1")
-    return None
+        place, = some(dice, tables, "SELECT place FROM waiting")
+        tables.execute(*dice.choice([("DELETE FROM waiting WHERE place = ?", (place,)),
+                                     ("UPDATE waiting SET due = coalesce(due, 0) + 1 WHERE place = ?", (place,)),
+                                     ("UPDATE waiting SET kind = 5 - kind WHERE place = ?", (place,)),
+                                     ("UPDATE waiting SET place = 4000000000999, number = 999 WHERE place = ?", (place,)),
+                                     ("INSERT INTO waiting VALUES (?1 + 1000000, 1, 1000000, 7)", (place,))]))
+        return True
+    column, box = dice.choice([("next_receipt", "inbox2"), ("next_document", "outbox")])
+    tables.execute(f"UPDATE meta SET {column} = (SELECT max(number) FROM {box}) - ?", (dice.randrange(3),))
+    return True
 
 
 KINDS = ("a content", "a document", "a MIC", "a receipt", "a receipt taken away", "a detail", "an outcome", "a settled document waits",
