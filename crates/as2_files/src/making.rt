@@ -111,7 +111,8 @@ impl FileSystem<'_> {
     }
 }
 
-/// A file is FOLDER/NAME; the folder "" is the one that the program runs in. Each is on the disk before the next is made.
+/// A file is FOLDER/NAME; the folder "" is the one that the program runs in. The bytes of each are on the disk before the next is made; its entry
+/// in the folder need not be.
 impl MakeFiles for FileSystem<'_> {
     ghost use Rattle.std.specs.Prelude.{⊤};
 
