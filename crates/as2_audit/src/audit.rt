@@ -5,9 +5,10 @@ ghost use Rattle.as2_records.specs.Standing.{may_come};
 ghost use Rattle.as2_audit.specs.Audits.{found, is_migrated, received_at, received_findings, sent_at, sent_findings};
 
 use crate::fault::Fault;
-use crate::findings::{Finding, Mailbox};
+use crate::findings::{Finding, Mailbox, append};
 use crate::received::received_fault;
 use crate::sent::sent_fault;
+use crate::watch::Watch;
 use as2_exchange::StoreFault;
 use as2_records::Records;
 use std::alloc::Global;
@@ -61,36 +62,39 @@ fn add(
         number,
         fault,
     };
-    match findings.push(finding) {
-        Ok(()) => Ok(()),
-        Err(_) => Err(StoreFault::Memory),
-    }
+    append(findings, finding)
 }
 
 /// Appends what is found of all received documents, in order of number; how many there are. Answers Memory, Disk or Refused; a part may be
 /// appended then.
-pub fn add_received_findings<R: Records>(
+pub fn add_received_findings<R: Records, W: Watch>(
     records: &mut R,
     alloc: Global,
     findings: &mut Vec<Finding>,
+    watch: &mut W,
 ) -> Result<u64, StoreFault>
     ensures found { Reads (λ s count. (findings.new.items ≡ findings.old.items ++ received_findings s) × (count ≡ length s.inbox)) (R.shows records.old) (R.shows records.new) result }
     ensures may { IfErr result (λ f. may_come f ≡ true) }
 {
     let rows = records.list_in(alloc)?;
+    let all = rows.len() as u64;
+    let mut looked = 0;
     for row in &rows {
         let fault = received_at(records, alloc, row.number)?;
         add(findings, Mailbox::Inbox, row.number, fault)?;
+        looked += 1;
+        watch.looked_at(Mailbox::Inbox, looked, all);
     }
-    Ok(rows.len() as u64)
+    Ok(all)
 }
 
 /// Appends what is found of all documents that are sent, in order of number; how many there are. Answers Memory, Disk or Refused; a part may
 /// be appended then.
-pub fn add_sent_findings<R: Records>(
+pub fn add_sent_findings<R: Records, W: Watch>(
     records: &mut R,
     alloc: Global,
     findings: &mut Vec<Finding>,
+    watch: &mut W,
 ) -> Result<u64, StoreFault>
     ensures found { Reads (λ s count. (findings.new.items ≡ findings.old.items ++ sent_findings s) × (count ≡ length s.outbox)) (R.shows records.old) (R.shows records.new) result }
     ensures may { IfErr result (λ f. may_come f ≡ true) }
@@ -98,9 +102,13 @@ pub fn add_sent_findings<R: Records>(
     let origin = records.origin()?;
     let migrated = origin != 0;
     let rows = records.list_out(alloc, None)?;
+    let all = rows.len() as u64;
+    let mut looked = 0;
     for row in &rows {
         let fault = sent_at(records, alloc, migrated, row.number)?;
         add(findings, Mailbox::Outbox, row.number, fault)?;
+        looked += 1;
+        watch.looked_at(Mailbox::Outbox, looked, all);
     }
-    Ok(rows.len() as u64)
+    Ok(all)
 }

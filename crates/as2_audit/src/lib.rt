@@ -2,17 +2,21 @@
 #![tactic(auto)]
 
 mod audit;
+mod discrepant;
 mod fault;
 mod findings;
 mod laws;
 mod received;
 mod sent;
 mod verifying;
+mod watch;
 
 pub use audit::{add_received_findings, add_sent_findings};
+pub use discrepant::add_discrepancy;
 pub use fault::Fault;
 pub use findings::{Finding, Mailbox};
 pub use laws::passed_success_is_confirmed;
 pub use received::received_fault;
 pub use sent::sent_fault;
 pub use verifying::{Verification, verify};
+pub use watch::{Unwatched, Watch};
