@@ -65,8 +65,8 @@ fn add(
     append(findings, finding)
 }
 
-/// Appends what is found of all received documents, in order of number; how many there are. Answers Memory, Disk or Refused; a part may be
-/// appended then.
+/// Appends what is found of all received documents, in order of number; how many there are. Behind each it tells `watch` how far it has
+/// come. Answers Memory, Disk or Refused; a part may be appended then.
 pub fn add_received_findings<R: Records, W: Watch>(
     records: &mut R,
     alloc: Global,
@@ -78,18 +78,16 @@ pub fn add_received_findings<R: Records, W: Watch>(
 {
     let rows = records.list_in(alloc)?;
     let all = rows.len() as u64;
-    let mut looked = 0;
-    for row in &rows {
+    for (at, row) in rows.iter().enumerate() {
         let fault = received_at(records, alloc, row.number)?;
         add(findings, Mailbox::Inbox, row.number, fault)?;
-        looked += 1;
-        watch.looked_at(Mailbox::Inbox, looked, all);
+        watch.looked_at(Mailbox::Inbox, at as u64 + 1, all);
     }
     Ok(all)
 }
 
-/// Appends what is found of all documents that are sent, in order of number; how many there are. Answers Memory, Disk or Refused; a part may
-/// be appended then.
+/// Appends what is found of all documents that are sent, in order of number; how many there are. Behind each it tells `watch` how far it
+/// has come. Answers Memory, Disk or Refused; a part may be appended then.
 pub fn add_sent_findings<R: Records, W: Watch>(
     records: &mut R,
     alloc: Global,
@@ -103,12 +101,10 @@ pub fn add_sent_findings<R: Records, W: Watch>(
     let migrated = origin != 0;
     let rows = records.list_out(alloc, None)?;
     let all = rows.len() as u64;
-    let mut looked = 0;
-    for row in &rows {
+    for (at, row) in rows.iter().enumerate() {
         let fault = sent_at(records, alloc, migrated, row.number)?;
         add(findings, Mailbox::Outbox, row.number, fault)?;
-        looked += 1;
-        watch.looked_at(Mailbox::Outbox, looked, all);
+        watch.looked_at(Mailbox::Outbox, at as u64 + 1, all);
     }
     Ok(all)
 }

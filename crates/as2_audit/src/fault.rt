@@ -25,7 +25,7 @@ pub enum Fault {
     ReceiptOfAnother,
     /// The receipt that is kept doesn't give the content this detail.
     DetailDiffers,
-    /// Its number isn't below the next number of its kind: none was given it.
+    /// The number of an entry isn't below the next one of its box: it was never given.
     NeverGiven,
     /// What is kept of what an entry waits for isn't what the entry says.
     WaitsOtherwise,

@@ -1,8 +1,8 @@
-//! What is wrong with the entries of the records, as far as their own words tell.
+//! What is wrong with the entries of the records, as far as their own words tell, and what is kept beside them.
 #![tactic(auto)]
 
 mod audit;
-mod discrepant;
+mod discrepancies;
 mod fault;
 mod findings;
 mod laws;
@@ -12,7 +12,7 @@ mod verifying;
 mod watch;
 
 pub use audit::{add_received_findings, add_sent_findings};
-pub use discrepant::add_discrepancy;
+pub use discrepancies::add_discrepancy;
 pub use fault::Fault;
 pub use findings::{Finding, Mailbox};
 pub use laws::passed_success_is_confirmed;

@@ -7,7 +7,7 @@ ghost use Rattle.as2_audit.specs.Audits.{findings};
 ghost use Rattle.as2_audit.specs.Texts.{finding_line, summary_line, verification};
 
 use crate::audit::{add_received_findings, add_sent_findings};
-use crate::discrepant::add_discrepancy;
+use crate::discrepancies::add_discrepancy;
 use crate::findings::Finding;
 use crate::watch::Watch;
 use as2_exchange::StoreFault;
