@@ -1,4 +1,5 @@
 pub mod Faults
 pub mod Audits
+pub mod Discrepancies
 pub mod Texts
 pub mod Laws

@@ -4,7 +4,7 @@ use Rattle.std.specs.List.{flat_map}
 use Rattle.as2_exchange.specs.State.{State}
 use Rattle.as2_audit.specs.Audits.{findings}
 use Rattle.as2_audit.specs.declared.fault.Fault.{Fault}
-use Rattle.as2_audit.specs.declared.fault.Fault.TheVariants.{NoMic, StrayMic, MicDiffers, NoReceipt, StrayReceipt, StillWaits, NeverBegun, UnreadableReceipt, ReceiptOfAnother, DetailDiffers}
+use Rattle.as2_audit.specs.declared.fault.Fault.TheVariants.{NoMic, StrayMic, MicDiffers, NoReceipt, StrayReceipt, StillWaits, NeverBegun, UnreadableReceipt, ReceiptOfAnother, DetailDiffers, NeverGiven, WaitsOtherwise}
 use Rattle.as2_audit.specs.declared.findings.Finding.{Finding}
 use Rattle.as2_audit.specs.declared.findings.Mailbox.{Mailbox}
 use Rattle.as2_audit.specs.declared.findings.Mailbox.TheVariants.{Inbox, Outbox}
@@ -21,6 +21,8 @@ fault_text NeverBegun = codes "tried, and never begun"
 fault_text UnreadableReceipt = codes "receipt can't be read"
 fault_text ReceiptOfAnother = codes "receipt is of another document"
 fault_text DetailDiffers = codes "receipt says something else"
+fault_text NeverGiven = codes "its number isn't below the counter"
+fault_text WaitsOtherwise = codes "waits otherwise than it should"
 
 -- of which box an entry is
 abbrev pub mailbox_word : Mailbox → List ℕ

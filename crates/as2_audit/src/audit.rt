@@ -5,9 +5,10 @@ ghost use Rattle.as2_records.specs.Standing.{may_come};
 ghost use Rattle.as2_audit.specs.Audits.{found, is_migrated, received_at, received_findings, sent_at, sent_findings};
 
 use crate::fault::Fault;
-use crate::findings::{Finding, Mailbox};
+use crate::findings::{Finding, Mailbox, append};
 use crate::received::received_fault;
 use crate::sent::sent_fault;
+use crate::watch::Watch;
 use as2_exchange::StoreFault;
 use as2_records::Records;
 use std::alloc::Global;
@@ -61,36 +62,37 @@ fn add(
         number,
         fault,
     };
-    match findings.push(finding) {
-        Ok(()) => Ok(()),
-        Err(_) => Err(StoreFault::Memory),
-    }
+    append(findings, finding)
 }
 
-/// Appends what is found of all received documents, in order of number; how many there are. Answers Memory, Disk or Refused; a part may be
-/// appended then.
-pub fn add_received_findings<R: Records>(
+/// Appends what is found of all received documents, in order of number; how many there are. Behind each it tells `watch` how far it has
+/// come. Answers Memory, Disk or Refused; a part may be appended then.
+pub fn add_received_findings<R: Records, W: Watch>(
     records: &mut R,
     alloc: Global,
     findings: &mut Vec<Finding>,
+    watch: &mut W,
 ) -> Result<u64, StoreFault>
     ensures found { Reads (λ s count. (findings.new.items ≡ findings.old.items ++ received_findings s) × (count ≡ length s.inbox)) (R.shows records.old) (R.shows records.new) result }
     ensures may { IfErr result (λ f. may_come f ≡ true) }
 {
     let rows = records.list_in(alloc)?;
-    for row in &rows {
+    let all = rows.len() as u64;
+    for (at, row) in rows.iter().enumerate() {
         let fault = received_at(records, alloc, row.number)?;
         add(findings, Mailbox::Inbox, row.number, fault)?;
+        watch.looked_at(Mailbox::Inbox, at as u64 + 1, all);
     }
-    Ok(rows.len() as u64)
+    Ok(all)
 }
 
-/// Appends what is found of all documents that are sent, in order of number; how many there are. Answers Memory, Disk or Refused; a part may
-/// be appended then.
-pub fn add_sent_findings<R: Records>(
+/// Appends what is found of all documents that are sent, in order of number; how many there are. Behind each it tells `watch` how far it
+/// has come. Answers Memory, Disk or Refused; a part may be appended then.
+pub fn add_sent_findings<R: Records, W: Watch>(
     records: &mut R,
     alloc: Global,
     findings: &mut Vec<Finding>,
+    watch: &mut W,
 ) -> Result<u64, StoreFault>
     ensures found { Reads (λ s count. (findings.new.items ≡ findings.old.items ++ sent_findings s) × (count ≡ length s.outbox)) (R.shows records.old) (R.shows records.new) result }
     ensures may { IfErr result (λ f. may_come f ≡ true) }
@@ -98,9 +100,11 @@ pub fn add_sent_findings<R: Records>(
     let origin = records.origin()?;
     let migrated = origin != 0;
     let rows = records.list_out(alloc, None)?;
-    for row in &rows {
+    let all = rows.len() as u64;
+    for (at, row) in rows.iter().enumerate() {
         let fault = sent_at(records, alloc, migrated, row.number)?;
         add(findings, Mailbox::Outbox, row.number, fault)?;
+        watch.looked_at(Mailbox::Outbox, at as u64 + 1, all);
     }
-    Ok(rows.len() as u64)
+    Ok(all)
 }

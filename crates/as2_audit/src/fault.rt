@@ -25,6 +25,10 @@ pub enum Fault {
     ReceiptOfAnother,
     /// The receipt that is kept doesn't give the content this detail.
     DetailDiffers,
+    /// The number of an entry isn't below the next one of its box: it was never given.
+    NeverGiven,
+    /// What is kept of what an entry waits for isn't what the entry says.
+    WaitsOtherwise,
 }
 
 impl Fault {
@@ -43,6 +47,8 @@ impl Fault {
             Fault::UnreadableReceipt => "receipt can't be read",
             Fault::ReceiptOfAnother => "receipt is of another document",
             Fault::DetailDiffers => "receipt says something else",
+            Fault::NeverGiven => "its number isn't below the counter",
+            Fault::WaitsOtherwise => "waits otherwise than it should",
         }
     }
 }

@@ -7,7 +7,9 @@ ghost use Rattle.as2_audit.specs.Audits.{findings};
 ghost use Rattle.as2_audit.specs.Texts.{finding_line, summary_line, verification};
 
 use crate::audit::{add_received_findings, add_sent_findings};
+use crate::discrepancies::add_discrepancy;
 use crate::findings::Finding;
+use crate::watch::Watch;
 use as2_exchange::StoreFault;
 use as2_records::Records;
 use as2_text::Memory;
@@ -70,14 +72,19 @@ fn lines(alloc: Global, findings: &[Finding], received: u64, sent: u64) -> Resul
 }
 
 /// Looks through all entries of the records: what of each can be told wrong by its own words, those that were received first, each in
-/// order of number. Answers Memory, Disk or Refused.
-pub fn verify<R: Records>(records: &mut R, alloc: Global) -> Result<Verification, StoreFault>
+/// order of number, and behind them the first that doesn't agree with what is kept beside it. Answers Memory, Disk or Refused.
+pub fn verify<R: Records, W: Watch>(
+    records: &mut R,
+    alloc: Global,
+    watch: &mut W,
+) -> Result<Verification, StoreFault>
     ensures verified { Reads (λ s v. (v.text.items ≡ verification s) × (v.findings ≡ length (findings s))) (R.shows records.old) (R.shows records.new) result }
     ensures may { IfErr result (λ f. may_come f ≡ true) }
 {
     let mut findings = Vec::new(alloc);
-    let received = add_received_findings(records, alloc, &mut findings)?;
-    let sent = add_sent_findings(records, alloc, &mut findings)?;
+    let received = add_received_findings(records, alloc, &mut findings, watch)?;
+    let sent = add_sent_findings(records, alloc, &mut findings, watch)?;
+    add_discrepancy(records, alloc, &mut findings)?;
     let text = lines(alloc, findings.as_slice(), received, sent)?;
     Ok(Verification {
         text,

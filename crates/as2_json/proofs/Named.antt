@@ -69,3 +69,5 @@ fault_utf8 fault.NeverBegun = IsUtf8-are_ascii _ refl
 fault_utf8 fault.UnreadableReceipt = IsUtf8-are_ascii _ refl
 fault_utf8 fault.ReceiptOfAnother = IsUtf8-are_ascii _ refl
 fault_utf8 fault.DetailDiffers = IsUtf8-are_ascii _ refl
+fault_utf8 fault.NeverGiven = IsUtf8-are_ascii _ refl
+fault_utf8 fault.WaitsOtherwise = IsUtf8-are_ascii _ refl

@@ -9,7 +9,9 @@ ghost use Rattle.as2_json.specs.Listings.{verification_objects};
 ghost use Rattle.as2_json.specs.Objects.{finding_object, verified_object};
 
 use crate::findings::{add_finding_object, add_verified_object};
-use as2_audit::{Finding, Verification, add_received_findings, add_sent_findings};
+use as2_audit::{
+    Finding, Verification, Watch, add_discrepancy, add_received_findings, add_sent_findings,
+};
 use as2_exchange::StoreFault;
 use as2_records::Records;
 use as2_text::Memory;
@@ -37,16 +39,18 @@ fn objects(alloc: Global, findings: &[Finding], received: u64, sent: u64) -> Res
 }
 
 /// Looks through all entries of the records, as `as2_audit::verify`, and tells what it finds in objects. Answers Memory, Disk or Refused.
-pub fn verify_in_objects<R: Records>(
+pub fn verify_in_objects<R: Records, W: Watch>(
     records: &mut R,
     alloc: Global,
+    watch: &mut W,
 ) -> Result<Verification, StoreFault>
     ensures verified { Reads (λ s v. (v.text.items ≡ lines (verification_objects s)) × (v.findings ≡ length (findings s))) (R.shows records.old) (R.shows records.new) result }
     ensures may { IfErr result (λ f. may_come f ≡ true) }
 {
     let mut findings = Vec::new(alloc);
-    let received = add_received_findings(records, alloc, &mut findings)?;
-    let sent = add_sent_findings(records, alloc, &mut findings)?;
+    let received = add_received_findings(records, alloc, &mut findings, watch)?;
+    let sent = add_sent_findings(records, alloc, &mut findings, watch)?;
+    add_discrepancy(records, alloc, &mut findings)?;
     let text = objects(alloc, findings.as_slice(), received, sent)?;
     Ok(Verification {
         text,

@@ -14,27 +14,27 @@ use Rattle.as2_audit.proofs.audit.add_received_findings.Goals as goal
 
 pub returns-in_err-fault-clause-found : goal.returns-in_err-fault-clause-found
 returns-in_err-fault-clause-found g c =
-    read_then _ _ _ _ _ _ _ c.from_residual-in_err-fault.result (λ s n rests known more. more) c.loop-row.invariant
+    read_then _ _ _ _ _ _ _ c.from_residual-in_err-fault.result (λ s n rests known more. more) c.loop-at.invariant
     (read_bad _ _ _ _ _ c.from_residual-in_err-fault.result c.from_residual-in_err-fault.ensures.0 c.in_err-fault.ensures.fault)
 
 pub returns-in_err-add-clause-found : goal.returns-in_err-add-clause-found
 returns-in_err-add-clause-found g c =
-    read_then _ _ _ _ _ _ _ c.from_residual-in_err-add.result (λ s n rests known more. more) c.loop-row.invariant
+    read_then _ _ _ _ _ _ _ c.from_residual-in_err-add.result (λ s n rests known more. more) c.loop-at.invariant
     (read_bad _ _ _ _ _ c.from_residual-in_err-add.result c.from_residual-in_err-add.ensures.0 c.in_ok-fault.ensures.fault)
 
-pub loop-row-preserved : goal.loop-row-preserved
-loop-row-preserved g c =
-    one_more _ _ (λ s fault. fault ≡ received_at s c.row-item.result.number) _ _ _ _ _ _ c.loop-row.row-index _ c.row-item.result c.in_ok-fault.fault c.loop-row-test.true
+pub loop-at-preserved : goal.loop-at-preserved
+loop-at-preserved g c =
+    one_more _ _ (λ s fault. fault ≡ received_at s c.row-item.result.number) _ _ _ _ _ _ c.loop-at.at _ c.row-item.result c.in_ok-fault.fault c.loop-at-test.true
     (λ s rows is. c.in_ok-add.ensures.found
-    ∙ ap (λ (f : Option Fault). c.loop-row.findings.items ++ found Inbox c.row-item.result.number f) is
-    ∙ ap (λ (r : InRow). c.loop-row.findings.items ++ found Inbox r.number (received_at s r.number)) c.row-item.is)
-    c.loop-row.invariant c.in_ok-fault.ensures.fault
+    ∙ ap (λ (f : Option Fault). c.loop-at.findings.items ++ found Inbox c.row-item.result.number f) is
+    ∙ ap (λ (r : InRow). c.loop-at.findings.items ++ found Inbox r.number (received_at s r.number)) c.row-item.is)
+    c.loop-at.invariant c.in_ok-fault.ensures.fault
 
 pub returns-clause-found : goal.returns-clause-found
 returns-clause-found g c =
-    all _ _ (λ s count. (c.loop-row.findings.items ≡ c.args.findings.now.items ++ received_findings s) × (count ≡ length s.inbox)) _ _ c.args.findings.now.items c.loop-row.findings.items c.loop-row.row-index _ c.len.result (omega (arith, c.loop-row.auto.row-index-end, c.loop-row-test.false))
+    all _ _ (λ s count. (c.loop-at.findings.items ≡ c.args.findings.now.items ++ received_findings s) × (count ≡ length s.inbox)) _ _ c.args.findings.now.items c.loop-at.findings.items c.loop-at.at _ c.len-all.result (omega (arith, c.loop-at.auto.at-end, c.loop-at-test.false))
     (λ s rows is. (
       is ∙ ap (λ (l : List InRow). c.args.findings.now.items ++ flat_map (λ r. found Inbox r.number (received_at s r.number)) l) rows
           ∙ ap (λ (l : List Finding). c.args.findings.now.items ++ l) (flat_map-map (λ (r : InRow). found Inbox r.number (received_at s r.number)) in_summary s.inbox),
-      omega (arith, c.len.ensures, c.deref-row-items.ensures.len, ap (λ (l : List InRow). length l) rows, length-map s.inbox in_summary),
-    )) c.loop-row.invariant
+      omega (arith, c.len-all.ensures, c.deref-row-items.ensures.len, ap (λ (l : List InRow). length l) rows, length-map s.inbox in_summary),
+    )) c.loop-at.invariant

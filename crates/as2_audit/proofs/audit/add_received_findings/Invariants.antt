@@ -5,7 +5,7 @@ use Rattle.as2_audit.specs.declared.findings.Mailbox.TheVariants.{Inbox}
 use Rattle.as2_audit.proofs.Audited.{SoFar}
 use Rattle.as2_audit.proofs.audit.add_received_findings.Given as goal
 
-abbrev pub invariant-loop-row : goal.invariant-loop-row
-invariant-loop-row g l =
+abbrev pub invariant-loop-at : goal.invariant-loop-at
+invariant-loop-at g l =
     SoFar (λ s rows. rows ≡ map in_summary s.inbox) (λ s row. found Inbox row.number (received_at s row.number))
-    (g.R.Records.shows l.fn.records) (g.R.Records.shows l.records) l.fn.findings.items l.findings.items l.row-index l.row-items
+    (g.R.Records.shows l.fn.records) (g.R.Records.shows l.records) l.fn.findings.items l.findings.items l.at l.row-items
