@@ -9,6 +9,7 @@ pub trait Watch {
 }
 
 /// Nobody watches.
+#[derive(Clone, Copy, Debug)]
 pub struct Unwatched;
 
 impl Watch for Unwatched {

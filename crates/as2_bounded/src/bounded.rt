@@ -9,7 +9,9 @@ ghost use Rattle.as2_bounded.specs.Rooms.{room_behind, room_of};
 
 use as2_exchange::{END_OF_NUMBERS, Evidence, InEntry, OutEntry, StoreFault};
 use as2_mdn::{Detail, State};
-use as2_records::{Counts, Discrepancy, InRow, MdnProgress, NextNumbers, OutRow, Progress, Records};
+use as2_records::{
+    Counts, Discrepancy, InRow, MdnProgress, NextNumbers, OutRow, Progress, Records,
+};
 use as2_text::{AsName, Moment};
 use std::alloc::Global;
 
@@ -84,7 +86,8 @@ impl<R: Records> Bounded<R> {
     fn room_for(&mut self, length: usize) -> Result<u64, StoreFault>
         ensures records { self.new.records ≡ self.old.records }
         ensures room { self.new.room ≡ self.old.room }
-        ensures left { IfSome (room_behind self.old.room length) (λ left. (result ≡ Ok left) × (self.new.refused ≡ self.old.refused)) }
+        ensures left { IfSome (room_behind self.old.room length) (λ left. (result ≡ Ok left)
+            × (self.new.refused ≡ self.old.refused)) }
         ensures none { room_behind self.old.room length ≡ None
             → (result ≡ Err Disk) × (self.new.refused ≡ min (self.old.refused + 1) (2 ^ 64 - 1)) }
     {
@@ -102,11 +105,15 @@ impl<R: Records> Bounded<R> {
         ensures full_alone { end_of_numbers ≤ entry.now.number → result ≡ Err Full }
         ensures full_same { end_of_numbers ≤ entry.now.number → self.new ≡ self.old }
         ensures fault { IfErr result (λ f. (f ≡ Full) ⊎ (may_come f ≡ true)) }
-        ensures taken { IfOk result (λ _. room_behind self.old.room (length entry.now.posted.content) ≡ Some self.new.room) }
+        ensures taken { IfOk result (λ _. room_behind self.old.room (length entry.now.posted.content)
+            ≡ Some self.new.room) }
         ensures left { IfErr result (λ _. self.new.room ≡ self.old.room) }
-        ensures uncounted { IfSome (room_behind self.old.room (length entry.now.posted.content)) (λ _. self.new.refused ≡ self.old.refused) }
-        ensures none { entry.now.number < end_of_numbers → room_behind self.old.room (length entry.now.posted.content) ≡ None
-            → (result ≡ Err Disk) × ((self.new.records ≡ self.old.records) × (self.new.refused ≡ min (self.old.refused + 1) (2 ^ 64 - 1))) }
+        ensures uncounted { IfSome (room_behind self.old.room (length entry.now.posted.content)) (λ _. self.new.refused
+            ≡ self.old.refused) }
+        ensures none { entry.now.number < end_of_numbers
+            → room_behind self.old.room (length entry.now.posted.content) ≡ None
+            → (result ≡ Err Disk)
+            × ((self.new.records ≡ self.old.records) × (self.new.refused ≡ min (self.old.refused + 1) (2 ^ 64 - 1))) }
     {
         if entry.number >= END_OF_NUMBERS {
             return Err(StoreFault::Full);
@@ -127,9 +134,11 @@ impl<R: Records> Bounded<R> {
         ensures fault { IfErr result (λ f. (f ≡ Full) ⊎ (may_come f ≡ true)) }
         ensures taken { IfOk result (λ _. room_behind self.old.room (length entry.now.content) ≡ Some self.new.room) }
         ensures left { IfErr result (λ _. self.new.room ≡ self.old.room) }
-        ensures uncounted { IfSome (room_behind self.old.room (length entry.now.content)) (λ _. self.new.refused ≡ self.old.refused) }
+        ensures uncounted { IfSome (room_behind self.old.room (length entry.now.content)) (λ _. self.new.refused
+            ≡ self.old.refused) }
         ensures none { entry.now.number < end_of_numbers → room_behind self.old.room (length entry.now.content) ≡ None
-            → (result ≡ Err Disk) × ((self.new.records ≡ self.old.records) × (self.new.refused ≡ min (self.old.refused + 1) (2 ^ 64 - 1))) }
+            → (result ≡ Err Disk)
+            × ((self.new.records ≡ self.old.records) × (self.new.refused ≡ min (self.old.refused + 1) (2 ^ 64 - 1))) }
     {
         if entry.number >= END_OF_NUMBERS {
             return Err(StoreFault::Full);

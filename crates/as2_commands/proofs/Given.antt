@@ -327,7 +327,8 @@ wanted_one own a b x y =
     ∙ ap (λ (n : ℕ). record a { mailbox = b.mailbox; number = n }) (number_one _ a.number b.number x.entry.number y.entry.number)
     ∙ ap (λ (p : List ℕ). record b { folder = p }) (path_one _ a.folder b.folder x.folder y.folder)
 
-task_one : (values : List Row) (named : Option (Text × List Row)) (clock : Option ℕ) (a b : Task) → Tasks values named clock a → Tasks values named clock b → a ≡ b
+task_one : (values : List Row) (named : Option (Text × List Row)) (clock : Option ℕ) (a b : Task) → Tasks values named clock a → Tasks values named clock b
+    → a ≡ b
 task_one values None clock a b x y = absurd x
 task_one values (Some named) clock Check Check x y = refl
 task_one values (Some named) clock Check Migrate x y = absurd (check_migrate (sym x ∙ y))

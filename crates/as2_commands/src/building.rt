@@ -20,7 +20,8 @@ pub(crate) fn and<'a>(command: Made<'a>, arg: Arg<'a>) -> Made<'a>
 
 /// The program with one option more.
 pub(crate) fn with_option<'a>(program: Made<'a>, arg: Arg<'a>) -> Made<'a>
-    ensures { (a : App) (r : Rule) → IfOk program.entry (λ c. app_of c ≡ a) → rule_of arg.entry ≡ r → arg.entry.global ≡ false
+    ensures { (a : App) (r : Rule) → IfOk program.entry (λ c. app_of c ≡ a) → rule_of arg.entry ≡ r
+        → arg.entry.global ≡ false
         → IfOk result (λ c. app_of c ≡ with_rule a r) }
 {
     program?.arg(arg)

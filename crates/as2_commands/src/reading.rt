@@ -15,9 +15,9 @@ ghost use Rattle.as2_commands.specs.declared.tasks.RunOptions.{RunOptions as The
 ghost use Rattle.as2_commands.specs.declared.tasks.Task.{Task as TheTask};
 
 use crate::args::{
-    AGREEMENTS, COUNT, FILE, FIRST, FORMAT, FROM, IDLE, KIND, LEAST_LIMIT, LEAST_WAIT, LISTEN, LOG, MOMENT,
-    MOST_CONNECTIONS, MOST_LIMIT, MOST_WAIT, NUMBER, OUT, RECEIVED, STATE, STORE, STORE_LIMIT,
-    TIMEOUT, TO,
+    AGREEMENTS, COUNT, FILE, FIRST, FORMAT, FROM, IDLE, KIND, LEAST_LIMIT, LEAST_WAIT, LISTEN, LOG,
+    MOMENT, MOST_CONNECTIONS, MOST_LIMIT, MOST_WAIT, NUMBER, OUT, RECEIVED, STATE, STORE,
+    STORE_LIMIT, TIMEOUT, TO,
 };
 use crate::fault::OptionFault;
 use crate::first_number::FirstNumber;
@@ -39,7 +39,9 @@ impl<'a> Options<'a> {
         found: &ArgMatches<'a>,
         clock: Option<u64>,
     ) -> Result<Options<'a>, OptionFault<'a>>
-        ensures given { IfOk result (λ o. Give (rows_of (found_of found.now)) (subcommand_rows_of found.now) clock o.agreements.now o.store.now o.task) }
+        ensures given { IfOk result
+            (λ o. Give (rows_of (found_of found.now)) (subcommand_rows_of found.now) clock o.agreements.now o.store.now
+            o.task) }
         ensures none { IfErr result (λ _. (path store : List ℕ) (task : TheTask)
             → ¬ Give (rows_of (found_of found.now)) (subcommand_rows_of found.now) clock path store task) }
     {
@@ -150,7 +152,8 @@ fn submission<'a>(own: &ArgMatches<'a>) -> Result<Submission<'a>, OptionFault<'a
 /// The AS2 name that an option spells.
 fn name<'a>(own: &ArgMatches<'a>, option: &'a str) -> Result<AsName, OptionFault<'a>>
     ensures given { IfOk result (NameIs (first_of option.entry.now (rows_of (found_of own.now)))) }
-    ensures none { IfErr result (λ _. (name : List ℕ) → ¬ NameIs (first_of option.entry.now (rows_of (found_of own.now))) name) }
+    ensures none { IfErr result (λ _. (name : List ℕ)
+        → ¬ NameIs (first_of option.entry.now (rows_of (found_of own.now))) name) }
 {
     let Some(text) = text(own, option) else {
         return Err(OptionFault::NoName(option));
@@ -248,9 +251,12 @@ fn is_idle(filter: Filter, own: &ArgMatches<'_>) -> bool
 
 /// The listing that is asked for. The state of what was received isn't looked at.
 fn filter<'a>(own: &ArgMatches<'a>) -> Result<Filter, OptionFault<'a>>
-    ensures given { IfOk result (Lists (first_of (codes "kind") (rows_of (found_of own.now))) (first_of (codes "state") (rows_of (found_of own.now)))) }
+    ensures given { IfOk result
+        (Lists (first_of (codes "kind") (rows_of (found_of own.now)))
+        (first_of (codes "state") (rows_of (found_of own.now)))) }
     ensures none { IfErr result (λ _. (f : TheFilter)
-        → ¬ Lists (first_of (codes "kind") (rows_of (found_of own.now))) (first_of (codes "state") (rows_of (found_of own.now))) f) }
+        → ¬ Lists (first_of (codes "kind") (rows_of (found_of own.now)))
+        (first_of (codes "state") (rows_of (found_of own.now))) f) }
 {
     match text(own, KIND) {
         Some("in") => Ok(Filter::Inbox),
@@ -261,7 +267,8 @@ fn filter<'a>(own: &ArgMatches<'a>) -> Result<Filter, OptionFault<'a>>
 
 /// The state that is asked for, where one is.
 fn state<'a>(own: &ArgMatches<'a>) -> Result<Option<State>, OptionFault<'a>>
-    ensures given { IfOk result (λ only. first_of (codes "state") (rows_of (found_of own.now)) ≡ option_map state_text only) }
+    ensures given { IfOk result (λ only. first_of (codes "state") (rows_of (found_of own.now))
+        ≡ option_map state_text only) }
     ensures none { IfErr result (λ _. (only : Option TheState)
         → ¬ (first_of (codes "state") (rows_of (found_of own.now)) ≡ option_map state_text only)) }
 {
@@ -367,7 +374,8 @@ fn number_from<'a>(
     high: u64,
 ) -> Result<u64, OptionFault<'a>>
     ensures given { IfOk result (NumberFrom low high (one_of option.entry.now (rows_of (found_of found.now)))) }
-    ensures none { IfErr result (λ _. (n : ℕ) → ¬ NumberFrom low high (one_of option.entry.now (rows_of (found_of found.now))) n) }
+    ensures none { IfErr result (λ _. (n : ℕ)
+        → ¬ NumberFrom low high (one_of option.entry.now (rows_of (found_of found.now))) n) }
 {
     match number(found, option)? {
         Some(number) if low <= number && number <= high => Ok(number),
@@ -377,8 +385,10 @@ fn number_from<'a>(
 
 /// The first number that the option says.
 fn first<'a>(found: &ArgMatches<'a>) -> Result<FirstNumber, OptionFault<'a>>
-    ensures given { IfOk result (NumberFrom 1 (end_of_numbers - 1) (one_of (codes "first") (rows_of (found_of found.now)))) }
-    ensures none { IfErr result (λ _. (n : ℕ) → ¬ NumberFrom 1 (end_of_numbers - 1) (one_of (codes "first") (rows_of (found_of found.now))) n) }
+    ensures given { IfOk result
+        (NumberFrom 1 (end_of_numbers - 1) (one_of (codes "first") (rows_of (found_of found.now)))) }
+    ensures none { IfErr result (λ _. (n : ℕ)
+        → ¬ NumberFrom 1 (end_of_numbers - 1) (one_of (codes "first") (rows_of (found_of found.now))) n) }
 {
     match number(found, FIRST)?.and_then(FirstNumber::new) {
         Some(first) => Ok(first),

@@ -26,11 +26,13 @@ pub fn options_in<'a>(
     // Words that ask for something are read, unless memory is wanting.
     ensures none { IfErr result (λ e. kind_of e ≢ OutOfMemory → GivesNone (texts words.entry.now) clock) }
     // Words that are no such command line get a fault of theirs, which may be that they ask for the help or the version.
-    ensures kind { IfErr result (λ e. faults (texts words.entry.now) ≢ [] → HasKind (faults (texts words.entry.now)) e) }
+    ensures kind { IfErr result (λ e. faults (texts words.entry.now) ≢ []
+        → HasKind (faults (texts words.entry.now)) e) }
     // The help and the version are for those who ask for them.
     ensures help { IfErr result (λ e. IsHelp (kind_of e) → AsksForHelp (texts words.entry.now)) }
     // Of words that are one, it is a value that isn't taken.
-    ensures values { IfErr result (λ e. faults (texts words.entry.now) ≡ [] → (kind_of e ≡ OutOfMemory) ⊎ (kind_of e ≡ ValueValidation)) }
+    ensures values { IfErr result (λ e. faults (texts words.entry.now) ≡ [] → (kind_of e ≡ OutOfMemory)
+        ⊎ (kind_of e ≡ ValueValidation)) }
 {
     asked_by(alloc, &mut command(alloc)?, words, clock)
 }
@@ -45,9 +47,11 @@ fn asked_by<'a>(
     requires { app_of command.old ≡ command_line }
     ensures given { IfOk result (λ o. Gives (texts words.entry.now) clock o.agreements.now o.store.now o.task) }
     ensures none { IfErr result (λ e. kind_of e ≢ OutOfMemory → GivesNone (texts words.entry.now) clock) }
-    ensures kind { IfErr result (λ e. faults (texts words.entry.now) ≢ [] → HasKind (faults (texts words.entry.now)) e) }
+    ensures kind { IfErr result (λ e. faults (texts words.entry.now) ≢ []
+        → HasKind (faults (texts words.entry.now)) e) }
     ensures help { IfErr result (λ e. IsHelp (kind_of e) → AsksForHelp (texts words.entry.now)) }
-    ensures values { IfErr result (λ e. faults (texts words.entry.now) ≡ [] → (kind_of e ≡ OutOfMemory) ⊎ (kind_of e ≡ ValueValidation)) }
+    ensures values { IfErr result (λ e. faults (texts words.entry.now) ≡ [] → (kind_of e ≡ OutOfMemory)
+        ⊎ (kind_of e ≡ ValueValidation)) }
 {
     let found = parse(command, words)?;
     match Options::of(&found, clock) {

@@ -95,7 +95,8 @@ fn exchange_counted<R: Read, W: Write, A: Ledger, B: Ledger, C: Ledger, D: Ledge
     requires writes { Opens writes.name writes.parts C.name C.parts }
     requires failed_writes { Opens failed_writes.name failed_writes.parts D.name D.parts }
     ensures written { AppendsPart (W.contents writer) (W.contents result.writer) job.now.bytes }
-    ensures whole { IsTrue (is_answered result.got) → Appends (W.contents writer) (W.contents result.writer) job.now.bytes }
+    ensures whole { IsTrue (is_answered result.got)
+        → Appends (W.contents writer) (W.contents result.writer) job.now.bytes }
     ensures answer { (input : List ℕ) → R.remaining reader ≡ Some input → AnswersInput input result.got }
 {
     let mut source: Counted<R, A, B> = Counted::new(reader, reads, failed_reads);
@@ -143,7 +144,8 @@ impl<'a> Connections<'a> {
 
     /// A connection to the authority of a job, as its two ends: each waits as long as these links are to.
     fn open(&self, job: &Job) -> Result<(Stream<'a>, Stream<'a>), LinkFault>
-        ensures waits { IfOk result (λ ends. HasWaits self.now.waits.seconds ends.0.timer.limits × HasWaits self.now.waits.seconds ends.1.timer.limits) }
+        ensures waits { IfOk result (λ ends. HasWaits self.now.waits.seconds ends.0.timer.limits
+            × HasWaits self.now.waits.seconds ends.1.timer.limits) }
     {
         let Ok(authority) = str::from_utf8(job.authority.as_slice()) else {
             return Err(LinkFault::UnknownHost);

@@ -83,7 +83,8 @@ fn serve_counted<
     ensures clean { (K.shows station.new).IsClean → (K.shows station.old).IsClean }
     ensures serves { (K.shows station.new).IsClean → (s : State) → (K.shows station.old).Rests s
         → (input : List ℕ) → R.remaining reader ≡ Some input → (t : State) × (K.shows station.new).Rests t
-        × ServesInput agreements.now moment s t input (spoken (W.contents writer) (J.noted journal.old)) (spoken (W.contents result.1) (J.noted journal.new)) result.0 }
+        × ServesInput agreements.now moment s t input (spoken (W.contents writer) (J.noted journal.old))
+        (spoken (W.contents result.1) (J.noted journal.new)) result.0 }
     ensures posts { (K.shows station.new).IsClean → (s : State) → (K.shows station.old).Rests s
         → (t : State) × (K.shows station.new).Rests t × RunsPosts agreements.now moment s t }
 {
@@ -147,7 +148,8 @@ fn serve_connection<K: Records, J: Journal>(
 impl<'a> ListeningSocket<'a> {
     /// Accepts one connection: its two ends, each with the limits of the socket, and how long another request is waited for.
     fn accept(&self) -> io::Result<Accepted<'a>>
-        ensures limits { IfOk result (λ it. (it.reader.timer.limits ≡ self.now.limits) × (it.writer.timer.limits ≡ self.now.limits)) }
+        ensures limits { IfOk result (λ it. (it.reader.timer.limits ≡ self.now.limits)
+            × (it.writer.timer.limits ≡ self.now.limits)) }
         ensures idle { IfOk result (λ it. it.idle ≡ self.now.idle) }
     {
         let (stream, _) = self.socket.accept()?;

@@ -23,7 +23,8 @@ use Rattle.as2_desk.specs.declared.refusal.CommandFault.TheVariants.{Station}
 use Rattle.as2_host.specs.declared.stores.OpenFault.TheVariants as open_fault
 
 -- an event is by history, and that is told of what was said to it
-pub ends_by : {M : Medium} {X : Type 0} (A : AgreedValues) (e : Event) (tell : X → Answer) (old new : Standing M) (r : Result X StoreFault) (q : Asked) (told : Told) → TakesEvent A e tell old new r → IsToldOf q (said_as tell r) told
+pub ends_by : {M : Medium} {X : Type 0} (A : AgreedValues) (e : Event) (tell : X
+    → Answer) (old new : Standing M) (r : Result X StoreFault) (q : Asked) (told : Told) → TakesEvent A e tell old new r → IsToldOf q (said_as tell r) told
     → new.IsClean → (s : State) → old.Rests s → (t : State) × new.Rests t × EndsBy A q e s t told
 ends_by A e tell old new r q told takes is clean s rests =
     let by = takes.by_history clean s rests in (by.0, by.1, (said_as tell r, is, by.2))
@@ -37,7 +38,8 @@ pub read_may : {V : Type 0} (q : Asked) (text : V → List ℕ) (r : Result V St
 read_may q text (Ok v) may = tt
 read_may q text (Err f) may = inr may
 
-pub looked_may : {V : Type 0} (q : Asked) (text : V → List ℕ) (r : Result (Option V) StoreFault) → IfErr r (λ f. may_come f ≡ true) → FaultMayCome q (looked_up text r)
+pub looked_may : {V : Type 0} (q : Asked) (text : V → List ℕ) (r : Result (Option V) StoreFault) → IfErr r (λ f. may_come f ≡ true)
+    → FaultMayCome q (looked_up text r)
 looked_may q text (Ok (Some v)) may = tt
 looked_may q text (Ok None) may = tt
 looked_may q text (Err f) may = inr may
@@ -65,7 +67,8 @@ answer_may q answer.AlreadySettled told is = absurd cc
 answer_may q answer.Resent told is = resend_may q q told is
 
 -- .. or of an event
-pub event_may : {X : Type 0} (q : Asked) → is_event q ≡ true → (tell : X → Answer) (r : Result X StoreFault) (told : Told) → IsToldOf q (said_as tell r) told → IfErr r (λ f. (f ≡ Full) ⊎ (may_come f ≡ true)) → FaultMayCome q told
+pub event_may : {X : Type 0} (q : Asked) → is_event q ≡ true → (tell : X → Answer) (r : Result X StoreFault) (told : Told) → IsToldOf q (said_as tell r) told
+    → IfErr r (λ f. (f ≡ Full) ⊎ (may_come f ≡ true)) → FaultMayCome q told
 event_may q is tell (Ok a) told it may = answer_may q (tell a) told it
 event_may q is tell (Err f) told it may = subst (FaultMayCome q) (sym it) (elim may [ inl full ↦ inl (full, is) | inr other ↦ inr other ])
 
@@ -92,7 +95,8 @@ module _ {M : Medium} (A : AgreedValues) (m : ℕ) (q : Asked) (old new : Standi
 
   -- a text of a number
   pub looked : {V : Type 0} (text : V → List ℕ) (view : State → Option (List ℕ)) → ((s : State) → told_by A m q s ≡ Some (found_told (view s), s))
-      → (r : Result (Option V) StoreFault) → Reads (λ s v. option_map text v ≡ view s) old new r → IfErr r (λ f. may_come f ≡ true) → TellsFrom A m q old new (looked_up text r)
+      → (r : Result (Option V) StoreFault) → Reads (λ s v. option_map text v ≡ view s) old new r → IfErr r (λ f. may_come f ≡ true)
+      → TellsFrom A m q old new (looked_up text r)
   looked text view is (Ok v) reads may = λ s rests. (
     s,
     reads.same clean s rests,
@@ -122,7 +126,8 @@ module _ {M : Medium} (A : AgreedValues) (m : ℕ) (q : Asked) (old new : Standi
   answered_tells s t answer.Resent told is by = resend_tells s t q told is by
 
   -- the answer to an event
-  pub stepped : {X : Type 0} (e : Event) → ((s : State) → told_by A m q s ≡ told_by_step q (step A s e)) → (tell : X → Answer) (r : Result X StoreFault) (told : Told) → IsToldOf q (said_as tell r) told
+  pub stepped : {X : Type 0} (e : Event) → ((s : State) → told_by A m q s ≡ told_by_step q (step A s e))
+      → (tell : X → Answer) (r : Result X StoreFault) (told : Told) → IsToldOf q (said_as tell r) told
       → TakesEvent A e tell old new r → TellsFrom A m q old new told
   stepped e is tell (Ok a) told it takes = λ s rests.
       let left = takes.does.answered clean s rests tt in

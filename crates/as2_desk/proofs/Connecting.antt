@@ -28,12 +28,14 @@ lines_more ends end = flat_map-append connection_line ends (end ∷ []) ∙ ap (
 
 module _ {L : Type 0} (ended : L → Option ℕ → Trace → Served → L → Type 0) (given : Option ℕ) (A : AgreedValues) where
   -- one more connection of a listener
-  ends_more : (ends : List Served) (end : Served) (l k m : L) → EndsEach ended given l ends k → ((trace : Trace) × ended k given trace end m) → EndsEach ended given l (ends ++ end ∷ []) m
+  ends_more : (ends : List Served) (end : Served) (l k m : L) → EndsEach ended given l ends k → ((trace : Trace) × ended k given trace end m)
+      → EndsEach ended given l (ends ++ end ∷ []) m
   ends_more [] end l k m same one = (m, subst (λ (x : L). (trace : Trace) × ended x given trace end m) same one, refl)
   ends_more (e ∷ ends) end l k m all one = (all.0, all.1, ends_more ends end all.0 k m all.2 one)
 
   -- .. and what it brought led on
-  serves_more : (ends : List Served) (end : Served) (l k m : L) (s mid t : State) → ServesEach ended given A ends l s k mid → ServesOne A given (λ trace. ended k given trace end m) mid t
+  serves_more : (ends : List Served) (end : Served) (l k m : L) (s mid t : State) → ServesEach ended given A ends l s k mid
+      → ServesOne A given (λ trace. ended k given trace end m) mid t
       → ServesEach ended given A (ends ++ end ∷ []) l s m t
   serves_more [] end l k m s mid t same one = (
     m,
@@ -77,7 +79,8 @@ module _ {L : Type 0} (ended : L → Option ℕ → Trace → Served → L → T
     more : (end : Served) → length (so_far.ends ++ end ∷ []) ≡ n + 1
     more end = length-append so_far.ends (end ∷ []) ∙ ap (λ j. j + 1) so_far.all
 
-    whole : (end : Served) → WritesWhole (written_of sink x y) (connection_line end) → WritesWhole (written_of sink w y) (connection_lines (so_far.ends ++ end ∷ []))
+    whole : (end : Served) → WritesWhole (written_of sink x y) (connection_line end)
+        → WritesWhole (written_of sink w y) (connection_lines (so_far.ends ++ end ∷ []))
     whole end line = (
       subst (Appends (sink.written w) (sink.written y)) (sym (lines_more so_far.ends end))
           (Appends-trans (sink.written w) (sink.written x) (sink.written y) (connection_lines so_far.ends) (connection_line end) so_far.lines.0 line.0),
@@ -122,7 +125,8 @@ module _ {L : Type 0} (ended : L → Option ℕ → Trace → Served → L → T
       lines = (let is = more next.end in omega (arith, is, below), stops stop next);
     }
 
-  pub all_served : {M : Medium} {W : Type 0} (sink : Ghosts W) (n count : ℕ) (old new : Standing M) (l m : L) (w x : W) → n ≡ count → HasServed sink n old new l m w x
+  pub all_served : {M : Medium} {W : Type 0} (sink : Ghosts W) (n count : ℕ) (old new : Standing M) (l m : L) (w x : W) → n ≡ count
+      → HasServed sink n old new l m w x
       → ServesConnections old new (λ ends. EndsEach ended given l ends m) (λ ends s t. ServesEach ended given A ends l s m t)
       (λ ends. (length ends ≡ count) × WritesWhole (written_of sink w x) (connection_lines ends))
   all_served sink n count old new l m w x is so_far = record { clean = so_far.clean; ends = so_far.ends; ended = so_far.each; led = so_far.led; lines = (so_far.all ∙ is, so_far.lines) }
@@ -130,7 +134,8 @@ module _ {L : Type 0} (ended : L → Option ℕ → Trace → Served → L → T
 -- ---- what is said of them
 
 -- a fault of the store that ends the serving is told behind where it listens
-pub fails_behind : (stop : Stop) (address : List ℕ) (errors : Written) (ran : Ran) → Ends (refusal_status (stop_fault stop)) (listening_line address ++ error_line (stop_fault stop)) errors ran
+pub fails_behind : (stop : Stop) (address : List ℕ) (errors : Written) (ran : Ran)
+    → Ends (refusal_status (stop_fault stop)) (listening_line address ++ error_line (stop_fault stop)) errors ran
     → ran.status ≡ failed → FailsBehind errors ran
 fails_behind Unwritten address errors ran told is = absurd (let bad : refused ≡ failed = sym told.ended ∙ is in omega (arith, bad))
 fails_behind (Unreadable fault) address errors ran told is = (open_fault.Store fault, address, told)
@@ -138,7 +143,8 @@ fails_behind (Unreadable fault) address errors ran told is = (open_fault.Store f
 module _ {M : Medium} (count : ℕ) (known : Option State) (o : Outcome) (old new : Standing M) (Ended : List Served → Type 0) (Led : List Served → State → State → Type 0)
     (l : Listening) (ran : Ran) (address : List ℕ) (stood : IfSome known (λ s. new.IsClean × old.Rests s)) (left : (t : State) → new.Rests t → o.Left t)
     (awaited : (ends : List Served) → Ended ends → l.Awaited address ends) (led : (ends : List Served) (s t : State) → Led ends s t → l.Led address ends s t) where
-  awaits : (Lines : List Served → Type 0) (k : Option State) → IfSome k (λ s. new.IsClean × old.Rests s) → (all : ServesConnections old new Ended Led Lines) → AwaitsFrom k o.Left l address all.ends
+  awaits : (Lines : List Served → Type 0) (k : Option State) → IfSome k (λ s. new.IsClean × old.Rests s) → (all : ServesConnections old new Ended Led Lines)
+      → AwaitsFrom k o.Left l address all.ends
   awaits Lines None none all = awaited all.ends all.ended
   awaits Lines (Some s) it all = let served = all.led it.0 s it.1 in (served.0, left served.0 served.1, led all.ends s served.0 served.2)
 
@@ -153,7 +159,8 @@ module _ {M : Medium} (count : ℕ) (known : Option State) (o : Outcome) (old ne
   abbrev pub SomeLines : Stop → List Served → Type 0
   SomeLines stop ends = (length ends ≤ count) × StopsBy stop ends o.output
 
-  pub cut_told : (stop : Stop) → ServesConnections old new Ended Led (SomeLines stop) → Ends (refusal_status (stop_fault stop)) (listening_line address ++ error_line (stop_fault stop)) o.errors ran
+  pub cut_told : (stop : Stop) → ServesConnections old new Ended Led (SomeLines stop)
+      → Ends (refusal_status (stop_fault stop)) (listening_line address ++ error_line (stop_fault stop)) o.errors ran
       → ServesCount count known o l ran
   cut_told stop all told = inr (inr (record {
     address = address;

@@ -15,11 +15,13 @@ module _ {V : Type 0} (view : V → List File) where
   fault_came (Ok files) may = tt
   fault_came (Err fault) may = may
 
-  of_state : (A : AgreedValues) (s : State) (w : Wanted) (r : Result (Option V) StoreFault) → IfOk r (λ files. IsEvidence A s w.mailbox w.number (option_map view files)) → IsOf A s w (came_of view r)
+  of_state : (A : AgreedValues) (s : State) (w : Wanted) (r : Result (Option V) StoreFault)
+      → IfOk r (λ files. IsEvidence A s w.mailbox w.number (option_map view files)) → IsOf A s w (came_of view r)
   of_state A s w (Ok files) is = is
   of_state A s w (Err fault) is = tt
 
-  each : {M : Medium} (old : Standing M) (fits : State → Option V → Type 0) (s : State) (r : Result (Option V) StoreFault) → old.Rests s → IfOk r (λ files. (t : State) → old.Rests t → fits t files) → IfOk r (λ files. fits s files)
+  each : {M : Medium} (old : Standing M) (fits : State → Option V → Type 0) (s : State) (r : Result (Option V) StoreFault) → old.Rests s
+      → IfOk r (λ files. (t : State) → old.Rests t → fits t files) → IfOk r (λ files. fits s files)
   each old fits s (Ok files) rests all = all s rests
   each old fits s (Err fault) rests all = tt
 

@@ -17,7 +17,8 @@ use Rattle.as2_desk.specs.declared.refusal.CommandFault.TheVariants.{Store}
 use Rattle.as2_desk.specs.declared.status.Ran.{Ran}
 
 -- each state that is kept may be said in other words
-pub each_left : {A : Type 0} (last : Option A) (Clean : Type 0) (Rests : A → State → Type 0) (Keeps Later : State → Type 0) → IfSome last (λ l. Clean → (t : State) → Rests l t → Keeps t) → ((t : State) → Keeps t → Later t)
+pub each_left : {A : Type 0} (last : Option A) (Clean : Type 0) (Rests : A → State → Type 0) (Keeps Later : State → Type 0)
+    → IfSome last (λ l. Clean → (t : State) → Rests l t → Keeps t) → ((t : State) → Keeps t → Later t)
     → IfSome last (λ l. Clean → (t : State) → Rests l t → Later t)
 each_left None Clean Rests Keeps Later kept f = tt
 each_left (Some l) Clean Rests Keeps Later kept f = λ clean t rests. f t (kept clean t rests)
@@ -33,8 +34,10 @@ module _ {A : Type 0} {M : Medium} (shows : A → Standing M) (agreements : Agre
       × ((known : Option State) → IfSome known (λ s. (shows l).IsClean × (shows opened).Rests s) → Does agreements options.moment w known (observing o (λ t. (shows l).Rests t)) ran)))
 
   -- over new records in memory
-  pub goes_in_memory : (last : Option A) (r : Result A OpenFault) → BeginsNew shows options.first r → Failed last r → Done last r → ((fault : OpenFault) → MayCome fault → stored.Fails fault) → stored.Unopened → stored.Kept → stored.Opened
-      → ((s : State) → stored.Begins options.first s → s ≡ empty (LaterVersion 0) options.first) → ((t : State) → o.outcome.Left t) → Goes agreements options (Ok w) o stored ran
+  pub goes_in_memory : (last : Option A) (r : Result A OpenFault) → BeginsNew shows options.first r → Failed last r → Done last r
+      → ((fault : OpenFault) → MayCome fault → stored.Fails fault) → stored.Unopened → stored.Kept → stored.Opened
+      → ((s : State) → stored.Begins options.first s → s ≡ empty (LaterVersion 0) options.first) → ((t : State) → o.outcome.Left t)
+      → Goes agreements options (Ok w) o stored ran
   goes_in_memory last (Err fault) may failed done fails unopened kept opened begins left =
       inl (unopened, kept, failed.1, failed.2, failed.3, failed.4, record { fault = fault; cause = fails fault may; told = failed.5 })
   goes_in_memory None (Ok records) new failed done fails unopened kept opened begins left = absurd done
@@ -45,9 +48,12 @@ module _ {A : Type 0} {M : Medium} (shows : A → Standing M) (agreements : Agre
   )
 
   -- over the records that are kept under the path
-  pub goes_kept : (last : Option A) (r : Result A OpenFault) (Clean : Type 0) (Keeps : State → Type 0) (before now : ℕ) → Finds shows Keeps r → Failed last r → Done last r → (last ≡ None → IfErr r (λ fault. stored.Kept × stored.Fails fault))
-      → now ≡ before + opens_of r → (now ≡ before → stored.Unopened) → (now ≡ before + 1 → stored.Opened) → ((s : State) → stored.Begins options.first s → Keeps s × Clean)
-      → IfSome last (λ l. Clean → (shows l).IsClean) → IfSome last (λ l. Clean → (t : State) → (shows l).Rests t → o.outcome.Left t) → Goes agreements options (Ok w) o stored ran
+  pub goes_kept : (last : Option A) (r : Result A OpenFault) (Clean : Type 0) (Keeps : State → Type 0) (before now : ℕ) → Finds shows Keeps r → Failed last r
+      → Done last r → (last ≡ None → IfErr r (λ fault. stored.Kept × stored.Fails fault))
+      → now ≡ before + opens_of r → (now ≡ before → stored.Unopened) → (now ≡ before + 1 → stored.Opened)
+      → ((s : State) → stored.Begins options.first s → Keeps s × Clean)
+      → IfSome last (λ l. Clean → (shows l).IsClean) → IfSome last (λ l. Clean → (t : State) → (shows l).Rests t → o.outcome.Left t)
+      → Goes agreements options (Ok w) o stored ran
   goes_kept last (Err fault) Clean Keeps before now found failed done same counted unopened opened begins clean left =
       inl (unopened (omega (arith, counted)), (same failed.0).0, failed.1, failed.2, failed.3, failed.4, record { fault = fault; cause = (same failed.0).1; told = failed.5 })
   goes_kept None (Ok records) Clean Keeps before now found failed done same counted unopened opened begins clean left = absurd done

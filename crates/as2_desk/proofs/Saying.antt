@@ -40,8 +40,10 @@ said_behind g a b d xs ys false false said counted more none =
     )
 
 -- a refusal behind what was said before
-pub ends_behind : {E : Type 0} (g : Ghosts E) (old first mid end : E) (xs : List ℕ) (refusal : CommandFault) (told : Bool) (ran : Ran) → WritesIf told (written_of g old first) xs → g.failed old ≤ g.failed first → mid ≡ first
-    → ran.status ≡ refusal_status refusal → (told ≡ true → WritesIf ran.told (written_of g mid end) (error_line refusal)) → (told ≡ false → (ran.told ≡ false) × (end ≡ mid))
+pub ends_behind : {E : Type 0} (g : Ghosts E) (old first mid end : E) (xs : List ℕ) (refusal : CommandFault) (told : Bool) (ran : Ran)
+    → WritesIf told (written_of g old first) xs → g.failed old ≤ g.failed first → mid ≡ first
+    → ran.status ≡ refusal_status refusal → (told ≡ true → WritesIf ran.told (written_of g mid end) (error_line refusal))
+    → (told ≡ false → (ran.told ≡ false) × (end ≡ mid))
     → Ends (refusal_status refusal) (xs ++ error_line refusal) (written_of g old end) ran
 ends_behind g old first mid end xs refusal told ran said counted same status more none = record {
   ended = status;
@@ -51,13 +53,15 @@ ends_behind g old first mid end xs refusal told ran said counted same status mor
 }
 
 -- what a writer was given is written, or broken off where a write failed
-pub pushed : {W V F : Type 0} (g : Ghosts W) (a b : W) (xs ys : List ℕ) (r : Result V F) → xs ≡ ys → OnOk r (Appends (g.written a) (g.written b) xs) → OnOk r (g.failed b ≡ g.failed a) → OnErr r (AppendsPart (g.written a) (g.written b) xs)
+pub pushed : {W V F : Type 0} (g : Ghosts W) (a b : W) (xs ys : List ℕ) (r : Result V F) → xs ≡ ys → OnOk r (Appends (g.written a) (g.written b) xs)
+    → OnOk r (g.failed b ≡ g.failed a) → OnErr r (AppendsPart (g.written a) (g.written b) xs)
     → OnErr r (g.failed a < g.failed b) → WritesBy r (written_of g a b) ys
 pushed g a b xs ys (Ok v) is whole sound part failed = (subst (Appends (g.written a) (g.written b)) is whole, sound)
 pushed g a b xs ys (Err f) is whole sound part failed = (failed, subst (AppendsPart (g.written a) (g.written b)) is part)
 
 -- a text behind another
-pub behind_ok : {V F : Type 0} (a b d : Option (List ℕ)) (xs ys zs : List ℕ) (r : Result V F) → ys ≡ zs → Appends a b xs → OnOk r (Appends b d ys) → OnOk r (Appends a d (xs ++ zs))
+pub behind_ok : {V F : Type 0} (a b d : Option (List ℕ)) (xs ys zs : List ℕ) (r : Result V F) → ys ≡ zs → Appends a b xs → OnOk r (Appends b d ys)
+    → OnOk r (Appends a d (xs ++ zs))
 behind_ok a b d xs ys zs (Ok v) is first then = Appends-trans a b d xs zs first (subst (Appends b d) is then)
 behind_ok a b d xs ys zs (Err f) is first then = tt
 

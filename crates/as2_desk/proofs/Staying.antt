@@ -10,6 +10,7 @@ pub stays_in_memory : (path : List ℕ) (Stays : OpenFault → Type 0) → is_in
 stays_in_memory path Stays is = subst (λ (b : Bool). ByPlace b (Store NotAStore ≡ Store NotAStore) (Stays (Store NotAStore))) (sym is) refl
 
 -- what is kept has a fault of its own
-pub stays_kept : {A : Type 0} (path : List ℕ) (Stays : OpenFault → Type 0) (r : Result A OpenFault) → is_in_memory path ≡ false → IfErr r Stays → IfErr r (IsStayAt path Stays)
+pub stays_kept : {A : Type 0} (path : List ℕ) (Stays : OpenFault → Type 0) (r : Result A OpenFault) → is_in_memory path ≡ false → IfErr r Stays
+    → IfErr r (IsStayAt path Stays)
 stays_kept path Stays (Ok a) away it = tt
 stays_kept path Stays (Err fault) away it = subst (λ (b : Bool). ByPlace b (fault ≡ Store NotAStore) (Stays fault)) (sym away) it

@@ -27,22 +27,26 @@ behind g (inl p) = inl p
 behind g (inr both) = inr (g both.0, both.1)
 
 -- what sends or serves may be said in other words
-pub stopped_by : {A B C D : Type 0} (input : Input) (output errors : Written) (ran : Ran) → (A → C) → (B → D) → Stopped A B input output errors ran → Stopped C D input output errors ran
+pub stopped_by : {A B C D : Type 0} (input : Input) (output errors : Written) (ran : Ran) → (A → C) → (B → D) → Stopped A B input output errors ran
+    → Stopped C D input output errors ran
 stopped_by input output errors ran sends serves it = (it.0, either sends serves it.1, behind serves it.2)
 
-no_question : (K : Work → Type 0) → ((asked : Asked) → K (At (command.Ask asked)) → ⊥) → (work : Work) (asked : Result Asked CommandFault) → Ok work ≡ asking asked → K work → ⊥
+no_question : (K : Work → Type 0) → ((asked : Asked) → K (At (command.Ask asked)) → ⊥) → (work : Work) (asked : Result Asked CommandFault)
+    → Ok work ≡ asking asked → K work → ⊥
 no_question K none work (Ok asked) is kind = let same : work ≡ At (command.Ask asked) = cc in none asked (subst K same kind)
 no_question K none work (Err refusal) is kind = absurd cc
 
 -- work that sends is that of a task to send
-pub sends_task : (contents : List ℕ → Content) (run : RunOptions) (c : Command Submission) (work : Work) → IsWork contents c (Ok work) → SendsWork work → IsSending (Run run c)
+pub sends_task : (contents : List ℕ → Content) (run : RunOptions) (c : Command Submission) (work : Work) → IsWork contents c (Ok work) → SendsWork work
+    → IsSending (Run run c)
 sends_task contents run (command.Post logs) work is kind = let same : work ≡ At (command.Post logs) = cc in absurd (subst SendsWork same kind)
 sends_task contents run (command.Ask q) work is kind = absurd (no_question SendsWork (λ asked it. it) work is.0 is.2 kind)
 sends_task contents run (command.Send waits) work is kind = tt
 sends_task contents run (command.Serve serving) work is kind = let same : work ≡ At (command.Serve serving) = cc in absurd (subst SendsWork same kind)
 
 -- .. and work that serves that of one to serve
-pub serves_task : (contents : List ℕ → Content) (run : RunOptions) (c : Command Submission) (work : Work) → IsWork contents c (Ok work) → ServesWork work → IsServing (Run run c)
+pub serves_task : (contents : List ℕ → Content) (run : RunOptions) (c : Command Submission) (work : Work) → IsWork contents c (Ok work) → ServesWork work
+    → IsServing (Run run c)
 serves_task contents run (command.Post logs) work is kind = let same : work ≡ At (command.Post logs) = cc in absurd (subst ServesWork same kind)
 serves_task contents run (command.Ask q) work is kind = absurd (no_question ServesWork (λ asked it. it) work is.0 is.2 kind)
 serves_task contents run (command.Send waits) work is kind = let same : work ≡ At (command.Send waits) = cc in absurd (subst ServesWork same kind)

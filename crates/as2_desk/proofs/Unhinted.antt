@@ -6,7 +6,8 @@ use Rattle.as2_sending.specs.Exchanges.{Exchange}
 use Rattle.as2_sending.specs.Turns.{Sends}
 use Rattle.as2_sending.specs.declared.sent.Sent.{Sent}
 
-pub unhinted : (A : Agreements) (m : ℕ) (s t : State) (before after : Option (List ℕ)) (Seen Less : Text → List Exchange → Type 0) (end : Sent) → ((text : Text) (made : List Exchange) → Seen text made → Less text made) → Sends A m s t before after Seen end
+pub unhinted : (A : Agreements) (m : ℕ) (s t : State) (before after : Option (List ℕ)) (Seen Less : Text → List Exchange → Type 0) (end : Sent)
+    → ((text : Text) (made : List Exchange) → Seen text made → Less text made) → Sends A m s t before after Seen end
     → Sends A m s t before after Less end
 unhinted A m s t before after Seen Less end f it = record {
   done = it.done;

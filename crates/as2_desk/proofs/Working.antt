@@ -14,7 +14,8 @@ use Rattle.as2_desk.specs.declared.work.Work.TheVariants.{At, Verify, Prove}
 use Rattle.as2_commands.specs.declared.tasks.Command.TheVariants as command
 
 module _ (count : ℕ) (known : Option State) (o : Outcome) (Left : State → Type 0) (l : Listening) (ran : Ran) (again : SaysAgain known Left o.Left) where
-  awaits_left : (address : List ℕ) (ends : List Served) (k : Option State) → SaysAgain k Left o.Left → AwaitsFrom k Left l address ends → AwaitsFrom k o.Left l address ends
+  awaits_left : (address : List ℕ) (ends : List Served) (k : Option State) → SaysAgain k Left o.Left → AwaitsFrom k Left l address ends
+      → AwaitsFrom k o.Left l address ends
   awaits_left address ends None later it = it
   awaits_left address ends (Some s) later it = (it.0, later it.0 it.1, it.2)
 

@@ -111,13 +111,16 @@ fn answer<K: Records>(
     station: &mut Station<K>,
     question: Question<NewDocument>,
 ) -> Result<Printed, CommandFault>
-    ensures refused { (reason : TheRefusal) → refusal_to terms.now.agreements.now question ≡ Some reason → told_as result ≡ Err (Refusing reason) }
+    ensures refused { (reason : TheRefusal) → refusal_to terms.now.agreements.now question ≡ Some reason
+        → told_as result ≡ Err (Refusing reason) }
     ensures fault { FaultMayCome question (told_as result) }
     ensures clean { (K.shows station.new).IsClean → (K.shows station.old).IsClean }
     ensures tells { (K.shows station.new).IsClean → (s : State) → (K.shows station.old).Rests s
-        → (t : State) × (K.shows station.new).Rests t × Tells terms.now.agreements.now terms.now.moment question s t (told_as result) }
+        → (t : State) × (K.shows station.new).Rests t
+        × Tells terms.now.agreements.now terms.now.moment question s t (told_as result) }
     ensures by_history { (K.shows station.new).IsClean → (s : State) → (K.shows station.old).Rests s
-        → (t : State) × (K.shows station.new).Rests t × EndsByEvent terms.now.agreements.now terms.now.moment question s t (told_as result) }
+        → (t : State) × (K.shows station.new).Rests t
+        × EndsByEvent terms.now.agreements.now terms.now.moment question s t (told_as result) }
 {
     match question {
         Question::Submit(document) => {
@@ -151,8 +154,10 @@ pub(crate) fn ask<K: Records, R, W: Sink, H, E: Sink>(
     ensures status { (result.status ≡ done) ⊎ ((result.status ≡ refused) ⊎ (result.status ≡ failed)) }
     ensures unread { console.new.input ≡ console.old.input }
     ensures clean { (K.shows station.new).IsClean → (K.shows station.old).IsClean }
-    ensures asks { (known : Option State) → IfSome known (λ s. (K.shows station.new).IsClean × (K.shows station.old).Rests s)
-        → Asks terms.now.agreements.now terms.now.moment question known (outcome_of W.Sink E.Sink console.old console.new (λ t. (K.shows station.new).Rests t)) result }
+    ensures asks { (known : Option State)
+        → IfSome known (λ s. (K.shows station.new).IsClean × (K.shows station.old).Rests s)
+        → Asks terms.now.agreements.now terms.now.moment question known
+        (outcome_of W.Sink E.Sink console.old console.new (λ t. (K.shows station.new).Rests t)) result }
     ensures store { result.status ≡ failed → (console.new.output ≡ console.old.output)
         × ((fault : TheFault) × EndsRefused (Failing fault) (errors_of E.Sink console.old console.new) result) }
 {
@@ -187,7 +192,8 @@ fn print<W: Sink, E: Sink>(
     errors: &mut E,
 ) -> Ran
     ensures status { (result.status ≡ done) ⊎ ((result.status ≡ refused) ⊎ (result.status ≡ failed)) }
-    ensures prints { Prints (told_as told) (written_of W.Sink output.old output.new) (written_of E.Sink errors.old errors.new) result }
+    ensures prints { Prints (told_as told) (written_of W.Sink output.old output.new)
+        (written_of E.Sink errors.old errors.new) result }
     ensures store { result.status ≡ failed → (output.new ≡ output.old)
         × ((fault : TheFault) × EndsRefused (Failing fault) (written_of E.Sink errors.old errors.new) result) }
 {

@@ -50,7 +50,8 @@ pub(crate) fn check<W: Sink, E: Sink>(
     errors: &mut E,
 ) -> Ran
     ensures status { (result.status ≡ done) ⊎ (result.status ≡ refused) }
-    ensures counts { Counts agreements.now (written_of W.Sink output.old output.new) (written_of E.Sink errors.old errors.new) result }
+    ensures counts { Counts agreements.now (written_of W.Sink output.old output.new)
+        (written_of E.Sink errors.old errors.new) result }
 {
     let Ok(line) = counts(alloc, agreements) else {
         return refuse(CommandFault::Memory, errors);

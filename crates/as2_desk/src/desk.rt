@@ -57,9 +57,11 @@ pub fn run<
     host: &mut Host<F, O, N>,
     console: &mut Console<R, W, H, E>,
 ) -> Ran
-    ensures status { (result.status ≡ done) ⊎ ((result.status ≡ refused) ⊎ ((result.status ≡ faulty) ⊎ (result.status ≡ failed))) }
+    ensures status { (result.status ≡ done)
+        ⊎ ((result.status ≡ refused) ⊎ ((result.status ≡ faulty) ⊎ (result.status ≡ failed))) }
     // Words that ask for something are no faulty command line.
-    ensures given { (path store : List ℕ) (task : TheTask) → Gives (texts words.entry.now) clock path store task → result.status ≢ faulty }
+    ensures given { (path store : List ℕ) (task : TheTask) → Gives (texts words.entry.now) clock path store task
+        → result.status ≢ faulty }
     // It is done over the agreements and the store that they name, or the refusal is told that stands in their place; where
     // memory for the words was wanting nothing is done.
     ensures runs { (path store : List ℕ) (task : TheTask)
@@ -74,28 +76,33 @@ pub fn run<
           listening = listening_of N.Network N.Listener.Listens host.old.outside.network host.new.outside.network;
         })
         (stored_of O.OpenStores host.old.stores host.new.stores store) result
-        ⊎ ((host.new.stores ≡ host.old.stores) × (host.new.outside ≡ host.old.outside) × (console.new.input ≡ console.old.input) × (console.new.output ≡ console.old.output)
+        ⊎ ((host.new.stores ≡ host.old.stores) × (host.new.outside ≡ host.old.outside)
+        × (console.new.input ≡ console.old.input) × (console.new.output ≡ console.old.output)
         × EndsRefused Memory (errors_of E.Sink console.old console.new) result) }
     // A store in memory leaves the others as they were.
     ensures memory { (path : List ℕ) (task : TheTask) → Gives (texts words.entry.now) clock path (codes ":memory:") task
         → host.new.stores ≡ host.old.stores }
     // Words that ask for nothing run nothing, open nothing, make no file, and ask nothing of the network.
-    ensures unread { GivesNone (texts words.entry.now) clock → (console.new.input ≡ console.old.input) × (host.new.stores ≡ host.old.stores)
+    ensures unread { GivesNone (texts words.entry.now) clock → (console.new.input ≡ console.old.input)
+        × (host.new.stores ≡ host.old.stores)
         × (host.new.outside ≡ host.old.outside) }
     // They are faulty, unless they ask for the help or the version; memory may be wanting to say so.
     ensures none { GivesNone (texts words.entry.now) clock → ¬ AsksForHelp (texts words.entry.now)
-        → ((result.status ≡ faulty) ⊎ EndsRefused Memory (errors_of E.Sink console.old console.new) result) × (console.new.output ≡ console.old.output) }
+        → ((result.status ≡ faulty) ⊎ EndsRefused Memory (errors_of E.Sink console.old console.new) result)
+        × (console.new.output ≡ console.old.output) }
     // Why they are faulty is said, and the help or the version is printed.
     ensures said { result.status ≡ faulty → SaysFaulty (errors_of E.Sink console.old console.new) result }
     ensures help { GivesNone (texts words.entry.now) clock → result.status ≢ faulty
         → Helps (output_of W.Sink console.old console.new) (errors_of E.Sink console.old console.new) result }
     // A faulty command line reads and prints nothing, opens nothing, makes no file, and asks nothing of the network.
-    ensures untouched { result.status ≡ faulty → (console.new.input ≡ console.old.input) × (console.new.output ≡ console.old.output)
+    ensures untouched { result.status ≡ faulty → (console.new.input ≡ console.old.input)
+        × (console.new.output ≡ console.old.output)
         × (host.new.stores ≡ host.old.stores) × (host.new.outside ≡ host.old.outside) }
     // A store with a fault is told, and nothing is read or written then; what was sent or served before stands, with its lines.
     ensures store { result.status ≡ failed
         → Stopped (AsksFor (texts words.entry.now) clock IsSending) (AsksFor (texts words.entry.now) clock IsServing)
-        (input_of R.Source console.old console.new) (output_of W.Sink console.old console.new) (errors_of E.Sink console.old console.new) result }
+        (input_of R.Source console.old console.new) (output_of W.Sink console.old console.new)
+        (errors_of E.Sink console.old console.new) result }
 {
     match options_in(alloc, words, clock) {
         Ok(options) => {
@@ -132,7 +139,8 @@ fn carry_out<
     ensures comes { Comes (F.content host.old.outside.files) agreed options.entry.task
         (record {
           input = input_of R.Source console.old console.new;
-          outcome = outcome_of W.Sink E.Sink console.old console.new (Leaves options.entry.store.now (O.keeps host.new.stores options.entry.store.now));
+          outcome = outcome_of W.Sink E.Sink console.old console.new
+              (Leaves options.entry.store.now (O.keeps host.new.stores options.entry.store.now));
           filing = filing_of F.MakeFiles host.old.outside.files host.new.outside.files;
           Unasked = host.new.outside.network ≡ host.old.outside.network;
           Exchanged = ExchangedOver N.Network N.Links.Links host.old.outside.network host.new.outside.network;
@@ -140,7 +148,9 @@ fn carry_out<
         })
         (stored_of O.OpenStores host.old.stores host.new.stores options.entry.store.now) result }
     ensures memory { options.entry.store.now ≡ codes ":memory:" → host.new.stores ≡ host.old.stores }
-    ensures store { result.status ≡ failed → Stopped (IsSending options.entry.task) (IsServing options.entry.task) (input_of R.Source console.old console.new)
+    ensures store { result.status ≡ failed
+        → Stopped (IsSending options.entry.task) (IsServing options.entry.task)
+        (input_of R.Source console.old console.new)
         (output_of W.Sink console.old console.new) (errors_of E.Sink console.old console.new) result }
 {
     let Options { store, task, .. } = options;
@@ -194,10 +204,12 @@ fn is_unread(agreed: &Result<Agreements, CommandFault>) -> bool {
 fn tell<W: Sink, E: Sink>(alloc: Global, error: &Error, output: &mut W, errors: &mut E) -> Ran
     ensures status { (result.status ≡ done) ⊎ ((result.status ≡ refused) ⊎ (result.status ≡ faulty)) }
     ensures fault { ¬ IsHelp (kind_of error.now)
-        → ((result.status ≡ faulty) ⊎ EndsRefused Memory (written_of E.Sink errors.old errors.new) result) × (output.new ≡ output.old) }
+        → ((result.status ≡ faulty) ⊎ EndsRefused Memory (written_of E.Sink errors.old errors.new) result)
+        × (output.new ≡ output.old) }
     ensures help { IsHelp (kind_of error.now) → result.status ≢ faulty }
     ensures said { result.status ≡ faulty → SaysFaulty (written_of E.Sink errors.old errors.new) result }
-    ensures helps { result.status ≢ faulty → Helps (written_of W.Sink output.old output.new) (written_of E.Sink errors.old errors.new) result }
+    ensures helps { result.status ≢ faulty
+        → Helps (written_of W.Sink output.old output.new) (written_of E.Sink errors.old errors.new) result }
     // Want of memory is told as such, or the error is another.
     ensures memory { ((output.new ≡ output.old) × EndsRefused Memory (written_of E.Sink errors.old errors.new) result)
         ⊎ (kind_of error.now ≢ OutOfMemory) }

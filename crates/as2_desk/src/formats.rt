@@ -20,7 +20,8 @@ pub(crate) fn listing_in<K: Records>(
     station: &mut Station<K>,
     filter: Filter,
 ) -> Result<Printed, StoreFault>
-    ensures listing { Reads (λ s printed. printed_text printed ≡ listing_in format filter s) (K.shows station.old) (K.shows station.new) result }
+    ensures listing { Reads (λ s printed. printed_text printed
+        ≡ listing_in format filter s) (K.shows station.old) (K.shows station.new) result }
     ensures fault { IfErr result (λ f. may_come f ≡ true) }
 {
     match format {
@@ -36,7 +37,8 @@ pub(crate) fn outstanding_in<K: Records>(
     station: &mut Station<K>,
     moment: Moment,
 ) -> Result<Printed, StoreFault>
-    ensures outstanding { Reads (λ s printed. printed_text printed ≡ outstanding_in format s moment) (K.shows station.old) (K.shows station.new) result }
+    ensures outstanding { Reads (λ s printed. printed_text printed
+        ≡ outstanding_in format s moment) (K.shows station.old) (K.shows station.new) result }
     ensures fault { IfErr result (λ f. may_come f ≡ true) }
 {
     match format {
@@ -66,7 +68,8 @@ pub(crate) fn show_in<K: Records>(
     station: &mut Station<K>,
     number: u64,
 ) -> Result<Option<Printed>, StoreFault>
-    ensures shown { Reads (λ s printed. option_map printed_text printed ≡ show_in format s number) (K.shows station.old) (K.shows station.new) result }
+    ensures shown { Reads (λ s printed. option_map printed_text printed
+        ≡ show_in format s number) (K.shows station.old) (K.shows station.new) result }
     ensures fault { IfErr result (λ f. may_come f ≡ true) }
 {
     match format {

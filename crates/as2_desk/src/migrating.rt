@@ -46,10 +46,13 @@ fn write_counts<H: Write>(migration: Migration, hints: &mut H) -> io::Result<()>
 
 /// Migrates the store of that path. One in memory is none, since it ends with the program.
 fn migrated<O: OpenStores>(path: &str, stores: &mut O) -> Result<Migration, OpenFault>
-    ensures moved { IfOk result (λ _. O.is_clean stores.new → (s : State) → O.keeps_earlier stores.old path.now s → (number : ℕ) → O.keeps stores.new path.now number (moved s)) }
+    ensures moved { IfOk result (λ _. O.is_clean stores.new → (s : State) → O.keeps_earlier stores.old path.now s
+        → (number : ℕ) → O.keeps stores.new path.now number (moved s)) }
     ensures fault { IfErr result (IsStayAt path.now (O.stays stores.old path.now)) }
-    ensures same { IfErr result (λ fault. (number : ℕ) (s : State) → O.keeps stores.old path.now number s → O.keeps stores.new path.now number s) }
-    ensures earlier { IfErr result (λ fault. (s : State) → O.keeps_earlier stores.old path.now s → O.keeps_earlier stores.new path.now s) }
+    ensures same { IfErr result (λ fault. (number : ℕ) (s : State) → O.keeps stores.old path.now number s
+        → O.keeps stores.new path.now number s) }
+    ensures earlier { IfErr result (λ fault. (s : State) → O.keeps_earlier stores.old path.now s
+        → O.keeps_earlier stores.new path.now s) }
     ensures memory { path.now ≡ codes ":memory:" → stores.new ≡ stores.old }
     ensures counted { O.opens stores.new ≡ O.opens stores.old }
 {
@@ -69,10 +72,12 @@ pub(crate) fn migrate<F, O: OpenStores, N, R, W: Sink, H: Write, E: Sink>(
     ensures unread { console.new.input ≡ console.old.input }
     ensures unasked { host.new.outside ≡ host.old.outside }
     ensures migrates { Migrates (stored_of O.OpenStores host.old.stores host.new.stores path.now)
-        (written_of W.Sink console.old.output console.new.output) (written_of E.Sink console.old.errors console.new.errors) result }
+        (written_of W.Sink console.old.output console.new.output)
+        (written_of E.Sink console.old.errors console.new.errors) result }
     ensures memory { path.now ≡ codes ":memory:" → host.new.stores ≡ host.old.stores }
     ensures store { result.status ≡ failed → (console.new.output ≡ console.old.output)
-        × ((fault : TheFault) × EndsRefused (Failing fault) (written_of E.Sink console.old.errors console.new.errors) result) }
+        × ((fault : TheFault)
+        × EndsRefused (Failing fault) (written_of E.Sink console.old.errors console.new.errors) result) }
 {
     let migration = match migrated(path, &mut host.stores) {
         Ok(migration) => migration,

@@ -11,7 +11,8 @@ use std::io::Write;
 
 /// Writes the name behind the number of an entry, where it has one, and LF.
 fn write_name<H: Write>(name: &Option<String>, hints: &mut H) -> io::Result<()>
-    ensures { OnOk result (Appends (H.contents hints.old) (H.contents hints.new) (name_end (option_map string_bytes name.now))) }
+    ensures { OnOk result
+        (Appends (H.contents hints.old) (H.contents hints.new) (name_end (option_map string_bytes name.now))) }
 {
     let Some(name) = name else {
         return hints.write_all(b"\n");

@@ -33,11 +33,13 @@ fn serve_input<K: Records, R: Source, W: Sink, H: Journal + CountsBusy, E>(
     ensures serves { (K.shows station.new).IsClean → (s : State) → (K.shows station.old).Rests s
         → (text : List ℕ) → R.left console.old.input ≡ Some text → (t : State) × (K.shows station.new).Rests t
         × Serves terms.now.agreements.now terms.now.moment s t text (R.left console.new.input)
-        (spoken (W.written console.old.output) (if_noted logs (H.noted console.old.hints))) (spoken (W.written console.new.output) (if_noted logs (H.noted console.new.hints)))
+        (spoken (W.written console.old.output) (if_noted logs (H.noted console.old.hints)))
+        (spoken (W.written console.new.output) (if_noted logs (H.noted console.new.hints)))
         (R.calls console.old.input) (R.calls console.new.input) result.0 }
     ensures posts { (K.shows station.new).IsClean → (s : State) → (K.shows station.old).Rests s
         → (t : State) × (K.shows station.new).Rests t × RunsPosts terms.now.agreements.now terms.now.moment s t }
-    ensures cause { HasCause result.0 (input_of R.Source console.old console.new) (output_of W.Sink console.old console.new) }
+    ensures cause { HasCause result.0 (input_of R.Source console.old console.new)
+        (output_of W.Sink console.old console.new) }
     ensures silent { logs ≡ false → console.new.hints ≡ console.old.hints }
 {
     let before = console.hints.busy();
@@ -75,11 +77,13 @@ pub(crate) fn post<K: Records, R: Source, W: Sink, H: Write + Journal + CountsBu
 ) -> Ran
     ensures status { (result.status ≡ done) ⊎ (result.status ≡ refused) }
     ensures clean { (K.shows station.new).IsClean → (K.shows station.old).IsClean }
-    ensures posts { (known : Option State) → IfSome known (λ s. (K.shows station.new).IsClean × (K.shows station.old).Rests s)
+    ensures posts { (known : Option State)
+        → IfSome known (λ s. (K.shows station.new).IsClean × (K.shows station.old).Rests s)
         → (it : Posts terms.now.agreements.now terms.now.moment known (input_of R.Source console.old console.new)
         (outcome_of W.Sink E.Sink console.old console.new (λ t. (K.shows station.new).Rests t)) result)
         × (it.noted ≡ if_noted logs (H.noted console.old.hints))
-        × ((told : H) × (busy : ℕ) × (it.new ≡ if_noted logs (H.noted told)) × (logs ≡ false → told ≡ console.old.hints) × (busy ≡ 0 → console.new.hints ≡ told)) }
+        × ((told : H) × (busy : ℕ) × (it.new ≡ if_noted logs (H.noted told)) × (logs ≡ false → told ≡ console.old.hints)
+        × (busy ≡ 0 → console.new.hints ≡ told)) }
 {
     let (end, busy) = serve_input(terms, station, logs, console);
     let _ = is_busy_told(busy, &mut console.hints);

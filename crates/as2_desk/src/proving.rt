@@ -57,7 +57,8 @@ fn name_lines(alloc: Global, files: &[NewFile]) -> Result<Vec<u8>, Memory>
 /// Prints the names of the files that were made.
 fn print_names<W: Sink, E: Sink>(names: &[u8], output: &mut W, errors: &mut E) -> Ran
     ensures status { (result.status ≡ done) ⊎ (result.status ≡ refused) }
-    ensures prints { PrintsNames names.now (written_of W.Sink output.old output.new) (written_of E.Sink errors.old errors.new) result }
+    ensures prints { PrintsNames names.now (written_of W.Sink output.old output.new)
+        (written_of E.Sink errors.old errors.new) result }
 {
     if push_all(output, names).is_err() {
         return refuse(CommandFault::CannotWrite, errors);
@@ -100,7 +101,8 @@ fn make_what_came<F: MakeFiles, R, W: Sink, H, E: Sink>(
 ) -> Ran
     ensures status { (result.status ≡ done) ⊎ ((result.status ≡ refused) ⊎ (result.status ≡ failed)) }
     ensures unread { console.new.input ≡ console.old.input }
-    ensures makes { MakesWhatCame folder.now (came_of (λ v. files_of v.items) came) (filing_of F.MakeFiles maker.old maker.new)
+    ensures makes { MakesWhatCame folder.now (came_of (λ v. files_of v.items) came)
+        (filing_of F.MakeFiles maker.old maker.new)
         (output_of W.Sink console.old console.new) (errors_of E.Sink console.old console.new) result }
     ensures store { result.status ≡ failed → (console.new.output ≡ console.old.output)
         × ((fault : TheFault) × EndsRefused (Failing fault) (errors_of E.Sink console.old console.new) result) }
@@ -129,7 +131,8 @@ pub(crate) fn prove<K: Records, F: MakeFiles, R, W: Sink, H, E: Sink>(
     ensures status { (result.status ≡ done) ⊎ ((result.status ≡ refused) ⊎ (result.status ≡ failed)) }
     ensures unread { console.new.input ≡ console.old.input }
     ensures clean { (K.shows records.new).IsClean → (K.shows records.old).IsClean }
-    ensures proves { (known : Option State) → IfSome known (λ s. (K.shows records.new).IsClean × (K.shows records.old).Rests s)
+    ensures proves { (known : Option State)
+        → IfSome known (λ s. (K.shows records.new).IsClean × (K.shows records.old).Rests s)
         → Proves terms.now.agreements.now wanted.entry known (filing_of F.MakeFiles maker.old maker.new)
         (outcome_of W.Sink E.Sink console.old console.new (λ t. (K.shows records.new).Rests t)) result }
     ensures store { result.status ≡ failed → (console.new.output ≡ console.old.output)

@@ -31,7 +31,8 @@ pub(crate) fn send_due<K: Records, L: Links, R, W: Sink, H: Write, E: Sink>(
     ensures status { (result.status ≡ done) ⊎ ((result.status ≡ refused) ⊎ (result.status ≡ failed)) }
     ensures unread { console.new.input ≡ console.old.input }
     ensures clean { (K.shows station.new).IsClean → (K.shows station.old).IsClean }
-    ensures sends { (known : Option State) → IfSome known (λ s. (K.shows station.new).IsClean × (K.shows station.old).Rests s)
+    ensures sends { (known : Option State)
+        → IfSome known (λ s. (K.shows station.new).IsClean × (K.shows station.old).Rests s)
         → SendsDue terms.now.agreements.now terms.now.moment known
         (outcome_of W.Sink E.Sink console.old console.new (λ t. (K.shows station.new).Rests t))
         (λ made. Exchanges L.answers links.old made links.new) result }

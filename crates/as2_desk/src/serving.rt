@@ -62,7 +62,8 @@ fn serve_one<K: Records, L: Listens, R, W: Sink, H: Write + Journal + CountsBusy
     ensures clean { (K.shows station.new).IsClean → (K.shows station.old).IsClean }
     ensures serves { ServesNext (K.shows station.old) (K.shows station.new)
         (λ end. (trace : Trace) × L.ended listener.old moment.now trace end listener.new)
-        (λ end s t. ServesOne terms.now.agreements.now moment.now (λ trace. L.ended listener.old moment.now trace end listener.new) s t)
+        (λ end s t. ServesOne terms.now.agreements.now moment.now
+        (λ trace. L.ended listener.old moment.now trace end listener.new) s t)
         (λ end. WritesBy result (output_of W.Sink console.old console.new) (connection_line end)) }
 {
     let before = console.hints.busy();
@@ -93,7 +94,8 @@ fn serve_next<K: Records, L: Listens, R, W: Sink, H: Write + Journal + CountsBus
     ensures clean { (K.shows station.new).IsClean → (K.shows station.old).IsClean }
     ensures serves { ServesNext (K.shows station.old) (K.shows station.new)
         (λ end. (trace : Trace) × L.ended listener.old moment.now trace end listener.new)
-        (λ end s t. ServesOne terms.now.agreements.now moment.now (λ trace. L.ended listener.old moment.now trace end listener.new) s t)
+        (λ end s t. ServesOne terms.now.agreements.now moment.now
+        (λ trace. L.ended listener.old moment.now trace end listener.new) s t)
         (λ end. TellsNext result (output_of W.Sink console.old console.new) (connection_line end)) }
 {
     if serve_one(terms, moment, station, listener, console).is_err() {
@@ -150,10 +152,12 @@ pub(crate) fn serve<K: Records, N: Network, R, W: Sink, H: Write + Journal + Cou
     ensures unread { console.new.input ≡ console.old.input }
     ensures store { result.status ≡ failed → FailsBehind (errors_of E.Sink console.old console.new) result }
     ensures clean { (K.shows station.new).IsClean → (K.shows station.old).IsClean }
-    ensures serves { (known : Option State) → IfSome known (λ s. (K.shows station.new).IsClean × (K.shows station.old).Rests s)
+    ensures serves { (known : Option State)
+        → IfSome known (λ s. (K.shows station.new).IsClean × (K.shows station.old).Rests s)
         → ServesCount serving.entry.count known
         (outcome_of W.Sink E.Sink console.old console.new (λ t. (K.shows station.new).Rests t))
-        (listening_of N.Network N.Listener.Listens network.old network.new terms.now.agreements.now serving.entry) result }
+        (listening_of N.Network N.Listener.Listens network.old network.new terms.now.agreements.now serving.entry)
+        result }
 {
     let Ok(mut listener) = network.listen(terms.alloc, serving.address, serving.waits) else {
         return refuse(CommandFault::CannotListen, &mut console.errors);

@@ -43,7 +43,8 @@ fn audited<K: Records, P: Watch>(
     records: &mut K,
     watch: &mut P,
 ) -> Result<Verification, StoreFault>
-    ensures audited { Reads (λ s v. (v.text.items ≡ verification_in format s) × (v.findings ≡ length (findings s))) (K.shows records.old) (K.shows records.new) result }
+    ensures audited { Reads (λ s v. (v.text.items ≡ verification_in format s)
+        × (v.findings ≡ length (findings s))) (K.shows records.old) (K.shows records.new) result }
     ensures may { IfErr result (λ f. may_come f ≡ true) }
 {
     match format {
@@ -59,7 +60,8 @@ fn print_audit<W: Sink, E: Sink>(
     errors: &mut E,
 ) -> Ran
     ensures status { (result.status ≡ done) ⊎ ((result.status ≡ refused) ⊎ (result.status ≡ failed)) }
-    ensures prints { PrintsAudit came (written_of W.Sink output.old output.new) (written_of E.Sink errors.old errors.new) result }
+    ensures prints { PrintsAudit came (written_of W.Sink output.old output.new)
+        (written_of E.Sink errors.old errors.new) result }
     ensures store { result.status ≡ failed → (output.new ≡ output.old)
         × ((fault : TheFault) × EndsRefused (Failing fault) (written_of E.Sink errors.old errors.new) result) }
 {
@@ -86,8 +88,10 @@ pub(crate) fn look_through<K: Records, R, W: Sink, H: Watch, E: Sink>(
     ensures status { (result.status ≡ done) ⊎ ((result.status ≡ refused) ⊎ (result.status ≡ failed)) }
     ensures unread { console.new.input ≡ console.old.input }
     ensures clean { (K.shows records.new).IsClean → (K.shows records.old).IsClean }
-    ensures verifies { (known : Option State) → IfSome known (λ s. (K.shows records.new).IsClean × (K.shows records.old).Rests s)
-        → Verifies format known (outcome_of W.Sink E.Sink console.old console.new (λ t. (K.shows records.new).Rests t)) result }
+    ensures verifies { (known : Option State)
+        → IfSome known (λ s. (K.shows records.new).IsClean × (K.shows records.old).Rests s)
+        → Verifies format known (outcome_of W.Sink E.Sink console.old console.new (λ t. (K.shows records.new).Rests t))
+        result }
     ensures store { result.status ≡ failed → (console.new.output ≡ console.old.output)
         × ((fault : TheFault) × EndsRefused (Failing fault) (errors_of E.Sink console.old console.new) result) }
 {

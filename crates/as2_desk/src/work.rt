@@ -54,7 +54,8 @@ fn handed<F: ReadFiles>(
     files: &F,
     submission: Submission<'_>,
 ) -> Result<NewDocument, CommandFault>
-    ensures { (document : Document) × HasDocument (front (content_limit + 1) (F.content files.now submission.entry.path)) document
+    ensures { (document : Document)
+        × HasDocument (front (content_limit + 1) (F.content files.now submission.entry.path)) document
         × (asked_of result ≡ handing submission.entry document) }
 {
     let content = document_in(alloc, files, submission.path)?;
@@ -122,7 +123,8 @@ fn do_at<
     ensures status { (result.status ≡ done) ⊎ ((result.status ≡ refused) ⊎ (result.status ≡ failed)) }
     ensures unmade { outside.new.files ≡ outside.old.files }
     ensures clean { (K.shows station.new).IsClean → (K.shows station.old).IsClean }
-    ensures does { (known : Option State) → IfSome known (λ s. (K.shows station.new).IsClean × (K.shows station.old).Rests s)
+    ensures does { (known : Option State)
+        → IfSome known (λ s. (K.shows station.new).IsClean × (K.shows station.old).Rests s)
         → CarriesOut terms.now.agreements.now terms.now.moment command.entry known (record {
           input = input_of R.Source console.old console.new;
           outcome = outcome_of W.Sink E.Sink console.old console.new (λ t. (K.shows station.new).Rests t);
@@ -131,7 +133,8 @@ fn do_at<
           Exchanged = ExchangedOver N.Network N.Links.Links outside.old.network outside.new.network;
           listening = listening_of N.Network N.Listener.Listens outside.old.network outside.new.network;
         }) result }
-    ensures store { result.status ≡ failed → Stopped (Sends command.entry) (ServesIt command.entry) (input_of R.Source console.old console.new)
+    ensures store { result.status ≡ failed
+        → Stopped (Sends command.entry) (ServesIt command.entry) (input_of R.Source console.old console.new)
         (output_of W.Sink console.old console.new) (errors_of E.Sink console.old console.new) result }
 {
     match command {
@@ -164,9 +167,12 @@ fn do_over<
     console: &mut Console<R, W, H, E>,
 ) -> (Ran, Option<K>)
     ensures status { (result.0.status ≡ done) ⊎ ((result.0.status ≡ refused) ⊎ (result.0.status ≡ failed)) }
-    ensures fails { IfErr records (λ fault. (result.1 ≡ None) × (outside.new.files ≡ outside.old.files) × (outside.new.network ≡ outside.old.network) × (console.new.input ≡ console.old.input) × (console.new.output ≡ console.old.output)
+    ensures fails { IfErr records (λ fault. (result.1 ≡ None) × (outside.new.files ≡ outside.old.files)
+        × (outside.new.network ≡ outside.old.network) × (console.new.input ≡ console.old.input)
+        × (console.new.output ≡ console.old.output)
         × EndsRefused (Failing fault) (errors_of E.Sink console.old console.new) result.0) }
-    ensures does { IfOk records (λ opened. IsSomeAnd result.1 (λ last. ((K.shows last).IsClean → (K.shows opened).IsClean)
+    ensures does { IfOk records (λ opened. IsSomeAnd result.1 (λ last. ((K.shows last).IsClean
+        → (K.shows opened).IsClean)
         × ((known : Option State) → IfSome known (λ s. (K.shows last).IsClean × (K.shows opened).Rests s)
         → Does terms.now.agreements.now terms.now.moment work.entry known (record {
           input = input_of R.Source console.old console.new;
@@ -176,7 +182,8 @@ fn do_over<
           Exchanged = ExchangedOver N.Network N.Links.Links outside.old.network outside.new.network;
           listening = listening_of N.Network N.Listener.Listens outside.old.network outside.new.network;
         }) result.0))) }
-    ensures store { result.0.status ≡ failed → Stopped (SendsWork work.entry) (ServesWork work.entry) (input_of R.Source console.old console.new)
+    ensures store { result.0.status ≡ failed
+        → Stopped (SendsWork work.entry) (ServesWork work.entry) (input_of R.Source console.old console.new)
         (output_of W.Sink console.old console.new) (errors_of E.Sink console.old console.new) result.0 }
 {
     let records = match records {
@@ -218,7 +225,8 @@ fn open_in<O: OpenStores>(
     ensures found { Finds (λ b. O.Opened.shows b.records) (O.keeps stores.old path.now first) result }
     ensures room { IfOk result (λ b. (size : ℕ) × O.takes stores.old path.now size × (b.room ≡ room_of limit size)) }
     ensures fault { IfErr result (λ fault. O.fails stores.old path.now fault) }
-    ensures same { IfErr result (λ fault. (number : ℕ) (s : State) → O.keeps stores.old path.now number s → O.keeps stores.new path.now number s) }
+    ensures same { IfErr result (λ fault. (number : ℕ) (s : State) → O.keeps stores.old path.now number s
+        → O.keeps stores.new path.now number s) }
     ensures counted { O.opens stores.new ≡ O.opens stores.old + opens_of result }
 {
     let room = room_of(limit, stores.size(path));
@@ -231,7 +239,8 @@ fn open_in<O: OpenStores>(
 /// Closes the records of that path, where they were opened, and gives how many contents they had no room for.
 fn close_in<O: OpenStores>(stores: &mut O, path: &str, records: Option<Bounded<O::Opened>>) -> u64
     ensures clean { IfSome records (λ last. O.is_clean stores.new → (O.Opened.shows last.records).IsClean) }
-    ensures kept { IfSome records (λ last. O.is_clean stores.new → (t : State) → (O.Opened.shows last.records).Rests t → (number : ℕ) → O.keeps stores.new path.now number t) }
+    ensures kept { IfSome records (λ last. O.is_clean stores.new → (t : State) → (O.Opened.shows last.records).Rests t
+        → (number : ℕ) → O.keeps stores.new path.now number t) }
     ensures none { records ≡ None → (stores.new ≡ stores.old) × (result ≡ 0) }
     ensures counted { O.opens stores.new ≡ O.opens stores.old }
     ensures refused { IfSome records (λ last. result ≡ last.refused) }
@@ -261,16 +270,22 @@ pub(crate) fn work_over<
     console: &mut Console<R, W, H, E>,
 ) -> Ran
     ensures status { (result.status ≡ done) ⊎ ((result.status ≡ refused) ⊎ (result.status ≡ failed)) }
-    ensures goes { Goes terms.now.agreements.now (record { first = store.entry.first; moment = terms.now.moment; limit = store.entry.limit }) (Ok work.entry) (record {
+    ensures goes { Goes terms.now.agreements.now (record {
+      first = store.entry.first;
+      moment = terms.now.moment;
+      limit = store.entry.limit;
+    }) (Ok work.entry) (record {
       input = input_of R.Source console.old console.new;
-      outcome = outcome_of W.Sink E.Sink console.old console.new (Leaves store.entry.path.now (O.keeps host.new.stores store.entry.path.now));
+      outcome = outcome_of W.Sink E.Sink console.old console.new
+          (Leaves store.entry.path.now (O.keeps host.new.stores store.entry.path.now));
       filing = filing_of F.MakeFiles host.old.outside.files host.new.outside.files;
       Unasked = host.new.outside.network ≡ host.old.outside.network;
       Exchanged = ExchangedOver N.Network N.Links.Links host.old.outside.network host.new.outside.network;
       listening = listening_of N.Network N.Listener.Listens host.old.outside.network host.new.outside.network;
     }) (stored_of O.OpenStores host.old.stores host.new.stores store.entry.path.now) result }
     ensures memory { store.entry.path.now ≡ codes ":memory:" → host.new.stores ≡ host.old.stores }
-    ensures store { result.status ≡ failed → Stopped (SendsWork work.entry) (ServesWork work.entry) (input_of R.Source console.old console.new)
+    ensures store { result.status ≡ failed
+        → Stopped (SendsWork work.entry) (ServesWork work.entry) (input_of R.Source console.old console.new)
         (output_of W.Sink console.old console.new) (errors_of E.Sink console.old console.new) result }
 {
     let NamedStore { path, first, limit } = store;

@@ -24,7 +24,9 @@ fn received_evidence<R: Records>(
     agreements: &Agreements,
     number: u64,
 ) -> Result<Option<Vec<NewFile>>, StoreFault>
-    ensures files { Reads (λ s files. IsEvidence agreements.now s mailbox.Inbox number (option_map (λ v. files_of v.items) files)) (R.shows records.old) (R.shows records.new) result }
+    ensures files { Reads
+        (λ s files. IsEvidence agreements.now s mailbox.Inbox number (option_map (λ v. files_of v.items) files))
+        (R.shows records.old) (R.shows records.new) result }
     ensures may { IfErr result (λ f. may_come f ≡ true) }
 {
     match records.find_in_number(alloc, number)? {
@@ -40,7 +42,9 @@ fn sent_at<R: Records>(
     migrated: bool,
     number: u64,
 ) -> Result<Option<Vec<NewFile>>, StoreFault>
-    ensures files { Reads (λ s files. AreOf (AreSentFiles migrated) (document s number) (option_map (λ v. files_of v.items) files)) (R.shows records.old) (R.shows records.new) result }
+    ensures files { Reads
+        (λ s files. AreOf (AreSentFiles migrated) (document s number) (option_map (λ v. files_of v.items) files))
+        (R.shows records.old) (R.shows records.new) result }
     ensures may { IfErr result (λ f. may_come f ≡ true) }
 {
     match records.find_out(alloc, number)? {
@@ -55,7 +59,9 @@ fn sent_evidence<R: Records>(
     alloc: Global,
     number: u64,
 ) -> Result<Option<Vec<NewFile>>, StoreFault>
-    ensures files { Reads (λ s files. AreOf (AreSentFiles (is_migrated s)) (document s number) (option_map (λ v. files_of v.items) files)) (R.shows records.old) (R.shows records.new) result }
+    ensures files { Reads
+        (λ s files. AreOf (AreSentFiles (is_migrated s)) (document s number) (option_map (λ v. files_of v.items) files))
+        (R.shows records.old) (R.shows records.new) result }
     ensures may { IfErr result (λ f. may_come f ≡ true) }
 {
     let origin = records.origin()?;
@@ -71,7 +77,9 @@ pub fn evidence<R: Records>(
     mailbox: Mailbox,
     number: u64,
 ) -> Result<Option<Vec<NewFile>>, StoreFault>
-    ensures files { Reads (λ s files. IsEvidence agreements.now s mailbox number (option_map (λ v. files_of v.items) files)) (R.shows records.old) (R.shows records.new) result }
+    ensures files { Reads
+        (λ s files. IsEvidence agreements.now s mailbox number (option_map (λ v. files_of v.items) files))
+        (R.shows records.old) (R.shows records.new) result }
     ensures may { IfErr result (λ f. may_come f ≡ true) }
 {
     match mailbox {

@@ -82,7 +82,8 @@ fn add_evidence(
     came: &[u8],
     evidence: Option<&Evidence>,
 ) -> Result<(), Memory>
-    ensures { OnOk result (text.new.items ≡ text.old.items ++ receipt_lines stem.now came.now (option_map (λ e. e.now) evidence.entry)) }
+    ensures { OnOk result (text.new.items
+        ≡ text.old.items ++ receipt_lines stem.now came.now (option_map (λ e. e.now) evidence.entry)) }
 {
     let Some(evidence) = evidence else {
         return Ok(());

@@ -22,7 +22,8 @@ use Rattle.as2_files.specs.Earlier.{IsEarlier}
 -- ---- an open
 
 -- what a connection that may have opened stands for
-pub each_opens : {C E : Type 0} (shown : C → Connected) (image : Image) (r : Result C E) → IfOk r (λ c. HasCleanDisk (shown c) → Opens (shown c) × IsLive (shown c)) → IfOk r (λ c. HasCleanDisk (shown c) → FindsIn image (shown c))
+pub each_opens : {C E : Type 0} (shown : C → Connected) (image : Image) (r : Result C E)
+    → IfOk r (λ c. HasCleanDisk (shown c) → Opens (shown c) × IsLive (shown c)) → IfOk r (λ c. HasCleanDisk (shown c) → FindsIn image (shown c))
     → IfOk r (λ c. HasCleanDisk (shown c) → (layout : Layout) (s : State) → HoldsAs layout image s → RestsAs layout (shown c) s)
 each_opens shown image (Ok c) opened finds = λ clean layout s held. let it = opened clean in rests_held_as layout (shown c) image s it.0 it.1 (finds clean).holds held
 each_opens shown image (Err e) opened finds = tt
@@ -30,7 +31,8 @@ each_opens shown image (Err e) opened finds = tt
 -- ---- what is counted, and given back
 
 -- a transaction that is given up leaves the tables as they were
-pub given_up : {S : Type 0} (g : Ghosts S) (old : Held S) (last : Connected) (end : Held S) → IsInside (state g (record old { in_transaction = true })) last → Survives last (state g end) (λ _. ⊥)
+pub given_up : {S : Type 0} (g : Ghosts S) (old : Held S) (last : Connected) (end : Held S) → IsInside (state g (record old { in_transaction = true })) last
+    → Survives last (state g end) (λ _. ⊥)
     → (state g end).in_transaction ≡ false → (HasCleanDisk (state g end) → IsRolledBack last (state g end)) → IsGivenBack (λ _. ⊥) (state g old) (state g end)
 given_up g old last end inside survives autocommit back =
     let was : HasCleanDisk (state g end) → HasCleanDisk last = λ clean. omega (arith, survives.clean, clean) in
@@ -71,7 +73,8 @@ back_same c autocommit = record {
 }
 
 -- tables that are given back stand for what they stood for
-pub back_as : (layout : Layout) (old new : Connected) (s : State) → IsGivenBack (λ _. ⊥) old new → HasCleanDisk new → RestsAs layout old s → RestsAs layout new s
+pub back_as : (layout : Layout) (old new : Connected) (s : State) → IsGivenBack (λ _. ⊥) old new → HasCleanDisk new → RestsAs layout old s
+    → RestsAs layout new s
 back_as layout old new s back clean rests = record {
   autocommit = back.autocommit;
   stands = λ opened.
@@ -106,6 +109,7 @@ moves_to (VersionThree way) image s earlier held = absurd earlier
 some_is : (s t : State) → Some s ≡ Some t → s ≡ t
 some_is s t e = cc
 
-pub reaches_moved : (layout : Layout) (image : Image) (c : Connected) (s : State) → IsEarlier layout → HoldsAs layout image s → Reaches c (migrated_from layout s) → Rests c (moved s)
+pub reaches_moved : (layout : Layout) (image : Image) (c : Connected) (s : State) → IsEarlier layout → HoldsAs layout image s
+    → Reaches c (migrated_from layout s) → Rests c (moved s)
 reaches_moved layout image c s earlier held it =
     subst (λ (t : State). Rests c t) (some_is it.state (moved s) (sym it.is ∙ moves_to layout image s earlier held)) it.rests

@@ -20,13 +20,15 @@ piece_by content piece more true is = cc
 piece_by content piece more false is = absurd (cc)
 
 -- one more piece is written
-pub piece_more : (i : ℕ) (content piece : List ℕ) (before mid after : Option (List ℕ)) → piece_at content i ≡ Some piece → Appends before mid (front i content) → Appends mid after piece
+pub piece_more : (i : ℕ) (content piece : List ℕ) (before mid after : Option (List ℕ)) → piece_at content i ≡ Some piece
+    → Appends before mid (front i content) → Appends mid after piece
     → Appends before after (front (i + 1) content)
 piece_more i content piece before mid after is so_far more =
     let one = piece_by content piece (take piece_size (drop (i * piece_size) content)) (nat_lt (i * piece_size) (length content)) is in
     subst (λ (l : List ℕ). Appends before after l) (ap (λ p. front i content ++ p) (sym one) ∙ sym (front_more i content)) (Appends-trans before mid after (front i content) piece so_far more)
 
-none_by : (i : ℕ) (content more : List ℕ) (b : Bool) → nat_lt (i * piece_size) (length content) ≡ b → cond b (Some more) None ≡ None → length content ≤ i * piece_size
+none_by : (i : ℕ) (content more : List ℕ) (b : Bool) → nat_lt (i * piece_size) (length content) ≡ b → cond b (Some more) None ≡ None
+    → length content ≤ i * piece_size
 none_by i content more true has is = absurd (cc)
 none_by i content more false has is = grind (arith, nat_tests)
 

@@ -33,7 +33,8 @@ pub(crate) fn with_tables<D: Disk + Drop>(
     first: FirstNumber,
 ) -> Result<Files<D>, OpenFault>
     requires autocommit { conn.in_transaction ≡ false }
-    ensures made { IfOk result (λ files. AreClean D.Disk files.log files.db → IsBlank (file_state conn) → AreClosed D.Disk files (empty_store first)) }
+    ensures made { IfOk result (λ files. AreClean D.Disk files.log files.db → IsBlank (file_state conn)
+        → AreClosed D.Disk files (empty_store first)) }
 {
     let records = match create(conn, first.get()) {
         Ok(records) => records,

@@ -49,13 +49,15 @@ pub trait KeepFiles<R: Records> {
 
     /// Makes records of an earlier version in the files of that name those of the version that is read, and closes them.
     fn migrate_records(self, rt: &HostRuntime, name: &str) -> Result<Moved<Self::Disk>, OpenFault>
-        ensures moved { IfOk result (λ it. IsCleanEnd Self.Disk.Disk (Some it.end) → (s : State) → HoldsEarlier (image name.now) s → EndsIn Self.Disk.Disk R.Records.shows left_of it.end (moved s)) }
+        ensures moved { IfOk result (λ it. IsCleanEnd Self.Disk.Disk (Some it.end) → (s : State)
+            → HoldsEarlier (image name.now) s → EndsIn Self.Disk.Disk R.Records.shows left_of it.end (moved s)) }
         ensures alone { IfOk result (λ it. IfClosed (NeedsNoLog Self.Disk.Disk) it.end) };
 
     /// Closes the records into their files.
     fn close_records(records: R) -> End<Self::Disk>
         ensures clean { IsCleanEnd Self.Disk.Disk (Some result) → (R.Records.shows records).IsClean }
-        ensures kept { IsCleanEnd Self.Disk.Disk (Some result) → (s : State) → (R.Records.shows records).Rests s → EndsIn Self.Disk.Disk R.Records.shows left_of result s }
+        ensures kept { IsCleanEnd Self.Disk.Disk (Some result) → (s : State) → (R.Records.shows records).Rests s
+            → EndsIn Self.Disk.Disk R.Records.shows left_of result s }
         ensures left { IfLeft (left_of records) result }
         ensures alone { IfClosed (NeedsNoLog Self.Disk.Disk) result };
 }
@@ -90,7 +92,8 @@ pub fn open_in_files<F: OpenFiles>(
 /// what was left of it.
 pub fn close_into_files<D: Disk + Drop>(records: Kept<FileStore<D>>) -> End<D>
     ensures clean { IsCleanEnd D.Disk (Some result) → HasCleanDisk (file_state records) }
-    ensures kept { IsCleanEnd D.Disk (Some result) → (s : State) → Rests (file_state records) s → EndsIn D.Disk shown (AreLeftBy D.Disk) result s }
+    ensures kept { IsCleanEnd D.Disk (Some result) → (s : State) → Rests (file_state records) s
+        → EndsIn D.Disk shown (AreLeftBy D.Disk) result s }
     ensures left { IfLeft (AreLeftBy D.Disk records) result }
     ensures alone { IfClosed (NeedsNoLog D.Disk) result }
 {

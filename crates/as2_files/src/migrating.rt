@@ -92,7 +92,8 @@ fn counted<S: Alter>(conn: &mut Connection<S>) -> Option<Entries>
 /// Closes a store into its two files.
 fn closed<D: Disk + Drop>(conn: Connection<FileStore<D>>) -> End<D>
     ensures clean { IsCleanEnd D.Disk (Some result) → HasCleanDisk (file_state conn) }
-    ensures kept { IsCleanEnd D.Disk (Some result) → (s : State) → Rests (file_state conn) s → EndsIn D.Disk shown (AreLeftBy D.Disk) result s }
+    ensures kept { IsCleanEnd D.Disk (Some result) → (s : State) → Rests (file_state conn) s
+        → EndsIn D.Disk shown (AreLeftBy D.Disk) result s }
     ensures left { IfLeft (AreLeftBy D.Disk conn) result }
     ensures alone { IfClosed (NeedsNoLog D.Disk) result }
 {
@@ -110,7 +111,8 @@ pub fn migrate_in_files<F: OpenFiles>(
     opener: F,
     name: &str,
 ) -> Result<Moved<F::Disk>, OpenFault>
-    ensures moved { IfOk result (λ it. IsCleanEnd F.Disk.Disk (Some it.end) → (s : State) → HoldsEarlier (F.image name.now) s → EndsIn F.Disk.Disk shown (AreLeftBy F.Disk.Disk) it.end (moved s)) }
+    ensures moved { IfOk result (λ it. IsCleanEnd F.Disk.Disk (Some it.end) → (s : State)
+        → HoldsEarlier (F.image name.now) s → EndsIn F.Disk.Disk shown (AreLeftBy F.Disk.Disk) it.end (moved s)) }
     ensures alone { IfOk result (λ it. IfClosed (NeedsNoLog F.Disk.Disk) it.end) }
 {
     let mut conn = match opener.open_files(rt, name) {

@@ -31,8 +31,10 @@ pub trait OpenFiles {
         name: &str,
     ) -> Result<Connection<FileStore<Self::Disk>>, Error>
         ensures autocommit { IfOk result (λ c. c.in_transaction ≡ false) }
-        ensures found { IfOk result (λ c. HasCleanDisk (file_state c) → (s : State) → HoldsState (image name.now) s → Rests (file_state c) s) }
-        ensures earlier { IfOk result (λ c. HasCleanDisk (file_state c) → (layout : Layout) (s : State) → HoldsAs layout (image name.now) s → RestsAs layout (file_state c) s) };
+        ensures found { IfOk result (λ c. HasCleanDisk (file_state c) → (s : State) → HoldsState (image name.now) s
+            → Rests (file_state c) s) }
+        ensures earlier { IfOk result (λ c. HasCleanDisk (file_state c) → (layout : Layout) (s : State)
+            → HoldsAs layout (image name.now) s → RestsAs layout (file_state c) s) };
 }
 
 /// Files of the operating system. `start` stands for what they hold as they are opened, which no code can read; that the name leads to

@@ -77,7 +77,8 @@ pub trait OpenStores {
     ) -> Result<Self::Opened, OpenFault>
         ensures found { Finds Self.Opened.shows (keeps self.old path.now first) result }
         ensures fault { IfErr result (λ fault. fails self.old path.now fault) }
-        ensures same { IfErr result (λ fault. (number : ℕ) (s : State) → keeps self.old path.now number s → keeps self.new path.now number s) }
+        ensures same { IfErr result (λ fault. (number : ℕ) (s : State) → keeps self.old path.now number s
+            → keeps self.new path.now number s) }
         ensures counted { opens self.new ≡ opens self.old + opens_of result };
 
     /// How many bytes the files of that path take, as far as that can be told; 0 where there are none.
@@ -91,15 +92,19 @@ pub trait OpenStores {
     /// Closes records, which are kept under that path from then on.
     fn close(&mut self, path: &str, records: Self::Opened)
         ensures clean { is_clean self.new → (Self.Opened.shows records).IsClean }
-        ensures kept { is_clean self.new → (s : State) → (Self.Opened.shows records).Rests s → (number : ℕ) → keeps self.new path.now number s }
+        ensures kept { is_clean self.new → (s : State) → (Self.Opened.shows records).Rests s → (number : ℕ)
+            → keeps self.new path.now number s }
         ensures counted { opens self.new ≡ opens self.old };
 
     /// Makes what is kept under that path, which is of an earlier version, a store of the version that is read. Where that fails,
     /// it stays as it was; where nothing stands there, nothing does.
     fn migrate(&mut self, path: &str) -> Result<Migration, OpenFault>
-        ensures moved { IfOk result (λ _. is_clean self.new → (s : State) → keeps_earlier self.old path.now s → (number : ℕ) → keeps self.new path.now number (moved s)) }
+        ensures moved { IfOk result (λ _. is_clean self.new → (s : State) → keeps_earlier self.old path.now s
+            → (number : ℕ) → keeps self.new path.now number (moved s)) }
         ensures fault { IfErr result (λ fault. stays self.old path.now fault) }
-        ensures same { IfErr result (λ fault. (number : ℕ) (s : State) → keeps self.old path.now number s → keeps self.new path.now number s) }
-        ensures earlier { IfErr result (λ fault. (s : State) → keeps_earlier self.old path.now s → keeps_earlier self.new path.now s) }
+        ensures same { IfErr result (λ fault. (number : ℕ) (s : State) → keeps self.old path.now number s
+            → keeps self.new path.now number s) }
+        ensures earlier { IfErr result (λ fault. (s : State) → keeps_earlier self.old path.now s
+            → keeps_earlier self.new path.now s) }
         ensures counted { opens self.new ≡ opens self.old };
 }

@@ -35,10 +35,12 @@ some_once a b e = cc
 answers_once : (a b : HttpAnswer) → Http a ≡ Http b → Answered a ≡ Answered b
 answers_once a b e = cc
 
-steps_once : (came : Option (Answer × State)) (a b : HttpAnswer) (t u : State) → came ≡ Some (Http a, t) → came ≡ Some (Http b, u) → (Answered a ≡ Answered b) × (t ≡ u)
+steps_once : (came : Option (Answer × State)) (a b : HttpAnswer) (t u : State) → came ≡ Some (Http a, t) → came ≡ Some (Http b, u) → (Answered a ≡ Answered b)
+    × (t ≡ u)
 steps_once came a b t u x y = let both = some_once (Http a, t) (Http b, u) (sym x ∙ y) in (answers_once a b (ap (λ p. p.0) both), ap (λ p. p.1) both)
 
-takes_once : (A : AgreedValues) (moment : ℕ) (s : State) (r : Request) (x y : Response) (t u : State) → Takes A moment s r x Unsaid t → Takes A moment s r y Unsaid u → IsSound x → IsSound y → (x ≡ y) × (t ≡ u)
+takes_once : (A : AgreedValues) (moment : ℕ) (s : State) (r : Request) (x y : Response) (t u : State) → Takes A moment s r x Unsaid t
+    → Takes A moment s r y Unsaid u → IsSound x → IsSound y → (x ≡ y) × (t ≡ u)
 takes_once A moment s r (Answered a) (Answered b) t u x y _ _ = steps_once (step A s (post_event r moment)) a b t u x.0 y.0
 takes_once A moment s r (Answered a) (Failed f) t u x y _ failed = absurd failed
 takes_once A moment s r (Answered a) OnlyPost t u x y _ _ = absurd y
@@ -73,7 +75,8 @@ abbrev IsOne : List Exchange → List Exchange → State → State → List ℕ 
 IsOne done other t u replies same rest behind = (done ≡ other) × (t ≡ u) × (replies ≡ same) × (rest ≡ behind)
 
 -- nothing more was answered
-none_more : (A : AgreedValues) (moment : ℕ) (s t : State) (text replies rest : List ℕ) (more : List Exchange) → more ≡ [] → AnswersAll A moment s text more t replies rest → (t ≡ s) × (replies ≡ []) × (rest ≡ text)
+none_more : (A : AgreedValues) (moment : ℕ) (s t : State) (text replies rest : List ℕ) (more : List Exchange) → more ≡ []
+    → AnswersAll A moment s text more t replies rest → (t ≡ s) × (replies ≡ []) × (rest ≡ text)
 none_more A moment s t text replies rest more none a = subst (λ (d : List Exchange). AnswersAll A moment s text d t replies rest) none a
 
 both_none : (A : AgreedValues) (moment : ℕ) (s t u : State) (text replies same rest behind : List ℕ) (more later : List Exchange) → more ≡ [] → later ≡ []
@@ -82,7 +85,8 @@ both_none A moment s t u text replies same rest behind more later none zero a b 
     let x = none_more A moment s t text replies rest more none a in
     let y = none_more A moment s u text same behind later zero b in (none ∙ sym zero, x.0 ∙ sym y.0, x.1 ∙ sym y.1, x.2 ∙ sym y.2)
 
-begins_none : (A : AgreedValues) (moment : ℕ) (s t : State) (text replies rest : List ℕ) (x : Exchange) (more : List Exchange) → AnswersAll A moment s text (x ∷ more) t replies rest
+begins_none : (A : AgreedValues) (moment : ℕ) (s t : State) (text replies rest : List ℕ) (x : Exchange) (more : List Exchange)
+    → AnswersAll A moment s text (x ∷ more) t replies rest
     → IsOpen text ⊎ ((refused : Refused) × IsRefused text refused) → ⊥
 begins_none A moment s t text replies rest x more a (inl is) = never_opens_requests text x.0 a.2 a.4.begins is
 begins_none A moment s t text replies rest x more a (inr (refused, is)) = never_refuses_requests text x.0 a.2 refused a.4.begins is
@@ -101,7 +105,8 @@ record First (A : AgreedValues) (moment : ℕ) (s u : State) (x y : Exchange) (m
   pub replies : same ≡ reply ++ rest
   pub others : AnswersAll A moment mid after later u rest behind
 
-first_one : (A : AgreedValues) (moment : ℕ) (s t u : State) (text replies same rest behind : List ℕ) (x y : Exchange) (more later : List Exchange) → (a : AnswersAll A moment s text (x ∷ more) t replies rest)
+first_one : (A : AgreedValues) (moment : ℕ) (s t u : State) (text replies same rest behind : List ℕ) (x y : Exchange) (more later : List Exchange)
+    → (a : AnswersAll A moment s text (x ∷ more) t replies rest)
     → AnswersAll A moment s text (y ∷ later) u same behind → IsSound x.1 → IsSound y.1 → First A moment s u x y a.0 a.1 a.2 later text same behind
 first_one A moment s t u text replies same rest behind x y more later a b sound ok =
     let one = begins_with_one text x.0 y.0 a.2 b.2 a.4.begins b.4.begins in
@@ -119,13 +124,15 @@ first_one A moment s t u text replies same rest behind x y more later a b sound 
     }
 
 -- .. and so all
-with_first : (x y : Exchange) (more later : List Exchange) (t u : State) (reply replies same rest behind left one : List ℕ) → x ≡ y → replies ≡ reply ++ left → same ≡ reply ++ one → IsOne more later t u left one rest behind
+with_first : (x y : Exchange) (more later : List Exchange) (t u : State) (reply replies same rest behind left one : List ℕ) → x ≡ y → replies ≡ reply ++ left
+    → same ≡ reply ++ one → IsOne more later t u left one rest behind
     → IsOne (x ∷ more) (y ∷ later) t u replies same rest behind
 with_first x y more later t u reply replies same rest behind left one e a b (d, state, texts, r) =
     (ap (λ (z : Exchange). z ∷ more) e ∙ ap (λ (l : List Exchange). y ∷ l) d, state, a ∙ ap (λ (l : List ℕ). reply ++ l) texts ∙ sym b, r)
 
 alike : (A : AgreedValues) (moment : ℕ) (s t u : State) (text replies same rest behind : List ℕ) (done other : List Exchange)
-    → AnswersAll A moment s text done t replies rest → AnswersAll A moment s text other u same behind → Stops done rest → Stops other behind → AreSound done → AreSound other
+    → AnswersAll A moment s text done t replies rest → AnswersAll A moment s text other u same behind → Stops done rest → Stops other behind → AreSound done
+    → AreSound other
     → IsOne done other t u replies same rest behind
 alike A moment s t u text replies same rest behind [] [] a b stops ends sound ok = both_none A moment s t u text replies same rest behind [] [] refl refl a b
 alike A moment s t u text replies same rest behind [] (y ∷ later) a b stops ends sound ok =

@@ -18,30 +18,35 @@ pub record AwaitsMore (input : List ℕ) (p : AnswerParser) (unread : Option (Li
   pub gave : AllGave reads.pieces
   pub holds : HasKept p reads.read
 
-pub awaits_none : (input : List ℕ) (p : AnswerParser) (unread : Option (List ℕ)) (calls : ℕ) → HasKept p [] → unread ≡ Some input → AwaitsMore input p unread calls calls
+pub awaits_none : (input : List ℕ) (p : AnswerParser) (unread : Option (List ℕ)) (calls : ℕ) → HasKept p [] → unread ≡ Some input
+    → AwaitsMore input p unread calls calls
 unfolding reads_none
 awaits_none input p unread calls holds known = record { reads = reads_none IsOpenAnswer input unread calls known; gave = tt; holds = holds }
 
 -- one read more
-pub was_needed : (input : List ℕ) (p : AnswerParser) (unread after : Option (List ℕ)) (calls later next : ℕ) (piece : List ℕ) → AwaitsMore input p unread calls later → Consumes unread after piece → length piece ≤ read_limit
+pub was_needed : (input : List ℕ) (p : AnswerParser) (unread after : Option (List ℕ)) (calls later next : ℕ) (piece : List ℕ)
+    → AwaitsMore input p unread calls later → Consumes unread after piece → length piece ≤ read_limit
     → next ≡ later + 1 → ReadsNeeded IsOpenAnswer input after calls next
 was_needed input p unread after calls later next piece w c most is =
     read_on IsOpenAnswer input unread after calls later next piece w.reads w.gave (holds_open p w.reads.read w.holds) (piece_of unread after w.reads.left piece c w.reads.known) most is
 
 -- .. and one that failed
-pub failed_needed : (input : List ℕ) (p : AnswerParser) (unread after : Option (List ℕ)) (calls later next : ℕ) → AwaitsMore input p unread calls later → Keeps unread after → next ≡ later + 1
+pub failed_needed : (input : List ℕ) (p : AnswerParser) (unread after : Option (List ℕ)) (calls later next : ℕ) → AwaitsMore input p unread calls later
+    → Keeps unread after → next ≡ later + 1
     → ReadsNeeded IsOpenAnswer input after calls next
 failed_needed input p unread after calls later next w kept is =
     read_on IsOpenAnswer input unread after calls later next [] w.reads w.gave (holds_open p w.reads.read w.holds) (nothing_of unread after w.reads.left kept w.reads.known) (omega arith) is
 
-pub awaits_on : (input : List ℕ) (p q : AnswerParser) (unread after : Option (List ℕ)) (calls later next : ℕ) (piece : List ℕ) → (w : AwaitsMore input p unread calls later) → Consumes unread after piece → length piece ≤ read_limit
+pub awaits_on : (input : List ℕ) (p q : AnswerParser) (unread after : Option (List ℕ)) (calls later next : ℕ) (piece : List ℕ)
+    → (w : AwaitsMore input p unread calls later) → Consumes unread after piece → length piece ≤ read_limit
     → next ≡ later + 1 → 0 < length piece → HasKept q (w.reads.read ++ piece) → AwaitsMore input q after calls next
 unfolding was_needed read_on
 awaits_on input p q unread after calls later next piece w c most is some holds =
     record { reads = was_needed input p unread after calls later next piece w c most is; gave = gave_on w.reads.pieces piece w.gave some; holds = holds }
 
 -- the input ended
-pub holds_all : (input : List ℕ) (p : AnswerParser) (unread after : Option (List ℕ)) (calls later : ℕ) → AwaitsMore input p unread calls later → Consumes unread after [] → IsAtEnd after → HasKept p input
+pub holds_all : (input : List ℕ) (p : AnswerParser) (unread after : Option (List ℕ)) (calls later : ℕ) → AwaitsMore input p unread calls later
+    → Consumes unread after [] → IsAtEnd after → HasKept p input
 holds_all input p unread after calls later w c done =
     let none : w.reads.left ≡ [] = at_end unread after w.reads.left c done w.reads.known in
     let same : w.reads.read ≡ input = sym (w.reads.whole ∙ ap (λ (t : List ℕ). w.reads.read ++ t) none ∙ append-nil w.reads.read) in

@@ -39,7 +39,8 @@ pub gave_on : (pieces : List (List ℕ)) (piece : List ℕ) → AllGave pieces �
 gave_on [] piece gave some = (some, tt)
 gave_on (first ∷ pieces) piece gave some = (gave.0, gave_on pieces piece gave.1 some)
 
-pub one_needed : (needs : List ℕ → Type 0) (text all piece : List ℕ) (pieces : List (List ℕ)) → AllGave pieces → AllNeeded needs text pieces all → needs all → length piece ≤ read_limit → AllNeeded needs text (pieces ++ piece ∷ []) (all ++ piece)
+pub one_needed : (needs : List ℕ → Type 0) (text all piece : List ℕ) (pieces : List (List ℕ)) → AllGave pieces → AllNeeded needs text pieces all → needs all
+    → length piece ≤ read_limit → AllNeeded needs text (pieces ++ piece ∷ []) (all ++ piece)
 one_needed needs text all piece [] gave same need most = (subst needs same need, most, λ none. refl, ap (λ (x : List ℕ). x ++ piece) same)
 one_needed needs text all piece (first ∷ pieces) gave needed need most = (needed.0, needed.1, λ none. absurd (gave_some first gave.0 none), one_needed needs (text ++ first) all piece pieces gave.1 needed.3 need most)
 
@@ -47,11 +48,13 @@ pub one_longer : (pieces : List (List ℕ)) (piece : List ℕ) → length (piece
 one_longer pieces piece = length-append pieces (piece ∷ [])
 
 -- no call was made yet
-unfoldable pub reads_none : (needs : List ℕ → Type 0) (input : List ℕ) (unread : Option (List ℕ)) (calls : ℕ) → unread ≡ Some input → ReadsNeeded needs input unread calls calls
+unfoldable pub reads_none : (needs : List ℕ → Type 0) (input : List ℕ) (unread : Option (List ℕ)) (calls : ℕ) → unread ≡ Some input
+    → ReadsNeeded needs input unread calls calls
 reads_none needs input unread calls known = record { pieces = []; read = []; left = input; counted = omega arith; needed = refl; whole = refl; known = known }
 
 -- the next call was needed
-unfoldable pub read_on : (needs : List ℕ → Type 0) (input : List ℕ) (unread after : Option (List ℕ)) (calls later next : ℕ) (piece : List ℕ) (r : ReadsNeeded needs input unread calls later)
+unfoldable pub read_on : (needs : List ℕ
+    → Type 0) (input : List ℕ) (unread after : Option (List ℕ)) (calls later next : ℕ) (piece : List ℕ) (r : ReadsNeeded needs input unread calls later)
     → AllGave r.pieces → needs r.read → HasArrived r.left piece after → length piece ≤ read_limit → next ≡ later + 1 → ReadsNeeded needs input after calls next
 read_on needs input unread after calls later next piece r gave need m most is = record {
   pieces = r.pieces ++ piece ∷ [];

@@ -20,13 +20,16 @@ notes_join moment [] later = refl
 notes_join moment (x ∷ done) later = ap (λ (l : List ℕ). note moment x.0 x.1 ++ l) (notes_join moment done later) ∙ sym (append_assoc (note moment x.0 x.1) (notes moment done) (notes moment later))
 
 -- P of the lines of all of them
-pub notes_of_both : (moment : ℕ) (done later : List Exchange) (P : List ℕ → Type 0) → P (notes moment done ++ notes moment later) → P (notes moment (done ++ later))
+pub notes_of_both : (moment : ℕ) (done later : List Exchange) (P : List ℕ → Type 0) → P (notes moment done ++ notes moment later)
+    → P (notes moment (done ++ later))
 notes_of_both moment done later P p = subst P (sym (notes_join moment done later)) p
 
-pub says_join : (moment : ℕ) (a b c : Spoken) (x y : List ℕ) (done later : List Exchange) → Says a b x (notes moment done) → Says b c y (notes moment later) → Says a c (x ++ y) (notes moment (done ++ later))
+pub says_join : (moment : ℕ) (a b c : Spoken) (x y : List ℕ) (done later : List Exchange) → Says a b x (notes moment done) → Says b c y (notes moment later)
+    → Says a c (x ++ y) (notes moment (done ++ later))
 says_join moment a b c x y done later p q =
     notes_of_both moment done later (λ (l : List ℕ). Says a c (x ++ y) l) (says_trans a b c x y (notes moment done) (notes moment later) p q)
 
 -- .. of one more
-pub says_one : (moment : ℕ) (a b c : Spoken) (x y : List ℕ) (done : List Exchange) (e : Exchange) → Says a b x (notes moment done) → Says b c y (note moment e.0 e.1) → Says a c (x ++ y) (notes moment (done ++ e ∷ []))
+pub says_one : (moment : ℕ) (a b c : Spoken) (x y : List ℕ) (done : List Exchange) (e : Exchange) → Says a b x (notes moment done)
+    → Says b c y (note moment e.0 e.1) → Says a c (x ++ y) (notes moment (done ++ e ∷ []))
 says_one moment a b c x y done e p q = says_join moment a b c x y done (e ∷ []) p (subst (λ (l : List ℕ). Says b c y l) (sym (append-nil (note moment e.0 e.1))) q)

@@ -43,7 +43,8 @@ event_then A moment s mid t r x method.Post target.Other more p run = subst (λ 
 event_then A moment s mid t r x method.Head at more p run = subst (λ (x : State). Run A x more t) p.1 run
 event_then A moment s mid t r x method.Other at more p run = subst (λ (x : State). Run A x more t) p.1 run
 
-answers_run : (A : AgreedValues) (moment : ℕ) (s t : State) (text replies rest : List ℕ) (done : List Exchange) → AnswersAll A moment s text done t replies rest → Run A s (events moment done) t
+answers_run : (A : AgreedValues) (moment : ℕ) (s t : State) (text replies rest : List ℕ) (done : List Exchange)
+    → AnswersAll A moment s text done t replies rest → Run A s (events moment done) t
 answers_run A moment s t text replies rest [] a = a.0
 answers_run A moment s t text replies rest (x ∷ done) a =
     event_then A moment s a.0 t x.0 x.1 x.0.method x.0.target (events moment done) a.4.responds (answers_run A moment a.0 t a.2 a.3 rest done a.6)
@@ -66,7 +67,8 @@ runs_join A moment s mid t a b =
 pub runs_none : (A : AgreedValues) (moment : ℕ) (s : State) → RunsPosts A moment s s
 runs_none A moment s = posts_run A moment s s [] refl
 
-answers_runs : (A : AgreedValues) (moment : ℕ) (s mid t : State) (text replies rest : List ℕ) (done : List Exchange) → AnswersAll A moment s text done mid replies rest → t ≡ mid → RunsPosts A moment s t
+answers_runs : (A : AgreedValues) (moment : ℕ) (s mid t : State) (text replies rest : List ℕ) (done : List Exchange)
+    → AnswersAll A moment s text done mid replies rest → t ≡ mid → RunsPosts A moment s t
 answers_runs A moment s mid t text replies rest done a same =
     subst (λ (x : State). RunsPosts A moment s x) (sym same) (posts_run A moment s mid done (answers_run A moment s mid text replies rest done a))
 
@@ -75,17 +77,20 @@ one_runs : (A : AgreedValues) (moment : ℕ) (mid t : State) (r : Request) (x : 
 one_runs A moment mid t r x p = posts_run A moment mid t ((r, x) ∷ []) (event_then A moment mid t t r x r.method r.target [] p refl)
 
 -- .. and stands by history behind the others
-one_behind : (A : AgreedValues) (moment : ℕ) (s mid t : State) (done : List Exchange) → Run A s (events moment done) mid → (r : Request) (x : Response) → Responds A moment mid r x Unsaid t
+one_behind : (A : AgreedValues) (moment : ℕ) (s mid t : State) (done : List Exchange) → Run A s (events moment done) mid → (r : Request) (x : Response)
+    → Responds A moment mid r x Unsaid t
     → EndsByHistory A s (events moment (done ++ (r, x) ∷ [])) t
 unfolding runs_join posts_run one_runs
 one_behind A moment s mid t done run r x p =
     let all = runs_join A moment s mid t (posts_run A moment s mid done run) (one_runs A moment mid t r x p) in all.by_history
 
-cut_runs : (A : AgreedValues) (moment : ℕ) (mid : State) (replies lines rest : List ℕ) (before after : Spoken) (t : State) → CutShort A moment mid replies lines rest before after t → RunsPosts A moment mid t
+cut_runs : (A : AgreedValues) (moment : ℕ) (mid : State) (replies lines rest : List ℕ) (before after : Spoken) (t : State)
+    → CutShort A moment mid replies lines rest before after t → RunsPosts A moment mid t
 cut_runs A moment mid replies lines rest before after t (in_reply r behind x text part missing b responds is cut written) = one_runs A moment mid t r x responds
 cut_runs A moment mid replies lines rest before after t (in_refusal refused text part missing b same is cut written) = subst (λ (x : State). RunsPosts A moment mid x) (sym same) (runs_none A moment mid)
 
-memory_runs : (A : AgreedValues) (moment : ℕ) (mid : State) (replies lines rest : List ℕ) (before after : Spoken) (t : State) → OutOfMemory A moment mid replies lines rest before after t → RunsPosts A moment mid t
+memory_runs : (A : AgreedValues) (moment : ℕ) (mid : State) (replies lines rest : List ℕ) (before after : Spoken) (t : State)
+    → OutOfMemory A moment mid replies lines rest before after t → RunsPosts A moment mid t
 memory_runs A moment mid replies lines rest before after t (for_request same written) = subst (λ (x : State). RunsPosts A moment mid x) (sym same) (runs_none A moment mid)
 memory_runs A moment mid replies lines rest before after t (for_refusal refused b same written) = subst (λ (x : State). RunsPosts A moment mid x) (sym same) (runs_none A moment mid)
 memory_runs A moment mid replies lines rest before after t (for_reply r behind x b responds written) = one_runs A moment mid t r x responds
@@ -126,7 +131,8 @@ needs_more A moment s input p c unread before now calls later w =
 
 -- the next call was needed
 next_read : {M : Medium} (A : AgreedValues) (moment : ℕ) (s : State) (input : List ℕ) (p : RequestParser) (c : Standing M) (unread after : Option (List ℕ)) (before now : Spoken) (calls later next : ℕ) (piece : List ℕ)
-    → (w : BetweenReads A moment s input p c unread before now calls later) → HasArrived w.reads.left piece after → length piece ≤ read_limit → next ≡ later + 1 → ReadsNeeded (NeedsMore A moment s) input after calls next
+    → (w : BetweenReads A moment s input p c unread before now calls later) → HasArrived w.reads.left piece after → length piece ≤ read_limit
+    → next ≡ later + 1 → ReadsNeeded (NeedsMore A moment s) input after calls next
 next_read A moment s input p c unread after before now calls later next piece w m most is =
     read_on (NeedsMore A moment s) input unread after calls later next piece w.reads w.gave (needs_more A moment s input p c unread before now calls later w) m most is
 
@@ -150,7 +156,8 @@ between_first A moment s input p c unread now calls rests taken known = record {
 -- ---- a piece more
 
 -- the same requests stand in front of what comes behind
-answers_append : (A : AgreedValues) (moment : ℕ) (s t : State) (text replies rest left : List ℕ) (done : List Exchange) → AnswersAll A moment s text done t replies rest → AnswersAll A moment s (text ++ left) done t replies (rest ++ left)
+answers_append : (A : AgreedValues) (moment : ℕ) (s t : State) (text replies rest left : List ℕ) (done : List Exchange)
+    → AnswersAll A moment s text done t replies rest → AnswersAll A moment s (text ++ left) done t replies (rest ++ left)
 answers_append A moment s t text replies rest left [] a = (a.0, a.1, ap (λ (x : List ℕ). x ++ left) a.2)
 answers_append A moment s t text replies rest left (x ∷ done) a = (
   a.0,
@@ -170,7 +177,8 @@ in_input A moment s input p c unread before now calls later w =
     (answers_append A moment s w.mid w.reads.read w.replies w.held w.reads.left w.done w.all)
 
 joined : {M : Medium} (A : AgreedValues) (moment : ℕ) (s : State) (input : List ℕ) (p q : RequestParser) (c d : Standing M) (unread after : Option (List ℕ)) (before now later : Spoken) (i j : ℕ) (piece : List ℕ) (end : Option Served)
-    → (w : BetweenReads A moment s input p c unread before now i j) → (m : HasArrived w.reads.left piece after) → (a : AnswersPiece A moment w.mid (w.held ++ piece ++ m.left) m.left q d now later end)
+    → (w : BetweenReads A moment s input p c unread before now i j) → (m : HasArrived w.reads.left piece after)
+    → (a : AnswersPiece A moment w.mid (w.held ++ piece ++ m.left) m.left q d now later end)
     → AnswersAll A moment s input (w.done ++ a.done) a.mid (w.replies ++ a.replies) a.rest
 joined A moment s input p q c d unread after before now later i j piece end w m a =
     answers_join A moment s w.mid a.mid input (w.held ++ piece ++ m.left) a.rest w.replies a.replies w.done a.done
@@ -178,7 +186,8 @@ joined A moment s input p q c d unread after before now later i j piece end w m 
 
 -- no bytes behind the piece are looked at
 between_on : {M : Medium} (A : AgreedValues) (moment : ℕ) (s : State) (input : List ℕ) (p q : RequestParser) (c d : Standing M) (unread after : Option (List ℕ)) (before now later : Spoken) (i j k : ℕ) (piece : List ℕ)
-    → (w : BetweenReads A moment s input p c unread before now i j) → HasArrived w.reads.left piece after → length piece ≤ read_limit → k ≡ j + 1 → 0 < length piece → AnswersPiece A moment w.mid (w.held ++ piece ++ []) [] q d now later None
+    → (w : BetweenReads A moment s input p c unread before now i j) → HasArrived w.reads.left piece after → length piece ≤ read_limit → k ≡ j + 1
+    → 0 < length piece → AnswersPiece A moment w.mid (w.held ++ piece ++ []) [] q d now later None
     → BetweenReads A moment s input q d after before later i k
 unfolding next_read read_on
 between_on A moment s input p q c d unread after before now later i j k piece w m most is some a =
@@ -201,25 +210,29 @@ between_on A moment s input p q c d unread after before now later i j k piece w 
     }
 
 -- the replies of the stream so far stand before those of the piece, and so do their lines
-behind : (before now later : Spoken) (replies more part lines further own : List ℕ) → Says before now replies lines → Says now later (more ++ part) (further ++ own)
+behind : (before now later : Spoken) (replies more part lines further own : List ℕ) → Says before now replies lines
+    → Says now later (more ++ part) (further ++ own)
     → Says before later (replies ++ more ++ part) (lines ++ further ++ own)
 behind before now later replies more part lines further own a b =
     let both = says_trans before now later replies (more ++ part) lines (further ++ own) a b in
     (subst (Appends before.written later.written) (sym (append_assoc replies more part)) both.0, subst (Appends before.noted later.noted) (sym (append_assoc lines further own)) both.1)
 
 -- .. of which no more is written
-behind_unwritten : (before now later : Spoken) (replies more lines further own : List ℕ) → Says before now replies lines → Says now later more (further ++ own) → Says before later (replies ++ more) (lines ++ further ++ own)
+behind_unwritten : (before now later : Spoken) (replies more lines further own : List ℕ) → Says before now replies lines
+    → Says now later more (further ++ own) → Says before later (replies ++ more) (lines ++ further ++ own)
 behind_unwritten before now later replies more lines further own a b =
     let both = says_trans before now later replies more lines (further ++ own) a b in (both.0, subst (Appends before.noted later.noted) (sym (append_assoc lines further own)) both.1)
 
-cut_on : (A : AgreedValues) (moment : ℕ) (mid : State) (replies more lines further rest : List ℕ) (before now later : Spoken) (t : State) → Says before now replies lines → CutShort A moment mid more further rest now later t
+cut_on : (A : AgreedValues) (moment : ℕ) (mid : State) (replies more lines further rest : List ℕ) (before now later : Spoken) (t : State)
+    → Says before now replies lines → CutShort A moment mid more further rest now later t
     → CutShort A moment mid (replies ++ more) (lines ++ further) rest before later t
 cut_on A moment mid replies more lines further rest before now later t a (in_reply r next x text part missing b responds is cut said) =
     in_reply r next x text part missing b responds is cut (behind before now later replies more part lines further (note moment r x) a said)
 cut_on A moment mid replies more lines further rest before now later t a (in_refusal refused text part missing b same is cut said) =
     in_refusal refused text part missing b same is cut (behind before now later replies more part lines further (refusal_note moment refused.reason) a said)
 
-memory_on : (A : AgreedValues) (moment : ℕ) (mid : State) (replies more lines further rest : List ℕ) (before now later : Spoken) (t : State) → Says before now replies lines
+memory_on : (A : AgreedValues) (moment : ℕ) (mid : State) (replies more lines further rest : List ℕ) (before now later : Spoken) (t : State)
+    → Says before now replies lines
     → OutOfMemory A moment mid more further rest now later t → OutOfMemory A moment mid (replies ++ more) (lines ++ further) rest before later t
 memory_on A moment mid replies more lines further rest before now later t a (for_request same said) = for_request same (says_trans before now later replies more lines further a said)
 memory_on A moment mid replies more lines further rest before now later t a (for_reply r next x b responds said) =
@@ -231,7 +244,8 @@ last_on : (done later : List Exchange) → GoOn done → EndsLast later → Ends
 last_on done later go l = (done ++ l.0, l.1, ap (λ (t : List Exchange). done ++ t) l.2 ∙ sym (append_assoc done l.0 (l.1 ∷ [])), go_on_join done l.0 go l.3, l.4)
 
 ends_on : (A : AgreedValues) (moment : ℕ) (done later : List Exchange) (mid : State) (replies more rest left : List ℕ) (q : RequestParser) (unread : Option (List ℕ)) (before now after : Spoken) (t : State) (end : Served)
-    → GoOn done → Says before now replies (notes moment done) → PieceEnds A moment later mid more rest left q now after t (Some end) → Ends A moment (done ++ later) mid (replies ++ more) rest unread before after t end
+    → GoOn done → Says before now replies (notes moment done) → PieceEnds A moment later mid more rest left q now after t (Some end)
+    → Ends A moment (done ++ later) mid (replies ++ more) rest unread before after t end
 ends_on A moment done later mid replies more rest left q unread before now after t served.Closed go a e = (e.1, says_join moment before now after replies more done later a e.2, inl (last_on done later go e.0))
 ends_on A moment done later mid replies more rest left q unread before now after t served.Truncated go a e = absurd e
 ends_on A moment done later mid replies more rest left q unread before now after t served.BadFraming go a e = (
@@ -260,7 +274,8 @@ ends_on A moment done later mid replies more rest left q unread before now after
 ends_on A moment done later mid replies more rest left q unread before now after t served.TooLong go a e = absurd e
 
 serving_ends : {M : Medium} (A : AgreedValues) (moment : ℕ) (s : State) (input : List ℕ) (p q : RequestParser) (c d : Standing M) (unread after : Option (List ℕ)) (before now later : Spoken) (i j k : ℕ) (piece : List ℕ) (end : Served)
-    → (w : BetweenReads A moment s input p c unread before now i j) → (m : HasArrived w.reads.left piece after) → length piece ≤ read_limit → k ≡ j + 1 → AnswersPiece A moment w.mid (w.held ++ piece ++ m.left) m.left q d now later (Some end)
+    → (w : BetweenReads A moment s input p c unread before now i j) → (m : HasArrived w.reads.left piece after) → length piece ≤ read_limit → k ≡ j + 1
+    → AnswersPiece A moment w.mid (w.held ++ piece ++ m.left) m.left q d now later (Some end)
     → LeavesServed A moment s input after d before later i k end
 serving_ends A moment s input p q c d unread after before now later i j k piece end w m most is a =
     let all = joined A moment s input p q c d unread after before now later i j piece (Some end) w m a in (
@@ -282,8 +297,10 @@ serving_ends A moment s input p q c d unread after before now later i j k piece 
 
 -- the piece is answered, whatever comes behind it
 pub next_answered : {M : Medium} (A : AgreedValues) (moment : ℕ) (s : State) (input : List ℕ) (p q : RequestParser) (c d : Standing M) (unread after : Option (List ℕ)) (before now later : Spoken) (i j k : ℕ) (piece : List ℕ) (result : Option Served)
-    → (w : BetweenReads A moment s input p c unread before now i j) → HasArrived w.reads.left piece after → length piece ≤ read_limit → k ≡ j + 1 → 0 < length piece
-    → ((left : List ℕ) → AnswersPiece A moment w.mid (w.held ++ piece ++ left) left q d now later result) → AnswersNext A moment s input q d after before later i k result
+    → (w : BetweenReads A moment s input p c unread before now i j) → HasArrived w.reads.left piece after → length piece ≤ read_limit → k ≡ j + 1
+    → 0 < length piece
+    → ((left : List ℕ) → AnswersPiece A moment w.mid (w.held ++ piece ++ left) left q d now later result)
+    → AnswersNext A moment s input q d after before later i k result
 next_answered A moment s input p q c d unread after before now later i j k piece None w m most is some a =
     between_on A moment s input p q c d unread after before now later i j k piece w m most is some (a [])
 next_answered A moment s input p q c d unread after before now later i j k piece (Some end) w m most is some a =
@@ -293,7 +310,8 @@ next_answered A moment s input p q c d unread after before now later i j k piece
 
 -- behind the replies so far, in the state that they left
 serves_as : {M : Medium} (A : AgreedValues) (moment : ℕ) (s : State) (input : List ℕ) (p : RequestParser) (c : Standing M) (unread after : Option (List ℕ)) (before now : Spoken) (i j k : ℕ) (end : Served)
-    → (w : BetweenReads A moment s input p c unread before now i j) → Ends A moment w.done w.mid w.replies (w.held ++ w.reads.left) after before now w.mid end → ReadsNeeded (NeedsMore A moment s) input after i k
+    → (w : BetweenReads A moment s input p c unread before now i j) → Ends A moment w.done w.mid w.replies (w.held ++ w.reads.left) after before now w.mid end
+    → ReadsNeeded (NeedsMore A moment s) input after i k
     → LeavesServed A moment s input after c before now i k end
 serves_as A moment s input p c unread after before now i j k end w e reads =
     let all = in_input A moment s input p c unread before now i j w in (
@@ -314,7 +332,8 @@ serves_as A moment s input p c unread after before now i j k end w e reads =
     )
 
 serves_closed : {M : Medium} (A : AgreedValues) (moment : ℕ) (s : State) (input : List ℕ) (p : RequestParser) (c : Standing M) (unread after : Option (List ℕ)) (before now : Spoken) (i j k : ℕ) (w : BetweenReads A moment s input p c unread before now i j)
-    → Consumes unread after [] → IsAtEnd after → k ≡ j + 1 → ((text : List ℕ) → HasTaken p text → unblank text ≡ []) → LeavesServed A moment s input after c before now i k served.Closed
+    → Consumes unread after [] → IsAtEnd after → k ≡ j + 1 → ((text : List ℕ) → HasTaken p text → unblank text ≡ [])
+    → LeavesServed A moment s input after c before now i k served.Closed
 serves_closed A moment s input p c unread after before now i j k w consumed done is blank =
     let same : w.held ≡ w.held ++ w.reads.left = sym (append-nil w.held) ∙ ap (λ (t : List ℕ). w.held ++ t) (sym (at_end unread after w.reads.left consumed done w.reads.known)) in
     serves_as A moment s input p c unread after before now i j k served.Closed w
@@ -322,7 +341,8 @@ serves_closed A moment s input p c unread after before now i j k w consumed done
     (next_read A moment s input p c unread after before now i j k [] w (piece_of unread after w.reads.left [] consumed w.reads.known) (omega arith) is)
 
 serves_truncated : {M : Medium} (A : AgreedValues) (moment : ℕ) (s : State) (input : List ℕ) (p : RequestParser) (c : Standing M) (unread after : Option (List ℕ)) (before now : Spoken) (i j k : ℕ) (w : BetweenReads A moment s input p c unread before now i j)
-    → Consumes unread after [] → IsAtEnd after → k ≡ j + 1 → ((text : List ℕ) → HasTaken p text → ¬ (unblank text ≡ [])) → LeavesServed A moment s input after c before now i k served.Truncated
+    → Consumes unread after [] → IsAtEnd after → k ≡ j + 1 → ((text : List ℕ) → HasTaken p text → ¬ (unblank text ≡ []))
+    → LeavesServed A moment s input after c before now i k served.Truncated
 serves_truncated A moment s input p c unread after before now i j k w consumed done is some =
     let same : w.held ≡ w.held ++ w.reads.left = sym (append-nil w.held) ∙ ap (λ (t : List ℕ). w.held ++ t) (sym (at_end unread after w.reads.left consumed done w.reads.known)) in
     serves_as A moment s input p c unread after before now i j k served.Truncated w
@@ -332,7 +352,8 @@ serves_truncated A moment s input p c unread after before now i j k w consumed d
 -- the input ended
 pub serves_ended : {M : Medium} (A : AgreedValues) (moment : ℕ) (s : State) (input : List ℕ) (p : RequestParser) (c : Standing M) (unread after : Option (List ℕ)) (before now : Spoken) (i j k : ℕ) (end : Served) → BetweenReads A moment s input p c unread before now i j
     → Consumes unread after [] → IsAtEnd after → k ≡ j + 1 → (end ≡ served.Closed → (text : List ℕ) → HasTaken p text → unblank text ≡ [])
-    → (end ≡ served.Truncated → (text : List ℕ) → HasTaken p text → ¬ (unblank text ≡ [])) → (end ≡ served.Closed) ⊎ (end ≡ served.Truncated) → LeavesServed A moment s input after c before now i k end
+    → (end ≡ served.Truncated → (text : List ℕ) → HasTaken p text → ¬ (unblank text ≡ [])) → (end ≡ served.Closed) ⊎ (end ≡ served.Truncated)
+    → LeavesServed A moment s input after c before now i k end
 serves_ended A moment s input p c unread after before now i j k end w consumed done is blank some one =
     elim one [
       | inl same ↦ subst (λ (x : Served). LeavesServed A moment s input after c before now i k x) (sym same) (serves_closed A moment s input p c unread after before now i j k w consumed done is (blank same))

@@ -25,7 +25,8 @@ use Rattle.as2_http.proofs.Noting.{says_nil, says_one, says_trans, says_unwritte
 -- ---- requests, one after the other
 
 pub answers_join : (A : AgreedValues) (moment : ℕ) (s mid t : State) (text rest left replies more : List ℕ) (done later : List Exchange)
-    → AnswersAll A moment s text done mid replies rest → AnswersAll A moment mid rest later t more left → AnswersAll A moment s text (done ++ later) t (replies ++ more) left
+    → AnswersAll A moment s text done mid replies rest → AnswersAll A moment mid rest later t more left
+    → AnswersAll A moment s text (done ++ later) t (replies ++ more) left
 answers_join A moment s mid t text rest left replies more [] later a b =
     subst (λ (r : List ℕ). AnswersAll A moment s text later t (r ++ more) left) (sym a.1)
     (subst (λ (x : List ℕ). AnswersAll A moment s x later t more left) a.2 (subst (λ (x : State). AnswersAll A moment x rest later t more left) a.0 b))
@@ -39,7 +40,8 @@ answers_join A moment s mid t text rest left replies more (x ∷ done) later a b
   answers_join A moment a.0 mid t a.2 rest left a.3 more done later a.6 b,
 )
 
-pub answers_one : (A : AgreedValues) (moment : ℕ) (s t : State) (text reply rest : List ℕ) (x : Exchange) → Answers A moment s text x t reply rest → AnswersAll A moment s text (x ∷ []) t reply rest
+pub answers_one : (A : AgreedValues) (moment : ℕ) (s t : State) (text reply rest : List ℕ) (x : Exchange) → Answers A moment s text x t reply rest
+    → AnswersAll A moment s text (x ∷ []) t reply rest
 answers_one A moment s t text reply rest x a = (t, reply, rest, [], a, sym (append-nil reply), (refl, refl, refl))
 
 pub go_on_join : (done later : List Exchange) → GoOn done → GoOn later → GoOn (done ++ later)
@@ -75,19 +77,22 @@ replied_whole {U} A moment mid r c now later sent u is p =
     record { response = p.response; next = p.left; rests = p.rests; responds = p.responds; text = w.0; is = w.1; said = (w.2, p.noted) }
 
 -- the request begins the rest of the text, too, where that goes on
-answered_there : {M : Medium} (A : AgreedValues) (moment : ℕ) (mid : State) (text next left : List ℕ) (r : Request) (c : Standing M) (now later : Spoken) → Begins text r next → (w : IsAnswered A moment mid r c now later)
+answered_there : {M : Medium} (A : AgreedValues) (moment : ℕ) (mid : State) (text next left : List ℕ) (r : Request) (c : Standing M) (now later : Spoken)
+    → Begins text r next → (w : IsAnswered A moment mid r c now later)
     → Answers A moment mid (text ++ left) (r, w.response) w.next w.text (next ++ left)
 answered_there A moment mid text next left r c now later b w = record { begins = begins_append text left r next b; responds = w.responds; replies = w.is }
 
 -- ---- a piece
 
-pub begins_piece : {M : Medium} (A : AgreedValues) (moment : ℕ) (s : State) (held piece left : List ℕ) (p : RequestParser) (c : Standing M) (now : Spoken) → c.Rests s → HasTaken p held
+pub begins_piece : {M : Medium} (A : AgreedValues) (moment : ℕ) (s : State) (held piece left : List ℕ) (p : RequestParser) (c : Standing M) (now : Spoken)
+    → c.Rests s → HasTaken p held
     → Proceeds A moment s (held ++ piece ++ left) piece left p c now now
 begins_piece A moment s held piece left p c now rests taken =
     record { done = []; mid = s; replies = []; held = held; all = (refl, refl, refl); go_on = tt; rests = rests; taken = taken; said = says_nil now }
 
 pub proceeds_on : {M : Medium} (A : AgreedValues) (moment : ℕ) (s : State) (text rest next left : List ℕ) (p q : RequestParser) (c d : Standing M) (before now later : Spoken) (r : Request)
-    → (w : Proceeds A moment s text rest left p c before now) → Begins (w.held ++ rest) r next → HasTaken q [] → IsAnswered A moment w.mid r d now later → r.last ≡ false
+    → (w : Proceeds A moment s text rest left p c before now) → Begins (w.held ++ rest) r next → HasTaken q [] → IsAnswered A moment w.mid r d now later
+    → r.last ≡ false
     → Proceeds A moment s text next left q d before later
 proceeds_on A moment s text rest next left p q c d before now later r w b taken a go = record {
   done = w.done ++ (r, a.response) ∷ [];

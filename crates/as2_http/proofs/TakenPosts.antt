@@ -17,7 +17,8 @@ use Rattle.as2_http.specs.Responses.{IsSafe, Responds, RespondsTo, Takes, post_e
 use Rattle.as2_http.specs.declared.response.Response.TheVariants.{Answered, Failed}
 
 -- it is answered, and what is left is safe where the store was asked
-pub answered : {M : Medium} (A : AgreedValues) (moment : ℕ) (r : Request) (old new : Standing M) (a : HttpAnswer) → TakesEvent A (post_event r moment) Http old new (Ok a)
+pub answered : {M : Medium} (A : AgreedValues) (moment : ℕ) (r : Request) (old new : Standing M) (a : HttpAnswer)
+    → TakesEvent A (post_event r moment) Http old new (Ok a)
     → new.IsClean → (s : State) → old.Rests s → (t : State) × new.Rests t × Takes A moment s r (Answered a) (IsSafe new) t
 answered A moment r old new a taken clean s rests =
     let left = taken.does.answered clean s rests tt in (

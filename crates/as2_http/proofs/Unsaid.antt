@@ -11,7 +11,8 @@ use Rattle.as2_messages.specs.declared.framing.Target.TheVariants.{Station, Othe
 use Rattle.as2_http.specs.declared.response.Response.{Response}
 use Rattle.as2_http.specs.declared.response.Response.TheVariants.{Answered, Failed, OnlyPost, NoPath}
 
-takes_unsaid : (A : AgreedValues) (moment : ℕ) (s : State) (r : Request) (x : Response) (Safe : State → Type 0) (t : State) → Takes A moment s r x Safe t → Takes A moment s r x Unsaid t
+takes_unsaid : (A : AgreedValues) (moment : ℕ) (s : State) (r : Request) (x : Response) (Safe : State → Type 0) (t : State) → Takes A moment s r x Safe t
+    → Takes A moment s r x Unsaid t
 takes_unsaid A moment s r (Answered a) Safe t p = (p.0, λ asks. tt)
 takes_unsaid A moment s r (Failed f) Safe t p = p
 takes_unsaid A moment s r OnlyPost Safe t p = p
@@ -24,5 +25,6 @@ unsaid_by A moment s r Post OtherTarget x Safe t p = p
 unsaid_by A moment s r Head at x Safe t p = p
 unsaid_by A moment s r OtherMethod at x Safe t p = p
 
-pub responds_unsaid : (A : AgreedValues) (moment : ℕ) (s : State) (r : Request) (x : Response) (Safe : State → Type 0) (t : State) → Responds A moment s r x Safe t → Responds A moment s r x Unsaid t
+pub responds_unsaid : (A : AgreedValues) (moment : ℕ) (s : State) (r : Request) (x : Response) (Safe : State → Type 0) (t : State)
+    → Responds A moment s r x Safe t → Responds A moment s r x Unsaid t
 responds_unsaid A moment s r x Safe t p = unsaid_by A moment s r r.method r.target x Safe t p

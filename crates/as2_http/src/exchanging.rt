@@ -37,7 +37,8 @@ fn ended(parser: AnswerParser) -> TryAnswer
 /// Reads one answer, and makes no read once it is whole.
 fn read_answer<R: Source>(alloc: Global, source: &mut R) -> TryAnswer
     ensures answer { (input : List ℕ) → R.left source.old ≡ Some input → Gets input result }
-    ensures needed { (input : List ℕ) → R.left source.old ≡ Some input → ReadsNeeded IsOpenAnswer input (R.left source.new) (R.calls source.old) (R.calls source.new) }
+    ensures needed { (input : List ℕ) → R.left source.old ≡ Some input
+        → ReadsNeeded IsOpenAnswer input (R.left source.new) (R.calls source.old) (R.calls source.new) }
     ensures reads { R.calls source.new ≤ R.calls source.old + 100000 }
     ensures sound { IsTrue (is_answered result) → R.failed source.new ≡ R.failed source.old }
     ensures once { R.failed source.new ≤ R.failed source.old + 1 }
@@ -76,17 +77,20 @@ pub fn exchange<R: Source, W: Sink>(
     ensures written { AppendsPart (W.written sink.old) (W.written sink.new) job.now.bytes }
     // Nothing is read where the request couldn't be written, or before it was written whole.
     ensures unread { W.failed sink.old < W.failed sink.new → R.calls source.new ≡ R.calls source.old }
-    ensures behind { R.calls source.old < R.calls source.new → Appends (W.written sink.old) (W.written sink.new) job.now.bytes }
+    ensures behind { R.calls source.old < R.calls source.new
+        → Appends (W.written sink.old) (W.written sink.new) job.now.bytes }
     // An answer is told only where the whole request was written.
     ensures whole { IsTrue (is_answered result) → Appends (W.written sink.old) (W.written sink.new) job.now.bytes }
     // .. and where no call failed. Nothing is tried again: of either device one call fails at most.
-    ensures sound { IsTrue (is_answered result) → (R.failed source.new ≡ R.failed source.old) × (W.failed sink.new ≡ W.failed sink.old) }
+    ensures sound { IsTrue (is_answered result) → (R.failed source.new ≡ R.failed source.old)
+        × (W.failed sink.new ≡ W.failed sink.old) }
     ensures once_read { R.failed source.new ≤ R.failed source.old + 1 }
     ensures once_written { W.failed sink.new ≤ W.failed sink.old + 1 }
     // The answer is that of the whole input: never a part of its body.
     ensures answer { (input : List ℕ) → R.left source.old ≡ Some input → Gets input result }
     // Each read stands behind less than an answer, or behind one whose end wasn't seen, and one that gave nothing is the last.
-    ensures needed { (input : List ℕ) → R.left source.old ≡ Some input → ReadsNeeded IsOpenAnswer input (R.left source.new) (R.calls source.old) (R.calls source.new) }
+    ensures needed { (input : List ℕ) → R.left source.old ≡ Some input
+        → ReadsNeeded IsOpenAnswer input (R.left source.new) (R.calls source.old) (R.calls source.new) }
     ensures reads { R.calls source.new ≤ R.calls source.old + 100000 }
 {
     if push_all(sink, job.bytes.as_slice()).is_err() {

@@ -87,7 +87,8 @@ fn reply<K: Records, W: Sink, J: Journal>(
 ) -> Result<(), SendFault>
     ensures clean { (K.shows station.new).IsClean → (K.shows station.old).IsClean }
     ensures replied { (K.shows station.new).IsClean → (s : State) → (K.shows station.old).Rests s
-        → Replied agreements.now moment s request (K.shows station.new) (spoken (W.written sink.old) (J.noted journal.old)) (spoken (W.written sink.new) (J.noted journal.new)) result }
+        → Replied agreements.now moment s request (K.shows station.new)
+        (spoken (W.written sink.old) (J.noted journal.old)) (spoken (W.written sink.new) (J.noted journal.new)) result }
     ensures failed { result ≡ Err Write → W.failed sink.old < W.failed sink.new }
     ensures sound { ¬ (result ≡ Err Write) → W.failed sink.new ≡ W.failed sink.old }
     ensures once { W.failed sink.new ≤ W.failed sink.old + 1 }
@@ -185,9 +186,12 @@ fn answer_next<K: Records, R: Source, W: Sink, J: Journal>(
     ensures clean { (K.shows station.new).IsClean → (K.shows station.old).IsClean }
     ensures calls { R.calls source.new ≡ R.calls source.old + 1 }
     ensures answered { (K.shows station.new).IsClean → (s : State) (input : List ℕ) (before : Spoken) (calls : ℕ)
-        → BetweenReads agreements.now moment s input parser.old (K.shows station.old) (R.left source.old) before (spoken (W.written sink.old) (J.noted journal.old)) calls (R.calls source.old)
-        → AnswersNext agreements.now moment s input parser.new (K.shows station.new) (R.left source.new) before (spoken (W.written sink.new) (J.noted journal.new)) calls (R.calls source.new) result }
-    ensures posts { (K.shows station.new).IsClean → (s mid : State) → (K.shows station.old).Rests mid → RunsPosts agreements.now moment s mid
+        → BetweenReads agreements.now moment s input parser.old (K.shows station.old) (R.left source.old) before
+        (spoken (W.written sink.old) (J.noted journal.old)) calls (R.calls source.old)
+        → AnswersNext agreements.now moment s input parser.new (K.shows station.new) (R.left source.new) before
+        (spoken (W.written sink.new) (J.noted journal.new)) calls (R.calls source.new) result }
+    ensures posts { (K.shows station.new).IsClean → (s mid : State) → (K.shows station.old).Rests mid
+        → RunsPosts agreements.now moment s mid
         → (t : State) × (K.shows station.new).Rests t × RunsPosts agreements.now moment s t }
     ensures held { result ≡ None → (held : List ℕ) × HasTaken parser.new held }
     ensures room { vec_len buffer.new ≡ read_limit }
@@ -226,7 +230,8 @@ pub fn serve_stream<K: Records, R: Source, W: Sink, J: Journal>(
     ensures clean { (K.shows station.new).IsClean → (K.shows station.old).IsClean }
     ensures serves { (K.shows station.new).IsClean → (s : State) → (K.shows station.old).Rests s
         → (input : List ℕ) → R.left source.old ≡ Some input → (t : State) × (K.shows station.new).Rests t
-        × Serves agreements.now moment s t input (R.left source.new) (spoken (W.written sink.old) (J.noted journal.old)) (spoken (W.written sink.new) (J.noted journal.new)) (R.calls source.old) (R.calls source.new) result }
+        × Serves agreements.now moment s t input (R.left source.new) (spoken (W.written sink.old) (J.noted journal.old))
+        (spoken (W.written sink.new) (J.noted journal.new)) (R.calls source.old) (R.calls source.new) result }
     // Whatever the reader tells, nothing but posts at this moment was taken.
     ensures posts { (K.shows station.new).IsClean → (s : State) → (K.shows station.old).Rests s
         → (t : State) × (K.shows station.new).Rests t × RunsPosts agreements.now moment s t }

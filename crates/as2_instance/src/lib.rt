@@ -31,7 +31,8 @@ pub fn take<S: Alter>(
     agreements: &Agreements,
     event: Event,
 ) -> Taken<S>
-    ensures by_history { TakesOver agreements.now event (state S.Store store) (state S.Store result.store) result.answer }
+    ensures by_history { TakesOver agreements.now event (state S.Store store) (state S.Store result.store)
+        result.answer }
     ensures lasts { LastsOver (state S.Store result.store) }
 {
     let mut station = Station::new(Kept::new(store));

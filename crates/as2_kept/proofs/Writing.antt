@@ -7,7 +7,8 @@ use Rattle.as2_store.specs.Calls.{Commits as CommitsTables, Writes as WritesTabl
 use Rattle.as2_kept.specs.Instance.{standing, tables}
 
 -- what a stop leaves of tables it leaves of records
-survives_of : (next : State → Option State) (old new : Connected) → SurvivesTables old new (CommitsTables next old) → Survives {M = tables} (standing old) (standing new) (Commits next (standing old))
+survives_of : (next : State → Option State) (old new : Connected) → SurvivesTables old new (CommitsTables next old)
+    → Survives {M = tables} (standing old) (standing new) (Commits next (standing old))
 survives_of next old new it = record {
   counts = it.counts;
   closes = it.closes;
@@ -19,7 +20,8 @@ survives_of next old new it = record {
 }
 
 -- a write of tables is one of records
-write_of : {A E : Type 0} (next : State → Option State) (old new : Connected) (r : Result A E) → WritesTables next old new r → Writes {M = tables} next (standing old) (standing new) r
+write_of : {A E : Type 0} (next : State → Option State) (old new : Connected) (r : Result A E) → WritesTables next old new r
+    → Writes {M = tables} next (standing old) (standing new) r
 write_of next old new (Ok a) it = record {
   clean = it.clean;
   was_open = it.was_open;
@@ -38,5 +40,6 @@ write_of next old new (Err e) it = record {
 }
 
 -- seen from where the records are
-pub write_over : {A E : Type 0} (next : State → Option State) (inside outside new : Connected) (r : Result A E) → inside ≡ outside → WritesTables next inside new r → Writes {M = tables} next (standing outside) (standing new) r
+pub write_over : {A E : Type 0} (next : State → Option State) (inside outside new : Connected) (r : Result A E) → inside ≡ outside
+    → WritesTables next inside new r → Writes {M = tables} next (standing outside) (standing new) r
 write_over next inside outside new r same it = subst (λ (c : Connected). Writes {M = tables} next (standing c) (standing new) r) same (write_of next inside new r it)

@@ -7,7 +7,9 @@ ghost use Rattle.std.specs.Prelude.{◌≡◌};
 
 use as2_exchange::{Evidence, InEntry, OutEntry, StoreFault};
 use as2_mdn::{Detail, State};
-use as2_records::{Counts, Discrepancy, InRow, MdnProgress, NextNumbers, OutRow, Progress, Records};
+use as2_records::{
+    Counts, Discrepancy, InRow, MdnProgress, NextNumbers, OutRow, Progress, Records,
+};
 use as2_store::Store;
 use as2_text::{AsName, Moment};
 pub use opening::{adopt, create, in_memory};

@@ -18,7 +18,8 @@ use std::alloc::Global;
 pub fn adopt<S: Alter>(conn: Connection<S>) -> Result<Kept<S>, (Connection<S>, StoreFault)>
     requires autocommit { conn.in_transaction ≡ false }
     ensures adopted { IfOk result (λ kept. Adopts (state S.Store conn) (state S.Store kept)) }
-    ensures given_back { IfErr result (λ e. IsGivenBack (Commits Some (state S.Store conn)) (state S.Store conn) (state S.Store e.0)) }
+    ensures given_back { IfErr result
+        (λ e. IsGivenBack (Commits Some (state S.Store conn)) (state S.Store conn) (state S.Store e.0)) }
     ensures reason { IfErr result (λ e. HasCleanDisk (state S.Store e.0) → IsReason (state S.Store conn) e.1) }
 {
     match Store::adopt(conn) {
@@ -36,7 +37,8 @@ pub fn create<S: Alter>(
     requires least { 1 ≤ first }
     requires most { first < end_of_numbers }
     ensures created { IfOk result (λ kept. Creates first (state S.Store conn) (state S.Store kept)) }
-    ensures given_back { IfErr result (λ e. IsGivenBack (CommitsFirst first (state S.Store conn)) (state S.Store conn) (state S.Store e.0)) }
+    ensures given_back { IfErr result
+        (λ e. IsGivenBack (CommitsFirst first (state S.Store conn)) (state S.Store conn) (state S.Store e.0)) }
     ensures fault { IfErr result (λ e. may_come e.1 ≡ true) }
 {
     match Store::create(conn, first) {

@@ -9,7 +9,8 @@ use Rattle.as2_lists.specs.Standing.{memory, standing}
 stays_open : (s t : State) (P : ⊥ → Type 0) → Survives {M = memory} (standing s) (standing t) P
 stays_open s t P = record { counts = omega arith; closes = λ clean opened. inl refl; shield = λ is. is; crash = λ clean left may. absurd may }
 
-pub reads_ok : {A E : Type 0} (fits : State → A → Type 0) (s : State) (a : A) → (IsCounted s → fits s a) → Reads {M = memory} {A = A} {E = E} fits (standing s) (standing s) (Ok a)
+pub reads_ok : {A E : Type 0} (fits : State → A → Type 0) (s : State) (a : A) → (IsCounted s → fits s a)
+    → Reads {M = memory} {A = A} {E = E} fits (standing s) (standing s) (Ok a)
 reads_ok fits s a fit = record {
   clean = λ clean. clean;
   was_open = λ clean. refl;
@@ -25,7 +26,8 @@ pub record Takes (next : State → Option State) (s t : State) : Type 0 where
   pub counted : IsCounted t
   pub version : t.version ≡ s.version
 
-pub writes_ok : {A E : Type 0} (next : State → Option State) (s t : State) (a : A) → (IsCounted s → Takes next s t) → Writes {M = memory} {A = A} {E = E} next (standing s) (standing t) (Ok a)
+pub writes_ok : {A E : Type 0} (next : State → Option State) (s t : State) (a : A) → (IsCounted s → Takes next s t)
+    → Writes {M = memory} {A = A} {E = E} next (standing s) (standing t) (Ok a)
 writes_ok next s t a takes = record {
   clean = λ clean. clean;
   was_open = λ clean. refl;

@@ -31,12 +31,14 @@ is_other f x k n is = by (k == n) (grind (arith, nat_tests))
     by false so = refl
     by true so = absurd (cc)
 
-pub one_changed : {X : Type 0} (number : X → ℕ) (n : ℕ) (f : X → X) (xs ys : List X) (i : ℕ) (x y : X) → i < length xs → ys ≡ changed_before number n f i xs → x ≡ get_or ys i x → number x ≡ n → y ≡ f x
+pub one_changed : {X : Type 0} (number : X → ℕ) (n : ℕ) (f : X → X) (xs ys : List X) (i : ℕ) (x y : X) → i < length xs → ys ≡ changed_before number n f i xs
+    → x ≡ get_or ys i x → number x ≡ n → y ≡ f x
     → set ys i y ≡ changed_before number n f (i + 1) xs
 one_changed number n f xs ys i x y lt so here is new =
     ap (set ys i) (new ∙ is_one f x (number x) n is) ∙ map_over_more (λ z. if number z == n then f z else z) xs ys i x lt so here
 
-pub one_left : {X : Type 0} (number : X → ℕ) (n : ℕ) (f : X → X) (xs ys : List X) (i : ℕ) (x : X) → i < length xs → ys ≡ changed_before number n f i xs → x ≡ get_or ys i x → number x ≢ n
+pub one_left : {X : Type 0} (number : X → ℕ) (n : ℕ) (f : X → X) (xs ys : List X) (i : ℕ) (x : X) → i < length xs → ys ≡ changed_before number n f i xs
+    → x ≡ get_or ys i x → number x ≢ n
     → set ys i (get_or ys i x) ≡ changed_before number n f (i + 1) xs
 one_left number n f xs ys i x lt so here is =
     ap (set ys i) (sym here ∙ sym (is_other f x (number x) n is)) ∙ map_over_more (λ z. if number z == n then f z else z) xs ys i x lt so here
@@ -56,7 +58,8 @@ nowhere_by : {X : Type 0} (number : X → ℕ) (n : ℕ) (x : X) (xs : List X) (
 nowhere_by number n x xs true i o is none rest = absurd (cc)
 nowhere_by number n x xs false i o is none rest = (is, rest none)
 
-nowhere : {X : Type 0} (number : X → ℕ) (n i : ℕ) (xs : List X) → position_from (λ x. number x == n) i xs ≡ None → AllByRecursion (λ k. (k == n) ≡ false) (map number xs)
+nowhere : {X : Type 0} (number : X → ℕ) (n i : ℕ) (xs : List X) → position_from (λ x. number x == n) i xs ≡ None
+    → AllByRecursion (λ k. (k == n) ≡ false) (map number xs)
 nowhere number n i [] h = tt
 nowhere number n i (x ∷ xs) h = nowhere_by number n x xs (number x == n) i (position_from (λ y. number y == n) (i + 1) xs) refl h (nowhere number n (i + 1) xs)
 
@@ -68,11 +71,13 @@ changed_nowhere number n f xs h = apart number n f xs (nowhere number n 0 xs (sy
 same_as : (n k j : ℕ) → (k == n) ≡ true → (k == j) ≡ false → (j == n) ≡ false
 same_as n k j h g = grind (arith, nat_tests)
 
-others : {X : Type 0} (number : X → ℕ) (n k : ℕ) (xs : List X) → (k == n) ≡ true → AllByRecursion (λ j. (k == j) ≡ false) (map number xs) → AllByRecursion (λ j. (j == n) ≡ false) (map number xs)
+others : {X : Type 0} (number : X → ℕ) (n k : ℕ) (xs : List X) → (k == n) ≡ true → AllByRecursion (λ j. (k == j) ≡ false) (map number xs)
+    → AllByRecursion (λ j. (j == n) ≡ false) (map number xs)
 others number n k [] is h = tt
 others number n k (x ∷ xs) is h = (same_as n k (number x) is h.0, others number n k xs is h.1)
 
-all_at : {X : Type 0} (number : X → ℕ) (P : ℕ → Type 0) (xs : List X) (i : ℕ) (d : X) → AllByRecursion P (map number xs) → i < length xs → P (number (get_or xs i d))
+all_at : {X : Type 0} (number : X → ℕ) (P : ℕ → Type 0) (xs : List X) (i : ℕ) (d : X) → AllByRecursion P (map number xs) → i < length xs
+    → P (number (get_or xs i d))
 all_at number P [] i d h lt = absurd (omega arith)
 all_at number P (x ∷ xs) zero d h lt = h.0
 all_at number P (x ∷ xs) (suc i) d h lt = all_at number P xs i d h.1 (omega arith)
@@ -88,7 +93,8 @@ later_by : {X : Type 0} (f : X → X) (x : X) (b : Bool) (xs ys : List X) → b 
 later_by f x true xs ys is same = absurd (cc)
 later_by f x false xs ys is same = ap (λ l. x ∷ l) same
 
-at_place : {X : Type 0} (number : X → ℕ) (n : ℕ) (f : X → X) (xs : List X) (i : ℕ) (d : X) → IsDistinct (λ a b. a == b) (map number xs) → i < length xs → (number (get_or xs i d) == n) ≡ true
+at_place : {X : Type 0} (number : X → ℕ) (n : ℕ) (f : X → X) (xs : List X) (i : ℕ) (d : X) → IsDistinct (λ a b. a == b) (map number xs) → i < length xs
+    → (number (get_or xs i d) == n) ≡ true
     → set xs i (f (get_or xs i d)) ≡ changed number n f xs
 unfolding IsDistinct
 at_place number n f [] i d h lt is = absurd (omega arith)
@@ -98,7 +104,8 @@ at_place number n f (x ∷ xs) (suc i) d h lt is =
     later_by f x (number x == n) (set xs i (f (get_or xs i d))) (changed number n f xs)
     (earlier n (number x) (number (get_or xs i d)) is (all_at number (λ k. (number x == k) ≡ false) xs i d h.0 rest)) (at_place number n f xs i d h.1 rest is)
 
-pub changed_at : {X : Type 0} (number : X → ℕ) (n : ℕ) (f : X → X) (xs : List X) (i : ℕ) (d : X) → IsDistinct (λ a b. a == b) (map number xs) → position (λ x. number x == n) xs ≡ Some i
+pub changed_at : {X : Type 0} (number : X → ℕ) (n : ℕ) (f : X → X) (xs : List X) (i : ℕ) (d : X) → IsDistinct (λ a b. a == b) (map number xs)
+    → position (λ x. number x == n) xs ≡ Some i
     → set xs i (f (get_or xs i d)) ≡ changed number n f xs
 changed_at number n f xs i d distinct found =
     let it = position-Some (λ x. number x == n) xs i d found in

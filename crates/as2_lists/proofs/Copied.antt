@@ -22,7 +22,8 @@ piece_more i content piece is =
     ap (λ p. front i content ++ p) (sym (piece_by i content piece (take piece_size (drop (i * piece_size) content)) (nat_lt (i * piece_size) (length content)) is))
     ∙ sym (front_more i content)
 
-none_by : (i : ℕ) (content more : List ℕ) (b : Bool) → nat_lt (i * piece_size) (length content) ≡ b → cond b (Some more) None ≡ None → length content ≤ i * piece_size
+none_by : (i : ℕ) (content more : List ℕ) (b : Bool) → nat_lt (i * piece_size) (length content) ≡ b → cond b (Some more) None ≡ None
+    → length content ≤ i * piece_size
 none_by i content more true has is = absurd (cc)
 none_by i content more false has is = grind (arith, nat_tests)
 

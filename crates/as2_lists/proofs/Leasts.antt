@@ -13,7 +13,8 @@ use Rattle.as2_records.specs.Standing.{IsCounted}
 smaller_of : (n k : ℕ) → nat_lt k n ≡ false → (if nat_le n k then n else k) ≡ n
 smaller_of n k h = grind (arith, nat_tests)
 
-smaller_first : {X : Type 0} (number : X → ℕ) (n : ℕ) (found : Option X) → ((x : X) → found ≡ Some x → nat_lt (number x) n ≡ false) → smaller n (option_map number found) ≡ n
+smaller_first : {X : Type 0} (number : X → ℕ) (n : ℕ) (found : Option X) → ((x : X) → found ≡ Some x → nat_lt (number x) n ≡ false)
+    → smaller n (option_map number found) ≡ n
 smaller_first number n None h = refl
 smaller_first number n (Some x) h = smaller_of n (number x) (h x refl)
 
@@ -22,7 +23,8 @@ least_of : {X : Type 0} (number : X → ℕ) (x : X) (b : Bool) (xs : List X) (f
 least_of number x true xs found h rest = ap Some (ap (smaller (number x)) rest ∙ smaller_first number (number x) found h)
 least_of number x false xs found h rest = rest
 
-pub first_is_least : {X : Type 0} (number : X → ℕ) (test : X → Bool) (xs : List X) → IsDistinct (λ a b. nat_lt b a) (map number xs) → least (map number (filter test xs)) ≡ option_map number (find test xs)
+pub first_is_least : {X : Type 0} (number : X → ℕ) (test : X → Bool) (xs : List X) → IsDistinct (λ a b. nat_lt b a) (map number xs)
+    → least (map number (filter test xs)) ≡ option_map number (find test xs)
 unfolding IsDistinct
 first_is_least number test [] h = refl
 first_is_least number test (x ∷ xs) h =

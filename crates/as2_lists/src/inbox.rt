@@ -39,7 +39,8 @@ pub fn entry_posted<'a>(
     receiver: &AsName,
     id_value: &str,
 ) -> Option<&'a InEntry>
-    ensures { option_map (λ e. e.now) result ≡ find (λ e. has_key sender.now receiver.now id_value.now e.posted) entries.now }
+    ensures { option_map (λ e. e.now) result
+        ≡ find (λ e. has_key sender.now receiver.now id_value.now e.posted) entries.now }
 {
     entries.iter().find(|entry| is_posted_as(&entry.posted, sender, receiver, id_value))
 }

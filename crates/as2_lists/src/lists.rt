@@ -8,7 +8,9 @@ use as2_exchange::{
     Attempt, END_OF_NUMBERS, Evidence, InEntry, MdnState, OutEntry, StoreFault, is_by_receipt,
 };
 use as2_mdn::{Detail, State};
-use as2_records::{Counts, Discrepancy, InRow, MdnProgress, NextNumbers, OutRow, Progress, Records};
+use as2_records::{
+    Counts, Discrepancy, InRow, MdnProgress, NextNumbers, OutRow, Progress, Records,
+};
 use as2_text::{AsName, Moment};
 use std::alloc::Global;
 use std::marker::Model;

@@ -86,7 +86,8 @@ fn set(document: &mut OutEntry, progress: Progress)
 
 /// Sets how far the document of this number, if there is one, has come.
 pub fn set_numbered(documents: &mut Vec<OutEntry>, number: u64, progress: Progress)
-    ensures { documents.new.items ≡ map (λ d. if d.number == number then come_to progress d else d) documents.old.items }
+    ensures { documents.new.items
+        ≡ map (λ d. if d.number == number then come_to progress d else d) documents.old.items }
 {
     for document in documents.iter_mut() {
         if document.number == number {
@@ -107,7 +108,8 @@ fn queue(document: &mut OutEntry, moment: Moment)
 
 /// Queues the document of this number, if there is one, to be sent anew.
 pub fn queue_numbered(documents: &mut Vec<OutEntry>, number: u64, moment: Moment)
-    ensures { documents.new.items ≡ map (λ d. if d.number == number then queued_anew moment d else d) documents.old.items }
+    ensures { documents.new.items
+        ≡ map (λ d. if d.number == number then queued_anew moment d else d) documents.old.items }
 {
     for document in documents.iter_mut() {
         if document.number == number {
@@ -153,7 +155,8 @@ pub fn settle_numbered(
     evidence: Evidence,
 )
     ensures { IsDistinct (λ a b. a == b) (map (λ d. d.number) documents.old.items)
-        → documents.new.items ≡ map (λ d. if d.number == number then settled_as detail evidence d else d) documents.old.items }
+        → documents.new.items
+        ≡ map (λ d. if d.number == number then settled_as detail evidence d else d) documents.old.items }
 {
     if let Some(place) = place_of(documents, number) {
         settle(&mut documents[place], detail, evidence);

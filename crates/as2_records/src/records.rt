@@ -115,7 +115,8 @@ pub trait Records {
         receiver: &AsName,
         id_value: &str,
     ) -> Result<Option<InEntry>, StoreFault>
-        ensures found { Reads (IsPostedAs sender.now receiver.now id_value.now) (shows self.old) (shows self.new) result }
+        ensures found { Reads (IsPostedAs sender.now receiver.now id_value.now) (shows self.old) (shows self.new)
+            result }
         ensures fault { IfErr result (λ f. may_come f ≡ true) };
 
     /// The entry of the inbox of this number, if there is one.
@@ -135,36 +136,42 @@ pub trait Records {
         alloc: Global,
         id_value: &[u8],
     ) -> Result<Option<OutEntry>, StoreFault>
-        ensures found { Reads (λ s found. found ≡ document_named s id_value.now) (shows self.old) (shows self.new) result }
+        ensures found { Reads (λ s found. found
+            ≡ document_named s id_value.now) (shows self.old) (shows self.new) result }
         ensures fault { IfErr result (λ f. may_come f ≡ true) };
 
     /// The least number of the documents of which a try may begin at this moment, if there is one. Answers Memory, Disk or
     /// Refused.
     fn due_out(&mut self, moment: Moment) -> Result<Option<u64>, StoreFault>
-        ensures due { Reads (λ s number. number ≡ least (due_documents s moment)) (shows self.old) (shows self.new) result }
+        ensures due { Reads (λ s number. number
+            ≡ least (due_documents s moment)) (shows self.old) (shows self.new) result }
         ensures fault { IfErr result (λ f. may_come f ≡ true) };
 
     /// The least number of the receipts of which a try may begin at this moment, if there is one. Answers Memory, Disk or
     /// Refused.
     fn due_mdn(&mut self, moment: Moment) -> Result<Option<u64>, StoreFault>
-        ensures due { Reads (λ s number. number ≡ least (due_receipts s moment)) (shows self.old) (shows self.new) result }
+        ensures due { Reads (λ s number. number
+            ≡ least (due_receipts s moment)) (shows self.old) (shows self.new) result }
         ensures fault { IfErr result (λ f. may_come f ≡ true) };
 
     /// The documents of that state, or all, in order of number, each with the length of its content in place of the content,
     /// and without its evidence. Answers Memory, Disk or Refused.
     fn list_out(&mut self, alloc: Global, wanted: Option<State>) -> Result<Vec<OutRow>, StoreFault>
-        ensures documents { Reads (λ s documents. documents.items ≡ listed wanted s) (shows self.old) (shows self.new) result }
+        ensures documents { Reads (λ s documents. documents.items
+            ≡ listed wanted s) (shows self.old) (shows self.new) result }
         ensures fault { IfErr result (λ f. may_come f ≡ true) };
 
     /// The entries of the inbox in order of number, each with the length of its content in place of the content. Answers
     /// Memory, Disk or Refused.
     fn list_in(&mut self, alloc: Global) -> Result<Vec<InRow>, StoreFault>
-        ensures entries { Reads (λ s entries. entries.items ≡ map in_summary s.inbox) (shows self.old) (shows self.new) result }
+        ensures entries { Reads (λ s entries. entries.items
+            ≡ map in_summary s.inbox) (shows self.old) (shows self.new) result }
         ensures fault { IfErr result (λ f. may_come f ≡ true) };
 
     /// The numbers of the documents that a receipt has settled, in order. Answers Memory, Disk or Refused.
     fn settled(&mut self, alloc: Global) -> Result<Vec<u64>, StoreFault>
-        ensures numbers { Reads (λ s numbers. numbers.items ≡ settled_numbers s) (shows self.old) (shows self.new) result }
+        ensures numbers { Reads (λ s numbers. numbers.items
+            ≡ settled_numbers s) (shows self.old) (shows self.new) result }
         ensures fault { IfErr result (λ f. may_come f ≡ true) };
 
     /// How much is outstanding. Answers Memory, Disk or Refused.

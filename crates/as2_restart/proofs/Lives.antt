@@ -28,16 +28,19 @@ settled A s k d formed is successful =
     let entry : IsEntry d = all_found IsEntry (λ (e : OutEntry). e) _ s.outbox d (all_map IsEntry (λ (e : OutEntry). e) (λ e it. it) s.outbox formed.sent.entries) is in
     entry.evidence ∙ ap is_by_receipt ((state_of_success d.detail).0 successful)
 
-as_it_stood : (d : OutEntry) (o : Option OutEntry) → state_of d.detail ≡ S → IsSomeAnd o (λ (e : OutEntry). (e.detail ≡ d.detail) × (e.evidence ≡ d.evidence)) → IsSomeAnd o (λ (e : OutEntry). state_of e.detail ≡ S)
+as_it_stood : (d : OutEntry) (o : Option OutEntry) → state_of d.detail ≡ S → IsSomeAnd o (λ (e : OutEntry). (e.detail ≡ d.detail) × (e.evidence ≡ d.evidence))
+    → IsSomeAnd o (λ (e : OutEntry). state_of e.detail ≡ S)
 as_it_stood d None successful same = absurd same
 as_it_stood d (Some e) successful same = ap state_of same.0 ∙ successful
 
-stays : (A : Agreements) (v : Version) (first : ℕ) (before more : Trace) (s t : State) (k : ℕ) (o : Option OutEntry) → document s k ≡ o → IsCounter first → Run A (empty v first) before s → Run A s more t
+stays : (A : Agreements) (v : Version) (first : ℕ) (before more : Trace) (s t : State) (k : ℕ) (o : Option OutEntry) → document s k ≡ o → IsCounter first
+    → Run A (empty v first) before s → Run A s more t
     → IsSomeAnd o (λ (d : OutEntry). state_of d.detail ≡ S) → IsSuccessful t k
 stays A v first before more s t k None is counter run on successful = absurd successful
 stays A v first before more s t k (Some d) is counter run on successful =
     let stood = stands_by_history A v first before s counter run in
     as_it_stood d (document t k) successful (stood.settled k d is (settled A s k d stood.formed is successful) more t on)
 
-pub successful : (A : Agreements) (v : Version) (first : ℕ) (before : Trace) (lists : List Trace) (events : Trace) (s t : State) (k : ℕ) → IsCounter first → Run A (empty v first) before s → ComesInTurn A lists events s t → IsSuccessful s k → IsSuccessful t k
+pub successful : (A : Agreements) (v : Version) (first : ℕ) (before : Trace) (lists : List Trace) (events : Trace) (s t : State) (k : ℕ) → IsCounter first
+    → Run A (empty v first) before s → ComesInTurn A lists events s t → IsSuccessful s k → IsSuccessful t k
 successful A v first before lists events s t k counter run it = stays A v first before events s t k (document s k) refl counter run (one A lists events s t it)

@@ -27,7 +27,8 @@ comes_by A told events s t counts run = record { events = events; counts = count
 -- ---- what it leads to
 
 -- the mark alone leads to the state that is next
-told_so : (A : Agreements) (layout : Layout) (d : Database) (s t : State) → Stands layout d s → migrated_from layout s ≡ Some t → ComesTo A (marked layout s) s t
+told_so : (A : Agreements) (layout : Layout) (d : Database) (s t : State) → Stands layout d s → migrated_from layout s ≡ Some t
+    → ComesTo A (marked layout s) s t
 told_so A VersionOne d s t it is = comes_by A (AMigration s.next_in ∷ []) (AMigration s.next_in ∷ []) s t (inl refl) (it.version, refl, sym (some_is (migrated s) t is))
 told_so A (VersionTwo way) d s t it is = comes_by A [] [] s t (inl refl) (sym (some_is s t is))
 told_so A (VersionThree way) d s t it is = absurd cc
@@ -38,13 +39,15 @@ untold A VersionOne d s t it is = comes_by A [] (AMigration s.next_in ∷ []) s 
 untold A (VersionTwo way) d s t it is = comes_by A [] [] s t (inl refl) (sym (some_is s t is))
 untold A (VersionThree way) d s t it is = absurd cc
 
-pub leads : (A : Agreements) (layout : Layout) (old new : Connected) (s : State) → IsTrue old.is_open → RestsAs layout old s → Reaches new (migrated_from layout s) → Comes A (marked layout s) s new
+pub leads : (A : Agreements) (layout : Layout) (old new : Connected) (s : State) → IsTrue old.is_open → RestsAs layout old s
+    → Reaches new (migrated_from layout s) → Comes A (marked layout s) s new
 leads A layout old new s opened rests it = (it.state, told_so A layout old.now s it.state (rests.stands opened) it.is, record { rests = it.rests; lasts = it.lasts })
 
 -- ---- what it leaves
 
 -- where it wasn't answered, the tables as they were
-as_before : (A : Agreements) (layout : Layout) (old : Connected) (s : State) → IsTrue old.is_open → RestsAs layout old s → (image : Image) (db : Trees) → HoldsDatabase image db → db ≡ old.committed.trees → AreEither A false layout s image
+as_before : (A : Agreements) (layout : Layout) (old : Connected) (s : State) → IsTrue old.is_open → RestsAs layout old s → (image : Image) (db : Trees)
+    → HoldsDatabase image db → db ≡ old.committed.trees → AreEither A false layout s image
 as_before A layout old s opened rests image db held same =
     let stands = rests.stands opened in
     let whole : old.now ≡ record { schema = schema_of layout; trees = old.now.trees } = ap (λ (x : Schema). let d : Database = record { schema = x; trees = old.now.trees } in d) stands.schema in
@@ -57,13 +60,15 @@ as_before A layout old s opened rests image db held same =
     }
 
 -- or what was committed
-as_committed : (A : Agreements) (layout : Layout) (old : Connected) (s : State) → IsTrue old.is_open → RestsAs layout old s → (image : Image) (db : Trees) → HoldsDatabase image db → CommitsMigrated old db → AreEither A false layout s image
+as_committed : (A : Agreements) (layout : Layout) (old : Connected) (s : State) → IsTrue old.is_open → RestsAs layout old s → (image : Image) (db : Trees)
+    → HoldsDatabase image db → CommitsMigrated old db → AreEither A false layout s image
 as_committed A layout old s opened rests image db held it =
     let next : KeepsNext db (migrated_from layout s) = it.stands layout s rests in
     record { state = next.state; comes = untold A layout old.now s next.state (rests.stands opened) next.is; held = inl (db, ∣ held ∣₁, next.keeps) }
 
 -- what a crash leaves of it
-pub either : (A : Agreements) (is_answered : Bool) (layout : Layout) (old new : Connected) (s : State) → MayMigrate is_answered old new → HasCleanDisk new → IsTrue old.is_open → ((db : Trees) → old.may_leave db → db ≡ old.committed.trees) → RestsAs layout old s
+pub either : (A : Agreements) (is_answered : Bool) (layout : Layout) (old new : Connected) (s : State) → MayMigrate is_answered old new → HasCleanDisk new
+    → IsTrue old.is_open → ((db : Trees) → old.may_leave db → db ≡ old.committed.trees) → RestsAs layout old s
     → (image : Image) (db : Trees) → HoldsDatabase image db → new.may_leave db → AreEither A is_answered layout s image
 either A true layout old new s it clean opened settled rests image db held may =
     let reached = it.done refl clean layout s rests in

@@ -19,7 +19,8 @@ use Rattle.as2_restart.specs.Restarts.{IsHeld}
 -- ---- a crash
 
 -- what the files hold where a crash has left one of the outcomes of a store
-pub found_after : {D : Type 0} {g : disk.Ghosts D} (last : FileStore D g) (log db : D) → store_files last ≡ (log, db) → AreClean g log db → IsTrue (view last).is_numbered → AreDatabases (recovers last)
+pub found_after : {D : Type 0} {g : disk.Ghosts D} (last : FileStore D g) (log db : D) → store_files last ≡ (log, db) → AreClean g log db
+    → IsTrue (view last).is_numbered → AreDatabases (recovers last)
     → (left : Image) → outcomes g log db left → ∥ ((trees : Trees) × recovers last trees × HoldsDatabase left trees) ∥₁
 found_after {g} last log db same clean numbered sound left may =
     let honest = subst (λ p. AreClean g p.0 p.1) (sym same) clean in

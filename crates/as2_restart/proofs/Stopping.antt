@@ -43,7 +43,8 @@ unread_post A s t m a (Refuses line) none is = left_of (Http (refusal line), s) 
 unread_post A s t m a (IsReceipt r) none is = absurd cc
 unread_post A s t m a (IsDocument p) none is = absurd cc
 
-not_handed_in : (A : Agreements) (s t : State) (organization partner content : Text) (m : ℕ) (a : Answer) (o : Option Refusal) → submit_refusal A organization partner content ≡ o → asks_store A (Submit organization partner content m) ≡ false
+not_handed_in : (A : Agreements) (s t : State) (organization partner content : Text) (m : ℕ) (a : Answer) (o : Option Refusal)
+    → submit_refusal A organization partner content ≡ o → asks_store A (Submit organization partner content m) ≡ false
     → submit A s organization partner content m ≡ Some (a, t) → t ≡ s
 not_handed_in A s t organization partner content m a None refused none is = absurd (let two : true ≡ false = ap is_none (sym refused) ∙ none in cc)
 not_handed_in A s t organization partner content m a (Some reason) refused none is = left_of (Refused reason, s) (a, t) (sym (refuses A s organization partner content m reason refused) ∙ is)
@@ -65,7 +66,8 @@ next_is o a t u is next = let same : Some t ≡ Some u = sym (ap (option_map (λ
 
 module _ (A : Agreements) (e : Event) (old new : Connected) (clean : HasCleanDisk new) where
   -- an answer is left by every crash
-  pub answered_lasts : (a : Answer) → TakesEvent A e (λ a. a) (standing old) (standing new) (Ok a) → (s t : State) → Rests old s → Lasts old s → step A s e ≡ Some (a, t) → Rests new t → Lasts new t
+  pub answered_lasts : (a : Answer) → TakesEvent A e (λ a. a) (standing old) (standing new) (Ok a) → (s t : State) → Rests old s → Lasts old s
+      → step A s e ≡ Some (a, t) → Rests new t → Lasts new t
   answered_lasts a it s t rests lasts is rested = by new.is_open refl (asks_store A e) refl
     where
       by : (opened : Bool) → new.is_open ≡ opened → (asks : Bool) → asks_store A e ≡ asks → Lasts new t
@@ -102,21 +104,26 @@ at_rest s None c it = it.0
 at_rest s (Some u) c it = it.1
 
 -- with one event before
-counts_too : (A : Agreements) (e : Event) (said : Said) (told events : Trace) → Counts A told events → Counts A (AnEvent e said ∷ told) (AnEvent e said ∷ events)
+counts_too : (A : Agreements) (e : Event) (said : Said) (told events : Trace) → Counts A told events
+    → Counts A (AnEvent e said ∷ told) (AnEvent e said ∷ events)
 counts_too A e said told events (inl same) = inl (ap (λ (l : Trace). AnEvent e said ∷ l) same)
 counts_too A e said told events (inr one) = inr (later_one (AnEvent e said) told events one)
 
-answered_first : (A : Agreements) (e : Event) (a : Answer) (told : Trace) (s next t : State) → step A s e ≡ Some (a, next) → Fits A told next t → Fits A (AnEvent e (Answered a) ∷ told) s t
+answered_first : (A : Agreements) (e : Event) (a : Answer) (told : Trace) (s next t : State) → step A s e ≡ Some (a, next) → Fits A told next t
+    → Fits A (AnEvent e (Answered a) ∷ told) s t
 answered_first A e a told s next t is it = (AnEvent e (Answered a) ∷ it.0, counts_too A e (Answered a) told it.0 it.1, (next, is, it.2))
 
-failed_first : (A : Agreements) (e : Event) (f : StoreFault) (told : Trace) (s t : State) → MayFail A s e f → Fits A told s t → Fits A (AnEvent e (Failed f) ∷ told) s t
+failed_first : (A : Agreements) (e : Event) (f : StoreFault) (told : Trace) (s t : State) → MayFail A s e f → Fits A told s t
+    → Fits A (AnEvent e (Failed f) ∷ told) s t
 failed_first A e f told s t may it = (AnEvent e (Failed f) ∷ it.0, counts_too A e (Failed f) told it.0 it.1, (may, it.2))
 
-done_first : (A : Agreements) (e : Event) (f : StoreFault) (a : Answer) (told : Trace) (s u t : State) → step A s e ≡ Some (a, u) → Run A u told t → IsUnanswered A told → Fits A (AnEvent e (Failed f) ∷ told) s t
+done_first : (A : Agreements) (e : Event) (f : StoreFault) (a : Answer) (told : Trace) (s u t : State) → step A s e ≡ Some (a, u) → Run A u told t
+    → IsUnanswered A told → Fits A (AnEvent e (Failed f) ∷ told) s t
 done_first A e f a told s u t is run out = (AnEvent e (Answered a) ∷ told, inr (this_one e f a told out), (u, is, run))
 
 -- where a fault shut the connection, the state that was being committed may stand
-shut_at : (A : Agreements) (e : Event) (f : StoreFault) (old new : Connected) (s : State) (came : Option (Answer × State)) → step A s e ≡ came → HasCleanDisk new → TakesEvent A e (λ a. a) (standing old) (standing new) (Err f) → Rests old s → Lasts old s
+shut_at : (A : Agreements) (e : Event) (f : StoreFault) (old new : Connected) (s : State) (came : Option (Answer × State)) → step A s e ≡ came
+    → HasCleanDisk new → TakesEvent A e (λ a. a) (standing old) (standing new) (Err f) → Rests old s → Lasts old s
     → (db : Trees) → new.may_leave db → Keeps db s ⊎ ((u : State) × (a : Answer) × (came ≡ Some (a, u)) × Keeps db u)
 shut_at A e f old new s came is clean it rests lasts db may = elim (it.does.crash.crash clean db may) [
   | inl before ↦ inl (lasts.each db before)
@@ -126,13 +133,15 @@ shut_at A e f old new s came is clean it rests lasts db may = elim (it.does.cras
   ]
 ]
   where
-    by : (o : Option (Answer × State)) → step A s e ≡ o → (u : State) → option_map (λ (came : Answer × State). came.1) (step A s e) ≡ Some u → Keeps db u → (v : State) × (a : Answer) × (o ≡ Some (a, v)) × Keeps db v
+    by : (o : Option (Answer × State)) → step A s e ≡ o → (u : State) → option_map (λ (came : Answer × State). came.1) (step A s e) ≡ Some u → Keeps db u
+        → (v : State) × (a : Answer) × (o ≡ Some (a, v)) × Keeps db v
     by None none u next keeps = absurd (let two : None ≡ Some u = sym (ap (option_map (λ (came : Answer × State). came.1)) none) ∙ next in cc)
     by (Some y) some u next keeps = (y.1, y.0, refl, subst (Keeps db) (next_is (step A s e) y.0 y.1 u some next) keeps)
 
 module _ (A : Agreements) (x : Event) (told : Trace) (old mid : Connected) (clean : HasCleanDisk mid) (db : Trees) where
   -- after a fault, over a connection that held s
-  failed_goes : (f : StoreFault) → TakesEvent A x (λ a. a) (standing old) (standing mid) (Err f) → (s : State) → Rests old s → Lasts old s → ((o : Option State) → At s o mid → Goes A told s o db) → Goes A (AnEvent x (Failed f) ∷ told) s None db
+  failed_goes : (f : StoreFault) → TakesEvent A x (λ a. a) (standing old) (standing mid) (Err f) → (s : State) → Rests old s → Lasts old s
+      → ((o : Option State) → At s o mid → Goes A told s o db) → Goes A (AnEvent x (Failed f) ∷ told) s None db
   failed_goes f it s rests lasts go = by mid.is_open refl (step A s x) refl
     where
       now : Rests mid s × MayFail A s x f
@@ -158,7 +167,8 @@ module _ (A : Agreements) (x : Event) (told : Trace) (old mid : Connected) (clea
           ]
 
   -- after an answer, over a connection that was shut as u was being committed
-  answered_shut : (a : Answer) → TakesEvent A x (λ a. a) (standing old) (standing mid) (Ok a) → (s u : State) → At s (Some u) old → ((t : State) (o : Option State) → At t o mid → Goes A told t o db) → Goes A (AnEvent x (Answered a) ∷ told) s (Some u) db
+  answered_shut : (a : Answer) → TakesEvent A x (λ a. a) (standing old) (standing mid) (Ok a) → (s u : State) → At s (Some u) old
+      → ((t : State) (o : Option State) → At t o mid → Goes A told t o db) → Goes A (AnEvent x (Answered a) ∷ told) s (Some u) db
   answered_shut a it s u at go = by mid.is_open refl (asks_store A x) refl
     where
       now : Left (standing mid) (step A s x) a
@@ -188,7 +198,8 @@ module _ (A : Agreements) (x : Event) (told : Trace) (old mid : Connected) (clea
           ]
 
   -- after a fault, over such a connection
-  failed_shut : (f : StoreFault) → TakesEvent A x (λ a. a) (standing old) (standing mid) (Err f) → (s u : State) → At s (Some u) old → ((o : Option State) → At s o mid → Goes A told s o db) → Goes A (AnEvent x (Failed f) ∷ told) s (Some u) db
+  failed_shut : (f : StoreFault) → TakesEvent A x (λ a. a) (standing old) (standing mid) (Err f) → (s u : State) → At s (Some u) old
+      → ((o : Option State) → At s o mid → Goes A told s o db) → Goes A (AnEvent x (Failed f) ∷ told) s (Some u) db
   failed_shut f it s u at go = by mid.is_open refl
     where
       now : Rests mid s × MayFail A s x f
@@ -204,7 +215,8 @@ module _ (A : Agreements) (x : Event) (told : Trace) (old mid : Connected) (clea
           elim (go (Some u) next) [ inl k ↦ inl (k.0, failed_first A x f told s k.0 now.1 k.1, k.2) | inr k ↦ inr (k.0, (other.1, k.1), k.2, k.3) ]
 
 module _ {S : Type 0} (g : Ghosts S) (A : Agreements) where
-  goes_on : (es : List Event) (rs : List (Result Answer StoreFault)) (old new : Held S) → Taken (λ (h : Held S). standing (state g h)) A es rs old new → HasCleanDisk (state g new) → (s : State) (o : Option State) → At s o (state g old)
+  goes_on : (es : List Event) (rs : List (Result Answer StoreFault)) (old new : Held S) → Taken (λ (h : Held S). standing (state g h)) A es rs old new
+      → HasCleanDisk (state g new) → (s : State) (o : Option State) → At s o (state g old)
       → (db : Trees) → (state g new).may_leave db → Goes A (trace es rs) s o db
   goes_on [] [] old new same clean s None at db may = (s, ([], inl refl, refl), at.1.each db (subst (λ (h : Held S). (state g h).may_leave db) same may))
   goes_on [] [] old new same clean s (Some u) at db may = elim (at.3 db (subst (λ (h : Held S). (state g h).may_leave db) same may)) [ inl k ↦ inl (s, ([], inl refl, refl), k) | inr k ↦ inr (u, refl, tt, k) ]
@@ -224,7 +236,8 @@ module _ {S : Type 0} (g : Ghosts S) (A : Agreements) where
       failed_shut A x (trace es rs) (state g old) (state g it.0) (taken_clean (λ (h : Held S). standing (state g h)) A es rs it.0 new it.4 clean) db f it.1 s u at (λ o there. goes_on es rs it.0 new it.4 clean s o there db may)
 
   -- whatever stops the computer after these events, they lead to what is found, perhaps with one more done
-  pub leaves : (es : List Event) (rs : List (Result Answer StoreFault)) (old new : Held S) → Taken (λ (h : Held S). standing (state g h)) A es rs old new → HasCleanDisk (state g new) → (s : State) → IsHeld (state g old) s → MayLeave A (trace es rs) s (state g new)
+  pub leaves : (es : List Event) (rs : List (Result Answer StoreFault)) (old new : Held S) → Taken (λ (h : Held S). standing (state g h)) A es rs old new
+      → HasCleanDisk (state g new) → (s : State) → IsHeld (state g old) s → MayLeave A (trace es rs) s (state g new)
   leaves es rs old new taken clean s held db may =
       let it = goes_on es rs old new taken clean s None (held.rests, held.lasts) db may in
       (it.0, record { events = it.1.0; counts = it.1.1; run = it.1.2; by_history = ends_by_history A s it.1.0 it.0 it.1.2 }, it.2)

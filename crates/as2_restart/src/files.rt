@@ -26,7 +26,8 @@ pub(crate) fn shut<D: Disk + Drop>(
 ) -> Result<Files<D>, (Error, Files<D>)>
     ensures usable { IfOk result (λ files. IsTrue (D.Disk.is_usable files.log) × IsTrue (D.Disk.is_usable files.db)) }
     ensures clean { IfOk result (λ files. AreClean D.Disk files.log files.db → HasCleanDisk (file_state station)) }
-    ensures closed { IfOk result (λ files. AreClean D.Disk files.log files.db → (s : State) → Rests (file_state station) s → AreClosed D.Disk files s) }
+    ensures closed { IfOk result (λ files. AreClean D.Disk files.log files.db → (s : State)
+        → Rests (file_state station) s → AreClosed D.Disk files s) }
     ensures shield { IfOk result (λ files. (file_state station).IsShielded → AreShielded D.Disk files) }
 {
     close(station.into_records().into_connection())
@@ -35,8 +36,10 @@ pub(crate) fn shut<D: Disk + Drop>(
 /// The two files of a station, as a stop of the computer would find them: they hold what its store would leave to a crash.
 pub fn leave<D: Disk + Drop>(station: Station<Kept<FileStore<D>>>) -> Files<D>
     ensures clean { AreClean D.Disk result.log result.db → HasCleanDisk (file_state station) }
-    ensures left { AreClean D.Disk result.log result.db → (A : Agreements) (told : Trace) (s : State) → MayLeave A told s (file_state station) → AreLeft D.Disk result A told s }
-    ensures kept { AreClean D.Disk result.log result.db → (s : State) → Rests (file_state station) s → IsTrue (file_state station).is_open
+    ensures left { AreClean D.Disk result.log result.db → (A : Agreements) (told : Trace) (s : State)
+        → MayLeave A told s (file_state station) → AreLeft D.Disk result A told s }
+    ensures kept { AreClean D.Disk result.log result.db → (s : State) → Rests (file_state station) s
+        → IsTrue (file_state station).is_open
         → (image : Image) → outcomes D.Disk result.log result.db image → ∥ HoldsState image s ∥₁ }
 {
     station

@@ -9,12 +9,15 @@ ghost use Rattle.as2_restart.specs.Restarts.{ComesInTurn};
 
 /// What is done over any number of stops is one run of the machine, in which what stands of each document is its history.
 pub fn one_run()
-    ensures run { (A : Agreements) (lists : List Trace) (events : Trace) (s t : State) → ComesInTurn A lists events s t → Run A s events t }
-    ensures by_history { (A : Agreements) (lists : List Trace) (events : Trace) (s t : State) → ComesInTurn A lists events s t → EndsByHistory A s events t }
+    ensures run { (A : Agreements) (lists : List Trace) (events : Trace) (s t : State) → ComesInTurn A lists events s t
+        → Run A s events t }
+    ensures by_history { (A : Agreements) (lists : List Trace) (events : Trace) (s t : State)
+        → ComesInTurn A lists events s t → EndsByHistory A s events t }
 {}
 
 /// A document that stood as successful stands so after any number of stops.
 pub fn success_stays()
-    ensures { (A : Agreements) (v : Version) (first : ℕ) (before : Trace) (lists : List Trace) (events : Trace) (s t : State) (k : ℕ) → IsCounter first → Run A (empty v first) before s
+    ensures { (A : Agreements) (v : Version) (first : ℕ) (before : Trace) (lists : List Trace) (events : Trace)
+        (s t : State) (k : ℕ) → IsCounter first → Run A (empty v first) before s
         → ComesInTurn A lists events s t → IsSuccessful s k → IsSuccessful t k }
 {}

@@ -38,7 +38,8 @@ pub fn open_tables<D: Disk + Drop>(
     ensures autocommit { IfSome result (λ found. found.in_transaction ≡ false) }
     ensures clean { IfSome result (λ found. HasCleanDisk (file_state found) → AreClean D.Disk files.log files.db) }
     ensures open { IfSome result (λ found. HasCleanDisk (file_state found) → IsTrue (file_state found).is_open) }
-    ensures found { IfSome result (λ found. HasCleanDisk (file_state found) → (layout : Layout) (s : State) → HoldsAs layout (image_of D.Disk files) s → RestsAs layout (file_state found) s) }
+    ensures found { IfSome result (λ found. HasCleanDisk (file_state found) → (layout : Layout) (s : State)
+        → HoldsAs layout (image_of D.Disk files) s → RestsAs layout (file_state found) s) }
 {
     match Connection::open_files(alloc, files, options) {
         Ok(found) => Some(found),
@@ -56,7 +57,8 @@ pub fn open_and_migrate<D: Disk + Drop>(
     requires log { IsTrue (D.Disk.is_usable files.log) }
     requires db { IsTrue (D.Disk.is_usable files.db) }
     ensures clean { IfSome result (λ again. HasCleanDisk (file_state again) → AreClean D.Disk files.log files.db) }
-    ensures migrated { IfSome result (λ again. HasCleanDisk (file_state again) → (A : Agreements) (layout : Layout) (s : State) → HoldsAs layout (image_of D.Disk files) s
+    ensures migrated { IfSome result (λ again. HasCleanDisk (file_state again)
+        → (A : Agreements) (layout : Layout) (s : State) → HoldsAs layout (image_of D.Disk files) s
         → Comes A (marked layout s) s (file_state again)) }
 {
     let Ok(found) = Connection::open_files(alloc, files, options) else {
@@ -86,7 +88,8 @@ fn try_migration<D: Disk + Drop>(
 pub fn migrate_then_stop<D: Crash + Drop>(earlier: Connection<FileStore<D>>) -> StoppedMigration<D>
     requires autocommit { earlier.in_transaction ≡ false }
     ensures clean { AreClean D.Disk result.files.log result.files.db → HasCleanDisk (file_state earlier) }
-    ensures left { AreClean D.Disk result.files.log result.files.db → IsTrue (file_state earlier).is_open → (A : Agreements) (layout : Layout) (s : State) → RestsAs layout (file_state earlier) s
+    ensures left { AreClean D.Disk result.files.log result.files.db → IsTrue (file_state earlier).is_open
+        → (A : Agreements) (layout : Layout) (s : State) → RestsAs layout (file_state earlier) s
         → ∥ AreEither A result.is_answered layout s (image_of D.Disk result.files) ∥₁ }
 {
     let (is_answered, conn) = try_migration(earlier);

@@ -48,7 +48,8 @@ pub fn play_then_stop<D: Crash + Drop>(
     options: Options,
 ) -> Result<Stopped<D>, Memory>
     ensures played { IfOk result (λ r. WasPlayed agreements.now events.items r.said.items station) }
-    ensures comes { IfOk result (λ r. IfSome r.again (λ again. HasCleanDisk (file_state again) → (s : State) → IsHeld (file_state station) s
+    ensures comes { IfOk result (λ r. IfSome r.again (λ again. HasCleanDisk (file_state again) → (s : State)
+        → IsHeld (file_state station) s
         → ∥ Comes agreements.now (trace events.items r.said.items) s (file_state again) ∥₁)) }
 {
     let said = station.play(alloc, agreements, events)?;
@@ -66,9 +67,11 @@ pub fn play_then_close<C: Calls + Drop, S: Start>(
     events: Vec<Event>,
 ) -> Result<Closed<Modelled<C, S>>, Memory>
     ensures played { IfOk result (λ r. WasPlayed agreements.now events.items r.said.items station) }
-    ensures closed { IfOk result (λ r. IfSome r.files (λ files. (file_state station).IsShielded → (s : State) → Rests (file_state station) s
+    ensures closed { IfOk result (λ r. IfSome r.files (λ files. (file_state station).IsShielded → (s : State)
+        → Rests (file_state station) s
         → EndsInFiles agreements.now (trace events.items r.said.items) s station files
-        ⊎ HasCollided (start_of S.Start files.log) (start_of S.Start files.db) (C.Calls.history (calls_of files.log)) (C.Calls.history (calls_of files.db)))) }
+        ⊎ HasCollided (start_of S.Start files.log) (start_of S.Start files.db) (C.Calls.history (calls_of files.log))
+        (C.Calls.history (calls_of files.db)))) }
 {
     let answers = station.play(alloc, agreements, events)?;
     let files = shut(station).ok();

@@ -27,7 +27,8 @@ pub fn station_over<D: Disk + Drop>(
     requires log { IsTrue (D.Disk.is_usable files.log) }
     requires db { IsTrue (D.Disk.is_usable files.db) }
     ensures clean { IfSome result (λ again. HasCleanDisk (file_state again) → AreClean D.Disk files.log files.db) }
-    ensures found { IfSome result (λ again. HasCleanDisk (file_state again) → (s : State) → HoldsState (image_of D.Disk files) s → IsHeld (file_state again) s) }
+    ensures found { IfSome result (λ again. HasCleanDisk (file_state again) → (s : State)
+        → HoldsState (image_of D.Disk files) s → IsHeld (file_state again) s) }
 {
     let Ok(again) = Connection::open_files(alloc, files, options) else {
         return None;
@@ -44,7 +45,8 @@ pub fn reopen<D: Disk + Drop>(
     station: Station<Kept<FileStore<D>>>,
     options: Options,
 ) -> Option<Station<Kept<FileStore<D>>>>
-    ensures same { IfSome result (λ again. HasCleanDisk (file_state again) → (s : State) → Rests (file_state station) s → IsHeld (file_state again) s) }
+    ensures same { IfSome result (λ again. HasCleanDisk (file_state again) → (s : State) → Rests (file_state station) s
+        → IsHeld (file_state again) s) }
 {
     match shut(station) {
         Ok(files) => station_over(alloc, files, options),
@@ -60,7 +62,8 @@ pub fn stop_and_open<D: Crash + Drop>(
     options: Options,
 ) -> Option<Station<Kept<FileStore<D>>>>
     ensures clean { IfSome result (λ again. HasCleanDisk (file_state again) → HasCleanDisk (file_state station)) }
-    ensures found { IfSome result (λ again. HasCleanDisk (file_state again) → (A : Agreements) (told : Trace) (s : State) → MayLeave A told s (file_state station)
+    ensures found { IfSome result (λ again. HasCleanDisk (file_state again)
+        → (A : Agreements) (told : Trace) (s : State) → MayLeave A told s (file_state station)
         → ∥ Comes A told s (file_state again) ∥₁) }
 {
     let mut files = leave(station);

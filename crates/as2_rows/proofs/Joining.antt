@@ -22,7 +22,8 @@ pub as_many : (rows : List Row) (n : ℕ) (c : List ℕ) → rows ≡ map piece_
 as_many rows n c all = ap length all ∙ length-map (pieces n c) piece_shown ∙ length-map-range_with_len (piece_of n c) 0 (piece_count c)
 
 -- the row at place i shows the piece at position i
-pub piece_at_place : (rows : List Row) (n : ℕ) (c : List ℕ) (i : ℕ) (d : Row) → rows ≡ map piece_shown (pieces n c) → i < length rows → get_or rows i d ≡ piece_shown (piece_of n c i)
+pub piece_at_place : (rows : List Row) (n : ℕ) (c : List ℕ) (i : ℕ) (d : Row) → rows ≡ map piece_shown (pieces n c) → i < length rows
+    → get_or rows i d ≡ piece_shown (piece_of n c i)
 piece_at_place rows n c i d all within =
     let few : i < piece_count c = omega (arith, within, as_many rows n c all) in
     let some : i < length (pieces n c) = omega (arith, few, length-map-range_with_len (piece_of n c) 0 (piece_count c)) in
@@ -42,7 +43,8 @@ pub all_taken : (c : List ℕ) (k : ℕ) → piece_count c ≤ k → take (k * p
 all_taken c k enough = take_all (k * piece_size) c (omega (arith, enough, (div_ceil_times (length c) piece_size (omega arith)).0))
 
 -- the bytes that the row at place i shows
-pub bytes_at : (rows : List Row) (n : ℕ) (c : List ℕ) (i : ℕ) (d : Row) → rows ≡ map piece_shown (pieces n c) → i < length rows → column (get_or rows i d) 2 ≡ Blob (piece_bytes c i)
+pub bytes_at : (rows : List Row) (n : ℕ) (c : List ℕ) (i : ℕ) (d : Row) → rows ≡ map piece_shown (pieces n c) → i < length rows
+    → column (get_or rows i d) 2 ≡ Blob (piece_bytes c i)
 bytes_at rows n c i d all within = ap (λ r. column r 2) (piece_at_place rows n c i d all within)
 
 -- equal values of bytes have equal bytes
@@ -50,7 +52,8 @@ same_bytes : (a b : List ℕ) → Blob a ≡ Blob b → a ≡ b
 same_bytes a b e = cc
 
 -- the bytes that were read of the row at place i
-pub read_here : (rows : List Row) (n : ℕ) (c : List ℕ) (i : ℕ) (d : Row) (p : Piece) → rows ≡ map piece_shown (pieces n c) → i < length rows → piece_shown p ≡ get_or rows i d → p.bytes ≡ piece_bytes c i
+pub read_here : (rows : List Row) (n : ℕ) (c : List ℕ) (i : ℕ) (d : Row) (p : Piece) → rows ≡ map piece_shown (pieces n c) → i < length rows
+    → piece_shown p ≡ get_or rows i d → p.bytes ≡ piece_bytes c i
 read_here rows n c i d p all within is = same_bytes p.bytes (piece_bytes c i) (ap (λ r. column r 2) is ∙ bytes_at rows n c i d all within)
 
 -- ---- what was joined
@@ -67,7 +70,8 @@ count_is content size i long needed =
     omega (arith, long, needed, bounds.0, bounds.1)
 
 -- the row at place i is the piece behind what was joined
-pub piece_here : (rows : List Row) (n size : ℕ) (c content : List ℕ) (i : ℕ) (d : Row) → Joined rows n size content i → rows ≡ map piece_shown (pieces n c) → i < length rows
+pub piece_here : (rows : List Row) (n size : ℕ) (c content : List ℕ) (i : ℕ) (d : Row) → Joined rows n size content i → rows ≡ map piece_shown (pieces n c)
+    → i < length rows
     → get_or rows i d ≡ piece_shown (record { number = n; position = piece_count content; bytes = piece_bytes c i })
 piece_here rows n size c content i d h all within =
     piece_at_place rows n c i d all within ∙ ap (λ k. piece_shown (record { number = n; position = k; bytes = piece_bytes c i })) (sym (count_is content size i h.long h.needed))
@@ -120,7 +124,8 @@ joined_more rows n size content more i d h within row some long =
       needed = omega (arith, whole_ones, long, some);
     }
 
-pub joined_all : (rows : List Row) (n size : ℕ) (content : List ℕ) (i : ℕ) → Joined rows n size content i → length rows ≤ i → rows ≡ map piece_shown (pieces n content)
+pub joined_all : (rows : List Row) (n size : ℕ) (content : List ℕ) (i : ℕ) → Joined rows n size content i → length rows ≤ i
+    → rows ≡ map piece_shown (pieces n content)
 joined_all rows n size content i h past = sym (take_all i rows past) ∙ h.shown
 
 -- the lesser of two, as code finds it
@@ -128,7 +133,8 @@ pub min_lesser : (m n : ℕ) → ord_min nat_cmp m n ≡ min m n
 min_lesser m n = grind (arith, nat_tests)
 
 -- the piece at place i of a content of that size is as long as the test wants it
-pub as_long : (rows : List Row) (n size : ℕ) (c content : List ℕ) (i : ℕ) → rows ≡ map piece_shown (pieces n c) → length c ≡ size → Joined rows n size content i → i < length rows
+pub as_long : (rows : List Row) (n size : ℕ) (c content : List ℕ) (i : ℕ) → rows ≡ map piece_shown (pieces n c) → length c ≡ size
+    → Joined rows n size content i → i < length rows
     → (0 < length (piece_bytes c i)) × (length (piece_bytes c i) ≡ min piece_size (size - length content))
 as_long rows n size c content i all long h within =
     let few = as_many rows n c all in
@@ -139,11 +145,13 @@ as_long rows n size c content i all long h within =
 
 -- ---- positions rise
 
-above : (n b a k : ℕ) (content : List ℕ) → b < a → AllByRecursion (λ (q : Piece). value_cmp (whole b) (whole q.position) ≡ Less) (map (piece_of n content) (range_with_len a k))
+above : (n b a k : ℕ) (content : List ℕ) → b < a
+    → AllByRecursion (λ (q : Piece). value_cmp (whole b) (whole q.position) ≡ Less) (map (piece_of n content) (range_with_len a k))
 above n b a zero content less = tt
 above n b a (suc k) content less = (value_cmp-Int (pos b) (pos a) ∙ grind (arith, ints, nat_tests), above n b (a + 1) k content (omega arith))
 
-rise_from : (n a k : ℕ) (content : List ℕ) → IsAscending (λ (p q : Piece). value_cmp (whole p.position) (whole q.position) ≡ Less) (map (piece_of n content) (range_with_len a k))
+rise_from : (n a k : ℕ) (content : List ℕ)
+    → IsAscending (λ (p q : Piece). value_cmp (whole p.position) (whole q.position) ≡ Less) (map (piece_of n content) (range_with_len a k))
 rise_from n a zero content = tt
 rise_from n a (suc k) content = (above n a (a + 1) k content (omega arith), rise_from n (a + 1) k content)
 

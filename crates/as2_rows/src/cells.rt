@@ -124,7 +124,8 @@ pub fn identifier_of(
 ) -> Result<MessageId, RowFault>
     ensures read { IfOk result (λ t. owned value.entry ≡ Blob t) }
     ensures key { IfOk result (λ t. owned key.entry ≡ Blob (value_of t)) }
-    ensures taken { IfErr result (λ f. (t : List ℕ) → IsIdentifier t → owned key.entry ≡ Blob (value_of t) → owned value.entry ≡ Blob t → f ≡ fault.Memory) }
+    ensures taken { IfErr result (λ f. (t : List ℕ) → IsIdentifier t → owned key.entry ≡ Blob (value_of t)
+        → owned value.entry ≡ Blob t → f ≡ fault.Memory) }
 {
     if blob(key)? != without_brackets(blob(value)?) {
         return Err(RowFault::NotAnEntry);
@@ -143,7 +144,8 @@ pub fn moment(value: ValueRef<'_>) -> Result<Moment, RowFault>
 /// The address that a receipt is sent to.
 fn address(alloc: Global, value: ValueRef<'_>) -> Result<Address, RowFault>
     ensures read { IfOk result (λ url. owned value.entry ≡ Blob url) }
-    ensures taken { IfErr result (λ f. (url : List ℕ) → IsTrue (is_some (url_of url)) → owned value.entry ≡ Blob url → f ≡ fault.Memory) }
+    ensures taken { IfErr result (λ f. (url : List ℕ) → IsTrue (is_some (url_of url)) → owned value.entry ≡ Blob url
+        → f ≡ fault.Memory) }
 {
     let text = blob(value)?;
     if Url::parse(text).is_none() {
@@ -160,8 +162,10 @@ pub fn how(
 ) -> Result<ReceiptDelivery, RowFault>
     ensures code { IfOk result (λ h. owned code.entry ≡ whole (how_code h)) }
     ensures url { IfOk result (λ h. owned url.entry ≡ url_value h) }
-    ensures read { IfOk result (λ h. (g : HowOf) → owned code.entry ≡ whole (how_code g) → owned url.entry ≡ url_value g → h ≡ g) }
-    ensures taken { IfErr result (λ f. (g : HowOf) → IsAddressed g → owned code.entry ≡ whole (how_code g) → owned url.entry ≡ url_value g → f ≡ fault.Memory) }
+    ensures read { IfOk result (λ h. (g : HowOf) → owned code.entry ≡ whole (how_code g) → owned url.entry ≡ url_value g
+        → h ≡ g) }
+    ensures taken { IfErr result (λ f. (g : HowOf) → IsAddressed g → owned code.entry ≡ whole (how_code g)
+        → owned url.entry ≡ url_value g → f ≡ fault.Memory) }
 {
     match (integer(code)?, url) {
         (1, ValueRef::Null) => Ok(ReceiptDelivery::NoReceipt),
@@ -186,7 +190,8 @@ fn alg(name: &[u8]) -> Option<Alg>
 pub fn mic(digest: ValueRef<'_>, text: ValueRef<'_>) -> Result<Option<ReportMic>, RowFault>
     ensures digest { IfOk result (λ m. owned digest.entry ≡ digest_value m) }
     ensures text { IfOk result (λ m. owned text.entry ≡ mic_value m) }
-    ensures read { IfOk result (λ m. (n : Option Mic) → owned digest.entry ≡ digest_value n → owned text.entry ≡ mic_value n → m ≡ n) }
+    ensures read { IfOk result (λ m. (n : Option Mic) → owned digest.entry ≡ digest_value n
+        → owned text.entry ≡ mic_value n → m ≡ n) }
     ensures taken { IfErr result (λ f. (n : Option Mic) → IfSome n (λ mic. IsMicText mic.text)
         → owned digest.entry ≡ digest_value n → owned text.entry ≡ mic_value n → f ≡ fault.Memory) }
 {

@@ -14,8 +14,10 @@ const COLUMNS: usize = 3;
 
 /// The bytes of the piece of that number and position, of a row that shows number, position and bytes.
 fn piece_in<'a>(row: &'a Row, number: u64, position: u64) -> Result<&'a [u8], RowFault>
-    ensures shown { IfOk result (λ bytes. row.now ≡ piece_shown (record { number = number; position = position; bytes = bytes.now })) }
-    ensures taken { IfErr result (λ f. (bytes : List ℕ) → row.now ≡ piece_shown (record { number = number; position = position; bytes = bytes }) → f ≡ fault.Memory) }
+    ensures shown { IfOk result (λ bytes. row.now
+        ≡ piece_shown (record { number = number; position = position; bytes = bytes.now })) }
+    ensures taken { IfErr result (λ f. (bytes : List ℕ)
+        → row.now ≡ piece_shown (record { number = number; position = position; bytes = bytes }) → f ≡ fault.Memory) }
 {
     if row.column_count() != COLUMNS
         || whole(column(row, 0))? != number
@@ -31,8 +33,10 @@ fn piece_in<'a>(row: &'a Row, number: u64, position: u64) -> Result<&'a [u8], Ro
 pub fn content_in(alloc: Global, rows: &[Row], number: u64, size: u64) -> Result<Pieces, RowFault>
     ensures shown { IfOk result (λ content. rows.now ≡ map piece_shown (pieces number content)) }
     ensures size { IfOk result (λ content. length content ≡ size) }
-    ensures read { IfOk result (λ content. (n : ℕ) (c : List ℕ) → rows.now ≡ map piece_shown (pieces n c) → content ≡ c) }
-    ensures taken { IfErr result (λ f. (c : List ℕ) → length c ≡ size → rows.now ≡ map piece_shown (pieces number c) → f ≡ fault.Memory) }
+    ensures read { IfOk result (λ content. (n : ℕ) (c : List ℕ) → rows.now ≡ map piece_shown (pieces n c)
+        → content ≡ c) }
+    ensures taken { IfErr result (λ f. (c : List ℕ) → length c ≡ size → rows.now ≡ map piece_shown (pieces number c)
+        → f ≡ fault.Memory) }
 {
     let mut content = Pieces::new(alloc);
     'rows: for row in rows {

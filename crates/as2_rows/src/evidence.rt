@@ -27,8 +27,10 @@ impl EvidenceRow {
     /// Reads a row that shows all columns of the table, in their order.
     pub fn read(alloc: Global, row: &Row) -> Result<EvidenceRow, RowFault>
         ensures shown { IfOk result (λ r. row.now ≡ evidence_shown r.number r.evidence) }
-        ensures read { IfOk result (λ r. (number : ℕ) (e : Receipt) → row.now ≡ evidence_shown number e → r ≡ evidence_in number e) }
-        ensures taken { IfErr result (λ f. (number : ℕ) (e : Receipt) → e.moment ≤ last_moment → row.now ≡ evidence_shown number e → f ≡ fault.Memory) }
+        ensures read { IfOk result (λ r. (number : ℕ) (e : Receipt) → row.now ≡ evidence_shown number e
+            → r ≡ evidence_in number e) }
+        ensures taken { IfErr result (λ f. (number : ℕ) (e : Receipt) → e.moment ≤ last_moment
+            → row.now ≡ evidence_shown number e → f ≡ fault.Memory) }
     {
         if row.column_count() != COLUMNS {
             return Err(RowFault::NotAnEntry);

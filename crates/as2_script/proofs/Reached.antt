@@ -18,7 +18,8 @@ some_is s t e = cc
 pub reached : (c : Connected) (s : State) → Reaches c (Some s) → Rests c s
 reached c s it = subst (λ (t : State). Rests c t) (sym (some_is s it.state it.is)) it.rests
 
-pub begins_new : (first : ℕ) (r : Result (Held MemStore) OpenFault) → IfOk r (λ c. IsTrue (state over_memory c).is_open) → IfOk r (λ c. Rests (state over_memory c) (empty_store first)) → IfErr r MayCome
+pub begins_new : (first : ℕ) (r : Result (Held MemStore) OpenFault) → IfOk r (λ c. IsTrue (state over_memory c).is_open)
+    → IfOk r (λ c. Rests (state over_memory c) (empty_store first)) → IfErr r MayCome
     → BeginsNew (λ (c : Held MemStore). standing (state over_memory c)) first r
 begins_new first (Ok c) is_open fresh fault = (memory_is_clean, is_open, fresh)
 begins_new first (Err f) is_open fresh fault = fault

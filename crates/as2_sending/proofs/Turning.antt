@@ -47,28 +47,33 @@ outcome_asks A m (Document n) got = refl
 
 -- ---- a begin
 
-pub begins_to : {M : Medium} (A : Agreements) (m : ℕ) (s : State) (what : Next) (c : Standing M) (job : Job) (t : State) → next s m ≡ Some what → step A s (begin_of what m) ≡ Some (Handed job, t) → c.Rests t → IsSafe c t → BeginsTo A m s what c (Ok job)
+pub begins_to : {M : Medium} (A : Agreements) (m : ℕ) (s : State) (what : Next) (c : Standing M) (job : Job) (t : State) → next s m ≡ Some what
+    → step A s (begin_of what m) ≡ Some (Handed job, t) → c.Rests t → IsSafe c t → BeginsTo A m s what c (Ok job)
 begins_to A m s what c job t is h rests safe = (t, record { is_next = is; begun = h }, rests, safe)
 
-pub begin_refused : {M : Medium} (A : Agreements) (m : ℕ) (s : State) (what : Next) (c : Standing M) (reason : Refusal) (t : State) → next s m ≡ Some what → step A s (begin_of what m) ≡ Some (Refused reason, t) → c.Rests t → BeginsTo A m s what c (Err (sent.Refused reason))
+pub begin_refused : {M : Medium} (A : Agreements) (m : ℕ) (s : State) (what : Next) (c : Standing M) (reason : Refusal) (t : State) → next s m ≡ Some what
+    → step A s (begin_of what m) ≡ Some (Refused reason, t) → c.Rests t → BeginsTo A m s what c (Err (sent.Refused reason))
 begin_refused A m s what c reason t is h rests = (_, t, (at_begin_refused what is h refl, refl), rests, refl)
 
 -- a fault that is not Full
 may_be : (f : StoreFault) → (f ≡ Full → ⊥) → (f ≡ Full) ⊎ (may_come f ≡ true) → may_come f ≡ true
 may_be f none either = elim either [ inl full ↦ absurd (none full) | inr may ↦ may ]
 
-pub begin_fails : {M : Medium} (A : Agreements) (m : ℕ) (s : State) (what : Next) (c : Standing M) (f : StoreFault) → next s m ≡ Some what → c.Rests s × (f ≡ Full → step A s (begin_of what m) ≡ None) → (f ≡ Full) ⊎ (may_come f ≡ true)
+pub begin_fails : {M : Medium} (A : Agreements) (m : ℕ) (s : State) (what : Next) (c : Standing M) (f : StoreFault) → next s m ≡ Some what → c.Rests s
+    × (f ≡ Full → step A s (begin_of what m) ≡ None) → (f ≡ Full) ⊎ (may_come f ≡ true)
     → BeginsTo A m s what c (Err (sent.Failed f))
 begin_fails A m s what c f is left either = (_, s, (at_begin_failed what is refl refl, may_be f (λ full. begin_answered A m s what (left.1 full)) either, refl), left.0, refl)
 
 -- ---- an outcome
 
 -- what went over the link in a try
-pub one_exchange : (what : Next) (job : Job) (got : TryAnswer) (m : ℕ) → exchange_of (Answered (Handed job)) (outcome_of what got m) ≡ record { job = job; got = got } ∷ []
+pub one_exchange : (what : Next) (job : Job) (got : TryAnswer) (m : ℕ)
+    → exchange_of (Answered (Handed job)) (outcome_of what got m) ≡ record { job = job; got = got } ∷ []
 one_exchange (Receipt n) job got m = refl
 one_exchange (Document n) job got m = refl
 
-one_made : (what : Next) (job : Job) (got : TryAnswer) (m : ℕ) → exchange_of (Answered (Handed job)) (outcome_of what got m) ++ [] ≡ record { job = job; got = got } ∷ []
+one_made : (what : Next) (job : Job) (got : TryAnswer) (m : ℕ)
+    → exchange_of (Answered (Handed job)) (outcome_of what got m) ++ [] ≡ record { job = job; got = got } ∷ []
 one_made what job got m = append-nil (exchange_of (Answered (Handed job)) (outcome_of what got m)) ∙ one_exchange what job got m
 
 pub closes_to : {M : Medium} (A : Agreements) (m : ℕ) (s : State) (what : Next) (got : TryAnswer) (job : Job) (mid : State) (c : Standing M) (became : Became) (t : State) → step A mid (outcome_of what got m) ≡ Some (answer_of became, t) → c.Rests t → IsSafe c t
@@ -80,26 +85,30 @@ pub outcome_refused : {M : Medium} (A : Agreements) (m : ℕ) (s : State) (what 
 outcome_refused A m s what got job mid c reason t b h rests = (_, t, (at_outcome_refused what job got mid b h refl, refl), rests, one_made what job got m)
 
 pub outcome_fails : {M : Medium} (A : Agreements) (m : ℕ) (s : State) (what : Next) (got : TryAnswer) (job : Job) (mid : State) (c : Standing M) (f : StoreFault) → Begins A m s what job mid
-    → c.Rests mid × (f ≡ Full → step A mid (outcome_of what got m) ≡ None) → (f ≡ Full) ⊎ (may_come f ≡ true) → ClosesTo A m s what (record { job = job; got = got }) mid c (Err (sent.Failed f))
+    → c.Rests mid × (f ≡ Full → step A mid (outcome_of what got m) ≡ None) → (f ≡ Full) ⊎ (may_come f ≡ true)
+    → ClosesTo A m s what (record { job = job; got = got }) mid c (Err (sent.Failed f))
 outcome_fails A m s what got job mid c f b left either =
     (_, mid, (at_outcome_failed what job got b refl, may_be f (λ full. outcome_answered A m mid what got (left.1 full)) either, refl), left.0, one_made what job got m)
 
 -- ---- a turn
 
 -- it ends as it begins, or with its outcome: nothing is written, and nothing hinted
-pub begin_ends : {M : Medium} (U : Type 0) (A : Agreements) (m : ℕ) (s : State) (what : Next) (c : Standing M) (now : Option (List ℕ)) (Seen : Text → List Exchange → Type 0) (end : Sent) → Seen [] [] → BeginsTo A m s what c (Err end) → TurnsTo {U = U} A m s c now now Seen (Err end)
+pub begin_ends : {M : Medium} (U : Type 0) (A : Agreements) (m : ℕ) (s : State) (what : Next) (c : Standing M) (now : Option (List ℕ)) (Seen : Text
+    → List Exchange → Type 0) (end : Sent) → Seen [] [] → BeginsTo A m s what c (Err end) → TurnsTo {U = U} A m s c now now Seen (Err end)
 begin_ends U A m s what c now Seen end none w = (w.0, w.1, [], w.2, w.3, Appends-nil now, subst (Seen []) (sym w.4) none)
 
 pub close_ends : {M : Medium} (U : Type 0) (A : Agreements) (m : ℕ) (s : State) (what : Next) (x : Exchange) (mid : State) (c : Standing M) (now : Option (List ℕ)) (Seen : Text → List Exchange → Type 0) (end : Sent) → Seen [] (x ∷ []) → ClosesTo A m s what x mid c (Err end) → TurnsTo {U = U} A m s c now now Seen (Err end)
 close_ends U A m s what x mid c now Seen end made w = (w.0, w.1, [], w.2, w.3, Appends-nil now, subst (Seen []) (sym w.4) made)
 
 pub turn_told : {M : Medium} (U : Type 0) (A : Agreements) (m : ℕ) (s : State) (what : Next) (got : TryAnswer) (fault : LinkFault) (job : Job) (mid : State) (c : Standing M) (before after : Option (List ℕ)) (Seen : Text → List Exchange → Type 0) (became : Became) (u : U)
-    → Begins A m s what job mid → ClosesTo A m s what (record { job = job; got = got }) mid c (Ok became) → Appends before after (line what became) → Seen (hint_if what became (why_of got fault)) (record { job = job; got = got } ∷ []) → TurnsTo {U = U} A m s c before after Seen (Ok u)
+    → Begins A m s what job mid → ClosesTo A m s what (record { job = job; got = got }) mid c (Ok became) → Appends before after (line what became)
+    → Seen (hint_if what became (why_of got fault)) (record { job = job; got = got } ∷ []) → TurnsTo {U = U} A m s c before after Seen (Ok u)
 turn_told U A m s what got fault job mid c before after Seen became u b w written seen =
     (record { what = what; job = job; got = got; fault = fault; became = became }, w.0, record { mid = mid; begins = b; closes = w.1 }, w.2, written, seen)
 
 pub turn_untold : {M : Medium} (U : Type 0) (A : Agreements) (m : ℕ) (s : State) (what : Next) (got : TryAnswer) (fault : LinkFault) (job : Job) (mid : State) (c : Standing M) (before after : Option (List ℕ)) (Seen : Text → List Exchange → Type 0) (became : Became) (part missing : Text)
-    → Begins A m s what job mid → ClosesTo A m s what (record { job = job; got = got }) mid c (Ok became) → line what became ≡ part ++ missing → Appends before after part → Seen [] (record { job = job; got = got } ∷ [])
+    → Begins A m s what job mid → ClosesTo A m s what (record { job = job; got = got }) mid c (Ok became) → line what became ≡ part ++ missing
+    → Appends before after part → Seen [] (record { job = job; got = got } ∷ [])
     → TurnsTo {U = U} A m s c before after Seen (Err sent.Unwritten)
 turn_untold U A m s what got fault job mid c before after Seen became part missing b w cut written made = (
   _,
@@ -111,10 +120,12 @@ turn_untold U A m s what got fault job mid c before after Seen became part missi
   subst (Seen []) (sym (one_made what job got m)) made,
 )
 
-pub nothing_next : {M : Medium} (U : Type 0) (A : Agreements) (m : ℕ) (s : State) (c : Standing M) (now : Option (List ℕ)) (Seen : Text → List Exchange → Type 0) → Seen [] [] → next s m ≡ None → c.Rests s → TurnsTo {U = U} A m s c now now Seen (Err sent.Done)
+pub nothing_next : {M : Medium} (U : Type 0) (A : Agreements) (m : ℕ) (s : State) (c : Standing M) (now : Option (List ℕ)) (Seen : Text → List Exchange
+    → Type 0) → Seen [] [] → next s m ≡ None → c.Rests s → TurnsTo {U = U} A m s c now now Seen (Err sent.Done)
 nothing_next U A m s c now Seen nothing none rests = ([], s, [], (none, refl, refl, refl), rests, Appends-nil now, nothing)
 
-pub next_fails : {M : Medium} (U : Type 0) (A : Agreements) (m : ℕ) (s : State) (c : Standing M) (now : Option (List ℕ)) (Seen : Text → List Exchange → Type 0) (f : StoreFault) → Seen [] [] → may_come f ≡ true → c.Rests s → TurnsTo {U = U} A m s c now now Seen (Err (sent.Failed f))
+pub next_fails : {M : Medium} (U : Type 0) (A : Agreements) (m : ℕ) (s : State) (c : Standing M) (now : Option (List ℕ)) (Seen : Text → List Exchange
+    → Type 0) (f : StoreFault) → Seen [] [] → may_come f ≡ true → c.Rests s → TurnsTo {U = U} A m s c now now Seen (Err (sent.Failed f))
 next_fails U A m s c now Seen f none may rests = ([], s, [], (at_next_failed refl refl, may, refl), rests, Appends-nil now, none)
 
 -- ---- runs
@@ -122,7 +133,8 @@ next_fails U A m s c now Seen f none may rests = ([], s, [], (at_next_failed ref
 not_full : (f : StoreFault) → may_come f ≡ true → f ≡ Full → ⊥
 not_full f may full = false≢true (subst (λ (x : StoreFault). may_come x ≡ true) full may)
 
-all_run : (A : Agreements) (m : ℕ) (s mid t : State) (done : List Turn) (last : Trace) → TakesAll A m s done mid → Run A mid last t → Run A s (events m done ++ last) t
+all_run : (A : Agreements) (m : ℕ) (s mid t : State) (done : List Turn) (last : Trace) → TakesAll A m s done mid → Run A mid last t
+    → Run A s (events m done ++ last) t
 all_run A m s mid t [] last all run = subst (λ (x : State). Run A x last t) all run
 all_run A m s mid t (x ∷ done) last all run = (all.1.mid, all.1.begins.begun, (all.0, all.1.closes, all_run A m all.0 mid t done last all.2 run))
 
@@ -152,10 +164,12 @@ pub record SentSoFar {M : Medium} (A : Agreements) (m : ℕ) (s : State) (c : St
   pub written : Appends before now (lines (events m done))
   pub seen : Seen (hints done) (map exchanged_by done)
 
-pub sends_first : {M : Medium} (A : Agreements) (m : ℕ) (s : State) (c : Standing M) (now : Option (List ℕ)) (Seen : Text → List Exchange → Type 0) → Seen [] [] → c.Rests s → SentSoFar A m s c now now Seen
+pub sends_first : {M : Medium} (A : Agreements) (m : ℕ) (s : State) (c : Standing M) (now : Option (List ℕ)) (Seen : Text → List Exchange → Type 0)
+    → Seen [] [] → c.Rests s → SentSoFar A m s c now now Seen
 sends_first A m s c now Seen none rests = record { done = []; mid = s; all = refl; rests = rests; written = Appends-nil now; seen = none }
 
-all_more : (A : Agreements) (m : ℕ) (s mid t : State) (done : List Turn) (x : Turn) → TakesAll A m s done mid → Takes A m mid x t → TakesAll A m s (done ++ x ∷ []) t
+all_more : (A : Agreements) (m : ℕ) (s mid t : State) (done : List Turn) (x : Turn) → TakesAll A m s done mid → Takes A m mid x t
+    → TakesAll A m s (done ++ x ∷ []) t
 all_more A m s mid t [] x all takes = (t, subst (λ (y : State). Takes A m y x t) all takes, refl)
 all_more A m s mid t (y ∷ done) x all takes = (all.0, all.1, all_more A m all.0 mid t done x all.2 takes)
 
@@ -202,13 +216,15 @@ abbrev pub Joins : (Text → List Exchange → Type 0) → (Text → List Exchan
 Joins Before Behind Both = (a b : Text) (made more : List Exchange) → Before a made → Behind b more → Both (a ++ b) (made ++ more)
 
 module _ {L : Type 0} (answers : L → Job → TryAnswer → L → Type 0) where
-  exchanges_more : (first second third : L) (made more : List Exchange) → Exchanges answers first made second → Exchanges answers second more third → Exchanges answers first (made ++ more) third
+  exchanges_more : (first second third : L) (made more : List Exchange) → Exchanges answers first made second → Exchanges answers second more third
+      → Exchanges answers first (made ++ more) third
   exchanges_more first second third [] more same then = subst (λ (l : L). Exchanges answers l more third) same then
   exchanges_more first second third (x ∷ made) more one then = (one.0, one.1, exchanges_more one.0 second third made more one.2 then)
 
   -- texts that were written where something holds, and what went over links
   pub joined : (P Q R : Type 0) (before mid after : Option (List ℕ)) (first second third : L) → (R → P × Q)
-      → Joins (λ text made. (P → Appends before mid text) × Exchanges answers first made second) (λ text made. (Q → Appends mid after text) × Exchanges answers second made third)
+      → Joins (λ text made. (P → Appends before mid text) × Exchanges answers first made second) (λ text made. (Q → Appends mid after text)
+      × Exchanges answers second made third)
       (λ text made. (R → Appends before after text) × Exchanges answers first made third)
   joined P Q R before mid after first second third parts a b made more one other = (
     λ r. let both = parts r in Appends-trans before mid after a b (one.0 both.0) (other.0 both.1),
@@ -227,7 +243,8 @@ module _ {M : Medium} (U : Type 0) (A : Agreements) (m : ℕ) (s : State) (c d :
         (subst (λ (text : Text). Then text (map exchanged_by w.done ++ exchanged_by x.0 ∷ [])) (sym (hints_more w.done x.0)) (joins (hints w.done) (hint_of x.0) (map exchanged_by w.done) (exchanged_by x.0 ∷ []) w.seen x.5));
   }
 
-  pub sends_ended : (end : Sent) (w : SentSoFar A m s c before now So) → TurnsTo {U = U} A m w.mid d now later Behind (Err end) → (t : State) × d.Rests t × Sends A m s t before later Then end
+  pub sends_ended : (end : Sent) (w : SentSoFar A m s c before now So) → TurnsTo {U = U} A m w.mid d now later Behind (Err end) → (t : State) × d.Rests t
+      × Sends A m s t before later Then end
   sends_ended end w x = (
     x.1,
     x.4,
@@ -247,7 +264,8 @@ module _ {M : Medium} (U : Type 0) (A : Agreements) (m : ℕ) (s : State) (c d :
   )
 
 -- it is given up, as if what is next couldn't be told
-pub sends_given_up : {M : Medium} (A : Agreements) (m : ℕ) (s : State) (c : Standing M) (before now : Option (List ℕ)) (Seen : Text → List Exchange → Type 0) (f : StoreFault) → may_come f ≡ true → SentSoFar A m s c before now Seen
+pub sends_given_up : {M : Medium} (A : Agreements) (m : ℕ) (s : State) (c : Standing M) (before now : Option (List ℕ)) (Seen : Text → List Exchange
+    → Type 0) (f : StoreFault) → may_come f ≡ true → SentSoFar A m s c before now Seen
     → (t : State) × c.Rests t × Sends A m s t before now Seen (sent.Failed f)
 sends_given_up A m s c before now Seen f may w =
     sends_ended ℕ A m s c c before now now Seen (λ text made. (text ≡ []) × (made ≡ [])) Seen

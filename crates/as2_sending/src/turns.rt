@@ -30,7 +30,8 @@ fn begin<K: Records>(
     what: Next,
 ) -> Result<Job, Sent>
     ensures clean { (K.shows station.new).IsClean → (K.shows station.old).IsClean }
-    ensures begun { (K.shows station.new).IsClean → (s : State) → (K.shows station.old).Rests s → next s moment ≡ Some what
+    ensures begun { (K.shows station.new).IsClean → (s : State) → (K.shows station.old).Rests s
+        → next s moment ≡ Some what
         → BeginsTo agreements.now moment s what (K.shows station.new) result }
     ensures written { IfErr result (λ end. end ≢ Unwritten) }
 {
@@ -51,7 +52,8 @@ fn close<K: Records>(
     got: TryAnswer,
 ) -> Result<Became, Sent>
     ensures clean { (K.shows station.new).IsClean → (K.shows station.old).IsClean }
-    ensures closed { (K.shows station.new).IsClean → (s mid : State) (job : HandedJob) → Begins agreements.now moment s what job mid → (K.shows station.old).Rests mid
+    ensures closed { (K.shows station.new).IsClean → (s mid : State) (job : HandedJob)
+        → Begins agreements.now moment s what job mid → (K.shows station.old).Rests mid
         → ClosesTo agreements.now moment s what (record { job = job; got = got }) mid (K.shows station.new) result }
     ensures written { IfErr result (λ end. end ≢ Unwritten) }
 {
@@ -75,7 +77,8 @@ fn turn<K: Records, L: Links, W: Sink, E: Write>(
     hints: &mut E,
 ) -> Result<bool, Sent>
     ensures clean { (K.shows station.new).IsClean → (K.shows station.old).IsClean }
-    ensures turned { (K.shows station.new).IsClean → (s : State) → (K.shows station.old).Rests s → next s moment ≡ Some what
+    ensures turned { (K.shows station.new).IsClean → (s : State) → (K.shows station.old).Rests s
+        → next s moment ≡ Some what
         → TurnsTo agreements.now moment s (K.shows station.new) (W.written output.old) (W.written output.new)
         (λ text made. (IfOk result (λ told. told ≡ true) → Appends (E.contents hints.old) (E.contents hints.new) text)
         × Exchanges L.answers links.old made links.new) result }

@@ -7,7 +7,8 @@ const HTTP_PORT: u16 = 80;
 
 /// The host and the port that an authority spells; None where what stands behind its colon is no port.
 pub fn host_and_port(authority: &str) -> Option<(&str, u16)>
-    ensures named { IfSome result (λ named. SpellsNoPort authority.now named.0.now named.1 ⊎ SpellsPort authority.now named.0.now named.1) }
+    ensures named { IfSome result (λ named. SpellsNoPort authority.now named.0.now named.1
+        ⊎ SpellsPort authority.now named.0.now named.1) }
     ensures none { IfNone result (SpellsNeither authority.now) }
 {
     let Some((host, port)) = authority.split_once(':') else {

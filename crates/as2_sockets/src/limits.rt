@@ -33,7 +33,8 @@ impl Limits {
     /// How long the next wait may last, so long after the connection began. None where nothing is left: never a wait of no
     /// length, which a socket takes for one without an end.
     pub fn left(&self, elapsed: Duration) -> Option<Duration>
-        ensures { option_map as_nanos result ≡ wait_left (as_nanos self.now.wait) (as_nanos self.now.whole) (as_nanos elapsed) }
+        ensures { option_map as_nanos result
+            ≡ wait_left (as_nanos self.now.wait) (as_nanos self.now.whole) (as_nanos elapsed) }
     {
         let left = self.whole.saturating_sub(elapsed);
         let wait = if left < self.wait { left } else { self.wait };

@@ -23,7 +23,8 @@ module _ {E : Type 0} (A : Agreements) (organization partner : Text) (e : E) (ac
   pub refused_agreed : (reason : Refusal) → agreed_partner A organization partner ≡ Err reason → agreed A organization partner e act ≡ (Refused reason, e)
   refused_agreed reason is = by (is_organization A organization) (partner_of A partner) is
     where
-      by : (ours : Bool) (p : Option Partner) → (if not ours then Err UnknownOrganization else known p) ≡ Err reason → (if not ours then (Refused UnknownOrganization, e) else option_map_or act p (Refused UnknownPartner, e)) ≡ (Refused reason, e)
+      by : (ours : Bool) (p : Option Partner) → (if not ours then Err UnknownOrganization else known p) ≡ Err reason
+          → (if not ours then (Refused UnknownOrganization, e) else option_map_or act p (Refused UnknownPartner, e)) ≡ (Refused reason, e)
       by false p is = let same : UnknownOrganization ≡ reason = cc in ap (λ r. (Refused r, e)) same
       by true None is = let same : UnknownPartner ≡ reason = cc in ap (λ r. (Refused r, e)) same
       by true (Some p) is = absurd cc
@@ -31,7 +32,8 @@ module _ {E : Type 0} (A : Agreements) (organization partner : Text) (e : E) (ac
   pub acts_agreed : (p : Partner) → agreed_partner A organization partner ≡ Ok p → agreed A organization partner e act ≡ act p
   acts_agreed p is = by (is_organization A organization) (partner_of A partner) is
     where
-      by : (ours : Bool) (q : Option Partner) → (if not ours then Err UnknownOrganization else known q) ≡ Ok p → (if not ours then (Refused UnknownOrganization, e) else option_map_or act q (Refused UnknownPartner, e)) ≡ act p
+      by : (ours : Bool) (q : Option Partner) → (if not ours then Err UnknownOrganization else known q) ≡ Ok p
+          → (if not ours then (Refused UnknownOrganization, e) else option_map_or act q (Refused UnknownPartner, e)) ≡ act p
       by false q is = absurd cc
       by true None is = absurd cc
       by true (Some q) is = let same : q ≡ p = cc in ap act same
@@ -58,12 +60,14 @@ pub numbered : {E : Type 0} (number : E → ℕ) (n : ℕ) (ds : List E) (d : E)
 numbered number n [] d found = absurd cc
 numbered {E} number n (x ∷ ds) d found = go (number x == n) refl found (numbered number n ds d)
   where
-    go : (t : Bool) → (number x == n) ≡ t → cond t (Some x) (find (λ y. number y == n) ds) ≡ Some d → (find (λ y. number y == n) ds ≡ Some d → number d ≡ n) → number d ≡ n
+    go : (t : Bool) → (number x == n) ≡ t → cond t (Some x) (find (λ y. number y == n) ds) ≡ Some d → (find (λ y. number y == n) ds ≡ Some d → number d ≡ n)
+        → number d ≡ n
     go true is here later = let same : x ≡ d = cc in let it : number x ≡ n = grind (arith, nat_tests) in ap (λ (y : E). number y) (sym same) ∙ it
     go false is here later = later here
 
 -- an act that does the same to it
-pub acts_alike : (s : State) (d : OutEntry) → IsCounted s → document s d.number ≡ Some d → (act other : OutEntry → Answer × OutEntry) → act d ≡ other d → on_document s d.number act ≡ on_document s d.number other
+pub acts_alike : (s : State) (d : OutEntry) → IsCounted s → document s d.number ≡ Some d → (act other : OutEntry → Answer × OutEntry) → act d ≡ other d
+    → on_document s d.number act ≡ on_document s d.number other
 acts_alike s d stands found act other same =
     ap (acted s d.number act) found
     ∙ ap₂ (λ (x : Answer) (ds : List OutEntry). (x, record s { outbox = ds })) (ap (λ y. y.0) same)

@@ -16,7 +16,8 @@ all_three true true false h = absurd (false≢true h)
 all_three true false c h = absurd (false≢true h)
 all_three false b c h = absurd (false≢true h)
 
-pub bears_exactly : (r : ReceivedReceipt) (organization partner id : Text) → IsTrue (bears r organization partner id) ↔ ((organization ≡ r.to) × (partner ≡ r.from) × (value_of id ≡ named_by r.receipt))
+pub bears_exactly : (r : ReceivedReceipt) (organization partner id : Text)
+    → IsTrue (bears r organization partner id) ↔ ((organization ≡ r.to) × (partner ≡ r.from) × (value_of id ≡ named_by r.receipt))
 bears_exactly r organization partner id = (there, back)
   where
     there : bears r organization partner id ≡ true → (organization ≡ r.to) × (partner ≡ r.from) × (value_of id ≡ named_by r.receipt)

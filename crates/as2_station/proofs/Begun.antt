@@ -20,14 +20,16 @@ use Rattle.as2_station.proofs.Acting.{acts_agreed, changes, refused_agreed}
 
 -- ---- the tests
 
-pub refused_by : {E : Type 0} (a b c : Bool) (d : E) (rest : Answer × E) (reason : Refusal) → (if a then Some AllSettled else if b then Some TriesUsed else if c then Some NotDue else None) ≡ Some reason
+pub refused_by : {E : Type 0} (a b c : Bool) (d : E) (rest : Answer × E) (reason : Refusal)
+    → (if a then Some AllSettled else if b then Some TriesUsed else if c then Some NotDue else None) ≡ Some reason
     → (if a then (Refused AllSettled, d) else if b then (Refused TriesUsed, d) else if c then (Refused NotDue, d) else rest) ≡ (Refused reason, d)
 refused_by true b c d rest reason is = let same : AllSettled ≡ reason = cc in ap (λ r. (Refused r, d)) same
 refused_by false true c d rest reason is = let same : TriesUsed ≡ reason = cc in ap (λ r. (Refused r, d)) same
 refused_by false false true d rest reason is = let same : NotDue ≡ reason = cc in ap (λ r. (Refused r, d)) same
 refused_by false false false d rest reason is = absurd cc
 
-pub begins_by : {E : Type 0} (a b c : Bool) (d : E) (rest : Answer × E) → (if a then Some AllSettled else if b then Some TriesUsed else if c then Some NotDue else None) ≡ None
+pub begins_by : {E : Type 0} (a b c : Bool) (d : E) (rest : Answer × E)
+    → (if a then Some AllSettled else if b then Some TriesUsed else if c then Some NotDue else None) ≡ None
     → (if a then (Refused AllSettled, d) else if b then (Refused TriesUsed, d) else if c then (Refused NotDue, d) else rest) ≡ rest
 begins_by true b c d rest is = absurd cc
 begins_by false true c d rest is = absurd cc
@@ -46,11 +48,13 @@ module _ (A : Agreements) (m : ℕ) (d : OutEntry) where
   unfolding begun
   not_agreed reason is = refused_agreed A d.organization d.partner d _ reason is
 
-  pub no_try : (p : Partner) (reason : Refusal) → agreed_partner A d.organization d.partner ≡ Ok p → try_refusal p d m ≡ Some reason → begun A m d ≡ (Refused reason, d)
+  pub no_try : (p : Partner) (reason : Refusal) → agreed_partner A d.organization d.partner ≡ Ok p → try_refusal p d m ≡ Some reason
+      → begun A m d ≡ (Refused reason, d)
   unfolding begun
   no_try p reason known is = acts_agreed A d.organization d.partner d _ p known ∙ refused_by (is_settled d) (nat_le p.max_tries d.tries) (waits d.detail || is_early m d.due) d _ reason is
 
-  pub a_try : (p : Partner) → agreed_partner A d.organization d.partner ≡ Ok p → try_refusal p d m ≡ None → begun A m d ≡ (AJob (document_job A p d.organization d.id d.content), come_to (tried p d m) d)
+  pub a_try : (p : Partner) → agreed_partner A d.organization d.partner ≡ Ok p → try_refusal p d m ≡ None
+      → begun A m d ≡ (AJob (document_job A p d.organization d.id d.content), come_to (tried p d m) d)
   unfolding begun
   a_try p known is =
       acts_agreed A d.organization d.partner d _ p known ∙ begins_by (is_settled d) (nat_le p.max_tries d.tries) (waits d.detail || is_early m d.due) d _ is
@@ -66,7 +70,8 @@ tries_left p d m is = by (is_settled d) (nat_le p.max_tries d.tries) (waits d.de
     by false false c is = refl
 
 -- what is written is what the machine leaves
-pub begins : (A : Agreements) (m : ℕ) (s t : State) (d : OutEntry) (p : Partner) → IsCounted s → document s d.number ≡ Some d → agreed_partner A d.organization d.partner ≡ Ok p → try_refusal p d m ≡ None
+pub begins : (A : Agreements) (m : ℕ) (s t : State) (d : OutEntry) (p : Partner) → IsCounted s → document s d.number ≡ Some d
+    → agreed_partner A d.organization d.partner ≡ Ok p → try_refusal p d m ≡ None
     → set_out_in d.number (tried p d m) s ≡ Some t → Some (on_document s d.number (begun A m)) ≡ Some (AJob (document_job A p d.organization d.id d.content), t)
 begins A m s t d p stands found known fine is =
     let left : Some (change_document s d.number (come_to (tried p d m))) ≡ Some t = ap (option_map (λ _. change_document s d.number (come_to (tried p d m)))) (sym found) ∙ is in

@@ -47,12 +47,15 @@ run_then A s mid t (AMigration n ∷ one) two a b = (a.0, a.1, run_then A (migra
 -- ---- success
 
 -- a submission is found by both, or by neither
-found_by_both : {X : Type 0} (o : Option (Found Submission Done)) (f : Found Submission Done → X) (x : X) → option_map f o ≡ Some x → option_map (λ (g : Found Submission Done). g.it) o ≡ None → ⊥
+found_by_both : {X : Type 0} (o : Option (Found Submission Done)) (f : Found Submission Done → X) (x : X) → option_map f o ≡ Some x
+    → option_map (λ (g : Found Submission Done). g.it) o ≡ None → ⊥
 found_by_both None f x is none = absurd cc
 found_by_both (Some g) f x is none = absurd cc
 
-success_by : (A : Agreements) (v : Version) (first : ℕ) (trace : Trace) (s : State) → Run A (empty v first) trace s → (k : ℕ) (o : Option OutEntry) (c : Option (Submission × List Fact)) → document s k ≡ o → concerns A (accepted v trace) k ≡ c
-    → IsSomeAnd o (λ d. state_of d.detail ≡ S) ↔ IsSomeAnd c (λ it. IsSomeAnd (first_receipt A k it.0 it.1) (λ (r : ℕ × ReceivedReceipt). Confirms r.1.known r.1.receipt it.0.content))
+success_by : (A : Agreements) (v : Version) (first : ℕ) (trace : Trace) (s : State) → Run A (empty v first) trace s
+    → (k : ℕ) (o : Option OutEntry) (c : Option (Submission × List Fact)) → document s k ≡ o → concerns A (accepted v trace) k ≡ c
+    → IsSomeAnd o (λ d. state_of d.detail ≡ S) ↔ IsSomeAnd c (λ it. IsSomeAnd (first_receipt A k it.0 it.1) (λ (r : ℕ
+    × ReceivedReceipt). Confirms r.1.known r.1.receipt it.0.content))
 unfolding concerns
 success_by A v first trace s run k None None is known = (λ h. absurd h, λ h. absurd h)
 success_by A v first trace s run k (Some d) None is known = absurd (let none : Some (told d) ≡ None = sym (ap (option_map told) is) ∙ law A v first trace s run k ∙ ap (λ (c : Option (Submission × List Fact)). option_and_then (λ (x : Submission × List Fact). option_map (told_by A k x.0 x.1) (partner_of A x.0.partner)) c) known in cc)
@@ -79,7 +82,8 @@ steps_on A s formed = record {
   answers = numbers_law A s;
 }
 
-pub stands_by_history : (A : Agreements) (v : Version) (first : ℕ) (trace : Trace) (s : State) → IsCounter first → Run A (empty v first) trace s → StandsByHistory A v trace s
+pub stands_by_history : (A : Agreements) (v : Version) (first : ℕ) (trace : Trace) (s : State) → IsCounter first → Run A (empty v first) trace s
+    → StandsByHistory A v trace s
 stands_by_history A v first trace s counter run = record {
   version = run_version A (empty v first) trace s run;
   documents = as_submitted A v first trace s run;
@@ -99,7 +103,8 @@ ends_by_history A s trace t run v first before counter came = stands_by_history 
 
 -- ---- an event
 
-pub takes_by_history : {M : Medium} {X : Type 0} (A : Agreements) (event : Event) (asks : Type 0) (told : X → Answer) (old new : Standing M) (r : Result X StoreFault) → Does (λ s. step A s event) always asks told old new r
+pub takes_by_history : {M : Medium} {X : Type 0} (A : Agreements) (event : Event) (asks : Type 0) (told : X
+    → Answer) (old new : Standing M) (r : Result X StoreFault) → Does (λ s. step A s event) always asks told old new r
     → TakesByHistory A event told old new r
 takes_by_history A event asks told old new (Ok a) does clean s rests =
     let left = does.answered clean s rests tt in
@@ -108,7 +113,10 @@ takes_by_history A event asks told old new (Err f) does clean s rests =
     let left = does.failed clean s rests tt in
     (s, left.0, ends_by_history A s (AnEvent event (Failed f) ∷ []) s (left.1, refl))
 
-pub takes_event : {M : Medium} {X : Type 0} (A : Agreements) (event : Event) (told : X → Answer) (old new : Standing M) (r : Result X StoreFault) → Does (λ s. step A s event) always (asks_store A event ≡ true) told old new r
-    → (IsTrue new.is_open → (s : State) → new.Rests s → Lasts new s) → ((head : Head) (body : List ℕ) (moment : ℕ) → event ≡ Post head body moment → ClashesWhole told (reading A AllDigests head body) old new r) → TakesEvent A event told old new r
+pub takes_event : {M : Medium} {X : Type 0} (A : Agreements) (event : Event) (told : X → Answer) (old new : Standing M) (r : Result X StoreFault)
+    → Does (λ s. step A s event) always (asks_store A event ≡ true) told old new r
+    → (IsTrue new.is_open → (s : State) → new.Rests s → Lasts new s)
+    → ((head : Head) (body : List ℕ) (moment : ℕ) → event ≡ Post head body moment → ClashesWhole told (reading A AllDigests head body) old new r)
+    → TakesEvent A event told old new r
 takes_event A event told old new r does lasts whole =
     record { does = does; by_history = takes_by_history A event (asks_store A event ≡ true) told old new r does; lasts = lasts; whole = whole }

@@ -43,7 +43,8 @@ module _ (p : Partner) (m : ℕ) (d : OutEntry) where
   fails = by (is_last d.attempt)
     where
       by : (last : Bool)
-          → ◌≡◌ {A = Answer × OutEntry} (TryFailed, further (if last then record { tries = d.tries; attempt = Idle; due = None; detail = TriesUsed } else record { tries = d.tries; attempt = Idle; due = Some (m + p.retry_seconds); detail = Retry }) d)
+          → ◌≡◌ {A = Answer
+          × OutEntry} (TryFailed, further (if last then record { tries = d.tries; attempt = Idle; due = None; detail = TriesUsed } else record { tries = d.tries; attempt = Idle; due = Some (m + p.retry_seconds); detail = Retry }) d)
           (if last then (TryFailed, record d { attempt = Idle; due = None; detail = TriesUsed }) else (TryFailed, record d { attempt = Idle; due = Some (m + p.retry_seconds); detail = Retry }))
       by true = refl
       by false = refl
@@ -89,11 +90,13 @@ module _ (p : Partner) (m : ℕ) (d : OutEntry) where
   leaves_unsettled got o (ending.Failed progress) is = subst (λ (x : Answer × OutEntry). IsUnsettled x.0 x.1) (sym is) (closes_unsettled got o)
 
   -- the receipt for it, or none
-  pub closes_by_receipt : (got : TryAnswer) (o : Option ReceivedReceipt) (x : Answer × OutEntry) → option_map (settled_by m d) o ≡ Some x → closed_by p got m d o ≡ x
+  pub closes_by_receipt : (got : TryAnswer) (o : Option ReceivedReceipt) (x : Answer × OutEntry) → option_map (settled_by m d) o ≡ Some x
+      → closed_by p got m d o ≡ x
   closes_by_receipt got None x is = absurd cc
   closes_by_receipt got (Some r) x is = cc
 
-  pub closes_without : (got : TryAnswer) (o : Option ReceivedReceipt) → option_map (settled_by m d) o ≡ None → is_delivery got ≡ true → closed_by p got m d o ≡ ended (without_receipt p.receipt p m d) d
+  pub closes_without : (got : TryAnswer) (o : Option ReceivedReceipt) → option_map (settled_by m d) o ≡ None → is_delivery got ≡ true
+      → closed_by p got m d o ≡ ended (without_receipt p.receipt p m d) d
   closes_without got None is success = rw success (sym delivers)
   closes_without got (Some r) is success = absurd cc
 
@@ -108,26 +111,31 @@ module _ (A : Agreements) (digests : Digests) (got : TryAnswer) (m : ℕ) (d : O
   unfolding closed
   settled_before p known settled = acts_agreed A d.organization d.partner d _ p known ∙ rw settled refl
 
-  pub no_open_try : (p : Partner) → agreed_partner A d.organization d.partner ≡ Ok p → is_settled d ≡ false → is_idle d.attempt ≡ true → closed A digests got m d ≡ (Refused NoOpenTry, d)
+  pub no_open_try : (p : Partner) → agreed_partner A d.organization d.partner ≡ Ok p → is_settled d ≡ false → is_idle d.attempt ≡ true
+      → closed A digests got m d ≡ (Refused NoOpenTry, d)
   unfolding closed
   no_open_try p known unsettled idle = acts_agreed A d.organization d.partner d _ p known ∙ rw (unsettled, idle) refl
 
-  pub closes : (p : Partner) → agreed_partner A d.organization d.partner ≡ Ok p → is_settled d ≡ false → is_idle d.attempt ≡ false → closed A digests got m d ≡ closed_by p got m d (option_and_then (if_for d) (receipt_in_answer digests got))
+  pub closes : (p : Partner) → agreed_partner A d.organization d.partner ≡ Ok p → is_settled d ≡ false → is_idle d.attempt ≡ false
+      → closed A digests got m d ≡ closed_by p got m d (option_and_then (if_for d) (receipt_in_answer digests got))
   unfolding closed
   closes p known unsettled under_way = acts_agreed A d.organization d.partner d _ p known ∙ rw (unsettled, under_way) refl
 
 -- ---- what is written
 
 module _ (s t : State) (d : OutEntry) (found : document s d.number ≡ Some d) where
-  acts_on : (act : OutEntry → Answer × OutEntry) (a : Answer) (change : OutEntry → OutEntry) → ((e : OutEntry) → act e ≡ (a, change e)) → change_document s d.number change ≡ t → on_document s d.number act ≡ (a, t)
+  acts_on : (act : OutEntry → Answer × OutEntry) (a : Answer) (change : OutEntry → OutEntry) → ((e : OutEntry) → act e ≡ (a, change e))
+      → change_document s d.number change ≡ t → on_document s d.number act ≡ (a, t)
   acts_on act a change is left =
       ap (acted s d.number act) found ∙ ap (λ (f : OutEntry → Answer × OutEntry). ((f d).0, change_document s d.number (λ e. (f e).1))) (λ i e. is e i) ∙ ap (λ (x : State). (a, x)) left
 
   -- the receipt settles it
-  pub ends_by_receipt : (detail : Detail) (evidence : Evidence) → settled_in d.number detail evidence s ≡ Some t → Some (on_document s d.number (ended (ending.ByReceipt detail evidence))) ≡ Some (Settled detail, t)
+  pub ends_by_receipt : (detail : Detail) (evidence : Evidence) → settled_in d.number detail evidence s ≡ Some t
+      → Some (on_document s d.number (ended (ending.ByReceipt detail evidence))) ≡ Some (Settled detail, t)
   ends_by_receipt detail evidence is = ap Some (acts_on _ (Settled detail) (settled_as detail evidence) (λ e. refl) (by (option_map_or is_settled (document s d.number) true || not (is_by_receipt detail)) is))
     where
-      by : (refused : Bool) → (if refused then None else Some (change_document s d.number (settled_as detail evidence))) ≡ Some t → change_document s d.number (settled_as detail evidence) ≡ t
+      by : (refused : Bool) → (if refused then None else Some (change_document s d.number (settled_as detail evidence))) ≡ Some t
+          → change_document s d.number (settled_as detail evidence) ≡ t
       by true is = absurd cc
       by false is = cc
 
@@ -136,7 +144,8 @@ module _ (s t : State) (d : OutEntry) (found : document s d.number ≡ Some d) w
   still_begun p begun = ap (λ (b : Bool). record d { begun = b; tries = p.tries; attempt = p.attempt; due = p.due; detail = p.detail }) (begun ∙ sym (ap (λ (b : Bool). b || nat_le 1 p.tries) begun))
 
   -- it comes so far
-  pub ends_at : IsCounted s → d.begun ≡ true → (act : OutEntry → Answer × OutEntry) (a : Answer) (progress : Progress) → act d ≡ (a, further progress d) → set_out_in d.number progress s ≡ Some t → Some (on_document s d.number act) ≡ Some (a, t)
+  pub ends_at : IsCounted s → d.begun ≡ true → (act : OutEntry → Answer × OutEntry) (a : Answer) (progress : Progress) → act d ≡ (a, further progress d)
+      → set_out_in d.number progress s ≡ Some t → Some (on_document s d.number act) ≡ Some (a, t)
   ends_at stands begun act a progress acts is =
       let left : Some (change_document s d.number (come_to progress)) ≡ Some t = ap (option_map (λ _. change_document s d.number (come_to progress))) (sym found) ∙ is in
       let there : change_document s d.number (come_to progress) ≡ t = cc in

@@ -21,7 +21,8 @@ pub never_full : {X : Type 0} (f : StoreFault) → may_come f ≡ true → f ≡
 never_full f may full = absurd (let no = subst (λ g. may_come g ≡ true) full may in cc)
 
 -- what another machine does that answers and leaves the same wherever that is asked, over an open connection
-pub as_machine : {M : Medium} {A : Type 0} (machine other : Machine) (given known : State → Type 0) (asks : Type 0) (told : A → Answer) (old new : Standing M) (r : Result A StoreFault) → (old.IsClean → IsTrue old.is_open)
+pub as_machine : {M : Medium} {A : Type 0} (machine other : Machine) (given known : State → Type 0) (asks : Type 0) (told : A
+    → Answer) (old new : Standing M) (r : Result A StoreFault) → (old.IsClean → IsTrue old.is_open)
     → ((s : State) → IsCounted s → given s → known s × (other s ≡ machine s)) → Does other known asks told old new r → Does machine given asks told old new r
 as_machine {M = M} machine other given known asks told old new r opened same it = record {
   clean = it.clean;
@@ -36,7 +37,8 @@ as_machine {M = M} machine other given known asks told old new r opened same it 
 }
 
 -- where each digest is known, what a machine does that knows them is what it does by the digests of its state
-pub by_state : {M : Medium} {A : Type 0} (machine : Digests → Machine) (given : State → Type 0) (asks : Type 0) (told : A → Answer) (old new : Standing M) (r : Result A StoreFault)
+pub by_state : {M : Medium} {A : Type 0} (machine : Digests → Machine) (given : State → Type 0) (asks : Type 0) (told : A
+    → Answer) (old new : Standing M) (r : Result A StoreFault)
     → Does (machine AllDigests) given asks told old new r → Does (λ s. machine (known_digests s.version) s) given asks told old new r
 by_state {M = M} machine given asks told old new r it = record {
   clean = it.clean;
@@ -56,7 +58,8 @@ IsStep machine given wrote answer = (s t : State) → IsCounted s → given s �
 
 module _ {M : Medium} {A : Type 0} (machine : Machine) (given : State → Type 0) (asks : Type 0) (told : A → Answer) where
   -- an answer that nothing of the store is read or written for
-  pub at_once : (c : Standing M) (a : A) → (c.IsClean → asks → IsTrue c.is_open) → (c.IsClean → (s : State) → c.Rests s → given s → machine s ≡ Some (told a, s)) → Does machine given asks told c c (Ok a)
+  pub at_once : (c : Standing M) (a : A) → (c.IsClean → asks → IsTrue c.is_open)
+      → (c.IsClean → (s : State) → c.Rests s → given s → machine s ≡ Some (told a, s)) → Does machine given asks told c c (Ok a)
   at_once c a opened is = record {
     clean = λ clean. clean;
     is_open = opened;
@@ -67,7 +70,8 @@ module _ {M : Medium} {A : Type 0} (machine : Machine) (given : State → Type 0
   }
 
   -- the same over open records, whose entries are counted
-  pub over_open : (c : Standing M) (a : A) → (c.IsClean → IsTrue c.is_open) → (c.IsClean → (s : State) → IsCounted s → given s → machine s ≡ Some (told a, s)) → Does machine given asks told c c (Ok a)
+  pub over_open : (c : Standing M) (a : A) → (c.IsClean → IsTrue c.is_open) → (c.IsClean → (s : State) → IsCounted s → given s → machine s ≡ Some (told a, s))
+      → Does machine given asks told c c (Ok a)
   over_open c a opened is = at_once c a (λ clean asks. opened clean) (λ clean s rests known. is clean s (c.counted (opened clean) s rests) known)
 
   -- a fault before anything is read or written
@@ -82,12 +86,14 @@ module _ {M : Medium} {A : Type 0} (machine : Machine) (given : State → Type 0
   }
 
   -- the fault of a call, passed on
-  pub passed_on : (old new : Standing M) (r : Result A StoreFault) (f : StoreFault) → IsErr r → IsErrAnd r (λ e. e ≡ f) → Does machine given asks told old new (Err f) → Does machine given asks told old new r
+  pub passed_on : (old new : Standing M) (r : Result A StoreFault) (f : StoreFault) → IsErr r → IsErrAnd r (λ e. e ≡ f)
+      → Does machine given asks told old new (Err f) → Does machine given asks told old new r
   passed_on old new (Ok a) f fails is it = absurd cc
   passed_on old new (Err e) f fails is it = subst (λ f. Does machine given asks told old new (Err f)) (sym is) it
 
   -- a read that fails
-  pub unread : {B : Type 0} (fits : State → B → Type 0) (old new : Standing M) (f : StoreFault) → Reads fits old new (Err f) → may_come f ≡ true → Does machine given asks told old new (Err f)
+  pub unread : {B : Type 0} (fits : State → B → Type 0) (old new : Standing M) (f : StoreFault) → Reads fits old new (Err f) → may_come f ≡ true
+      → Does machine given asks told old new (Err f)
   unread fits old new f it may = record {
     clean = it.clean;
     is_open = λ clean. tt;
@@ -99,7 +105,8 @@ module _ {M : Medium} {A : Type 0} (machine : Machine) (given : State → Type 0
 
   -- what follows a read
   pub after_read : {B : Type 0} (fits : State → B → Type 0) (given_then : State → Type 0) (old mid new : Standing M) (b : B) (r : Result A StoreFault)
-      → ((s : State) → given s → fits s b → given_then s) → Reads {A = B} {E = StoreFault} fits old mid (Ok b) → Does machine given_then asks told mid new r → Does machine given asks told old new r
+      → ((s : State) → given s → fits s b → given_then s) → Reads {A = B} {E = StoreFault} fits old mid (Ok b) → Does machine given_then asks told mid new r
+      → Does machine given asks told old new r
   after_read fits given_then old mid new b r leads one two = record {
     clean = λ clean. one.clean (two.clean clean);
     is_open = two.is_open;
@@ -114,7 +121,8 @@ module _ {M : Medium} {A : Type 0} (machine : Machine) (given : State → Type 0
         one.crash two.crash;
   }
 
-  leaves : (wrote : State → Option State) (answer : Answer) (old new : Standing M) → IsStep machine given wrote answer → Survives old new (Commits wrote old) → Survives old new (MayLeave machine given old)
+  leaves : (wrote : State → Option State) (answer : Answer) (old new : Standing M) → IsStep machine given wrote answer → Survives old new (Commits wrote old)
+      → Survives old new (MayLeave machine given old)
   leaves wrote answer old new is = survives_weaker old new (Commits wrote old) (MayLeave machine given old) (λ clean left may. record {
     was_open = may.was_open;
     stands = λ s rests known.
@@ -123,7 +131,8 @@ module _ {M : Medium} {A : Type 0} (machine : Machine) (given : State → Type 0
   })
 
   -- a write
-  pub written : {U : Type 0} (wrote : State → Option State) (old new : Standing M) (u : U) (a : A) → IsStep machine given wrote (told a) → Writes {A = U} {E = StoreFault} wrote old new (Ok u) → Does machine given asks told old new (Ok a)
+  pub written : {U : Type 0} (wrote : State → Option State) (old new : Standing M) (u : U) (a : A) → IsStep machine given wrote (told a)
+      → Writes {A = U} {E = StoreFault} wrote old new (Ok u) → Does machine given asks told old new (Ok a)
   written wrote old new u a is it = record {
     clean = it.clean;
     is_open = λ clean _. it.is_open clean;
@@ -136,8 +145,10 @@ module _ {M : Medium} {A : Type 0} (machine : Machine) (given : State → Type 0
   }
 
   -- a write that fails
-  pub unwritten : {U : Type 0} (wrote : State → Option State) (old new : Standing M) (f : StoreFault) (answer : Answer) → IsStep machine given wrote answer → (f ≡ Full) ⊎ (may_come f ≡ true)
-      → ((s : State) → given s → f ≡ Full → machine s ≡ None) → Writes {A = U} {E = StoreFault} wrote old new (Err f) → Does machine given asks told old new (Err f)
+  pub unwritten : {U : Type 0} (wrote : State → Option State) (old new : Standing M) (f : StoreFault) (answer : Answer) → IsStep machine given wrote answer
+      → (f ≡ Full) ⊎ (may_come f ≡ true)
+      → ((s : State) → given s → f ≡ Full → machine s ≡ None) → Writes {A = U} {E = StoreFault} wrote old new (Err f)
+      → Does machine given asks told old new (Err f)
   unwritten wrote old new f answer is fault none it = record {
     clean = it.clean;
     is_open = λ clean. tt;

@@ -17,21 +17,24 @@ use Rattle.as2_records.specs.Adding.{added_document, with_document}
 use Rattle.as2_station.specs.Heads.{submit_refusal}
 
 -- what is refused, and what isn't, by three tests
-refused_by : (a b large : Bool) (s : State) (rest : Option (Answer × State)) (reason : Refusal) → (if not a then Some UnknownOrganization else if not b then Some UnknownPartner else if large then Some TooLarge else None) ≡ Some reason
+refused_by : (a b large : Bool) (s : State) (rest : Option (Answer × State)) (reason : Refusal)
+    → (if not a then Some UnknownOrganization else if not b then Some UnknownPartner else if large then Some TooLarge else None) ≡ Some reason
     → (if not a then Some (Refused UnknownOrganization, s) else if not b then Some (Refused UnknownPartner, s) else if large then Some (Refused TooLarge, s) else rest) ≡ Some (Refused reason, s)
 refused_by true true true s rest reason is = let same : TooLarge ≡ reason = cc in ap (λ r. Some (Refused r, s)) same
 refused_by true true false s rest reason is = absurd cc
 refused_by true false large s rest reason is = let same : UnknownPartner ≡ reason = cc in ap (λ r. Some (Refused r, s)) same
 refused_by false b large s rest reason is = let same : UnknownOrganization ≡ reason = cc in ap (λ r. Some (Refused r, s)) same
 
-taken_by : (a b large : Bool) (s : State) (rest : Option (Answer × State)) → (if not a then Some UnknownOrganization else if not b then Some UnknownPartner else if large then Some TooLarge else None) ≡ None
+taken_by : (a b large : Bool) (s : State) (rest : Option (Answer × State))
+    → (if not a then Some UnknownOrganization else if not b then Some UnknownPartner else if large then Some TooLarge else None) ≡ None
     → (if not a then Some (Refused UnknownOrganization, s) else if not b then Some (Refused UnknownPartner, s) else if large then Some (Refused TooLarge, s) else rest) ≡ rest
 taken_by true true true s rest is = absurd cc
 taken_by true true false s rest is = refl
 taken_by true false large s rest is = absurd cc
 taken_by false b large s rest is = absurd cc
 
-pub refuses : (A : Agreements) (s : State) (organization partner content : Text) (m : ℕ) (reason : Refusal) → submit_refusal A organization partner content ≡ Some reason → submit A s organization partner content m ≡ Some (Refused reason, s)
+pub refuses : (A : Agreements) (s : State) (organization partner content : Text) (m : ℕ) (reason : Refusal)
+    → submit_refusal A organization partner content ≡ Some reason → submit A s organization partner content m ≡ Some (Refused reason, s)
 unfolding submit
 refuses A s organization partner content m reason is = refused_by (is_organization A organization) (is_some (partner_of A partner)) (nat_lt content_limit (length content)) s _ reason is
 
@@ -44,7 +47,8 @@ itself : (k : ℕ) → (k == k) ≡ true
 itself k = grind (arith, nat_tests)
 
 -- under the next number
-pub submits : (A : Agreements) (s t : State) (organization partner content : Text) (m n : ℕ) → submit_refusal A organization partner content ≡ None → n ≡ s.next_out → added_document (new_document A n organization partner content m) s ≡ Some t → IsCounter t.next_out
+pub submits : (A : Agreements) (s t : State) (organization partner content : Text) (m n : ℕ) → submit_refusal A organization partner content ≡ None
+    → n ≡ s.next_out → added_document (new_document A n organization partner content m) s ≡ Some t → IsCounter t.next_out
     → submit A s organization partner content m ≡ Some (Submitted n, t)
 unfolding submit
 submits A s t organization partner content m n fine next is counter =
@@ -61,7 +65,8 @@ submits A s t organization partner content m n fine next is counter =
     left_over k less = grind (arith, nat_tests, less)
 
 -- or no number is left for it
-pub none_left : (A : Agreements) (s : State) (organization partner content : Text) (m n : ℕ) → submit_refusal A organization partner content ≡ None → n ≡ s.next_out → end_of_numbers ≤ n → submit A s organization partner content m ≡ None
+pub none_left : (A : Agreements) (s : State) (organization partner content : Text) (m n : ℕ) → submit_refusal A organization partner content ≡ None
+    → n ≡ s.next_out → end_of_numbers ≤ n → submit A s organization partner content m ≡ None
 unfolding submit
 none_left A s organization partner content m n fine next full =
     taken_by (is_organization A organization) (is_some (partner_of A partner)) (nat_lt content_limit (length content)) s _ fine

@@ -16,7 +16,8 @@ same_number : (n : ℕ) → (n == n) ≡ true
 same_number n = grind (arith, nat_tests)
 
 -- an entry that is found is the one of its number
-pub found_number : {X : Type 0} (number : X → ℕ) (p : X → Bool) (xs : List X) (e : X) → IsDistinct (λ a b. a == b) (map number xs) → find p xs ≡ Some e → find (λ x. number x == number e) xs ≡ Some e
+pub found_number : {X : Type 0} (number : X → ℕ) (p : X → Bool) (xs : List X) (e : X) → IsDistinct (λ a b. a == b) (map number xs) → find p xs ≡ Some e
+    → find (λ x. number x == number e) xs ≡ Some e
 unfolding IsDistinct
 found_number number p [] e apart found = absurd cc
 found_number {X} number p (x ∷ xs) e apart found = go (p x) found (found_number number p xs e apart.1)
@@ -29,13 +30,15 @@ found_number {X} number p (x ∷ xs) e apart found = go (p x) found (found_numbe
     other true is there = absurd cc
     other false is there = there
 
-    go : (b : Bool) → cond b (Some x) (find p xs) ≡ Some e → (find p xs ≡ Some e → find (λ y. number y == number e) xs ≡ Some e) → find (λ y. number y == number e) (x ∷ xs) ≡ Some e
+    go : (b : Bool) → cond b (Some x) (find p xs) ≡ Some e → (find p xs ≡ Some e → find (λ y. number y == number e) xs ≡ Some e)
+        → find (λ y. number y == number e) (x ∷ xs) ≡ Some e
     go true is rest =
         let same : x ≡ e = cc in
         this (number x == number e) (subst (λ (y : X). (number x == number y) ≡ true) same (same_number (number x))) same
     go false is rest = other (number x == number e) (all_found (λ y. (number x == y) ≡ false) number p xs e apart.0 is) (rest is)
 
-alike_step : {X : Type 0} (number : X → ℕ) (f g : X → X) (n : ℕ) (d x : X) (xs : List X) (b : Bool) → (number x == n) ≡ b → AllByRecursion (λ k. (number x == k) ≡ false) (map number xs)
+alike_step : {X : Type 0} (number : X → ℕ) (f g : X → X) (n : ℕ) (d x : X) (xs : List X) (b : Bool) → (number x == n) ≡ b
+    → AllByRecursion (λ k. (number x == k) ≡ false) (map number xs)
     → (find (λ y. number y == n) xs ≡ Some d → map (λ y. if number y == n then f y else y) xs ≡ map (λ y. if number y == n then g y else y) xs)
     → cond b (Some x) (find (λ y. number y == n) xs) ≡ Some d → f d ≡ g d
     → ((if b then f x else x) ∷ map (λ y. if number y == n then f y else y) xs) ≡ (if b then g x else x) ∷ map (λ y. if number y == n then g y else y) xs
@@ -48,7 +51,8 @@ alike_step number f g n d x xs true is apart rest found same =
 alike_step number f g n d x xs false is apart rest found same = ap (λ ys. x ∷ ys) (rest found)
 
 -- changes that do the same to the only element of a number
-pub changes_alike : {X : Type 0} (number : X → ℕ) (f g : X → X) (n : ℕ) (d : X) (xs : List X) → IsDistinct (λ a b. a == b) (map number xs) → find (λ x. number x == n) xs ≡ Some d → f d ≡ g d
+pub changes_alike : {X : Type 0} (number : X → ℕ) (f g : X → X) (n : ℕ) (d : X) (xs : List X) → IsDistinct (λ a b. a == b) (map number xs)
+    → find (λ x. number x == n) xs ≡ Some d → f d ≡ g d
     → map (λ x. if number x == n then f x else x) xs ≡ map (λ x. if number x == n then g x else x) xs
 unfolding IsDistinct
 changes_alike number f g n d [] apart found same = refl
@@ -61,10 +65,12 @@ not_again : (m : ℕ) (e : InEntry) → is_requeued e ≡ false → requeued_by_
 not_again m e h = rw h refl
 
 -- a receipt that a repeat queues again
-pub sent_anew : (s : State) (m : ℕ) (e : InEntry) → IsDistinct (λ a b. a == b) (map (λ (x : InEntry). x.number) s.inbox) → received s e.number ≡ Some e → is_requeued e ≡ true
+pub sent_anew : (s : State) (m : ℕ) (e : InEntry) → IsDistinct (λ a b. a == b) (map (λ (x : InEntry). x.number) s.inbox) → received s e.number ≡ Some e
+    → is_requeued e ≡ true
     → change_received s e.number (requeued m) ≡ change_received s e.number (requeued_by_repeat m)
 sent_anew s m e apart found is = ap (λ (es : List InEntry). record s { inbox = es }) (changes_alike (λ (x : InEntry). x.number) (requeued m) (requeued_by_repeat m) e.number e s.inbox apart found (again m e is))
 
 -- a receipt that it leaves
-pub left_alone : (s : State) (m : ℕ) (e : InEntry) → IsDistinct (λ a b. a == b) (map (λ (x : InEntry). x.number) s.inbox) → received s e.number ≡ Some e → is_requeued e ≡ false → change_received s e.number (requeued_by_repeat m) ≡ s
+pub left_alone : (s : State) (m : ℕ) (e : InEntry) → IsDistinct (λ a b. a == b) (map (λ (x : InEntry). x.number) s.inbox) → received s e.number ≡ Some e
+    → is_requeued e ≡ false → change_received s e.number (requeued_by_repeat m) ≡ s
 left_alone s m e apart found not = ap (λ (es : List InEntry). record s { inbox = es }) (left_as_is (λ (x : InEntry). x.number) (requeued_by_repeat m) e.number e s.inbox apart found (not_again m e not))

@@ -33,18 +33,21 @@ module _ (A : Agreements) (m : ℕ) (e : InEntry) where
   unfolding mdn_begun
   not_agreed reason is = refused_agreed A e.posted.receiver e.posted.sender e _ reason is
 
-  pub no_try : (p : Partner) (reason : Refusal) → agreed_partner A e.posted.receiver e.posted.sender ≡ Ok p → mdn_try_refusal p e m ≡ Some reason → mdn_begun A m e ≡ (Refused reason, e)
+  pub no_try : (p : Partner) (reason : Refusal) → agreed_partner A e.posted.receiver e.posted.sender ≡ Ok p → mdn_try_refusal p e m ≡ Some reason
+      → mdn_begun A m e ≡ (Refused reason, e)
   unfolding mdn_begun
   no_try p reason known is = acts_agreed A e.posted.receiver e.posted.sender e _ p known ∙ refused_by (not (is_pending e.mdn)) (nat_le p.max_tries e.tries) (is_early m e.due) e _ reason is
 
-  pub a_try : (p : Partner) → agreed_partner A e.posted.receiver e.posted.sender ≡ Ok p → mdn_try_refusal p e m ≡ None → mdn_begun A m e ≡ (AJob (receipt_job e.posted.how (report A e.number e.posted)), owed_as (mdn_tried p e m) e)
+  pub a_try : (p : Partner) → agreed_partner A e.posted.receiver e.posted.sender ≡ Ok p → mdn_try_refusal p e m ≡ None
+      → mdn_begun A m e ≡ (AJob (receipt_job e.posted.how (report A e.number e.posted)), owed_as (mdn_tried p e m) e)
   unfolding mdn_begun
   a_try p known is =
       acts_agreed A e.posted.receiver e.posted.sender e _ p known ∙ begins_by (not (is_pending e.mdn)) (nat_le p.max_tries e.tries) (is_early m e.due) e _ is
       ∙ by (receipt_job e.posted.how (report A e.number e.posted)) (nat_le p.max_tries (e.tries + 1))
     where
       by : (job : Job) (last : Bool)
-          → ◌≡◌ {A = Answer × InEntry} (AJob job, if last then record e { tries = e.tries + 1; attempt = Last; due = None } else record e { tries = e.tries + 1; attempt = Running; due = Some (m + p.retry_seconds) })
+          → ◌≡◌ {A = Answer
+          × InEntry} (AJob job, if last then record e { tries = e.tries + 1; attempt = Last; due = None } else record e { tries = e.tries + 1; attempt = Running; due = Some (m + p.retry_seconds) })
           (AJob job, owed_as (if last then record { mdn = e.mdn; tries = e.tries + 1; attempt = Last; due = None } else record { mdn = e.mdn; tries = e.tries + 1; attempt = Running; due = Some (m + p.retry_seconds) }) e)
       by job true = refl
       by job false = refl
@@ -59,8 +62,10 @@ mdn_tries_left p e m is = by (not (is_pending e.mdn)) (nat_le p.max_tries e.trie
     by false false c is = refl
 
 -- what is written is what the machine leaves
-pub begins_mdn : (A : Agreements) (m : ℕ) (s t : State) (e : InEntry) (p : Partner) → IsCounted s → received s e.number ≡ Some e → agreed_partner A e.posted.receiver e.posted.sender ≡ Ok p → mdn_try_refusal p e m ≡ None
-    → set_mdn_in e.number (mdn_tried p e m) s ≡ Some t → Some (on_received s e.number (mdn_begun A m)) ≡ Some (AJob (receipt_job e.posted.how (report A e.number e.posted)), t)
+pub begins_mdn : (A : Agreements) (m : ℕ) (s t : State) (e : InEntry) (p : Partner) → IsCounted s → received s e.number ≡ Some e
+    → agreed_partner A e.posted.receiver e.posted.sender ≡ Ok p → mdn_try_refusal p e m ≡ None
+    → set_mdn_in e.number (mdn_tried p e m) s ≡ Some t
+    → Some (on_received s e.number (mdn_begun A m)) ≡ Some (AJob (receipt_job e.posted.how (report A e.number e.posted)), t)
 begins_mdn A m s t e p stands found known fine is =
     let there : change_received s e.number (owed_as (mdn_tried p e m)) ≡ t = cc in
     ap Some (changes_in s e stands found (mdn_begun A m) (AJob (receipt_job e.posted.how (report A e.number e.posted))) (owed_as (mdn_tried p e m)) (a_try A m e p known fine)
@@ -73,11 +78,13 @@ module _ (A : Agreements) (got : TryAnswer) (m : ℕ) (e : InEntry) where
   unfolding mdn_closed
   not_agreed_then reason is = refused_agreed A e.posted.receiver e.posted.sender e _ reason is
 
-  pub sent_before : (p : Partner) → agreed_partner A e.posted.receiver e.posted.sender ≡ Ok p → is_pending e.mdn ≡ false → mdn_closed A got m e ≡ (AlreadySettled, e)
+  pub sent_before : (p : Partner) → agreed_partner A e.posted.receiver e.posted.sender ≡ Ok p → is_pending e.mdn ≡ false
+      → mdn_closed A got m e ≡ (AlreadySettled, e)
   unfolding mdn_closed
   sent_before p known sent = acts_agreed A e.posted.receiver e.posted.sender e _ p known ∙ rw sent refl
 
-  pub no_open_try : (p : Partner) → agreed_partner A e.posted.receiver e.posted.sender ≡ Ok p → is_pending e.mdn ≡ true → is_shut e.attempt ≡ true → mdn_closed A got m e ≡ (Refused NoOpenTry, e)
+  pub no_open_try : (p : Partner) → agreed_partner A e.posted.receiver e.posted.sender ≡ Ok p → is_pending e.mdn ≡ true → is_shut e.attempt ≡ true
+      → mdn_closed A got m e ≡ (Refused NoOpenTry, e)
   unfolding mdn_closed
   no_open_try p known pending shut = acts_agreed A e.posted.receiver e.posted.sender e _ p known ∙ rw (pending, shut) refl
 
@@ -87,18 +94,21 @@ module _ (A : Agreements) (got : TryAnswer) (m : ℕ) (e : InEntry) where
   ends p known pending under_way = acts_agreed A e.posted.receiver e.posted.sender e _ p known ∙ rw (pending, under_way) (by (is_delivery got))
     where
       failed : (last : Bool)
-          → ◌≡◌ {A = Answer × InEntry} (if last then (TryFailed, record e { attempt = Used; due = None }) else (TryFailed, record e { attempt = Idle; due = Some (m + p.retry_seconds) }))
+          → ◌≡◌ {A = Answer
+          × InEntry} (if last then (TryFailed, record e { attempt = Used; due = None }) else (TryFailed, record e { attempt = Idle; due = Some (m + p.retry_seconds) }))
           (TryFailed, owed_as (if last then record { mdn = e.mdn; tries = e.tries; attempt = Used; due = None } else record { mdn = e.mdn; tries = e.tries; attempt = Idle; due = Some (m + p.retry_seconds) }) e)
       failed true = refl
       failed false = refl
 
       by : (delivered : Bool)
-          → ◌≡◌ {A = Answer × InEntry} (if delivered then (Delivered, record e { mdn = Sent; attempt = Idle; due = None }) else if is_last e.attempt then (TryFailed, record e { attempt = Used; due = None }) else (TryFailed, record e { attempt = Idle; due = Some (m + p.retry_seconds) }))
+          → ◌≡◌ {A = Answer
+          × InEntry} (if delivered then (Delivered, record e { mdn = Sent; attempt = Idle; due = None }) else if is_last e.attempt then (TryFailed, record e { attempt = Used; due = None }) else (TryFailed, record e { attempt = Idle; due = Some (m + p.retry_seconds) }))
           (end_answer delivered, owed_as (mdn_ended delivered p e m) e)
       by true = refl
       by false = failed (is_last e.attempt)
 
-pub ends_mdn : (A : Agreements) (got : TryAnswer) (m : ℕ) (s t : State) (e : InEntry) (p : Partner) → IsCounted s → received s e.number ≡ Some e → agreed_partner A e.posted.receiver e.posted.sender ≡ Ok p
+pub ends_mdn : (A : Agreements) (got : TryAnswer) (m : ℕ) (s t : State) (e : InEntry) (p : Partner) → IsCounted s → received s e.number ≡ Some e
+    → agreed_partner A e.posted.receiver e.posted.sender ≡ Ok p
     → is_pending e.mdn ≡ true → is_shut e.attempt ≡ false → set_mdn_in e.number (mdn_ended (is_delivery got) p e m) s ≡ Some t
     → Some (on_received s e.number (mdn_closed A got m)) ≡ Some (end_answer (is_delivery got), t)
 ends_mdn A got m s t e p stands found known pending under_way is =

@@ -14,14 +14,16 @@ use Rattle.as2_exchange.specs.Run.{Run}
 use Rattle.as2_station.proofs.ByHistory.{ends_by_history}
 
 module _ {H : Type 0} {M : Medium} (shows : H → Standing M) (A : Agreements) where
-  pub taken_more : (es : List Event) (rs : List (Result Answer StoreFault)) (e : Event) (r : Result Answer StoreFault) (old mid new : H) → Taken shows A es rs old mid → TakesEvent A e (λ a. a) (shows mid) (shows new) r
+  pub taken_more : (es : List Event) (rs : List (Result Answer StoreFault)) (e : Event) (r : Result Answer StoreFault) (old mid new : H)
+      → Taken shows A es rs old mid → TakesEvent A e (λ a. a) (shows mid) (shows new) r
       → TakesHead A e Http mid new r → RefusesSubmit A e Refused mid new r → Taken shows A (es ++ e ∷ []) (rs ++ r ∷ []) old new
   taken_more [] [] e r old mid new same one head refuses = subst (λ h. Taken shows A (e ∷ []) (r ∷ []) h new) same (new, one, head, refuses, refl)
   taken_more [] (q ∷ rs) e r old mid new none one head refuses = absurd none
   taken_more (x ∷ es) [] e r old mid new none one head refuses = absurd none
   taken_more (x ∷ es) (q ∷ rs) e r old mid new before one head refuses = (before.0, before.1, before.2, before.3, taken_more es rs e r before.0 mid new before.4 one head refuses)
 
-  pub taken_clean : (es : List Event) (rs : List (Result Answer StoreFault)) (old new : H) → Taken shows A es rs old new → (shows new).IsClean → (shows old).IsClean
+  pub taken_clean : (es : List Event) (rs : List (Result Answer StoreFault)) (old new : H) → Taken shows A es rs old new → (shows new).IsClean
+      → (shows old).IsClean
   taken_clean [] [] old new same clean = subst (λ h. (shows h).IsClean) same clean
   taken_clean [] (q ∷ rs) old new none clean = absurd none
   taken_clean (x ∷ es) [] old new none clean = absurd none
@@ -47,7 +49,8 @@ nothing_left [] none = refl
 nothing_left (x ∷ xs) none = absurd (omega (arith, none))
 
 -- what refuses a submission refuses the event
-pub refuses_event : {H : Type 0} (A : Agreements) (e : Event) (old new : H) (x : Result ℕ Refusal) → RefusesSubmit A e Err old new (Ok x) → RefusesSubmit A e Refused old new (Ok (said_to_submit x))
+pub refuses_event : {H : Type 0} (A : Agreements) (e : Event) (old new : H) (x : Result ℕ Refusal) → RefusesSubmit A e Err old new (Ok x)
+    → RefusesSubmit A e Refused old new (Ok (said_to_submit x))
 refuses_event A e old new x it = record {
   answer = λ organization partner content moment reason is refused.
       let told = it.answer organization partner content moment reason is refused in

@@ -26,12 +26,15 @@ use Rattle.as2_exchange.specs.Documents.{settled_as}
 use Rattle.as2_records.specs.Settling.{settled_in}
 use Rattle.as2_station.proofs.Numbers.{changes_alike, found_number, left_alone, sent_anew}
 
-settles_to : (s : State) (n : ℕ) (detail : Detail) (e : Evidence) (d : OutEntry) → is_by_receipt detail ≡ true → document s n ≡ Some d → is_settled d ≡ false → settled_in n detail e s ≡ Some (change_document s n (settled_as detail e))
+settles_to : (s : State) (n : ℕ) (detail : Detail) (e : Evidence) (d : OutEntry) → is_by_receipt detail ≡ true → document s n ≡ Some d → is_settled d ≡ false
+    → settled_in n detail e s ≡ Some (change_document s n (settled_as detail e))
 settles_to s n detail e d by found unsettled = rw (found, unsettled, by) refl
 
 -- a receipt settles the document that it is for
-pub settles : (s t : State) (m : ℕ) (r : ReceivedReceipt) (d : OutEntry) (detail : Detail) (e : Evidence) → IsCounted s → document_named s (named_by r.receipt) ≡ Some d → (bears r d.organization d.partner d.id && d.begun) ≡ true
-    → is_settled d ≡ false → is_by_receipt detail ≡ true → settled_as detail e d ≡ settled m r d → settled_in d.number detail e s ≡ Some t → Some (settle s m r) ≡ Some (http 200 Nothing, t)
+pub settles : (s t : State) (m : ℕ) (r : ReceivedReceipt) (d : OutEntry) (detail : Detail) (e : Evidence) → IsCounted s
+    → document_named s (named_by r.receipt) ≡ Some d → (bears r d.organization d.partner d.id && d.begun) ≡ true
+    → is_settled d ≡ false → is_by_receipt detail ≡ true → settled_as detail e d ≡ settled m r d → settled_in d.number detail e s ≡ Some t
+    → Some (settle s m r) ≡ Some (http 200 Nothing, t)
 unfolding settle
 settles s t m r d detail e stands named this unsettled by same is =
     let apart = stands.documents.1.distinct in
@@ -43,7 +46,8 @@ settles s t m r d detail e stands named this unsettled by same is =
     rw (named, this, unsettled) (ap (λ (x : State). Some (http 200 Nothing, x)) (alike ∙ there))
 
 -- a repeat queues the receipt of its entry again
-pub requeues : (A : Agreements) (s t : State) (m : ℕ) (p : Posted) (e : InEntry) → IsCounted s → received_as s p ≡ Some e → repeats (origin_of s.version) e.number e.posted p ≡ true → is_requeued e ≡ true → requeued_in e.number m s ≡ Some t
+pub requeues : (A : Agreements) (s t : State) (m : ℕ) (p : Posted) (e : InEntry) → IsCounted s → received_as s p ≡ Some e
+    → repeats (origin_of s.version) e.number e.posted p ≡ true → is_requeued e ≡ true → requeued_in e.number m s ≡ Some t
     → recorded A s m p (Some e) ≡ Some (answer_to A e.number e.posted, t)
 requeues A s t m p e stands found same queued is =
     let apart = stands.receipts.1.distinct in
@@ -53,18 +57,21 @@ requeues A s t m p e stands found same queued is =
     rw same (ap (λ (x : State). Some (answer_to A e.number e.posted, x)) there)
 
 -- or leaves it
-pub stays : (A : Agreements) (s : State) (m : ℕ) (p : Posted) (e : InEntry) → IsCounted s → received_as s p ≡ Some e → repeats (origin_of s.version) e.number e.posted p ≡ true → is_requeued e ≡ false
+pub stays : (A : Agreements) (s : State) (m : ℕ) (p : Posted) (e : InEntry) → IsCounted s → received_as s p ≡ Some e
+    → repeats (origin_of s.version) e.number e.posted p ≡ true → is_requeued e ≡ false
     → recorded A s m p (Some e) ≡ Some (answer_to A e.number e.posted, s)
 stays A s m p e stands found same left =
     let apart = stands.receipts.1.distinct in
     rw same (ap (λ (x : State). Some (answer_to A e.number e.posted, x)) (left_alone s m e apart (found_number (λ (x : InEntry). x.number) _ s.inbox e apart found) left))
 
 -- a document that isn't one clashes with it
-pub clashes : (A : Agreements) (s : State) (m : ℕ) (p : Posted) (e : InEntry) → repeats (origin_of s.version) e.number e.posted p ≡ false → recorded A s m p (Some e) ≡ Some (Http (refusal IdUsedBefore), s)
+pub clashes : (A : Agreements) (s : State) (m : ℕ) (p : Posted) (e : InEntry) → repeats (origin_of s.version) e.number e.posted p ≡ false
+    → recorded A s m p (Some e) ≡ Some (Http (refusal IdUsedBefore), s)
 clashes A s m p e other = rw other refl
 
 -- the first entry under the next number
-pub adds : (A : Agreements) (s t : State) (m n : ℕ) (p : Posted) → n ≡ s.next_in → added (first_entry n m p) s ≡ Some t → IsCounter t.next_in → recorded A s m p None ≡ Some (answer_to A n p, t)
+pub adds : (A : Agreements) (s t : State) (m n : ℕ) (p : Posted) → n ≡ s.next_in → added (first_entry n m p) s ≡ Some t → IsCounter t.next_in
+    → recorded A s m p None ≡ Some (answer_to A n p, t)
 adds A s t m n p next is counter =
     let sum : Some (with_received s (first_entry s.next_in m p)) ≡ Some t = ap (λ b. cond b (Some (with_received s (first_entry s.next_in m p))) None) (sym (itself s.next_in)) ∙ (subst (λ k. added (first_entry k m p) s ≡ Some t) next is) in
     let there : with_received s (first_entry s.next_in m p) ≡ t = cc in

@@ -34,14 +34,16 @@ acted_by d made ours partner settled failed =
     if not ours then (Refused UnknownOrganization, d)
     else option_map_or (λ (p : Partner). if settled then (Refused AllSettled, d) else if not failed then (Refused NotDue, d) else made) partner (Refused UnknownPartner, d)
 
-refused_by : (d : OutEntry) (made : Answer × OutEntry) (ours : Bool) (partner : Option Partner) (settled failed : Bool) (reason : Refusal) → why_not ours partner settled failed ≡ Some reason → acted_by d made ours partner settled failed ≡ (Refused reason, d)
+refused_by : (d : OutEntry) (made : Answer × OutEntry) (ours : Bool) (partner : Option Partner) (settled failed : Bool) (reason : Refusal)
+    → why_not ours partner settled failed ≡ Some reason → acted_by d made ours partner settled failed ≡ (Refused reason, d)
 refused_by d made false partner settled failed reason is = let same : UnknownOrganization ≡ reason = cc in ap (λ r. (Refused r, d)) same
 refused_by d made true None settled failed reason is = let same : UnknownPartner ≡ reason = cc in ap (λ r. (Refused r, d)) same
 refused_by d made true (Some p) true failed reason is = let same : AllSettled ≡ reason = cc in ap (λ r. (Refused r, d)) same
 refused_by d made true (Some p) false false reason is = let same : NotDue ≡ reason = cc in ap (λ r. (Refused r, d)) same
 refused_by d made true (Some p) false true reason is = absurd cc
 
-made_by : (d : OutEntry) (made : Answer × OutEntry) (ours : Bool) (partner : Option Partner) (settled failed : Bool) → why_not ours partner settled failed ≡ None → acted_by d made ours partner settled failed ≡ made
+made_by : (d : OutEntry) (made : Answer × OutEntry) (ours : Bool) (partner : Option Partner) (settled failed : Bool)
+    → why_not ours partner settled failed ≡ None → acted_by d made ours partner settled failed ≡ made
 made_by d made false partner settled failed is = absurd cc
 made_by d made true None settled failed is = absurd cc
 made_by d made true (Some p) true failed is = absurd cc
@@ -60,7 +62,8 @@ module _ (A : Agreements) (m : ℕ) (d : OutEntry) where
   is_resent is = made_by d (Resent, queued_anew m d) (is_organization A d.organization) (partner_of A d.partner) (is_settled d) (is_error (state_of d.detail)) is
 
 -- what is written is what the machine leaves
-pub resends : (A : Agreements) (m : ℕ) (s t : State) (d : OutEntry) → IsCounted s → document s d.number ≡ Some d → resend_refusal A d ≡ None → resent_in d.number m s ≡ Some t → Some (on_document s d.number (resent A m)) ≡ Some (Resent, t)
+pub resends : (A : Agreements) (m : ℕ) (s t : State) (d : OutEntry) → IsCounted s → document s d.number ≡ Some d → resend_refusal A d ≡ None
+    → resent_in d.number m s ≡ Some t → Some (on_document s d.number (resent A m)) ≡ Some (Resent, t)
 resends A m s t d stands found fine is =
     let left : Some (change_document s d.number (queued_anew m)) ≡ Some t = ap (option_map (λ _. change_document s d.number (queued_anew m))) (sym found) ∙ is in
     let there : change_document s d.number (queued_anew m) ≡ t = cc in

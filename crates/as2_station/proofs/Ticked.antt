@@ -21,7 +21,8 @@ module _ {M : Medium} (m : ℕ) (old new : Standing M) where
     stands = λ s rests known. inr (may.stands s rests);
   }) it
 
-  pub ticks : (count : ℕ) → Writes {A = ℕ} {E = StoreFault} (ticked_in m) old new (Ok count) → (new.IsClean → AreTicked m old count) → Does (λ s. Some (tick m s)) always (true ≡ true) Ticked old new (Ok count)
+  pub ticks : (count : ℕ) → Writes {A = ℕ} {E = StoreFault} (ticked_in m) old new (Ok count) → (new.IsClean → AreTicked m old count)
+      → Does (λ s. Some (tick m s)) always (true ≡ true) Ticked old new (Ok count)
   ticks count it counted = record {
     clean = it.clean;
     is_open = λ clean _. it.is_open clean;
@@ -34,7 +35,8 @@ module _ {M : Medium} (m : ℕ) (old new : Standing M) where
     crash = leaves it.crash;
   }
 
-  pub fails_to_tick : (f : StoreFault) → may_come f ≡ true → Writes {A = ℕ} {E = StoreFault} (ticked_in m) old new (Err f) → Does (λ s. Some (tick m s)) always (true ≡ true) Ticked old new (Err f)
+  pub fails_to_tick : (f : StoreFault) → may_come f ≡ true → Writes {A = ℕ} {E = StoreFault} (ticked_in m) old new (Err f)
+      → Does (λ s. Some (tick m s)) always (true ≡ true) Ticked old new (Err f)
   fails_to_tick f may it = record {
     clean = it.clean;
     is_open = λ clean. tt;
@@ -44,6 +46,7 @@ module _ {M : Medium} (m : ℕ) (old new : Standing M) where
     crash = leaves it.crash;
   }
 
-  pub ticked : (r : Result ℕ StoreFault) → Writes (ticked_in m) old new r → IfErr r (λ f. may_come f ≡ true) → (new.IsClean → IfOk r (AreTicked m old)) → Does (λ s. Some (tick m s)) always (true ≡ true) Ticked old new r
+  pub ticked : (r : Result ℕ StoreFault) → Writes (ticked_in m) old new r → IfErr r (λ f. may_come f ≡ true) → (new.IsClean → IfOk r (AreTicked m old))
+      → Does (λ s. Some (tick m s)) always (true ≡ true) Ticked old new r
   ticked (Ok count) it may counted = ticks count it counted
   ticked (Err f) it may counted = fails_to_tick f may it

@@ -23,8 +23,10 @@ use Rattle.as2_station.specs.declared.viewing.Marked.{Marked}
 
 -- ---- received documents
 
-pub received_lines : {M : Medium} (old new : Standing M) (rows : Vec InRow Global) (shown : List InRow) (r : Result (String Global) StoreFault) → shown ≡ rows.items → IfOk r (λ t. string_bytes t ≡ flat_map in_row_line shown)
-    → Reads {A = Vec InRow Global} {E = StoreFault} (λ s es. es.items ≡ map in_summary s.inbox) old new (Ok rows) → Reads (λ s t. string_bytes t ≡ list_in s) old new r
+pub received_lines : {M : Medium} (old new : Standing M) (rows : Vec InRow Global) (shown : List InRow) (r : Result (String Global) StoreFault)
+    → shown ≡ rows.items → IfOk r (λ t. string_bytes t ≡ flat_map in_row_line shown)
+    → Reads {A = Vec InRow Global} {E = StoreFault} (λ s es. es.items ≡ map in_summary s.inbox) old new (Ok rows)
+    → Reads (λ s t. string_bytes t ≡ list_in s) old new r
 received_lines old new rows shown r same lines it =
     read_if _ (λ s t. string_bytes t ≡ list_in s) old new rows r (λ t. string_bytes t ≡ flat_map in_row_line shown) lines
     (λ s t told known. told ∙ ap (flat_map in_row_line) (same ∙ known) ∙ inbox_lines s) it
@@ -39,7 +41,8 @@ Known wanted s m = (m.rows.items ≡ listed wanted s) × (m.settled.items ≡ se
 abbrev Rising : Option StateOf → State → Marked → Type 0
 Rising wanted s m = Known wanted s m × Rise (document_numbers s)
 
-rising : {M : Medium} (wanted : Option StateOf) (old new : Standing M) (m : Marked) → Reads {A = Marked} {E = StoreFault} (Known wanted) old new (Ok m) → Reads {A = Marked} {E = StoreFault} (Rising wanted) old new (Ok m)
+rising : {M : Medium} (wanted : Option StateOf) (old new : Standing M) (m : Marked) → Reads {A = Marked} {E = StoreFault} (Known wanted) old new (Ok m)
+    → Reads {A = Marked} {E = StoreFault} (Rising wanted) old new (Ok m)
 rising wanted old new m it = reads_standing (Known wanted) (Rising wanted) old new (Ok m) (λ s m stands known. (known, given_rise s.next_out (document_numbers s) stands.documents.1)) it
 
 -- what holds of an answer where numbers rise
@@ -58,7 +61,8 @@ module _ {M : Medium} (old new : Standing M) (m : Marked) (rows : List OutRow) (
       (rising wanted old new m it)
 
   -- with the counts, where these were read before
-  outstanding_known : (moment : ℕ) (counts : Counts) → (Rise settled → IfOk r (λ t. string_bytes t ≡ counts_text counts ++ flat_map (marked_line settled) (filter (is_outstanding moment) rows)))
+  outstanding_known : (moment : ℕ) (counts : Counts)
+      → (Rise settled → IfOk r (λ t. string_bytes t ≡ counts_text counts ++ flat_map (marked_line settled) (filter (is_outstanding moment) rows)))
       → Reads {A = Marked} {E = StoreFault} (Known None) old new (Ok m) → Reads (λ s t. counts ≡ counts_of s → string_bytes t ≡ outstanding s moment) old new r
   outstanding_known moment counts lines it =
       read_if (Rising None) (λ s t. counts ≡ counts_of s → string_bytes t ≡ outstanding s moment) old new m r (λ t. Rise settled → string_bytes t ≡ counts_text counts ++ flat_map (marked_line settled) (filter (is_outstanding moment) rows)) (under _ r lines)
@@ -71,8 +75,10 @@ module _ {M : Medium} (old new : Standing M) (m : Marked) (rows : List OutRow) (
       ∙ outstanding_lines s moment known.1)
       (rising None old new m it)
 
-  pub outstanding_shown : (first : Standing M) (moment : ℕ) (counts : Counts) → (Rise settled → IfOk r (λ t. string_bytes t ≡ counts_text counts ++ flat_map (marked_line settled) (filter (is_outstanding moment) rows)))
-      → Reads {A = Counts} {E = StoreFault} (λ s c. c ≡ counts_of s) first old (Ok counts) → Reads {A = Marked} {E = StoreFault} (Known None) old new (Ok m) → Reads (λ s t. string_bytes t ≡ outstanding s moment) first new r
+  pub outstanding_shown : (first : Standing M) (moment : ℕ) (counts : Counts)
+      → (Rise settled → IfOk r (λ t. string_bytes t ≡ counts_text counts ++ flat_map (marked_line settled) (filter (is_outstanding moment) rows)))
+      → Reads {A = Counts} {E = StoreFault} (λ s c. c ≡ counts_of s) first old (Ok counts) → Reads {A = Marked} {E = StoreFault} (Known None) old new (Ok m)
+      → Reads (λ s t. string_bytes t ≡ outstanding s moment) first new r
   outstanding_shown first moment counts lines one two =
       read_then (λ s c. c ≡ counts_of s) (λ s t. counts ≡ counts_of s → string_bytes t ≡ outstanding s moment) (λ s t. string_bytes t ≡ outstanding s moment) first old new counts r (λ s t rests known more. more known) one
       (outstanding_known moment counts lines two)

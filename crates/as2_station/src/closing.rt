@@ -97,7 +97,9 @@ fn by_receipt(
     document: &OutEntry,
     moment: Moment,
 ) -> Result<Option<End>, Memory>
-    ensures { IfOk result (λ end. option_map (λ e. ended e document.now) end ≡ option_map (settled_by moment document.now) (option_and_then (if_for document.now) (receipt_as AllDigests opened.now body))) }
+    ensures { IfOk result (λ end. option_map (λ e. ended e document.now) end
+        ≡ option_map (settled_by moment document.now)
+        (option_and_then (if_for document.now) (receipt_as AllDigests opened.now body))) }
 {
     let report = body.joined()?;
     let Ok(receipt) = read_report(&opened.media, &report) else {
@@ -122,7 +124,9 @@ fn by_reply(
     moment: Moment,
 ) -> Result<End, Memory>
     requires terms { IsPartner partner.now }
-    ensures { IfOk result (λ end. ended end document.now ≡ closed_by partner.now (Reply status head.now body) moment document.now (option_and_then (if_for document.now) (receipt_in_answer AllDigests (Reply status head.now body)))) }
+    ensures { IfOk result (λ end. ended end document.now
+        ≡ closed_by partner.now (Reply status head.now body) moment document.now
+        (option_and_then (if_for document.now) (receipt_in_answer AllDigests (Reply status head.now body)))) }
 {
     if !is_success(status) {
         return Ok(End::Failed(after_failure(partner, document, moment)));
@@ -145,7 +149,9 @@ fn end_of(
     moment: Moment,
 ) -> Result<End, Memory>
     requires terms { IsPartner partner.now }
-    ensures { IfOk result (λ end. ended end document.now ≡ closed_by partner.now answer moment document.now (option_and_then (if_for document.now) (receipt_in_answer AllDigests answer))) }
+    ensures { IfOk result (λ end. ended end document.now
+        ≡ closed_by partner.now answer moment document.now
+        (option_and_then (if_for document.now) (receipt_in_answer AllDigests answer))) }
 {
     match answer {
         TryAnswer::NoAnswer => Ok(End::Failed(after_failure(partner, document, moment))),
@@ -160,7 +166,8 @@ fn end_of(
 fn end_try<R: Records>(records: &mut R, entry: &OutEntry, end: End) -> Result<Ended, StoreFault>
     requires unsettled { LeavesUnsettled end }
     requires open { (R.shows records.old).IsClean → IsTrue (R.shows records.old).is_open }
-    ensures taken { Does (λ s. Some (on_document s entry.now.number (ended end))) (λ s. document s entry.now.number ≡ Some entry.now) (true ≡ true) said_to_outcome (R.shows records.old) (R.shows records.new) result }
+    ensures taken { Does (λ s. Some (on_document s entry.now.number (ended end))) (λ s. document s entry.now.number
+        ≡ Some entry.now) (true ≡ true) said_to_outcome (R.shows records.old) (R.shows records.new) result }
 {
     if !entry.begun {
         return Err(StoreFault::Refused);
@@ -191,7 +198,9 @@ fn close_found<R: Records>(
     moment: Moment,
 ) -> Result<Ended, StoreFault>
     requires open { (R.shows records.old).IsClean → IsTrue (R.shows records.old).is_open }
-    ensures taken { Does (λ s. Some (on_document s entry.now.number (closed agreements.now AllDigests answer moment))) (λ s. document s entry.now.number ≡ Some entry.now) (true ≡ true) said_to_outcome (R.shows records.old) (R.shows records.new) result }
+    ensures taken { Does (λ s. Some (on_document s entry.now.number (closed agreements.now AllDigests answer moment)))
+        (λ s. document s entry.now.number ≡ Some entry.now) (true
+        ≡ true) said_to_outcome (R.shows records.old) (R.shows records.new) result }
 {
     let partner = match agreed_partner(agreements, &entry.organization, &entry.partner) {
         Ok(partner) => partner,
@@ -216,7 +225,8 @@ pub fn close<R: Records>(
     answer: TryAnswer,
     moment: Moment,
 ) -> Result<Ended, StoreFault>
-    ensures taken { Does (λ s. Some (on_document s number (closed agreements.now AllDigests answer moment))) always (true ≡ true) said_to_outcome (R.shows records.old) (R.shows records.new) result }
+    ensures taken { Does (λ s. Some (on_document s number (closed agreements.now AllDigests answer moment))) always
+        (true ≡ true) said_to_outcome (R.shows records.old) (R.shows records.new) result }
 {
     match records.find_out(alloc, number)? {
         Some(document) => close_found(records, alloc, agreements, &document, answer, moment),

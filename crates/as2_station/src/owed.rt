@@ -75,7 +75,9 @@ fn begin_found<R: Records>(
     moment: Moment,
 ) -> Result<Begun, StoreFault>
     requires open { (R.shows records.old).IsClean → IsTrue (R.shows records.old).is_open }
-    ensures taken { Does (λ s. Some (on_received s entry.now.number (mdn_begun agreements.now moment))) (λ s. received s entry.now.number ≡ Some entry.now) (true ≡ true) said_to_begin (R.shows records.old) (R.shows records.new) result }
+    ensures taken { Does (λ s. Some (on_received s entry.now.number (mdn_begun agreements.now moment)))
+        (λ s. received s entry.now.number ≡ Some entry.now) (true
+        ≡ true) said_to_begin (R.shows records.old) (R.shows records.new) result }
 {
     let partner = match agreed_partner(agreements, &entry.posted.receiver, &entry.posted.sender) {
         Ok(partner) => partner,
@@ -98,7 +100,8 @@ pub fn begin_mdn<R: Records>(
     number: u64,
     moment: Moment,
 ) -> Result<Begun, StoreFault>
-    ensures taken { Does (λ s. Some (on_received s number (mdn_begun agreements.now moment))) always (true ≡ true) said_to_begin (R.shows records.old) (R.shows records.new) result }
+    ensures taken { Does (λ s. Some (on_received s number (mdn_begun agreements.now moment))) always (true
+        ≡ true) said_to_begin (R.shows records.old) (R.shows records.new) result }
 {
     match records.find_in_number(alloc, number)? {
         Some(entry) => begin_found(records, alloc, agreements, &entry, moment),
@@ -167,7 +170,9 @@ fn close_found<R: Records>(
     moment: Moment,
 ) -> Result<Ended, StoreFault>
     requires open { (R.shows records.old).IsClean → IsTrue (R.shows records.old).is_open }
-    ensures taken { Does (λ s. Some (on_received s entry.now.number (mdn_closed agreements.now answer.now moment))) (λ s. received s entry.now.number ≡ Some entry.now) (true ≡ true) said_to_outcome (R.shows records.old) (R.shows records.new) result }
+    ensures taken { Does (λ s. Some (on_received s entry.now.number (mdn_closed agreements.now answer.now moment)))
+        (λ s. received s entry.now.number ≡ Some entry.now) (true
+        ≡ true) said_to_outcome (R.shows records.old) (R.shows records.new) result }
 {
     let partner = match agreed_partner(agreements, &entry.posted.receiver, &entry.posted.sender) {
         Ok(partner) => partner,
@@ -193,7 +198,8 @@ pub fn close_mdn<R: Records>(
     answer: TryAnswer,
     moment: Moment,
 ) -> Result<Ended, StoreFault>
-    ensures taken { Does (λ s. Some (on_received s number (mdn_closed agreements.now answer moment))) always (true ≡ true) said_to_outcome (R.shows records.old) (R.shows records.new) result }
+    ensures taken { Does (λ s. Some (on_received s number (mdn_closed agreements.now answer moment))) always (true
+        ≡ true) said_to_outcome (R.shows records.old) (R.shows records.new) result }
 {
     match records.find_in_number(alloc, number)? {
         Some(entry) => close_found(records, agreements, &entry, &answer, moment),

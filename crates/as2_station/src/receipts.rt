@@ -16,7 +16,9 @@ use std::alloc::Global;
 /// identifier (RFC 4130, section 6.2; RFC 8098, section 3.2.5).
 #[tactic(auto, unfolding(as2_exchange::specs::Readings::named_by, as2_exchange::specs::Readings::value_of))]
 pub fn bears(opened: &Opened<'_>, receipt: &Receipt<'_>, document: &OutEntry) -> bool
-    ensures { (body : List ℕ) → result ≡ bears (receipt_by AllDigests opened.now receipt.now body) document.now.organization document.now.partner document.now.id }
+    ensures { (body : List ℕ)
+        → result ≡ bears (receipt_by AllDigests opened.now receipt.now body) document.now.organization
+        document.now.partner document.now.id }
 {
     document.organization.bytes() == opened.to.bytes()
         && document.partner.bytes() == opened.from.bytes()
@@ -30,7 +32,8 @@ pub fn evidence_of(
     body: Pieces,
     moment: Moment,
 ) -> Result<Evidence, Memory>
-    ensures { IfOk result (λ evidence. (receipt : TheReceipt) → evidence ≡ evidence_of moment (receipt_by AllDigests opened.now receipt body)) }
+    ensures { IfOk result (λ evidence. (receipt : TheReceipt)
+        → evidence ≡ evidence_of moment (receipt_by AllDigests opened.now receipt body)) }
 {
     Ok(Evidence {
         moment,

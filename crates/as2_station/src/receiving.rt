@@ -20,7 +20,10 @@ use std::alloc::Global;
 
 /// Whether the receipt is for the document, and that was begun.
 fn is_for(opened: &Opened<'_>, receipt: &Receipt<'_>, document: &OutEntry) -> bool
-    ensures { (body : List ℕ) → result ≡ (bears (receipt_by AllDigests opened.now receipt.now body) document.now.organization document.now.partner document.now.id
+    ensures { (body : List ℕ)
+        → result ≡
+        (bears (receipt_by AllDigests opened.now receipt.now body) document.now.organization document.now.partner
+        document.now.id
         && document.now.begun) }
 {
     bears(opened, receipt, document) && document.begun
@@ -48,7 +51,8 @@ fn settle_named<R: Records>(
     document: &OutEntry,
 ) -> Result<HttpAnswer, StoreFault>
     requires open { (R.shows records.old).IsClean → IsTrue (R.shows records.old).is_open }
-    ensures taken { (A : Agreements) → TakesPost R.shows A moment (IsReceipt (receipt_by AllDigests opened.now receipt.now body))
+    ensures taken { (A : Agreements)
+        → TakesPost R.shows A moment (IsReceipt (receipt_by AllDigests opened.now receipt.now body))
         (λ s. document_named s (named_by receipt.now) ≡ Some document.now) records.old records.new result }
 {
     if !is_for(opened, receipt, document) {
@@ -72,7 +76,8 @@ pub fn receive<R: Records>(
     body: Pieces,
     moment: Moment,
 ) -> Result<HttpAnswer, StoreFault>
-    ensures taken { (A : Agreements) → TakesPost R.shows A moment (report_by AllDigests opened.now body) always records.old records.new result }
+    ensures taken { (A : Agreements)
+        → TakesPost R.shows A moment (report_by AllDigests opened.now body) always records.old records.new result }
 {
     let report = body.joined()?;
     let Ok(receipt) = read_report(&opened.media, &report) else {

@@ -28,7 +28,8 @@ fn record_again<R: Records>(
     moment: Moment,
 ) -> Result<HttpAnswer, StoreFault>
     requires open { (R.shows records.old).IsClean → IsTrue (R.shows records.old).is_open }
-    ensures taken { TakesPost R.shows agreements.now moment (IsDocument posted.now) (λ s. received_as s posted.now ≡ Some entry.now) records.old records.new result }
+    ensures taken { TakesPost R.shows agreements.now moment (IsDocument posted.now) (λ s. received_as s posted.now
+        ≡ Some entry.now) records.old records.new result }
     ensures whole { result ≡ Ok (refusal IdUsedBefore) → has_kept_mic entry.now.posted ≡ true }
 {
     let origin = records.origin()?;
@@ -55,7 +56,8 @@ fn record_first<R: Records>(
     posted: Posted,
     moment: Moment,
 ) -> Result<HttpAnswer, StoreFault>
-    ensures taken { TakesPost R.shows agreements.now moment (IsDocument posted) (λ s. received_as s posted ≡ None) records.old records.new result }
+    ensures taken { TakesPost R.shows agreements.now moment (IsDocument posted) (λ s. received_as s posted
+        ≡ None) records.old records.new result }
     ensures own { ¬ (result ≡ Ok (refusal IdUsedBefore)) }
 {
     let number = records.next_numbers()?.receipt;

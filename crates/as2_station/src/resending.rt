@@ -43,7 +43,9 @@ fn resend_found<R: Records>(
     moment: Moment,
 ) -> Result<Resent, StoreFault>
     requires open { (R.shows records.old).IsClean → IsTrue (R.shows records.old).is_open }
-    ensures taken { Does (λ s. Some (on_document s entry.now.number (resent agreements.now moment))) (λ s. document s entry.now.number ≡ Some entry.now) (true ≡ true) said_to_resend (R.shows records.old) (R.shows records.new) result }
+    ensures taken { Does (λ s. Some (on_document s entry.now.number (resent agreements.now moment)))
+        (λ s. document s entry.now.number ≡ Some entry.now) (true
+        ≡ true) said_to_resend (R.shows records.old) (R.shows records.new) result }
 {
     if let Some(reason) = refusal_of(agreements, entry) {
         return Ok(Err(reason));
@@ -60,7 +62,8 @@ pub fn resend<R: Records>(
     number: u64,
     moment: Moment,
 ) -> Result<Resent, StoreFault>
-    ensures taken { Does (λ s. Some (on_document s number (resent agreements.now moment))) always (true ≡ true) said_to_resend (R.shows records.old) (R.shows records.new) result }
+    ensures taken { Does (λ s. Some (on_document s number (resent agreements.now moment))) always (true
+        ≡ true) said_to_resend (R.shows records.old) (R.shows records.new) result }
 {
     match records.find_out(alloc, number)? {
         Some(document) => resend_found(records, agreements, &document, moment),

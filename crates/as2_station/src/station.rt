@@ -78,8 +78,10 @@ impl<R: Records> Station<R> {
         body: Pieces,
         moment: Moment,
     ) -> Result<HttpAnswer, StoreFault>
-        ensures taken { TakesPost R.shows agreements.now moment (reading_by AllDigests opened.entry head.now body) always self.old self.new result }
-        ensures whole { ClashesWhole Http (reading_by AllDigests opened.entry head.now body) (R.shows self.old) (R.shows self.new) result }
+        ensures taken { TakesPost R.shows agreements.now moment (reading_by AllDigests opened.entry head.now body)
+            always self.old self.new result }
+        ensures whole { ClashesWhole Http (reading_by AllDigests opened.entry head.now body) (R.shows self.old)
+            (R.shows self.new) result }
     {
         if opened.is_report() {
             return receive(&mut self.records, alloc, &opened, body, moment);
@@ -101,7 +103,8 @@ impl<R: Records> Station<R> {
         body: Pieces,
         moment: Moment,
     ) -> Result<HttpAnswer, StoreFault>
-        ensures taken { TakesEvent agreements.now (Post head.now body moment) Http (R.shows self.old) (R.shows self.new) result }
+        ensures taken { TakesEvent agreements.now (Post head.now body moment) Http (R.shows self.old) (R.shows self.new)
+            result }
         ensures of_head { TakesHead agreements.now (Post head.now body moment) (λ a. a) self.old self.new result }
     {
         match open(agreements, head) {
@@ -119,8 +122,11 @@ impl<R: Records> Station<R> {
         document: NewDocument,
         moment: Moment,
     ) -> Result<Submitted, StoreFault>
-        ensures taken { TakesEvent agreements.now (Submit document.organization document.partner document.content moment) said_to_submit (R.shows self.old) (R.shows self.new) result }
-        ensures refused { RefusesSubmit agreements.now (Submit document.organization document.partner document.content moment) Err self.old self.new result }
+        ensures taken { TakesEvent agreements.now
+            (Submit document.organization document.partner document.content moment) said_to_submit (R.shows self.old)
+            (R.shows self.new) result }
+        ensures refused { RefusesSubmit agreements.now
+            (Submit document.organization document.partner document.content moment) Err self.old self.new result }
     {
         submit(&mut self.records, alloc, agreements, document, moment)
     }
@@ -134,7 +140,8 @@ impl<R: Records> Station<R> {
         what: Next,
         moment: Moment,
     ) -> Result<Begun, StoreFault>
-        ensures taken { TakesEvent agreements.now (begin_of what moment) said_to_begin (R.shows self.old) (R.shows self.new) result }
+        ensures taken { TakesEvent agreements.now (begin_of what moment) said_to_begin (R.shows self.old)
+            (R.shows self.new) result }
     {
         match what {
             Next::Receipt(number) => {
@@ -154,7 +161,8 @@ impl<R: Records> Station<R> {
         answer: TryAnswer,
         moment: Moment,
     ) -> Result<Ended, StoreFault>
-        ensures taken { TakesEvent agreements.now (outcome_of what answer moment) said_to_outcome (R.shows self.old) (R.shows self.new) result }
+        ensures taken { TakesEvent agreements.now (outcome_of what answer moment) said_to_outcome (R.shows self.old)
+            (R.shows self.new) result }
     {
         match what {
             Next::Receipt(number) => close_mdn(
@@ -185,7 +193,8 @@ impl<R: Records> Station<R> {
         number: u64,
         moment: Moment,
     ) -> Result<Resent, StoreFault>
-        ensures taken { TakesEvent agreements.now (Resend number moment) said_to_resend (R.shows self.old) (R.shows self.new) result }
+        ensures taken { TakesEvent agreements.now (Resend number moment) said_to_resend (R.shows self.old)
+            (R.shows self.new) result }
     {
         resend(&mut self.records, alloc, agreements, number, moment)
     }
@@ -275,7 +284,8 @@ impl<R: Records> Station<R> {
 
     /// The listing that is asked for, a line each, in order of number. Answers Memory, Disk or Refused.
     pub fn listing(&mut self, alloc: Global, filter: Filter) -> Result<String, StoreFault>
-        ensures listing { Reads (λ s text. string_bytes text ≡ listing filter s) (R.shows self.old) (R.shows self.new) result }
+        ensures listing { Reads (λ s text. string_bytes text
+            ≡ listing filter s) (R.shows self.old) (R.shows self.new) result }
         ensures fault { IfErr result (λ f. may_come f ≡ true) }
     {
         match filter {
@@ -287,7 +297,8 @@ impl<R: Records> Station<R> {
     /// How much is outstanding, a line for each of five counts, and the lines of the documents that are under way and due at this
     /// moment. Answers Memory, Disk or Refused.
     pub fn outstanding(&mut self, alloc: Global, moment: Moment) -> Result<String, StoreFault>
-        ensures outstanding { Reads (λ s text. string_bytes text ≡ outstanding s moment) (R.shows self.old) (R.shows self.new) result }
+        ensures outstanding { Reads (λ s text. string_bytes text
+            ≡ outstanding s moment) (R.shows self.old) (R.shows self.new) result }
         ensures fault { IfErr result (λ f. may_come f ≡ true) }
     {
         viewing::outstanding(&mut self.records, alloc, moment)
@@ -296,7 +307,8 @@ impl<R: Records> Station<R> {
     /// All that is known of the document of this number, a line each; None where there is no such document. Answers Memory, Disk
     /// or Refused.
     pub fn show(&mut self, alloc: Global, number: u64) -> Result<Option<String>, StoreFault>
-        ensures shown { Reads (λ s text. option_map string_bytes text ≡ show s number) (R.shows self.old) (R.shows self.new) result }
+        ensures shown { Reads (λ s text. option_map string_bytes text
+            ≡ show s number) (R.shows self.old) (R.shows self.new) result }
         ensures fault { IfErr result (λ f. may_come f ≡ true) }
     {
         viewing::show(&mut self.records, alloc, number)
@@ -308,7 +320,8 @@ impl<R: Records> Station<R> {
         alloc: Global,
         filter: Filter,
     ) -> Result<Vec<u8>, StoreFault>
-        ensures listing { Reads (λ s text. text.items ≡ lines (listing_objects filter s)) (R.shows self.old) (R.shows self.new) result }
+        ensures listing { Reads (λ s text. text.items
+            ≡ lines (listing_objects filter s)) (R.shows self.old) (R.shows self.new) result }
         ensures fault { IfErr result (λ f. may_come f ≡ true) }
     {
         as2_json::listing_in_objects(&mut self.records, alloc, filter)
@@ -321,7 +334,8 @@ impl<R: Records> Station<R> {
         alloc: Global,
         moment: Moment,
     ) -> Result<Vec<u8>, StoreFault>
-        ensures outstanding { Reads (λ s text. text.items ≡ lines (outstanding_objects s moment)) (R.shows self.old) (R.shows self.new) result }
+        ensures outstanding { Reads (λ s text. text.items
+            ≡ lines (outstanding_objects s moment)) (R.shows self.old) (R.shows self.new) result }
         ensures fault { IfErr result (λ f. may_come f ≡ true) }
     {
         as2_json::outstanding_in_objects(&mut self.records, alloc, moment)
@@ -334,7 +348,8 @@ impl<R: Records> Station<R> {
         alloc: Global,
         number: u64,
     ) -> Result<Option<Vec<u8>>, StoreFault>
-        ensures shown { Reads (λ s text. option_map (λ t. t.items) text ≡ option_map line (shown_object s number)) (R.shows self.old) (R.shows self.new) result }
+        ensures shown { Reads (λ s text. option_map (λ t. t.items) text
+            ≡ option_map line (shown_object s number)) (R.shows self.old) (R.shows self.new) result }
         ensures fault { IfErr result (λ f. may_come f ≡ true) }
     {
         as2_json::shown_in_objects(&mut self.records, alloc, number)
@@ -342,7 +357,8 @@ impl<R: Records> Station<R> {
 
     /// The content of the received document of this number; None where there is no such entry. Answers Memory, Disk or Refused.
     pub fn fetch(&mut self, alloc: Global, number: u64) -> Result<Option<Vec<u8>>, StoreFault>
-        ensures fetched { Reads (λ s content. option_map (λ v. v.items) content ≡ fetch s number) (R.shows self.old) (R.shows self.new) result }
+        ensures fetched { Reads (λ s content. option_map (λ v. v.items) content
+            ≡ fetch s number) (R.shows self.old) (R.shows self.new) result }
         ensures fault { IfErr result (λ f. may_come f ≡ true) }
     {
         viewing::fetch(&mut self.records, alloc, number)

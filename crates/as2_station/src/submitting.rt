@@ -49,7 +49,21 @@ fn new_document(
     content: Pieces,
     moment: Moment,
 ) -> OutEntry
-    ensures { result ≡ record { number = number; organization = organization; partner = partner; id = id; content = content; moment = moment; begun = false; tries = 0; attempt = Idle; due = Some moment; detail = New; evidence = None } }
+    ensures { result
+        ≡ record {
+          number = number;
+          organization = organization;
+          partner = partner;
+          id = id;
+          content = content;
+          moment = moment;
+          begun = false;
+          tries = 0;
+          attempt = Idle;
+          due = Some moment;
+          detail = New;
+          evidence = None;
+        } }
 {
     OutEntry {
         number,
@@ -75,9 +89,15 @@ pub fn submit<R: Records>(
     document: NewDocument,
     moment: Moment,
 ) -> Result<Submitted, StoreFault>
-    ensures taken { Does (λ s. submit agreements.now s document.organization document.partner document.content moment) always (is_none (submit_refusal agreements.now document.organization document.partner document.content) ≡ true) said_to_submit (R.shows records.old) (R.shows records.new) result }
-    ensures refused { (reason : TheRefusal) → submit_refusal agreements.now document.organization document.partner document.content ≡ Some reason → result ≡ Ok (Err reason) }
-    ensures same { (reason : TheRefusal) → submit_refusal agreements.now document.organization document.partner document.content ≡ Some reason → records.new ≡ records.old }
+    ensures taken { Does (λ s. submit agreements.now s document.organization document.partner document.content moment)
+        always (is_none (submit_refusal agreements.now document.organization document.partner document.content)
+        ≡ true) said_to_submit (R.shows records.old) (R.shows records.new) result }
+    ensures refused { (reason : TheRefusal)
+        → submit_refusal agreements.now document.organization document.partner document.content ≡ Some reason
+        → result ≡ Ok (Err reason) }
+    ensures same { (reason : TheRefusal)
+        → submit_refusal agreements.now document.organization document.partner document.content ≡ Some reason
+        → records.new ≡ records.old }
 {
     let NewDocument {
         organization,

@@ -37,7 +37,8 @@ pub fn in_text(alloc: Global, rows: &[InRow]) -> Result<String, StoreFault>
 /// The lines of documents that are sent; `settled` has the numbers of those that a receipt has settled, from the least to the
 /// greatest. Memory where it runs out.
 pub fn out_text(alloc: Global, rows: &[OutRow], settled: &[u64]) -> Result<String, StoreFault>
-    ensures lines { Rise settled.now → IfOk result (λ text. string_bytes text ≡ flat_map (marked_line settled.now) rows.now) }
+    ensures lines { Rise settled.now
+        → IfOk result (λ text. string_bytes text ≡ flat_map (marked_line settled.now) rows.now) }
     ensures fault { IfErr result (λ f. may_come f ≡ true) }
 {
     let mut text = Vec::new(alloc);
@@ -53,7 +54,9 @@ pub fn outstanding_text(
     settled: &[u64],
     moment: Moment,
 ) -> Result<String, StoreFault>
-    ensures lines { Rise settled.now → IfOk result (λ text. string_bytes text ≡ counts_text counts ++ flat_map (marked_line settled.now) (filter (is_outstanding moment) rows.items)) }
+    ensures lines { Rise settled.now
+        → IfOk result (λ text. string_bytes text
+        ≡ counts_text counts ++ flat_map (marked_line settled.now) (filter (is_outstanding moment) rows.items)) }
     ensures fault { IfErr result (λ f. may_come f ≡ true) }
 {
     keep_outstanding(&mut rows, moment);

@@ -84,7 +84,9 @@ fn begin_found<R: Records>(
     moment: Moment,
 ) -> Result<Begun, StoreFault>
     requires open { (R.shows records.old).IsClean → IsTrue (R.shows records.old).is_open }
-    ensures taken { Does (λ s. Some (on_document s entry.now.number (begun agreements.now moment))) (λ s. document s entry.now.number ≡ Some entry.now) (true ≡ true) said_to_begin (R.shows records.old) (R.shows records.new) result }
+    ensures taken { Does (λ s. Some (on_document s entry.now.number (begun agreements.now moment)))
+        (λ s. document s entry.now.number ≡ Some entry.now) (true
+        ≡ true) said_to_begin (R.shows records.old) (R.shows records.new) result }
 {
     let partner = match agreed_partner(agreements, &entry.organization, &entry.partner) {
         Ok(partner) => partner,
@@ -114,7 +116,8 @@ pub fn begin<R: Records>(
     number: u64,
     moment: Moment,
 ) -> Result<Begun, StoreFault>
-    ensures taken { Does (λ s. Some (on_document s number (begun agreements.now moment))) always (true ≡ true) said_to_begin (R.shows records.old) (R.shows records.new) result }
+    ensures taken { Does (λ s. Some (on_document s number (begun agreements.now moment))) always (true
+        ≡ true) said_to_begin (R.shows records.old) (R.shows records.new) result }
 {
     match records.find_out(alloc, number)? {
         Some(document) => begin_found(records, alloc, agreements, &document, moment),

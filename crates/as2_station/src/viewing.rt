@@ -25,7 +25,8 @@ fn documents<R: Records>(
     alloc: Global,
     wanted: Option<State>,
 ) -> Result<Marked, StoreFault>
-    ensures marked { Reads (λ s m. (m.rows.items ≡ listed wanted s) × (m.settled.items ≡ settled_numbers s)) (R.shows records.old) (R.shows records.new) result }
+    ensures marked { Reads (λ s m. (m.rows.items ≡ listed wanted s)
+        × (m.settled.items ≡ settled_numbers s)) (R.shows records.old) (R.shows records.new) result }
     ensures fault { IfErr result (λ f. may_come f ≡ true) }
 {
     let rows = records.list_out(alloc, wanted)?;
@@ -39,7 +40,8 @@ pub fn sent_listing<R: Records>(
     alloc: Global,
     wanted: Option<State>,
 ) -> Result<String, StoreFault>
-    ensures listing { Reads (λ s text. string_bytes text ≡ list_out s wanted) (R.shows records.old) (R.shows records.new) result }
+    ensures listing { Reads (λ s text. string_bytes text
+        ≡ list_out s wanted) (R.shows records.old) (R.shows records.new) result }
     ensures fault { IfErr result (λ f. may_come f ≡ true) }
 {
     let documents = documents(records, alloc, wanted)?;
@@ -52,7 +54,8 @@ pub fn sent_listing<R: Records>(
 
 /// The lines of all received documents.
 pub fn received_listing<R: Records>(records: &mut R, alloc: Global) -> Result<String, StoreFault>
-    ensures listing { Reads (λ s text. string_bytes text ≡ list_in s) (R.shows records.old) (R.shows records.new) result }
+    ensures listing { Reads (λ s text. string_bytes text
+        ≡ list_in s) (R.shows records.old) (R.shows records.new) result }
     ensures fault { IfErr result (λ f. may_come f ≡ true) }
 {
     let rows = records.list_in(alloc)?;
@@ -65,7 +68,8 @@ pub fn outstanding<R: Records>(
     alloc: Global,
     moment: Moment,
 ) -> Result<String, StoreFault>
-    ensures outstanding { Reads (λ s text. string_bytes text ≡ outstanding s moment) (R.shows records.old) (R.shows records.new) result }
+    ensures outstanding { Reads (λ s text. string_bytes text
+        ≡ outstanding s moment) (R.shows records.old) (R.shows records.new) result }
     ensures fault { IfErr result (λ f. may_come f ≡ true) }
 {
     let counts = records.counts(alloc)?;
@@ -85,7 +89,8 @@ pub fn show<R: Records>(
     alloc: Global,
     number: u64,
 ) -> Result<Option<String>, StoreFault>
-    ensures shown { Reads (λ s text. option_map string_bytes text ≡ show s number) (R.shows records.old) (R.shows records.new) result }
+    ensures shown { Reads (λ s text. option_map string_bytes text
+        ≡ show s number) (R.shows records.old) (R.shows records.new) result }
     ensures fault { IfErr result (λ f. may_come f ≡ true) }
 {
     match records.find_out(alloc, number)? {
@@ -100,7 +105,8 @@ pub fn fetch<R: Records>(
     alloc: Global,
     number: u64,
 ) -> Result<Option<Vec<u8>>, StoreFault>
-    ensures fetched { Reads (λ s content. option_map (λ v. v.items) content ≡ fetch s number) (R.shows records.old) (R.shows records.new) result }
+    ensures fetched { Reads (λ s content. option_map (λ v. v.items) content
+        ≡ fetch s number) (R.shows records.old) (R.shows records.new) result }
     ensures fault { IfErr result (λ f. may_come f ≡ true) }
 {
     match records.find_in_number(alloc, number)? {

@@ -27,7 +27,8 @@ use Rattle.as2_storage.specs.Files.{AreClosed, HoldsAs}
 -- ---- an open
 
 -- trees that stand for a state, with the tables that they list, are the whole of what a new connection shows, whatever their version
-pub rests_as : (layout : Layout) (new : Connected) (s : State) → Opens new → IsLive new → Stands layout (record { schema = schema_of layout; trees = new.committed.trees }) s → RestsAs layout new s
+pub rests_as : (layout : Layout) (new : Connected) (s : State) → Opens new → IsLive new
+    → Stands layout (record { schema = schema_of layout; trees = new.committed.trees }) s → RestsAs layout new s
 unfolding IsWhole
 rests_as layout new s opens live it =
     let schema : new.committed.schema ≡ schema_of layout = lists_once (new.committed.trees catalog_tree) new.committed.schema (schema_of layout) (live opens.is_open).1.lists it.sound.lists in
@@ -49,13 +50,15 @@ rests_kept new s opens live it =
     }
 
 -- a connection that has just opened on what the files held
-pub rests_held : (new : Connected) (image : Image) (s : State) → Opens new → IsLive new → ((db : Trees) → HoldsDatabase image db → new.committed.trees ≡ db) → HoldsState image s → Rests new s
+pub rests_held : (new : Connected) (image : Image) (s : State) → Opens new → IsLive new → ((db : Trees) → HoldsDatabase image db → new.committed.trees ≡ db)
+    → HoldsState image s → Rests new s
 rests_held new image s opens live found held =
     let same : new.committed.trees ≡ held.0 = ∥∥₁_elim held.1 (Trees-set _ _) (found held.0) in
     rests_kept new s opens live (subst (λ (db : Trees). Keeps db s) (sym same) held.2)
 
 -- and on what they held in tables of any version
-pub rests_held_as : (layout : Layout) (new : Connected) (image : Image) (s : State) → Opens new → IsLive new → ((db : Trees) → HoldsDatabase image db → new.committed.trees ≡ db) → HoldsAs layout image s → RestsAs layout new s
+pub rests_held_as : (layout : Layout) (new : Connected) (image : Image) (s : State) → Opens new → IsLive new
+    → ((db : Trees) → HoldsDatabase image db → new.committed.trees ≡ db) → HoldsAs layout image s → RestsAs layout new s
 rests_held_as layout new image s opens live found it =
     let same : new.committed.trees ≡ it.db = ∥∥₁_elim it.held (Trees-set _ _) (found it.db) in
     rests_as layout new s opens live (subst (λ (db : Trees). Stands layout (record { schema = schema_of layout; trees = db }) s) (sym same) it.stands)
@@ -66,7 +69,8 @@ rests_held_as layout new image s opens live found it =
 pub kept : (c : Connected) (s : State) → IsTrue c.is_open → Rests c s → Keeps c.committed.trees s
 kept c s opened r = subst (λ (d : Database). Keeps d.trees s) (sym (r.committed opened)) (keeps_of c.now s (r.stands opened))
 
-pub closed : {D : Type 0} {g : disk.Ghosts D} (c : Held (FileStore D g)) (files : Files D) (s : State) → IsCopied c files → Rests (file_state c) s → AreClosed g files s
+pub closed : {D : Type 0} {g : disk.Ghosts D} (c : Held (FileStore D g)) (files : Files D) (s : State) → IsCopied c files → Rests (file_state c) s
+    → AreClosed g files s
 closed c files s it r =
     let keeps = kept (file_state c) s it.was_open r in
     let trees = (file_state c).committed.trees in

@@ -26,8 +26,10 @@ pub fn open_at<S: Start>(
     ensures autocommit { IfOk result (λ c. c.in_transaction ≡ false) }
     ensures opened { IfOk result (λ c. HasCleanDisk (file_state c) → IsOpened c) }
     ensures finds { IfOk result (λ c. HasCleanDisk (file_state c) → FindsIn (image_at S.Start) (file_state c)) }
-    ensures sums { IfOk result (λ c. HasCleanDisk (file_state c) → IsBlankAs true (image_at S.Start) → (view c.store).has_sums ≡ true) }
-    ensures found { IfOk result (λ c. HasCleanDisk (file_state c) → (s : State) → HoldsState (image_at S.Start) s → Rests (file_state c) s) }
+    ensures sums { IfOk result (λ c. HasCleanDisk (file_state c) → IsBlankAs true (image_at S.Start)
+        → (view c.store).has_sums ≡ true) }
+    ensures found { IfOk result (λ c. HasCleanDisk (file_state c) → (s : State) → HoldsState (image_at S.Start) s
+        → Rests (file_state c) s) }
     ensures guarded { IfOk result (λ c. HasCleanDisk (file_state c) → (file_state c).IsShielded) }
 {
     match Connection::open_from(rt, path, true, start) {
@@ -41,7 +43,8 @@ pub fn open_at<S: Start>(
 pub fn close<D: Disk + Drop>(conn: Connection<FileStore<D>>) -> Result<Files<D>, (Error, Files<D>)>
     ensures usable { IfOk result (λ files. IsTrue (D.Disk.is_usable files.log) × IsTrue (D.Disk.is_usable files.db)) }
     ensures copied { IfOk result (λ files. AreClean D.Disk files.log files.db → IsCopied conn files) }
-    ensures closed { IfOk result (λ files. AreClean D.Disk files.log files.db → (s : State) → Rests (file_state conn) s → AreClosed D.Disk files s) }
+    ensures closed { IfOk result (λ files. AreClean D.Disk files.log files.db → (s : State) → Rests (file_state conn) s
+        → AreClosed D.Disk files s) }
     ensures shield { IfOk result (λ files. (file_state conn).IsShielded → AreShielded D.Disk files) }
     ensures clean { IfOk result (λ files. AreClean D.Disk files.log files.db → HasCleanDisk (file_state conn)) }
     ensures left { IfErr result (λ e. AreLeftBy D.Disk conn e.1) }

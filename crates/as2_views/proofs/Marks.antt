@@ -24,7 +24,8 @@ kept is_kept d rest = if is_kept then d ∷ rest else rest
 
 -- ---- numbers that rise
 
-all_if : (n : ℕ) (b : Bool) (d : OutEntry) (rest : List OutEntry) → n < d.number → AllByRecursion (λ k. n < k) (numbers rest) → AllByRecursion (λ k. n < k) (numbers (kept b d rest))
+all_if : (n : ℕ) (b : Bool) (d : OutEntry) (rest : List OutEntry) → n < d.number → AllByRecursion (λ k. n < k) (numbers rest)
+    → AllByRecursion (λ k. n < k) (numbers (kept b d rest))
 all_if n true d rest here h = (here, h)
 all_if n false d rest here h = h
 
@@ -32,7 +33,8 @@ all_kept : (p : OutEntry → Bool) (n : ℕ) (ds : List OutEntry) → AllByRecur
 all_kept p n [] h = h
 all_kept p n (d ∷ ds) h = all_if n (p d) d (filter p ds) h.0 (all_kept p n ds h.1)
 
-rise_if : (b : Bool) (d : OutEntry) (rest : List OutEntry) → AllByRecursion (λ k. d.number < k) (numbers rest) → Rise (numbers rest) → Rise (numbers (kept b d rest))
+rise_if : (b : Bool) (d : OutEntry) (rest : List OutEntry) → AllByRecursion (λ k. d.number < k) (numbers rest) → Rise (numbers rest)
+    → Rise (numbers (kept b d rest))
 rise_if true d rest h up = (h, up)
 rise_if false d rest h up = up
 
@@ -61,7 +63,8 @@ of_later false d rest k l = refl
 abbrev IsMarked : List ℕ → OutEntry → Type 0
 IsMarked settled d = is_one_of settled d.number ≡ is_settled d
 
-still : (b : Bool) (d : OutEntry) (rest ds : List OutEntry) → AllByRecursion (λ k. d.number < k) (numbers ds) → AllByRecursion (IsMarked (numbers rest)) ds → AllByRecursion (IsMarked (numbers (kept b d rest))) ds
+still : (b : Bool) (d : OutEntry) (rest ds : List OutEntry) → AllByRecursion (λ k. d.number < k) (numbers ds) → AllByRecursion (IsMarked (numbers rest)) ds
+    → AllByRecursion (IsMarked (numbers (kept b d rest))) ds
 still b d rest [] h m = m
 still b d rest (e ∷ ds) h m = (of_later b d rest e.number h.0 ∙ m.0, still b d rest ds h.1 m.1)
 
@@ -78,18 +81,21 @@ marks (d ∷ ds) up = (
 abbrev row_lines : List ℕ → List OutEntry → Text
 row_lines settled ds = flat_map (marked_line settled) (map out_summary ds)
 
-lines_if : (b : Bool) (settled : List ℕ) (d : OutEntry) (rest : List OutEntry) → IsMarked settled d → row_lines settled rest ≡ flat_map out_line rest → row_lines settled (kept b d rest) ≡ flat_map out_line (kept b d rest)
+lines_if : (b : Bool) (settled : List ℕ) (d : OutEntry) (rest : List OutEntry) → IsMarked settled d → row_lines settled rest ≡ flat_map out_line rest
+    → row_lines settled (kept b d rest) ≡ flat_map out_line (kept b d rest)
 lines_if true settled d rest mark same =
     ap (λ b. out_row_line b (out_summary d) ++ row_lines settled rest) mark
     ∙ ap (λ l. out_line d ++ l) same
 lines_if false settled d rest mark same = same
 
 -- the lines of the rows are those of the documents
-pub lines : (settled : List ℕ) (p : OutEntry → Bool) (ds : List OutEntry) → AllByRecursion (IsMarked settled) ds → row_lines settled (filter p ds) ≡ flat_map out_line (filter p ds)
+pub lines : (settled : List ℕ) (p : OutEntry → Bool) (ds : List OutEntry) → AllByRecursion (IsMarked settled) ds
+    → row_lines settled (filter p ds) ≡ flat_map out_line (filter p ds)
 lines settled p [] m = refl
 lines settled p (d ∷ ds) m = lines_if (p d) settled d (filter p ds) m.0 (lines settled p ds m.1)
 
-rows_if : (b : Bool) (d : OutEntry) (rest : List OutEntry) (rows : List OutRow) → rows ≡ map out_summary rest → (if b then out_summary d ∷ rows else rows) ≡ map out_summary (kept b d rest)
+rows_if : (b : Bool) (d : OutEntry) (rest : List OutEntry) (rows : List OutRow) → rows ≡ map out_summary rest
+    → (if b then out_summary d ∷ rows else rows) ≡ map out_summary (kept b d rest)
 rows_if true d rest rows h = ap (λ l. out_summary d ∷ l) h
 rows_if false d rest rows h = h
 

@@ -19,17 +19,20 @@ ghost use Rattle.as2_views.specs.RowLines.{in_row_line, out_row_line};
 pub fn rows_give_lines()
     ensures inbox { (e : InEntry) → in_row_line (in_summary e) ≡ in_line e }
     ensures outbox { (d : OutEntry) → out_row_line (is_settled d) (out_summary d) ≡ out_line d }
-    ensures outstanding { (m : ℕ) (d : OutEntry) → is_outstanding m (out_summary d) ≡ (is_under_way d.detail && is_due m d.due) }
+    ensures outstanding { (m : ℕ) (d : OutEntry)
+        → is_outstanding m (out_summary d) ≡ (is_under_way d.detail && is_due m d.due) }
 {}
 
 /// The lines of a state's rows are its listings.
 pub fn lists_of_rows()
     ensures inbox { (s : State) → flat_map in_row_line (map in_summary s.inbox) ≡ list_in s }
     ensures outbox { (s : State) (wanted : Option StateOf) → Rise (document_numbers s) →
-        flat_map (marked_line (settled_numbers s)) (map out_summary (filter (is_in wanted) s.outbox)) ≡ list_out s wanted }
+        flat_map (marked_line (settled_numbers s)) (map out_summary (filter (is_in wanted) s.outbox))
+        ≡ list_out s wanted }
     ensures outstanding { (s : State) (m : ℕ) → Rise (document_numbers s) →
         counts_text (counts_of s)
-        ++ flat_map (marked_line (settled_numbers s)) (filter (is_outstanding m) (map out_summary s.outbox)) ≡ outstanding s m }
+        ++ flat_map (marked_line (settled_numbers s)) (filter (is_outstanding m) (map out_summary s.outbox))
+        ≡ outstanding s m }
 {}
 
 /// Where the numbers of documents rise, so do those of the documents that a receipt has settled.

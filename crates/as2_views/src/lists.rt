@@ -32,7 +32,8 @@ pub fn is_one_of(numbers: &[u64], number: u64) -> bool
 /// settled, from the least to the greatest; in another order some of them may not be marked. Memory where it runs out; a part may
 /// be appended then.
 pub fn add_out_lines(text: &mut Vec<u8>, rows: &[OutRow], settled: &[u64]) -> Result<(), Memory>
-    ensures { Rise settled.now → OnOk result (text.new.items ≡ text.old.items ++ flat_map (marked_line settled.now) rows.now) }
+    ensures { Rise settled.now
+        → OnOk result (text.new.items ≡ text.old.items ++ flat_map (marked_line settled.now) rows.now) }
 {
     for row in rows {
         add_out_line(text, row, is_one_of(settled, row.number))?;

@@ -1,8 +1,8 @@
 //! Command lines.
 use crate::arguments::{Arguments, parts_of};
 use as2_commands::{
-    Command, Filter, FirstNumber, Format, Options, Question, RunOptions, Serving, Submission, Task, Wanted,
-    options_in,
+    Command, Filter, FirstNumber, Format, Options, Question, RunOptions, Serving, Submission, Task,
+    Wanted, options_in,
 };
 use clap::Error;
 use script_lines::Answer;

@@ -59,8 +59,10 @@ fn made(alloc: Global, first: FirstNumber) -> Result<Kept<MemStore>, OpenFault>
 /// Records that were closed, opened again: they can be read. Else they are given back.
 fn opened_again(mut records: Kept<MemStore>) -> Result<Kept<MemStore>, (Kept<MemStore>, StoreFault)>
     ensures is_open { IfOk result (λ again. IsTrue (state over_memory again).is_open) }
-    ensures same { IfOk result (λ again. (s : State) → Rests (state over_memory records) s → Rests (state over_memory again) s) }
-    ensures given_back { IfErr result (λ e. (s : State) → Rests (state over_memory records) s → Rests (state over_memory e.0) s) }
+    ensures same { IfOk result (λ again. (s : State) → Rests (state over_memory records) s
+        → Rests (state over_memory again) s) }
+    ensures given_back { IfErr result (λ e. (s : State) → Rests (state over_memory records) s
+        → Rests (state over_memory e.0) s) }
 {
     match records.next_numbers() {
         Ok(_) => Ok(records),
@@ -112,7 +114,8 @@ fn opened(
     word: &str,
     first: FirstNumber,
 ) -> Result<Kept<MemStore>, (Option<Kept<MemStore>>, OpenFault)>
-    ensures found { IfOk result (λ records. IsTrue (state over_memory records).is_open × ((s : State) → Keeps kept s → Rests (state over_memory records) s)) }
+    ensures found { IfOk result (λ records. IsTrue (state over_memory records).is_open
+        × ((s : State) → Keeps kept s → Rests (state over_memory records) s)) }
     ensures given_back { IfErr result (λ e. (s : State) → Keeps kept s → Keeps e.0 s) }
 {
     match kept {

@@ -35,7 +35,8 @@ returns-then-eq-clause-goes g c =
     (λ t. subst (λ (b : Bool). ByPlace b ⊤ ((number : ℕ) → g.O.OpenStores.keeps stores path number t)) (sym is) tt)
 
 -- no records could be opened: the stores are as the opening left them
-not_opened : {O A Opened InMemory : Type 0} (g : Stores O Opened InMemory) (was opened is : O) (path : List ℕ) (r : Result A OpenFault) → is_in_memory path ≡ false
+not_opened : {O A Opened InMemory : Type 0} (g : Stores O Opened InMemory) (was opened is : O) (path : List ℕ) (r : Result A OpenFault)
+    → is_in_memory path ≡ false
     → IfErr r (λ fault. g.fails was path fault) → IfErr r (λ fault. (number : ℕ) (s : State) → g.keeps was path number s → g.keeps opened path number s)
     → is ≡ opened → IfErr r (λ fault. (stored_of g was is path).Kept × (stored_of g was is path).Fails fault)
 not_opened g was opened is path (Ok records) away fails same left = tt
