@@ -17,7 +17,7 @@ use Rattle.as2_store.proofs.Statements.{detail_text, mdn_text}
 use Rattle.as2_store.proofs.Texts.{detail_column_terms, detail_is, detail_plain, detail_unlisted, mdn_column_terms, mdn_is, mdn_plain, mdn_unlisted}
 
 -- all rows, each showing one column
-each_shown : {X Y : Type 0} (column : X → Y) (row : Y → Row) (xs : List X) → map (λ x. row (column x)) (filter (λ _. true) xs) ≡ map row (map column xs)
+pub each_shown : {X Y : Type 0} (column : X → Y) (row : Y → Row) (xs : List X) → map (λ x. row (column x)) (filter (λ _. true) xs) ≡ map row (map column xs)
 each_shown column row [] = refl
 each_shown column row (x ∷ xs) = ap (λ l. row (column x) ∷ l) (each_shown column row xs)
 

@@ -30,6 +30,8 @@ mod OwedTables
 mod OutboxQueries
 mod SettledRows
 mod CountedRows
+mod ComparedRows
+mod DifferingRows
 mod StateQueries
 mod SettledTables
 mod DueRows

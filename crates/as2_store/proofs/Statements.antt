@@ -129,6 +129,9 @@ all_due_text = codes "SELECT number FROM waiting WHERE kind = ?1 AND due <= ?2 O
 abbrev pub least_due_text : List ℕ
 least_due_text = codes "SELECT number FROM waiting WHERE place >= ?1 AND place < ?2 AND due <= ?3 ORDER BY place LIMIT 1"
 
+abbrev pub waiting_read_text : List ℕ
+waiting_read_text = codes "SELECT place, kind, number, due FROM waiting ORDER BY place"
+
 abbrev pub waiting_take_text : List ℕ
 waiting_take_text = codes "DELETE FROM waiting WHERE place = ?1"
 

@@ -20,7 +20,7 @@ use Rattle.sql_tables.proofs.Changing.{update_program}
 use Rattle.sql_tables.proofs.Deleting.{delete_program}
 use Rattle.as2_store.specs.declared.contents.Mailbox.TheVariants.{Inbox, Outbox}
 use Rattle.as2_store.specs.Tables.{Way, Fresh, Migrated, store_schema, meta_table, meta_tree, inbox_table, inbox_piece_table, origin_table, resent_table, inbox_tree, inbox_piece_tree, outbox_tree, outbox_piece_tree, evidence_tree, waiting_tree, origin_tree, resent_tree}
-use Rattle.as2_store.proofs.Statements.{meta_put_text, meta_read_text, receipt_text, document_text, in_put_text, piece_put_text, in_by_key_text, in_by_number_text, in_all_text, in_pieces_text, in_set_text, out_put_text, out_by_id_text, out_by_number_text, out_by_details_text, out_pieces_text, evidence_by_number_text, settled_text, mdn_text, detail_text, evidence_put_text, out_set_text, out_settle_text, out_pass_text, waiting_put_text, waiting_take_text, waiting_take_due_text, any_due_text, all_due_text, least_due_text, origin_put_text, origin_read_text, resent_put_text, resent_take_text, resent_read_text, tried_text}
+use Rattle.as2_store.proofs.Statements.{meta_put_text, meta_read_text, receipt_text, document_text, in_put_text, piece_put_text, in_by_key_text, in_by_number_text, in_all_text, in_pieces_text, in_set_text, out_put_text, out_by_id_text, out_by_number_text, out_by_details_text, out_pieces_text, evidence_by_number_text, settled_text, mdn_text, detail_text, evidence_put_text, out_set_text, out_settle_text, out_pass_text, waiting_put_text, waiting_read_text, waiting_take_text, waiting_take_due_text, any_due_text, all_due_text, least_due_text, origin_put_text, origin_read_text, resent_put_text, resent_take_text, resent_read_text, tried_text}
 
 -- ---- where the tables stand
 
@@ -549,6 +549,27 @@ pub least_due_unlisted : (way : Way) → reads_listing (store_schema way) least_
 unfolding understood everything
 least_due_unlisted Fresh = refl
 least_due_unlisted Migrated = refl
+
+abbrev pub waiting_columns : List Term
+waiting_columns = col 1 0 ∷ col 1 2 ∷ col 1 3 ∷ col 1 4 ∷ []
+
+abbrev pub waiting_names : List (List ℕ)
+waiting_names = codes "place" ∷ codes "kind" ∷ codes "number" ∷ codes "due" ∷ []
+
+pub waiting_read_is : (way : Way) → command_of (understood (store_schema way) waiting_read_text) ≡ Select (record { lets = []; body = over_table waiting_tree [] waiting_columns by_number (lit (Int (negsuc 0))) }) waiting_names
+unfolding understood everything
+waiting_read_is Fresh = refl
+waiting_read_is Migrated = refl
+
+pub waiting_read_plain : (way : Way) → IsPlain (understood (store_schema way) waiting_read_text)
+unfolding understood everything
+waiting_read_plain Fresh = (refl, refl)
+waiting_read_plain Migrated = (refl, refl)
+
+pub waiting_read_unlisted : (way : Way) → reads_listing (store_schema way) waiting_read_text ≡ false
+unfolding understood everything
+waiting_read_unlisted Fresh = refl
+waiting_read_unlisted Migrated = refl
 
 pub waiting_take_is : (way : Way) → command_of (understood (store_schema way) waiting_take_text) ≡ Delete 6 (delete_program waiting_tree number_terms)
 unfolding understood everything

@@ -14,3 +14,4 @@ pub mod Expiring
 pub mod Counting
 pub mod Files
 pub mod Migrating
+pub mod Discrepancies

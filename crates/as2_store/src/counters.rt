@@ -1,18 +1,22 @@
 //! The one row of `meta`: the kind, the version, and the two counters.
 
-ghost use Rattle.std.specs.Prelude.{◌≡◌, ◌≢◌, ℕ, ◌+◌, [], ◌∷◌, List, false, ◌<◌, ◌^◌, IsTrue, IfOk, IfErr, OnOk};
+ghost use Rattle.std.specs.Prelude.{◌≡◌, ◌≢◌, true, ℕ, ◌+◌, [], ◌∷◌, List, false, ◌<◌, ◌^◌, IsTrue, IfOk, IfErr, OnOk};
 ghost use Rattle.sqlite.specs.Held.{state};
 ghost use Rattle.sqlite.specs.State.{HasCleanDisk};
 ghost use Rattle.as2_store.specs.Calls.{IsInside, Reads};
 ghost use Rattle.sqlite.specs.declared.types.Value.TheVariants.{Text};
 ghost use Rattle.sql_tables.specs.Changes.{Changed, IsOutside};
 ghost use Rattle.as2_exchange.specs.State.{State};
+ghost use Rattle.as2_records.specs.Finding.{AreNext};
+ghost use Rattle.as2_records.specs.Standing.{may_come};
 ghost use Rattle.as2_rows.specs.Rows.{whole};
 ghost use Rattle.as2_store.specs.Tables.{Way, Fresh, current_number, store_schema, meta_tree};
 ghost use Rattle.as2_store.specs.Stands.{Rests, MetaSays, HasNoRow, HasCounters, meta_row, meta_shown};
 
+use crate::fault::fault_of;
 use crate::numbers::whole;
 use crate::reading::query_all;
+use as2_exchange::StoreFault;
 use as2_records::NextNumbers;
 use sqlite::{Alter, Connection, Error, Row, Transaction, params};
 
@@ -90,7 +94,7 @@ pub fn meta_rows<S: Alter>(conn: &mut Connection<S>) -> Result<Vec<Row>, Error>
 }
 
 /// The counters that the row shows.
-pub fn next_of(rows: &[Row]) -> Result<NextNumbers, Error>
+fn next_of(rows: &[Row]) -> Result<NextNumbers, Error>
     ensures { IfOk result (λ next. (n m : ℕ) → rows.now ≡ meta_shown current_number n m ∷ [] → (next.receipt ≡ n) × (next.document ≡ m)) }
 {
     match rows.first() {
@@ -100,4 +104,15 @@ pub fn next_of(rows: &[Row]) -> Result<NextNumbers, Error>
         }),
         None => Err(Error::QueryReturnedNoRows),
     }
+}
+
+/// The numbers that the next entries get.
+pub fn next_numbers<S: Alter>(conn: &mut Connection<S>) -> Result<NextNumbers, StoreFault>
+    requires autocommit { conn.old.in_transaction ≡ false }
+    ensures autocommit { conn.new.in_transaction ≡ false }
+    ensures numbers { Reads (λ s next. AreNext next s) (state S.Store conn.old) (state S.Store conn.new) result }
+    ensures fault { IfErr result (λ f. may_come f ≡ true) }
+{
+    let rows = meta_rows(conn).map_err(fault_of)?;
+    next_of(&rows).map_err(fault_of)
 }

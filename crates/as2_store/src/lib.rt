@@ -8,6 +8,7 @@ mod contents;
 mod counters;
 mod counting;
 mod creating;
+mod discrepancies;
 mod documents;
 mod due;
 mod entries;

@@ -25,9 +25,10 @@ ghost use Rattle.as2_records.specs.Standing.{may_come};
 
 use crate::adding::add;
 use crate::adopting::check;
-use crate::counters::{meta_rows, next_of};
+use crate::counters::{meta_rows, next_numbers};
 use crate::counting::{counted, details, mdns};
 use crate::creating::make;
+use crate::discrepancies::discrepancy;
 use crate::documents::{evidence_in, shown_document};
 use crate::due::least_due;
 use crate::entries::shown_entry;
@@ -135,8 +136,7 @@ impl<S: Alter> Store<S> {
         ensures numbers { Reads (λ s next. AreNext next s) (state S.Store self.old) (state S.Store self.new) result }
         ensures fault { IfErr result (λ f. may_come f ≡ true) }
     {
-        let rows = meta_rows(&mut self.conn).map_err(fault_of)?;
-        next_of(&rows).map_err(fault_of)
+        next_numbers(&mut self.conn)
     }
 
     /// The number below which receipts were recorded by the first version of the tables, 0 where none was. Answers Memory, Disk or
@@ -401,5 +401,14 @@ impl<S: Alter> Store<S> {
         let details = details(&mut self.conn, alloc)?;
         let mdns = mdns(&mut self.conn, alloc)?;
         Ok(counted(details.as_slice(), mdns.as_slice()))
+    }
+
+    /// The first discrepancy between the entries and what is kept beside them, the counters and what waits. Tables that stand for a
+    /// state have none. Answers Memory, Disk or Refused.
+    pub fn discrepancy(&mut self, alloc: Global) -> Result<Option<Discrepancy>, StoreFault>
+        ensures none { Reads (λ s found. found ≡ None) (state S.Store self.old) (state S.Store self.new) result }
+        ensures fault { IfErr result (λ f. may_come f ≡ true) }
+    {
+        discrepancy(&mut self.conn, alloc)
     }
 }

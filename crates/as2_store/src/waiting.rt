@@ -73,7 +73,7 @@ fn take_waiting<S: Alter>(tx: &mut Transaction<'_, S>, place: u64) -> Result<(),
 }
 
 /// Whether a receipt that stands so is to be sent.
-fn is_to_answer(mdn: MdnState, attempt: Attempt) -> bool
+pub fn is_to_answer(mdn: MdnState, attempt: Attempt) -> bool
     ensures to_answer { IsTrue result → in_kind mdn attempt ≡ Some to_answer }
     ensures nothing { result ≡ false → in_kind mdn attempt ≡ None }
 {
@@ -119,7 +119,7 @@ pub fn put_in_waiting<S: Alter>(tx: &mut Transaction<'_, S>, entry: &InEntry) ->
 }
 
 /// What a document waits for.
-fn wait_of(detail: Detail, attempt: Attempt) -> Option<Wait>
+pub fn wait_of(detail: Detail, attempt: Attempt) -> Option<Wait>
     ensures { option_map kind_code result ≡ out_kind detail attempt }
 {
     match detail {

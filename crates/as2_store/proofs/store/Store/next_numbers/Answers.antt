@@ -1,8 +1,7 @@
-use Rattle.std.proofs.Common.{◌∙◌, ap}
+use Rattle.std.proofs.Common.{ap}
 use Rattle.sqlite.specs.Held.{state}
-use Rattle.as2_store.proofs.Querying.{mapped, read_of, read_told}
+use Rattle.as2_store.proofs.Querying.{read_of}
 use Rattle.as2_store.proofs.store.Store.next_numbers.Goals as goal
 
 pub returns-clause-numbers : goal.returns-clause-numbers
-returns-clause-numbers g c = read_of _ _ _ _ _ (ap (state g.S.Store) c.self.view_is) (read_told _ _ _ _ _ _ c.map_err-2.result _ _ c.map_err-2.ensures.cases c.next_of.ensures (λ s next is shown. let it = is s.next_in s.next_out (c.deref.ensures.value ∙ shown) in record { receipt = it.0; document = it.1 })
-    (mapped _ _ _ _ _ _ _ c.map_err.ensures.cases c.in_ok-rows.was c.meta_rows.ensures.rows))
+returns-clause-numbers g c = read_of _ _ _ _ _ (ap (state g.S.Store) c.self.view_is) c.next_numbers.ensures.numbers
