@@ -39,15 +39,18 @@ use Rattle.as2_store.proofs.Untouched.{AtMeta, AtInbox, AtInboxPiece, AtOutbox, 
 one_out : (d : OutEntry) → IsOneRow outbox_table (out_shown d) out_put_terms 12 (out_row d)
 one_out d = record { source = out_row d; made = refl; cast_is = simp (cast_int, cast_null, cast_optional) }
 
-pub puts_out : (way : Way) (old new : Connected) (d : OutEntry) (count : ℕ) → old.now.schema ≡ store_schema way → Executes out_put_text (out_shown d) old new (Ok count)
+pub puts_out : (way : Way) (old new : Connected) (d : OutEntry) (count : ℕ) → old.now.schema ≡ store_schema way
+    → Executes out_put_text (out_shown d) old new (Ok count)
     → Changed old new (store_schema way) outbox_tree (put_row (out_row d) (old.now.trees outbox_tree))
 puts_out way old new d count has h =
     inserts_given out_put_text (out_shown d) old new (store_schema way) has 3 outbox_table refl refl out_put_terms 12 (out_row d) (one_out d) refl (out_put_is way) (out_put_plain way) count h
 
 -- ---- what waits
 
-noted_document : (s : State) (x : OutEntry) → AreNumbers s.next_out (map (λ (d : OutEntry). d.number) s.outbox) → AllByRecursion (λ n. n < end_of_numbers) (map (λ (e : InEntry). e.number) s.inbox)
-    → x.number ≡ s.next_out → x.number < end_of_numbers → noted_rows (out_waiting x) (map waiting_row (all_waiting s)) ≡ map waiting_row (all_waiting (with_document s x))
+noted_document : (s : State) (x : OutEntry) → AreNumbers s.next_out (map (λ (d : OutEntry). d.number) s.outbox)
+    → AllByRecursion (λ n. n < end_of_numbers) (map (λ (e : InEntry). e.number) s.inbox)
+    → x.number ≡ s.next_out → x.number < end_of_numbers
+    → noted_rows (out_waiting x) (map waiting_row (all_waiting s)) ≡ map waiting_row (all_waiting (with_document s x))
 noted_document s x outs ins is small =
     ap (λ ds. noted_rows (out_waiting x) (map waiting_row (all_waiting (record s { outbox = ds })))) (sym (append-nil s.outbox))
     ∙ put_among x.number small s.outbox [] s.inbox (below_all (λ (d : OutEntry). d.number) s.next_out x.number s.outbox outs is) tt tt ins x refl
@@ -64,8 +67,10 @@ no_more_evidence ds x none = sym (
     ∙ append-nil (evidence_rows ds))
 
 -- the row, the pieces and what waits
-pub entered_document : (way : Way) (a b c d : Connected) (s : State) (x : OutEntry) → Stands (VersionThree way) a.now s → x.number < end_of_numbers → x.evidence ≡ None → x.begun ≡ nat_le 1 x.tries
-    → Changed a b (store_schema way) outbox_tree (put_row (out_row x) (a.now.trees outbox_tree)) → Appended way b c outbox_piece_tree (pieces x.number x.content) → Noted way c d (out_waiting x)
+pub entered_document : (way : Way) (a b c d : Connected) (s : State) (x : OutEntry) → Stands (VersionThree way) a.now s → x.number < end_of_numbers
+    → x.evidence ≡ None → x.begun ≡ nat_le 1 x.tries
+    → Changed a b (store_schema way) outbox_tree (put_row (out_row x) (a.now.trees outbox_tree))
+    → Appended way b c outbox_piece_tree (pieces x.number x.content) → Noted way c d (out_waiting x)
     → IsEntered way d.now s x.number s.next_out (with_document s x)
 entered_document way a b c d s x it small unsettled tried one two three =
     let has = it.entries in
@@ -93,7 +98,8 @@ entered_document way a b c d s x it small unsettled tried one two three =
     }
 
 -- and then the counter
-stands_submitted : (way : Way) (a d e : Connected) (s : State) (x : OutEntry) → Stands (VersionThree way) a.now s → x.number ≡ s.next_out → x.number < end_of_numbers → IsEntered way d.now s x.number s.next_out (with_document s x)
+stands_submitted : (way : Way) (a d e : Connected) (s : State) (x : OutEntry) → Stands (VersionThree way) a.now s → x.number ≡ s.next_out
+    → x.number < end_of_numbers → IsEntered way d.now s x.number s.next_out (with_document s x)
     → Changed d e (store_schema way) meta_tree (meta_row current_number s.next_in (x.number + 1) ∷ []) → Stands (VersionThree way) e.now (with_document s x)
 unfolding IsWhole
 stands_submitted way a d e s x it is small mid four =
@@ -121,9 +127,14 @@ stands_submitted way a d e s x it is small mid four =
     }
 
 -- a document is added under the next number, and under no other
-pub adds_document : {S : Type 0} (g : Ghosts S) (old : Held S) (mid last : Connected) (x : OutEntry) → x.number < end_of_numbers → (HasCleanDisk last → HasCleanDisk mid)
-    → (HasCleanDisk mid → IsTrue (state g old).is_open) → (HasCleanDisk mid → (way : Way) (s : State) → Stands (VersionThree way) (state g old).now s → IsEntered way mid.now s x.number s.next_out (with_document s x))
-    → (HasCleanDisk last → (way : Way) (n m : ℕ) → HasCounters way mid.now n m → (x.number ≡ m) × Changed mid last (store_schema way) meta_tree (meta_row current_number n (x.number + 1) ∷ [])) → HasCleanDisk last → FollowsEach g old last (added_document x)
+pub adds_document : {S : Type 0} (g : Ghosts S) (old : Held S) (mid last : Connected) (x : OutEntry) → x.number < end_of_numbers
+    → (HasCleanDisk last → HasCleanDisk mid)
+    → (HasCleanDisk mid → IsTrue (state g old).is_open)
+    → (HasCleanDisk mid → (way : Way) (s : State) → Stands (VersionThree way) (state g old).now s
+    → IsEntered way mid.now s x.number s.next_out (with_document s x))
+    → (HasCleanDisk last → (way : Way) (n m : ℕ) → HasCounters way mid.now n m → (x.number ≡ m)
+    × Changed mid last (store_schema way) meta_tree (meta_row current_number n (x.number + 1) ∷ [])) → HasCleanDisk last
+    → FollowsEach g old last (added_document x)
 adds_document g old mid last x small was opened put raised clean = record {
   was_open = opened (was clean);
   reaches = λ s r.

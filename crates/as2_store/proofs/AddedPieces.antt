@@ -23,17 +23,20 @@ use Rattle.as2_store.proofs.Texts.{inbox_piece_place, inbox_piece_there, piece_p
 
 -- ---- one more
 
-puts_piece : (p : Piece) (before : List Piece) (rows : List Row) → HasRows rows (map piece_shown before) → HasRows (put_row (Int (next_rowid rows) ∷ piece_shown p) rows) (map piece_shown (before ++ p ∷ []))
+puts_piece : (p : Piece) (before : List Piece) (rows : List Row) → HasRows rows (map piece_shown before)
+    → HasRows (put_row (Int (next_rowid rows) ∷ piece_shown p) rows) (map piece_shown (before ++ p ∷ []))
 puts_piece p before rows has = subst (HasRows (put_row (Int (next_rowid rows) ∷ piece_shown p) rows)) (sym (map-append piece_shown before (p ∷ []))) (one_more_row rows (map piece_shown before) (piece_shown p) has)
 
 -- ---- one after another
 
-pub others_then : (a b c : Trees) (tree : ℕ) (tables : List Table) → AllByRecursion (λ t. t.tree ≢ tree → b t.tree ≡ a t.tree) tables → AllByRecursion (λ t. t.tree ≢ tree → c t.tree ≡ b t.tree) tables
+pub others_then : (a b c : Trees) (tree : ℕ) (tables : List Table) → AllByRecursion (λ t. t.tree ≢ tree → b t.tree ≡ a t.tree) tables
+    → AllByRecursion (λ t. t.tree ≢ tree → c t.tree ≡ b t.tree) tables
     → AllByRecursion (λ t. t.tree ≢ tree → c t.tree ≡ a t.tree) tables
 others_then a b c tree [] one two = tt
 others_then a b c tree (t ∷ tables) one two = (λ other. two.0 other ∙ one.0 other, others_then a b c tree tables one.1 two.1)
 
-pub appended_then : (way : Way) (a b c : Connected) (tree : ℕ) (ps qs : List Piece) → Appended way a b tree ps → Appended way b c tree qs → Appended way a c tree (ps ++ qs)
+pub appended_then : (way : Way) (a b c : Connected) (tree : ℕ) (ps qs : List Piece) → Appended way a b tree ps → Appended way b c tree qs
+    → Appended way a c tree (ps ++ qs)
 appended_then way a b c tree ps qs one two = record {
   schema_is = two.schema_is;
   pieces_are = λ before are. subst (λ all. HasRows (c.now.trees tree) (map piece_shown all)) (append_assoc before ps qs) (two.pieces_are (before ++ ps) (one.pieces_are before are));
@@ -48,7 +51,8 @@ in_piece way p = record { source = Null ∷ piece_shown p; made = refl; cast_is 
 out_piece : (p : Piece) → IsOneRow outbox_piece_table (piece_shown p) piece_put_terms 4 (Null ∷ piece_shown p)
 out_piece p = record { source = Null ∷ piece_shown p; made = refl; cast_is = simp (cast_null, cast_int) }
 
-pub puts_piece_in : (way : Way) (mailbox : Mailbox) (old new : Connected) (p : Piece) (count : ℕ) → old.now.schema ≡ store_schema way → Executes (piece_put_text mailbox) (piece_shown p) old new (Ok count) → Appended way old new (piece_tree way mailbox) (p ∷ [])
+pub puts_piece_in : (way : Way) (mailbox : Mailbox) (old new : Connected) (p : Piece) (count : ℕ) → old.now.schema ≡ store_schema way
+    → Executes (piece_put_text mailbox) (piece_shown p) old new (Ok count) → Appended way old new (piece_tree way mailbox) (p ∷ [])
 puts_piece_in way Inbox old new p count has h =
     let it = inserts_chosen (piece_put_text Inbox) (piece_shown p) old new (store_schema way) has (inbox_piece_place way) (inbox_piece_table way) (inbox_piece_there way) refl piece_put_terms 4 (Null ∷ piece_shown p) (in_piece way p) (piece_shown p) refl (in_piece_put_is way) (in_piece_put_plain way) count h in
     record {
@@ -66,7 +70,8 @@ puts_piece_in way Outbox old new p count has h =
 
 -- ---- the loop over a content
 
-some_piece_by : (content : List ℕ) (i : ℕ) (t : Bool) (p : List ℕ) → nat_lt (i * piece_size) (length content) ≡ t → cond t (Some (piece_bytes content i)) None ≡ Some p → (i * piece_size < length content) × (p ≡ piece_bytes content i)
+some_piece_by : (content : List ℕ) (i : ℕ) (t : Bool) (p : List ℕ) → nat_lt (i * piece_size) (length content) ≡ t
+    → cond t (Some (piece_bytes content i)) None ≡ Some p → (i * piece_size < length content) × (p ≡ piece_bytes content i)
 some_piece_by content i true p is found = (grind (arith, nat_tests), cc)
 some_piece_by content i false p is found = absurd cc
 
@@ -87,7 +92,8 @@ range_more n =
     let same : 0 + n ≡ n = omega arith in
     ap (range_with_len 0) next ∙ more_from n 0 ∙ ap (λ k. range_with_len 0 n ++ k ∷ []) same
 
-pub one_before : (number : ℕ) (content : List ℕ) (i : ℕ) (p : List ℕ) → p ≡ piece_bytes content i → pieces_before number content i ++ (record { number = number; position = i; bytes = p }) ∷ [] ≡ pieces_before number content (i + 1)
+pub one_before : (number : ℕ) (content : List ℕ) (i : ℕ) (p : List ℕ) → p ≡ piece_bytes content i
+    → pieces_before number content i ++ (record { number = number; position = i; bytes = p }) ∷ [] ≡ pieces_before number content (i + 1)
 one_before number content i p is =
     ap (λ b. pieces_before number content i ++ (record { number = number; position = i; bytes = b }) ∷ []) is
     ∙ sym (ap (map (piece_of number content)) (range_more i) ∙ map-append (piece_of number content) (range_with_len 0 i) (i ∷ []))

@@ -39,7 +39,8 @@ all_same : (old new : Trees) (tree : ℕ) → new ≡ old → (tables : List Tab
 all_same old new tree same [] = tt
 all_same old new tree same (t ∷ tables) = (λ _. ap (λ (f : Trees). f t.tree) same, all_same old new tree same tables)
 
-pub wrote : (way : Way) (old new : Connected) (o : Option WaitingRow) → old.now.schema ≡ store_schema way → Noted way old new o → Wrote way old new waiting_tree (noted_rows o (old.now.trees waiting_tree))
+pub wrote : (way : Way) (old new : Connected) (o : Option WaitingRow) → old.now.schema ≡ store_schema way → Noted way old new o
+    → Wrote way old new waiting_tree (noted_rows o (old.now.trees waiting_tree))
 wrote way old new None has same = record {
   schema_is = ap (λ d. d.schema) same ∙ has;
   rows_are = ap (λ d. d.trees waiting_tree) same;
@@ -59,7 +60,8 @@ below_all {E} number next n es h is = subst (λ n. AllByRecursion (λ q. number 
 
 -- the row, the pieces and what waits
 pub entered : (way : Way) (a b c d : Connected) (s : State) (x : InEntry) → Stands (VersionThree way) a.now s → x.number < end_of_numbers
-    → Changed a b (store_schema way) (inbox_tree way) (put_row (in_row x) (a.now.trees (inbox_tree way))) → Appended way b c (inbox_piece_tree way) (pieces x.number x.posted.content) → Noted way c d (in_waiting x)
+    → Changed a b (store_schema way) (inbox_tree way) (put_row (in_row x) (a.now.trees (inbox_tree way)))
+    → Appended way b c (inbox_piece_tree way) (pieces x.number x.posted.content) → Noted way c d (in_waiting x)
     → IsEntered way d.now s x.number s.next_in (with_received s x)
 entered way a b c d s x it small one two three =
     let has = it.entries in
@@ -86,7 +88,8 @@ entered way a b c d s x it small one two three =
     }
 
 -- and then the counter
-pub stands_received : (way : Way) (a d e : Connected) (s : State) (x : InEntry) → Stands (VersionThree way) a.now s → x.number ≡ s.next_in → x.number < end_of_numbers → IsEntered way d.now s x.number s.next_in (with_received s x)
+pub stands_received : (way : Way) (a d e : Connected) (s : State) (x : InEntry) → Stands (VersionThree way) a.now s → x.number ≡ s.next_in
+    → x.number < end_of_numbers → IsEntered way d.now s x.number s.next_in (with_received s x)
     → Changed d e (store_schema way) meta_tree (meta_row current_number (x.number + 1) s.next_out ∷ []) → Stands (VersionThree way) e.now (with_received s x)
 unfolding IsWhole
 stands_received way a d e s x it is small mid four =
@@ -115,8 +118,11 @@ stands_received way a d e s x it is small mid four =
 
 -- an entry is added under the next number, and under no other
 pub adds : {S : Type 0} (g : Ghosts S) (old : Held S) (mid last : Connected) (x : InEntry) → x.number < end_of_numbers → (HasCleanDisk last → HasCleanDisk mid)
-    → (HasCleanDisk mid → IsTrue (state g old).is_open) → (HasCleanDisk mid → (way : Way) (s : State) → Stands (VersionThree way) (state g old).now s → IsEntered way mid.now s x.number s.next_in (with_received s x))
-    → (HasCleanDisk last → (way : Way) (n m : ℕ) → HasCounters way mid.now n m → (x.number ≡ n) × Changed mid last (store_schema way) meta_tree (meta_row current_number (x.number + 1) m ∷ [])) → HasCleanDisk last → FollowsEach g old last (added x)
+    → (HasCleanDisk mid → IsTrue (state g old).is_open)
+    → (HasCleanDisk mid → (way : Way) (s : State) → Stands (VersionThree way) (state g old).now s
+    → IsEntered way mid.now s x.number s.next_in (with_received s x))
+    → (HasCleanDisk last → (way : Way) (n m : ℕ) → HasCounters way mid.now n m → (x.number ≡ n)
+    × Changed mid last (store_schema way) meta_tree (meta_row current_number (x.number + 1) m ∷ [])) → HasCleanDisk last → FollowsEach g old last (added x)
 adds g old mid last x small was opened put raised clean = record {
   was_open = opened (was clean);
   reaches = λ s r.

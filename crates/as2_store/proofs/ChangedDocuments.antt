@@ -30,7 +30,8 @@ use Rattle.as2_store.proofs.WaitingAmong.{put_among, take_among}
 pub has_number : (n : ℕ) (more : Row) (d : OutEntry) → passes number_terms (Int (pos n) ∷ more) (out_row d) ≡ (d.number == n)
 has_number n more d = ap (λ b. b && true) (numbers_equal d.number n) ∙ and_true _
 
-pub numbered : (n : ℕ) (more : Row) (ds : List OutEntry) → filter (λ (d : OutEntry). passes number_terms (Int (pos n) ∷ more) (out_row d)) ds ≡ filter (λ (d : OutEntry). d.number == n) ds
+pub numbered : (n : ℕ) (more : Row) (ds : List OutEntry)
+    → filter (λ (d : OutEntry). passes number_terms (Int (pos n) ∷ more) (out_row d)) ds ≡ filter (λ (d : OutEntry). d.number == n) ds
 numbered n more ds = filter_agree (λ (d : OutEntry). passes number_terms (Int (pos n) ∷ more) (out_row d)) (λ (d : OutEntry). d.number == n) (has_number n more) ds
 
 pub changed_rows : (f : OutEntry → OutEntry) (n : ℕ) (more : Row) (ds : List OutEntry)
@@ -71,7 +72,8 @@ module _ (f : OutEntry → OutEntry) (number_kept : (d : OutEntry) → (f d).num
   -- ---- what waits
 
   -- what the document waits for now goes in where what it waited for is taken out
-  pub waits_changed : {layout : Layout} (t : Database) (s : State) → Stands layout t s → (it : Split out_number n s.outbox) → noted_rows (out_waiting (f it.one)) (map waiting_row (without_document n (all_waiting s))) ≡ map waiting_row (all_waiting (change_document s n f))
+  pub waits_changed : {layout : Layout} (t : Database) (s : State) → Stands layout t s → (it : Split out_number n s.outbox)
+      → noted_rows (out_waiting (f it.one)) (map waiting_row (without_document n (all_waiting s))) ≡ map waiting_row (all_waiting (change_document s n f))
   waits_changed t s stood it =
       let outs = all_weaken (λ k. k < s.next_out) (λ k. k < end_of_numbers) (λ k less. omega (arith, less, stood.documents.0.most)) (map (λ (d : OutEntry). d.number) s.outbox) stood.documents.1.below in
       let ins = all_weaken (λ k. k < s.next_in) (λ k. k < end_of_numbers) (λ k less. omega (arith, less, stood.receipts.0.most)) (map (λ (e : InEntry). e.number) s.inbox) stood.receipts.1.below in

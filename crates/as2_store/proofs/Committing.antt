@@ -40,7 +40,8 @@ pub record FollowsEach {S : Type 0} (g : Ghosts S) (old : Held S) (last : Connec
 
 -- a statement that ran in it, whether it failed or not
 pub ran_inside : {S : Type 0} (g : Ghosts S) (sql : List ℕ) (params : Row) (old new : Held S) (r : Result ℕ Error) (stop : Error) (ended : old.in_transaction ≡ false → (r ≡ Err stop) × (new ≡ old))
-    → (HasCleanDisk (state g new) → IsTrue old.in_transaction → ExecutesInside 0 sql params (state g old) (state g new) r) → Survives (state g old) (state g new) (λ _. ⊥) → IsInside (state g old) (state g new)
+    → (HasCleanDisk (state g new) → IsTrue old.in_transaction → ExecutesInside 0 sql params (state g old) (state g new) r)
+    → Survives (state g old) (state g new) (λ _. ⊥) → IsInside (state g old) (state g new)
 ran_inside g sql params old new r stop ended runs survives = record {
   clean = λ clean. omega (arith, survives.clean, clean);
   kept = λ clean. kept g sql params old new r stop ended (runs clean);
@@ -51,7 +52,8 @@ module _ {S : Type 0} (g : Ghosts S) (old : Held S) (last : Connected) (end : He
   abbrev pub at_begin : Connected
   at_begin = state g (record old { in_transaction = true })
 
-  pub gives_up : {A E : Type 0} (r : Result A E) → IsErr r → IsInside at_begin last → Survives last (state g end) (λ _. ⊥) → (HasCleanDisk (state g end) → IsRolledBack last (state g end)) → Writes {A = A} {E = E} next (state g old) (state g end) r
+  pub gives_up : {A E : Type 0} (r : Result A E) → IsErr r → IsInside at_begin last → Survives last (state g end) (λ _. ⊥)
+      → (HasCleanDisk (state g end) → IsRolledBack last (state g end)) → Writes {A = A} {E = E} next (state g old) (state g end) r
   gives_up (Ok a) err inside late back = absurd cc
   gives_up (Err e) err inside late back =
       let was : HasCleanDisk (state g end) → HasCleanDisk last = λ clean. omega (arith, late.clean, clean) in
@@ -65,7 +67,8 @@ module _ {S : Type 0} (g : Ghosts S) (old : Held S) (last : Connected) (end : He
             (survives_begin g old last (λ _. ⊥) inside.survives) late;
       }
 
-  committed_crash : IsInside at_begin last → Survives last (state g end) (λ db. db ≡ last.now.trees) → (HasCleanDisk last → FollowsEach g old last next) → Survives (state g old) (state g end) (Commits next (state g old))
+  committed_crash : IsInside at_begin last → Survives last (state g end) (λ db. db ≡ last.now.trees) → (HasCleanDisk last → FollowsEach g old last next)
+      → Survives (state g old) (state g end) (Commits next (state g old))
   committed_crash inside late done =
       survives_then (state g old) last (state g end) (λ _. ⊥) (λ db. db ≡ last.now.trees) (Commits next (state g old)) (λ _ db none. absurd none)
       (λ clean db is.
@@ -76,7 +79,8 @@ module _ {S : Type 0} (g : Ghosts S) (old : Held S) (last : Connected) (end : He
       })
       (survives_begin g old last (λ _. ⊥) inside.survives) late
 
-  pub fails_to_commit : {A E : Type 0} (r : Result A E) → IsErr r → IsInside at_begin last → Survives last (state g end) (λ db. db ≡ last.now.trees) → (HasCleanDisk last → FollowsEach g old last next) → (HasCleanDisk (state g end) → IsRolledBack last (state g end))
+  pub fails_to_commit : {A E : Type 0} (r : Result A E) → IsErr r → IsInside at_begin last → Survives last (state g end) (λ db. db ≡ last.now.trees)
+      → (HasCleanDisk last → FollowsEach g old last next) → (HasCleanDisk (state g end) → IsRolledBack last (state g end))
       → Writes {A = A} {E = E} next (state g old) (state g end) r
   fails_to_commit (Ok a) err inside late done back = absurd cc
   fails_to_commit (Err e) err inside late done back =
@@ -90,8 +94,10 @@ module _ {S : Type 0} (g : Ghosts S) (old : Held S) (last : Connected) (end : He
         crash = committed_crash inside late done;
       }
 
-  pub commits : {A E : Type 0} (a : A) → IsInside at_begin last → Survives last (state g end) (λ db. db ≡ last.now.trees) → (HasCleanDisk last → FollowsEach g old last next)
-      → (HasCleanDisk (state g end) → Shows last (state g end) last.now last.now false) → (settled : (db : Trees) → IsTrue (state g end).is_open → (state g end).may_leave db → db ≡ (state g end).committed.trees)
+  pub commits : {A E : Type 0} (a : A) → IsInside at_begin last → Survives last (state g end) (λ db. db ≡ last.now.trees)
+      → (HasCleanDisk last → FollowsEach g old last next)
+      → (HasCleanDisk (state g end) → Shows last (state g end) last.now last.now false)
+      → (settled : (db : Trees) → IsTrue (state g end).is_open → (state g end).may_leave db → db ≡ (state g end).committed.trees)
       → Writes {A = A} {E = E} next (state g old) (state g end) (Ok a)
   commits a inside late done shows settled =
       let was : HasCleanDisk (state g end) → HasCleanDisk last = λ clean. omega (arith, late.clean, clean) in
@@ -115,7 +121,8 @@ module _ {S : Type 0} (g : Ghosts S) (old : Held S) (last : Connected) (end : He
 -- ---- the same write, by other names
 
 -- its failure is told otherwise
-pub write_told : {A E F : Type 0} (next : State → Option State) (old new : Connected) (r : Result A E) (told : Result A F) (Q : E → F → Type 0) → MatchResult r (λ x. told ≡ Ok x) (λ e. IsErrAnd told (Q e)) → Writes next old new r → Writes next old new told
+pub write_told : {A E F : Type 0} (next : State → Option State) (old new : Connected) (r : Result A E) (told : Result A F) (Q : E → F → Type 0)
+    → MatchResult r (λ x. told ≡ Ok x) (λ e. IsErrAnd told (Q e)) → Writes next old new r → Writes next old new told
 write_told {A} {E} {F} next old new (Ok x) told Q is it =
     let same : Writes {A = A} {E = F} next old new (Ok x) = record { clean = it.clean; was_open = it.was_open; is_open = it.is_open; done = it.done; failed = it.failed; crash = it.crash } in
     subst (Writes next old new) (sym is) same
@@ -123,11 +130,13 @@ write_told next old new (Err e) (Ok x) Q is it = absurd is
 write_told next old new (Err e) (Err f) Q is it = record { clean = it.clean; was_open = it.was_open; is_open = it.is_open; done = it.done; failed = it.failed; crash = it.crash }
 
 -- seen from where the store is
-pub write_of : {A E : Type 0} (next : State → Option State) (inside outside new : Connected) (r : Result A E) → inside ≡ outside → Writes next inside new r → Writes next outside new r
+pub write_of : {A E : Type 0} (next : State → Option State) (inside outside new : Connected) (r : Result A E) → inside ≡ outside → Writes next inside new r
+    → Writes next outside new r
 write_of next inside outside new r same it = subst (λ c. Writes next c new r) same it
 
 -- a commit of what was done commits the next state
-pub committed_next : {S : Type 0} (g : Ghosts S) (old : Held S) (last : Connected) (next : State → Option State) → FollowsEach g old last next → (db : Trees) → db ≡ last.now.trees → Commits next (state g old) db
+pub committed_next : {S : Type 0} (g : Ghosts S) (old : Held S) (last : Connected) (next : State → Option State) → FollowsEach g old last next → (db : Trees)
+    → db ≡ last.now.trees → Commits next (state g old) db
 committed_next g old last next it db is = record {
   was_open = it.was_open;
   stands = λ s r. let to = it.reaches s r in record { state = to.0; is = to.1; keeps = subst (λ (t : Trees). Keeps t to.0) (sym is) (keeps_of last.now to.0 to.2) };

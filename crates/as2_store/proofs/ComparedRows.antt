@@ -156,7 +156,8 @@ none_of None wanted kept found it none same = it.2 ∙ ap (option_map wait_told)
 none_of (Some told) wanted kept found it none same = absurd cc
 
 pub none_first : (next : NextNumbers) (received : List InRow) (sent : List OutRow) (kept : List WaitRow) (found : Option Discrepancy) (s : State)
-    → IsFirst next received sent kept found → AreBelow s → AreNext next s → received ≡ map in_summary s.inbox → sent ≡ listed None s → kept ≡ rows_of (all_waiting s) → found ≡ None
+    → IsFirst next received sent kept found → AreBelow s → AreNext next s → received ≡ map in_summary s.inbox → sent ≡ listed None s
+    → kept ≡ rows_of (all_waiting s) → found ≡ None
 none_first next received sent kept found s it all are ins outs rows =
     let sent_is = outs ∙ all_listed s.outbox in
     none_of (number_told next received sent) (all_wanted received sent) kept found it (ap₂ (number_told next) ins sent_is ∙ none_past next s all are)

@@ -38,7 +38,8 @@ abbrev pub copy_of : ℕ → List Term → List Term → List (Term × Key) → 
 copy_of tree terms project order by = record { lets = []; body = record (over_table tree terms project order (lit (Int (negsuc 0)))) { collations = by } }
 
 pub none_compared : (tree : ℕ) (terms project : List Term) (order : List (Term × Key)) (by : List Collation) (db : Trees) (params : Row) (rows : List Row)
-    → IsSureAnswer (record (over_table tree terms project order (lit (Int (negsuc 0)))) { collations = by }) db params rows → IsSureAnswer (over_table tree terms project order (lit (Int (negsuc 0)))) db params rows
+    → IsSureAnswer (record (over_table tree terms project order (lit (Int (negsuc 0)))) { collations = by }) db params rows
+    → IsSureAnswer (over_table tree terms project order (lit (Int (negsuc 0)))) db params rows
 none_compared tree terms project order by db params rows sure lost =
     let a = sure lost in
     record { staged = a.staged; grouped = a.grouped; kept = a.kept; distinct = a.distinct; ordered = a.ordered; same = a.same; sorted = a.sorted; shown = a.shown }
@@ -57,9 +58,12 @@ module _ (sql : List ℕ) (params : Row) (old new : Connected) (schema : Schema)
   pub record Copied : Type 0 where
     pub sources : List Row
     pub answers : Answers (record { schema = schema; trees = old.now.trees }) q params sources
-    pub changed : (rows : List Row) → put_all (old.now.trees table.tree) (numbered Chosen (old.now.trees table.tree) (map (λ s. cast_row table (drop 0 s)) sources)) ≡ rows → Changed old new schema table.tree rows
+    pub changed : (rows : List Row)
+        → put_all (old.now.trees table.tree) (numbered Chosen (old.now.trees table.tree) (map (λ s. cast_row table (drop 0 s)) sources)) ≡ rows
+        → Changed old new schema table.tree rows
 
-  pub copies : command_of (understood schema sql) ≡ Insert at (Query q) → IsPlain (understood schema sql) → (count : ℕ) → Executes sql params old new (Ok count) → Copied
+  pub copies : command_of (understood schema sql) ≡ Insert at (Query q) → IsPlain (understood schema sql) → (count : ℕ)
+      → Executes sql params old new (Ok count) → Copied
   copies is plain count h =
       let db = old.now.trees in
       let it = ran_insert sql params old new schema has at table place (Query q) is plain count h in
@@ -100,7 +104,8 @@ module _ {X : Type 0} (row : X → Row) (number : X → ℕ) (keyed : (x : X) �
       let one = with_given rows (row x) (ap is_null (keyed x)) in
       ap (λ r. r ∷ numbered Chosen (put_row r rows) (map row xs)) one ∙ ap (λ l. row x ∷ l) (all_given (put_row (row x) rows) xs)
 
-  puts_behind : (ys xs : List X) → AllByRecursion (λ y. AllByRecursion (λ x. number y < number x) xs) ys → IsAscending (λ x y. number x < number y) xs → put_all (map row ys) (map row xs) ≡ map row (ys ++ xs)
+  puts_behind : (ys xs : List X) → AllByRecursion (λ y. AllByRecursion (λ x. number y < number x) xs) ys → IsAscending (λ x y. number x < number y) xs
+      → put_all (map row ys) (map row xs) ≡ map row (ys ++ xs)
   puts_behind ys [] low up = ap (map row) (sym (append-nil ys))
   puts_behind ys (x ∷ xs) low up =
       ap (λ l. put_all l (map row xs)) (ap (λ l. put_row (row x) (map row l)) (sym (append-nil ys)) ∙ puts_between row number keyed x ys [] (firsts ys low) tt)
@@ -111,9 +116,11 @@ module _ {X : Type 0} (row : X → Row) (number : X → ℕ) (keyed : (x : X) �
       firsts [] all = tt
       firsts (y ∷ ys) all = (all.0.0, firsts ys all.1)
 
-      rests : (ys : List X) → AllByRecursion (λ y. AllByRecursion (λ z. number y < number z) (x ∷ xs)) ys → AllByRecursion (λ y. AllByRecursion (λ z. number y < number z) xs) ys
+      rests : (ys : List X) → AllByRecursion (λ y. AllByRecursion (λ z. number y < number z) (x ∷ xs)) ys
+          → AllByRecursion (λ y. AllByRecursion (λ z. number y < number z) xs) ys
       rests [] all = tt
       rests (y ∷ ys) all = (all.0.1, rests ys all.1)
 
-  pub puts_in_order : (rows : List Row) (xs : List X) → rows ≡ [] → IsAscending (λ x y. number x < number y) xs → put_all rows (numbered Chosen rows (map row xs)) ≡ map row xs
+  pub puts_in_order : (rows : List Row) (xs : List X) → rows ≡ [] → IsAscending (λ x y. number x < number y) xs
+      → put_all rows (numbered Chosen rows (map row xs)) ≡ map row xs
   puts_in_order rows xs none up = ap (λ l. put_all l (numbered Chosen l (map row xs))) none ∙ ap (put_all []) (all_given [] xs) ∙ puts_behind [] xs tt up

@@ -21,7 +21,8 @@ pub each_shown : {X Y : Type 0} (column : X → Y) (row : Y → Row) (xs : List 
 each_shown column row [] = refl
 each_shown column row (x ∷ xs) = ap (λ l. row (column x) ∷ l) (each_shown column row xs)
 
-pub finds_details : (old new : Connected) (rows : List Row) → Shown detail_text [] old new rows → (s : State) → Rests old s → rows ≡ map detail_row (details_of s)
+pub finds_details : (old new : Connected) (rows : List Row) → Shown detail_text [] old new rows → (s : State) → Rests old s
+    → rows ≡ map detail_row (details_of s)
 finds_details old new rows h s r =
     let here = r.stands (shown_open detail_text [] old new rows h) in
     let way = here.way in

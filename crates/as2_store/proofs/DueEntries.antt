@@ -43,7 +43,8 @@ module _ (wanted m : ℕ) where
         go None rest = rest
         go (Some kind) rest = by (kind == wanted && is_due m (due x))
           where
-            by : (t : Bool) → map (λ w. w.number) (cond t (record { kind = kind; number = number x; due = due x } ∷ filter is_wanted (filter_map row_of xs)) (filter is_wanted (filter_map row_of xs))) ≡ map number (cond t (x ∷ filter is_due_so xs) (filter is_due_so xs))
+            by : (t : Bool)
+                → map (λ w. w.number) (cond t (record { kind = kind; number = number x; due = due x } ∷ filter is_wanted (filter_map row_of xs)) (filter is_wanted (filter_map row_of xs))) ≡ map number (cond t (x ∷ filter is_due_so xs) (filter is_due_so xs))
             by true = ap (λ l. number x ∷ l) rest
             by false = rest
 
@@ -52,7 +53,8 @@ module _ (wanted m : ℕ) where
   kept [] = refl
   kept (w ∷ ws) = go (w.kind == wanted) refl (kept ws)
     where
-      go : (t : Bool) → (w.kind == wanted) ≡ t → filter is_wanted (filter (λ w. w.kind == wanted) ws) ≡ filter is_wanted ws → filter is_wanted (cond t (w ∷ filter (λ w. w.kind == wanted) ws) (filter (λ w. w.kind == wanted) ws)) ≡ cond ((w.kind == wanted) && is_due m w.due) (w ∷ filter is_wanted ws) (filter is_wanted ws)
+      go : (t : Bool) → (w.kind == wanted) ≡ t → filter is_wanted (filter (λ w. w.kind == wanted) ws) ≡ filter is_wanted ws
+          → filter is_wanted (cond t (w ∷ filter (λ w. w.kind == wanted) ws) (filter (λ w. w.kind == wanted) ws)) ≡ cond ((w.kind == wanted) && is_due m w.due) (w ∷ filter is_wanted ws) (filter is_wanted ws)
       go true is rest = ap (λ t. cond (t && is_due m w.due) (w ∷ filter is_wanted (filter (λ w. w.kind == wanted) ws)) (filter is_wanted (filter (λ w. w.kind == wanted) ws))) is
           ∙ ap (λ l. cond (is_due m w.due) (w ∷ l) l) rest
           ∙ sym (ap (λ t. cond (t && is_due m w.due) (w ∷ filter is_wanted ws) (filter is_wanted ws)) is)
@@ -92,7 +94,8 @@ of_kind : (kind : ℕ) (ws : List WaitingRow) → AllByRecursion (λ w. (w.kind 
 of_kind kind [] = tt
 of_kind kind (w ∷ ws) = go (w.kind == kind) refl (of_kind kind ws)
   where
-    go : (t : Bool) → (w.kind == kind) ≡ t → AllByRecursion (λ w. (w.kind == kind) ≡ true) (filter (λ w. w.kind == kind) ws) → AllByRecursion (λ w. (w.kind == kind) ≡ true) (cond t (w ∷ filter (λ w. w.kind == kind) ws) (filter (λ w. w.kind == kind) ws))
+    go : (t : Bool) → (w.kind == kind) ≡ t → AllByRecursion (λ w. (w.kind == kind) ≡ true) (filter (λ w. w.kind == kind) ws)
+        → AllByRecursion (λ w. (w.kind == kind) ≡ true) (cond t (w ∷ filter (λ w. w.kind == kind) ws) (filter (λ w. w.kind == kind) ws))
     go true is rest = (is, rest)
     go false is rest = rest
 
@@ -103,7 +106,8 @@ answers (e ∷ es) = go (in_waiting e) (kind_is_last e.mdn e.attempt e.number e.
     itself : (k : ℕ) → k ≡ to_answer → (k == to_answer) ≡ true
     itself k same = ap (λ n. n == to_answer) same
 
-    go : (o : Option WaitingRow) → IfSome o (IsLast e.number) → AllByRecursion (λ w. (w.kind == to_answer) ≡ true) (waiting_in es) → AllByRecursion (λ w. (w.kind == to_answer) ≡ true) (cons_option o (waiting_in es))
+    go : (o : Option WaitingRow) → IfSome o (IsLast e.number) → AllByRecursion (λ w. (w.kind == to_answer) ≡ true) (waiting_in es)
+        → AllByRecursion (λ w. (w.kind == to_answer) ≡ true) (cons_option o (waiting_in es))
     go None is rest = rest
     go (Some w) is rest = (itself w.kind is.0, rest)
 

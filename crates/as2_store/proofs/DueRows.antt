@@ -96,7 +96,8 @@ before : (m n : ℕ) → value_cmp (Int (pos m)) (Int (pos n)) ≡ Less → m < 
 before m n is = let less = sym (value_cmp-Int (pos m) (pos n)) ∙ is in grind (arith, ints, less)
 
 -- of one kind the numbers rise as the places do
-numbers_rise : (kind : ℕ) (ws : List WaitingRow) → AllByRecursion (λ w. w.kind ≡ kind) ws → IsAscending IsEarlier ws → IsAscending (λ v w. v.number < w.number) ws
+numbers_rise : (kind : ℕ) (ws : List WaitingRow) → AllByRecursion (λ w. w.kind ≡ kind) ws → IsAscending IsEarlier ws
+    → IsAscending (λ v w. v.number < w.number) ws
 numbers_rise kind [] of up = tt
 numbers_rise kind (w ∷ ws) of up =
     (all_both (λ v. v.kind ≡ kind) (IsEarlier w) (λ v. w.number < v.number) (λ v is less. omega (arith, of.0, is, before (place w) (place v) less)) ws of.1 up.0, numbers_rise kind ws of.1 up.1)
@@ -138,7 +139,8 @@ first_shown (w ∷ ws) up = sym (ap number_rows (first_is_least w.number (map (�
 
 -- ---- the queries
 
-pub finds_none : (kind m : ℕ) (old new : Connected) (rows : List Row) → Shown any_due_text (any_params kind m) old new rows → (s : State) → Rests old s → rows ≡ [] → due_numbers kind m s ≡ []
+pub finds_none : (kind m : ℕ) (old new : Connected) (rows : List Row) → Shown any_due_text (any_params kind m) old new rows → (s : State) → Rests old s
+    → rows ≡ [] → due_numbers kind m s ≡ []
 finds_none kind m old new rows h s r none =
     let here = r.stands (shown_open any_due_text (any_params kind m) old new rows h) in
     let way = here.way in
@@ -152,7 +154,8 @@ finds_none kind m old new rows h s r none =
     unmapped [] is = refl
     unmapped (w ∷ ws) is = absurd cc
 
-pub finds_least : (kind m : ℕ) (old new : Connected) (rows : List Row) → Shown least_due_text (least_params kind m) old new rows → (s : State) → Rests old s → rows ≡ number_rows (least (due_numbers kind m s))
+pub finds_least : (kind m : ℕ) (old new : Connected) (rows : List Row) → Shown least_due_text (least_params kind m) old new rows → (s : State) → Rests old s
+    → rows ≡ number_rows (least (due_numbers kind m s))
 finds_least kind m old new rows h s r =
     let here = r.stands (shown_open least_due_text (least_params kind m) old new rows h) in
     let way = here.way in

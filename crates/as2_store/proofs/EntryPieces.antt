@@ -68,8 +68,10 @@ module _ {X : Type 0} (number : X → ℕ) (content : X → List ℕ) where
       filter-append (λ p. p.number == n) (pieces (number x) (content x)) (all_pieces xs)
       ∙ ap₂ (λ a b. a ++ b) (drops_other (number x) n (content x) (range_with_len 0 (piece_count (content x))) (turned (number x) n other.0)) (drops_others n xs other.1)
 
-  gathered : (x e : X) (p : X → Bool) (xs : List X) (t : Bool) → AllByRecursion (λ m. (number x == m) ≡ false) (map number xs) → cond t (Some x) (find p xs) ≡ Some e
-      → (find p xs ≡ Some e → own (number e) (all_pieces xs) ≡ pieces (number e) (content e)) → own (number e) (pieces (number x) (content x)) ++ own (number e) (all_pieces xs) ≡ pieces (number e) (content e)
+  gathered : (x e : X) (p : X → Bool) (xs : List X) (t : Bool) → AllByRecursion (λ m. (number x == m) ≡ false) (map number xs)
+      → cond t (Some x) (find p xs) ≡ Some e
+      → (find p xs ≡ Some e → own (number e) (all_pieces xs) ≡ pieces (number e) (content e))
+      → own (number e) (pieces (number x) (content x)) ++ own (number e) (all_pieces xs) ≡ pieces (number e) (content e)
   gathered x e p xs true other is later =
       let same : x ≡ e = cc in
       subst (λ y. own (number y) (pieces (number x) (content x)) ++ own (number y) (all_pieces xs) ≡ pieces (number y) (content y)) same
@@ -77,7 +79,8 @@ module _ {X : Type 0} (number : X → ℕ) (content : X → List ℕ) where
   gathered x e p xs false other is later =
       ap₂ (λ a b. a ++ b) (drops_other (number x) (number e) (content x) (range_with_len 0 (piece_count (content x))) (found_all number (λ m. (number x == m) ≡ false) p xs e other is)) (later is)
 
-  pub gathers : (p : X → Bool) (xs : List X) (e : X) → IsDistinct (λ a b. a == b) (map number xs) → find p xs ≡ Some e → own (number e) (all_pieces xs) ≡ pieces (number e) (content e)
+  pub gathers : (p : X → Bool) (xs : List X) (e : X) → IsDistinct (λ a b. a == b) (map number xs) → find p xs ≡ Some e
+      → own (number e) (all_pieces xs) ≡ pieces (number e) (content e)
   unfolding IsDistinct
   gathers p [] e distinct found = absurd cc
   gathers p (x ∷ xs) e distinct found =
@@ -89,8 +92,10 @@ pieces_command tree = Select (record { lets = []; body = over_table tree piece_t
 -- a query of the pieces of the entry of a number
 module _ (way : Way) (sql : List ℕ) (tree : ℕ) (is : command_of (understood (store_schema way) sql) ≡ pieces_command tree) (plain : IsPlain (understood (store_schema way) sql)) (unlisted : reads_listing (store_schema way) sql ≡ false)
     {X : Type 0} (number : X → ℕ) (content : X → List ℕ) where
-  finds_pieces : (old new : Connected) (n : ℕ) (rows : List Row) → Shown sql (number_params n) old new rows → old.now.schema ≡ (store_schema way) → (xs : List X)
-      → HasRows (old.now.trees tree) (map piece_shown (all_pieces number content xs)) → IsDistinct (λ a b. a == b) (map number xs) → (p : X → Bool) (e : X) → find p xs ≡ Some e → n ≡ number e
+  finds_pieces : (old new : Connected) (n : ℕ) (rows : List Row) → Shown sql (number_params n) old new rows → old.now.schema ≡ (store_schema way)
+      → (xs : List X)
+      → HasRows (old.now.trees tree) (map piece_shown (all_pieces number content xs)) → IsDistinct (λ a b. a == b) (map number xs) → (p : X → Bool) (e : X)
+      → find p xs ≡ Some e → n ≡ number e
       → rows ≡ map piece_shown (pieces (number e) (content e))
   finds_pieces old new n rows h has xs are distinct p e found same =
       let ps = all_pieces number content xs in
@@ -101,7 +106,8 @@ module _ (way : Way) (sql : List ℕ) (tree : ℕ) (is : command_of (understood 
       (subst (IsAscending (λ (a b : Piece). value_cmp (whole a.position) (whole b.position) ≡ Less)) (sym own) (pieces_rise (number e) (content e))) read.answer
       ∙ ap (map piece_shown) own
 
-pub finds_in_pieces : (old new : Connected) (n : ℕ) (rows : List Row) → Shown in_pieces_text (number_params n) old new rows → (s : State) → Rests old s → (p : InEntry → Bool) (e : InEntry) → find p s.inbox ≡ Some e → n ≡ e.number
+pub finds_in_pieces : (old new : Connected) (n : ℕ) (rows : List Row) → Shown in_pieces_text (number_params n) old new rows → (s : State) → Rests old s
+    → (p : InEntry → Bool) (e : InEntry) → find p s.inbox ≡ Some e → n ≡ e.number
     → rows ≡ map piece_shown (pieces e.number e.posted.content)
 finds_in_pieces old new n rows h s r =
     let here = r.stands (shown_open in_pieces_text (number_params n) old new rows h) in
@@ -109,7 +115,8 @@ finds_in_pieces old new n rows h s r =
     let it = here.stands in
     finds_pieces way in_pieces_text (inbox_piece_tree way) (in_pieces_is way) (in_pieces_plain way) (in_pieces_unlisted way) (λ (e : InEntry). e.number) (λ e. e.posted.content) old new n rows h it.schema s.inbox it.entries.inbox_contents it.receipts.1.distinct
 
-pub finds_out_pieces : (old new : Connected) (n : ℕ) (rows : List Row) → Shown out_pieces_text (number_params n) old new rows → (s : State) → Rests old s → (p : OutEntry → Bool) (d : OutEntry) → find p s.outbox ≡ Some d → n ≡ d.number
+pub finds_out_pieces : (old new : Connected) (n : ℕ) (rows : List Row) → Shown out_pieces_text (number_params n) old new rows → (s : State) → Rests old s
+    → (p : OutEntry → Bool) (d : OutEntry) → find p s.outbox ≡ Some d → n ≡ d.number
     → rows ≡ map piece_shown (pieces d.number d.content)
 finds_out_pieces old new n rows h s r =
     let here = r.stands (shown_open out_pieces_text (number_params n) old new rows h) in

@@ -23,8 +23,10 @@ use Rattle.as2_store.proofs.MetaRow.{said_fails, reads_said, says_held, meta_cel
 
 -- ---- a transaction that is given up
 
-pub gives_back : {S : Type 0} (g : Ghosts S) (old : Held S) (last : Connected) (end : Held S) (late commits : Trees → Type 0) → IsInside (state g (record old { in_transaction = true })) last → Survives last (state g end) late
-    → (HasCleanDisk last → (db : Trees) → late db → commits db) → (state g end).in_transaction ≡ false → (HasCleanDisk (state g end) → IsRolledBack last (state g end)) → IsGivenBack commits (state g old) (state g end)
+pub gives_back : {S : Type 0} (g : Ghosts S) (old : Held S) (last : Connected) (end : Held S) (late commits : Trees → Type 0)
+    → IsInside (state g (record old { in_transaction = true })) last → Survives last (state g end) late
+    → (HasCleanDisk last → (db : Trees) → late db → commits db) → (state g end).in_transaction ≡ false
+    → (HasCleanDisk (state g end) → IsRolledBack last (state g end)) → IsGivenBack commits (state g old) (state g end)
 gives_back g old last end late commits inside survives leads autocommit back =
     let was : HasCleanDisk (state g end) → HasCleanDisk last = λ clean. omega (arith, survives.clean, clean) in
     record {
@@ -43,20 +45,27 @@ gives_back g old last end late commits inside survives leads autocommit back =
 -- ---- why the row of `meta` can't be read
 
 -- a query that failed in the transaction, over tables that are those of a store or say so
-pub fails_by : {S : Type 0} (g : Ghosts S) (old : Held S) (mid : Connected) (e : Error) → FailsToQuery meta_read_text [] (state g (record old { in_transaction = true })) mid e ⊎ IsTooLate meta_read_text [] (state g (record old { in_transaction = true })) mid e
+pub fails_by : {S : Type 0} (g : Ghosts S) (old : Held S) (mid : Connected) (e : Error)
+    → FailsToQuery meta_read_text [] (state g (record old { in_transaction = true })) mid e
+    ⊎ IsTooLate meta_read_text [] (state g (record old { in_transaction = true })) mid e
     → IsOutside e ⊎ IsTrue (state g old).is_open
 fails_by g old mid e (inl failed) = failed_or_open meta_read_text [] (state g (record old { in_transaction = true })) mid e failed
 fails_by g old mid e (inr late) = absurd (let outside = late.3 in cc)
 
-says_inside : {S : Type 0} (g : Ghosts S) (old : Held S) (kind : List ℕ) (version : ℕ) → MetaSays (state g old) kind version → MetaSays (state g (record old { in_transaction = true })) kind version
+says_inside : {S : Type 0} (g : Ghosts S) (old : Held S) (kind : List ℕ) (version : ℕ) → MetaSays (state g old) kind version
+    → MetaSays (state g (record old { in_transaction = true })) kind version
 says_inside g old kind version it = record { next_receipt = it.next_receipt; next_document = it.next_document; tables = it.tables; indexes = it.indexes; schema = it.schema; meta = it.meta }
 
-pub row_fails : {S : Type 0} (g : Ghosts S) (old : Held S) (mid : Connected) (e : Error) → FailsToQuery meta_read_text [] (state g (record old { in_transaction = true })) mid e ⊎ IsTooLate meta_read_text [] (state g (record old { in_transaction = true })) mid e
+pub row_fails : {S : Type 0} (g : Ghosts S) (old : Held S) (mid : Connected) (e : Error)
+    → FailsToQuery meta_read_text [] (state g (record old { in_transaction = true })) mid e
+    ⊎ IsTooLate meta_read_text [] (state g (record old { in_transaction = true })) mid e
     → (kind : List ℕ) (version : ℕ) → MetaSays (state g old) kind version → IsOutside e
 row_fails g old mid e (inl failed) kind version it = said_fails (state g (record old { in_transaction = true })) mid e kind version (says_inside g old kind version it) failed
 row_fails g old mid e (inr late) kind version it = absurd (let outside = late.3 in cc)
 
-pub row_shown : {S : Type 0} (g : Ghosts S) (old : Held S) (mid : Connected) (rows : List Row) → Shown meta_read_text [] (state g (record old { in_transaction = true })) mid rows → (kind : List ℕ) (version : ℕ) → (it : MetaSays (state g old) kind version)
+pub row_shown : {S : Type 0} (g : Ghosts S) (old : Held S) (mid : Connected) (rows : List Row)
+    → Shown meta_read_text [] (state g (record old { in_transaction = true })) mid rows → (kind : List ℕ) (version : ℕ)
+    → (it : MetaSays (state g old) kind version)
     → rows ≡ meta_cells kind version it.next_receipt it.next_document ∷ []
 unfolding says_inside
 row_shown g old mid rows shown kind version it = reads_said (state g (record old { in_transaction = true })) mid rows shown kind version (says_inside g old kind version it)
@@ -66,7 +75,9 @@ pub comes : (c : Connected) (f : StoreFault) → may_come f ≡ true → IsReaso
 comes c f is = record { of_store = λ s r. is; of_row = λ kind version it. inl is; of_blank = λ blank. inl is }
 
 -- a query that fails
-pub unread_by : {S : Type 0} (g : Ghosts S) (old : Held S) (mid : Connected) (e : Error) (f : StoreFault) → FailsToQuery meta_read_text [] (state g (record old { in_transaction = true })) mid e ⊎ IsTooLate meta_read_text [] (state g (record old { in_transaction = true })) mid e
+pub unread_by : {S : Type 0} (g : Ghosts S) (old : Held S) (mid : Connected) (e : Error) (f : StoreFault)
+    → FailsToQuery meta_read_text [] (state g (record old { in_transaction = true })) mid e
+    ⊎ IsTooLate meta_read_text [] (state g (record old { in_transaction = true })) mid e
     → (IsOutside e → may_come f ≡ true) → (may_come f ≡ true) ⊎ (f ≡ NotAStore) → IsReason (state g old) f
 unread_by g old mid e f failed outside known = record {
   of_store = λ s r. elim (fails_by g old mid e failed) [ inl out ↦ outside out | inr opened ↦ outside (row_fails g old mid e failed (codes "as2-station") current_number (says_held (state g old) s (r.stands opened))) ];
@@ -89,8 +100,10 @@ bare_by old opened none = record {
 }
 
 -- what the row says, where there are tables
-pub said_by : {S : Type 0} (g : Ghosts S) (old : Held S) (mid : Connected) (rows : List Row) (f : StoreFault) → Shown meta_read_text [] (state g (record old { in_transaction = true })) mid rows
-    → ((kind : List ℕ) (version n m : ℕ) → rows ≡ meta_cells kind version n m ∷ [] → Some f ≡ adoption_fault kind version) → ((state g old).now.schema.tables ≡ [] → ⊥) → IsReason (state g old) f
+pub said_by : {S : Type 0} (g : Ghosts S) (old : Held S) (mid : Connected) (rows : List Row) (f : StoreFault)
+    → Shown meta_read_text [] (state g (record old { in_transaction = true })) mid rows
+    → ((kind : List ℕ) (version n m : ℕ) → rows ≡ meta_cells kind version n m ∷ [] → Some f ≡ adoption_fault kind version)
+    → ((state g old).now.schema.tables ≡ [] → ⊥) → IsReason (state g old) f
 said_by g old mid rows f shown says tables =
     let opened = shown_open meta_read_text [] (state g (record old { in_transaction = true })) mid rows shown in
     record {
@@ -104,8 +117,11 @@ said_by g old mid rows f shown says tables =
 
 -- ---- what is adopted
 
-pub adopts : {S : Type 0} (g : Ghosts S) (old : Held S) (mid : Connected) (end : Held S) (rows : List Row) {A E : Type 0} (a : A) → Writes {A = A} {E = E} Some (state g old) (state g end) (Ok a) → (HasCleanDisk (state g end) → HasCleanDisk mid)
-    → (HasCleanDisk mid → Shown meta_read_text [] (state g (record old { in_transaction = true })) mid rows) → ((kind : List ℕ) (version n m : ℕ) → rows ≡ meta_cells kind version n m ∷ [] → None ≡ adoption_fault kind version) → ((state g old).now.schema.tables ≡ [] → ⊥)
+pub adopts : {S : Type 0} (g : Ghosts S) (old : Held S) (mid : Connected) (end : Held S) (rows : List Row) {A E : Type 0} (a : A)
+    → Writes {A = A} {E = E} Some (state g old) (state g end) (Ok a) → (HasCleanDisk (state g end) → HasCleanDisk mid)
+    → (HasCleanDisk mid → Shown meta_read_text [] (state g (record old { in_transaction = true })) mid rows)
+    → ((kind : List ℕ) (version n m : ℕ) → rows ≡ meta_cells kind version n m ∷ [] → None ≡ adoption_fault kind version)
+    → ((state g old).now.schema.tables ≡ [] → ⊥)
     → Adopts (state g old) (state g end)
 adopts g old mid end rows a it was shown says tables = record {
   clean = it.clean;

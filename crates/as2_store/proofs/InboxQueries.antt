@@ -46,12 +46,14 @@ module _ (sql : List ℕ) (plain : (way : Way) → IsPlain (understood (store_sc
 abbrev pub key_params : List ℕ → List ℕ → List ℕ → Row
 key_params sender receiver value = Blob sender ∷ Blob receiver ∷ Blob value ∷ []
 
-of_key : (sender receiver value : List ℕ) (e : InEntry) → passes key_terms (key_params sender receiver value) (in_row e) ≡ has_key sender receiver value e.posted
+of_key : (sender receiver value : List ℕ) (e : InEntry)
+    → passes key_terms (key_params sender receiver value) (in_row e) ≡ has_key sender receiver value e.posted
 unfolding value_of
 of_key sender receiver value e =
     ap₂ ◌&&◌ (blobs_equal e.posted.sender sender) (ap₂ ◌&&◌ (blobs_equal e.posted.receiver receiver) (ap (λ b. b && true) (blobs_equal (value_of e.posted.id) value) ∙ and_true _))
 
-pub finds_key : (sender receiver value : List ℕ) (old new : Connected) (rows : List Row) → Shown in_by_key_text (key_params sender receiver value) old new rows → (s : State) → Rests old s
+pub finds_key : (sender receiver value : List ℕ) (old new : Connected) (rows : List Row)
+    → Shown in_by_key_text (key_params sender receiver value) old new rows → (s : State) → Rests old s
     → rows ≡ map in_shown (filter (λ (e : InEntry). has_key sender receiver value e.posted) s.inbox)
 finds_key sender receiver value = reads_entries in_by_key_text in_by_key_plain in_by_key_unlisted key_terms in_by_key_is (key_params sender receiver value) (λ (e : InEntry). has_key sender receiver value e.posted) (of_key sender receiver value)
 
@@ -74,12 +76,14 @@ asked_small n w beyond within = elim (cases_Bool (nat_le end_of_numbers n)) [
   | inr low ↦ let under : n < end_of_numbers = grind (arith, nat_tests) in omega (arith, under, within under)
 ]
 
-pub same_tests : {E : Type 0} (number : E → ℕ) (n w : ℕ) → (end_of_numbers ≤ n → w ≡ end_of_numbers) → (n < end_of_numbers → w ≡ n) → (es : List E) → AllByRecursion (λ m. m < end_of_numbers) (map number es)
+pub same_tests : {E : Type 0} (number : E → ℕ) (n w : ℕ) → (end_of_numbers ≤ n → w ≡ end_of_numbers) → (n < end_of_numbers → w ≡ n) → (es : List E)
+    → AllByRecursion (λ m. m < end_of_numbers) (map number es)
     → AllByRecursion (λ (e : E). (number e == w) ≡ (number e == n)) es
 same_tests number n w beyond within [] all = tt
 same_tests number n w beyond within (e ∷ es) all = (same_test n w (number e) beyond within all.0, same_tests number n w beyond within es all.1)
 
-pub finds_number : (n w : ℕ) → (end_of_numbers ≤ n → w ≡ end_of_numbers) → (n < end_of_numbers → w ≡ n) → (old new : Connected) (rows : List Row) → Shown in_by_number_text (by_number_params w) old new rows → (s : State) → Rests old s
+pub finds_number : (n w : ℕ) → (end_of_numbers ≤ n → w ≡ end_of_numbers) → (n < end_of_numbers → w ≡ n) → (old new : Connected) (rows : List Row)
+    → Shown in_by_number_text (by_number_params w) old new rows → (s : State) → Rests old s
     → rows ≡ map in_shown (filter (λ (e : InEntry). e.number == n) s.inbox)
 finds_number n w beyond within old new rows h s r =
     let it = (r.stands (shown_open in_by_number_text (by_number_params w) old new rows h)).stands in
@@ -96,5 +100,6 @@ lists_all old new rows h s r = reads_entries in_all_text in_all_plain in_all_unl
 
 -- ---- all rows, one after another
 
-pub one_more_entry : (es : List InEntry) (e : InEntry) (done : List InRow) (row : InRow) → done ≡ map in_summary es → row ≡ in_summary e → done ++ row ∷ [] ≡ map in_summary (es ++ e ∷ [])
+pub one_more_entry : (es : List InEntry) (e : InEntry) (done : List InRow) (row : InRow) → done ≡ map in_summary es → row ≡ in_summary e
+    → done ++ row ∷ [] ≡ map in_summary (es ++ e ∷ [])
 one_more_entry es e done row so_far is = ap₂ (λ l x. l ++ x ∷ []) so_far is ∙ sym (map-append in_summary es (e ∷ []))

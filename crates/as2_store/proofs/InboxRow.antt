@@ -95,7 +95,8 @@ passed_attempt attempt = fits_i64 (attempt_code attempt) (small attempt)
 one_in : (way : Way) (e : InEntry) → IsOneRow (inbox_table way) (in_shown e) in_put_terms 18 (in_row e)
 one_in way e = record { source = in_row e; made = refl; cast_is = simp (cast_int, cast_null, cast_optional, cast_url, cast_digest, cast_mic) }
 
-pub puts_in : (way : Way) (old new : Connected) (e : InEntry) (count : ℕ) → old.now.schema ≡ store_schema way → Executes in_put_text (in_shown e) old new (Ok count)
+pub puts_in : (way : Way) (old new : Connected) (e : InEntry) (count : ℕ) → old.now.schema ≡ store_schema way
+    → Executes in_put_text (in_shown e) old new (Ok count)
     → Changed old new (store_schema way) (inbox_tree way) (put_row (in_row e) (old.now.trees (inbox_tree way)))
 puts_in way old new e count has h =
     inserts_given in_put_text (in_shown e) old new (store_schema way) has (inbox_place way) (inbox_table way) (inbox_there way) refl in_put_terms 18 (in_row e) (one_in way e) refl (in_put_is way) (in_put_plain way) count h

@@ -29,7 +29,8 @@ rests_still old new s r (inl same) = record {
 rests_still old new s r (inr back) = rests_after old old new s r (record { was_open = λ opened. opened; committed = λ _. refl }) back
 
 -- a query of the store's tables leaves nothing to a crash that wasn't there
-pub leaves_nothing : (sql : List ℕ) (params : Row) (old new : Connected) → ((way : Way) → IsPlain (understood (store_schema way) sql)) → (HasCleanDisk old → IsTrue old.is_open) → Survives old new (CommitsShowing sql params old) → Survives old new (Commits Some old)
+pub leaves_nothing : (sql : List ℕ) (params : Row) (old new : Connected) → ((way : Way) → IsPlain (understood (store_schema way) sql))
+    → (HasCleanDisk old → IsTrue old.is_open) → Survives old new (CommitsShowing sql params old) → Survives old new (Commits Some old)
 leaves_nothing sql params old new plain opened survives = survives_weaker old new (CommitsShowing sql params old) (Commits Some old) (λ clean db shows.
     let was = opened (omega (arith, survives.clean, clean)) in
     record { was_open = was; stands = λ s r. absurd (never_commits sql params old db (subst (λ k. IsPlain (understood k sql)) (sym (r.stands was).stands.schema) (plain (r.stands was).way)) shows) }) survives
@@ -44,7 +45,8 @@ pub record HasListed {S X Y : Type 0} (g : Ghosts S) (sql : List ℕ) (params : 
   pub read : (xs : List X) → given ≡ map shown xs → ys ≡ listed xs
 
 -- the last row shows the last entry
-split : {X : Type 0} (shown : X → Row) (given : List Row) (row : Row) (xs : List X) → given ++ row ∷ [] ≡ map shown xs → (front : List X) × (x : X) × (xs ≡ front ++ x ∷ []) × (given ≡ map shown front) × (row ≡ shown x)
+split : {X : Type 0} (shown : X → Row) (given : List Row) (row : Row) (xs : List X) → given ++ row ∷ [] ≡ map shown xs → (front : List X) × (x : X)
+    × (xs ≡ front ++ x ∷ []) × (given ≡ map shown front) × (row ≡ shown x)
 split shown [] row [] all = absurd cc
 split shown [] row (x ∷ []) all = ([], x, refl, refl, cc)
 split shown [] row (x ∷ y ∷ xs) all = absurd cc
@@ -57,7 +59,8 @@ split shown (r ∷ given) row (x ∷ xs) all =
 
 module _ {S X Y : Type 0} (g : Ghosts S) (sql : List ℕ) (params : Row) (shown : X → Row) (listed : List X → List Y) (old : Held S) where
   -- none at first
-  pub none_listed : ((way : Way) → IsPlain (understood (store_schema way) sql)) → listed [] ≡ [] → (new : Held S) → HasBegun g sql params old new → IsTrue (state g old).is_open → (s : State) → Rests (state g old) s → HasListed g sql params shown listed old new []
+  pub none_listed : ((way : Way) → IsPlain (understood (store_schema way) sql)) → listed [] ≡ [] → (new : Held S) → HasBegun g sql params old new
+      → IsTrue (state g old).is_open → (s : State) → Rests (state g old) s → HasListed g sql params shown listed old new []
   none_listed plain none new begun opened s r =
       let both = begun_plain g sql params old new (subst (λ k. IsPlain (understood k sql)) (sym (r.stands opened).stands.schema) (plain (r.stands opened).way)) begun in
       record { given = []; has = both.0; same = both.1; read = λ xs all. empty xs all }
@@ -68,7 +71,8 @@ module _ {S X Y : Type 0} (g : Ghosts S) (sql : List ℕ) (params : Row) (shown 
 
   module _ (mid new : Held S) (ys : List Y) (it : HasListed g sql params shown listed old mid ys) where
     -- one row more
-    pub one_more : (row : Row) (zs : List Y) → Advances g mid new (Some row) → IsUnchanged (state g mid) (state g new) → ((xs : List X) (x : X) → row ≡ shown x → ys ≡ listed xs → zs ≡ listed (xs ++ x ∷ [])) → HasListed g sql params shown listed old new zs
+    pub one_more : (row : Row) (zs : List Y) → Advances g mid new (Some row) → IsUnchanged (state g mid) (state g new)
+        → ((xs : List X) (x : X) → row ≡ shown x → ys ≡ listed xs → zs ≡ listed (xs ++ x ∷ [])) → HasListed g sql params shown listed old new zs
     one_more row zs goes same more = record {
       given = it.given ++ row ∷ [];
       has = goes sql params it.given it.has;
@@ -82,7 +86,8 @@ module _ {S X Y : Type 0} (g : Ghosts S) (sql : List ℕ) (params : Row) (shown 
 
 -- ---- as reads
 
-pub lists : {A : Type 0} (fits : State → A → Type 0) (old new : Connected) (a : A) → (HasCleanDisk old → IsTrue old.is_open) → (HasCleanDisk new → IsTrue new.is_open) → Survives old new (Commits Some old)
+pub lists : {A : Type 0} (fits : State → A → Type 0) (old new : Connected) (a : A) → (HasCleanDisk old → IsTrue old.is_open)
+    → (HasCleanDisk new → IsTrue new.is_open) → Survives old new (Commits Some old)
     → (HasCleanDisk new → (s : State) → Rests old s → Rests new s × fits s a) → Reads {A = A} {E = StoreFault} fits old new (Ok a)
 lists fits old new a opened is_open survives each = record {
   clean = λ clean. omega (arith, survives.clean, clean);
@@ -93,7 +98,8 @@ lists fits old new a opened is_open survives each = record {
   crash = survives;
 }
 
-pub lists_none : {A : Type 0} (fits : State → A → Type 0) (old new : Connected) (f : StoreFault) → Survives old new (Commits Some old) → (HasCleanDisk new → (s : State) → Rests old s → Rests new s) → Reads {A = A} {E = StoreFault} fits old new (Err f)
+pub lists_none : {A : Type 0} (fits : State → A → Type 0) (old new : Connected) (f : StoreFault) → Survives old new (Commits Some old)
+    → (HasCleanDisk new → (s : State) → Rests old s → Rests new s) → Reads {A = A} {E = StoreFault} fits old new (Err f)
 lists_none fits old new f survives same = record {
   clean = λ clean. omega (arith, survives.clean, clean);
   was_open = λ clean. tt;

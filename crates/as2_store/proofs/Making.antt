@@ -60,7 +60,8 @@ pub inbox_piece_is : table_defined_by inbox2_piece_text ≡ Ok inbox2_piece_made
 unfolding everything
 inbox_piece_is = refl
 
-pub inbox_piece_create : (command_of (understood with_inbox inbox2_piece_text) ≡ CreateTable) × (statement_of inbox2_piece_text (understood with_inbox inbox2_piece_text) ≡ inbox2_piece_text)
+pub inbox_piece_create : (command_of (understood with_inbox inbox2_piece_text) ≡ CreateTable)
+    × (statement_of inbox2_piece_text (understood with_inbox inbox2_piece_text) ≡ inbox2_piece_text)
 unfolding understood everything
 inbox_piece_create = (refl, refl)
 
@@ -72,7 +73,8 @@ pub outbox_is : table_defined_by outbox_text ≡ Ok outbox_made
 unfolding everything
 outbox_is = refl
 
-pub outbox_create : (command_of (understood inbox_schema outbox_text) ≡ CreateTable) × (statement_of outbox_text (understood inbox_schema outbox_text) ≡ outbox_text)
+pub outbox_create : (command_of (understood inbox_schema outbox_text) ≡ CreateTable)
+    × (statement_of outbox_text (understood inbox_schema outbox_text) ≡ outbox_text)
 unfolding understood everything
 outbox_create = (refl, refl)
 
@@ -84,7 +86,8 @@ pub outbox_piece_is : table_defined_by outbox_piece_text ≡ Ok outbox_piece_mad
 unfolding everything
 outbox_piece_is = refl
 
-pub outbox_piece_create : (command_of (understood with_outbox outbox_piece_text) ≡ CreateTable) × (statement_of outbox_piece_text (understood with_outbox outbox_piece_text) ≡ outbox_piece_text)
+pub outbox_piece_create : (command_of (understood with_outbox outbox_piece_text) ≡ CreateTable)
+    × (statement_of outbox_piece_text (understood with_outbox outbox_piece_text) ≡ outbox_piece_text)
 unfolding understood everything
 outbox_piece_create = (refl, refl)
 
@@ -96,7 +99,8 @@ pub evidence_is : table_defined_by evidence_statement ≡ Ok evidence_made
 unfolding everything
 evidence_is = refl
 
-pub evidence_create : (command_of (understood with_outbox_piece evidence_statement) ≡ CreateTable) × (statement_of evidence_statement (understood with_outbox_piece evidence_statement) ≡ evidence_statement)
+pub evidence_create : (command_of (understood with_outbox_piece evidence_statement) ≡ CreateTable)
+    × (statement_of evidence_statement (understood with_outbox_piece evidence_statement) ≡ evidence_statement)
 unfolding understood everything
 evidence_create = (refl, refl)
 
@@ -108,7 +112,8 @@ pub waiting_is : table_defined_by waiting_text ≡ Ok waiting_made
 unfolding everything
 waiting_is = refl
 
-pub waiting_create : (command_of (understood outbox_schema waiting_text) ≡ CreateTable) × (statement_of waiting_text (understood outbox_schema waiting_text) ≡ waiting_text)
+pub waiting_create : (command_of (understood outbox_schema waiting_text) ≡ CreateTable)
+    × (statement_of waiting_text (understood outbox_schema waiting_text) ≡ waiting_text)
 unfolding understood everything
 waiting_create = (refl, refl)
 
@@ -120,7 +125,8 @@ pub waiting_due_is : index_defined_by waiting_table waiting_due_text ≡ Ok wait
 unfolding everything
 waiting_due_is = refl
 
-pub waiting_due_create : (command_of (understood with_waiting waiting_due_text) ≡ CreateIndex 6) × (statement_of waiting_due_text (understood with_waiting waiting_due_text) ≡ waiting_due_text)
+pub waiting_due_create : (command_of (understood with_waiting waiting_due_text) ≡ CreateIndex 6)
+    × (statement_of waiting_due_text (understood with_waiting waiting_due_text) ≡ waiting_due_text)
 unfolding understood everything
 waiting_due_create = (refl, refl)
 
@@ -132,7 +138,8 @@ pub origin_is : table_defined_by origin_text ≡ Ok origin_made
 unfolding everything
 origin_is = refl
 
-pub origin_create : (command_of (understood waiting_schema origin_text) ≡ CreateTable) × (statement_of origin_text (understood waiting_schema origin_text) ≡ origin_text)
+pub origin_create : (command_of (understood waiting_schema origin_text) ≡ CreateTable)
+    × (statement_of origin_text (understood waiting_schema origin_text) ≡ origin_text)
 unfolding understood everything
 origin_create = (refl, refl)
 
@@ -144,7 +151,8 @@ pub resent_is : table_defined_by resent_text ≡ Ok resent_made
 unfolding everything
 resent_is = refl
 
-pub resent_create : (command_of (understood with_origin resent_text) ≡ CreateTable) × (statement_of resent_text (understood with_origin resent_text) ≡ resent_text)
+pub resent_create : (command_of (understood with_origin resent_text) ≡ CreateTable)
+    × (statement_of resent_text (understood with_origin resent_text) ≡ resent_text)
 unfolding understood everything
 resent_create = (refl, refl)
 

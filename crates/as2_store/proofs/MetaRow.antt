@@ -44,16 +44,19 @@ takes : (tables : List Table) (indexes : List Index) → HasParameters meta_read
 unfolding understood everything
 takes tables indexes = (omega arith, refl)
 
-accepts : (tables : List Table) (indexes : List Index) → accepts_program (with_meta_first tables indexes) [] (over_table meta_tree [] meta_columns [] (lit (Int (negsuc 0)))) [] ≡ true
+accepts : (tables : List Table) (indexes : List Index)
+    → accepts_program (with_meta_first tables indexes) [] (over_table meta_tree [] meta_columns [] (lit (Int (negsuc 0)))) [] ≡ true
 accepts tables indexes = refl
 
-stops : (tables : List Table) (indexes : List Index) (limit : Option ℕ) (db : Database) (e : Error) → db.schema ≡ with_meta_first tables indexes → RefusesToRead limit meta_command db [] e → e ≡ SqliteFailure OperationInterrupted
+stops : (tables : List Table) (indexes : List Index) (limit : Option ℕ) (db : Database) (e : Error) → db.schema ≡ with_meta_first tables indexes
+    → RefusesToRead limit meta_command db [] e → e ≡ SqliteFailure OperationInterrupted
 stops tables indexes limit db e has (inl typed) = absurd (true≢false (sym (accepts tables indexes) ∙ ap (λ s. accepts_program s [] (over_table meta_tree [] meta_columns [] (lit (Int (negsuc 0)))) []) (sym has) ∙ typed.1))
 stops tables indexes limit db e has (inr (inl over)) = absurd (elim over.1 [ inl group ↦ group | inr fold ↦ no_fold_overflows (overlay db.trees []) (inner meta_tree end) ([] ∷ []) refl fold ])
 stops tables indexes limit db e has (inr (inr stop)) = stop.0
 
 -- where the row is there, it can be read but for a cause from outside
-pub said_fails : (old new : Connected) (e : Error) (kind : List ℕ) (version : ℕ) → MetaSays old kind version → FailsToQuery meta_read_text [] old new e → IsOutside e
+pub said_fails : (old new : Connected) (e : Error) (kind : List ℕ) (version : ℕ) → MetaSays old kind version → FailsToQuery meta_read_text [] old new e
+    → IsOutside e
 said_fails old new e kind version it h =
     let has = it.schema in
     fails_outside meta_read_text [] old new e (subst (λ s. IsPlain (understood s meta_read_text)) (sym has) (meta_read_plain it.tables it.indexes))
@@ -68,7 +71,8 @@ abbrev pub meta_cells : List ℕ → ℕ → ℕ → ℕ → Row
 meta_cells kind version n m = Text kind ∷ whole version ∷ whole n ∷ whole m ∷ []
 
 -- the row is shown as it is
-pub reads_said : (old new : Connected) (rows : List Row) → Shown meta_read_text [] old new rows → (kind : List ℕ) (version : ℕ) → (it : MetaSays old kind version) → rows ≡ meta_cells kind version it.next_receipt it.next_document ∷ []
+pub reads_said : (old new : Connected) (rows : List Row) → Shown meta_read_text [] old new rows → (kind : List ℕ) (version : ℕ)
+    → (it : MetaSays old kind version) → rows ≡ meta_cells kind version it.next_receipt it.next_document ∷ []
 reads_said old new rows h kind version it =
     let read = reads_as meta_read_text [] old new (with_meta_first it.tables it.indexes) it.schema meta_command (meta_read_is it.tables it.indexes) (meta_read_plain it.tables it.indexes) (meta_read_unlisted it.tables it.indexes) rows h in
     let all = in_any_order meta_tree [] meta_columns old.now.trees [] rows read.answer in
@@ -88,7 +92,8 @@ says_of layout c s it = record {
 pub says_held : (c : Connected) (s : State) → Holds c.now s → MetaSays c (codes "as2-station") current_number
 says_held c s it = says_of (VersionThree it.way) c s it.stands
 
-pub reads_meta : (old new : Connected) (rows : List Row) → Shown meta_read_text [] old new rows → (s : State) → Rests old s → rows ≡ meta_shown current_number s.next_in s.next_out ∷ []
+pub reads_meta : (old new : Connected) (rows : List Row) → Shown meta_read_text [] old new rows → (s : State) → Rests old s
+    → rows ≡ meta_shown current_number s.next_in s.next_out ∷ []
 unfolding says_of says_held
 reads_meta old new rows h s r = reads_said old new rows h (codes "as2-station") current_number (says_held old s (r.stands (shown_open meta_read_text [] old new rows h)))
 
@@ -101,24 +106,30 @@ abbrev pub raise_params : ℕ → Row
 raise_params n = Int (pos n) ∷ Int (pos (n + 1)) ∷ []
 
 -- where a row was changed, it had this number
-pub counts_receipts : (way : Way) (old new : Connected) (number count n m : ℕ) → Executes receipt_text (raise_params number) old new (Ok count) → HasCounters way old.now n m → count ≢ 0
+pub counts_receipts : (way : Way) (old new : Connected) (number count n m : ℕ) → Executes receipt_text (raise_params number) old new (Ok count)
+    → HasCounters way old.now n m → count ≢ 0
     → (number ≡ n) × Changed old new (store_schema way) meta_tree (meta_row current_number (number + 1) m ∷ [])
 counts_receipts way old new number count n m h has some =
     let done = updates receipt_text (raise_params number) old new (store_schema way) has.schema 0 meta_table refl receipt_terms receipt_project (λ _. pos 1) (λ k. meta_row current_number k m) (λ _. refl) (λ _. meta_row current_number (number + 1) m) (λ _. refl) (λ _. simp cast_int)
     (n ∷ []) has.meta (tt, tt) (quiet way meta_tree) (receipt_is way) (receipt_plain way) count h in
     go (passes receipt_terms (raise_params number) (meta_row current_number n m)) (ap (λ b. b && true) (numbers_equal n number) ∙ and_true _) done.0 done.1
   where
-    go : (t : Bool) → t ≡ (n == number) → Changed old new (store_schema way) meta_tree (cond t (meta_row current_number (number + 1) m) (meta_row current_number n m) ∷ []) → count ≡ length (cond t (n ∷ []) []) → (number ≡ n) × Changed old new (store_schema way) meta_tree (meta_row current_number (number + 1) m ∷ [])
+    go : (t : Bool) → t ≡ (n == number)
+        → Changed old new (store_schema way) meta_tree (cond t (meta_row current_number (number + 1) m) (meta_row current_number n m) ∷ [])
+        → count ≡ length (cond t (n ∷ []) []) → (number ≡ n) × Changed old new (store_schema way) meta_tree (meta_row current_number (number + 1) m ∷ [])
     go true is changed counted = (grind (arith, nat_tests, is), changed)
     go false is changed counted = absurd (some counted)
 
-pub counts_documents : (way : Way) (old new : Connected) (number count n m : ℕ) → Executes document_text (raise_params number) old new (Ok count) → HasCounters way old.now n m → count ≢ 0
+pub counts_documents : (way : Way) (old new : Connected) (number count n m : ℕ) → Executes document_text (raise_params number) old new (Ok count)
+    → HasCounters way old.now n m → count ≢ 0
     → (number ≡ m) × Changed old new (store_schema way) meta_tree (meta_row current_number n (number + 1) ∷ [])
 counts_documents way old new number count n m h has some =
     let done = updates document_text (raise_params number) old new (store_schema way) has.schema 0 meta_table refl document_terms document_project (λ _. pos 1) (λ k. meta_row current_number n k) (λ _. refl) (λ _. meta_row current_number n (number + 1)) (λ _. refl) (λ _. simp cast_int)
     (m ∷ []) has.meta (tt, tt) (quiet way meta_tree) (document_is way) (document_plain way) count h in
     go (passes document_terms (raise_params number) (meta_row current_number n m)) (ap (λ b. b && true) (numbers_equal m number) ∙ and_true _) done.0 done.1
   where
-    go : (t : Bool) → t ≡ (m == number) → Changed old new (store_schema way) meta_tree (cond t (meta_row current_number n (number + 1)) (meta_row current_number n m) ∷ []) → count ≡ length (cond t (m ∷ []) []) → (number ≡ m) × Changed old new (store_schema way) meta_tree (meta_row current_number n (number + 1) ∷ [])
+    go : (t : Bool) → t ≡ (m == number)
+        → Changed old new (store_schema way) meta_tree (cond t (meta_row current_number n (number + 1)) (meta_row current_number n m) ∷ [])
+        → count ≡ length (cond t (m ∷ []) []) → (number ≡ m) × Changed old new (store_schema way) meta_tree (meta_row current_number n (number + 1) ∷ [])
     go true is changed counted = (grind (arith, nat_tests, is), changed)
     go false is changed counted = absurd (some counted)

@@ -38,7 +38,8 @@ use Rattle.as2_store.proofs.WaitingRows.{cast_optional}
 
 -- ---- tables beside those of the first version
 
-pub makes_inbox_beside : (a b c : Connected) (i j : ℕ) → Executes inbox2_text [] a b (Ok i) → Executes inbox2_piece_text [] b c (Ok j) → (s : State) → Stands VersionOne a.now s → IsInboxBeside c.now s
+pub makes_inbox_beside : (a b c : Connected) (i j : ℕ) → Executes inbox2_text [] a b (Ok i) → Executes inbox2_piece_text [] b c (Ok j) → (s : State)
+    → Stands VersionOne a.now s → IsInboxBeside c.now s
 makes_inbox_beside a b c i j one two s it =
     let has = it.entries in
     let m1 = makes_table inbox2_text a b first_schema it.schema inbox2_made inbox_is inbox_plain refl inbox_create.0 inbox_create.1 i one in
@@ -60,7 +61,8 @@ makes_inbox_beside a b c i j one two s it =
       no_piece = m2.empty;
     }
 
-pub makes_beside : (a b c : Connected) (i j : ℕ) → Executes origin_text [] a b (Ok i) → Executes resent_text [] b c (Ok j) → (s : State) → IsInboxBeside a.now s → IsBeside c.now s
+pub makes_beside : (a b c : Connected) (i j : ℕ) → Executes origin_text [] a b (Ok i) → Executes resent_text [] b c (Ok j) → (s : State)
+    → IsInboxBeside a.now s → IsBeside c.now s
 makes_beside a b c i j one two s it =
     let has = it.entries in
     let m1 = makes_table origin_text a b beside_schema it.schema origin_made origin_is origin_plain refl origin_create.0 origin_create.1 i one in
@@ -114,7 +116,8 @@ cast_entries (e ∷ es) = ap₂ ◌∷◌ (one e) (cast_entries es)
     one e = simp (cast_int, cast_null, cast_optional, cast_url, cast_digest, cast_mic)
 
 module _ (s : State) (from : IsCounted s) where
-  pub copies_inbox : (b c : Connected) (count : ℕ) → IsBeside b.now s → Executes copy_inbox_text [] b c (Ok count) → Changed b c (store_schema Migrated) (inbox_tree Migrated) (map in_row s.inbox)
+  pub copies_inbox : (b c : Connected) (count : ℕ) → IsBeside b.now s → Executes copy_inbox_text [] b c (Ok count)
+      → Changed b c (store_schema Migrated) (inbox_tree Migrated) (map in_row s.inbox)
   copies_inbox b c count it h =
       let copied = copies copy_inbox_text [] b c (store_schema Migrated) it.schema 7 (inbox_table Migrated) refl refl refl _ copy_inbox_is copy_inbox_plain count h in
       let table = entries_rise in_row (λ (e : InEntry). e.number) (λ _. refl) s.next_in s.inbox from.receipts.1 in
@@ -126,7 +129,8 @@ module _ (s : State) (from : IsCounted s) where
       (ap (λ l. put_all rows (numbered Chosen rows l)) (ap (map (λ r. cast_row (inbox_table Migrated) r)) shown ∙ cast_entries s.inbox)
       ∙ puts_in_order in_row (λ (e : InEntry). e.number) (λ _. refl) rows s.inbox it.no_inbox (numbers_rise (λ (e : InEntry). e.number) s.next_in s.inbox from.receipts.1))
 
-  clears_inbox : (b c : Connected) (count : ℕ) → b.now.schema ≡ store_schema Migrated → b.now.trees first_inbox_tree ≡ map in_row s.inbox → Executes clear_inbox_text [] b c (Ok count) → Changed b c (store_schema Migrated) first_inbox_tree []
+  clears_inbox : (b c : Connected) (count : ℕ) → b.now.schema ≡ store_schema Migrated → b.now.trees first_inbox_tree ≡ map in_row s.inbox
+      → Executes clear_inbox_text [] b c (Ok count) → Changed b c (store_schema Migrated) first_inbox_tree []
   clears_inbox b c count has there h =
       let table = entries_rise in_row (λ (e : InEntry). e.number) (λ _. refl) s.next_in s.inbox from.receipts.1 in
       let done = deletes clear_inbox_text [] b c (store_schema Migrated) has 1 first_inbox_table refl [] (λ (e : InEntry). pos e.number) in_row (λ _. refl) s.inbox there table (quiet Migrated first_inbox_tree) clear_inbox_is clear_inbox_plain count h in
@@ -178,7 +182,8 @@ module _ (s : State) (from : IsCounted s) where
       }
 
 -- and the origin is told
-pub originated : (a b c : Connected) (s : State) (next : ℕ) → Stands VersionOne a.now s → next ≡ s.next_in → IsMoved b.now s → Changed b c (store_schema Migrated) (origin_tree Migrated) (origin_row next ∷ []) → StandsBut 1 Migrated c.now (migrated s)
+pub originated : (a b c : Connected) (s : State) (next : ℕ) → Stands VersionOne a.now s → next ≡ s.next_in → IsMoved b.now s
+    → Changed b c (store_schema Migrated) (origin_tree Migrated) (origin_row next ∷ []) → StandsBut 1 Migrated c.now (migrated s)
 originated a b c s next from is it one =
     let has = it.entries in
     let k1 = keeping Migrated AtOrigin b.now.trees c.now.trees one.others in
@@ -202,7 +207,8 @@ originated a b c s next from is it one =
 
 -- ---- one table more, for the second version
 
-pub makes_third : (way : Way) (a b : Connected) (count : ℕ) (s : State) → Stands (VersionTwo way) a.now s → Executes resent_text [] a b (Ok count) → StandsBut 2 way b.now s
+pub makes_third : (way : Way) (a b : Connected) (count : ℕ) (s : State) → Stands (VersionTwo way) a.now s → Executes resent_text [] a b (Ok count)
+    → StandsBut 2 way b.now s
 makes_third Fresh a b count s it h =
     let has = it.entries in
     let m = makes_table resent_text a b (schema_of (VersionTwo Fresh)) it.schema resent_made resent_is (second_plain Fresh) refl (second_create Fresh).0 (second_create Fresh).1 count h in
@@ -248,13 +254,15 @@ makes_third Migrated a b count s it h =
 
 -- ---- the version's number
 
-pub raises_version : (way : Way) (a b : Connected) (number next_in next_out count : ℕ) → a.now.schema ≡ store_schema way → a.now.trees meta_tree ≡ meta_row number next_in next_out ∷ [] → Executes version_text [] a b (Ok count)
+pub raises_version : (way : Way) (a b : Connected) (number next_in next_out count : ℕ) → a.now.schema ≡ store_schema way
+    → a.now.trees meta_tree ≡ meta_row number next_in next_out ∷ [] → Executes version_text [] a b (Ok count)
     → Changed a b (store_schema way) meta_tree (meta_row current_number next_in next_out ∷ [])
 raises_version way a b number next_in next_out count has there h =
     (updates version_text [] a b (store_schema way) has 0 meta_table refl [] version_project (λ _. pos 1) (λ (k : ℕ). meta_row k next_in next_out) (λ _. refl) (λ _. meta_row current_number next_in next_out) (λ _. refl) (λ _. simp cast_int)
     (number ∷ []) there (tt, tt) (quiet way meta_tree) (version_is way) (version_plain way) count h).0
 
-pub stands_raised : (number : ℕ) (way : Way) (a b : Connected) (s : State) → StandsBut number way a.now s → Changed a b (store_schema way) meta_tree (meta_row current_number s.next_in s.next_out ∷ []) → Stands (VersionThree way) b.now s
+pub stands_raised : (number : ℕ) (way : Way) (a b : Connected) (s : State) → StandsBut number way a.now s
+    → Changed a b (store_schema way) meta_tree (meta_row current_number s.next_in s.next_out ∷ []) → Stands (VersionThree way) b.now s
 unfolding IsWhole
 stands_raised number way a b s it one =
     let has = it.entries in

@@ -31,7 +31,8 @@ beside_inbox = created first_schema inbox2_made
 abbrev pub beside_origin : Schema
 beside_origin = created beside_schema origin_made
 
-pub inbox_create : (command_of (understood first_schema inbox2_text) ≡ CreateTable) × (statement_of inbox2_text (understood first_schema inbox2_text) ≡ inbox2_text)
+pub inbox_create : (command_of (understood first_schema inbox2_text) ≡ CreateTable)
+    × (statement_of inbox2_text (understood first_schema inbox2_text) ≡ inbox2_text)
 unfolding understood everything
 inbox_create = (refl, refl)
 
@@ -39,7 +40,8 @@ pub inbox_plain : IsPlain (understood first_schema inbox2_text)
 unfolding understood everything
 inbox_plain = (refl, refl)
 
-pub piece_create : (command_of (understood beside_inbox inbox2_piece_text) ≡ CreateTable) × (statement_of inbox2_piece_text (understood beside_inbox inbox2_piece_text) ≡ inbox2_piece_text)
+pub piece_create : (command_of (understood beside_inbox inbox2_piece_text) ≡ CreateTable)
+    × (statement_of inbox2_piece_text (understood beside_inbox inbox2_piece_text) ≡ inbox2_piece_text)
 unfolding understood everything
 piece_create = (refl, refl)
 
@@ -47,7 +49,8 @@ pub piece_plain : IsPlain (understood beside_inbox inbox2_piece_text)
 unfolding understood everything
 piece_plain = (refl, refl)
 
-pub origin_create : (command_of (understood beside_schema origin_text) ≡ CreateTable) × (statement_of origin_text (understood beside_schema origin_text) ≡ origin_text)
+pub origin_create : (command_of (understood beside_schema origin_text) ≡ CreateTable)
+    × (statement_of origin_text (understood beside_schema origin_text) ≡ origin_text)
 unfolding understood everything
 origin_create = (refl, refl)
 
@@ -55,7 +58,8 @@ pub origin_plain : IsPlain (understood beside_schema origin_text)
 unfolding understood everything
 origin_plain = (refl, refl)
 
-pub resent_create : (command_of (understood beside_origin resent_text) ≡ CreateTable) × (statement_of resent_text (understood beside_origin resent_text) ≡ resent_text)
+pub resent_create : (command_of (understood beside_origin resent_text) ≡ CreateTable)
+    × (statement_of resent_text (understood beside_origin resent_text) ≡ resent_text)
 unfolding understood everything
 resent_create = (refl, refl)
 
@@ -65,7 +69,8 @@ resent_plain = (refl, refl)
 
 -- ---- one table beside those of the second version
 
-pub second_create : (way : Way) → (command_of (understood (schema_of (VersionTwo way)) resent_text) ≡ CreateTable) × (statement_of resent_text (understood (schema_of (VersionTwo way)) resent_text) ≡ resent_text)
+pub second_create : (way : Way) → (command_of (understood (schema_of (VersionTwo way)) resent_text) ≡ CreateTable)
+    × (statement_of resent_text (understood (schema_of (VersionTwo way)) resent_text) ≡ resent_text)
 unfolding understood everything
 second_create Fresh = (refl, refl)
 second_create Migrated = (refl, refl)

@@ -51,7 +51,8 @@ module _ (copying clearing : List ℕ) (terms : List Term) (params : Row) (p : P
     changed : Changed b c (store_schema Migrated) (inbox_piece_tree Migrated) rows
     are : HasRows rows (map piece_shown all)
 
-  puts_pieces : (b c : Connected) (count : ℕ) (moved left : List Piece) → b.now.schema ≡ store_schema Migrated → HasRows (b.now.trees first_piece_tree) (map piece_shown left) → HasRows (b.now.trees (inbox_piece_tree Migrated)) (map piece_shown moved)
+  puts_pieces : (b c : Connected) (count : ℕ) (moved left : List Piece) → b.now.schema ≡ store_schema Migrated
+      → HasRows (b.now.trees first_piece_tree) (map piece_shown left) → HasRows (b.now.trees (inbox_piece_tree Migrated)) (map piece_shown moved)
       → Executes copying params b c (Ok count) → ArePut b c (moved ++ filter p left)
   puts_pieces b c count moved left has there held h =
       let copied = copies copying params b c (store_schema Migrated) has 8 (inbox_piece_table Migrated) refl refl (append-nil params) _ texts.copies_is texts.copies_plain count h in
@@ -67,14 +68,16 @@ module _ (copying clearing : List ℕ) (terms : List Term) (params : Row) (p : P
     changed : Changed b c (store_schema Migrated) first_piece_tree rows
     are : HasRows rows (map piece_shown all)
 
-  takes_pieces : (b c : Connected) (count : ℕ) (left : List Piece) → b.now.schema ≡ store_schema Migrated → HasRows (b.now.trees first_piece_tree) (map piece_shown left) → Executes clearing params b c (Ok count)
+  takes_pieces : (b c : Connected) (count : ℕ) (left : List Piece) → b.now.schema ≡ store_schema Migrated
+      → HasRows (b.now.trees first_piece_tree) (map piece_shown left) → Executes clearing params b c (Ok count)
       → AreLeft b c (filter (λ x. not (p x)) left)
   takes_pieces b c count left has there h =
       let it = are_under piece_shown (b.now.trees first_piece_tree) left there in
       let done = deletes clearing params b c (store_schema Migrated) has 2 first_piece_table refl terms (λ (y : ℤ × Piece). y.0) (under piece_shown) (λ _. refl) it.entries it.rows_are (subst IsTable it.rows_are there.rise) (quiet Migrated first_piece_tree) texts.clears_is texts.clears_plain count h in
       record { rows = _; changed = done.0; are = keeps_rest piece_shown terms params p texts.tests (b.now.trees first_piece_tree) left there it }
 
-  pub moves_pieces : (a b c : Connected) (i j : ℕ) (s : State) → Executes copying params a b (Ok i) → Executes clearing params b c (Ok j) → AreShared a.now s → AreShared c.now s
+  pub moves_pieces : (a b c : Connected) (i j : ℕ) (s : State) → Executes copying params a b (Ok i) → Executes clearing params b c (Ok j) → AreShared a.now s
+      → AreShared c.now s
   moves_pieces a b c i j s one two it =
       let put = puts_pieces a b i it.moved it.left it.schema it.first_contents it.contents one in
       let o1 = put.changed.others in
@@ -111,7 +114,8 @@ moves_below below = record {
   tests = λ n x. ap (λ b. b && true) (numbers_below x.number below) ∙ and_true _;
 }
 
-pub moved_below : (below : ℕ) (a b c : Connected) (i j : ℕ) (s : State) → Executes copy_below_text (whole below ∷ []) a b (Ok i) → Executes clear_below_text (whole below ∷ []) b c (Ok j) → AreShared a.now s → AreShared c.now s
+pub moved_below : (below : ℕ) (a b c : Connected) (i j : ℕ) (s : State) → Executes copy_below_text (whole below ∷ []) a b (Ok i)
+    → Executes clear_below_text (whole below ∷ []) b c (Ok j) → AreShared a.now s → AreShared c.now s
 moved_below below = moves_pieces copy_below_text clear_below_text below_terms (whole below ∷ []) (λ x. nat_lt x.number below) (moves_below below)
 
 -- ---- all that are left
@@ -137,7 +141,8 @@ no_pieces rows shown has none = nothing has.numbered has.rows_are (subst (IsPerm
     nothing [] are same = are
     nothing (r ∷ rs) are same = absurd (omega (arith, length_permutation _ _ same))
 
-pub moved_rest : (a b c : Connected) (i j : ℕ) (s : State) → Executes copy_piece_text [] a b (Ok i) → Executes clear_piece_text [] b c (Ok j) → AreShared a.now s → IsCopied c.now s
+pub moved_rest : (a b c : Connected) (i j : ℕ) (s : State) → Executes copy_piece_text [] a b (Ok i) → Executes clear_piece_text [] b c (Ok j)
+    → AreShared a.now s → IsCopied c.now s
 unfolding moves_pieces moves_rest
 moved_rest a b c i j s one two it =
     let done = moves_pieces copy_piece_text clear_piece_text [] [] (λ _. true) moves_rest a b c i j s one two it in

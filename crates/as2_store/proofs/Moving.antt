@@ -37,8 +37,11 @@ pub record MovesEach {S : Type 0} (g : Ghosts S) (old : Held S) (last : Connecte
 abbrev pub Tells : List Row → ℕ → ℕ → Type 0
 Tells rows version next = (kind : List ℕ) (said n m : ℕ) → rows ≡ meta_cells kind said n m ∷ [] → (migration_fault kind said ≡ None) × (said ≡ version) × (next ≡ n)
 
-pub moves_each : {S : Type 0} (g : Ghosts S) (old : Held S) (mid last : Connected) (rows : List Row) (version next : ℕ) → (HasCleanDisk last → HasCleanDisk mid) → (HasCleanDisk mid → Shown meta_read_text [] (state g (record old { in_transaction = true })) mid rows) → Tells rows version next
-    → (HasCleanDisk last → (layout : Layout) (s : State) → Stands layout mid.now s → number_of layout ≡ version → next ≡ s.next_in → IsNext layout last.now s) → HasCleanDisk last → MovesEach g old last
+pub moves_each : {S : Type 0} (g : Ghosts S) (old : Held S) (mid last : Connected) (rows : List Row) (version next : ℕ)
+    → (HasCleanDisk last → HasCleanDisk mid) → (HasCleanDisk mid → Shown meta_read_text [] (state g (record old { in_transaction = true })) mid rows)
+    → Tells rows version next
+    → (HasCleanDisk last → (layout : Layout) (s : State) → Stands layout mid.now s → number_of layout ≡ version → next ≡ s.next_in → IsNext layout last.now s)
+    → HasCleanDisk last → MovesEach g old last
 unfolding says_of
 moves_each g old mid last rows version next was shows told moved clean =
     let begun = state g (record old { in_transaction = true }) in
@@ -56,13 +59,17 @@ moves_each g old mid last rows version next was shows told moved clean =
 next_kept : (layout : Layout) (d : Database) (s : State) (db : Trees) → db ≡ d.trees → IsNext layout d s → KeepsNext db (migrated_from layout s)
 next_kept layout d s db is it = record { state = it.state; is = it.is; keeps = subst (λ (t : Trees). Keeps t it.state) (sym is) (keeps_of d it.state it.holds) }
 
-pub moved_commits : {S : Type 0} (g : Ghosts S) (old : Held S) (last : Connected) → MovesEach g old last → (db : Trees) → db ≡ last.now.trees → CommitsMigrated (state g old) db
+pub moved_commits : {S : Type 0} (g : Ghosts S) (old : Held S) (last : Connected) → MovesEach g old last → (db : Trees) → db ≡ last.now.trees
+    → CommitsMigrated (state g old) db
 moved_commits g old last it db is = record { was_open = it.was_open; stands = λ layout s r. next_kept layout last.now s db is (it.reaches layout s r) }
 
-pub migrates : {S : Type 0} (g : Ghosts S) (old : Held S) (mid last : Connected) (end : Held S) (rows : List Row) (version next : ℕ) → IsInside (state g (record old { in_transaction = true })) last → Survives last (state g end) (λ db. db ≡ last.now.trees)
-    → (HasCleanDisk last → HasCleanDisk mid) → (HasCleanDisk mid → Shown meta_read_text [] (state g (record old { in_transaction = true })) mid rows) → Tells rows version next → ((state g old).now.schema.tables ≡ [] → ⊥)
+pub migrates : {S : Type 0} (g : Ghosts S) (old : Held S) (mid last : Connected) (end : Held S) (rows : List Row) (version next : ℕ)
+    → IsInside (state g (record old { in_transaction = true })) last → Survives last (state g end) (λ db. db ≡ last.now.trees)
+    → (HasCleanDisk last → HasCleanDisk mid) → (HasCleanDisk mid → Shown meta_read_text [] (state g (record old { in_transaction = true })) mid rows)
+    → Tells rows version next → ((state g old).now.schema.tables ≡ [] → ⊥)
     → (HasCleanDisk last → MovesEach g old last) → (HasCleanDisk (state g end) → Shows last (state g end) last.now last.now false)
-    → (settled : (db : Trees) → IsTrue (state g end).is_open → (state g end).may_leave db → db ≡ (state g end).committed.trees) → Migrates (state g old) (state g end)
+    → (settled : (db : Trees) → IsTrue (state g end).is_open → (state g end).may_leave db → db ≡ (state g end).committed.trees)
+    → Migrates (state g old) (state g end)
 migrates g old mid last end rows version next inside survives was_mid shows told tables each ends settled =
     let was : HasCleanDisk (state g end) → HasCleanDisk last = λ clean. omega (arith, survives.clean, clean) in
     record {
@@ -96,7 +103,9 @@ never_full OtherVersion is = refl
 pub any_fault : (old : Connected) (f : StoreFault) → may_come f ≡ true → IsMigrationReason old f
 any_fault old f is = record { not_full = never_full f is; of_earlier = λ layout s next r to. is; of_row = λ kind version it. inl is; of_blank = λ blank. inl is }
 
-pub unread_row : {S : Type 0} (g : Ghosts S) (old : Held S) (mid : Connected) (e : Error) (f : StoreFault) → FailsToQuery meta_read_text [] (state g (record old { in_transaction = true })) mid e ⊎ IsTooLate meta_read_text [] (state g (record old { in_transaction = true })) mid e
+pub unread_row : {S : Type 0} (g : Ghosts S) (old : Held S) (mid : Connected) (e : Error) (f : StoreFault)
+    → FailsToQuery meta_read_text [] (state g (record old { in_transaction = true })) mid e
+    ⊎ IsTooLate meta_read_text [] (state g (record old { in_transaction = true })) mid e
     → (IsOutside e → may_come f ≡ true) → (may_come f ≡ true) ⊎ (f ≡ NotAStore) → IsMigrationReason (state g old) f
 unread_row g old mid e f failed outside known = record {
   not_full = elim known [ inl comes ↦ never_full f comes | inr none ↦ ap is_full none ];
@@ -126,12 +135,15 @@ none_said (VersionTwo way) s next to = refl
 none_said (VersionThree way) s next to = absurd cc
 
 -- what is said of a slice is said of the rows that it shows
-pub says_in : (slice rows : List Row) (f : StoreFault) → slice ≡ rows → (may_come f ≡ true) ⊎ ((kind : List ℕ) (version n m : ℕ) → slice ≡ meta_cells kind version n m ∷ [] → migration_fault kind version ≡ Some f)
+pub says_in : (slice rows : List Row) (f : StoreFault) → slice ≡ rows → (may_come f ≡ true)
+    ⊎ ((kind : List ℕ) (version n m : ℕ) → slice ≡ meta_cells kind version n m ∷ [] → migration_fault kind version ≡ Some f)
     → (may_come f ≡ true) ⊎ ((kind : List ℕ) (version n m : ℕ) → rows ≡ meta_cells kind version n m ∷ [] → migration_fault kind version ≡ Some f)
 says_in slice rows f same it = subst (λ (l : List Row). (may_come f ≡ true) ⊎ ((kind : List ℕ) (version n m : ℕ) → l ≡ meta_cells kind version n m ∷ [] → migration_fault kind version ≡ Some f)) same it
 
-pub row_says : {S : Type 0} (g : Ghosts S) (old : Held S) (mid : Connected) (rows : List Row) (f : StoreFault) → Shown meta_read_text [] (state g (record old { in_transaction = true })) mid rows
-    → (may_come f ≡ true) ⊎ ((kind : List ℕ) (version n m : ℕ) → rows ≡ meta_cells kind version n m ∷ [] → migration_fault kind version ≡ Some f) → is_full f ≡ false → ((state g old).now.schema.tables ≡ [] → ⊥) → IsMigrationReason (state g old) f
+pub row_says : {S : Type 0} (g : Ghosts S) (old : Held S) (mid : Connected) (rows : List Row) (f : StoreFault)
+    → Shown meta_read_text [] (state g (record old { in_transaction = true })) mid rows
+    → (may_come f ≡ true) ⊎ ((kind : List ℕ) (version n m : ℕ) → rows ≡ meta_cells kind version n m ∷ [] → migration_fault kind version ≡ Some f)
+    → is_full f ≡ false → ((state g old).now.schema.tables ≡ [] → ⊥) → IsMigrationReason (state g old) f
 row_says g old mid rows f shown (inl is) known tables = any_fault (state g old) f is
 row_says g old mid rows f shown (inr says) known tables =
     let opened = shown_open meta_read_text [] (state g (record old { in_transaction = true })) mid rows shown in

@@ -39,7 +39,8 @@ same_number : (n : ℕ) → (n == n) ≡ true
 same_number n = grind (arith, nat_tests)
 
 -- an entry that is found is the one of its number
-pub found_number : {X : Type 0} (number : X → ℕ) (p : X → Bool) (xs : List X) (e : X) → IsDistinct (λ a b. a == b) (map number xs) → find p xs ≡ Some e → find (λ x. number x == number e) xs ≡ Some e
+pub found_number : {X : Type 0} (number : X → ℕ) (p : X → Bool) (xs : List X) (e : X) → IsDistinct (λ a b. a == b) (map number xs) → find p xs ≡ Some e
+    → find (λ x. number x == number e) xs ≡ Some e
 unfolding IsDistinct
 found_number number p [] e apart found = absurd cc
 found_number {X} number p (x ∷ xs) e apart found = go (p x) found (found_number number p xs e apart.1)
@@ -52,7 +53,8 @@ found_number {X} number p (x ∷ xs) e apart found = go (p x) found (found_numbe
     other true is there = absurd cc
     other false is there = there
 
-    go : (b : Bool) → cond b (Some x) (find p xs) ≡ Some e → (find p xs ≡ Some e → find (λ y. number y == number e) xs ≡ Some e) → find (λ y. number y == number e) (x ∷ xs) ≡ Some e
+    go : (b : Bool) → cond b (Some x) (find p xs) ≡ Some e → (find p xs ≡ Some e → find (λ y. number y == number e) xs ≡ Some e)
+        → find (λ y. number y == number e) (x ∷ xs) ≡ Some e
     go true is rest =
         let same : x ≡ e = cc in
         this (number x == number e) (subst (λ (y : X). (number x == number y) ≡ true) same (same_number (number x))) same
@@ -64,7 +66,8 @@ module _ {X Y : Type 0} (f : X → Option Y) (at : X → ℕ) (of : Y → ℕ) (
   given_above n [] all = tt
   given_above n (x ∷ xs) all = go (f x) (kept x) (given_above n xs all.1)
     where
-      go : (o : Option Y) → IfSome o (λ y. of y ≡ at x) → AllByRecursion (λ y. n < of y) (filter_map f xs) → AllByRecursion (λ y. n < of y) (cons_option o (filter_map f xs))
+      go : (o : Option Y) → IfSome o (λ y. of y ≡ at x) → AllByRecursion (λ y. n < of y) (filter_map f xs)
+          → AllByRecursion (λ y. n < of y) (cons_option o (filter_map f xs))
       go None is rest = rest
       go (Some y) is rest = (omega (arith, is, all.0), rest)
 
@@ -72,7 +75,8 @@ module _ {X Y : Type 0} (f : X → Option Y) (at : X → ℕ) (of : Y → ℕ) (
   given_rise [] up = tt
   given_rise (x ∷ xs) up = go (f x) (kept x) (given_rise xs up.1)
     where
-      go : (o : Option Y) → IfSome o (λ y. of y ≡ at x) → IsAscending (λ y z. of y < of z) (filter_map f xs) → IsAscending (λ y z. of y < of z) (cons_option o (filter_map f xs))
+      go : (o : Option Y) → IfSome o (λ y. of y ≡ at x) → IsAscending (λ y z. of y < of z) (filter_map f xs)
+          → IsAscending (λ y z. of y < of z) (cons_option o (filter_map f xs))
       go None is rest = rest
       go (Some y) is rest = (given_above (of y) xs (subst (λ n. AllByRecursion (λ x. n < at x) xs) (sym is) up.0), rest)
 

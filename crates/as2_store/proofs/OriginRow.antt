@@ -13,7 +13,8 @@ use Rattle.as2_store.specs.Tables.{store_schema, origin_tree}
 use Rattle.as2_store.proofs.Statements.{origin_read_text}
 use Rattle.as2_store.proofs.Texts.{origin_column_terms, origin_command, origin_read_is, origin_read_plain, origin_read_unlisted}
 
-pub reads_origin : (old new : Connected) (rows : List Row) → Shown origin_read_text [] old new rows → (s : State) → Rests old s → rows ≡ number_row (origin_of s.version) ∷ []
+pub reads_origin : (old new : Connected) (rows : List Row) → Shown origin_read_text [] old new rows → (s : State) → Rests old s
+    → rows ≡ number_row (origin_of s.version) ∷ []
 reads_origin old new rows h s r =
     let here = r.stands (shown_open origin_read_text [] old new rows h) in
     let way = here.way in

@@ -32,7 +32,8 @@ use Rattle.as2_store.proofs.Texts.{out_column_terms, out_names, id_terms, number
 abbrev pub id_params : List ℕ → Row
 id_params value = Blob value ∷ []
 
-pub finds_id : (value : List ℕ) (old new : Connected) (rows : List Row) → Shown out_by_id_text (id_params value) old new rows → (s : State) → Rests old s → rows ≡ map out_shown (filter (has_id value) s.outbox)
+pub finds_id : (value : List ℕ) (old new : Connected) (rows : List Row) → Shown out_by_id_text (id_params value) old new rows → (s : State) → Rests old s
+    → rows ≡ map out_shown (filter (has_id value) s.outbox)
 finds_id value old new rows h s r =
     let here = r.stands (shown_open out_by_id_text (id_params value) old new rows h) in
     let way = here.way in
@@ -41,7 +42,8 @@ finds_id value old new rows h s r =
     (λ d. ap (λ b. b && true) (blobs_equal (value_of d.id) value) ∙ and_true _) old new rows h it.schema s.outbox it.entries.outbox
     (entries_rise out_row (λ (d : OutEntry). d.number) (λ _. refl) s.next_out s.outbox it.documents.1)
 
-pub finds_document : (n w : ℕ) → (end_of_numbers ≤ n → w ≡ end_of_numbers) → (n < end_of_numbers → w ≡ n) → (old new : Connected) (rows : List Row) → Shown out_by_number_text (by_number_params w) old new rows → (s : State) → Rests old s
+pub finds_document : (n w : ℕ) → (end_of_numbers ≤ n → w ≡ end_of_numbers) → (n < end_of_numbers → w ≡ n) → (old new : Connected) (rows : List Row)
+    → Shown out_by_number_text (by_number_params w) old new rows → (s : State) → Rests old s
     → rows ≡ map out_shown (filter (λ (d : OutEntry). d.number == n) s.outbox)
 finds_document n w beyond within old new rows h s r =
     let here = r.stands (shown_open out_by_number_text (by_number_params w) old new rows h) in
@@ -71,7 +73,8 @@ pub rows_of : (ds : List OutEntry) → evidence_rows ds ≡ map row_of (receipts
 rows_of [] = refl
 rows_of (d ∷ ds) = go d.evidence (rows_of ds)
   where
-    go : (o : Option Evidence) → evidence_rows ds ≡ map row_of (receipts ds) → cons_option (option_map (evidence_row d.number) o) (evidence_rows ds) ≡ map row_of (cons_option (option_map (evidence_in d.number) o) (receipts ds))
+    go : (o : Option Evidence) → evidence_rows ds ≡ map row_of (receipts ds)
+        → cons_option (option_map (evidence_row d.number) o) (evidence_rows ds) ≡ map row_of (cons_option (option_map (evidence_in d.number) o) (receipts ds))
     go None rest = rest
     go (Some e) rest = ap (λ l. evidence_row d.number e ∷ l) rest
 
@@ -85,11 +88,13 @@ kept d = go d.evidence
 abbrev pub of_number : ℕ → List EvidenceRow → List EvidenceRow
 of_number n rs = filter (λ r. r.number == n) rs
 
-other_first : (m n : ℕ) (o : Option Evidence) (rest : List EvidenceRow) → (m == n) ≡ false → of_number n (cons_option (option_map (evidence_in m) o) rest) ≡ of_number n rest
+other_first : (m n : ℕ) (o : Option Evidence) (rest : List EvidenceRow) → (m == n) ≡ false
+    → of_number n (cons_option (option_map (evidence_in m) o) rest) ≡ of_number n rest
 other_first m n None rest other = refl
 other_first m n (Some e) rest other = ap (λ t. cond t (evidence_in m e ∷ of_number n rest) (of_number n rest)) other
 
-own_first : (n : ℕ) (o : Option Evidence) (rest : List EvidenceRow) → of_number n rest ≡ [] → of_number n (cons_option (option_map (evidence_in n) o) rest) ≡ cons_option (option_map (evidence_in n) o) []
+own_first : (n : ℕ) (o : Option Evidence) (rest : List EvidenceRow) → of_number n rest ≡ []
+    → of_number n (cons_option (option_map (evidence_in n) o) rest) ≡ cons_option (option_map (evidence_in n) o) []
 own_first n None rest none = none
 own_first n (Some e) rest none = ap (λ t. cond t (evidence_in n e ∷ of_number n rest) (of_number n rest)) (itself n) ∙ ap (λ l. evidence_in n e ∷ l) none
   where
@@ -103,7 +108,8 @@ of_others n (d ∷ ds) other = other_first d.number n d.evidence (receipts ds) (
 abbrev pub settled_at : ℕ → List OutEntry → Option Evidence
 settled_at n ds = option_and_then (λ (d : OutEntry). d.evidence) (find (λ (d : OutEntry). d.number == n) ds)
 
-pub receipts_at : (n : ℕ) (ds : List OutEntry) → IsDistinct (λ a b. a == b) (map (λ (x : OutEntry). x.number) ds) → of_number n (receipts ds) ≡ cons_option (option_map (evidence_in n) (settled_at n ds)) []
+pub receipts_at : (n : ℕ) (ds : List OutEntry) → IsDistinct (λ a b. a == b) (map (λ (x : OutEntry). x.number) ds)
+    → of_number n (receipts ds) ≡ cons_option (option_map (evidence_in n) (settled_at n ds)) []
 unfolding IsDistinct
 receipts_at n [] apart = refl
 receipts_at n (d ∷ ds) apart = go (d.number == n) refl (receipts_at n ds apart.1)
@@ -115,7 +121,8 @@ receipts_at n (d ∷ ds) apart = go (d.number == n) refl (receipts_at n ds apart
     go false is later = other_first d.number n d.evidence (receipts ds) is ∙ later
 
 -- no document has a number that is never given
-none_settled : (n : ℕ) (ds : List OutEntry) → AllByRecursion (λ m. m < end_of_numbers) (map (λ (d : OutEntry). d.number) ds) → end_of_numbers ≤ n → settled_at n ds ≡ None
+none_settled : (n : ℕ) (ds : List OutEntry) → AllByRecursion (λ m. m < end_of_numbers) (map (λ (d : OutEntry). d.number) ds) → end_of_numbers ≤ n
+    → settled_at n ds ≡ None
 none_settled n [] low past = refl
 none_settled n (d ∷ ds) low past =
     ap (λ t. option_and_then (λ (x : OutEntry). x.evidence) (cond t (Some d) (find (λ (x : OutEntry). x.number == n) ds))) (other d.number n low.0 past) ∙ none_settled n ds low.1 past
@@ -124,18 +131,21 @@ none_settled n (d ∷ ds) low past =
     other m n less past = grind (arith, nat_tests)
 
 -- a document that is found has the receipt of its number
-pub own_evidence : (p : OutEntry → Bool) (ds : List OutEntry) (d : OutEntry) → IsDistinct (λ a b. a == b) (map (λ (x : OutEntry). x.number) ds) → find p ds ≡ Some d → settled_at d.number ds ≡ d.evidence
+pub own_evidence : (p : OutEntry → Bool) (ds : List OutEntry) (d : OutEntry) → IsDistinct (λ a b. a == b) (map (λ (x : OutEntry). x.number) ds)
+    → find p ds ≡ Some d → settled_at d.number ds ≡ d.evidence
 own_evidence p ds d apart found = ap (option_and_then (λ (x : OutEntry). x.evidence)) (found_number (λ (x : OutEntry). x.number) p ds d apart found)
 
 -- and its row alone
-pub own_receipt : (p : OutEntry → Bool) (ds : List OutEntry) (d : OutEntry) → IsDistinct (λ a b. a == b) (map (λ (x : OutEntry). x.number) ds) → find p ds ≡ Some d → of_number d.number (receipts ds) ≡ cons_option (receipt_row d) []
+pub own_receipt : (p : OutEntry → Bool) (ds : List OutEntry) (d : OutEntry) → IsDistinct (λ a b. a == b) (map (λ (x : OutEntry). x.number) ds)
+    → find p ds ≡ Some d → of_number d.number (receipts ds) ≡ cons_option (receipt_row d) []
 own_receipt p ds d apart found = receipts_at d.number ds apart ∙ ap (λ o. cons_option (option_map (evidence_in d.number) o) []) (own_evidence p ds d apart found)
 
 as_shown : (n : ℕ) (o : Option Evidence) → map shown_of_row (cons_option (option_map (evidence_in n) o) []) ≡ shown_evidence n o
 as_shown n None = refl
 as_shown n (Some e) = refl
 
-pub finds_evidence : (n w : ℕ) → (end_of_numbers ≤ n → w ≡ end_of_numbers) → (n < end_of_numbers → w ≡ n) → (old new : Connected) (rows : List Row) → Shown evidence_by_number_text (by_number_params w) old new rows → (s : State) → Rests old s
+pub finds_evidence : (n w : ℕ) → (end_of_numbers ≤ n → w ≡ end_of_numbers) → (n < end_of_numbers → w ≡ n) → (old new : Connected) (rows : List Row)
+    → Shown evidence_by_number_text (by_number_params w) old new rows → (s : State) → Rests old s
     → rows ≡ shown_evidence n (evidence_at s n)
 finds_evidence n w beyond within old new rows h s r =
     let here = r.stands (shown_open evidence_by_number_text (by_number_params w) old new rows h) in
@@ -155,7 +165,8 @@ finds_evidence n w beyond within old new rows h s r =
     never : (k : ℕ) → nat_lt k end_of_numbers ≡ false → end_of_numbers ≤ k
     never k is = grind (arith, nat_tests)
 
-    go : AllByRecursion (λ m. m < end_of_numbers) (map (λ (d : OutEntry). d.number) s.outbox) → (t : Bool) → nat_lt n end_of_numbers ≡ t → rows ≡ shown_evidence w (settled_at w s.outbox) → rows ≡ shown_evidence n (settled_at n s.outbox)
+    go : AllByRecursion (λ m. m < end_of_numbers) (map (λ (d : OutEntry). d.number) s.outbox) → (t : Bool) → nat_lt n end_of_numbers ≡ t
+        → rows ≡ shown_evidence w (settled_at w s.outbox) → rows ≡ shown_evidence n (settled_at n s.outbox)
     go low true is shown = subst (λ k. rows ≡ shown_evidence k (settled_at k s.outbox)) (within (given n is)) shown
     go low false is shown =
         let past = never n is in
@@ -167,11 +178,13 @@ pub no_evidence : (n : ℕ) (o : Option Evidence) (rows : List Row) → rows ≡
 no_evidence n None rows all none = refl
 no_evidence n (Some e) rows all none = absurd (let f = ap (λ l. slice_get l 0) all in cc)
 
-pub some_evidence : (n : ℕ) (o : Option Evidence) (rows : List Row) (row : Row) → rows ≡ shown_evidence n o → slice_get rows 0 ≡ Some row → (e : Evidence) × (o ≡ Some e) × (row ≡ evidence_shown n e)
+pub some_evidence : (n : ℕ) (o : Option Evidence) (rows : List Row) (row : Row) → rows ≡ shown_evidence n o → slice_get rows 0 ≡ Some row → (e : Evidence)
+    × (o ≡ Some e) × (row ≡ evidence_shown n e)
 some_evidence n None rows row all got = absurd (let f = ap (λ l. slice_get l 0) all in cc)
 some_evidence n (Some e) rows row all got = (e, refl, (let f = ap (λ l. slice_get l 0) all in cc))
 
 -- ---- the document that is put together
 
-pub document_is : (r : OutRow) (begun : Bool) (content : List ℕ) (e : Option Evidence) (d : OutEntry) → r ≡ out_summary d → begun ≡ d.begun → content ≡ d.content → e ≡ d.evidence → out_entry r begun content e ≡ d
+pub document_is : (r : OutRow) (begun : Bool) (content : List ℕ) (e : Option Evidence) (d : OutEntry) → r ≡ out_summary d → begun ≡ d.begun
+    → content ≡ d.content → e ≡ d.evidence → out_entry r begun content e ≡ d
 document_is r begun content e d row was whole settled = ap₂ (λ x y. out_entry x y content e) row was ∙ ap₂ (λ y z. out_entry (out_summary d) d.begun y z) whole settled

@@ -60,8 +60,10 @@ as_rows n w p (e ∷ es) same =
     by_case true = refl
     by_case false = refl
 
-pub sets_owed : {way : Way} (n w count : ℕ) (p : MdnProgress) → (end_of_numbers ≤ n → w ≡ end_of_numbers) → (n < end_of_numbers → w ≡ n) → (old new : Connected) (s : State) → Stands (VersionThree way) old.now s → Executes in_set_text (owed_params w p) old new (Ok count)
-    → Changed old new (store_schema way) (inbox_tree way) (map in_row (change_received s n (owed_as p)).inbox) × (count ≡ length (filter (λ (e : InEntry). e.number == n) s.inbox))
+pub sets_owed : {way : Way} (n w count : ℕ) (p : MdnProgress) → (end_of_numbers ≤ n → w ≡ end_of_numbers) → (n < end_of_numbers → w ≡ n)
+    → (old new : Connected) (s : State) → Stands (VersionThree way) old.now s → Executes in_set_text (owed_params w p) old new (Ok count)
+    → Changed old new (store_schema way) (inbox_tree way) (map in_row (change_received s n (owed_as p)).inbox)
+    × (count ≡ length (filter (λ (e : InEntry). e.number == n) s.inbox))
 sets_owed {way} n w count p beyond within old new s it h =
     let low = all_weaken (λ k. k < s.next_in) (λ k. k < end_of_numbers) (λ k less. omega (arith, less, it.receipts.0.most)) (map (λ (e : InEntry). e.number) s.inbox) it.receipts.1.below in
     let same = same_tests (λ (e : InEntry). e.number) n w beyond within s.inbox low in
@@ -71,7 +73,8 @@ sets_owed {way} n w count p beyond within old new s it h =
       done.1 ∙ ap length (filter_same (λ (e : InEntry). passes number_terms (owed_params w p) (in_row e)) (λ (e : InEntry). e.number == w) s.inbox (of_number w p s.inbox) ∙ filter_same (λ (e : InEntry). e.number == w) (λ (e : InEntry). e.number == n) s.inbox same),
     )
   where
-    of_number : (w : ℕ) (p : MdnProgress) (es : List InEntry) → AllByRecursion (λ (e : InEntry). passes number_terms (owed_params w p) (in_row e) ≡ (e.number == w)) es
+    of_number : (w : ℕ) (p : MdnProgress) (es : List InEntry)
+        → AllByRecursion (λ (e : InEntry). passes number_terms (owed_params w p) (in_row e) ≡ (e.number == w)) es
     of_number w p [] = tt
     of_number w p (e ∷ es) = (ap (λ b. b && true) (numbers_equal e.number w) ∙ and_true _, of_number w p es)
 
@@ -90,22 +93,26 @@ places_in_order d s it =
     (documents_of to_send end_of_numbers s.outbox outs) (ins_small end_of_numbers s.inbox ins) (documents_of to_hear end_of_numbers s.outbox outs) (documents_of to_end end_of_numbers s.outbox outs)
     (documents_rise to_send s.outbox ds) (receipts_rise s.inbox es) (documents_rise to_hear s.outbox ds) (documents_rise to_end s.outbox ds)
 
-pub holds : (way : Way) (a b : Connected) (s : State) → Stands (VersionThree way) a.now s → (rows : List Row) → Changed a b (store_schema way) (inbox_tree way) rows → HoldsWaiting way b.now (all_waiting s)
+pub holds : (way : Way) (a b : Connected) (s : State) → Stands (VersionThree way) a.now s → (rows : List Row)
+    → Changed a b (store_schema way) (inbox_tree way) rows → HoldsWaiting way b.now (all_waiting s)
 holds way a b s it rows one = record {
   schema = one.schema_is;
   rows = keeping way AtInbox a.now.trees b.now.trees one.others AtWaiting (λ e. omega arith) ∙ it.entries.waits;
   in_order = places_in_order a.now s it;
 }
 
-waiting_above : (n : ℕ) (es : List InEntry) → AllByRecursion (λ (e : InEntry). n < e.number) es → AllByRecursion (λ v. (v.kind ≡ to_answer) × (n < v.number)) (waiting_in es)
+waiting_above : (n : ℕ) (es : List InEntry) → AllByRecursion (λ (e : InEntry). n < e.number) es
+    → AllByRecursion (λ v. (v.kind ≡ to_answer) × (n < v.number)) (waiting_in es)
 waiting_above n [] all = tt
 waiting_above n (e ∷ es) all = go (in_waiting e) (kind_is_last e.mdn e.attempt e.number e.due) (waiting_above n es all.1)
   where
-    go : (o : Option WaitingRow) → IfSome o (IsLast e.number) → AllByRecursion (λ v. (v.kind ≡ to_answer) × (n < v.number)) (waiting_in es) → AllByRecursion (λ v. (v.kind ≡ to_answer) × (n < v.number)) (cons_option o (waiting_in es))
+    go : (o : Option WaitingRow) → IfSome o (IsLast e.number) → AllByRecursion (λ v. (v.kind ≡ to_answer) × (n < v.number)) (waiting_in es)
+        → AllByRecursion (λ v. (v.kind ≡ to_answer) × (n < v.number)) (cons_option o (waiting_in es))
     go None is rest = rest
     go (Some v) is rest = ((is.0, omega (arith, is.1, all.0)), rest)
 
-waits_on : (s : State) (n : ℕ) (p : MdnProgress) → n < end_of_numbers → AllByRecursion (λ k. k < end_of_numbers) (map (λ (d : OutEntry). d.number) s.outbox) → Split in_number n s.inbox
+waits_on : (s : State) (n : ℕ) (p : MdnProgress) → n < end_of_numbers → AllByRecursion (λ k. k < end_of_numbers) (map (λ (d : OutEntry). d.number) s.outbox)
+    → Split in_number n s.inbox
     → noted_rows (answers_at n p) (map waiting_row (not_at (place_of to_answer n) (all_waiting s))) ≡ map waiting_row (all_waiting (change_received s n (owed_as p)))
 waits_on s n p small outs it =
     let send = documents_waiting to_send s.outbox in
@@ -130,7 +137,8 @@ same_pieces n p (e ∷ es) = ap₂ ◌++◌ (by_case (e.number == n)) (same_piec
     by_case true = refl
     by_case false = refl
 
-same_numbers : (n : ℕ) (p : MdnProgress) (es : List InEntry) → map (λ (e : InEntry). e.number) (changed in_number n (owed_as p) es) ≡ map (λ (e : InEntry). e.number) es
+same_numbers : (n : ℕ) (p : MdnProgress) (es : List InEntry)
+    → map (λ (e : InEntry). e.number) (changed in_number n (owed_as p) es) ≡ map (λ (e : InEntry). e.number) es
 same_numbers n p es = map_kept (λ (e : InEntry). e.number) (λ (e : InEntry). cond (e.number == n) (owed_as p e) e) (λ e. by_case e (e.number == n)) es
   where
     by_case : (e : InEntry) (t : Bool) → (cond t (owed_as p e) e).number ≡ e.number
@@ -138,8 +146,11 @@ same_numbers n p es = map_kept (λ (e : InEntry). e.number) (λ (e : InEntry). c
     by_case e false = refl
 
 -- the tables stand for the state with the receipt further on, where an entry has the number
-pub stands_owed : (way : Way) (a b c : Connected) (s : State) (n w : ℕ) (p : MdnProgress) → (n < end_of_numbers → w ≡ n) → Stands (VersionThree way) a.now s → length (filter (λ (e : InEntry). e.number == n) s.inbox) ≢ 0
-    → Changed a b (store_schema way) (inbox_tree way) (map in_row (change_received s n (owed_as p)).inbox) → Renewed way b c (noted_rows (answers_at w p) (map waiting_row (not_at (place_of to_answer w) (all_waiting s)))) → Stands (VersionThree way) c.now (change_received s n (owed_as p))
+pub stands_owed : (way : Way) (a b c : Connected) (s : State) (n w : ℕ) (p : MdnProgress) → (n < end_of_numbers → w ≡ n) → Stands (VersionThree way) a.now s
+    → length (filter (λ (e : InEntry). e.number == n) s.inbox) ≢ 0
+    → Changed a b (store_schema way) (inbox_tree way) (map in_row (change_received s n (owed_as p)).inbox)
+    → Renewed way b c (noted_rows (answers_at w p) (map waiting_row (not_at (place_of to_answer w) (all_waiting s))))
+    → Stands (VersionThree way) c.now (change_received s n (owed_as p))
 unfolding IsWhole
 stands_owed way a b c s n w p within it some one two =
     let has = it.entries in
@@ -174,8 +185,10 @@ pub nothing_owed : (s : State) (n : ℕ) (p : MdnProgress) → length (filter (�
 nothing_owed s n p none = ap (λ es. record s { inbox = es }) (changed_none in_number n (owed_as p) s.inbox (none_numbered in_number n s.inbox none))
 
 -- the tables then stand for what they stood for
-pub stands_unnumbered : (way : Way) (a b : Connected) (s : State) (n : ℕ) (p : MdnProgress) → Stands (VersionThree way) a.now s → length (filter (λ (e : InEntry). e.number == n) s.inbox) ≡ 0
-    → Changed a b (store_schema way) (inbox_tree way) (map in_row (change_received s n (owed_as p)).inbox) → Stands (VersionThree way) b.now (change_received s n (owed_as p))
+pub stands_unnumbered : (way : Way) (a b : Connected) (s : State) (n : ℕ) (p : MdnProgress) → Stands (VersionThree way) a.now s
+    → length (filter (λ (e : InEntry). e.number == n) s.inbox) ≡ 0
+    → Changed a b (store_schema way) (inbox_tree way) (map in_row (change_received s n (owed_as p)).inbox)
+    → Stands (VersionThree way) b.now (change_received s n (owed_as p))
 unfolding IsWhole
 stands_unnumbered way a b s n p it none one =
     let has = it.entries in
@@ -206,7 +219,8 @@ module _ {S : Type 0} (g : Ghosts S) (old : Held S) (mid : Connected) (n : ℕ) 
   abbrev Set : MdnProgress → ℕ → Type 0
   Set p count = (way : Way) (s : State) → Stands (VersionThree way) (state g old).now s → Changed (state g (record old { in_transaction = true })) mid (store_schema way) (inbox_tree way) (map in_row (change_received s n (owed_as p)).inbox) × (count ≡ length (filter (λ (e : InEntry). e.number == n) s.inbox))
 
-  pub owes_none : (p : MdnProgress) (count : ℕ) → count ≡ 0 → (HasCleanDisk mid → IsTrue (state g old).is_open) → (HasCleanDisk mid → Set p count) → HasCleanDisk mid → FollowsEach g old mid (set_mdn_in n p)
+  pub owes_none : (p : MdnProgress) (count : ℕ) → count ≡ 0 → (HasCleanDisk mid → IsTrue (state g old).is_open) → (HasCleanDisk mid → Set p count)
+      → HasCleanDisk mid → FollowsEach g old mid (set_mdn_in n p)
   owes_none p count none opened put clean = record {
     was_open = opened clean;
     reaches = λ s r.
@@ -215,8 +229,11 @@ module _ {S : Type 0} (g : Ghosts S) (old : Held S) (mid : Connected) (n : ℕ) 
         (change_received s n (owed_as p), refl, record { way = here.way; stands = stands_unnumbered here.way (state g (record old { in_transaction = true })) mid s n p here.stands (sym one.1 ∙ none) one.0 });
   }
 
-  pub owes_some : (last : Connected) (w : ℕ) (p : MdnProgress) → (n < end_of_numbers → w ≡ n) → (count : ℕ) → count ≢ 0 → (HasCleanDisk last → HasCleanDisk mid) → (HasCleanDisk mid → IsTrue (state g old).is_open) → (HasCleanDisk mid → Set p count)
-      → (HasCleanDisk last → (way : Way) (ws : List WaitingRow) → HoldsWaiting way mid.now ws → Renewed way mid last (noted_rows (answers_at w p) (map waiting_row (not_at (place_of to_answer w) ws)))) → HasCleanDisk last → FollowsEach g old last (set_mdn_in n p)
+  pub owes_some : (last : Connected) (w : ℕ) (p : MdnProgress) → (n < end_of_numbers → w ≡ n) → (count : ℕ) → count ≢ 0
+      → (HasCleanDisk last → HasCleanDisk mid) → (HasCleanDisk mid → IsTrue (state g old).is_open) → (HasCleanDisk mid → Set p count)
+      → (HasCleanDisk last → (way : Way) (ws : List WaitingRow) → HoldsWaiting way mid.now ws
+      → Renewed way mid last (noted_rows (answers_at w p) (map waiting_row (not_at (place_of to_answer w) ws)))) → HasCleanDisk last
+      → FollowsEach g old last (set_mdn_in n p)
   owes_some last w p within count some was opened put renewed clean = record {
     was_open = opened (was clean);
     reaches = λ s r.

@@ -31,7 +31,8 @@ abbrev number_of : OutEntry → ℕ
 number_of d = d.number
 
 -- one more of them
-pub one_more_passed : (detail : Detail) (ns : List ℕ) (i none : ℕ) → i < length ns → (ds : List OutEntry) → passing_one detail (get_or ns i none) (passing detail (take i ns) ds) ≡ passing detail (take (i + 1) ns) ds
+pub one_more_passed : (detail : Detail) (ns : List ℕ) (i none : ℕ) → i < length ns → (ds : List OutEntry)
+    → passing_one detail (get_or ns i none) (passing detail (take i ns) ds) ≡ passing detail (take (i + 1) ns) ds
 one_more_passed detail ns i none within [] = refl
 one_more_passed detail ns i none within (d ∷ ds) =
     ap₂ ◌∷◌ (by (list_any (λ k. d.number == k) (take i ns)) ∙ ap (λ t. cond t (passed d (Some detail)) d) (sym (list_any_more (λ k. d.number == k) ns i none within))) (one_more_passed detail ns i none within ds)
@@ -40,7 +41,8 @@ one_more_passed detail ns i none within (d ∷ ds) =
     twice true = refl
     twice false = refl
 
-    by : (t : Bool) → cond ((cond t (passed d (Some detail)) d).number == get_or ns i none) (passed (cond t (passed d (Some detail)) d) (Some detail)) (cond t (passed d (Some detail)) d) ≡ cond (t || (d.number == get_or ns i none)) (passed d (Some detail)) d
+    by : (t : Bool)
+        → cond ((cond t (passed d (Some detail)) d).number == get_or ns i none) (passed (cond t (passed d (Some detail)) d) (Some detail)) (cond t (passed d (Some detail)) d) ≡ cond (t || (d.number == get_or ns i none)) (passed d (Some detail)) d
     by true = twice (d.number == get_or ns i none)
     by false = refl
 
@@ -75,7 +77,8 @@ module _ (q : OutEntry → Bool) where
       other k less = grind (arith, nat_tests)
 
       go : (t : Bool) → q x ≡ t → AllByRecursion (λ d. list_any (λ k. d.number == k) (numbers xs) ≡ q d) xs
-          → (list_any (λ k. x.number == k) (map number_of (cond t (x ∷ filter q xs) (filter q xs))) ≡ q x) × AllByRecursion (λ d. list_any (λ k. d.number == k) (map number_of (cond t (x ∷ filter q xs) (filter q xs))) ≡ q d) xs
+          → (list_any (λ k. x.number == k) (map number_of (cond t (x ∷ filter q xs) (filter q xs))) ≡ q x)
+          × AllByRecursion (λ d. list_any (λ k. d.number == k) (map number_of (cond t (x ∷ filter q xs) (filter q xs))) ≡ q d) xs
       go true is rest = (
         ap (λ t. t || list_any (λ k. x.number == k) (numbers xs)) (itself x.number) ∙ sym is,
         all_both (λ d. x.number < d.number) (λ d. list_any (λ k. d.number == k) (numbers xs) ≡ q d) (λ d. (d.number == x.number || list_any (λ k. d.number == k) (numbers xs)) ≡ q d)
@@ -115,7 +118,8 @@ module _ (detail : Detail) (q : OutEntry → Bool) where
   same_evidence [] = refl
   same_evidence (d ∷ ds) = ap₂ cons_option (by (q d)) (same_evidence ds)
     where
-      by : (t : Bool) → option_map (evidence_row (cond t (passed d (Some detail)) d).number) (cond t (passed d (Some detail)) d).evidence ≡ option_map (evidence_row d.number) d.evidence
+      by : (t : Bool)
+          → option_map (evidence_row (cond t (passed d (Some detail)) d).number) (cond t (passed d (Some detail)) d).evidence ≡ option_map (evidence_row d.number) d.evidence
       by true = refl
       by false = refl
 
@@ -125,7 +129,8 @@ commute : (p r : WaitingRow → Bool) (ws : List WaitingRow) → filter p (filte
 commute p r [] = refl
 commute p r (w ∷ ws) = go (p w) refl (r w) refl (commute p r ws)
   where
-    go : (t : Bool) → p w ≡ t → (u : Bool) → r w ≡ u → filter p (filter r ws) ≡ filter r (filter p ws) → filter p (cond u (w ∷ filter r ws) (filter r ws)) ≡ filter r (cond t (w ∷ filter p ws) (filter p ws))
+    go : (t : Bool) → p w ≡ t → (u : Bool) → r w ≡ u → filter p (filter r ws) ≡ filter r (filter p ws)
+        → filter p (cond u (w ∷ filter r ws) (filter r ws)) ≡ filter r (cond t (w ∷ filter p ws) (filter p ws))
     go true is true out rest = ap (λ b. cond b (w ∷ filter p (filter r ws)) (filter p (filter r ws))) is ∙ ap (λ l. w ∷ l) rest ∙ sym (ap (λ b. cond b (w ∷ filter r (filter p ws)) (filter r (filter p ws))) out)
     go true is false out rest = rest ∙ sym (ap (λ b. cond b (w ∷ filter r (filter p ws)) (filter r (filter p ws))) out)
     go false is true out rest = ap (λ b. cond b (w ∷ filter p (filter r ws)) (filter p (filter r ws))) is ∙ rest
@@ -139,7 +144,8 @@ other_kind : (kind : ℕ) (detail : Detail) → PassesInto kind detail → (to_a
 other_kind kind detail (inl is) = ap (λ k. to_answer == k) is.0
 other_kind kind detail (inr is) = ap (λ k. to_answer == k) is.0
 
-pub due_are_over : (kind : ℕ) (detail : Detail) → PassesInto kind detail → (m : ℕ) (s : State) → due_numbers kind m s ≡ map number_of (filter (over kind m) s.outbox)
+pub due_are_over : (kind : ℕ) (detail : Detail) → PassesInto kind detail → (m : ℕ) (s : State)
+    → due_numbers kind m s ≡ map number_of (filter (over kind m) s.outbox)
 due_are_over kind detail (inl is) m s = subst (λ k. due_numbers k m s ≡ map number_of (filter (over k m) s.outbox)) (sym is.0) (due_are_heard m s)
 due_are_over kind detail (inr is) m s = subst (λ k. due_numbers k m s ≡ map number_of (filter (over k m) s.outbox)) (sym is.0) (due_are_ended m s)
 
@@ -206,13 +212,15 @@ module _ (m : ℕ) where
   ticked d Sending Used u = stayed (record d { attempt = Used; due = u; detail = Sending }) (is_due m u)
   ticked d Sending Last u = by (is_due m u)
     where
-      by : (t : Bool) → (cond t (passed (record d { attempt = Last; due = u; detail = Sending }) (Some TriesUsed)) (record d { attempt = Last; due = u; detail = Sending }) ≡ passed (record d { attempt = Last; due = u; detail = Sending }) (cond t (Some TriesUsed) None))
+      by : (t : Bool)
+          → (cond t (passed (record d { attempt = Last; due = u; detail = Sending }) (Some TriesUsed)) (record d { attempt = Last; due = u; detail = Sending }) ≡ passed (record d { attempt = Last; due = u; detail = Sending }) (cond t (Some TriesUsed) None))
           × (0 + cond t 1 0 ≡ cond (is_some (cond t (Some TriesUsed) None)) 1 0)
       by true = (refl, refl)
       by false = (refl, refl)
   ticked d Awaiting a u = by (is_due m u)
     where
-      by : (t : Bool) → (finished (cond t (passed (record d { attempt = a; due = u; detail = Awaiting }) (Some Overdue)) (record d { attempt = a; due = u; detail = Awaiting })) ≡ passed (record d { attempt = a; due = u; detail = Awaiting }) (cond t (Some Overdue) None))
+      by : (t : Bool)
+          → (finished (cond t (passed (record d { attempt = a; due = u; detail = Awaiting }) (Some Overdue)) (record d { attempt = a; due = u; detail = Awaiting })) ≡ passed (record d { attempt = a; due = u; detail = Awaiting }) (cond t (Some Overdue) None))
           × (cond t 1 0 + cond (over to_end m (cond t (passed (record d { attempt = a; due = u; detail = Awaiting }) (Some Overdue)) (record d { attempt = a; due = u; detail = Awaiting }))) 1 0 ≡ cond (is_some (cond t (Some Overdue) None)) 1 0)
       by true = (refl, refl)
       by false = (refl, refl)
@@ -235,7 +243,8 @@ module _ (m : ℕ) where
   long true x xs = omega arith
   long false x xs = omega arith
 
-  lengths : (ds : List OutEntry) → length (filter (over to_hear m) ds) + length (filter (over to_end m) (map heard ds)) ≡ length (filter (λ d. is_some (passes_at m d)) ds)
+  lengths : (ds : List OutEntry)
+      → length (filter (over to_hear m) ds) + length (filter (over to_end m) (map heard ds)) ≡ length (filter (λ d. is_some (passes_at m d)) ds)
   lengths [] = refl
   lengths (d ∷ ds) =
       let one = long (over to_hear m d) d (filter (over to_hear m) ds) in

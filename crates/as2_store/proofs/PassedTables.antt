@@ -56,13 +56,15 @@ use Rattle.as2_store.proofs.PassedDocuments.{all_ticked, by_number as moved_by_n
 
 -- ---- the numbers that are due
 
-pub shows_due : {way : Way} (kind m : ℕ) (old new : Connected) (rows : List Row) → Shown all_due_text (any_params kind m) old new rows → (s : State) → Stands (VersionThree way) old.now s → rows ≡ map number_row (due_numbers kind m s)
+pub shows_due : {way : Way} (kind m : ℕ) (old new : Connected) (rows : List Row) → Shown all_due_text (any_params kind m) old new rows → (s : State)
+    → Stands (VersionThree way) old.now s → rows ≡ map number_row (due_numbers kind m s)
 shows_due {way} kind m old new rows h s it =
     let read = reads_as all_due_text (any_params kind m) old new (store_schema way) it.schema (Select (record { lets = []; body = over_table waiting_tree any_due_terms due_columns by_number (lit (Int (negsuc 0))) }) _) (all_due_is way) (all_due_plain way) (all_due_unlisted way) rows h in
     shows_entries waiting_tree any_due_terms due_columns (lit (Int (negsuc 0))) old.now.trees (any_params kind m) rows waiting_row (λ w. w.kind == kind && is_due m w.due) (λ w. number_row w.number) (any_passes kind m) (λ _. refl) (all_waiting s) it.entries.waits (places_in_order old.now s it) read.answer
     ∙ sym (map-map number_row (λ w. w.number) (due_waiting kind m s))
 
-pub reads_due : {way : Way} (kind m : ℕ) (old new : Connected) (rows : List Row) → Shown all_due_text (any_params kind m) old new rows → (s : State) → Stands (VersionThree way) old.now s → (new.now ≡ old.now) × (rows ≡ map number_row (due_numbers kind m s))
+pub reads_due : {way : Way} (kind m : ℕ) (old new : Connected) (rows : List Row) → Shown all_due_text (any_params kind m) old new rows → (s : State)
+    → Stands (VersionThree way) old.now s → (new.now ≡ old.now) × (rows ≡ map number_row (due_numbers kind m s))
 reads_due {way} kind m old new rows h s it =
     ((shown_same all_due_text (any_params kind m) old new rows (subst (λ k. IsPlain (understood k all_due_text)) (sym it.schema) (all_due_plain way)) h).0.now_is, shows_due kind m old new rows h s it)
 
@@ -70,18 +72,22 @@ pub ok_then : {V E Q : Type 0} {P : V → Type 0} (r : Result V E) → IfOk r P 
 ok_then (Ok v) is then = then v is
 ok_then (Err e) is then = tt
 
-small_filtered : (p : WaitingRow → Bool) (ws : List WaitingRow) → AllByRecursion (λ w. w.number < end_of_numbers) ws → AllByRecursion (λ n. n < end_of_numbers) (map (λ w. w.number) (filter p ws))
+small_filtered : (p : WaitingRow → Bool) (ws : List WaitingRow) → AllByRecursion (λ w. w.number < end_of_numbers) ws
+    → AllByRecursion (λ n. n < end_of_numbers) (map (λ w. w.number) (filter p ws))
 small_filtered p [] all = tt
 small_filtered p (w ∷ ws) all = go (p w) (small_filtered p ws all.1)
   where
-    go : (t : Bool) → AllByRecursion (λ n. n < end_of_numbers) (map (λ w. w.number) (filter p ws)) → AllByRecursion (λ n. n < end_of_numbers) (map (λ w. w.number) (cond t (w ∷ filter p ws) (filter p ws)))
+    go : (t : Bool) → AllByRecursion (λ n. n < end_of_numbers) (map (λ w. w.number) (filter p ws))
+        → AllByRecursion (λ n. n < end_of_numbers) (map (λ w. w.number) (cond t (w ∷ filter p ws) (filter p ws)))
     go true rest = (all.0, rest)
     go false rest = rest
 
-pub due_small : {layout : Layout} (kind m : ℕ) (t : Connected) (s : State) → Stands layout t.now s → AllByRecursion (λ n. n < end_of_numbers) (due_numbers kind m s)
+pub due_small : {layout : Layout} (kind m : ℕ) (t : Connected) (s : State) → Stands layout t.now s
+    → AllByRecursion (λ n. n < end_of_numbers) (due_numbers kind m s)
 due_small kind m t s it = small_filtered (λ w. w.kind == kind && is_due m w.due) (all_waiting s) (numbers_small t s it)
 
-pub asked_number : (ns : List ℕ) (i number wanted : ℕ) → AllByRecursion (λ n. n < end_of_numbers) ns → i < length ns → number ≡ get_or ns i 0 → (number < end_of_numbers → wanted ≡ number) → wanted ≡ get_or ns i 0
+pub asked_number : (ns : List ℕ) (i number wanted : ℕ) → AllByRecursion (λ n. n < end_of_numbers) ns → i < length ns → number ≡ get_or ns i 0
+    → (number < end_of_numbers → wanted ≡ number) → wanted ≡ get_or ns i 0
 asked_number ns i number wanted small within is same = same (subst (λ k. k < end_of_numbers) (sym is) (at ns i small within)) ∙ is
   where
     at : (ns : List ℕ) (i : ℕ) → AllByRecursion (λ n. n < end_of_numbers) ns → i < length ns → get_or ns i 0 < end_of_numbers
@@ -94,7 +100,8 @@ asked_number ns i number wanted small within is same = same (subst (λ k. k < en
 abbrev pub pass_params : ℕ → Detail → Row
 pass_params n detail = Int (pos n) ∷ Int (pos (detail_code detail)) ∷ []
 
-pub passes_one : {way : Way} (n count : ℕ) (detail : Detail) (old new : Connected) (ds : List OutEntry) → HoldsDocuments way old.now ds → Executes out_pass_text (pass_params n detail) old new (Ok count)
+pub passes_one : {way : Way} (n count : ℕ) (detail : Detail) (old new : Connected) (ds : List OutEntry) → HoldsDocuments way old.now ds
+    → Executes out_pass_text (pass_params n detail) old new (Ok count)
     → Changed old new (store_schema way) outbox_tree (map out_row (passing_one detail n ds))
 passes_one {way} n count detail old new ds it h =
     let done = updates out_pass_text (pass_params n detail) old new (store_schema way) it.schema 3 outbox_table refl number_terms pass_project (λ (d : OutEntry). pos d.number) out_row (λ _. refl) (λ (d : OutEntry). out_row (passed d (Some detail))) (λ _. refl)
@@ -102,7 +109,8 @@ passes_one {way} n count detail old new ds it h =
     subst (Changed old new (store_schema way) outbox_tree) (changed_rows (λ (d : OutEntry). passed d (Some detail)) n (Int (pos (detail_code detail)) ∷ []) ds) done.0
 
 -- the number that the row at place i shows
-pub number_here : (rows : List Row) (ns : List ℕ) (i : ℕ) (d : Row) (number : ℕ) → rows ≡ map number_row ns → i < length rows → column (get_or rows i d) 0 ≡ Int (pos number) → number ≡ get_or ns i 0
+pub number_here : (rows : List Row) (ns : List ℕ) (i : ℕ) (d : Row) (number : ℕ) → rows ≡ map number_row ns → i < length rows
+    → column (get_or rows i d) 0 ≡ Int (pos number) → number ≡ get_or ns i 0
 number_here rows ns i d number all within is =
     let some : i < length ns = omega (arith, within, ap length all, length-map ns number_row) in
     let shown : Int (pos (get_or ns i 0)) ≡ Int (pos number) = sym (ap (λ r. column r 0) (ap (λ l. get_or l i d) all ∙ get_or-map number_row ns i 0 d some)) ∙ is in
@@ -110,7 +118,8 @@ number_here rows ns i d number all within is =
 
 -- ---- one after another
 
-rise_still : (detail : Detail) (n : ℕ) (ds : List OutEntry) → IsAscending (λ (x y : OutEntry). x.number < y.number) ds → IsAscending (λ (x y : OutEntry). x.number < y.number) (passing_one detail n ds)
+rise_still : (detail : Detail) (n : ℕ) (ds : List OutEntry) → IsAscending (λ (x y : OutEntry). x.number < y.number) ds
+    → IsAscending (λ (x y : OutEntry). x.number < y.number) (passing_one detail n ds)
 rise_still detail n ds up =
     ascending-map (λ (x y : OutEntry). x.number < y.number) (λ (d : OutEntry). cond (d.number == n) (passed d (Some detail)) d) ds
     (ascending_weaker (λ (x y : OutEntry). x.number < y.number) _ (λ x y less. omega (arith, less, kept x (x.number == n), kept y (y.number == n))) ds up)
@@ -126,7 +135,8 @@ none_changed trees tree (t ∷ tables) = (λ _. refl, none_changed trees tree ta
 pub none_rewritten : (way : Way) (old : Connected) (ds : List OutEntry) → HoldsDocuments way old.now ds → Rewritten way old old ds
 none_rewritten way old ds it = record { holds = it; others = none_changed old.now.trees outbox_tree (store_schema way).tables }
 
-pub rewritten_more : (way : Way) (old mid new : Connected) (detail : Detail) (n : ℕ) (ds : List OutEntry) → Rewritten way old mid ds → Changed mid new (store_schema way) outbox_tree (map out_row (passing_one detail n ds)) → Rewritten way old new (passing_one detail n ds)
+pub rewritten_more : (way : Way) (old mid new : Connected) (detail : Detail) (n : ℕ) (ds : List OutEntry) → Rewritten way old mid ds
+    → Changed mid new (store_schema way) outbox_tree (map out_row (passing_one detail n ds)) → Rewritten way old new (passing_one detail n ds)
 rewritten_more way old mid new detail n ds it one = record {
   holds = record { sound = one.sound; schema = one.schema_is; rows = one.rows_are; in_order = rise_still detail n ds it.holds.in_order };
   others = others_then old.now.trees mid.now.trees new.now.trees outbox_tree (store_schema way).tables it.others one.others;
@@ -134,7 +144,9 @@ rewritten_more way old mid new detail n ds it one = record {
 
 -- ---- what waits
 
-pub takes_due : {way : Way} (kind m count : ℕ) (old new : Connected) (ws : List WaitingRow) → HoldsWaiting way old.now ws → Executes waiting_take_due_text (any_params kind m) old new (Ok count) → Changed old new (store_schema way) waiting_tree (map waiting_row (without_due kind m ws))
+pub takes_due : {way : Way} (kind m count : ℕ) (old new : Connected) (ws : List WaitingRow) → HoldsWaiting way old.now ws
+    → Executes waiting_take_due_text (any_params kind m) old new (Ok count)
+    → Changed old new (store_schema way) waiting_tree (map waiting_row (without_due kind m ws))
 takes_due {way} kind m count old new ws it h =
     let done = deletes waiting_take_due_text (any_params kind m) old new (store_schema way) it.schema 6 waiting_table refl any_due_terms (λ (w : WaitingRow). pos (place w)) waiting_row (λ _. refl) ws it.rows it.in_order (quiet way waiting_tree) (waiting_take_due_is way) (waiting_take_due_plain way) count h in
     subst (λ l. Changed old new (store_schema way) waiting_tree (map waiting_row l))
@@ -146,12 +158,15 @@ pub documents_of : {way : Way} (d : Database) (s : State) → Stands (VersionThr
 unfolding IsWhole
 documents_of d s it = record { sound = it.sound; schema = it.schema; rows = it.entries.outbox; in_order = numbers_rise (λ (x : OutEntry). x.number) s.next_out s.outbox it.documents.1 }
 
-pub waits_of : {way : Way} (a b : Connected) (s : State) (ds : List OutEntry) → Stands (VersionThree way) a.now s → Rewritten way a b ds → HoldsWaiting way b.now (all_waiting s)
+pub waits_of : {way : Way} (a b : Connected) (s : State) (ds : List OutEntry) → Stands (VersionThree way) a.now s → Rewritten way a b ds
+    → HoldsWaiting way b.now (all_waiting s)
 waits_of a b s ds it one = record { schema = one.holds.schema; rows = one.others.1.1.1.1.1.1.0 (λ e. omega arith) ∙ it.entries.waits; in_order = places_in_order a.now s it }
 
 -- the documents of one kind have passed
-pub stands_passed : (way : Way) (kind m : ℕ) (detail : Detail) → PassesInto kind detail → (a b c : Connected) (s : State) → Stands (VersionThree way) a.now s → Rewritten way a b (passing detail (due_numbers kind m s) s.outbox)
-    → Changed b c (store_schema way) waiting_tree (map waiting_row (without_due kind m (all_waiting s))) → Stands (VersionThree way) c.now (passing_in kind detail m s)
+pub stands_passed : (way : Way) (kind m : ℕ) (detail : Detail) → PassesInto kind detail → (a b c : Connected) (s : State) → Stands (VersionThree way) a.now s
+    → Rewritten way a b (passing detail (due_numbers kind m s) s.outbox)
+    → Changed b c (store_schema way) waiting_tree (map waiting_row (without_due kind m (all_waiting s)))
+    → Stands (VersionThree way) c.now (passing_in kind detail m s)
 unfolding IsWhole
 stands_passed way kind m detail into a b c s it one two =
     let has = it.entries in
@@ -196,7 +211,8 @@ pub due_count : (kind m : ℕ) (detail : Detail) → PassesInto kind detail → 
 due_count kind m detail into s = ap length (due_are_over kind detail into m s) ∙ length-map (filter (over kind m) s.outbox) (λ (d : OutEntry). d.number) ∙ length-filter (over kind m) s.outbox
 
 -- where nothing is due so, nothing passes
-pub none_over : {layout : Layout} (kind m : ℕ) (detail : Detail) → PassesInto kind detail → (a : Connected) (s : State) → Stands layout a.now s → due_numbers kind m s ≡ [] → (passing_in kind detail m s ≡ s) × (count_by (over kind m) s.outbox ≡ 0)
+pub none_over : {layout : Layout} (kind m : ℕ) (detail : Detail) → PassesInto kind detail → (a : Connected) (s : State) → Stands layout a.now s
+    → due_numbers kind m s ≡ [] → (passing_in kind detail m s ≡ s) × (count_by (over kind m) s.outbox ≡ 0)
 none_over kind m detail into a s it none =
     let up = numbers_rise (λ (x : OutEntry). x.number) s.next_out s.outbox it.documents.1 in
     let numbers = sym (due_are_over kind detail into m s) ∙ none in (
@@ -204,7 +220,8 @@ none_over kind m detail into a s it none =
       sym (due_count kind m detail into s) ∙ ap length none,
     )
 
-pub all_passed : (detail : Detail) (rows : List Row) (ns : List ℕ) (i : ℕ) (ds : List OutEntry) → rows ≡ map number_row ns → length rows ≤ i → passing detail (take i ns) ds ≡ passing detail ns ds
+pub all_passed : (detail : Detail) (rows : List Row) (ns : List ℕ) (i : ℕ) (ds : List OutEntry) → rows ≡ map number_row ns → length rows ≤ i
+    → passing detail (take i ns) ds ≡ passing detail ns ds
 all_passed detail rows ns i ds all past = ap (λ k. passing detail k ds) (take_all i ns (omega (arith, past, ap length all, length-map ns number_row)))
 
 pub no_number : (ns : List ℕ) → map number_row ns ≡ [] → ns ≡ []
@@ -221,7 +238,8 @@ module _ {S : Type 0} (g : Ghosts S) (old : Held S) (one last : Connected) (m fi
   abbrev Passes : ℕ → Detail → ℕ → Connected → Connected → Type 0
   Passes kind detail count a b = (way : Way) (s : State) → Stands (VersionThree way) a.now s → Stands (VersionThree way) b.now (passing_in kind detail m s) × (count ≡ count_by (over kind m) s.outbox)
 
-  pub time_passes : (HasCleanDisk last → HasCleanDisk one) → (HasCleanDisk one → IsTrue (state g old).is_open) → (HasCleanDisk one → Passes to_hear Overdue first (state g old) one) → (HasCleanDisk last → Passes to_end TriesUsed second one last)
+  pub time_passes : (HasCleanDisk last → HasCleanDisk one) → (HasCleanDisk one → IsTrue (state g old).is_open)
+      → (HasCleanDisk one → Passes to_hear Overdue first (state g old) one) → (HasCleanDisk last → Passes to_end TriesUsed second one last)
       → HasCleanDisk last → FollowsEach g old last (ticked_in m)
   time_passes was opened hear end clean = record {
     was_open = opened (was clean);

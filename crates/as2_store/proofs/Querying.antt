@@ -21,7 +21,8 @@ use Rattle.sqlite.proofs.StateLemmas.{survives_then}
 
 -- ---- the query inside
 
-pub queried_inside : {V : Type 0} (items : V → List Row) (sql : List ℕ) (params : Row) (old new : Connected) (r : Result V Error) → (HasCleanDisk new → IsTrue old.in_transaction) → (HasCleanDisk new → IfOk r (λ v. Shown sql params old new (items v)))
+pub queried_inside : {V : Type 0} (items : V → List Row) (sql : List ℕ) (params : Row) (old new : Connected) (r : Result V Error)
+    → (HasCleanDisk new → IsTrue old.in_transaction) → (HasCleanDisk new → IfOk r (λ v. Shown sql params old new (items v)))
     → (HasCleanDisk new → IfErr r (λ e. FailsToQuery sql params old new e ⊎ IsTooLate sql params old new e)) → Survives old new (λ _. ⊥) → IsInside old new
 queried_inside items sql params old new r inside ok err survives = record {
   clean = λ clean. omega (arith, survives.clean, clean);
@@ -29,14 +30,17 @@ queried_inside items sql params old new r inside ok err survives = record {
   survives = survives;
 }
   where
-    go : (r : Result _ Error) → IsTrue old.in_transaction → IfOk r (λ v. Shown sql params old new (items v)) → IfErr r (λ e. FailsToQuery sql params old new e ⊎ IsTooLate sql params old new e) → KeepsCommit old new
+    go : (r : Result _ Error) → IsTrue old.in_transaction → IfOk r (λ v. Shown sql params old new (items v))
+        → IfErr r (λ e. FailsToQuery sql params old new e ⊎ IsTooLate sql params old new e) → KeepsCommit old new
     go (Ok v) begun shown failed = shown_keeps sql params old new (items v) begun shown
     go (Err e) begun shown failed = failed_keeps sql params old new e failed
 
 -- ---- a query of the store's tables
 
 -- a query of the store's tables leaves each state that they stood for
-pub query_keeps : {S : Type 0} (g : Ghosts S) (old : Held S) (mid : Connected) (sql : List ℕ) (params : Row) (rows : List Row) → ((way : Way) → IsPlain (understood (store_schema way) sql)) → (HasCleanDisk mid → Shown sql params (state g (record old { in_transaction = true })) mid rows)
+pub query_keeps : {S : Type 0} (g : Ghosts S) (old : Held S) (mid : Connected) (sql : List ℕ) (params : Row) (rows : List Row)
+    → ((way : Way) → IsPlain (understood (store_schema way) sql))
+    → (HasCleanDisk mid → Shown sql params (state g (record old { in_transaction = true })) mid rows)
     → HasCleanDisk mid → FollowsEach g old mid Some
 query_keeps g old mid sql params rows plain shown clean =
     let begun = state g (record old { in_transaction = true }) in
@@ -50,7 +54,8 @@ query_keeps g old mid sql params rows plain shown clean =
     }
 
 -- and its answer is one of what stood
-pub answers : {S : Type 0} (g : Ghosts S) (old : Held S) (mid : Connected) (sql : List ℕ) (params : Row) (rows : List Row) → ((way : Way) → IsPlain (understood (store_schema way) sql)) → Shown sql params (state g (record old { in_transaction = true })) mid rows
+pub answers : {S : Type 0} (g : Ghosts S) (old : Held S) (mid : Connected) (sql : List ℕ) (params : Row) (rows : List Row)
+    → ((way : Way) → IsPlain (understood (store_schema way) sql)) → Shown sql params (state g (record old { in_transaction = true })) mid rows
     → (s : State) → Rests (state g old) s → Shown sql params (state g old) (state g old) rows
 answers g old mid sql params rows plain shown s r =
     let begun = state g (record old { in_transaction = true }) in
@@ -60,7 +65,8 @@ answers g old mid sql params rows plain shown s r =
 -- ---- reads
 
 -- a read is a write of the same state
-pub as_read : {A E : Type 0} (fits : State → A → Type 0) (old new : Connected) (r : Result A E) → Writes Some old new r → (HasCleanDisk new → IfOk r (λ a. (s : State) → Rests old s → fits s a)) → Reads fits old new r
+pub as_read : {A E : Type 0} (fits : State → A → Type 0) (old new : Connected) (r : Result A E) → Writes Some old new r
+    → (HasCleanDisk new → IfOk r (λ a. (s : State) → Rests old s → fits s a)) → Reads fits old new r
 as_read fits old new (Ok a) w answer = record {
   clean = w.clean;
   was_open = w.was_open;
@@ -72,7 +78,8 @@ as_read fits old new (Ok a) w answer = record {
 as_read fits old new (Err e) w answer = record { clean = w.clean; was_open = w.was_open; is_open = w.is_open; answer = answer; same = w.failed; crash = w.crash }
 
 -- what fits less than was shown
-pub reads_less : {A E : Type 0} (fits more : State → A → Type 0) (old new : Connected) (r : Result A E) → ((s : State) (a : A) → Rests old s → more s a → fits s a) → Reads more old new r → Reads fits old new r
+pub reads_less : {A E : Type 0} (fits more : State → A → Type 0) (old new : Connected) (r : Result A E)
+    → ((s : State) (a : A) → Rests old s → more s a → fits s a) → Reads more old new r → Reads fits old new r
 reads_less fits more old new r less it = record {
   clean = it.clean;
   was_open = it.was_open;
@@ -83,7 +90,8 @@ reads_less fits more old new r less it = record {
 }
 
 -- what fits where the tables stand so
-pub reads_standing : {A E : Type 0} (fits more : State → A → Type 0) (old new : Connected) (r : Result A E) → ((s : State) (a : A) → Holds old.now s → fits s a → more s a) → Reads fits old new r → Reads more old new r
+pub reads_standing : {A E : Type 0} (fits more : State → A → Type 0) (old new : Connected) (r : Result A E)
+    → ((s : State) (a : A) → Holds old.now s → fits s a → more s a) → Reads fits old new r → Reads more old new r
 reads_standing fits more old new (Ok a) then it = record {
   clean = it.clean;
   was_open = it.was_open;
@@ -97,7 +105,8 @@ reads_standing fits more old new (Err e) then it = record { clean = it.clean; wa
 -- ---- reads one after the other
 
 -- what is made of an answer
-pub read_ok : {A B E F : Type 0} (fits : State → A → Type 0) (more : State → B → Type 0) (old new : Connected) (a : A) (b : B) → ((s : State) → Rests old s → fits s a → more s b) → Reads {A = A} {E = E} fits old new (Ok a) → Reads {A = B} {E = F} more old new (Ok b)
+pub read_ok : {A B E F : Type 0} (fits : State → A → Type 0) (more : State → B → Type 0) (old new : Connected) (a : A) (b : B)
+    → ((s : State) → Rests old s → fits s a → more s b) → Reads {A = A} {E = E} fits old new (Ok a) → Reads {A = B} {E = F} more old new (Ok b)
 read_ok fits more old new a b then it = record {
   clean = it.clean;
   was_open = it.was_open;
@@ -108,22 +117,26 @@ read_ok fits more old new a b then it = record {
 }
 
 -- a read that fails, or whose answer is no answer
-pub read_err : {A B E F : Type 0} (fits : State → A → Type 0) (more : State → B → Type 0) (old new : Connected) (r : Result A E) (f : F) → Reads fits old new r → Reads {A = B} {E = F} more old new (Err f)
+pub read_err : {A B E F : Type 0} (fits : State → A → Type 0) (more : State → B → Type 0) (old new : Connected) (r : Result A E) (f : F)
+    → Reads fits old new r → Reads {A = B} {E = F} more old new (Err f)
 read_err fits more old new r f it = record { clean = it.clean; was_open = λ clean. tt; is_open = λ clean. tt; answer = λ clean. tt; same = it.same; crash = it.crash }
 
 -- an answer whose failure was told otherwise
-pub told_ok : {A E F : Type 0} (r : Result A E) (told : Result A F) (Q : E → F → Type 0) (a : A) → MatchResult r (λ x. told ≡ Ok x) (λ e. IsErrAnd told (Q e)) → told ≡ Ok a → r ≡ Ok a
+pub told_ok : {A E F : Type 0} (r : Result A E) (told : Result A F) (Q : E → F → Type 0) (a : A) → MatchResult r (λ x. told ≡ Ok x) (λ e. IsErrAnd told (Q e))
+    → told ≡ Ok a → r ≡ Ok a
 told_ok (Ok x) told Q a cases is = cc
 told_ok (Err e) told Q a cases is = absurd (subst (λ t. IsErrAnd t (Q e)) is cases)
 
 -- what a read answered whose failure was told otherwise
-pub mapped : {A E F : Type 0} (fits : State → A → Type 0) (old new : Connected) (r : Result A E) (told : Result A F) (Q : E → F → Type 0) (a : A) → MatchResult r (λ x. told ≡ Ok x) (λ e. IsErrAnd told (Q e)) → told ≡ Ok a
+pub mapped : {A E F : Type 0} (fits : State → A → Type 0) (old new : Connected) (r : Result A E) (told : Result A F) (Q : E → F → Type 0) (a : A)
+    → MatchResult r (λ x. told ≡ Ok x) (λ e. IsErrAnd told (Q e)) → told ≡ Ok a
     → Reads fits old new r → Reads {A = A} {E = F} fits old new (Ok a)
 mapped fits old new r told Q a cases is it = read_ok fits fits old new a a (λ s r found. found) (subst (λ r. Reads fits old new r) (told_ok r told Q a cases is) it)
 
 -- an answer whose error is told in other words
 pub reads_told : {A E F : Type 0} (fits more : State → A → Type 0) (old new : Connected) (r : Result A E) (told : Result A F) (Q : E → F → Type 0)
-    → MatchResult r (λ x. told ≡ Ok x) (λ e. IsErrAnd told (Q e)) → ((s : State) (a : A) → Rests old s → fits s a → more s a) → Reads fits old new r → Reads more old new told
+    → MatchResult r (λ x. told ≡ Ok x) (λ e. IsErrAnd told (Q e)) → ((s : State) (a : A) → Rests old s → fits s a → more s a) → Reads fits old new r
+    → Reads more old new told
 reads_told {A = A} {F = F} fits more old new (Ok a) told Q cases less it = subst (λ (t : Result A F). Reads more old new t) (sym cases) (read_ok fits more old new a a (λ s r found. less s a r found) it)
 reads_told fits more old new (Err e) (Ok b) Q cases less it = absurd cases
 reads_told fits more old new (Err e) (Err f) Q cases less it = read_err fits more old new (Err e) f it
@@ -135,8 +148,10 @@ read_if fits more old new a (Ok b) P is then it = read_ok fits more old new a b 
 read_if fits more old new a (Err e) P is then it = read_err fits more old new (Ok a) e it
 
 -- a read, and what is made of its answer, if anything is
-pub read_told : {A B D E F : Type 0} (fits : State → A → Type 0) (more : State → B → Type 0) (old new : Connected) (a : A) (r : Result B E) (told : Result B F) (Q : E → F → Type 0) (P : B → Type 0)
-    → MatchResult r (λ x. told ≡ Ok x) (λ e. IsErrAnd told (Q e)) → IfOk r P → ((s : State) (b : B) → P b → fits s a → more s b) → Reads {A = A} {E = D} fits old new (Ok a) → Reads more old new told
+pub read_told : {A B D E F : Type 0} (fits : State → A → Type 0) (more : State → B
+    → Type 0) (old new : Connected) (a : A) (r : Result B E) (told : Result B F) (Q : E → F → Type 0) (P : B → Type 0)
+    → MatchResult r (λ x. told ≡ Ok x) (λ e. IsErrAnd told (Q e)) → IfOk r P → ((s : State) (b : B) → P b → fits s a → more s b)
+    → Reads {A = A} {E = D} fits old new (Ok a) → Reads more old new told
 read_told {B = B} {F = F} fits more old new a (Ok b) told Q P cases is then it =
     subst (λ (t : Result B F). Reads more old new t) (sym cases) (read_ok fits more old new a b (λ s r found. then s b is found) it)
 read_told fits more old new a (Err e) (Ok b) Q P cases is then it = absurd cases
@@ -150,7 +165,8 @@ pub nothing_inside : (c : Connected) → IsInside c c
 nothing_inside c = record { clean = λ clean. clean; kept = λ clean. record { was_open = λ o. o; committed = λ o. refl }; survives = survives_same c (λ _. ⊥) }
 
 -- nothing is read, over an open connection
-pub unread : {A E : Type 0} (fits : State → A → Type 0) (old : Connected) (a : A) → (HasCleanDisk old → IsTrue old.is_open) → ((s : State) → fits s a) → Reads {A = A} {E = E} fits old old (Ok a)
+pub unread : {A E : Type 0} (fits : State → A → Type 0) (old : Connected) (a : A) → (HasCleanDisk old → IsTrue old.is_open) → ((s : State) → fits s a)
+    → Reads {A = A} {E = E} fits old old (Ok a)
 unread fits old a opened known = record {
   clean = λ clean. clean;
   was_open = opened;
@@ -160,7 +176,8 @@ unread fits old a opened known = record {
   crash = survives_same old (Commits Some old);
 }
 
-two_reads : (old mid new : Connected) → (HasCleanDisk mid → IsTrue old.is_open) → (HasCleanDisk mid → (s : State) → Rests old s → Rests mid s) → Survives old mid (Commits Some old) → Survives mid new (Commits Some mid) → Survives old new (Commits Some old)
+two_reads : (old mid new : Connected) → (HasCleanDisk mid → IsTrue old.is_open) → (HasCleanDisk mid → (s : State) → Rests old s → Rests mid s)
+    → Survives old mid (Commits Some old) → Survives mid new (Commits Some mid) → Survives old new (Commits Some old)
 two_reads old mid new opened same one two =
     survives_then old mid new (Commits Some old) (Commits Some mid) (Commits Some old) (λ _ db is. is)
     (λ clean db is.
@@ -172,14 +189,18 @@ any_ok : {A E P : Type 0} (r : Result A E) → P → OnOk r P
 any_ok (Ok a) is = is
 any_ok (Err e) is = tt
 
-later : {A B F : Type 0} (fits : State → A → Type 0) (more : State → B → Type 0) (both : State → B → Type 0) (old mid : Connected) {a : A} (r : Result B F) → ((s : State) (b : B) → Rests old s → fits s a → more s b → both s b)
-    → ((s : State) → Rests old s → fits s a) → ((s : State) → Rests old s → Rests mid s) → IfOk r (λ b. (s : State) → Rests mid s → more s b) → IfOk r (λ b. (s : State) → Rests old s → both s b)
+later : {A B F : Type 0} (fits : State → A → Type 0) (more : State → B → Type 0) (both : State → B → Type 0) (old mid : Connected) {a : A} (r : Result B F)
+    → ((s : State) (b : B) → Rests old s → fits s a → more s b → both s b)
+    → ((s : State) → Rests old s → fits s a) → ((s : State) → Rests old s → Rests mid s) → IfOk r (λ b. (s : State) → Rests mid s → more s b)
+    → IfOk r (λ b. (s : State) → Rests old s → both s b)
 later fits more both old mid (Ok b) then first same told = λ s rests. then s b rests (first s rests) (told s (same s rests))
 later fits more both old mid (Err f) then first same told = tt
 
 -- a read, and then another, whatever that answers
-pub read_then : {A B E F : Type 0} (fits : State → A → Type 0) (more : State → B → Type 0) (both : State → B → Type 0) (old mid new : Connected) (a : A) (r : Result B F)
-    → ((s : State) (b : B) → Rests old s → fits s a → more s b → both s b) → Reads {A = A} {E = E} fits old mid (Ok a) → Reads more mid new r → Reads both old new r
+pub read_then : {A B E F : Type 0} (fits : State → A → Type 0) (more : State → B → Type 0) (both : State → B
+    → Type 0) (old mid new : Connected) (a : A) (r : Result B F)
+    → ((s : State) (b : B) → Rests old s → fits s a → more s b → both s b) → Reads {A = A} {E = E} fits old mid (Ok a) → Reads more mid new r
+    → Reads both old new r
 read_then fits more both old mid new a r then one two = record {
   clean = λ clean. one.clean (two.clean clean);
   was_open = λ clean. any_ok r (one.was_open (two.clean clean));
@@ -190,10 +211,12 @@ read_then fits more both old mid new a r then one two = record {
 }
 
 -- seen from where the store is
-pub read_of : {A E : Type 0} (fits : State → A → Type 0) (inside outside new : Connected) (r : Result A E) → inside ≡ outside → Reads fits inside new r → Reads fits outside new r
+pub read_of : {A E : Type 0} (fits : State → A → Type 0) (inside outside new : Connected) (r : Result A E) → inside ≡ outside → Reads fits inside new r
+    → Reads fits outside new r
 read_of fits inside outside new r same it = subst (λ c. Reads fits c new r) same it
 
 -- a read that failed, by whatever result tells so
-pub read_bad : {A B E F : Type 0} (fits : State → A → Type 0) (more : State → B → Type 0) (old new : Connected) (r : Result A E) (f : Result B F) → IsErr f → Reads fits old new r → Reads more old new f
+pub read_bad : {A B E F : Type 0} (fits : State → A → Type 0) (more : State → B → Type 0) (old new : Connected) (r : Result A E) (f : Result B F) → IsErr f
+    → Reads fits old new r → Reads more old new f
 read_bad fits more old new r (Ok b) err it = absurd cc
 read_bad fits more old new r (Err f) err it = read_err fits more old new r f it

@@ -35,7 +35,8 @@ none_of_it false n = refl
 abbrev lower : (ℕ → Bool) → ℕ → ℕ → Bool
 lower was n k = was k && nat_lt k n
 
-pub resent_more : (rows : List Row) (next : ℕ) (ds : List OutEntry) (x : OutEntry) → AreNumbers next (numbers_of ds) → x.number ≡ next → x.begun ≡ nat_le 1 x.tries → HasResent rows ds → HasResent rows (ds ++ x ∷ [])
+pub resent_more : (rows : List Row) (next : ℕ) (ds : List OutEntry) (x : OutEntry) → AreNumbers next (numbers_of ds) → x.number ≡ next
+    → x.begun ≡ nat_le 1 x.tries → HasResent rows ds → HasResent rows (ds ++ x ∷ [])
 resent_more rows next ds x numbers is tried it = record {
   was = lower it.was x.number;
   rows_are = it.rows_are ∙ ap (map resent_row) (sym same);
@@ -59,14 +60,16 @@ resent_more rows next ds x numbers is tried it = record {
     either true b is = refl
     either false b is = sym is
 
-    push : (ds : List OutEntry) → AllByRecursion (λ d. lower it.was x.number d.number ≡ it.was d.number) ds → AllByRecursion (λ d. d.begun ≡ (nat_le 1 d.tries || it.was d.number)) ds
+    push : (ds : List OutEntry) → AllByRecursion (λ d. lower it.was x.number d.number ≡ it.was d.number) ds
+        → AllByRecursion (λ d. d.begun ≡ (nat_le 1 d.tries || it.was d.number)) ds
         → AllByRecursion (λ d. d.begun ≡ (nat_le 1 d.tries || lower it.was x.number d.number)) (ds ++ x ∷ [])
     push [] same all = (tried ∙ either (nat_le 1 x.tries) (lower it.was x.number x.number) (none_of_it (it.was x.number) x.number), tt)
     push (d ∷ ds) same all = (all.0 ∙ ap (λ b. nat_le 1 d.tries || b) (sym same.0), push ds same.1 all.1)
 
 -- ---- documents that are changed, but for their tries
 
-pub resent_map : (g : OutEntry → OutEntry) → ((d : OutEntry) → (g d).number ≡ d.number) → ((d : OutEntry) → (g d).begun ≡ d.begun) → ((d : OutEntry) → (g d).tries ≡ d.tries)
+pub resent_map : (g : OutEntry → OutEntry) → ((d : OutEntry) → (g d).number ≡ d.number) → ((d : OutEntry) → (g d).begun ≡ d.begun)
+    → ((d : OutEntry) → (g d).tries ≡ d.tries)
     → (rows : List Row) (ds : List OutEntry) → HasResent rows ds → HasResent rows (map g ds)
 resent_map g number begun tries rows ds it = record {
   was = it.was;
@@ -74,12 +77,14 @@ resent_map g number begun tries rows ds it = record {
   begun = each ds it.begun;
 }
   where
-    each : (ds : List OutEntry) → AllByRecursion (λ d. d.begun ≡ (nat_le 1 d.tries || it.was d.number)) ds → AllByRecursion (λ d. d.begun ≡ (nat_le 1 d.tries || it.was d.number)) (map g ds)
+    each : (ds : List OutEntry) → AllByRecursion (λ d. d.begun ≡ (nat_le 1 d.tries || it.was d.number)) ds
+        → AllByRecursion (λ d. d.begun ≡ (nat_le 1 d.tries || it.was d.number)) (map g ds)
     each [] all = tt
     each (d ∷ ds) all = (begun d ∙ all.0 ∙ sym (ap₂ (λ t n. nat_le 1 t || it.was n) (tries d) (number d)), each ds all.1)
 
 -- the one of a number is changed so
-pub resent_changed : (f : OutEntry → OutEntry) → ((d : OutEntry) → (f d).number ≡ d.number) → ((d : OutEntry) → (f d).begun ≡ d.begun) → ((d : OutEntry) → (f d).tries ≡ d.tries)
+pub resent_changed : (f : OutEntry → OutEntry) → ((d : OutEntry) → (f d).number ≡ d.number) → ((d : OutEntry) → (f d).begun ≡ d.begun)
+    → ((d : OutEntry) → (f d).tries ≡ d.tries)
     → (n : ℕ) (rows : List Row) (ds : List OutEntry) → HasResent rows ds → HasResent rows (changed out_number n f ds)
 resent_changed f number begun tries n rows ds it =
     resent_map (λ d. cond (d.number == n) (f d) d) (λ d. same_number d (d.number == n)) (λ d. same_begun d (d.number == n)) (λ d. same_tries d (d.number == n)) rows ds it
@@ -134,7 +139,8 @@ module _ (was : ℕ → Bool) (n : ℕ) where
   untaken [] other = refl
   untaken (k ∷ ks) other = go (was k) (untaken ks other.1)
     where
-      go : (t : Bool) → not_this ks ≡ filter was ks → filter (λ k. not (k == n)) (cond t (k ∷ filter was ks) (filter was ks)) ≡ cond t (k ∷ filter was ks) (filter was ks)
+      go : (t : Bool) → not_this ks ≡ filter was ks
+          → filter (λ k. not (k == n)) (cond t (k ∷ filter was ks) (filter was ks)) ≡ cond t (k ∷ filter was ks) (filter was ks)
       go true rest = ap (λ t. cond (not t) (k ∷ not_this ks) (not_this ks)) other.0 ∙ ap (λ l. k ∷ l) rest
       go false rest = rest
 
@@ -200,19 +206,22 @@ module _ (was : ℕ → Bool) (n : ℕ) where
       ∙ ap (map resent_row) (sym into)
 
 -- the document of this number was tried, and now has a row
-pub now_marked : (rows : List Row) (n : ℕ) (ds : List OutEntry) → AllByRecursion (λ d. (d.number == n) ≡ true → nat_le 1 d.tries ≡ true) ds → (it : HasResent rows ds)
+pub now_marked : (rows : List Row) (n : ℕ) (ds : List OutEntry) → AllByRecursion (λ d. (d.number == n) ≡ true → nat_le 1 d.tries ≡ true) ds
+    → (it : HasResent rows ds)
     → (new : List Row) → new ≡ map resent_row (filter (or_this it.was n) (numbers_of ds)) → IsMarked new ds n
 now_marked rows n ds tried it new is = record {
   resent = record { was = or_this it.was n; rows_are = is; begun = each ds tried it.begun };
   own = owns ds tried it.begun;
 }
   where
-    both : (d : OutEntry) (t w : Bool) → (d.number == n) ≡ t → (t ≡ true → nat_le 1 d.tries ≡ true) → d.begun ≡ (nat_le 1 d.tries || w) → d.begun ≡ (nat_le 1 d.tries || (w || t))
+    both : (d : OutEntry) (t w : Bool) → (d.number == n) ≡ t → (t ≡ true → nat_le 1 d.tries ≡ true) → d.begun ≡ (nat_le 1 d.tries || w)
+        → d.begun ≡ (nat_le 1 d.tries || (w || t))
     both d true w same must is = is ∙ ap (λ b. b || w) (must refl) ∙ sym (ap (λ b. b || (w || true)) (must refl))
     both d false true same must is = is
     both d false false same must is = is
 
-    each : (ds : List OutEntry) → AllByRecursion (λ d. (d.number == n) ≡ true → nat_le 1 d.tries ≡ true) ds → AllByRecursion (λ d. d.begun ≡ (nat_le 1 d.tries || it.was d.number)) ds
+    each : (ds : List OutEntry) → AllByRecursion (λ d. (d.number == n) ≡ true → nat_le 1 d.tries ≡ true) ds
+        → AllByRecursion (λ d. d.begun ≡ (nat_le 1 d.tries || it.was d.number)) ds
         → AllByRecursion (λ d. d.begun ≡ (nat_le 1 d.tries || or_this it.was n d.number)) ds
     each [] tried all = tt
     each (d ∷ ds) tried all = (both d (d.number == n) (it.was d.number) refl tried.0 all.0, each ds tried.1 all.1)
@@ -221,16 +230,19 @@ now_marked rows n ds tried it new is = record {
     or_true true b is = refl
     or_true false b is = sym is
 
-    owns : (ds : List OutEntry) → AllByRecursion (λ d. (d.number == n) ≡ true → nat_le 1 d.tries ≡ true) ds → AllByRecursion (λ d. d.begun ≡ (nat_le 1 d.tries || it.was d.number)) ds
+    owns : (ds : List OutEntry) → AllByRecursion (λ d. (d.number == n) ≡ true → nat_le 1 d.tries ≡ true) ds
+        → AllByRecursion (λ d. d.begun ≡ (nat_le 1 d.tries || it.was d.number)) ds
         → AllByRecursion (λ d. (d.number == n) ≡ true → d.begun ≡ or_this it.was n d.number) ds
     owns [] tried all = tt
     owns (d ∷ ds) tried all = (λ here. all.0 ∙ ap (λ b. b || it.was d.number) (tried.0 here) ∙ or_true (it.was d.number) (d.number == n) here, owns ds tried.1 all.1)
 
 -- it was not tried, so its row alone tells
-pub marked_before : (rows : List Row) (n : ℕ) (ds : List OutEntry) → AllByRecursion (λ d. (d.number == n) ≡ true → nat_le 1 d.tries ≡ false) ds → HasResent rows ds → IsMarked rows ds n
+pub marked_before : (rows : List Row) (n : ℕ) (ds : List OutEntry) → AllByRecursion (λ d. (d.number == n) ≡ true → nat_le 1 d.tries ≡ false) ds
+    → HasResent rows ds → IsMarked rows ds n
 marked_before rows n ds untried it = record { resent = it; own = owns ds untried it.begun }
   where
-    owns : (ds : List OutEntry) → AllByRecursion (λ d. (d.number == n) ≡ true → nat_le 1 d.tries ≡ false) ds → AllByRecursion (λ d. d.begun ≡ (nat_le 1 d.tries || it.was d.number)) ds
+    owns : (ds : List OutEntry) → AllByRecursion (λ d. (d.number == n) ≡ true → nat_le 1 d.tries ≡ false) ds
+        → AllByRecursion (λ d. d.begun ≡ (nat_le 1 d.tries || it.was d.number)) ds
         → AllByRecursion (λ d. (d.number == n) ≡ true → d.begun ≡ it.was d.number) ds
     owns [] untried all = tt
     owns (d ∷ ds) untried all = (λ here. all.0 ∙ ap (λ b. b || it.was d.number) (untried.0 here), owns ds untried.1 all.1)

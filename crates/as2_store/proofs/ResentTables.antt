@@ -44,7 +44,8 @@ use Rattle.as2_store.proofs.Untouched.{AtMeta, AtInbox, AtInboxPiece, AtOutbox, 
 has_number : (n k : ℕ) → passes number_terms (one_param n) (resent_row k) ≡ (k == n)
 has_number n k = ap (λ b. b && true) (numbers_equal k n) ∙ and_true _
 
-pub takes_resent : {way : Way} (n count : ℕ) (old new : Connected) (ns : List ℕ) → HoldsResent way old.now ns → Executes resent_take_text (one_param n) old new (Ok count)
+pub takes_resent : {way : Way} (n count : ℕ) (old new : Connected) (ns : List ℕ) → HoldsResent way old.now ns
+    → Executes resent_take_text (one_param n) old new (Ok count)
     → Changed old new (store_schema way) (resent_tree way) (map resent_row (filter (λ k. not (k == n)) ns))
 takes_resent {way} n count old new ns it h =
     let done = deletes resent_take_text (one_param n) old new (store_schema way) it.schema (resent_place way) (resent_table way) (resent_there way) number_terms (λ (k : ℕ). pos k) resent_row (λ _. refl) ns it.rows it.in_order (quiet way (resent_tree way)) (resent_take_is way) (resent_take_plain way) count h in
@@ -54,14 +55,16 @@ takes_resent {way} n count old new ns it h =
 one_resent : (way : Way) (n : ℕ) → IsOneRow (resent_table way) (one_param n) resent_put_terms 2 (resent_row n)
 one_resent way n = record { source = resent_row n; made = refl; cast_is = simp (cast_int, cast_null) }
 
-pub puts_resent : (way : Way) (old new : Connected) (n count : ℕ) → old.now.schema ≡ store_schema way → Executes resent_put_text (one_param n) old new (Ok count)
+pub puts_resent : (way : Way) (old new : Connected) (n count : ℕ) → old.now.schema ≡ store_schema way
+    → Executes resent_put_text (one_param n) old new (Ok count)
     → Changed old new (store_schema way) (resent_tree way) (put_row (resent_row n) (old.now.trees (resent_tree way)))
 puts_resent way old new n count has h =
     inserts_given resent_put_text (one_param n) old new (store_schema way) has (resent_place way) (resent_table way) (resent_there way) refl resent_put_terms 2 (resent_row n) (one_resent way n) refl (resent_put_is way) (resent_put_plain way) count h
 
 -- ---- which documents were tried
 
-pub reads_tried : {way : Way} (n : ℕ) (old new : Connected) (rows : List Row) → Shown tried_text (one_param n) old new rows → (s : State) → Stands (VersionThree way) old.now s → (new.now ≡ old.now) × (rows ≡ map number_row (tried_numbers n s))
+pub reads_tried : {way : Way} (n : ℕ) (old new : Connected) (rows : List Row) → Shown tried_text (one_param n) old new rows → (s : State)
+    → Stands (VersionThree way) old.now s → (new.now ≡ old.now) × (rows ≡ map number_row (tried_numbers n s))
 reads_tried {way} n old new rows h s it =
     let read = reads_as tried_text (one_param n) old new (store_schema way) it.schema (Select (record { lets = []; body = over_table outbox_tree tried_terms resent_column_terms by_number (lit (Int (negsuc 0))) }) _) (tried_is way) (tried_plain way) (tried_unlisted way) rows h in (
       (shown_same tried_text (one_param n) old new rows (subst (λ k. IsPlain (understood k tried_text)) (sym it.schema) (tried_plain way)) h).0.now_is,
@@ -75,7 +78,8 @@ untried_all : (n : ℕ) (ds : List OutEntry) → filter (is_tried n) ds ≡ [] �
 untried_all n [] none = tt
 untried_all n (d ∷ ds) none = go (d.number == n) (nat_le 1 d.tries) none (untried_all n ds)
   where
-    go : (t u : Bool) → cond (t && u) (d ∷ filter (is_tried n) ds) (filter (is_tried n) ds) ≡ [] → (filter (is_tried n) ds ≡ [] → AllByRecursion (λ d. (d.number == n) ≡ true → nat_le 1 d.tries ≡ false) ds)
+    go : (t u : Bool) → cond (t && u) (d ∷ filter (is_tried n) ds) (filter (is_tried n) ds) ≡ []
+        → (filter (is_tried n) ds ≡ [] → AllByRecursion (λ d. (d.number == n) ≡ true → nat_le 1 d.tries ≡ false) ds)
         → (t ≡ true → u ≡ false) × AllByRecursion (λ d. (d.number == n) ≡ true → nat_le 1 d.tries ≡ false) ds
     go true true none later = absurd cc
     go true false none later = (λ _. refl, later none)
@@ -117,7 +121,8 @@ module _ (n : ℕ) (ds : List OutEntry) (it : Split out_number n ds) where
   all_tried some = subst (AllByRecursion (λ (d : OutEntry). (d.number == n) ≡ true → nat_le 1 d.tries ≡ true)) (sym it.whole)
       (all-append (λ (d : OutEntry). (d.number == n) ≡ true → nat_le 1 d.tries ≡ true) it.front (it.one ∷ it.back) (never it.front low_other) (λ _. one_tried some, never it.back high_other))
     where
-      never : (es : List OutEntry) → AllByRecursion (λ (d : OutEntry). (d.number == n) ≡ false) es → AllByRecursion (λ (d : OutEntry). (d.number == n) ≡ true → nat_le 1 d.tries ≡ true) es
+      never : (es : List OutEntry) → AllByRecursion (λ (d : OutEntry). (d.number == n) ≡ false) es
+          → AllByRecursion (λ (d : OutEntry). (d.number == n) ≡ true → nat_le 1 d.tries ≡ true) es
       never [] other = tt
       never (d ∷ es) other = (λ is. absurd (true≢false (sym is ∙ other.0)), never es other.1)
 
@@ -137,14 +142,16 @@ some_tried : (n : ℕ) (ds : List OutEntry) → filter (is_tried n) ds ≢ [] �
 some_tried n [] some = absurd (some refl)
 some_tried n (d ∷ ds) some = go (d.number == n) (nat_le 1 d.tries) some (some_tried n ds)
   where
-    go : (t u : Bool) → cond (t && u) (d ∷ filter (is_tried n) ds) (filter (is_tried n) ds) ≢ [] → (filter (is_tried n) ds ≢ [] → length (filter (λ (x : OutEntry). x.number == n) ds) ≢ 0)
+    go : (t u : Bool) → cond (t && u) (d ∷ filter (is_tried n) ds) (filter (is_tried n) ds) ≢ []
+        → (filter (is_tried n) ds ≢ [] → length (filter (λ (x : OutEntry). x.number == n) ds) ≢ 0)
         → length (cond t (d ∷ filter (λ (x : OutEntry). x.number == n) ds) (filter (λ (x : OutEntry). x.number == n) ds)) ≢ 0
     go true u some later = λ none. omega (arith, none)
     go false u some later = later some
 
 -- ---- the state
 
-pub holds_resent : {way : Way} (a b : Connected) (s : State) → (it : Stands (VersionThree way) a.now s) → b.now ≡ a.now → HoldsResent way b.now (filter it.begun.was (numbers_of s.outbox))
+pub holds_resent : {way : Way} (a b : Connected) (s : State) → (it : Stands (VersionThree way) a.now s) → b.now ≡ a.now
+    → HoldsResent way b.now (filter it.begun.was (numbers_of s.outbox))
 holds_resent {way} a b s it same = record {
   schema = ap (λ d. d.schema) same ∙ it.schema;
   rows = ap (λ d. d.trees (resent_tree way)) same ∙ it.begun.rows_are;
@@ -152,7 +159,8 @@ holds_resent {way} a b s it same = record {
 }
 
 -- none was tried: the tables are as they were
-pub ready_untried : (way : Way) (a b : Connected) (s : State) (n : ℕ) → Stands (VersionThree way) a.now s → b.now ≡ a.now → tried_numbers n s ≡ [] → IsReady way b.now s n 0
+pub ready_untried : (way : Way) (a b : Connected) (s : State) (n : ℕ) → Stands (VersionThree way) a.now s → b.now ≡ a.now → tried_numbers n s ≡ []
+    → IsReady way b.now s n 0
 ready_untried way a b s n it same none =
     let stood : Stands (VersionThree way) b.now s = subst (λ d. Stands (VersionThree way) d s) (sym same) it in
     record { stands = stood; marked = λ _. marked_before (b.now.trees (resent_tree way)) n s.outbox (untried_all n s.outbox (unmapped (filter (is_tried n) s.outbox) none)) stood.begun }
@@ -207,7 +215,8 @@ none_kept was n (k ∷ ns) is = go (was k) refl (none_kept was n ns is)
     same : (k n : ℕ) → (k == n) ≡ true → k ≡ n
     same k n is = grind (arith, nat_tests, is)
 
-    by : (t : Bool) → (k == n) ≡ t → was k ≡ true → filter (λ k. k == n) (filter was ns) ≡ [] → cond t (k ∷ filter (λ k. k == n) (filter was ns)) (filter (λ k. k == n) (filter was ns)) ≡ []
+    by : (t : Bool) → (k == n) ≡ t → was k ≡ true → filter (λ k. k == n) (filter was ns) ≡ []
+        → cond t (k ∷ filter (λ k. k == n) (filter was ns)) (filter (λ k. k == n) (filter was ns)) ≡ []
     by true here kept rest = absurd (true≢false (sym kept ∙ ap was (same k n here) ∙ is))
     by false here kept rest = rest
 
@@ -229,18 +238,21 @@ shown_later n k ks later = go (k == n) later
     go true later = refl
     go false later = later
 
-one_kept : (was : ℕ → Bool) (p : OutEntry → Bool) (ds : List OutEntry) (d : OutEntry) → find p ds ≡ Some d → was d.number ≡ true → is_shown d.number (filter was (numbers_of ds)) ≡ true
+one_kept : (was : ℕ → Bool) (p : OutEntry → Bool) (ds : List OutEntry) (d : OutEntry) → find p ds ≡ Some d → was d.number ≡ true
+    → is_shown d.number (filter was (numbers_of ds)) ≡ true
 one_kept was p [] d found is = absurd cc
 one_kept was p (x ∷ ds) d found is = go (p x) found (λ later. one_kept was p ds d later is)
   where
     itself : (n : ℕ) → (n == n) ≡ true
     itself n = grind (arith, nat_tests)
 
-    behind : (t : Bool) → is_shown d.number (filter was (numbers_of ds)) ≡ true → is_shown d.number (cond t (x.number ∷ filter was (numbers_of ds)) (filter was (numbers_of ds))) ≡ true
+    behind : (t : Bool) → is_shown d.number (filter was (numbers_of ds)) ≡ true
+        → is_shown d.number (cond t (x.number ∷ filter was (numbers_of ds)) (filter was (numbers_of ds))) ≡ true
     behind true later = shown_later d.number x.number (filter was (numbers_of ds)) later
     behind false later = later
 
-    go : (t : Bool) → cond t (Some x) (find p ds) ≡ Some d → (find p ds ≡ Some d → is_shown d.number (filter was (numbers_of ds)) ≡ true) → is_shown d.number (filter was (numbers_of (x ∷ ds))) ≡ true
+    go : (t : Bool) → cond t (Some x) (find p ds) ≡ Some d → (find p ds ≡ Some d → is_shown d.number (filter was (numbers_of ds)) ≡ true)
+        → is_shown d.number (filter was (numbers_of (x ∷ ds))) ≡ true
     go true found later =
         let same : x ≡ d = cc in
         let number : x.number ≡ d.number = ap (λ (y : OutEntry). y.number) same in
@@ -248,22 +260,26 @@ one_kept was p (x ∷ ds) d found is = go (p x) found (λ later. one_kept was p 
         ∙ shown_first d.number x.number (filter was (numbers_of ds)) (ap (λ k. k == d.number) number ∙ itself d.number)
     go false found later = behind (was x.number) (later found)
 
-row_tells : (was : ℕ → Bool) (p : OutEntry → Bool) (ds : List OutEntry) (d : OutEntry) → find p ds ≡ Some d → is_shown d.number (filter was (numbers_of ds)) ≡ was d.number
+row_tells : (was : ℕ → Bool) (p : OutEntry → Bool) (ds : List OutEntry) (d : OutEntry) → find p ds ≡ Some d
+    → is_shown d.number (filter was (numbers_of ds)) ≡ was d.number
 row_tells was p ds d found = go (was d.number) refl
   where
     go : (t : Bool) → was d.number ≡ t → is_shown d.number (filter was (numbers_of ds)) ≡ was d.number
     go true is = one_kept was p ds d found is ∙ sym is
     go false is = ap (λ ks. has_row (map number_row ks)) (none_kept was d.number (numbers_of ds) is) ∙ sym is
 
-found_begun : (was : ℕ → Bool) (p : OutEntry → Bool) (ds : List OutEntry) (d : OutEntry) → AllByRecursion (λ d. d.begun ≡ (nat_le 1 d.tries || was d.number)) ds → find p ds ≡ Some d → d.begun ≡ (nat_le 1 d.tries || was d.number)
+found_begun : (was : ℕ → Bool) (p : OutEntry → Bool) (ds : List OutEntry) (d : OutEntry)
+    → AllByRecursion (λ d. d.begun ≡ (nat_le 1 d.tries || was d.number)) ds → find p ds ≡ Some d → d.begun ≡ (nat_le 1 d.tries || was d.number)
 found_begun was p [] d all found = absurd cc
 found_begun was p (x ∷ ds) d all found = go (p x) found (λ later. found_begun was p ds d all.1 later)
   where
-    go : (t : Bool) → cond t (Some x) (find p ds) ≡ Some d → (find p ds ≡ Some d → d.begun ≡ (nat_le 1 d.tries || was d.number)) → d.begun ≡ (nat_le 1 d.tries || was d.number)
+    go : (t : Bool) → cond t (Some x) (find p ds) ≡ Some d → (find p ds ≡ Some d → d.begun ≡ (nat_le 1 d.tries || was d.number))
+        → d.begun ≡ (nat_le 1 d.tries || was d.number)
     go true is later = let same : x ≡ d = cc in subst (λ (y : OutEntry). y.begun ≡ (nat_le 1 y.tries || was y.number)) same all.0
     go false is later = later is
 
-pub finds_resent : (n : ℕ) (old new : Connected) (rows : List Row) → Shown resent_read_text (one_param n) old new rows → (s : State) → Rests old s → (p : OutEntry → Bool) (d : OutEntry) → find p s.outbox ≡ Some d → n ≡ d.number
+pub finds_resent : (n : ℕ) (old new : Connected) (rows : List Row) → Shown resent_read_text (one_param n) old new rows → (s : State) → Rests old s
+    → (p : OutEntry → Bool) (d : OutEntry) → find p s.outbox ≡ Some d → n ≡ d.number
     → d.begun ≡ (nat_le 1 d.tries || has_row rows)
 finds_resent n old new rows h s r p d found same =
     let here = r.stands (shown_open resent_read_text (one_param n) old new rows h) in
@@ -277,7 +293,8 @@ finds_resent n old new rows h s r p d found same =
     ∙ ap (λ t. nat_le 1 d.tries || t) (sym (ap has_row all ∙ ap (λ m. has_row (map number_row (filter (λ k. k == m) kept))) same ∙ row_tells it.begun.was p s.outbox d found))
 
 -- one that was tried is begun
-pub tried_is_begun : {way : Way} (c : Connected) (s : State) → Stands (VersionThree way) c.now s → (p : OutEntry → Bool) (d : OutEntry) → find p s.outbox ≡ Some d → nat_le 1 d.tries ≡ true → true ≡ d.begun
+pub tried_is_begun : {way : Way} (c : Connected) (s : State) → Stands (VersionThree way) c.now s → (p : OutEntry → Bool) (d : OutEntry)
+    → find p s.outbox ≡ Some d → nat_le 1 d.tries ≡ true → true ≡ d.begun
 tried_is_begun c s it p d found is = sym (found_begun it.begun.was p s.outbox d it.begun.begun found ∙ ap (λ t. t || it.begun.was d.number) is)
 
 -- ---- what is told of a document
@@ -295,7 +312,8 @@ module _ (number tries : ℕ) where
 
   -- its row tells
   pub tells_by_row : {E F : Type 0} (old new : Connected) (rows : Vec Row Global) (b : Bool) → nat_le 1 tries ≡ false → b ≡ has_row rows.items
-      → Reads {E = E} (λ s rows. (p : OutEntry → Bool) (d : OutEntry) → find p s.outbox ≡ Some d → number ≡ d.number → d.begun ≡ (nat_le 1 d.tries || has_row rows.items)) old new (Ok rows) → Reads {E = F} tells old new (Ok b)
+      → Reads {E = E} (λ s rows. (p : OutEntry → Bool) (d : OutEntry) → find p s.outbox ≡ Some d → number ≡ d.number
+      → d.begun ≡ (nat_le 1 d.tries || has_row rows.items)) old new (Ok rows) → Reads {E = F} tells old new (Ok b)
   tells_by_row old new rows b none is it =
       read_ok _ tells old new rows b
       (λ s r told p d found one two. is ∙ sym (told p d found one ∙ ap (λ t. t || has_row rows.items) (subst (λ t. nat_le 1 t ≡ false) two none))) it

@@ -53,8 +53,10 @@ set_more p = whole p.tries ∷ whole (attempt_code p.attempt) ∷ whole_or_null 
 abbrev pub set_params : ℕ → Progress → Row
 set_params n p = Int (pos n) ∷ set_more p
 
-pub sets : {way : Way} (n count : ℕ) (p : Progress) (old new : Connected) (s : State) → Stands (VersionThree way) old.now s → Executes out_set_text (set_params n p) old new (Ok count)
-    → Changed old new (store_schema way) outbox_tree (map out_row (change_document s n (come_to p)).outbox) × (count ≡ length (filter (λ (d : OutEntry). d.number == n) s.outbox))
+pub sets : {way : Way} (n count : ℕ) (p : Progress) (old new : Connected) (s : State) → Stands (VersionThree way) old.now s
+    → Executes out_set_text (set_params n p) old new (Ok count)
+    → Changed old new (store_schema way) outbox_tree (map out_row (change_document s n (come_to p)).outbox)
+    × (count ≡ length (filter (λ (d : OutEntry). d.number == n) s.outbox))
 sets {way} n count p old new s it h =
     let done = updates out_set_text (set_params n p) old new (store_schema way) it.schema 3 outbox_table refl number_terms set_project (λ (d : OutEntry). pos d.number) out_row (λ _. refl) (λ (d : OutEntry). out_row (come_to p d)) (λ _. refl)
     (λ d. simp (cast_int, cast_null, cast_optional)) s.outbox it.entries.outbox (entries_rise out_row (λ (d : OutEntry). d.number) (λ _. refl) s.next_out s.outbox it.documents.1) (quiet way outbox_tree) (out_set_is way) (out_set_plain way) count h in
@@ -64,7 +66,9 @@ sets {way} n count p old new s it h =
 
 -- the document of this number is begun by its tries or by its row, as it was
 module _ (p : Progress) (n : ℕ) (rows : List Row) where
-  set_begun : (ds : List OutEntry) → (it : HasResent rows ds) → (nat_le 1 p.tries ≡ false → AllByRecursion (λ d. (d.number == n) ≡ true → d.begun ≡ it.was d.number) ds) → HasResent rows (changed out_number n (come_to p) ds)
+  set_begun : (ds : List OutEntry) → (it : HasResent rows ds)
+      → (nat_le 1 p.tries ≡ false → AllByRecursion (λ d. (d.number == n) ≡ true → d.begun ≡ it.was d.number) ds)
+      → HasResent rows (changed out_number n (come_to p) ds)
   set_begun ds it own = record {
     was = it.was;
     rows_are = it.rows_are ∙ ap (λ ns. map resent_row (filter it.was ns)) (sym (same_numbers (come_to p) (λ _. refl) n ds));
@@ -88,7 +92,8 @@ module _ (p : Progress) (n : ℕ) (rows : List Row) where
       one d true own is = both d.begun (it.was d.number) (nat_le 1 p.tries) (λ none. own none refl)
       one d false own is = is
 
-      each : (ds : List OutEntry) → AllByRecursion (λ d. d.begun ≡ (nat_le 1 d.tries || it.was d.number)) ds → (nat_le 1 p.tries ≡ false → AllByRecursion (λ d. (d.number == n) ≡ true → d.begun ≡ it.was d.number) ds)
+      each : (ds : List OutEntry) → AllByRecursion (λ d. d.begun ≡ (nat_le 1 d.tries || it.was d.number)) ds
+          → (nat_le 1 p.tries ≡ false → AllByRecursion (λ d. (d.number == n) ≡ true → d.begun ≡ it.was d.number) ds)
           → AllByRecursion (λ d. d.begun ≡ (nat_le 1 d.tries || it.was d.number)) (changed out_number n (come_to p) ds)
       each [] all own = tt
       each (d ∷ ds) all own = (one d (d.number == n) (λ none. (own none).0) all.0, each ds all.1 (λ none. (own none).1))
@@ -102,8 +107,11 @@ module _ (p : Progress) (n : ℕ) (rows : List Row) where
 
 -- ---- the state
 
-stands_set : (way : Way) (a b c : Connected) (s : State) (n : ℕ) (p : Progress) → Stands (VersionThree way) a.now s → (nat_le 1 p.tries ≡ false → IsMarked (a.now.trees (resent_tree way)) s.outbox n) → Split out_number n s.outbox → Changed a b (store_schema way) outbox_tree (map out_row (change_document s n (come_to p)).outbox)
-    → Renewed way b c (noted_rows (waits_at n p) (map waiting_row (without_document n (all_waiting s)))) → Stands (VersionThree way) c.now (change_document s n (come_to p))
+stands_set : (way : Way) (a b c : Connected) (s : State) (n : ℕ) (p : Progress) → Stands (VersionThree way) a.now s
+    → (nat_le 1 p.tries ≡ false → IsMarked (a.now.trees (resent_tree way)) s.outbox n) → Split out_number n s.outbox
+    → Changed a b (store_schema way) outbox_tree (map out_row (change_document s n (come_to p)).outbox)
+    → Renewed way b c (noted_rows (waits_at n p) (map waiting_row (without_document n (all_waiting s))))
+    → Stands (VersionThree way) c.now (change_document s n (come_to p))
 unfolding IsWhole
 stands_set way a b c s n p it marked place one two =
     let has = it.entries in
@@ -132,12 +140,16 @@ stands_set way a b c s n p it marked place one two =
 -- ---- the transaction
 
 -- an Ok of the statements: there is such a document
-pub comes_further : {S : Type 0} (g : Ghosts S) (old : Held S) (mid one last : Connected) (n w : ℕ) (p : Progress) → (end_of_numbers ≤ n → w ≡ end_of_numbers) → (n < end_of_numbers → w ≡ n)
-    → (count : ℕ) → count ≢ 0 → (HasCleanDisk last → HasCleanDisk one) → (HasCleanDisk one → HasCleanDisk mid) → (HasCleanDisk mid → KeepsCommit (state g (record old { in_transaction = true })) mid) → (HasCleanDisk one → IsTrue mid.is_open)
+pub comes_further : {S : Type 0} (g : Ghosts S) (old : Held S) (mid one last : Connected) (n w : ℕ) (p : Progress) → (end_of_numbers ≤ n → w ≡ end_of_numbers)
+    → (n < end_of_numbers → w ≡ n)
+    → (count : ℕ) → count ≢ 0 → (HasCleanDisk last → HasCleanDisk one) → (HasCleanDisk one → HasCleanDisk mid)
+    → (HasCleanDisk mid → KeepsCommit (state g (record old { in_transaction = true })) mid) → (HasCleanDisk one → IsTrue mid.is_open)
     → (HasCleanDisk mid → (way : Way) (s : State) → Stands (VersionThree way) (state g old).now s → IsReady way mid.now s w p.tries)
     → (HasCleanDisk one → (way : Way) (s : State) → Stands (VersionThree way) mid.now s
-    → Changed mid one (store_schema way) outbox_tree (map out_row (change_document s w (come_to p)).outbox) × (count ≡ length (filter (λ (d : OutEntry). d.number == w) s.outbox)))
-    → (HasCleanDisk last → (way : Way) (ws : List WaitingRow) → HoldsWaiting way one.now ws → Renewed way one last (noted_rows (waits_at w p) (map waiting_row (without_document w ws))))
+    → Changed mid one (store_schema way) outbox_tree (map out_row (change_document s w (come_to p)).outbox)
+    × (count ≡ length (filter (λ (d : OutEntry). d.number == w) s.outbox)))
+    → (HasCleanDisk last → (way : Way) (ws : List WaitingRow) → HoldsWaiting way one.now ws
+    → Renewed way one last (noted_rows (waits_at w p) (map waiting_row (without_document w ws))))
     → HasCleanDisk last → FollowsEach g old last (set_out_in n p)
 comes_further g old mid one last n w p beyond within count some was was_mid kept open_then readied set renewed clean =
     let opened = (kept (was_mid (was clean))).was_open (open_then (was clean)) in
@@ -182,7 +194,8 @@ queued_so m d = ap (λ b. record d { begun = b; tries = 0; attempt = Idle; due =
 queues_one : (n m : ℕ) (s : State) → change_document s n (come_to (anew m)) ≡ change_document s n (queued_anew m)
 queues_one n m s = ap (λ ds. record s { outbox = ds }) (each s.outbox)
   where
-    each : (ds : List OutEntry) → map (λ (d : OutEntry). cond (d.number == n) (come_to (anew m) d) d) ds ≡ map (λ (d : OutEntry). cond (d.number == n) (queued_anew m d) d) ds
+    each : (ds : List OutEntry)
+        → map (λ (d : OutEntry). cond (d.number == n) (come_to (anew m) d) d) ds ≡ map (λ (d : OutEntry). cond (d.number == n) (queued_anew m d) d) ds
     each [] = refl
     each (d ∷ ds) = ap₂ ◌∷◌ (ap (λ x. cond (d.number == n) x d) (queued_so m d)) (each ds)
 

@@ -28,12 +28,14 @@ are_settled : (ds : List OutEntry) → map number_of (filter (λ _. true) (recei
 are_settled [] = refl
 are_settled (d ∷ ds) = go d.evidence refl (are_settled ds)
   where
-    go : (o : Option Evidence) → d.evidence ≡ o → map number_of (filter (λ _. true) (receipts ds)) ≡ map number_row (map (λ (x : OutEntry). x.number) (filter is_settled ds))
+    go : (o : Option Evidence) → d.evidence ≡ o
+        → map number_of (filter (λ _. true) (receipts ds)) ≡ map number_row (map (λ (x : OutEntry). x.number) (filter is_settled ds))
         → map number_of (filter (λ _. true) (cons_option (option_map (evidence_in d.number) o) (receipts ds))) ≡ map number_row (map (λ (x : OutEntry). x.number) (cond (is_settled (record d { evidence = o })) (d ∷ filter is_settled ds) (filter is_settled ds)))
     go None is rest = rest
     go (Some e) is rest = ap (λ l. number_row d.number ∷ l) rest
 
-pub finds_settled : (old new : Connected) (rows : List Row) → Shown settled_text [] old new rows → (s : State) → Rests old s → rows ≡ map number_row (settled_numbers s)
+pub finds_settled : (old new : Connected) (rows : List Row) → Shown settled_text [] old new rows → (s : State) → Rests old s
+    → rows ≡ map number_row (settled_numbers s)
 finds_settled old new rows h s r =
     let here = r.stands (shown_open settled_text [] old new rows h) in
     let way = here.way in

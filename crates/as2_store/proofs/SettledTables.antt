@@ -75,8 +75,10 @@ passed_detail detail = fits_i64 (detail_code detail) (small detail)
     small TriesUsed = omega arith
     small Overdue = omega arith
 
-pub settles : {way : Way} (n count : ℕ) (detail : Detail) (e : Evidence) (old new : Connected) (s : State) → Stands (VersionThree way) old.now s → Executes out_settle_text (settle_params n detail) old new (Ok count)
-    → Changed old new (store_schema way) outbox_tree (map out_row (change_document s n (settled_as detail e)).outbox) × (count ≡ length (filter (λ (d : OutEntry). d.number == n) s.outbox))
+pub settles : {way : Way} (n count : ℕ) (detail : Detail) (e : Evidence) (old new : Connected) (s : State) → Stands (VersionThree way) old.now s
+    → Executes out_settle_text (settle_params n detail) old new (Ok count)
+    → Changed old new (store_schema way) outbox_tree (map out_row (change_document s n (settled_as detail e)).outbox)
+    × (count ≡ length (filter (λ (d : OutEntry). d.number == n) s.outbox))
 settles {way} n count detail e old new s it h =
     let done = updates out_settle_text (settle_params n detail) old new (store_schema way) it.schema 3 outbox_table refl number_terms settle_project (λ (d : OutEntry). pos d.number) out_row (λ _. refl) (λ (d : OutEntry). out_row (settled_as detail e d)) (λ _. refl)
     (λ d. simp (cast_int, cast_null)) s.outbox it.entries.outbox (entries_rise out_row (λ (d : OutEntry). d.number) (λ _. refl) s.next_out s.outbox it.documents.1) (quiet way outbox_tree) (out_settle_is way) (out_settle_plain way) count h in
@@ -91,12 +93,14 @@ receipt_params n e = evidence_shown n e
 one_receipt : (n : ℕ) (e : Evidence) → IsOneRow evidence_table (receipt_params n e) evidence_put_terms 5 (evidence_row n e)
 one_receipt n e = record { source = evidence_row n e; made = refl; cast_is = simp (cast_int, cast_null) }
 
-pub puts_evidence : (way : Way) (old new : Connected) (n : ℕ) (e : Evidence) (count : ℕ) → old.now.schema ≡ (store_schema way) → Executes evidence_put_text (receipt_params n e) old new (Ok count)
+pub puts_evidence : (way : Way) (old new : Connected) (n : ℕ) (e : Evidence) (count : ℕ) → old.now.schema ≡ (store_schema way)
+    → Executes evidence_put_text (receipt_params n e) old new (Ok count)
     → Changed old new (store_schema way) evidence_tree (put_row (evidence_row n e) (old.now.trees evidence_tree))
 puts_evidence way old new n e count has h =
     inserts_given evidence_put_text (receipt_params n e) old new (store_schema way) has 5 evidence_table refl refl evidence_put_terms 5 (evidence_row n e) (one_receipt n e) refl (evidence_put_is way) (evidence_put_plain way) count h
 
-pub fresh_evidence : (way : Way) (old new : Connected) (n : ℕ) (e : Evidence) (count : ℕ) → old.now.schema ≡ (store_schema way) → Executes evidence_put_text (receipt_params n e) old new (Ok count)
+pub fresh_evidence : (way : Way) (old new : Connected) (n : ℕ) (e : Evidence) (count : ℕ) → old.now.schema ≡ (store_schema way)
+    → Executes evidence_put_text (receipt_params n e) old new (Ok count)
     → are_fresh (old.now.trees evidence_tree) (evidence_row n e ∷ []) ≡ true
 fresh_evidence way old new n e count has h =
     inserts_fresh evidence_put_text (receipt_params n e) old new (store_schema way) has 5 evidence_table refl refl evidence_put_terms 5 (evidence_row n e) (one_receipt n e) refl (evidence_put_is way) (evidence_put_plain way) count h
@@ -112,12 +116,14 @@ pub found_number : (n : ℕ) (ds : List OutEntry) (d : OutEntry) → find (λ (x
 found_number n [] d found = absurd cc
 found_number n (x ∷ ds) d found = go (x.number == n) refl found (found_number n ds d)
   where
-    go : (t : Bool) → (x.number == n) ≡ t → cond t (Some x) (find (λ (y : OutEntry). y.number == n) ds) ≡ Some d → (find (λ (y : OutEntry). y.number == n) ds ≡ Some d → d.number ≡ n) → d.number ≡ n
+    go : (t : Bool) → (x.number == n) ≡ t → cond t (Some x) (find (λ (y : OutEntry). y.number == n) ds) ≡ Some d
+        → (find (λ (y : OutEntry). y.number == n) ds ≡ Some d → d.number ≡ n) → d.number ≡ n
     go true is here later = let same : x ≡ d = cc in let it : x.number ≡ n = grind (arith, nat_tests) in ap (λ (y : OutEntry). y.number) (sym same) ∙ it
     go false is here later = later here
 
 -- the row goes before those of greater numbers
-put_first : (n : ℕ) (e : Evidence) (ds : List OutEntry) → AllByRecursion (λ (d : OutEntry). n < d.number) ds → put_row (evidence_row n e) (evidence_rows ds) ≡ evidence_row n e ∷ evidence_rows ds
+put_first : (n : ℕ) (e : Evidence) (ds : List OutEntry) → AllByRecursion (λ (d : OutEntry). n < d.number) ds
+    → put_row (evidence_row n e) (evidence_rows ds) ≡ evidence_row n e ∷ evidence_rows ds
 put_first n e [] all = refl
 put_first n e (d ∷ ds) all = go d.evidence (put_first n e ds all.1)
   where
@@ -128,7 +134,8 @@ put_first n e (d ∷ ds) all = go d.evidence (put_first n e ds all.1)
         ap (λ o. match_ordering o (evidence_row d.number r ∷ put_row (evidence_row n e) (evidence_rows ds)) (evidence_row n e ∷ evidence_rows ds) (evidence_row n e ∷ evidence_row d.number r ∷ evidence_rows ds)) (falls d.number n all.0)
 
 -- and behind those of lower ones, as that of the document which had none
-put_among : (n : ℕ) (detail : Detail) (e : Evidence) (ds : List OutEntry) → IsAscending (λ (x y : OutEntry). x.number < y.number) ds → (d : OutEntry) → find (λ (x : OutEntry). x.number == n) ds ≡ Some d → d.evidence ≡ None
+put_among : (n : ℕ) (detail : Detail) (e : Evidence) (ds : List OutEntry) → IsAscending (λ (x y : OutEntry). x.number < y.number) ds → (d : OutEntry)
+    → find (λ (x : OutEntry). x.number == n) ds ≡ Some d → d.evidence ≡ None
     → put_row (evidence_row n e) (evidence_rows ds) ≡ evidence_rows (ended n detail e ds)
 put_among n detail e [] up d found none = absurd cc
 put_among n detail e (x ∷ ds) up d found none = go (x.number == n) refl found (λ later. put_among n detail e ds up.1 d later none)
@@ -154,7 +161,8 @@ put_among n detail e (x ∷ ds) up d found none = go (x.number == n) refl found 
         let more = found_all (λ (y : OutEntry). y.number) (λ k. x.number < k) (λ (y : OutEntry). y.number == n) ds d (from ds up.0) it in
         behind x.evidence (subst (λ k. x.number < k) (found_number n ds d it) more) (later it)
       where
-        from : (ys : List OutEntry) → AllByRecursion (λ (y : OutEntry). x.number < y.number) ys → AllByRecursion (λ k. x.number < k) (map (λ (y : OutEntry). y.number) ys)
+        from : (ys : List OutEntry) → AllByRecursion (λ (y : OutEntry). x.number < y.number) ys
+            → AllByRecursion (λ k. x.number < k) (map (λ (y : OutEntry). y.number) ys)
         from [] all = tt
         from (y ∷ ys) all = (all.0, from ys all.1)
 
@@ -176,7 +184,8 @@ rests_idle MicDiffers is = refl
 rests_idle TriesUsed is = absurd cc
 rests_idle Overdue is = absurd cc
 
-pub waits_left : {layout : Layout} (t : Database) (s : State) (n : ℕ) (detail : Detail) (e : Evidence) → is_by_receipt detail ≡ true → Stands layout t s → Split out_number n s.outbox
+pub waits_left : {layout : Layout} (t : Database) (s : State) (n : ℕ) (detail : Detail) (e : Evidence) → is_by_receipt detail ≡ true → Stands layout t s
+    → Split out_number n s.outbox
     → map waiting_row (without_document n (all_waiting s)) ≡ map waiting_row (all_waiting (change_document s n (settled_as detail e)))
 waits_left t s n detail e by stood it =
     ap (λ o. noted_rows (option_map (λ kind. record { kind = kind; number = it.one.number; due = None }) o) (map waiting_row (without_document n (all_waiting s)))) (sym (rests_idle detail by))
@@ -191,7 +200,8 @@ given a s n d it found =
     omega (arith, below, found_number n s.outbox d found, it.documents.0.most)
 
 -- what waits is untouched by the first two statements
-pub still_holds : (way : Way) (a b c : Connected) (s : State) → Stands (VersionThree way) a.now s → (documents receipts : List Row) → Changed a b (store_schema way) outbox_tree documents → Changed b c (store_schema way) evidence_tree receipts → HoldsWaiting way c.now (all_waiting s)
+pub still_holds : (way : Way) (a b c : Connected) (s : State) → Stands (VersionThree way) a.now s → (documents receipts : List Row)
+    → Changed a b (store_schema way) outbox_tree documents → Changed b c (store_schema way) evidence_tree receipts → HoldsWaiting way c.now (all_waiting s)
 still_holds way a b c s it documents receipts one two = record {
   schema = two.schema_is;
   rows = two.others.1.1.1.1.1.1.0 (λ e. omega arith) ∙ one.others.1.1.1.1.1.1.0 (λ e. omega arith) ∙ it.entries.waits;
@@ -203,8 +213,10 @@ no_evidence_yet None is = refl
 no_evidence_yet (Some e) is = absurd cc
 
 -- the tables stand for the state with the document settled, where no receipt had settled it
-pub stands_settled : (way : Way) (a b c d : Connected) (s : State) (n : ℕ) (detail : Detail) (e : Evidence) (x : OutEntry) → is_by_receipt detail ≡ true → Stands (VersionThree way) a.now s → document s n ≡ Some x → is_settled x ≡ false → Split out_number n s.outbox
-    → Changed a b (store_schema way) outbox_tree (map out_row (change_document s n (settled_as detail e)).outbox) → Changed b c (store_schema way) evidence_tree (put_row (evidence_row n e) (b.now.trees evidence_tree))
+pub stands_settled : (way : Way) (a b c d : Connected) (s : State) (n : ℕ) (detail : Detail) (e : Evidence) (x : OutEntry) → is_by_receipt detail ≡ true
+    → Stands (VersionThree way) a.now s → document s n ≡ Some x → is_settled x ≡ false → Split out_number n s.outbox
+    → Changed a b (store_schema way) outbox_tree (map out_row (change_document s n (settled_as detail e)).outbox)
+    → Changed b c (store_schema way) evidence_tree (put_row (evidence_row n e) (b.now.trees evidence_tree))
     → Renewed way c d (map waiting_row (without_document n (all_waiting s))) → Stands (VersionThree way) d.now (change_document s n (settled_as detail e))
 unfolding IsWhole
 stands_settled way a b c d s n detail e x by it found fresh_unsettled place one two three =
@@ -236,15 +248,20 @@ stands_settled way a b c d s n detail e x by it found fresh_unsettled place one 
 
 -- ---- the transaction
 
-settled_next : (s : State) (n : ℕ) (detail : Detail) (e : Evidence) (d : OutEntry) → document s n ≡ Some d → is_settled d ≡ false → is_by_receipt detail ≡ true → settled_in n detail e s ≡ Some (change_document s n (settled_as detail e))
+settled_next : (s : State) (n : ℕ) (detail : Detail) (e : Evidence) (d : OutEntry) → document s n ≡ Some d → is_settled d ≡ false
+    → is_by_receipt detail ≡ true → settled_in n detail e s ≡ Some (change_document s n (settled_as detail e))
 settled_next s n detail e d found not_yet by = rw (found, not_yet, by) refl
 
 -- an Ok of the three statements: there is such a document, and no receipt has settled it
-pub ends : {S : Type 0} (g : Ghosts S) (old : Held S) (one two last : Connected) (n w : ℕ) (detail : Detail) (e : Evidence) → is_by_receipt detail ≡ true → (end_of_numbers ≤ n → w ≡ end_of_numbers) → (n < end_of_numbers → w ≡ n)
-    → (count : ℕ) → count ≢ 0 → (HasCleanDisk two → HasCleanDisk one) → (HasCleanDisk last → HasCleanDisk two) → (HasCleanDisk one → IsTrue (state g old).is_open)
+pub ends : {S : Type 0} (g : Ghosts S) (old : Held S) (one two last : Connected) (n w : ℕ) (detail : Detail) (e : Evidence) → is_by_receipt detail ≡ true
+    → (end_of_numbers ≤ n → w ≡ end_of_numbers) → (n < end_of_numbers → w ≡ n)
+    → (count : ℕ) → count ≢ 0 → (HasCleanDisk two → HasCleanDisk one) → (HasCleanDisk last → HasCleanDisk two)
+    → (HasCleanDisk one → IsTrue (state g old).is_open)
     → (HasCleanDisk one → (way : Way) (s : State) → Stands (VersionThree way) (state g old).now s → (e : Evidence)
     → Changed (state g (record old { in_transaction = true })) one (store_schema way) outbox_tree (map out_row (change_document s w (settled_as detail e)).outbox) × (count ≡ length (filter (λ (d : OutEntry). d.number == w) s.outbox)))
-    → (HasCleanDisk two → (way : Way) → one.now.schema ≡ store_schema way → Changed one two (store_schema way) evidence_tree (put_row (evidence_row w e) (one.now.trees evidence_tree)) × (are_fresh (one.now.trees evidence_tree) (evidence_row w e ∷ []) ≡ true))
+    → (HasCleanDisk two → (way : Way) → one.now.schema ≡ store_schema way
+    → Changed one two (store_schema way) evidence_tree (put_row (evidence_row w e) (one.now.trees evidence_tree))
+    × (are_fresh (one.now.trees evidence_tree) (evidence_row w e ∷ []) ≡ true))
     → (HasCleanDisk last → (way : Way) (ws : List WaitingRow) → HoldsWaiting way two.now ws → Renewed way two last (map waiting_row (without_document w ws)))
     → HasCleanDisk last → FollowsEach g old last (settled_in n detail e)
 ends g old one two last n w detail e by beyond within count some was_one was_two opened set put taken clean =

@@ -19,7 +19,8 @@ use Rattle.sql_tables.proofs.Sorting.{one_more_row}
 
 -- ---- rows whose numbers are chosen
 
-pub puts_chosen : (rows : List Row) (cs shown : List Row) → HasRows rows shown → HasRows (put_all rows (numbered Chosen rows (map (λ c. Null ∷ c) cs))) (shown ++ cs)
+pub puts_chosen : (rows : List Row) (cs shown : List Row) → HasRows rows shown
+    → HasRows (put_all rows (numbered Chosen rows (map (λ c. Null ∷ c) cs))) (shown ++ cs)
 puts_chosen rows [] shown has = subst (HasRows rows) (sym (append-nil shown)) has
 puts_chosen rows (c ∷ cs) shown has =
     let next = put_row (Int (next_rowid rows) ∷ c) rows in
@@ -32,12 +33,14 @@ pub parted : {X : Type 0} (p : X → Bool) (xs : List X) → IsPermutation (filt
 parted p [] = IsPermutation-refl []
 parted p (x ∷ xs) = go (p x) (parted p xs)
   where
-    go : (b : Bool) → IsPermutation (filter p xs ++ filter (λ x. not (p x)) xs) xs → IsPermutation (cond b (x ∷ filter p xs) (filter p xs) ++ cond (not b) (x ∷ filter (λ x. not (p x)) xs) (filter (λ x. not (p x)) xs)) (x ∷ xs)
+    go : (b : Bool) → IsPermutation (filter p xs ++ filter (λ x. not (p x)) xs) xs
+        → IsPermutation (cond b (x ∷ filter p xs) (filter p xs) ++ cond (not b) (x ∷ filter (λ x. not (p x)) xs) (filter (λ x. not (p x)) xs)) (x ∷ xs)
     go true more = IsPermutation-cons x _ _ more
     go false more = IsPermutation-trans _ _ _ (IsPermutation-middle (filter p xs) x (filter (λ x. not (p x)) xs)) (IsPermutation-cons x _ _ more)
 
 -- what is shared out stays all, where some of what is left is moved
-pub shared : {X : Type 0} (p : X → Bool) (moved left all : List X) → IsPermutation (moved ++ left) all → IsPermutation ((moved ++ filter p left) ++ filter (λ x. not (p x)) left) all
+pub shared : {X : Type 0} (p : X → Bool) (moved left all : List X) → IsPermutation (moved ++ left) all
+    → IsPermutation ((moved ++ filter p left) ++ filter (λ x. not (p x)) left) all
 shared p moved left all are =
     IsPermutation-trans _ _ _ (subst (λ l. IsPermutation l (moved ++ left)) (sym (append_assoc moved (filter p left) (filter (λ x. not (p x)) left))) (IsPermutation-append_right moved _ _ (parted p left))) are
 
@@ -45,7 +48,8 @@ module _ {X : Type 0} (row : X → Row) where
   abbrev pub under : ℤ × X → Row
   under y = Int y.0 ∷ row y.1
 
-  entries_under : (rs : List (ℤ × Row)) (xs : List X) → map (λ r. r.1) rs ≡ map row xs → (ys : List (ℤ × X)) × (map numbered_row rs ≡ map under ys) × (xs ≡ map (λ y. y.1) ys)
+  entries_under : (rs : List (ℤ × Row)) (xs : List X) → map (λ r. r.1) rs ≡ map row xs → (ys : List (ℤ × X)) × (map numbered_row rs ≡ map under ys)
+      × (xs ≡ map (λ y. y.1) ys)
   entries_under [] [] e = ([], refl, refl)
   entries_under [] (x ∷ xs) e = absurd cc
   entries_under (r ∷ rs) [] e = absurd cc
@@ -72,7 +76,8 @@ module _ {X : Type 0} (row : X → Row) where
     hits y = p y.1
 
     -- the rows of those that are left, once the picked ones were taken out
-    pub keeps_rest : (rows : List Row) (xs : List X) → HasRows rows (map row xs) → (it : AreUnder rows xs) → HasRows (map under (filter (λ y. not (passes terms params (under y))) it.entries)) (map row (filter (λ x. not (p x)) xs))
+    pub keeps_rest : (rows : List Row) (xs : List X) → HasRows rows (map row xs) → (it : AreUnder rows xs)
+        → HasRows (map under (filter (λ y. not (passes terms params (under y))) it.entries)) (map row (filter (λ x. not (p x)) xs))
     keeps_rest rows xs has it =
         let rest = filter (λ y. not (hits y)) it.entries in
         let picks : filter (λ y. not (passes terms params (under y))) it.entries ≡ rest = filter_agree (λ (y : ℤ × X). not (passes terms params (under y))) (λ y. not (hits y)) (λ y. ap not (tests y.0 y.1)) it.entries in
@@ -90,7 +95,8 @@ module _ {X : Type 0} (row : X → Row) where
     -- a table has the rows of the picked ones too, once what a query shows of them was put in
     pub puts_picked : (table : Table) (tree : ℕ) (project : List Term) (db : Trees) (sources : List Row) (xs : List X) → HasRows (db tree) (map row xs)
         → ((n : ℤ) (x : X) → shown_of project params (Int n ∷ row x) ≡ Null ∷ row x) → ((x : X) → cast_row table (Null ∷ row x) ≡ Null ∷ row x)
-        → IsPermutation (map (shown_of project params) (chosen terms params (db tree))) sources → (rows : List Row) (there : List X) → HasRows rows (map row there)
+        → IsPermutation (map (shown_of project params) (chosen terms params (db tree))) sources → (rows : List Row) (there : List X)
+        → HasRows rows (map row there)
         → HasRows (put_all rows (numbered Chosen rows (map (λ s. cast_row table (drop 0 s)) sources))) (map row (there ++ filter p xs))
     puts_picked table tree project db sources xs has shows casts same rows there held =
         let it = are_under (db tree) xs has in

@@ -235,7 +235,8 @@ receipt_same a b same =
     λ i. record { number = number i; evidence = record { moment = moment i; content_type = content_type i; body = body i } }
 
 -- the same rows are of the same entries
-same_entries : {X : Type 0} (row : X → Row) (P Q : X → Type 0) → ((x y : X) → P x → Q y → row x ≡ row y → x ≡ y) → (xs ys : List X) → map row xs ≡ map row ys → AllByRecursion P xs → AllByRecursion Q ys → xs ≡ ys
+same_entries : {X : Type 0} (row : X → Row) (P Q : X → Type 0) → ((x y : X) → P x → Q y → row x ≡ row y → x ≡ y) → (xs ys : List X) → map row xs ≡ map row ys
+    → AllByRecursion P xs → AllByRecursion Q ys → xs ≡ ys
 same_entries row P Q one [] [] same p q = refl
 same_entries row P Q one [] (y ∷ ys) same p q = absurd cc
 same_entries row P Q one (x ∷ xs) [] same p q = absurd cc
@@ -246,7 +247,8 @@ same_entries row P Q one (x ∷ xs) (y ∷ ys) same p q =
 
 -- ---- contents
 
-takes : (n m : ℕ) (c d : List ℕ) (rows : List Row) → rows ≡ map piece_shown (pieces n c) → rows ≡ map piece_shown (pieces m d) → (i : ℕ) → i ≤ length rows → take (i * piece_size) c ≡ take (i * piece_size) d
+takes : (n m : ℕ) (c d : List ℕ) (rows : List Row) → rows ≡ map piece_shown (pieces n c) → rows ≡ map piece_shown (pieces m d) → (i : ℕ) → i ≤ length rows
+    → take (i * piece_size) c ≡ take (i * piece_size) d
 takes n m c d rows one other zero within = refl
 takes n m c d rows one other (suc i) within =
     let less : i ≤ length rows = omega (arith, within) in
@@ -270,7 +272,8 @@ module _ {X : Type 0} (number : X → ℕ) (content : X → List ℕ) where
   abbrev IsFound : List X → X → Type 0
   IsFound xs x = find (λ z. number z == number x) xs ≡ Some x
 
-  further : (x : X) (xs : List X) (zs : List X) → AllByRecursion (λ m. (number x == m) ≡ false) (map number zs) → AllByRecursion (IsFound xs) zs → AllByRecursion (IsFound (x ∷ xs)) zs
+  further : (x : X) (xs : List X) (zs : List X) → AllByRecursion (λ m. (number x == m) ≡ false) (map number zs) → AllByRecursion (IsFound xs) zs
+      → AllByRecursion (IsFound (x ∷ xs)) zs
   further x xs [] other all = tt
   further x xs (z ∷ zs) other all = (ap (λ t. cond t (Some x) (find (λ y. number y == number z) xs)) other.0 ∙ all.0, further x xs zs other.1 all.1)
 
@@ -283,8 +286,10 @@ module _ {X : Type 0} (number : X → ℕ) (content : X → List ℕ) where
       itself : (n : ℕ) → (n == n) ≡ true
       itself n = grind (arith, nat_tests)
 
-  same_content : (rows : List Row) (xs ys : List X) → HasRows rows (map piece_shown (all_pieces number content xs)) → HasRows rows (map piece_shown (all_pieces number content ys))
-      → IsDistinct (λ a b. a == b) (map number xs) → IsDistinct (λ a b. a == b) (map number ys) → (x y : X) → IsFound xs x → IsFound ys y → number x ≡ number y → content x ≡ content y
+  same_content : (rows : List Row) (xs ys : List X) → HasRows rows (map piece_shown (all_pieces number content xs))
+      → HasRows rows (map piece_shown (all_pieces number content ys))
+      → IsDistinct (λ a b. a == b) (map number xs) → IsDistinct (λ a b. a == b) (map number ys) → (x y : X) → IsFound xs x → IsFound ys y
+      → number x ≡ number y → content x ≡ content y
   same_content rows xs ys one other first second x y here there same =
       let is_own : Row → Bool = λ r. piece_number r == number x in
       let both = IsPermutation-filter is_own _ _ (same_rows rows _ _ one other) in
@@ -309,8 +314,10 @@ of_first : (n : ℕ) (o : Option Evidence) → first_evidence (cons_option (opti
 of_first n None = refl
 of_first n (Some e) = refl
 
-same_evidence : (ds es : List OutEntry) → evidence_rows ds ≡ evidence_rows es → IsDistinct (λ a b. a == b) (map (λ (d : OutEntry). d.number) ds) → IsDistinct (λ a b. a == b) (map (λ (d : OutEntry). d.number) es)
-    → (d e : OutEntry) → IsFound (λ (x : OutEntry). x.number) (λ x. x.content) ds d → IsFound (λ (x : OutEntry). x.number) (λ x. x.content) es e → d.number ≡ e.number → d.evidence ≡ e.evidence
+same_evidence : (ds es : List OutEntry) → evidence_rows ds ≡ evidence_rows es → IsDistinct (λ a b. a == b) (map (λ (d : OutEntry). d.number) ds)
+    → IsDistinct (λ a b. a == b) (map (λ (d : OutEntry). d.number) es)
+    → (d e : OutEntry) → IsFound (λ (x : OutEntry). x.number) (λ x. x.content) ds d → IsFound (λ (x : OutEntry). x.number) (λ x. x.content) es e
+    → d.number ≡ e.number → d.evidence ≡ e.evidence
 same_evidence ds es rows first second d e here there same =
     let all : receipts ds ≡ receipts es = same_entries row_of (λ _. ⊤) (λ _. ⊤) (λ a b _ _ rows. receipt_same a b rows) (receipts ds) (receipts es) (sym (rows_of ds) ∙ rows ∙ rows_of es) (all_of (λ _. ⊤) (λ _. tt) _) (all_of (λ _. ⊤) (λ _. tt) _) in
     sym (of_first d.number d.evidence)
@@ -345,7 +352,8 @@ unfolding IsDistinct
 told_alike was now [] distinct same = tt
 told_alike was now (n ∷ ns) distinct same = go (was n) (now n) refl refl same (told_alike was now ns distinct.1)
   where
-    go : (t u : Bool) → was n ≡ t → now n ≡ u → cond t (n ∷ filter was ns) (filter was ns) ≡ cond u (n ∷ filter now ns) (filter now ns) → (filter was ns ≡ filter now ns → AllByRecursion (λ n. was n ≡ now n) ns) → (was n ≡ now n) × AllByRecursion (λ n. was n ≡ now n) ns
+    go : (t u : Bool) → was n ≡ t → now n ≡ u → cond t (n ∷ filter was ns) (filter was ns) ≡ cond u (n ∷ filter now ns) (filter now ns)
+        → (filter was ns ≡ filter now ns → AllByRecursion (λ n. was n ≡ now n) ns) → (was n ≡ now n) × AllByRecursion (λ n. was n ≡ now n) ns
     go true true is too same later = (is ∙ sym too, later (let rest : filter was ns ≡ filter now ns = cc in rest))
     go true false is too same later = absurd (nowhere now n ns (filter was ns) distinct.0 same)
     go false true is too same later = absurd (nowhere was n ns (filter now ns) distinct.0 (sym same))
@@ -357,7 +365,8 @@ record Told (ds es : List OutEntry) : Type 0 where
   pub first : AllByRecursion (λ d. d.begun ≡ by d.tries d.number) ds
   pub second : AllByRecursion (λ d. d.begun ≡ by d.tries d.number) es
 
-told_by_rows : (rows : List Row) (ds es : List OutEntry) → numbers_of ds ≡ numbers_of es → IsDistinct (λ a b. a == b) (numbers_of ds) → HasResent rows ds → HasResent rows es → Told ds es
+told_by_rows : (rows : List Row) (ds es : List OutEntry) → numbers_of ds ≡ numbers_of es → IsDistinct (λ a b. a == b) (numbers_of ds) → HasResent rows ds
+    → HasResent rows es → Told ds es
 told_by_rows rows ds es numbers distinct a b =
     let kept : filter a.was (numbers_of ds) ≡ filter b.was (numbers_of ds) =
     sym (resent_numbers (filter a.was (numbers_of ds))) ∙ ap (map piece_number) (sym a.rows_are ∙ b.rows_are) ∙ resent_numbers (filter b.was (numbers_of es)) ∙ ap (filter b.was) (sym numbers) in
@@ -367,11 +376,13 @@ told_by_rows rows ds es numbers distinct a b =
       second = b.begun;
     }
   where
-    both : (ds : List OutEntry) → AllByRecursion (λ d. d.begun ≡ (nat_le 1 d.tries || a.was d.number)) ds → AllByRecursion (λ d. a.was d.number ≡ b.was d.number) ds → AllByRecursion (λ d. d.begun ≡ (nat_le 1 d.tries || b.was d.number)) ds
+    both : (ds : List OutEntry) → AllByRecursion (λ d. d.begun ≡ (nat_le 1 d.tries || a.was d.number)) ds
+        → AllByRecursion (λ d. a.was d.number ≡ b.was d.number) ds → AllByRecursion (λ d. d.begun ≡ (nat_le 1 d.tries || b.was d.number)) ds
     both [] is same = tt
     both (d ∷ ds) is same = (is.0 ∙ ap (λ t. nat_le 1 d.tries || t) same.0, both ds is.1 same.1)
 
-told : (layout : Layout) (d : Database) (ds es : List OutEntry) → numbers_of ds ≡ numbers_of es → IsDistinct (λ a b. a == b) (numbers_of ds) → AreBegun layout d ds → AreBegun layout d es → Told ds es
+told : (layout : Layout) (d : Database) (ds es : List OutEntry) → numbers_of ds ≡ numbers_of es → IsDistinct (λ a b. a == b) (numbers_of ds)
+    → AreBegun layout d ds → AreBegun layout d es → Told ds es
 told VersionOne d ds es numbers distinct a b = record { by = λ tries n. nat_le 1 tries; first = a; second = b }
 told (VersionTwo way) d ds es numbers distinct a b = record { by = λ tries n. nat_le 1 tries; first = a; second = b }
 told (VersionThree way) d ds es numbers distinct a b = told_by_rows (d.trees (resent_tree way)) ds es numbers distinct a b

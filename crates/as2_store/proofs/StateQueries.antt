@@ -60,17 +60,20 @@ covered (Some S) d = (covers d.detail).3
 covered (Some W) d = (covers d.detail).4
 covered (Some E) d = (covers d.detail).5
 
-pub kept_all : (wanted : Option StateOf) (ds : List OutEntry) → filter (is_in wanted) (filter (λ (d : OutEntry). is_between wanted d.detail) ds) ≡ filter (is_in wanted) ds
+pub kept_all : (wanted : Option StateOf) (ds : List OutEntry)
+    → filter (is_in wanted) (filter (λ (d : OutEntry). is_between wanted d.detail) ds) ≡ filter (is_in wanted) ds
 kept_all wanted [] = refl
 kept_all wanted (d ∷ ds) = go (is_between wanted d.detail) (is_in wanted d) refl (covered wanted d) (kept_all wanted ds)
   where
-    go : (between of : Bool) → is_in wanted d ≡ of → (between && of) ≡ of → filter (is_in wanted) (filter (λ (x : OutEntry). is_between wanted x.detail) ds) ≡ filter (is_in wanted) ds
+    go : (between of : Bool) → is_in wanted d ≡ of → (between && of) ≡ of
+        → filter (is_in wanted) (filter (λ (x : OutEntry). is_between wanted x.detail) ds) ≡ filter (is_in wanted) ds
         → filter (is_in wanted) (cond between (d ∷ filter (λ (x : OutEntry). is_between wanted x.detail) ds) (filter (λ (x : OutEntry). is_between wanted x.detail) ds)) ≡ filter (is_in wanted) (d ∷ ds)
     go true of own is rest = ap (λ l. cond (is_in wanted d) (d ∷ l) l) rest
     go false true own is rest = absurd cc
     go false false own is rest = rest ∙ sym (ap (λ t. cond t (d ∷ filter (is_in wanted) ds) (filter (is_in wanted) ds)) own)
 
-pub lists_between : (wanted : Option StateOf) (old new : Connected) (rows : List Row) → Shown out_by_details_text (state_codes wanted) old new rows → (s : State) → Rests old s
+pub lists_between : (wanted : Option StateOf) (old new : Connected) (rows : List Row) → Shown out_by_details_text (state_codes wanted) old new rows
+    → (s : State) → Rests old s
     → rows ≡ map out_shown (filter (λ (d : OutEntry). is_between wanted d.detail) s.outbox)
 lists_between wanted old new rows h s r =
     let here = r.stands (shown_open out_by_details_text (state_codes wanted) old new rows h) in
@@ -82,7 +85,8 @@ lists_between wanted old new rows h s r =
     (entries_rise out_row (λ (d : OutEntry). d.number) (λ _. refl) s.next_out s.outbox it.documents.1)
 
 -- one row more is listed where it is of the state
-pub one_more_document : (wanted : Option StateOf) (ds : List OutEntry) (d : OutEntry) (done : List OutRow) (row : OutRow) → done ≡ map out_summary (filter (is_in wanted) ds) → row ≡ out_summary d
+pub one_more_document : (wanted : Option StateOf) (ds : List OutEntry) (d : OutEntry) (done : List OutRow) (row : OutRow)
+    → done ≡ map out_summary (filter (is_in wanted) ds) → row ≡ out_summary d
     → cond (detail_in wanted row.detail) (done ++ row ∷ []) done ≡ map out_summary (filter (is_in wanted) (ds ++ d ∷ []))
 one_more_document wanted ds d done row so_far is =
     ap₂ (λ (l : List OutRow) (x : OutRow). cond (detail_in wanted x.detail) (l ++ x ∷ []) l) so_far is
@@ -93,6 +97,7 @@ one_more_document wanted ds d done row so_far is =
     by true l = refl
     by false l = sym (append-nil l)
 
-    joined : (wanted : Option StateOf) → cond (detail_in wanted d.detail) (map out_summary (filter (is_in wanted) ds) ++ out_summary d ∷ []) (map out_summary (filter (is_in wanted) ds)) ≡ (map out_summary (filter (is_in wanted) ds) ++ map out_summary (filter (is_in wanted) (d ∷ [])))
+    joined : (wanted : Option StateOf)
+        → cond (detail_in wanted d.detail) (map out_summary (filter (is_in wanted) ds) ++ out_summary d ∷ []) (map out_summary (filter (is_in wanted) ds)) ≡ (map out_summary (filter (is_in wanted) ds) ++ map out_summary (filter (is_in wanted) (d ∷ [])))
     joined None = by true (map out_summary (filter (is_in None) ds))
     joined (Some state) = by (detail_in (Some state) d.detail) (map out_summary (filter (is_in (Some state)) ds))

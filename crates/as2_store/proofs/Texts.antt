@@ -144,7 +144,8 @@ in_put_plain Migrated = (refl, refl)
 abbrev pub piece_put_terms : List Term
 piece_put_terms = lit Null ∷ col 0 0 ∷ col 0 1 ∷ col 0 2 ∷ []
 
-pub in_piece_put_is : (way : Way) → command_of (understood (store_schema way) (piece_put_text Inbox)) ≡ Insert (inbox_piece_place way) (Values piece_put_terms 4)
+pub in_piece_put_is : (way : Way)
+    → command_of (understood (store_schema way) (piece_put_text Inbox)) ≡ Insert (inbox_piece_place way) (Values piece_put_terms 4)
 unfolding understood everything
 in_piece_put_is Fresh = refl
 in_piece_put_is Migrated = refl
@@ -176,7 +177,8 @@ in_names =
 abbrev pub key_terms : List Term
 key_terms = op2 (Compare Eq Binary) (col 1 2) (col 0 0) ∷ op2 (Compare Eq Binary) (col 1 3) (col 0 1) ∷ op2 (Compare Eq Binary) (col 1 4) (col 0 2) ∷ []
 
-pub in_by_key_is : (way : Way) → command_of (understood (store_schema way) in_by_key_text) ≡ Select (record { lets = []; body = over_table (inbox_tree way) key_terms in_column_terms by_number (lit (Int (negsuc 0))) }) in_names
+pub in_by_key_is : (way : Way)
+    → command_of (understood (store_schema way) in_by_key_text) ≡ Select (record { lets = []; body = over_table (inbox_tree way) key_terms in_column_terms by_number (lit (Int (negsuc 0))) }) in_names
 unfolding understood everything
 in_by_key_is Fresh = refl
 in_by_key_is Migrated = refl
@@ -194,7 +196,8 @@ in_by_key_unlisted Migrated = refl
 abbrev pub number_terms : List Term
 number_terms = op2 (Compare Eq Binary) (col 1 0) (col 0 0) ∷ []
 
-pub in_by_number_is : (way : Way) → command_of (understood (store_schema way) in_by_number_text) ≡ Select (record { lets = []; body = over_table (inbox_tree way) number_terms in_column_terms by_number (lit (Int (negsuc 0))) }) in_names
+pub in_by_number_is : (way : Way)
+    → command_of (understood (store_schema way) in_by_number_text) ≡ Select (record { lets = []; body = over_table (inbox_tree way) number_terms in_column_terms by_number (lit (Int (negsuc 0))) }) in_names
 unfolding understood everything
 in_by_number_is Fresh = refl
 in_by_number_is Migrated = refl
@@ -209,7 +212,8 @@ unfolding understood everything
 in_by_number_unlisted Fresh = refl
 in_by_number_unlisted Migrated = refl
 
-pub in_all_is : (way : Way) → command_of (understood (store_schema way) in_all_text) ≡ Select (record { lets = []; body = over_table (inbox_tree way) [] in_column_terms by_number (lit (Int (negsuc 0))) }) in_names
+pub in_all_is : (way : Way)
+    → command_of (understood (store_schema way) in_all_text) ≡ Select (record { lets = []; body = over_table (inbox_tree way) [] in_column_terms by_number (lit (Int (negsuc 0))) }) in_names
 unfolding understood everything
 in_all_is Fresh = refl
 in_all_is Migrated = refl
@@ -251,7 +255,8 @@ owed_project =
     col 1 0 ∷ lit Null ∷ col 1 2 ∷ col 1 3 ∷ col 1 4 ∷ col 1 5 ∷ col 1 6 ∷ col 1 7 ∷ col 1 8 ∷ col 1 9 ∷ col 1 10 ∷ col 1 11 ∷ col 1 12 ∷ col 1 13
     ∷ col 0 1 ∷ col 0 2 ∷ col 0 3 ∷ col 0 4 ∷ []
 
-pub in_set_is : (way : Way) → command_of (understood (store_schema way) in_set_text) ≡ Update (inbox_place way) (update_program (inbox_tree way) number_terms owed_project)
+pub in_set_is : (way : Way)
+    → command_of (understood (store_schema way) in_set_text) ≡ Update (inbox_place way) (update_program (inbox_tree way) number_terms owed_project)
 unfolding understood everything
 in_set_is Fresh = refl
 in_set_is Migrated = refl
@@ -286,7 +291,8 @@ out_names =
 abbrev pub id_terms : List Term
 id_terms = op2 (Compare Eq Binary) (col 1 4) (col 0 0) ∷ []
 
-pub out_by_id_is : (way : Way) → command_of (understood (store_schema way) out_by_id_text) ≡ Select (record { lets = []; body = over_table outbox_tree id_terms out_column_terms by_number (lit (Int (negsuc 0))) }) out_names
+pub out_by_id_is : (way : Way)
+    → command_of (understood (store_schema way) out_by_id_text) ≡ Select (record { lets = []; body = over_table outbox_tree id_terms out_column_terms by_number (lit (Int (negsuc 0))) }) out_names
 unfolding understood everything
 out_by_id_is Fresh = refl
 out_by_id_is Migrated = refl
@@ -304,7 +310,8 @@ out_by_id_unlisted Migrated = refl
 abbrev pub details_terms : List Term
 details_terms = op2 (Compare Ge Binary) (col 1 11) (col 0 0) ∷ op2 (Compare Le Binary) (col 1 11) (col 0 1) ∷ []
 
-pub out_by_details_is : (way : Way) → command_of (understood (store_schema way) out_by_details_text) ≡ Select (record { lets = []; body = over_table outbox_tree details_terms out_column_terms by_number (lit (Int (negsuc 0))) }) out_names
+pub out_by_details_is : (way : Way)
+    → command_of (understood (store_schema way) out_by_details_text) ≡ Select (record { lets = []; body = over_table outbox_tree details_terms out_column_terms by_number (lit (Int (negsuc 0))) }) out_names
 unfolding understood everything
 out_by_details_is Fresh = refl
 out_by_details_is Migrated = refl
@@ -319,7 +326,8 @@ unfolding understood everything
 out_by_details_unlisted Fresh = refl
 out_by_details_unlisted Migrated = refl
 
-pub out_by_number_is : (way : Way) → command_of (understood (store_schema way) out_by_number_text) ≡ Select (record { lets = []; body = over_table outbox_tree number_terms out_column_terms by_number (lit (Int (negsuc 0))) }) out_names
+pub out_by_number_is : (way : Way)
+    → command_of (understood (store_schema way) out_by_number_text) ≡ Select (record { lets = []; body = over_table outbox_tree number_terms out_column_terms by_number (lit (Int (negsuc 0))) }) out_names
 unfolding understood everything
 out_by_number_is Fresh = refl
 out_by_number_is Migrated = refl
@@ -375,7 +383,8 @@ evidence_by_number_unlisted Migrated = refl
 abbrev pub settled_column_terms : List Term
 settled_column_terms = col 1 0 ∷ []
 
-pub settled_is : (way : Way) → command_of (understood (store_schema way) settled_text) ≡ Select (record { lets = []; body = over_table evidence_tree [] settled_column_terms by_number (lit (Int (negsuc 0))) }) (codes "number" ∷ [])
+pub settled_is : (way : Way)
+    → command_of (understood (store_schema way) settled_text) ≡ Select (record { lets = []; body = over_table evidence_tree [] settled_column_terms by_number (lit (Int (negsuc 0))) }) (codes "number" ∷ [])
 unfolding understood everything
 settled_is Fresh = refl
 settled_is Migrated = refl
@@ -393,7 +402,8 @@ settled_unlisted Migrated = refl
 abbrev pub detail_column_terms : List Term
 detail_column_terms = col 1 11 ∷ []
 
-pub detail_is : (way : Way) → command_of (understood (store_schema way) detail_text) ≡ Select (record { lets = []; body = over_table outbox_tree [] detail_column_terms by_number (lit (Int (negsuc 0))) }) (codes "detail" ∷ [])
+pub detail_is : (way : Way)
+    → command_of (understood (store_schema way) detail_text) ≡ Select (record { lets = []; body = over_table outbox_tree [] detail_column_terms by_number (lit (Int (negsuc 0))) }) (codes "detail" ∷ [])
 unfolding understood everything
 detail_is Fresh = refl
 detail_is Migrated = refl
@@ -411,7 +421,8 @@ detail_unlisted Migrated = refl
 abbrev pub mdn_column_terms : List Term
 mdn_column_terms = col 1 14 ∷ []
 
-pub mdn_is : (way : Way) → command_of (understood (store_schema way) mdn_text) ≡ Select (record { lets = []; body = over_table (inbox_tree way) [] mdn_column_terms by_number (lit (Int (negsuc 0))) }) (codes "mdn" ∷ [])
+pub mdn_is : (way : Way)
+    → command_of (understood (store_schema way) mdn_text) ≡ Select (record { lets = []; body = over_table (inbox_tree way) [] mdn_column_terms by_number (lit (Int (negsuc 0))) }) (codes "mdn" ∷ [])
 unfolding understood everything
 mdn_is Fresh = refl
 mdn_is Migrated = refl
@@ -502,7 +513,8 @@ due_columns = col 1 3 ∷ []
 abbrev pub any_due_terms : List Term
 any_due_terms = op2 (Compare Eq Binary) (col 1 2) (col 0 0) ∷ op2 (Compare Le Binary) (col 1 4) (col 0 1) ∷ []
 
-pub any_due_is : (way : Way) → command_of (understood (store_schema way) any_due_text) ≡ Select (record { lets = []; body = over_table waiting_tree any_due_terms due_columns [] (lit (Int (pos 1))) }) (codes "number" ∷ [])
+pub any_due_is : (way : Way)
+    → command_of (understood (store_schema way) any_due_text) ≡ Select (record { lets = []; body = over_table waiting_tree any_due_terms due_columns [] (lit (Int (pos 1))) }) (codes "number" ∷ [])
 unfolding understood everything
 any_due_is Fresh = refl
 any_due_is Migrated = refl
@@ -517,7 +529,8 @@ unfolding understood everything
 any_due_unlisted Fresh = refl
 any_due_unlisted Migrated = refl
 
-pub all_due_is : (way : Way) → command_of (understood (store_schema way) all_due_text) ≡ Select (record { lets = []; body = over_table waiting_tree any_due_terms due_columns by_number (lit (Int (negsuc 0))) }) (codes "number" ∷ [])
+pub all_due_is : (way : Way)
+    → command_of (understood (store_schema way) all_due_text) ≡ Select (record { lets = []; body = over_table waiting_tree any_due_terms due_columns by_number (lit (Int (negsuc 0))) }) (codes "number" ∷ [])
 unfolding understood everything
 all_due_is Fresh = refl
 all_due_is Migrated = refl
@@ -535,7 +548,8 @@ all_due_unlisted Migrated = refl
 abbrev pub least_due_terms : List Term
 least_due_terms = op2 (Compare Ge Binary) (col 1 0) (col 0 0) ∷ op2 (Compare Lt Binary) (col 1 0) (col 0 1) ∷ op2 (Compare Le Binary) (col 1 4) (col 0 2) ∷ []
 
-pub least_due_is : (way : Way) → command_of (understood (store_schema way) least_due_text) ≡ Select (record { lets = []; body = over_table waiting_tree least_due_terms due_columns by_number (lit (Int (pos 1))) }) (codes "number" ∷ [])
+pub least_due_is : (way : Way)
+    → command_of (understood (store_schema way) least_due_text) ≡ Select (record { lets = []; body = over_table waiting_tree least_due_terms due_columns by_number (lit (Int (pos 1))) }) (codes "number" ∷ [])
 unfolding understood everything
 least_due_is Fresh = refl
 least_due_is Migrated = refl
@@ -556,7 +570,8 @@ waiting_columns = col 1 0 ∷ col 1 2 ∷ col 1 3 ∷ col 1 4 ∷ []
 abbrev pub waiting_names : List (List ℕ)
 waiting_names = codes "place" ∷ codes "kind" ∷ codes "number" ∷ codes "due" ∷ []
 
-pub waiting_read_is : (way : Way) → command_of (understood (store_schema way) waiting_read_text) ≡ Select (record { lets = []; body = over_table waiting_tree [] waiting_columns by_number (lit (Int (negsuc 0))) }) waiting_names
+pub waiting_read_is : (way : Way)
+    → command_of (understood (store_schema way) waiting_read_text) ≡ Select (record { lets = []; body = over_table waiting_tree [] waiting_columns by_number (lit (Int (negsuc 0))) }) waiting_names
 unfolding understood everything
 waiting_read_is Fresh = refl
 waiting_read_is Migrated = refl
@@ -642,7 +657,8 @@ unfolding understood everything
 resent_put_plain Fresh = (refl, refl)
 resent_put_plain Migrated = (refl, refl)
 
-pub resent_take_is : (way : Way) → command_of (understood (store_schema way) resent_take_text) ≡ Delete (resent_place way) (delete_program (resent_tree way) number_terms)
+pub resent_take_is : (way : Way)
+    → command_of (understood (store_schema way) resent_take_text) ≡ Delete (resent_place way) (delete_program (resent_tree way) number_terms)
 unfolding understood everything
 resent_take_is Fresh = refl
 resent_take_is Migrated = refl

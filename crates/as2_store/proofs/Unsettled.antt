@@ -18,22 +18,26 @@ pub some_found : {X : Type 0} (p : X → Bool) (xs : List X) → length (filter 
 some_found p [] some = absurd (some refl)
 some_found p (x ∷ xs) some = go (p x) some (some_found p xs)
   where
-    go : (t : Bool) → length (cond t (x ∷ filter p xs) (filter p xs)) ≢ 0 → (length (filter p xs) ≢ 0 → (y : _) × (find p xs ≡ Some y)) → (y : _) × (cond t (Some x) (find p xs) ≡ Some y)
+    go : (t : Bool) → length (cond t (x ∷ filter p xs) (filter p xs)) ≢ 0 → (length (filter p xs) ≢ 0 → (y : _) × (find p xs ≡ Some y)) → (y : _)
+        × (cond t (Some x) (find p xs) ≡ Some y)
     go true some later = (x, refl)
     go false some later = later some
 
-taken : (n : ℕ) (e : Evidence) (ds : List OutEntry) (d : OutEntry) → find (λ (x : OutEntry). x.number == n) ds ≡ Some d → is_settled d ≡ true → is_taken (evidence_rows ds) (evidence_row n e) ≡ true
+taken : (n : ℕ) (e : Evidence) (ds : List OutEntry) (d : OutEntry) → find (λ (x : OutEntry). x.number == n) ds ≡ Some d → is_settled d ≡ true
+    → is_taken (evidence_rows ds) (evidence_row n e) ≡ true
 taken n e [] d found has = absurd cc
 taken n e (x ∷ ds) d found has = go (x.number == n) refl found (λ later. taken n e ds d later has)
   where
     itself : (m n : ℕ) → m ≡ n → is_eq (value_cmp (Int (pos m)) (Int (pos n))) ≡ true
     itself m n same = ap is_eq (value_cmp-Int (pos m) (pos n)) ∙ (grind (arith, ints, same))
 
-    own : (o : Option Evidence) → is_some o ≡ true → x.number ≡ n → is_taken (cons_option (option_map (evidence_row x.number) o) (evidence_rows ds)) (evidence_row n e) ≡ true
+    own : (o : Option Evidence) → is_some o ≡ true → x.number ≡ n
+        → is_taken (cons_option (option_map (evidence_row x.number) o) (evidence_rows ds)) (evidence_row n e) ≡ true
     own None has here = absurd cc
     own (Some r) has here = ap (λ t. t || is_taken (evidence_rows ds) (evidence_row n e)) (itself x.number n here)
 
-    behind : (o : Option Evidence) → is_taken (evidence_rows ds) (evidence_row n e) ≡ true → is_taken (cons_option (option_map (evidence_row x.number) o) (evidence_rows ds)) (evidence_row n e) ≡ true
+    behind : (o : Option Evidence) → is_taken (evidence_rows ds) (evidence_row n e) ≡ true
+        → is_taken (cons_option (option_map (evidence_row x.number) o) (evidence_rows ds)) (evidence_row n e) ≡ true
     behind None rest = rest
     behind (Some r) rest = either (is_eq (value_cmp (Int (pos x.number)) (Int (pos n)))) _ rest
       where
@@ -41,14 +45,17 @@ taken n e (x ∷ ds) d found has = go (x.number == n) refl found (λ later. take
         either true b is = refl
         either false b is = is
 
-    go : (t : Bool) → (x.number == n) ≡ t → cond t (Some x) (find (λ (y : OutEntry). y.number == n) ds) ≡ Some d → (find (λ (y : OutEntry). y.number == n) ds ≡ Some d → is_taken (evidence_rows ds) (evidence_row n e) ≡ true)
+    go : (t : Bool) → (x.number == n) ≡ t → cond t (Some x) (find (λ (y : OutEntry). y.number == n) ds) ≡ Some d
+        → (find (λ (y : OutEntry). y.number == n) ds ≡ Some d → is_taken (evidence_rows ds) (evidence_row n e) ≡ true)
         → is_taken (evidence_rows (x ∷ ds)) (evidence_row n e) ≡ true
     go true is here later = let same : x ≡ d = cc in let number : x.number ≡ n = grind (arith, nat_tests) in own x.evidence (ap is_settled same ∙ has) number
     go false is here later = behind x.evidence (later here)
 
-pub fresh_unsettled : (n : ℕ) (e : Evidence) (ds : List OutEntry) (d : OutEntry) → find (λ (x : OutEntry). x.number == n) ds ≡ Some d → are_fresh (evidence_rows ds) (evidence_row n e ∷ []) ≡ true → is_settled d ≡ false
+pub fresh_unsettled : (n : ℕ) (e : Evidence) (ds : List OutEntry) (d : OutEntry) → find (λ (x : OutEntry). x.number == n) ds ≡ Some d
+    → are_fresh (evidence_rows ds) (evidence_row n e ∷ []) ≡ true → is_settled d ≡ false
 fresh_unsettled n e ds d found fresh = go (is_settled d) (taken n e ds d found) fresh
   where
-    go : (t : Bool) → (t ≡ true → is_taken (evidence_rows ds) (evidence_row n e) ≡ true) → (not (is_taken (evidence_rows ds) (evidence_row n e)) && true) ≡ true → t ≡ false
+    go : (t : Bool) → (t ≡ true → is_taken (evidence_rows ds) (evidence_row n e) ≡ true)
+        → (not (is_taken (evidence_rows ds) (evidence_row n e)) && true) ≡ true → t ≡ false
     go true is fresh = absurd (let same = ap (λ b. not b && true) (is refl) in cc)
     go false is fresh = refl

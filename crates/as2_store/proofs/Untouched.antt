@@ -118,7 +118,8 @@ keeping Migrated p old new all AtOrigin other = all.1.1.1.1.1.1.1.1.1.0 (other_t
 keeping Migrated p old new all AtResent other = all.1.1.1.1.1.1.1.1.1.1.0 (other_tree Migrated p AtResent other)
 
 -- emptied tables stay so
-pub still_emptied : (way : Way) (p : Part) (old new : Database) → Others way (tree_of way p) old.trees new.trees → AreEmptied (emptied way) old → AreEmptied (emptied way) new
+pub still_emptied : (way : Way) (p : Part) (old new : Database) → Others way (tree_of way p) old.trees new.trees → AreEmptied (emptied way) old
+    → AreEmptied (emptied way) new
 still_emptied Fresh p old new all left = tt
 still_emptied Migrated p old new all left =
     let apart : (tree : ℕ) → is_emptied tree ≡ true → tree ≢ tree_of Migrated p = λ tree was same. true≢false (sym was ∙ ap is_emptied same ∙ not_emptied p) in

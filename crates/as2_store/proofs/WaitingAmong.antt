@@ -28,11 +28,13 @@ abbrev pub of_kind : ℕ → Option WaitingRow → Option WaitingRow
 of_kind kind None = None
 of_kind kind (Some w) = cond (w.kind == kind) (Some w) None
 
-kept_first : (kind : ℕ) (o : Option WaitingRow) (ws : List WaitingRow) → filter (λ w. w.kind == kind) (cons_option o ws) ≡ cons_option (of_kind kind o) (filter (λ w. w.kind == kind) ws)
+kept_first : (kind : ℕ) (o : Option WaitingRow) (ws : List WaitingRow)
+    → filter (λ w. w.kind == kind) (cons_option o ws) ≡ cons_option (of_kind kind o) (filter (λ w. w.kind == kind) ws)
 kept_first kind None ws = refl
 kept_first kind (Some w) ws = go (w.kind == kind)
   where
-    go : (t : Bool) → cond t (w ∷ filter (λ w. w.kind == kind) ws) (filter (λ w. w.kind == kind) ws) ≡ cons_option (cond t (Some w) None) (filter (λ w. w.kind == kind) ws)
+    go : (t : Bool)
+        → cond t (w ∷ filter (λ w. w.kind == kind) ws) (filter (λ w. w.kind == kind) ws) ≡ cons_option (cond t (Some w) None) (filter (λ w. w.kind == kind) ws)
     go true = refl
     go false = refl
 
@@ -147,11 +149,13 @@ module _ (n : ℕ) (small : n < end_of_numbers) (send1 send2 answer hear1 hear2 
   high4 = all_weaker (λ w. IsOf to_end end_of_numbers w × (n < w.number)) (λ w. place_of to_end n < place w) (λ w is. omega (arith, is.0.0, is.1)) end2 e2
 
   -- behind a place of a lower kind
-  ends_high : (k : ℕ) → k < to_end → (o4 : Option WaitingRow) → IfSome o4 (λ w. place w ≡ place_of to_end n) → AllByRecursion (λ w. place_of k n < place w) (end1 ++ cons_option o4 end2)
+  ends_high : (k : ℕ) → k < to_end → (o4 : Option WaitingRow) → IfSome o4 (λ w. place w ≡ place_of to_end n)
+      → AllByRecursion (λ w. place_of k n < place w) (end1 ++ cons_option o4 end2)
   ends_high k less o4 at = all-append (λ w. place_of k n < place w) end1 (cons_option o4 end2) (all_weaker (IsOf to_end n) (λ w. place_of k n < place w) (λ w is. omega (arith, is.0, less, small)) end1 e1)
       (own o4 at (all_weaker (λ w. IsOf to_end end_of_numbers w × (n < w.number)) (λ w. place_of k n < place w) (λ w is. omega (arith, is.0.0, is.1, less, small)) end2 e2))
     where
-      own : (o : Option WaitingRow) → IfSome o (λ w. place w ≡ place_of to_end n) → AllByRecursion (λ w. place_of k n < place w) end2 → AllByRecursion (λ w. place_of k n < place w) (cons_option o end2)
+      own : (o : Option WaitingRow) → IfSome o (λ w. place w ≡ place_of to_end n) → AllByRecursion (λ w. place_of k n < place w) end2
+          → AllByRecursion (λ w. place_of k n < place w) (cons_option o end2)
       own None at rest = rest
       own (Some w) at rest = (omega (arith, at, less, small), rest)
 
@@ -159,7 +163,8 @@ module _ (n : ℕ) (small : n < end_of_numbers) (send1 send2 answer hear1 hear2 
   high3 o4 at = all-append (λ w. place_of to_hear n < place w) hear2 (end1 ++ cons_option o4 end2)
       (all_weaker (λ w. IsOf to_hear end_of_numbers w × (n < w.number)) (λ w. place_of to_hear n < place w) (λ w is. omega (arith, is.0.0, is.1)) hear2 h2) (ends_high to_hear (omega arith) o4 at)
 
-  high1 : (o3 o4 : Option WaitingRow) → IfSome o3 (λ w. place w ≡ place_of to_hear n) → IfSome o4 (λ w. place w ≡ place_of to_end n) → AllByRecursion (λ w. place_of to_send n < place w) (behind1 o3 o4)
+  high1 : (o3 o4 : Option WaitingRow) → IfSome o3 (λ w. place w ≡ place_of to_hear n) → IfSome o4 (λ w. place w ≡ place_of to_end n)
+      → AllByRecursion (λ w. place_of to_send n < place w) (behind1 o3 o4)
   high1 o3 o4 at3 at4 = all-append (λ w. place_of to_send n < place w) send2 (answer ++ ((hear1 ++ cons_option o3 hear2) ++ (end1 ++ cons_option o4 end2)))
       (all_weaker (λ w. IsOf to_send end_of_numbers w × (n < w.number)) (λ w. place_of to_send n < place w) (λ w is. omega (arith, is.0.0, is.1)) send2 s2)
       (all-append (λ w. place_of to_send n < place w) answer ((hear1 ++ cons_option o3 hear2) ++ (end1 ++ cons_option o4 end2)) (all_weaker (IsOf to_answer end_of_numbers) (λ w. place_of to_send n < place w) (λ w is. omega (arith, is.0, small)) answer a)
@@ -168,13 +173,15 @@ module _ (n : ℕ) (small : n < end_of_numbers) (send1 send2 answer hear1 hear2 
       (own o3 at3 (all_weaker (λ w. IsOf to_hear end_of_numbers w × (n < w.number)) (λ w. place_of to_send n < place w) (λ w is. omega (arith, is.0.0, small)) hear2 h2)))
       (ends_high to_send (omega arith) o4 at4)))
     where
-      own : (o : Option WaitingRow) → IfSome o (λ w. place w ≡ place_of to_hear n) → AllByRecursion (λ w. place_of to_send n < place w) hear2 → AllByRecursion (λ w. place_of to_send n < place w) (cons_option o hear2)
+      own : (o : Option WaitingRow) → IfSome o (λ w. place w ≡ place_of to_hear n) → AllByRecursion (λ w. place_of to_send n < place w) hear2
+          → AllByRecursion (λ w. place_of to_send n < place w) (cons_option o hear2)
       own None at rest = rest
       own (Some w) at rest = (omega (arith, at, small), rest)
 
   -- ---- taken out
 
-  pub all_taken : (o1 o3 o4 : Option WaitingRow) → IfSome o1 (λ w. place w ≡ place_of to_send n) → IfSome o3 (λ w. place w ≡ place_of to_hear n) → IfSome o4 (λ w. place w ≡ place_of to_end n)
+  pub all_taken : (o1 o3 o4 : Option WaitingRow) → IfSome o1 (λ w. place w ≡ place_of to_send n) → IfSome o3 (λ w. place w ≡ place_of to_hear n)
+      → IfSome o4 (λ w. place w ≡ place_of to_end n)
       → without_document n (joined o1 o3 o4) ≡ joined None None None
   all_taken o1 o3 o4 at1 at3 at4 =
       ap (λ l. not_at (place_of to_end n) (not_at (place_of to_hear n) l)) (ap (not_at (place_of to_send n)) (cut1 o1 o3 o4) ∙ taken (place_of to_send n) o1 at1 send1 (behind1 o3 o4) low1 (high1 o3 o4 at3 at4) ∙ sym (cut1 None o3 o4))
@@ -216,7 +223,8 @@ outs_above : (n : ℕ) (ds : List OutEntry) → AllByRecursion (λ (d : OutEntry
 outs_above n [] all = tt
 outs_above n (d ∷ ds) all = go (out_kind d.detail d.attempt) (outs_above n ds all.1)
   where
-    go : (o : Option ℕ) → AllByRecursion (λ w. n < w.number) (waiting_out ds) → AllByRecursion (λ w. n < w.number) (cons_option (option_map (wait d.number d.due) o) (waiting_out ds))
+    go : (o : Option ℕ) → AllByRecursion (λ w. n < w.number) (waiting_out ds)
+        → AllByRecursion (λ w. n < w.number) (cons_option (option_map (wait d.number d.due) o) (waiting_out ds))
     go None rest = rest
     go (Some k) rest = (all.0, rest)
 
@@ -257,7 +265,8 @@ module _ (n : ℕ) (small : n < end_of_numbers) (front back : List OutEntry) (in
   without = ap₂ ◌++◌ (both to_send front back) (ap (λ l. waiting_in inbox ++ l) (ap₂ ◌++◌ (both to_hear front back) (both to_end front back)))
 
   -- what the document waits for is put in
-  pub put_among : (x : OutEntry) → x.number ≡ n → noted_rows (out_waiting x) (map waiting_row (waiting_of (front ++ back))) ≡ map waiting_row (waiting_of (front ++ x ∷ back))
+  pub put_among : (x : OutEntry) → x.number ≡ n
+      → noted_rows (out_waiting x) (map waiting_row (waiting_of (front ++ back))) ≡ map waiting_row (waiting_of (front ++ x ∷ back))
   put_among x is =
       ap (λ l. noted_rows (out_waiting x) (map waiting_row l)) without
       ∙ subst (λ k. Notes n small _ _ _ _ _ _ _ (before to_send) (behind to_send) (ins_small end_of_numbers inbox ins) (before to_hear) (behind to_hear) (before to_end) (behind to_end) (option_map (wait k x.due) (out_kind x.detail x.attempt))) (sym is)

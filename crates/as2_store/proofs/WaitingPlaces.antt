@@ -31,14 +31,16 @@ use Rattle.as2_store.proofs.Texts.{number_terms, waiting_take_is, waiting_take_p
 
 -- ---- the statement
 
-pub takes_waiting : {way : Way} (p count : ℕ) (old new : Connected) (ws : List WaitingRow) → HoldsWaiting way old.now ws → Executes waiting_take_text (one_param p) old new (Ok count) → Changed old new (store_schema way) waiting_tree (map waiting_row (not_at p ws))
+pub takes_waiting : {way : Way} (p count : ℕ) (old new : Connected) (ws : List WaitingRow) → HoldsWaiting way old.now ws
+    → Executes waiting_take_text (one_param p) old new (Ok count) → Changed old new (store_schema way) waiting_tree (map waiting_row (not_at p ws))
 takes_waiting {way} p count old new ws it h =
     let done = deletes waiting_take_text (one_param p) old new (store_schema way) it.schema 6 waiting_table refl number_terms (λ (w : WaitingRow). pos (place w)) waiting_row (λ _. refl) ws it.rows it.in_order (quiet way waiting_tree) (waiting_take_is way) (waiting_take_plain way) count h in
     subst (λ l. Changed old new (store_schema way) waiting_tree (map waiting_row l))
     (filter_agree (λ (w : WaitingRow). not (passes number_terms (one_param p) (waiting_row w))) (λ (w : WaitingRow). not (place w == p)) (λ w. ap not (ap (λ b. b && true) (numbers_equal (place w) p) ∙ and_true _)) ws) done.0
 
 -- what waits is in order once some of it is taken out
-pub still_held : {way : Way} (old new : Connected) (p : ℕ) (ws : List WaitingRow) → HoldsWaiting way old.now ws → Changed old new (store_schema way) waiting_tree (map waiting_row (not_at p ws)) → HoldsWaiting way new.now (not_at p ws)
+pub still_held : {way : Way} (old new : Connected) (p : ℕ) (ws : List WaitingRow) → HoldsWaiting way old.now ws
+    → Changed old new (store_schema way) waiting_tree (map waiting_row (not_at p ws)) → HoldsWaiting way new.now (not_at p ws)
 still_held old new p ws it done = record {
   schema = done.schema_is;
   rows = done.rows_are;
@@ -46,7 +48,8 @@ still_held old new p ws it done = record {
 }
 
 -- three statements, one after another
-pub taken_then : (way : Way) (a b c d : Connected) (first second third : List Row) → Changed a b (store_schema way) waiting_tree first → Changed b c (store_schema way) waiting_tree second → Changed c d (store_schema way) waiting_tree third → Renewed way a d third
+pub taken_then : (way : Way) (a b c d : Connected) (first second third : List Row) → Changed a b (store_schema way) waiting_tree first
+    → Changed b c (store_schema way) waiting_tree second → Changed c d (store_schema way) waiting_tree third → Renewed way a d third
 taken_then way a b c d first second third one two three = record {
   sound = three.sound;
   schema_is = three.schema_is;
@@ -55,7 +58,8 @@ taken_then way a b c d first second third one two three = record {
 }
 
 -- some of it is taken out, and what is noted then is put in
-pub noted_then : (way : Way) (a b c : Connected) (rows : List Row) (o : Option WaitingRow) → Renewed way a b rows → Noted way b c o → Renewed way a c (noted_rows o rows)
+pub noted_then : (way : Way) (a b c : Connected) (rows : List Row) (o : Option WaitingRow) → Renewed way a b rows → Noted way b c o
+    → Renewed way a c (noted_rows o rows)
 noted_then way a b c rows None one two = record {
   sound = subst IsDatabase (sym two) one.sound;
   schema_is = ap (λ (d : Database). d.schema) two ∙ one.schema_is;
@@ -73,8 +77,10 @@ pub changed_renewed : (way : Way) (a b : Connected) (rows : List Row) → Change
 changed_renewed way a b rows one = record { sound = one.sound; schema_is = one.schema_is; rows_are = one.rows_are; others = one.others }
 
 -- whatever the last statement answers
-pub ok_noted : {V E : Type 0} (r : Result V E) (a b c : Connected) (o : Option WaitingRow) {X : Type 0} (rows : X → List Row) (P : Way → X → Type 0) → ((way : Way) (x : X) → P way x → Renewed way a b (rows x))
-    → OnOk r ((way : Way) → b.now.schema ≡ store_schema way → Noted way b c o) → OnOk r ((way : Way) (x : X) → P way x → Renewed way a c (noted_rows o (rows x)))
+pub ok_noted : {V E : Type 0} (r : Result V E) (a b c : Connected) (o : Option WaitingRow) {X : Type 0} (rows : X → List Row) (P : Way → X → Type 0)
+    → ((way : Way) (x : X) → P way x → Renewed way a b (rows x))
+    → OnOk r ((way : Way) → b.now.schema ≡ store_schema way → Noted way b c o)
+    → OnOk r ((way : Way) (x : X) → P way x → Renewed way a c (noted_rows o (rows x)))
 ok_noted (Ok v) a b c o rows P one two = λ way x p. let first = one way x p in noted_then way a b c (rows x) o first (two way first.schema_is)
 ok_noted (Err e) a b c o rows P one two = tt
 
@@ -86,7 +92,8 @@ IsUnder v w = v.number < w.number
 abbrev IsBefore : WaitingRow → WaitingRow → Type 0
 IsBefore v w = place v < place w
 
-number_kept : (n : ℕ) (due : Option ℕ) (o : Option ℕ) → IfSome (option_map (λ kind. record { kind = kind; number = n; due = due }) o) (λ (w : WaitingRow). w.number ≡ n)
+number_kept : (n : ℕ) (due : Option ℕ) (o : Option ℕ)
+    → IfSome (option_map (λ kind. record { kind = kind; number = n; due = due }) o) (λ (w : WaitingRow). w.number ≡ n)
 number_kept n due None = tt
 number_kept n due (Some kind) = refl
 
@@ -102,19 +109,23 @@ past : (low kind next : ℕ) → low < kind → (ws : List WaitingRow) → AllBy
 past low kind next less ws of = all_weaker (IsOf kind next) (IsPast low) (λ w is. omega (arith, less, is.0)) ws of
 
 -- those of one kind, and behind them those of greater kinds
-then : (kind : ℕ) (xs ys : List WaitingRow) → AllByRecursion (IsOf kind end_of_numbers) xs → IsAscending IsUnder xs → AllByRecursion (IsPast kind) ys → IsAscending IsBefore ys → IsAscending IsBefore (xs ++ ys)
+then : (kind : ℕ) (xs ys : List WaitingRow) → AllByRecursion (IsOf kind end_of_numbers) xs → IsAscending IsUnder xs → AllByRecursion (IsPast kind) ys
+    → IsAscending IsBefore ys → IsAscending IsBefore (xs ++ ys)
 then kind xs ys of up behind later =
     ascending-append IsBefore xs ys (by_place kind end_of_numbers xs of up) later
     (all_weaker (IsOf kind end_of_numbers) (λ x. AllByRecursion (IsBefore x) ys) (λ x is. all_weaker (IsPast kind) (IsBefore x) (λ y far. omega (arith, is.0, is.1, far)) ys behind) xs of)
 
-pub documents_rise : (kind : ℕ) (ds : List OutEntry) → IsAscending (λ (x y : OutEntry). x.number < y.number) ds → IsAscending IsUnder (documents_waiting kind ds)
+pub documents_rise : (kind : ℕ) (ds : List OutEntry) → IsAscending (λ (x y : OutEntry). x.number < y.number) ds
+    → IsAscending IsUnder (documents_waiting kind ds)
 documents_rise kind ds up = ascending-filter IsUnder (λ w. w.kind == kind) (filter_map out_waiting ds) (given_rise out_waiting (λ (d : OutEntry). d.number) (λ (w : WaitingRow). w.number) (λ d. number_kept d.number d.due (out_kind d.detail d.attempt)) ds up)
 
 pub receipts_rise : (es : List InEntry) → IsAscending (λ (x y : InEntry). x.number < y.number) es → IsAscending IsUnder (waiting_in es)
 receipts_rise es up = given_rise in_waiting (λ (e : InEntry). e.number) (λ (w : WaitingRow). w.number) (λ e. number_kept e.number e.due (in_kind e.mdn e.attempt)) es up
 
-pub places_rise : (send answer hear end : List WaitingRow) → AllByRecursion (IsOf to_send end_of_numbers) send → AllByRecursion (IsOf to_answer end_of_numbers) answer → AllByRecursion (IsOf to_hear end_of_numbers) hear
-    → AllByRecursion (IsOf to_end end_of_numbers) end → IsAscending IsUnder send → IsAscending IsUnder answer → IsAscending IsUnder hear → IsAscending IsUnder end → IsTable (map waiting_row (send ++ (answer ++ (hear ++ end))))
+pub places_rise : (send answer hear end : List WaitingRow) → AllByRecursion (IsOf to_send end_of_numbers) send
+    → AllByRecursion (IsOf to_answer end_of_numbers) answer → AllByRecursion (IsOf to_hear end_of_numbers) hear
+    → AllByRecursion (IsOf to_end end_of_numbers) end → IsAscending IsUnder send → IsAscending IsUnder answer → IsAscending IsUnder hear
+    → IsAscending IsUnder end → IsTable (map waiting_row (send ++ (answer ++ (hear ++ end))))
 places_rise send answer hear end s a h e us ua uh ue =
     let hears = past to_answer to_hear end_of_numbers (omega arith) hear h in
     let ends = past to_answer to_end end_of_numbers (omega arith) end e in
@@ -145,7 +156,8 @@ kept_high p ws all = all_weaker (λ w. p < place w) (λ w. not (place w == p) �
 dropped : (p q : ℕ) → q ≡ p → not (q == p) ≡ false
 dropped p q same = grind (arith, nat_tests)
 
-pub taken : (p : ℕ) (o : Option WaitingRow) → IfSome o (λ w. place w ≡ p) → (front back : List WaitingRow) → AllByRecursion (λ w. place w < p) front → AllByRecursion (λ w. p < place w) back
+pub taken : (p : ℕ) (o : Option WaitingRow) → IfSome o (λ w. place w ≡ p) → (front back : List WaitingRow) → AllByRecursion (λ w. place w < p) front
+    → AllByRecursion (λ w. p < place w) back
     → not_at p (front ++ cons_option o back) ≡ front ++ back
 taken p None at front back low high =
     filter-append (λ w. not (place w == p)) front back ∙ ap₂ ◌++◌ (filter_all _ front (kept_low p front low)) (filter_all _ back (kept_high p back high))
@@ -153,8 +165,10 @@ taken p (Some w) at front back low high =
     filter-append (λ w. not (place w == p)) front (w ∷ back)
     ∙ ap₂ ◌++◌ (filter_all _ front (kept_low p front low)) (ap (λ b. cond b (w ∷ not_at p back) (not_at p back)) (dropped p (place w) at) ∙ filter_all _ back (kept_high p back high))
 
-pub renewed : (n : ℕ) (new : Option WaitingRow) → IfSome new (IsLast n) → n < end_of_numbers → (o : Option WaitingRow) → IfSome o (IsLast n) → (send front back hear end : List WaitingRow)
-    → AllByRecursion (IsOf to_send end_of_numbers) send → AllByRecursion (IsOf to_answer n) front → AllByRecursion (λ v. (v.kind ≡ to_answer) × (n < v.number)) back
+pub renewed : (n : ℕ) (new : Option WaitingRow) → IfSome new (IsLast n) → n < end_of_numbers → (o : Option WaitingRow) → IfSome o (IsLast n)
+    → (send front back hear end : List WaitingRow)
+    → AllByRecursion (IsOf to_send end_of_numbers) send → AllByRecursion (IsOf to_answer n) front
+    → AllByRecursion (λ v. (v.kind ≡ to_answer) × (n < v.number)) back
     → AllByRecursion (IsOf to_hear end_of_numbers) hear → AllByRecursion (IsOf to_end end_of_numbers) end
     → noted_rows new (map waiting_row (not_at (place_of to_answer n) (send ++ ((front ++ cons_option o back) ++ (hear ++ end))))) ≡ map waiting_row (send ++ ((front ++ cons_option new back) ++ (hear ++ end)))
 renewed n new is small o was send front back hear end s f b h e =
@@ -180,7 +194,8 @@ renewed n new is small o was send front back hear end s f b h e =
     stood None was = tt
     stood (Some v) was = at_place v was
 
-    put : (new : Option WaitingRow) → IfSome new (IsLast n) → AllByRecursion (λ q. place q < place_of to_answer n) (send ++ front) → AllByRecursion (λ q. place_of to_answer n < place q) (back ++ (hear ++ end))
+    put : (new : Option WaitingRow) → IfSome new (IsLast n) → AllByRecursion (λ q. place q < place_of to_answer n) (send ++ front)
+        → AllByRecursion (λ q. place_of to_answer n < place q) (back ++ (hear ++ end))
         → noted_rows new (map waiting_row ((send ++ front) ++ (back ++ (hear ++ end)))) ≡ map waiting_row ((send ++ front) ++ cons_option new (back ++ (hear ++ end)))
     put None is low high = refl
     put (Some w) is low high =

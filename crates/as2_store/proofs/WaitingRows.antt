@@ -45,7 +45,8 @@ waiting_params w = whole (place w) ∷ waiting_shown w
 one_waiting : (w : WaitingRow) → IsOneRow waiting_table (waiting_params w) waiting_put_terms 5 (waiting_row w)
 one_waiting w = record { source = waiting_row w; made = refl; cast_is = simp (cast_int, cast_null, cast_optional) }
 
-pub puts_waiting : (way : Way) (old new : Connected) (w : WaitingRow) (count : ℕ) → old.now.schema ≡ store_schema way → Executes waiting_put_text (waiting_params w) old new (Ok count) → Noted way old new (Some w)
+pub puts_waiting : (way : Way) (old new : Connected) (w : WaitingRow) (count : ℕ) → old.now.schema ≡ store_schema way
+    → Executes waiting_put_text (waiting_params w) old new (Ok count) → Noted way old new (Some w)
 puts_waiting way old new w count has h =
     inserts_given waiting_put_text (waiting_params w) old new (store_schema way) has 6 waiting_table refl refl waiting_put_terms 5 (waiting_row w) (one_waiting w) refl (waiting_put_is way) (waiting_put_plain way) count h
 
@@ -59,7 +60,8 @@ small_out : (next n : ℕ) (due : Option ℕ) (o : Option ℕ) (rest : List Wait
 small_out next n due None rest small all = all
 small_out next n due (Some kind) rest small all = (small, all)
 
-outs_small : (next : ℕ) (ds : List OutEntry) → AllByRecursion (λ n. n < next) (map (λ (d : OutEntry). d.number) ds) → AllByRecursion (λ w. w.number < next) (waiting_out ds)
+outs_small : (next : ℕ) (ds : List OutEntry) → AllByRecursion (λ n. n < next) (map (λ (d : OutEntry). d.number) ds)
+    → AllByRecursion (λ w. w.number < next) (waiting_out ds)
 outs_small next [] all = tt
 outs_small next (d ∷ ds) all = small_out next d.number d.due (out_kind d.detail d.attempt) (waiting_out ds) all.0 (outs_small next ds all.1)
 
@@ -72,19 +74,23 @@ small_in next n due Pending Used rest small all = all
 small_in next n due Unasked a rest small all = all
 small_in next n due Sent a rest small all = all
 
-pub ins_small : (next : ℕ) (es : List InEntry) → AllByRecursion (λ n. n < next) (map (λ (e : InEntry). e.number) es) → AllByRecursion (IsOf to_answer next) (waiting_in es)
+pub ins_small : (next : ℕ) (es : List InEntry) → AllByRecursion (λ n. n < next) (map (λ (e : InEntry). e.number) es)
+    → AllByRecursion (IsOf to_answer next) (waiting_in es)
 ins_small next [] all = tt
 ins_small next (e ∷ es) all = small_in next e.number e.due e.mdn e.attempt (waiting_in es) all.0 (ins_small next es all.1)
 
-kind_below : (kind next : ℕ) (ws : List WaitingRow) → AllByRecursion (λ w. w.number < next) ws → AllByRecursion (IsOf kind next) (filter (λ w. w.kind == kind) ws)
+kind_below : (kind next : ℕ) (ws : List WaitingRow) → AllByRecursion (λ w. w.number < next) ws
+    → AllByRecursion (IsOf kind next) (filter (λ w. w.kind == kind) ws)
 kind_below kind next [] all = tt
 kind_below kind next (w ∷ ws) all = go (w.kind == kind) refl (kind_below kind next ws all.1)
   where
-    go : (t : Bool) → (w.kind == kind) ≡ t → AllByRecursion (IsOf kind next) (filter (λ w. w.kind == kind) ws) → AllByRecursion (IsOf kind next) (cond t (w ∷ filter (λ w. w.kind == kind) ws) (filter (λ w. w.kind == kind) ws))
+    go : (t : Bool) → (w.kind == kind) ≡ t → AllByRecursion (IsOf kind next) (filter (λ w. w.kind == kind) ws)
+        → AllByRecursion (IsOf kind next) (cond t (w ∷ filter (λ w. w.kind == kind) ws) (filter (λ w. w.kind == kind) ws))
     go true is rest = ((grind (arith, nat_tests), all.0), rest)
     go false is rest = rest
 
-pub documents_of : (kind next : ℕ) (ds : List OutEntry) → AllByRecursion (λ n. n < next) (map (λ (d : OutEntry). d.number) ds) → AllByRecursion (IsOf kind next) (documents_waiting kind ds)
+pub documents_of : (kind next : ℕ) (ds : List OutEntry) → AllByRecursion (λ n. n < next) (map (λ (d : OutEntry). d.number) ds)
+    → AllByRecursion (IsOf kind next) (documents_waiting kind ds)
 documents_of kind next ds all = kind_below kind next (waiting_out ds) (outs_small next ds all)
 
 -- ---- the rows with one more
@@ -92,7 +98,8 @@ documents_of kind next ds all = kind_below kind next (waiting_out ds) (outs_smal
 abbrev pub IsLast : ℕ → WaitingRow → Type 0
 IsLast n w = (w.kind ≡ to_answer) × (w.number ≡ n)
 
-pub kind_is_last : (m : MdnState) (a : Attempt) (n : ℕ) (due : Option ℕ) → IfSome (option_map (λ kind. record { kind = kind; number = n; due = due }) (in_kind m a)) (IsLast n)
+pub kind_is_last : (m : MdnState) (a : Attempt) (n : ℕ) (due : Option ℕ)
+    → IfSome (option_map (λ kind. record { kind = kind; number = n; due = due }) (in_kind m a)) (IsLast n)
 kind_is_last Pending Idle n due = (refl, refl)
 kind_is_last Pending Running n due = (refl, refl)
 kind_is_last Pending Last n due = tt
@@ -100,7 +107,8 @@ kind_is_last Pending Used n due = tt
 kind_is_last Unasked a n due = tt
 kind_is_last Sent a n due = tt
 
-noted_in : (n : ℕ) (o : Option WaitingRow) → IfSome o (IsLast n) → n < end_of_numbers → (send answer hear end : List WaitingRow) → AllByRecursion (IsOf to_send end_of_numbers) send → AllByRecursion (IsOf to_answer n) answer
+noted_in : (n : ℕ) (o : Option WaitingRow) → IfSome o (IsLast n) → n < end_of_numbers → (send answer hear end : List WaitingRow)
+    → AllByRecursion (IsOf to_send end_of_numbers) send → AllByRecursion (IsOf to_answer n) answer
     → AllByRecursion (IsOf to_hear end_of_numbers) hear → AllByRecursion (IsOf to_end end_of_numbers) end
     → noted_rows o (map waiting_row (send ++ (answer ++ (hear ++ end)))) ≡ map waiting_row (send ++ ((answer ++ cons_option o []) ++ (hear ++ end)))
 noted_in n None last small send answer hear end s a h e = ap (λ l. map waiting_row (send ++ (l ++ (hear ++ end)))) (sym (append-nil answer))
@@ -113,8 +121,10 @@ noted_in n (Some w) last small send answer hear end s a h e =
     ∙ puts_between waiting_row place (λ _. refl) w (send ++ answer) (hear ++ end) low high
     ∙ ap (map waiting_row) (append_assoc send answer (w ∷ (hear ++ end)) ∙ ap (λ l. send ++ l) (sym (append_assoc answer (w ∷ []) (hear ++ end))))
 
-pub noted : (s : State) (e : InEntry) → AllByRecursion (λ n. n < s.next_in) (map (λ (x : InEntry). x.number) s.inbox) → AllByRecursion (λ n. n < end_of_numbers) (map (λ (x : OutEntry). x.number) s.outbox)
-    → e.number ≡ s.next_in → e.number < end_of_numbers → noted_rows (in_waiting e) (map waiting_row (all_waiting s)) ≡ map waiting_row (all_waiting (with_received s e))
+pub noted : (s : State) (e : InEntry) → AllByRecursion (λ n. n < s.next_in) (map (λ (x : InEntry). x.number) s.inbox)
+    → AllByRecursion (λ n. n < end_of_numbers) (map (λ (x : OutEntry). x.number) s.outbox)
+    → e.number ≡ s.next_in → e.number < end_of_numbers
+    → noted_rows (in_waiting e) (map waiting_row (all_waiting s)) ≡ map waiting_row (all_waiting (with_received s e))
 noted s e ins outs is small =
     noted_in e.number (in_waiting e) (kind_is_last e.mdn e.attempt e.number e.due) small (documents_waiting to_send s.outbox) (waiting_in s.inbox) (documents_waiting to_hear s.outbox) (documents_waiting to_end s.outbox)
     (documents_of to_send end_of_numbers s.outbox outs) (subst (λ n. AllByRecursion (IsOf to_answer n) (waiting_in s.inbox)) (sym is) (ins_small s.next_in s.inbox ins))

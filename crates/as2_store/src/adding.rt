@@ -23,8 +23,11 @@ fn put_received<S: Alter>(tx: &mut Transaction<'_, S>, entry: &InEntry) -> Resul
     requires fits { Fits entry.now.posted.content entry.now.tries entry.now.due }
     ensures same_reference { tx.new.conn.ghost_name ≡ tx.old.conn.ghost_name }
     ensures within { IsInside (state S.Store tx.old.conn.now) (state S.Store tx.new.conn.now) }
-    ensures open { HasCleanDisk (state S.Store tx.new.conn.now) → OnOk result (IsTrue (state S.Store tx.old.conn.now).is_open) }
-    ensures put { HasCleanDisk (state S.Store tx.new.conn.now) → OnOk result ((way : Way) (s : State) → Stands (VersionThree way) (state S.Store tx.old.conn.now).now s → IsEntered way (state S.Store tx.new.conn.now).now s entry.now.number s.next_in (with_received s entry.now)) }
+    ensures open { HasCleanDisk (state S.Store tx.new.conn.now)
+        → OnOk result (IsTrue (state S.Store tx.old.conn.now).is_open) }
+    ensures put { HasCleanDisk (state S.Store tx.new.conn.now)
+        → OnOk result ((way : Way) (s : State) → Stands (VersionThree way) (state S.Store tx.old.conn.now).now s
+        → IsEntered way (state S.Store tx.new.conn.now).now s entry.now.number s.next_in (with_received s entry.now)) }
 {
     put_in(tx, entry)?;
     put_pieces(tx, Mailbox::Inbox, entry.number, &entry.posted.content)?;

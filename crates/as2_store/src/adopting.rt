@@ -32,7 +32,8 @@ pub fn unread(error: Error) -> StoreFault
 
 /// Why these rows of `meta` aren't those of a store, unless they are.
 fn refused(rows: &[Row]) -> Option<StoreFault>
-    ensures { (kind : List ℕ) (version n m : ℕ) → rows.now ≡ (Text kind ∷ whole version ∷ whole n ∷ whole m ∷ []) ∷ [] → result ≡ adoption_fault kind version }
+    ensures { (kind : List ℕ) (version n m : ℕ) → rows.now ≡ (Text kind ∷ whole version ∷ whole n ∷ whole m ∷ []) ∷ []
+        → result ≡ adoption_fault kind version }
 {
     let [row] = rows else {
         return Some(StoreFault::NotAStore);
@@ -54,7 +55,8 @@ pub fn check<S: Alter>(conn: &mut Connection<S>) -> Result<(), StoreFault>
     requires autocommit { conn.old.in_transaction ≡ false }
     ensures autocommit { conn.new.in_transaction ≡ false }
     ensures adopted { OnOk result (Adopts (state S.Store conn.old) (state S.Store conn.new)) }
-    ensures given_back { OnErr result (IsGivenBack (Commits Some (state S.Store conn.old)) (state S.Store conn.old) (state S.Store conn.new)) }
+    ensures given_back { OnErr result
+        (IsGivenBack (Commits Some (state S.Store conn.old)) (state S.Store conn.old) (state S.Store conn.new)) }
     ensures reason { HasCleanDisk (state S.Store conn.new) → IfErr result (IsReason (state S.Store conn.old)) }
 {
     let is_bare = conn.schema().tables.is_empty();

@@ -36,8 +36,10 @@ fn put_piece<S: Alter>(
     requires position { position < 2 ^ 63 }
     ensures same_reference { tx.new.conn.ghost_name ≡ tx.old.conn.ghost_name }
     ensures within { IsInside (state S.Store tx.old.conn.now) (state S.Store tx.new.conn.now) }
-    ensures put { HasCleanDisk (state S.Store tx.new.conn.now) → OnOk result ((way : Way) → (state S.Store tx.old.conn.now).now.schema ≡ store_schema way
-        → Appended way (state S.Store tx.old.conn.now) (state S.Store tx.new.conn.now) (piece_tree way mailbox) (record { number = number; position = position; bytes = bytes.now } ∷ [])) }
+    ensures put { HasCleanDisk (state S.Store tx.new.conn.now)
+        → OnOk result ((way : Way) → (state S.Store tx.old.conn.now).now.schema ≡ store_schema way
+        → Appended way (state S.Store tx.old.conn.now) (state S.Store tx.new.conn.now) (piece_tree way mailbox)
+        (record { number = number; position = position; bytes = bytes.now } ∷ [])) }
 {
     let number = whole(number);
     let position = whole(position);
@@ -65,8 +67,10 @@ pub fn put_pieces<S: Alter>(
     requires length { length content.now < 2 ^ 63 }
     ensures same_reference { tx.new.conn.ghost_name ≡ tx.old.conn.ghost_name }
     ensures within { IsInside (state S.Store tx.old.conn.now) (state S.Store tx.new.conn.now) }
-    ensures put { HasCleanDisk (state S.Store tx.new.conn.now) → OnOk result ((way : Way) → (state S.Store tx.old.conn.now).now.schema ≡ store_schema way
-        → Appended way (state S.Store tx.old.conn.now) (state S.Store tx.new.conn.now) (piece_tree way mailbox) (pieces number content.now)) }
+    ensures put { HasCleanDisk (state S.Store tx.new.conn.now)
+        → OnOk result ((way : Way) → (state S.Store tx.old.conn.now).now.schema ≡ store_schema way
+        → Appended way (state S.Store tx.old.conn.now) (state S.Store tx.new.conn.now) (piece_tree way mailbox)
+        (pieces number content.now)) }
 {
     let mut i = 0;
     'pieces: while let Some(piece) = content.piece(i) {
@@ -82,7 +86,8 @@ pub fn in_piece_rows<S: Alter>(conn: &mut Connection<S>, number: u64) -> Result<
     requires number { number < 2 ^ 63 }
     ensures autocommit { conn.new.in_transaction ≡ false }
     ensures rows { Reads (λ s rows. (p : Entry → Bool) (e : Entry) → find p s.inbox ≡ Some e → number ≡ e.number
-        → rows.items ≡ map piece_shown (pieces e.number e.posted.content)) (state S.Store conn.old) (state S.Store conn.new) result }
+        → rows.items
+        ≡ map piece_shown (pieces e.number e.posted.content)) (state S.Store conn.old) (state S.Store conn.new) result }
 {
     let number = whole(number);
     query_all(
@@ -98,7 +103,8 @@ pub fn out_piece_rows<S: Alter>(conn: &mut Connection<S>, number: u64) -> Result
     requires number { number < 2 ^ 63 }
     ensures autocommit { conn.new.in_transaction ≡ false }
     ensures rows { Reads (λ s rows. (p : Document → Bool) (d : Document) → find p s.outbox ≡ Some d → number ≡ d.number
-        → rows.items ≡ map piece_shown (pieces d.number d.content)) (state S.Store conn.old) (state S.Store conn.new) result }
+        → rows.items
+        ≡ map piece_shown (pieces d.number d.content)) (state S.Store conn.old) (state S.Store conn.new) result }
 {
     let number = whole(number);
     query_all(

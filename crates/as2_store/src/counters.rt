@@ -25,10 +25,14 @@ pub fn put_meta<S: Alter>(tx: &mut Transaction<'_, S>, first: u64) -> Result<(),
     requires { first < 2 ^ 63 }
     ensures same_reference { tx.new.conn.ghost_name ≡ tx.old.conn.ghost_name }
     ensures within { IsInside (state S.Store tx.old.conn.now) (state S.Store tx.new.conn.now) }
-    ensures open { HasCleanDisk (state S.Store tx.new.conn.now) → OnOk result (IsTrue (state S.Store tx.old.conn.now).is_open) }
-    ensures inside { HasCleanDisk (state S.Store tx.new.conn.now) → OnOk result (IsTrue (state S.Store tx.new.conn.now).in_transaction) }
-    ensures put { HasCleanDisk (state S.Store tx.new.conn.now) → OnOk result (HasNoRow (state S.Store tx.old.conn.now).now (store_schema Fresh)
-        → Changed (state S.Store tx.old.conn.now) (state S.Store tx.new.conn.now) (store_schema Fresh) meta_tree (meta_row current_number first first ∷ [])) }
+    ensures open { HasCleanDisk (state S.Store tx.new.conn.now)
+        → OnOk result (IsTrue (state S.Store tx.old.conn.now).is_open) }
+    ensures inside { HasCleanDisk (state S.Store tx.new.conn.now)
+        → OnOk result (IsTrue (state S.Store tx.new.conn.now).in_transaction) }
+    ensures put { HasCleanDisk (state S.Store tx.new.conn.now)
+        → OnOk result (HasNoRow (state S.Store tx.old.conn.now).now (store_schema Fresh)
+        → Changed (state S.Store tx.old.conn.now) (state S.Store tx.new.conn.now) (store_schema Fresh) meta_tree
+        (meta_row current_number first first ∷ [])) }
 {
     let first = whole(first);
     tx.execute(
@@ -46,10 +50,16 @@ pub fn raise_next_receipt<S: Alter>(
     requires { number + 1 < 2 ^ 63 }
     ensures same_reference { tx.new.conn.ghost_name ≡ tx.old.conn.ghost_name }
     ensures within { IsInside (state S.Store tx.old.conn.now) (state S.Store tx.new.conn.now) }
-    ensures open { HasCleanDisk (state S.Store tx.new.conn.now) → OnOk result (IsTrue (state S.Store tx.old.conn.now).is_open) }
-    ensures inside { HasCleanDisk (state S.Store tx.new.conn.now) → OnOk result (IsTrue (state S.Store tx.new.conn.now).in_transaction) }
-    ensures put { HasCleanDisk (state S.Store tx.new.conn.now) → IfOk result (λ count. (way : Way) (n m : ℕ) → HasCounters way (state S.Store tx.old.conn.now).now n m → count ≢ 0
-        → (number ≡ n) × Changed (state S.Store tx.old.conn.now) (state S.Store tx.new.conn.now) (store_schema way) meta_tree (meta_row current_number (number + 1) m ∷ [])) }
+    ensures open { HasCleanDisk (state S.Store tx.new.conn.now)
+        → OnOk result (IsTrue (state S.Store tx.old.conn.now).is_open) }
+    ensures inside { HasCleanDisk (state S.Store tx.new.conn.now)
+        → OnOk result (IsTrue (state S.Store tx.new.conn.now).in_transaction) }
+    ensures put { HasCleanDisk (state S.Store tx.new.conn.now)
+        → IfOk result (λ count. (way : Way) (n m : ℕ) → HasCounters way (state S.Store tx.old.conn.now).now n m
+        → count ≢ 0
+        → (number ≡ n)
+        × Changed (state S.Store tx.old.conn.now) (state S.Store tx.new.conn.now) (store_schema way) meta_tree
+        (meta_row current_number (number + 1) m ∷ [])) }
 {
     let next = whole(number + 1);
     let number = whole(number);
@@ -67,10 +77,16 @@ pub fn raise_next_document<S: Alter>(
     requires { number + 1 < 2 ^ 63 }
     ensures same_reference { tx.new.conn.ghost_name ≡ tx.old.conn.ghost_name }
     ensures within { IsInside (state S.Store tx.old.conn.now) (state S.Store tx.new.conn.now) }
-    ensures open { HasCleanDisk (state S.Store tx.new.conn.now) → OnOk result (IsTrue (state S.Store tx.old.conn.now).is_open) }
-    ensures inside { HasCleanDisk (state S.Store tx.new.conn.now) → OnOk result (IsTrue (state S.Store tx.new.conn.now).in_transaction) }
-    ensures put { HasCleanDisk (state S.Store tx.new.conn.now) → IfOk result (λ count. (way : Way) (n m : ℕ) → HasCounters way (state S.Store tx.old.conn.now).now n m → count ≢ 0
-        → (number ≡ m) × Changed (state S.Store tx.old.conn.now) (state S.Store tx.new.conn.now) (store_schema way) meta_tree (meta_row current_number n (number + 1) ∷ [])) }
+    ensures open { HasCleanDisk (state S.Store tx.new.conn.now)
+        → OnOk result (IsTrue (state S.Store tx.old.conn.now).is_open) }
+    ensures inside { HasCleanDisk (state S.Store tx.new.conn.now)
+        → OnOk result (IsTrue (state S.Store tx.new.conn.now).in_transaction) }
+    ensures put { HasCleanDisk (state S.Store tx.new.conn.now)
+        → IfOk result (λ count. (way : Way) (n m : ℕ) → HasCounters way (state S.Store tx.old.conn.now).now n m
+        → count ≢ 0
+        → (number ≡ m)
+        × Changed (state S.Store tx.old.conn.now) (state S.Store tx.new.conn.now) (store_schema way) meta_tree
+        (meta_row current_number n (number + 1) ∷ [])) }
 {
     let next = whole(number + 1);
     let number = whole(number);
@@ -84,7 +100,9 @@ pub fn raise_next_document<S: Alter>(
 pub fn meta_rows<S: Alter>(conn: &mut Connection<S>) -> Result<Vec<Row>, Error>
     requires autocommit { conn.old.in_transaction ≡ false }
     ensures autocommit { conn.new.in_transaction ≡ false }
-    ensures rows { Reads (λ s rows. rows.items ≡ meta_shown current_number s.next_in s.next_out ∷ []) (state S.Store conn.old) (state S.Store conn.new) result }
+    ensures rows { Reads (λ s rows. rows.items
+        ≡ meta_shown current_number s.next_in s.next_out ∷ []) (state S.Store conn.old) (state S.Store conn.new)
+        result }
 {
     query_all(
         conn,
@@ -95,7 +113,8 @@ pub fn meta_rows<S: Alter>(conn: &mut Connection<S>) -> Result<Vec<Row>, Error>
 
 /// The counters that the row shows.
 fn next_of(rows: &[Row]) -> Result<NextNumbers, Error>
-    ensures { IfOk result (λ next. (n m : ℕ) → rows.now ≡ meta_shown current_number n m ∷ [] → (next.receipt ≡ n) × (next.document ≡ m)) }
+    ensures { IfOk result (λ next. (n m : ℕ) → rows.now ≡ meta_shown current_number n m ∷ [] → (next.receipt ≡ n)
+        × (next.document ≡ m)) }
 {
     match rows.first() {
         Some(row) => Ok(NextNumbers {

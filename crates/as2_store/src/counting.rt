@@ -26,7 +26,8 @@ use std::alloc::Global;
 fn detail_rows<S: Alter>(conn: &mut Connection<S>) -> Result<Vec<Row>, Error>
     requires autocommit { conn.old.in_transaction ≡ false }
     ensures autocommit { conn.new.in_transaction ≡ false }
-    ensures rows { Reads (λ s rows. rows.items ≡ map detail_row (details_of s)) (state S.Store conn.old) (state S.Store conn.new) result }
+    ensures rows { Reads (λ s rows. rows.items
+        ≡ map detail_row (details_of s)) (state S.Store conn.old) (state S.Store conn.new) result }
 {
     query_all(conn, "SELECT detail FROM outbox ORDER BY number", &[])
 }
@@ -35,7 +36,8 @@ fn detail_rows<S: Alter>(conn: &mut Connection<S>) -> Result<Vec<Row>, Error>
 fn mdn_rows<S: Alter>(conn: &mut Connection<S>) -> Result<Vec<Row>, Error>
     requires autocommit { conn.old.in_transaction ≡ false }
     ensures autocommit { conn.new.in_transaction ≡ false }
-    ensures rows { Reads (λ s rows. rows.items ≡ map mdn_row (mdns_of s)) (state S.Store conn.old) (state S.Store conn.new) result }
+    ensures rows { Reads (λ s rows. rows.items
+        ≡ map mdn_row (mdns_of s)) (state S.Store conn.old) (state S.Store conn.new) result }
 {
     query_all(conn, "SELECT mdn FROM inbox2 ORDER BY number", &[])
 }
@@ -94,7 +96,8 @@ fn mdns_in(alloc: Global, rows: &[Row]) -> Result<Vec<MdnState>, StoreFault>
 pub fn details<S: Alter>(conn: &mut Connection<S>, alloc: Global) -> Result<Vec<Detail>, StoreFault>
     requires autocommit { conn.old.in_transaction ≡ false }
     ensures autocommit { conn.new.in_transaction ≡ false }
-    ensures details { Reads (λ s details. details.items ≡ details_of s) (state S.Store conn.old) (state S.Store conn.new) result }
+    ensures details { Reads (λ s details. details.items
+        ≡ details_of s) (state S.Store conn.old) (state S.Store conn.new) result }
     ensures fault { IfErr result (λ f. may_come f ≡ true) }
 {
     let rows = detail_rows(conn).map_err(fault_of)?;

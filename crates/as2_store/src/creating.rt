@@ -16,8 +16,11 @@ use sqlite::{Alter, Connection, Error, Transaction};
 pub fn run<S: Alter>(tx: &mut Transaction<'_, S>, text: &str) -> Result<(), Error>
     ensures same_reference { tx.new.conn.ghost_name ≡ tx.old.conn.ghost_name }
     ensures within { IsInside (state S.Store tx.old.conn.now) (state S.Store tx.new.conn.now) }
-    ensures open { HasCleanDisk (state S.Store tx.new.conn.now) → OnOk result (IsTrue (state S.Store tx.old.conn.now).is_open) }
-    ensures ran { HasCleanDisk (state S.Store tx.new.conn.now) → OnOk result ((count : ℕ) × Executes text.now [] (state S.Store tx.old.conn.now) (state S.Store tx.new.conn.now) (Ok count)) }
+    ensures open { HasCleanDisk (state S.Store tx.new.conn.now)
+        → OnOk result (IsTrue (state S.Store tx.old.conn.now).is_open) }
+    ensures ran { HasCleanDisk (state S.Store tx.new.conn.now)
+        → OnOk result ((count : ℕ)
+        × Executes text.now [] (state S.Store tx.old.conn.now) (state S.Store tx.new.conn.now) (Ok count)) }
 {
     tx.execute(text, &[])?;
     Ok(())
@@ -27,8 +30,11 @@ pub fn run<S: Alter>(tx: &mut Transaction<'_, S>, text: &str) -> Result<(), Erro
 fn make_inbox<S: Alter>(tx: &mut Transaction<'_, S>) -> Result<(), Error>
     ensures same_reference { tx.new.conn.ghost_name ≡ tx.old.conn.ghost_name }
     ensures within { IsInside (state S.Store tx.old.conn.now) (state S.Store tx.new.conn.now) }
-    ensures open { HasCleanDisk (state S.Store tx.new.conn.now) → OnOk result (IsTrue (state S.Store tx.old.conn.now).is_open) }
-    ensures made { HasCleanDisk (state S.Store tx.new.conn.now) → OnOk result (HasNoRow (state S.Store tx.old.conn.now).now no_schema → HasNoRow (state S.Store tx.new.conn.now).now inbox_schema) }
+    ensures open { HasCleanDisk (state S.Store tx.new.conn.now)
+        → OnOk result (IsTrue (state S.Store tx.old.conn.now).is_open) }
+    ensures made { HasCleanDisk (state S.Store tx.new.conn.now)
+        → OnOk result (HasNoRow (state S.Store tx.old.conn.now).now no_schema
+        → HasNoRow (state S.Store tx.new.conn.now).now inbox_schema) }
 {
     run(
         tx,
@@ -49,8 +55,11 @@ fn make_inbox<S: Alter>(tx: &mut Transaction<'_, S>) -> Result<(), Error>
 fn make_outbox<S: Alter>(tx: &mut Transaction<'_, S>) -> Result<(), Error>
     ensures same_reference { tx.new.conn.ghost_name ≡ tx.old.conn.ghost_name }
     ensures within { IsInside (state S.Store tx.old.conn.now) (state S.Store tx.new.conn.now) }
-    ensures open { HasCleanDisk (state S.Store tx.new.conn.now) → OnOk result (IsTrue (state S.Store tx.old.conn.now).is_open) }
-    ensures made { HasCleanDisk (state S.Store tx.new.conn.now) → OnOk result (HasNoRow (state S.Store tx.old.conn.now).now inbox_schema → HasNoRow (state S.Store tx.new.conn.now).now outbox_schema) }
+    ensures open { HasCleanDisk (state S.Store tx.new.conn.now)
+        → OnOk result (IsTrue (state S.Store tx.old.conn.now).is_open) }
+    ensures made { HasCleanDisk (state S.Store tx.new.conn.now)
+        → OnOk result (HasNoRow (state S.Store tx.old.conn.now).now inbox_schema
+        → HasNoRow (state S.Store tx.new.conn.now).now outbox_schema) }
 {
     run(
         tx,
@@ -71,8 +80,11 @@ fn make_outbox<S: Alter>(tx: &mut Transaction<'_, S>) -> Result<(), Error>
 fn make_waiting<S: Alter>(tx: &mut Transaction<'_, S>) -> Result<(), Error>
     ensures same_reference { tx.new.conn.ghost_name ≡ tx.old.conn.ghost_name }
     ensures within { IsInside (state S.Store tx.old.conn.now) (state S.Store tx.new.conn.now) }
-    ensures open { HasCleanDisk (state S.Store tx.new.conn.now) → OnOk result (IsTrue (state S.Store tx.old.conn.now).is_open) }
-    ensures made { HasCleanDisk (state S.Store tx.new.conn.now) → OnOk result (HasNoRow (state S.Store tx.old.conn.now).now outbox_schema → HasNoRow (state S.Store tx.new.conn.now).now waiting_schema) }
+    ensures open { HasCleanDisk (state S.Store tx.new.conn.now)
+        → OnOk result (IsTrue (state S.Store tx.old.conn.now).is_open) }
+    ensures made { HasCleanDisk (state S.Store tx.new.conn.now)
+        → OnOk result (HasNoRow (state S.Store tx.old.conn.now).now outbox_schema
+        → HasNoRow (state S.Store tx.new.conn.now).now waiting_schema) }
 {
     run(
         tx,
@@ -89,8 +101,11 @@ fn make_waiting<S: Alter>(tx: &mut Transaction<'_, S>) -> Result<(), Error>
 fn make_later<S: Alter>(tx: &mut Transaction<'_, S>) -> Result<(), Error>
     ensures same_reference { tx.new.conn.ghost_name ≡ tx.old.conn.ghost_name }
     ensures within { IsInside (state S.Store tx.old.conn.now) (state S.Store tx.new.conn.now) }
-    ensures open { HasCleanDisk (state S.Store tx.new.conn.now) → OnOk result (IsTrue (state S.Store tx.old.conn.now).is_open) }
-    ensures made { HasCleanDisk (state S.Store tx.new.conn.now) → OnOk result (HasNoRow (state S.Store tx.old.conn.now).now waiting_schema → HasNoRow (state S.Store tx.new.conn.now).now (store_schema Fresh)) }
+    ensures open { HasCleanDisk (state S.Store tx.new.conn.now)
+        → OnOk result (IsTrue (state S.Store tx.old.conn.now).is_open) }
+    ensures made { HasCleanDisk (state S.Store tx.new.conn.now)
+        → OnOk result (HasNoRow (state S.Store tx.old.conn.now).now waiting_schema
+        → HasNoRow (state S.Store tx.new.conn.now).now (store_schema Fresh)) }
 {
     run(tx, "CREATE TABLE origin (number INTEGER NOT NULL) STRICT")?;
     run(
@@ -104,8 +119,11 @@ fn make_later<S: Alter>(tx: &mut Transaction<'_, S>) -> Result<(), Error>
 fn make_tables<S: Alter>(tx: &mut Transaction<'_, S>) -> Result<(), Error>
     ensures same_reference { tx.new.conn.ghost_name ≡ tx.old.conn.ghost_name }
     ensures within { IsInside (state S.Store tx.old.conn.now) (state S.Store tx.new.conn.now) }
-    ensures open { HasCleanDisk (state S.Store tx.new.conn.now) → OnOk result (IsTrue (state S.Store tx.old.conn.now).is_open) }
-    ensures made { HasCleanDisk (state S.Store tx.new.conn.now) → OnOk result (HasNoRow (state S.Store tx.old.conn.now).now no_schema → HasNoRow (state S.Store tx.new.conn.now).now (store_schema Fresh)) }
+    ensures open { HasCleanDisk (state S.Store tx.new.conn.now)
+        → OnOk result (IsTrue (state S.Store tx.old.conn.now).is_open) }
+    ensures made { HasCleanDisk (state S.Store tx.new.conn.now)
+        → OnOk result (HasNoRow (state S.Store tx.old.conn.now).now no_schema
+        → HasNoRow (state S.Store tx.new.conn.now).now (store_schema Fresh)) }
 {
     make_inbox(tx)?;
     make_outbox(tx)?;
@@ -120,8 +138,11 @@ fn put_first<S: Alter>(tx: &mut Transaction<'_, S>, first: u64) -> Result<(), Er
     requires most { first < end_of_numbers }
     ensures same_reference { tx.new.conn.ghost_name ≡ tx.old.conn.ghost_name }
     ensures within { IsInside (state S.Store tx.old.conn.now) (state S.Store tx.new.conn.now) }
-    ensures inside { HasCleanDisk (state S.Store tx.new.conn.now) → OnOk result (IsTrue (state S.Store tx.new.conn.now).in_transaction) }
-    ensures put { HasCleanDisk (state S.Store tx.new.conn.now) → OnOk result (HasNoRow (state S.Store tx.old.conn.now).now (store_schema Fresh) → Stands (VersionThree Fresh) (state S.Store tx.new.conn.now).now (empty_store first)) }
+    ensures inside { HasCleanDisk (state S.Store tx.new.conn.now)
+        → OnOk result (IsTrue (state S.Store tx.new.conn.now).in_transaction) }
+    ensures put { HasCleanDisk (state S.Store tx.new.conn.now)
+        → OnOk result (HasNoRow (state S.Store tx.old.conn.now).now (store_schema Fresh)
+        → Stands (VersionThree Fresh) (state S.Store tx.new.conn.now).now (empty_store first)) }
 {
     put_meta(tx, first)?;
     put_origin(tx, 0)?;
@@ -135,7 +156,8 @@ pub fn make<S: Alter>(conn: &mut Connection<S>, first: u64) -> Result<(), Error>
     requires most { first < end_of_numbers }
     ensures autocommit { conn.new.in_transaction ≡ false }
     ensures created { OnOk result (Creates first (state S.Store conn.old) (state S.Store conn.new)) }
-    ensures given_back { OnErr result (IsGivenBack (CommitsFirst first (state S.Store conn.old)) (state S.Store conn.old) (state S.Store conn.new)) }
+    ensures given_back { OnErr result
+        (IsGivenBack (CommitsFirst first (state S.Store conn.old)) (state S.Store conn.old) (state S.Store conn.new)) }
 {
     let mut tx = conn.transaction();
     make_tables(&mut tx)?;

@@ -38,7 +38,8 @@ pub struct WaitRow {
 fn shown_rows<S: Alter>(conn: &mut Connection<S>) -> Result<Vec<Row>, Error>
     requires autocommit { conn.old.in_transaction ≡ false }
     ensures autocommit { conn.new.in_transaction ≡ false }
-    ensures rows { Reads (λ s rows. rows.items ≡ map row_shown (rows_of (all_waiting s))) (state S.Store conn.old) (state S.Store conn.new) result }
+    ensures rows { Reads (λ s rows. rows.items
+        ≡ map row_shown (rows_of (all_waiting s))) (state S.Store conn.old) (state S.Store conn.new) result }
 {
     query_all(
         conn,
@@ -79,7 +80,8 @@ fn read_rows(alloc: Global, rows: &[Row]) -> Result<Vec<WaitRow>, Error>
 fn kept_rows<S: Alter>(conn: &mut Connection<S>, alloc: Global) -> Result<Vec<WaitRow>, StoreFault>
     requires autocommit { conn.old.in_transaction ≡ false }
     ensures autocommit { conn.new.in_transaction ≡ false }
-    ensures kept { Reads (λ s kept. kept.items ≡ rows_of (all_waiting s)) (state S.Store conn.old) (state S.Store conn.new) result }
+    ensures kept { Reads (λ s kept. kept.items
+        ≡ rows_of (all_waiting s)) (state S.Store conn.old) (state S.Store conn.new) result }
     ensures fault { IfErr result (λ f. may_come f ≡ true) }
 {
     let rows = shown_rows(conn).map_err(fault_of)?;

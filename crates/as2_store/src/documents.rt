@@ -31,7 +31,8 @@ fn out_content<S: Alter>(
     requires autocommit { conn.old.in_transaction ≡ false }
     requires number { row.now.number < 2 ^ 63 }
     ensures autocommit { conn.new.in_transaction ≡ false }
-    ensures content { Reads (λ s content. (p : Document → Bool) (d : Document) → find p s.outbox ≡ Some d → row.now.number ≡ d.number → content ≡ d.content) (state S.Store conn.old) (state S.Store conn.new) result }
+    ensures content { Reads (λ s content. (p : Document → Bool) (d : Document) → find p s.outbox ≡ Some d
+        → row.now.number ≡ d.number → content ≡ d.content) (state S.Store conn.old) (state S.Store conn.new) result }
     ensures fault { IfErr result (λ f. may_come f ≡ true) }
 {
     let pieces = out_piece_rows(conn, row.number).map_err(fault_of)?;
@@ -46,7 +47,8 @@ pub fn evidence_in<S: Alter>(
 ) -> Result<Option<Evidence>, StoreFault>
     requires autocommit { conn.old.in_transaction ≡ false }
     ensures autocommit { conn.new.in_transaction ≡ false }
-    ensures evidence { Reads (λ s evidence. evidence ≡ evidence_at s number) (state S.Store conn.old) (state S.Store conn.new) result }
+    ensures evidence { Reads (λ s evidence. evidence
+        ≡ evidence_at s number) (state S.Store conn.old) (state S.Store conn.new) result }
     ensures fault { IfErr result (λ f. may_come f ≡ true) }
 {
     let rows = evidence_rows(conn, number).map_err(fault_of)?;
@@ -66,7 +68,8 @@ pub fn shown_document<S: Alter>(
     requires autocommit { conn.old.in_transaction ≡ false }
     requires open { HasCleanDisk (state S.Store conn.old) → IsTrue (state S.Store conn.old).is_open }
     ensures autocommit { conn.new.in_transaction ≡ false }
-    ensures found { Reads (λ s found. (p : Document → Bool) → rows.now ≡ map out_shown (filter p s.outbox) → found ≡ find p s.outbox) (state S.Store conn.old) (state S.Store conn.new) result }
+    ensures found { Reads (λ s found. (p : Document → Bool) → rows.now ≡ map out_shown (filter p s.outbox)
+        → found ≡ find p s.outbox) (state S.Store conn.old) (state S.Store conn.new) result }
     ensures fault { IfErr result (λ f. may_come f ≡ true) }
 {
     let Some(row) = rows.first() else {

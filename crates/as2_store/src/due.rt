@@ -22,7 +22,8 @@ fn any_due_rows<S: Alter>(
 ) -> Result<Vec<Row>, Error>
     requires autocommit { conn.old.in_transaction ≡ false }
     ensures autocommit { conn.new.in_transaction ≡ false }
-    ensures rows { Reads (λ s rows. rows.items ≡ [] → due_numbers (kind_code wait) moment s ≡ []) (state S.Store conn.old) (state S.Store conn.new) result }
+    ensures rows { Reads (λ s rows. rows.items ≡ []
+        → due_numbers (kind_code wait) moment s ≡ []) (state S.Store conn.old) (state S.Store conn.new) result }
 {
     let kind = whole(wait.code());
     let moment = whole(moment.seconds());
@@ -41,7 +42,9 @@ fn least_due_rows<S: Alter>(
 ) -> Result<Vec<Row>, Error>
     requires autocommit { conn.old.in_transaction ≡ false }
     ensures autocommit { conn.new.in_transaction ≡ false }
-    ensures rows { Reads (λ s rows. rows.items ≡ number_rows (least (due_numbers (kind_code wait) moment s))) (state S.Store conn.old) (state S.Store conn.new) result }
+    ensures rows { Reads (λ s rows. rows.items
+        ≡ number_rows (least (due_numbers (kind_code wait) moment s))) (state S.Store conn.old) (state S.Store conn.new)
+        result }
 {
     let first = whole(wait.code() * END_OF_NUMBERS);
     let end = whole((wait.code() + 1) * END_OF_NUMBERS);
@@ -72,7 +75,8 @@ pub fn least_due<S: Alter>(
 ) -> Result<Option<u64>, Error>
     requires autocommit { conn.old.in_transaction ≡ false }
     ensures autocommit { conn.new.in_transaction ≡ false }
-    ensures due { Reads (λ s number. number ≡ least (due_numbers (kind_code wait) moment s)) (state S.Store conn.old) (state S.Store conn.new) result }
+    ensures due { Reads (λ s number. number
+        ≡ least (due_numbers (kind_code wait) moment s)) (state S.Store conn.old) (state S.Store conn.new) result }
 {
     if any_due_rows(conn, wait, moment)?.is_empty() {
         return Ok(None);

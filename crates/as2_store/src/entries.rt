@@ -28,7 +28,9 @@ fn in_content<S: Alter>(
     requires autocommit { conn.old.in_transaction ≡ false }
     requires number { row.now.number < 2 ^ 63 }
     ensures autocommit { conn.new.in_transaction ≡ false }
-    ensures content { Reads (λ s content. (p : Entry → Bool) (e : Entry) → find p s.inbox ≡ Some e → row.now.number ≡ e.number → content ≡ e.posted.content) (state S.Store conn.old) (state S.Store conn.new) result }
+    ensures content { Reads (λ s content. (p : Entry → Bool) (e : Entry) → find p s.inbox ≡ Some e
+        → row.now.number ≡ e.number
+        → content ≡ e.posted.content) (state S.Store conn.old) (state S.Store conn.new) result }
     ensures fault { IfErr result (λ f. may_come f ≡ true) }
 {
     let pieces = in_piece_rows(conn, row.number).map_err(fault_of)?;
@@ -44,7 +46,8 @@ pub fn shown_entry<S: Alter>(
     requires autocommit { conn.old.in_transaction ≡ false }
     requires open { HasCleanDisk (state S.Store conn.old) → IsTrue (state S.Store conn.old).is_open }
     ensures autocommit { conn.new.in_transaction ≡ false }
-    ensures found { Reads (λ s found. (p : Entry → Bool) → rows.now ≡ map in_shown (filter p s.inbox) → found ≡ find p s.inbox) (state S.Store conn.old) (state S.Store conn.new) result }
+    ensures found { Reads (λ s found. (p : Entry → Bool) → rows.now ≡ map in_shown (filter p s.inbox)
+        → found ≡ find p s.inbox) (state S.Store conn.old) (state S.Store conn.new) result }
     ensures fault { IfErr result (λ f. may_come f ≡ true) }
 {
     let Some(row) = rows.first() else {

@@ -29,13 +29,18 @@ fn due_rows<S: Alter>(
     wait: Wait,
     moment: Moment,
 ) -> Result<Vec<Row>, Error>
-    requires begun { HasCleanDisk (state S.Store tx.old.conn.now) → IsTrue (state S.Store tx.old.conn.now).in_transaction }
+    requires begun { HasCleanDisk (state S.Store tx.old.conn.now)
+        → IsTrue (state S.Store tx.old.conn.now).in_transaction }
     ensures same_reference { tx.new.conn.ghost_name ≡ tx.old.conn.ghost_name }
     ensures within { IsInside (state S.Store tx.old.conn.now) (state S.Store tx.new.conn.now) }
-    ensures open { HasCleanDisk (state S.Store tx.new.conn.now) → OnOk result (IsTrue (state S.Store tx.old.conn.now).is_open) }
-    ensures inside { HasCleanDisk (state S.Store tx.new.conn.now) → OnOk result (IsTrue (state S.Store tx.new.conn.now).in_transaction) }
-    ensures rows { HasCleanDisk (state S.Store tx.new.conn.now) → IfOk result (λ rows. (way : Way) (s : State) → Stands (VersionThree way) (state S.Store tx.old.conn.now).now s
-        → ((state S.Store tx.new.conn.now).now ≡ (state S.Store tx.old.conn.now).now) × (rows.items ≡ map number_row (due_numbers (kind_code wait) moment s))) }
+    ensures open { HasCleanDisk (state S.Store tx.new.conn.now)
+        → OnOk result (IsTrue (state S.Store tx.old.conn.now).is_open) }
+    ensures inside { HasCleanDisk (state S.Store tx.new.conn.now)
+        → OnOk result (IsTrue (state S.Store tx.new.conn.now).in_transaction) }
+    ensures rows { HasCleanDisk (state S.Store tx.new.conn.now)
+        → IfOk result (λ rows. (way : Way) (s : State) → Stands (VersionThree way) (state S.Store tx.old.conn.now).now s
+        → ((state S.Store tx.new.conn.now).now ≡ (state S.Store tx.old.conn.now).now)
+        × (rows.items ≡ map number_row (due_numbers (kind_code wait) moment s))) }
 {
     let kind = whole(wait.code());
     let moment = whole(moment.seconds());
@@ -50,9 +55,12 @@ fn pass<S: Alter>(tx: &mut Transaction<'_, S>, number: u64, detail: Detail) -> R
     requires { number ≤ end_of_numbers }
     ensures same_reference { tx.new.conn.ghost_name ≡ tx.old.conn.ghost_name }
     ensures within { IsInside (state S.Store tx.old.conn.now) (state S.Store tx.new.conn.now) }
-    ensures inside { HasCleanDisk (state S.Store tx.new.conn.now) → OnOk result (IsTrue (state S.Store tx.new.conn.now).in_transaction) }
-    ensures put { HasCleanDisk (state S.Store tx.new.conn.now) → OnOk result ((way : Way) (ds : List Document) → HoldsDocuments way (state S.Store tx.old.conn.now).now ds
-        → Changed (state S.Store tx.old.conn.now) (state S.Store tx.new.conn.now) (store_schema way) outbox_tree (map out_row (passing_one detail number ds))) }
+    ensures inside { HasCleanDisk (state S.Store tx.new.conn.now)
+        → OnOk result (IsTrue (state S.Store tx.new.conn.now).in_transaction) }
+    ensures put { HasCleanDisk (state S.Store tx.new.conn.now)
+        → OnOk result ((way : Way) (ds : List Document) → HoldsDocuments way (state S.Store tx.old.conn.now).now ds
+        → Changed (state S.Store tx.old.conn.now) (state S.Store tx.new.conn.now) (store_schema way) outbox_tree
+        (map out_row (passing_one detail number ds))) }
 {
     let number = whole(number);
     tx.execute(
@@ -70,7 +78,9 @@ fn pass_each<S: Alter>(
 ) -> Result<(), Error>
     ensures same_reference { tx.new.conn.ghost_name ≡ tx.old.conn.ghost_name }
     ensures within { IsInside (state S.Store tx.old.conn.now) (state S.Store tx.new.conn.now) }
-    ensures put { HasCleanDisk (state S.Store tx.new.conn.now) → OnOk result ((way : Way) (ns : List ℕ) (ds : List Document) → AllByRecursion (λ n. n < end_of_numbers) ns → rows.now ≡ map number_row ns → HoldsDocuments way (state S.Store tx.old.conn.now).now ds
+    ensures put { HasCleanDisk (state S.Store tx.new.conn.now)
+        → OnOk result ((way : Way) (ns : List ℕ) (ds : List Document) → AllByRecursion (λ n. n < end_of_numbers) ns
+        → rows.now ≡ map number_row ns → HoldsDocuments way (state S.Store tx.old.conn.now).now ds
         → Rewritten way (state S.Store tx.old.conn.now) (state S.Store tx.new.conn.now) (passing detail ns ds)) }
 {
     'rows: for row in rows {
@@ -84,9 +94,12 @@ fn pass_each<S: Alter>(
 fn take_due<S: Alter>(tx: &mut Transaction<'_, S>, wait: Wait, moment: Moment) -> Result<(), Error>
     ensures same_reference { tx.new.conn.ghost_name ≡ tx.old.conn.ghost_name }
     ensures within { IsInside (state S.Store tx.old.conn.now) (state S.Store tx.new.conn.now) }
-    ensures inside { HasCleanDisk (state S.Store tx.new.conn.now) → OnOk result (IsTrue (state S.Store tx.new.conn.now).in_transaction) }
-    ensures put { HasCleanDisk (state S.Store tx.new.conn.now) → OnOk result ((way : Way) (ws : List WaitingRow) → HoldsWaiting way (state S.Store tx.old.conn.now).now ws
-        → Changed (state S.Store tx.old.conn.now) (state S.Store tx.new.conn.now) (store_schema way) waiting_tree (map waiting_row (without_due (kind_code wait) moment ws))) }
+    ensures inside { HasCleanDisk (state S.Store tx.new.conn.now)
+        → OnOk result (IsTrue (state S.Store tx.new.conn.now).in_transaction) }
+    ensures put { HasCleanDisk (state S.Store tx.new.conn.now)
+        → OnOk result ((way : Way) (ws : List WaitingRow) → HoldsWaiting way (state S.Store tx.old.conn.now).now ws
+        → Changed (state S.Store tx.old.conn.now) (state S.Store tx.new.conn.now) (store_schema way) waiting_tree
+        (map waiting_row (without_due (kind_code wait) moment ws))) }
 {
     let kind = whole(wait.code());
     let moment = whole(moment.seconds());
@@ -105,14 +118,20 @@ fn pass_due<S: Alter>(
     detail: Detail,
     moment: Moment,
 ) -> Result<u64, Error>
-    requires begun { HasCleanDisk (state S.Store tx.old.conn.now) → IsTrue (state S.Store tx.old.conn.now).in_transaction }
+    requires begun { HasCleanDisk (state S.Store tx.old.conn.now)
+        → IsTrue (state S.Store tx.old.conn.now).in_transaction }
     requires passes { PassesInto (kind_code wait) detail }
     ensures same_reference { tx.new.conn.ghost_name ≡ tx.old.conn.ghost_name }
     ensures within { IsInside (state S.Store tx.old.conn.now) (state S.Store tx.new.conn.now) }
-    ensures open { HasCleanDisk (state S.Store tx.new.conn.now) → OnOk result (IsTrue (state S.Store tx.old.conn.now).is_open) }
-    ensures inside { HasCleanDisk (state S.Store tx.new.conn.now) → OnOk result (IsTrue (state S.Store tx.new.conn.now).in_transaction) }
-    ensures passed { HasCleanDisk (state S.Store tx.new.conn.now) → IfOk result (λ count. (way : Way) (s : State) → Stands (VersionThree way) (state S.Store tx.old.conn.now).now s
-        → Stands (VersionThree way) (state S.Store tx.new.conn.now).now (passing_in (kind_code wait) detail moment s) × (count ≡ count_by (over (kind_code wait) moment) s.outbox)) }
+    ensures open { HasCleanDisk (state S.Store tx.new.conn.now)
+        → OnOk result (IsTrue (state S.Store tx.old.conn.now).is_open) }
+    ensures inside { HasCleanDisk (state S.Store tx.new.conn.now)
+        → OnOk result (IsTrue (state S.Store tx.new.conn.now).in_transaction) }
+    ensures passed { HasCleanDisk (state S.Store tx.new.conn.now)
+        → IfOk result (λ count. (way : Way) (s : State)
+        → Stands (VersionThree way) (state S.Store tx.old.conn.now).now s
+        → Stands (VersionThree way) (state S.Store tx.new.conn.now).now (passing_in (kind_code wait) detail moment s)
+        × (count ≡ count_by (over (kind_code wait) moment) s.outbox)) }
 {
     let found = due_rows(tx, wait, moment)?;
     let rows = found.as_slice();

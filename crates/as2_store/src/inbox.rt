@@ -25,9 +25,12 @@ pub fn put_in<S: Alter>(tx: &mut Transaction<'_, S>, entry: &InEntry) -> Result<
     requires fits { Fits entry.now.posted.content entry.now.tries entry.now.due }
     ensures same_reference { tx.new.conn.ghost_name ≡ tx.old.conn.ghost_name }
     ensures within { IsInside (state S.Store tx.old.conn.now) (state S.Store tx.new.conn.now) }
-    ensures open { HasCleanDisk (state S.Store tx.new.conn.now) → OnOk result (IsTrue (state S.Store tx.old.conn.now).is_open) }
-    ensures put { HasCleanDisk (state S.Store tx.new.conn.now) → OnOk result ((way : Way) → (state S.Store tx.old.conn.now).now.schema ≡ store_schema way
-        → Changed (state S.Store tx.old.conn.now) (state S.Store tx.new.conn.now) (store_schema way) (inbox_tree way) (put_row (in_row entry.now) ((state S.Store tx.old.conn.now).now.trees (inbox_tree way)))) }
+    ensures open { HasCleanDisk (state S.Store tx.new.conn.now)
+        → OnOk result (IsTrue (state S.Store tx.old.conn.now).is_open) }
+    ensures put { HasCleanDisk (state S.Store tx.new.conn.now)
+        → OnOk result ((way : Way) → (state S.Store tx.old.conn.now).now.schema ≡ store_schema way
+        → Changed (state S.Store tx.old.conn.now) (state S.Store tx.new.conn.now) (store_schema way) (inbox_tree way)
+        (put_row (in_row entry.now) ((state S.Store tx.old.conn.now).now.trees (inbox_tree way)))) }
 {
     let posted = &entry.posted;
     let number = whole(entry.number);
@@ -69,7 +72,9 @@ pub fn rows_by_key<S: Alter>(
 ) -> Result<Vec<Row>, Error>
     requires autocommit { conn.old.in_transaction ≡ false }
     ensures autocommit { conn.new.in_transaction ≡ false }
-    ensures rows { Reads (λ s rows. rows.items ≡ map in_shown (filter (λ e. has_key sender.now receiver.now value.now e.posted) s.inbox)) (state S.Store conn.old) (state S.Store conn.new) result }
+    ensures rows { Reads (λ s rows. rows.items
+        ≡ map in_shown (filter (λ e. has_key sender.now receiver.now value.now e.posted) s.inbox))
+        (state S.Store conn.old) (state S.Store conn.new) result }
 {
     query_all(
         conn,
@@ -82,7 +87,9 @@ pub fn rows_by_key<S: Alter>(
 pub fn rows_by_number<S: Alter>(conn: &mut Connection<S>, number: u64) -> Result<Vec<Row>, Error>
     requires autocommit { conn.old.in_transaction ≡ false }
     ensures autocommit { conn.new.in_transaction ≡ false }
-    ensures rows { Reads (λ s rows. rows.items ≡ map in_shown (filter (λ e. e.number == number) s.inbox)) (state S.Store conn.old) (state S.Store conn.new) result }
+    ensures rows { Reads (λ s rows. rows.items
+        ≡ map in_shown (filter (λ e. e.number == number) s.inbox)) (state S.Store conn.old) (state S.Store conn.new)
+        result }
 {
     let wanted = asked(number);
     let param = whole(wanted);

@@ -24,7 +24,8 @@ pub fn entries<S: Alter>(conn: &mut Connection<S>, alloc: Global) -> Result<Vec<
     requires autocommit { conn.old.in_transaction ≡ false }
     requires open { HasCleanDisk (state S.Store conn.old) → IsTrue (state S.Store conn.old).is_open }
     ensures autocommit { conn.new.in_transaction ≡ false }
-    ensures entries { Reads (λ s entries. entries.items ≡ map in_summary s.inbox) (state S.Store conn.old) (state S.Store conn.new) result }
+    ensures entries { Reads (λ s entries. entries.items
+        ≡ map in_summary s.inbox) (state S.Store conn.old) (state S.Store conn.new) result }
     ensures fault { IfErr result (λ f. may_come f ≡ true) }
 {
     let mut entries = Vec::new(alloc);
@@ -82,7 +83,8 @@ fn list_if(
     wanted: Option<State>,
     document: OutRow,
 ) -> Result<(), StoreFault>
-    ensures listed { OnOk result (documents.new.items ≡ (if detail_in wanted document.detail then documents.old.items ++ document ∷ [] else documents.old.items)) }
+    ensures listed { OnOk result (documents.new.items
+        ≡ (if detail_in wanted document.detail then documents.old.items ++ document ∷ [] else documents.old.items)) }
     ensures fault { IfErr result (λ f. may_come f ≡ true) }
 {
     if !is_in(wanted, document.detail) {
@@ -105,7 +107,8 @@ fn documents_between<S: Alter>(
     requires open { HasCleanDisk (state S.Store conn.old) → IsTrue (state S.Store conn.old).is_open }
     requires codes { bound codes.now ≡ state_codes wanted }
     ensures autocommit { conn.new.in_transaction ≡ false }
-    ensures documents { Reads (λ s documents. documents.items ≡ listed wanted s) (state S.Store conn.old) (state S.Store conn.new) result }
+    ensures documents { Reads (λ s documents. documents.items
+        ≡ listed wanted s) (state S.Store conn.old) (state S.Store conn.new) result }
     ensures fault { IfErr result (λ f. may_come f ≡ true) }
 {
     let mut documents = Vec::new(alloc);
@@ -140,7 +143,8 @@ pub fn documents<S: Alter>(
     requires autocommit { conn.old.in_transaction ≡ false }
     requires open { HasCleanDisk (state S.Store conn.old) → IsTrue (state S.Store conn.old).is_open }
     ensures autocommit { conn.new.in_transaction ≡ false }
-    ensures documents { Reads (λ s documents. documents.items ≡ listed wanted s) (state S.Store conn.old) (state S.Store conn.new) result }
+    ensures documents { Reads (λ s documents. documents.items
+        ≡ listed wanted s) (state S.Store conn.old) (state S.Store conn.new) result }
     ensures fault { IfErr result (λ f. may_come f ≡ true) }
 {
     let (first, last) = details_of(wanted);

@@ -26,7 +26,9 @@ use sqlite::{Alter, Connection, Error, Row, Transaction, params};
 fn make_inbox_beside<S: Alter>(tx: &mut Transaction<'_, S>) -> Result<(), Error>
     ensures same_reference { tx.new.conn.ghost_name ≡ tx.old.conn.ghost_name }
     ensures within { IsInside (state S.Store tx.old.conn.now) (state S.Store tx.new.conn.now) }
-    ensures made { HasCleanDisk (state S.Store tx.new.conn.now) → OnOk result ((s : State) → Stands VersionOne (state S.Store tx.old.conn.now).now s → IsInboxBeside (state S.Store tx.new.conn.now).now s) }
+    ensures made { HasCleanDisk (state S.Store tx.new.conn.now)
+        → OnOk result ((s : State) → Stands VersionOne (state S.Store tx.old.conn.now).now s
+        → IsInboxBeside (state S.Store tx.new.conn.now).now s) }
 {
     run(
         tx,
@@ -43,7 +45,9 @@ fn make_inbox_beside<S: Alter>(tx: &mut Transaction<'_, S>) -> Result<(), Error>
 fn make_beside<S: Alter>(tx: &mut Transaction<'_, S>) -> Result<(), Error>
     ensures same_reference { tx.new.conn.ghost_name ≡ tx.old.conn.ghost_name }
     ensures within { IsInside (state S.Store tx.old.conn.now) (state S.Store tx.new.conn.now) }
-    ensures made { HasCleanDisk (state S.Store tx.new.conn.now) → OnOk result ((s : State) → Stands VersionOne (state S.Store tx.old.conn.now).now s → IsBeside (state S.Store tx.new.conn.now).now s) }
+    ensures made { HasCleanDisk (state S.Store tx.new.conn.now)
+        → OnOk result ((s : State) → Stands VersionOne (state S.Store tx.old.conn.now).now s
+        → IsBeside (state S.Store tx.new.conn.now).now s) }
 {
     make_inbox_beside(tx)?;
     run(tx, "CREATE TABLE origin (number INTEGER NOT NULL) STRICT")?;
@@ -58,7 +62,9 @@ fn make_beside<S: Alter>(tx: &mut Transaction<'_, S>) -> Result<(), Error>
 fn copy_inbox<S: Alter>(tx: &mut Transaction<'_, S>) -> Result<(), Error>
     ensures same_reference { tx.new.conn.ghost_name ≡ tx.old.conn.ghost_name }
     ensures within { IsInside (state S.Store tx.old.conn.now) (state S.Store tx.new.conn.now) }
-    ensures copied { HasCleanDisk (state S.Store tx.new.conn.now) → OnOk result ((s : State) → IsCounted s → IsBeside (state S.Store tx.old.conn.now).now s → AreShared (state S.Store tx.new.conn.now).now s) }
+    ensures copied { HasCleanDisk (state S.Store tx.new.conn.now)
+        → OnOk result ((s : State) → IsCounted s → IsBeside (state S.Store tx.old.conn.now).now s
+        → AreShared (state S.Store tx.new.conn.now).now s) }
 {
     run(
         tx,
@@ -72,7 +78,10 @@ fn run_below<S: Alter>(tx: &mut Transaction<'_, S>, text: &str, below: u64) -> R
     requires { below < 2 ^ 63 }
     ensures same_reference { tx.new.conn.ghost_name ≡ tx.old.conn.ghost_name }
     ensures within { IsInside (state S.Store tx.old.conn.now) (state S.Store tx.new.conn.now) }
-    ensures ran { HasCleanDisk (state S.Store tx.new.conn.now) → OnOk result ((count : ℕ) × Executes text.now (whole below ∷ []) (state S.Store tx.old.conn.now) (state S.Store tx.new.conn.now) (Ok count)) }
+    ensures ran { HasCleanDisk (state S.Store tx.new.conn.now)
+        → OnOk result ((count : ℕ)
+        × Executes text.now (whole below ∷ []) (state S.Store tx.old.conn.now) (state S.Store tx.new.conn.now)
+        (Ok count)) }
 {
     let below = whole(below);
     tx.execute(text, params![below])?;
@@ -84,7 +93,9 @@ fn move_below<S: Alter>(tx: &mut Transaction<'_, S>, below: u64) -> Result<(), E
     requires { below < 2 ^ 63 }
     ensures same_reference { tx.new.conn.ghost_name ≡ tx.old.conn.ghost_name }
     ensures within { IsInside (state S.Store tx.old.conn.now) (state S.Store tx.new.conn.now) }
-    ensures moved { HasCleanDisk (state S.Store tx.new.conn.now) → OnOk result ((s : State) → AreShared (state S.Store tx.old.conn.now).now s → AreShared (state S.Store tx.new.conn.now).now s) }
+    ensures moved { HasCleanDisk (state S.Store tx.new.conn.now)
+        → OnOk result ((s : State) → AreShared (state S.Store tx.old.conn.now).now s
+        → AreShared (state S.Store tx.new.conn.now).now s) }
 {
     run_below(
         tx,
@@ -99,7 +110,9 @@ fn move_below<S: Alter>(tx: &mut Transaction<'_, S>, below: u64) -> Result<(), E
 fn move_rest<S: Alter>(tx: &mut Transaction<'_, S>) -> Result<(), Error>
     ensures same_reference { tx.new.conn.ghost_name ≡ tx.old.conn.ghost_name }
     ensures within { IsInside (state S.Store tx.old.conn.now) (state S.Store tx.new.conn.now) }
-    ensures moved { HasCleanDisk (state S.Store tx.new.conn.now) → OnOk result ((s : State) → AreShared (state S.Store tx.old.conn.now).now s → IsCopied (state S.Store tx.new.conn.now).now s) }
+    ensures moved { HasCleanDisk (state S.Store tx.new.conn.now)
+        → OnOk result ((s : State) → AreShared (state S.Store tx.old.conn.now).now s
+        → IsCopied (state S.Store tx.new.conn.now).now s) }
 {
     run(
         tx,
@@ -114,7 +127,9 @@ fn move_contents<S: Alter>(tx: &mut Transaction<'_, S>, next: u64) -> Result<(),
     requires { next < 2 ^ 63 }
     ensures same_reference { tx.new.conn.ghost_name ≡ tx.old.conn.ghost_name }
     ensures within { IsInside (state S.Store tx.old.conn.now) (state S.Store tx.new.conn.now) }
-    ensures moved { HasCleanDisk (state S.Store tx.new.conn.now) → OnOk result ((s : State) → AreShared (state S.Store tx.old.conn.now).now s → IsCopied (state S.Store tx.new.conn.now).now s) }
+    ensures moved { HasCleanDisk (state S.Store tx.new.conn.now)
+        → OnOk result ((s : State) → AreShared (state S.Store tx.old.conn.now).now s
+        → IsCopied (state S.Store tx.new.conn.now).now s) }
 {
     move_below(tx, next / 4)?;
     move_below(tx, next / 2)?;
@@ -127,7 +142,9 @@ fn move_contents<S: Alter>(tx: &mut Transaction<'_, S>, next: u64) -> Result<(),
 fn empty_first<S: Alter>(tx: &mut Transaction<'_, S>) -> Result<(), Error>
     ensures same_reference { tx.new.conn.ghost_name ≡ tx.old.conn.ghost_name }
     ensures within { IsInside (state S.Store tx.old.conn.now) (state S.Store tx.new.conn.now) }
-    ensures emptied { HasCleanDisk (state S.Store tx.new.conn.now) → OnOk result ((s : State) → IsCounted s → IsCopied (state S.Store tx.old.conn.now).now s → IsMoved (state S.Store tx.new.conn.now).now s) }
+    ensures emptied { HasCleanDisk (state S.Store tx.new.conn.now)
+        → OnOk result ((s : State) → IsCounted s → IsCopied (state S.Store tx.old.conn.now).now s
+        → IsMoved (state S.Store tx.new.conn.now).now s) }
 {
     run(tx, "DELETE FROM inbox")?;
     Ok(())
@@ -138,7 +155,9 @@ fn move_first<S: Alter>(tx: &mut Transaction<'_, S>, next: u64) -> Result<(), Er
     requires { next < 2 ^ 63 }
     ensures same_reference { tx.new.conn.ghost_name ≡ tx.old.conn.ghost_name }
     ensures within { IsInside (state S.Store tx.old.conn.now) (state S.Store tx.new.conn.now) }
-    ensures moved { HasCleanDisk (state S.Store tx.new.conn.now) → OnOk result ((s : State) → Stands VersionOne (state S.Store tx.old.conn.now).now s → next ≡ s.next_in → StandsBut 1 Migrated (state S.Store tx.new.conn.now).now (migrated s)) }
+    ensures moved { HasCleanDisk (state S.Store tx.new.conn.now)
+        → OnOk result ((s : State) → Stands VersionOne (state S.Store tx.old.conn.now).now s → next ≡ s.next_in
+        → StandsBut 1 Migrated (state S.Store tx.new.conn.now).now (migrated s)) }
 {
     make_beside(tx)?;
     copy_inbox(tx)?;
@@ -152,7 +171,9 @@ fn move_first<S: Alter>(tx: &mut Transaction<'_, S>, next: u64) -> Result<(), Er
 fn move_second<S: Alter>(tx: &mut Transaction<'_, S>) -> Result<(), Error>
     ensures same_reference { tx.new.conn.ghost_name ≡ tx.old.conn.ghost_name }
     ensures within { IsInside (state S.Store tx.old.conn.now) (state S.Store tx.new.conn.now) }
-    ensures moved { HasCleanDisk (state S.Store tx.new.conn.now) → OnOk result ((way : Way) (s : State) → Stands (VersionTwo way) (state S.Store tx.old.conn.now).now s → StandsBut 2 way (state S.Store tx.new.conn.now).now s) }
+    ensures moved { HasCleanDisk (state S.Store tx.new.conn.now)
+        → OnOk result ((way : Way) (s : State) → Stands (VersionTwo way) (state S.Store tx.old.conn.now).now s
+        → StandsBut 2 way (state S.Store tx.new.conn.now).now s) }
 {
     run(
         tx,
@@ -165,8 +186,11 @@ fn move_second<S: Alter>(tx: &mut Transaction<'_, S>) -> Result<(), Error>
 fn raise_version<S: Alter>(tx: &mut Transaction<'_, S>) -> Result<(), Error>
     ensures same_reference { tx.new.conn.ghost_name ≡ tx.old.conn.ghost_name }
     ensures within { IsInside (state S.Store tx.old.conn.now) (state S.Store tx.new.conn.now) }
-    ensures inside { HasCleanDisk (state S.Store tx.new.conn.now) → OnOk result (IsTrue (state S.Store tx.new.conn.now).in_transaction) }
-    ensures raised { HasCleanDisk (state S.Store tx.new.conn.now) → OnOk result ((number : ℕ) (way : Way) (s : State) → StandsBut number way (state S.Store tx.old.conn.now).now s → Stands (VersionThree way) (state S.Store tx.new.conn.now).now s) }
+    ensures inside { HasCleanDisk (state S.Store tx.new.conn.now)
+        → OnOk result (IsTrue (state S.Store tx.new.conn.now).in_transaction) }
+    ensures raised { HasCleanDisk (state S.Store tx.new.conn.now)
+        → OnOk result ((number : ℕ) (way : Way) (s : State) → StandsBut number way (state S.Store tx.old.conn.now).now s
+        → Stands (VersionThree way) (state S.Store tx.new.conn.now).now s) }
 {
     tx.execute("UPDATE meta SET version = 3", &[])?;
     Ok(())
@@ -183,10 +207,13 @@ struct Earlier {
 
 /// What these rows of `meta` say, unless they aren't those of a store of an earlier version.
 fn told(rows: &[Row]) -> Result<Earlier, StoreFault>
-    ensures told { IfOk result (λ it. (it.next < 2 ^ 63) × ((kind : List ℕ) (version n m : ℕ) → rows.now ≡ (Text kind ∷ whole version ∷ whole n ∷ whole m ∷ []) ∷ []
+    ensures told { IfOk result (λ it. (it.next < 2 ^ 63)
+        × ((kind : List ℕ) (version n m : ℕ) → rows.now ≡ (Text kind ∷ whole version ∷ whole n ∷ whole m ∷ []) ∷ []
         → (migration_fault kind version ≡ None) × (version ≡ (if it.is_first then 1 else 2)) × (it.next ≡ n))) }
     ensures not_full { IfErr result (λ f. is_full f ≡ false) }
-    ensures fault { IfErr result (λ f. (may_come f ≡ true) ⊎ ((kind : List ℕ) (version n m : ℕ) → rows.now ≡ (Text kind ∷ whole version ∷ whole n ∷ whole m ∷ []) ∷ [] → migration_fault kind version ≡ Some f)) }
+    ensures fault { IfErr result (λ f. (may_come f ≡ true)
+        ⊎ ((kind : List ℕ) (version n m : ℕ) → rows.now ≡ (Text kind ∷ whole version ∷ whole n ∷ whole m ∷ []) ∷ []
+        → migration_fault kind version ≡ Some f)) }
 {
     let [row] = rows else {
         return Err(StoreFault::NotAStore);
@@ -219,7 +246,9 @@ fn move_to<S: Alter>(tx: &mut Transaction<'_, S>, earlier: Earlier) -> Result<()
     requires { earlier.next < 2 ^ 63 }
     ensures same_reference { tx.new.conn.ghost_name ≡ tx.old.conn.ghost_name }
     ensures within { IsInside (state S.Store tx.old.conn.now) (state S.Store tx.new.conn.now) }
-    ensures moved { HasCleanDisk (state S.Store tx.new.conn.now) → OnOk result ((layout : Layout) (s : State) → Stands layout (state S.Store tx.old.conn.now).now s → number_of layout ≡ (if earlier.is_first then 1 else 2) → earlier.next ≡ s.next_in
+    ensures moved { HasCleanDisk (state S.Store tx.new.conn.now)
+        → OnOk result ((layout : Layout) (s : State) → Stands layout (state S.Store tx.old.conn.now).now s
+        → number_of layout ≡ (if earlier.is_first then 1 else 2) → earlier.next ≡ s.next_in
         → IsNearly layout (state S.Store tx.new.conn.now).now s) }
 {
     if earlier.is_first {
@@ -235,8 +264,11 @@ fn move_tables<S: Alter>(tx: &mut Transaction<'_, S>, earlier: Earlier) -> Resul
     requires { earlier.next < 2 ^ 63 }
     ensures same_reference { tx.new.conn.ghost_name ≡ tx.old.conn.ghost_name }
     ensures within { IsInside (state S.Store tx.old.conn.now) (state S.Store tx.new.conn.now) }
-    ensures inside { HasCleanDisk (state S.Store tx.new.conn.now) → OnOk result (IsTrue (state S.Store tx.new.conn.now).in_transaction) }
-    ensures moved { HasCleanDisk (state S.Store tx.new.conn.now) → OnOk result ((layout : Layout) (s : State) → Stands layout (state S.Store tx.old.conn.now).now s → number_of layout ≡ (if earlier.is_first then 1 else 2) → earlier.next ≡ s.next_in
+    ensures inside { HasCleanDisk (state S.Store tx.new.conn.now)
+        → OnOk result (IsTrue (state S.Store tx.new.conn.now).in_transaction) }
+    ensures moved { HasCleanDisk (state S.Store tx.new.conn.now)
+        → OnOk result ((layout : Layout) (s : State) → Stands layout (state S.Store tx.old.conn.now).now s
+        → number_of layout ≡ (if earlier.is_first then 1 else 2) → earlier.next ≡ s.next_in
         → IsNext layout (state S.Store tx.new.conn.now).now s) }
 {
     move_to(tx, earlier)?;
@@ -250,7 +282,8 @@ pub fn migrate<S: Alter>(conn: &mut Connection<S>) -> Result<(), StoreFault>
     requires autocommit { conn.old.in_transaction ≡ false }
     ensures autocommit { conn.new.in_transaction ≡ false }
     ensures migrated { OnOk result (Migrates (state S.Store conn.old) (state S.Store conn.new)) }
-    ensures given_back { OnErr result (IsGivenBack (CommitsMigrated (state S.Store conn.old)) (state S.Store conn.old) (state S.Store conn.new)) }
+    ensures given_back { OnErr result
+        (IsGivenBack (CommitsMigrated (state S.Store conn.old)) (state S.Store conn.old) (state S.Store conn.new)) }
     ensures reason { HasCleanDisk (state S.Store conn.new) → IfErr result (IsMigrationReason (state S.Store conn.old)) }
 {
     let is_bare = conn.schema().tables.is_empty();

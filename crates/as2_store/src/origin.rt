@@ -19,9 +19,13 @@ pub fn put_origin<S: Alter>(tx: &mut Transaction<'_, S>, number: u64) -> Result<
     requires { number < 2 ^ 63 }
     ensures same_reference { tx.new.conn.ghost_name ≡ tx.old.conn.ghost_name }
     ensures within { IsInside (state S.Store tx.old.conn.now) (state S.Store tx.new.conn.now) }
-    ensures inside { HasCleanDisk (state S.Store tx.new.conn.now) → OnOk result (IsTrue (state S.Store tx.new.conn.now).in_transaction) }
-    ensures put { HasCleanDisk (state S.Store tx.new.conn.now) → OnOk result ((way : Way) → (state S.Store tx.old.conn.now).now.schema ≡ store_schema way → (state S.Store tx.old.conn.now).now.trees (origin_tree way) ≡ []
-        → Changed (state S.Store tx.old.conn.now) (state S.Store tx.new.conn.now) (store_schema way) (origin_tree way) (origin_row number ∷ [])) }
+    ensures inside { HasCleanDisk (state S.Store tx.new.conn.now)
+        → OnOk result (IsTrue (state S.Store tx.new.conn.now).in_transaction) }
+    ensures put { HasCleanDisk (state S.Store tx.new.conn.now)
+        → OnOk result ((way : Way) → (state S.Store tx.old.conn.now).now.schema ≡ store_schema way
+        → (state S.Store tx.old.conn.now).now.trees (origin_tree way) ≡ []
+        → Changed (state S.Store tx.old.conn.now) (state S.Store tx.new.conn.now) (store_schema way) (origin_tree way)
+        (origin_row number ∷ [])) }
 {
     let number = whole(number);
     tx.execute("INSERT INTO origin (number) VALUES (?1)", params![number])?;
@@ -32,7 +36,8 @@ pub fn put_origin<S: Alter>(tx: &mut Transaction<'_, S>, number: u64) -> Result<
 pub fn origin_rows<S: Alter>(conn: &mut Connection<S>) -> Result<Vec<Row>, Error>
     requires autocommit { conn.old.in_transaction ≡ false }
     ensures autocommit { conn.new.in_transaction ≡ false }
-    ensures rows { Reads (λ s rows. rows.items ≡ number_row (origin_of s.version) ∷ []) (state S.Store conn.old) (state S.Store conn.new) result }
+    ensures rows { Reads (λ s rows. rows.items
+        ≡ number_row (origin_of s.version) ∷ []) (state S.Store conn.old) (state S.Store conn.new) result }
 {
     query_all(conn, "SELECT number FROM origin", &[])
 }

@@ -26,9 +26,12 @@ pub fn put_out<S: Alter>(tx: &mut Transaction<'_, S>, entry: &OutEntry) -> Resul
     requires fits { Fits entry.now.content entry.now.tries entry.now.due }
     ensures same_reference { tx.new.conn.ghost_name ≡ tx.old.conn.ghost_name }
     ensures within { IsInside (state S.Store tx.old.conn.now) (state S.Store tx.new.conn.now) }
-    ensures open { HasCleanDisk (state S.Store tx.new.conn.now) → OnOk result (IsTrue (state S.Store tx.old.conn.now).is_open) }
-    ensures put { HasCleanDisk (state S.Store tx.new.conn.now) → OnOk result ((way : Way) → (state S.Store tx.old.conn.now).now.schema ≡ store_schema way
-        → Changed (state S.Store tx.old.conn.now) (state S.Store tx.new.conn.now) (store_schema way) outbox_tree (put_row (out_row entry.now) ((state S.Store tx.old.conn.now).now.trees outbox_tree))) }
+    ensures open { HasCleanDisk (state S.Store tx.new.conn.now)
+        → OnOk result (IsTrue (state S.Store tx.old.conn.now).is_open) }
+    ensures put { HasCleanDisk (state S.Store tx.new.conn.now)
+        → OnOk result ((way : Way) → (state S.Store tx.old.conn.now).now.schema ≡ store_schema way
+        → Changed (state S.Store tx.old.conn.now) (state S.Store tx.new.conn.now) (store_schema way) outbox_tree
+        (put_row (out_row entry.now) ((state S.Store tx.old.conn.now).now.trees outbox_tree))) }
 {
     let number = whole(entry.number);
     let length = whole(entry.content.len() as u64);
@@ -58,7 +61,8 @@ pub fn put_out<S: Alter>(tx: &mut Transaction<'_, S>, entry: &OutEntry) -> Resul
 pub fn rows_by_id<S: Alter>(conn: &mut Connection<S>, value: &[u8]) -> Result<Vec<Row>, Error>
     requires autocommit { conn.old.in_transaction ≡ false }
     ensures autocommit { conn.new.in_transaction ≡ false }
-    ensures rows { Reads (λ s rows. rows.items ≡ map out_shown (filter (has_id value.now) s.outbox)) (state S.Store conn.old) (state S.Store conn.new) result }
+    ensures rows { Reads (λ s rows. rows.items
+        ≡ map out_shown (filter (has_id value.now) s.outbox)) (state S.Store conn.old) (state S.Store conn.new) result }
 {
     query_all(
         conn,
@@ -71,7 +75,9 @@ pub fn rows_by_id<S: Alter>(conn: &mut Connection<S>, value: &[u8]) -> Result<Ve
 pub fn rows_by_number<S: Alter>(conn: &mut Connection<S>, number: u64) -> Result<Vec<Row>, Error>
     requires autocommit { conn.old.in_transaction ≡ false }
     ensures autocommit { conn.new.in_transaction ≡ false }
-    ensures rows { Reads (λ s rows. rows.items ≡ map out_shown (filter (λ d. d.number == number) s.outbox)) (state S.Store conn.old) (state S.Store conn.new) result }
+    ensures rows { Reads (λ s rows. rows.items
+        ≡ map out_shown (filter (λ d. d.number == number) s.outbox)) (state S.Store conn.old) (state S.Store conn.new)
+        result }
 {
     let wanted = asked(number);
     let param = whole(wanted);
@@ -86,7 +92,8 @@ pub fn rows_by_number<S: Alter>(conn: &mut Connection<S>, number: u64) -> Result
 pub fn evidence_rows<S: Alter>(conn: &mut Connection<S>, number: u64) -> Result<Vec<Row>, Error>
     requires autocommit { conn.old.in_transaction ≡ false }
     ensures autocommit { conn.new.in_transaction ≡ false }
-    ensures rows { Reads (λ s rows. rows.items ≡ shown_evidence number (evidence_at s number)) (state S.Store conn.old) (state S.Store conn.new) result }
+    ensures rows { Reads (λ s rows. rows.items
+        ≡ shown_evidence number (evidence_at s number)) (state S.Store conn.old) (state S.Store conn.new) result }
 {
     let wanted = asked(number);
     let param = whole(wanted);
@@ -108,9 +115,12 @@ pub fn put_evidence<S: Alter>(
     requires body { body.now ≡ evidence.now.body }
     ensures same_reference { tx.new.conn.ghost_name ≡ tx.old.conn.ghost_name }
     ensures within { IsInside (state S.Store tx.old.conn.now) (state S.Store tx.new.conn.now) }
-    ensures put { HasCleanDisk (state S.Store tx.new.conn.now) → OnOk result ((way : Way) → (state S.Store tx.old.conn.now).now.schema ≡ store_schema way
-        → Changed (state S.Store tx.old.conn.now) (state S.Store tx.new.conn.now) (store_schema way) evidence_tree (put_row (evidence_row number evidence.now) ((state S.Store tx.old.conn.now).now.trees evidence_tree))
-        × (are_fresh ((state S.Store tx.old.conn.now).now.trees evidence_tree) (evidence_row number evidence.now ∷ []) ≡ true)) }
+    ensures put { HasCleanDisk (state S.Store tx.new.conn.now)
+        → OnOk result ((way : Way) → (state S.Store tx.old.conn.now).now.schema ≡ store_schema way
+        → Changed (state S.Store tx.old.conn.now) (state S.Store tx.new.conn.now) (store_schema way) evidence_tree
+        (put_row (evidence_row number evidence.now) ((state S.Store tx.old.conn.now).now.trees evidence_tree))
+        × (are_fresh ((state S.Store tx.old.conn.now).now.trees evidence_tree) (evidence_row number evidence.now ∷ [])
+        ≡ true)) }
 {
     let number = whole(number);
     let moment = whole(evidence.moment.seconds());

@@ -27,10 +27,16 @@ fn set_owed<S: Alter>(
     requires fits { FitsMdn progress }
     ensures same_reference { tx.new.conn.ghost_name ≡ tx.old.conn.ghost_name }
     ensures within { IsInside (state S.Store tx.old.conn.now) (state S.Store tx.new.conn.now) }
-    ensures open { HasCleanDisk (state S.Store tx.new.conn.now) → OnOk result (IsTrue (state S.Store tx.old.conn.now).is_open) }
-    ensures inside { HasCleanDisk (state S.Store tx.new.conn.now) → OnOk result (IsTrue (state S.Store tx.new.conn.now).in_transaction) }
-    ensures put { HasCleanDisk (state S.Store tx.new.conn.now) → IfOk result (λ count. (way : Way) (s : State) → Stands (VersionThree way) (state S.Store tx.old.conn.now).now s
-        → Changed (state S.Store tx.old.conn.now) (state S.Store tx.new.conn.now) (store_schema way) (inbox_tree way) (map in_row (change_received s number (owed_as progress)).inbox) × (count ≡ length (filter (λ e. e.number == number) s.inbox))) }
+    ensures open { HasCleanDisk (state S.Store tx.new.conn.now)
+        → OnOk result (IsTrue (state S.Store tx.old.conn.now).is_open) }
+    ensures inside { HasCleanDisk (state S.Store tx.new.conn.now)
+        → OnOk result (IsTrue (state S.Store tx.new.conn.now).in_transaction) }
+    ensures put { HasCleanDisk (state S.Store tx.new.conn.now)
+        → IfOk result (λ count. (way : Way) (s : State)
+        → Stands (VersionThree way) (state S.Store tx.old.conn.now).now s
+        → Changed (state S.Store tx.old.conn.now) (state S.Store tx.new.conn.now) (store_schema way) (inbox_tree way)
+        (map in_row (change_received s number (owed_as progress)).inbox)
+        × (count ≡ length (filter (λ e. e.number == number) s.inbox))) }
 {
     let wanted = asked(number);
     let param = whole(wanted);

@@ -29,9 +29,14 @@ fn set_progress<S: Alter>(
     requires fits { FitsProgress progress }
     ensures same_reference { tx.new.conn.ghost_name ≡ tx.old.conn.ghost_name }
     ensures within { IsInside (state S.Store tx.old.conn.now) (state S.Store tx.new.conn.now) }
-    ensures open { HasCleanDisk (state S.Store tx.new.conn.now) → OnOk result (IsTrue (state S.Store tx.old.conn.now).is_open) }
-    ensures put { HasCleanDisk (state S.Store tx.new.conn.now) → IfOk result (λ count. (way : Way) (s : State) → Stands (VersionThree way) (state S.Store tx.old.conn.now).now s
-        → Changed (state S.Store tx.old.conn.now) (state S.Store tx.new.conn.now) (store_schema way) outbox_tree (map out_row (change_document s number (come_to progress)).outbox) × (count ≡ length (filter (λ d. d.number == number) s.outbox))) }
+    ensures open { HasCleanDisk (state S.Store tx.new.conn.now)
+        → OnOk result (IsTrue (state S.Store tx.old.conn.now).is_open) }
+    ensures put { HasCleanDisk (state S.Store tx.new.conn.now)
+        → IfOk result (λ count. (way : Way) (s : State)
+        → Stands (VersionThree way) (state S.Store tx.old.conn.now).now s
+        → Changed (state S.Store tx.old.conn.now) (state S.Store tx.new.conn.now) (store_schema way) outbox_tree
+        (map out_row (change_document s number (come_to progress)).outbox)
+        × (count ≡ length (filter (λ d. d.number == number) s.outbox))) }
 {
     let number = whole(number);
     let tries = whole(progress.tries);

@@ -21,7 +21,9 @@ pub fn query_all<S: Alter>(
     requires autocommit { conn.old.in_transaction ≡ false }
     requires plain { (way : Way) → IsPlain (understood (store_schema way) sql.now) }
     ensures autocommit { conn.new.in_transaction ≡ false }
-    ensures shown { Reads (λ s rows. Shown sql.now (bound params.now) (state S.Store conn.old) (state S.Store conn.old) rows.items) (state S.Store conn.old) (state S.Store conn.new) result }
+    ensures shown { Reads
+        (λ s rows. Shown sql.now (bound params.now) (state S.Store conn.old) (state S.Store conn.old) rows.items)
+        (state S.Store conn.old) (state S.Store conn.new) result }
 {
     let mut tx = conn.transaction();
     let rows = tx.query_all(sql, params)?;

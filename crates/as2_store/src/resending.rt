@@ -24,11 +24,14 @@ use sqlite::{Alter, Connection, Error, Row, Transaction, params};
 /// The rows of the number of the document of this number, where it was tried since it was last queued.
 fn tried_rows<S: Alter>(tx: &mut Transaction<'_, S>, number: u64) -> Result<Vec<Row>, Error>
     requires number { number < 2 ^ 63 }
-    requires begun { HasCleanDisk (state S.Store tx.old.conn.now) → IsTrue (state S.Store tx.old.conn.now).in_transaction }
+    requires begun { HasCleanDisk (state S.Store tx.old.conn.now)
+        → IsTrue (state S.Store tx.old.conn.now).in_transaction }
     ensures same_reference { tx.new.conn.ghost_name ≡ tx.old.conn.ghost_name }
     ensures within { IsInside (state S.Store tx.old.conn.now) (state S.Store tx.new.conn.now) }
-    ensures rows { HasCleanDisk (state S.Store tx.new.conn.now) → IfOk result (λ rows. (way : Way) (s : State) → Stands (VersionThree way) (state S.Store tx.old.conn.now).now s
-        → ((state S.Store tx.new.conn.now).now ≡ (state S.Store tx.old.conn.now).now) × (rows.items ≡ map number_row (tried_numbers number s))) }
+    ensures rows { HasCleanDisk (state S.Store tx.new.conn.now)
+        → IfOk result (λ rows. (way : Way) (s : State) → Stands (VersionThree way) (state S.Store tx.old.conn.now).now s
+        → ((state S.Store tx.new.conn.now).now ≡ (state S.Store tx.old.conn.now).now)
+        × (rows.items ≡ map number_row (tried_numbers number s))) }
 {
     let number = whole(number);
     tx.query_all(
@@ -42,8 +45,10 @@ fn take_resent<S: Alter>(tx: &mut Transaction<'_, S>, number: u64) -> Result<(),
     requires { number < 2 ^ 63 }
     ensures same_reference { tx.new.conn.ghost_name ≡ tx.old.conn.ghost_name }
     ensures within { IsInside (state S.Store tx.old.conn.now) (state S.Store tx.new.conn.now) }
-    ensures put { HasCleanDisk (state S.Store tx.new.conn.now) → OnOk result ((way : Way) (ns : List ℕ) → HoldsResent way (state S.Store tx.old.conn.now).now ns
-        → Changed (state S.Store tx.old.conn.now) (state S.Store tx.new.conn.now) (store_schema way) (resent_tree way) (map resent_row (filter (λ n. not (n == number)) ns))) }
+    ensures put { HasCleanDisk (state S.Store tx.new.conn.now)
+        → OnOk result ((way : Way) (ns : List ℕ) → HoldsResent way (state S.Store tx.old.conn.now).now ns
+        → Changed (state S.Store tx.old.conn.now) (state S.Store tx.new.conn.now) (store_schema way) (resent_tree way)
+        (map resent_row (filter (λ n. not (n == number)) ns))) }
 {
     let number = whole(number);
     tx.execute("DELETE FROM resent WHERE number = ?1", params![number])?;
@@ -55,8 +60,10 @@ fn put_resent<S: Alter>(tx: &mut Transaction<'_, S>, number: u64) -> Result<(), 
     requires { number < 2 ^ 63 }
     ensures same_reference { tx.new.conn.ghost_name ≡ tx.old.conn.ghost_name }
     ensures within { IsInside (state S.Store tx.old.conn.now) (state S.Store tx.new.conn.now) }
-    ensures put { HasCleanDisk (state S.Store tx.new.conn.now) → OnOk result ((way : Way) → (state S.Store tx.old.conn.now).now.schema ≡ store_schema way
-        → Changed (state S.Store tx.old.conn.now) (state S.Store tx.new.conn.now) (store_schema way) (resent_tree way) (put_row (resent_row number) ((state S.Store tx.old.conn.now).now.trees (resent_tree way)))) }
+    ensures put { HasCleanDisk (state S.Store tx.new.conn.now)
+        → OnOk result ((way : Way) → (state S.Store tx.old.conn.now).now.schema ≡ store_schema way
+        → Changed (state S.Store tx.old.conn.now) (state S.Store tx.new.conn.now) (store_schema way) (resent_tree way)
+        (put_row (resent_row number) ((state S.Store tx.old.conn.now).now.trees (resent_tree way)))) }
 {
     let number = whole(number);
     tx.execute("INSERT INTO resent (number) VALUES (?1)", params![number])?;
@@ -66,10 +73,12 @@ fn put_resent<S: Alter>(tx: &mut Transaction<'_, S>, number: u64) -> Result<(), 
 /// Gives the document of this number a row, where it was tried: so it stays begun once it has no try.
 fn mark<S: Alter>(tx: &mut Transaction<'_, S>, number: u64) -> Result<(), Error>
     requires number { number < 2 ^ 63 }
-    requires begun { HasCleanDisk (state S.Store tx.old.conn.now) → IsTrue (state S.Store tx.old.conn.now).in_transaction }
+    requires begun { HasCleanDisk (state S.Store tx.old.conn.now)
+        → IsTrue (state S.Store tx.old.conn.now).in_transaction }
     ensures same_reference { tx.new.conn.ghost_name ≡ tx.old.conn.ghost_name }
     ensures within { IsInside (state S.Store tx.old.conn.now) (state S.Store tx.new.conn.now) }
-    ensures marked { HasCleanDisk (state S.Store tx.new.conn.now) → OnOk result ((way : Way) (s : State) → Stands (VersionThree way) (state S.Store tx.old.conn.now).now s
+    ensures marked { HasCleanDisk (state S.Store tx.new.conn.now)
+        → OnOk result ((way : Way) (s : State) → Stands (VersionThree way) (state S.Store tx.old.conn.now).now s
         → IsReady way (state S.Store tx.new.conn.now).now s number 0) }
 {
     let found = tried_rows(tx, number)?;
@@ -84,10 +93,12 @@ fn mark<S: Alter>(tx: &mut Transaction<'_, S>, number: u64) -> Result<(), Error>
 /// Readies the document of this number to be given so many tries.
 pub fn ready<S: Alter>(tx: &mut Transaction<'_, S>, number: u64, tries: u64) -> Result<(), Error>
     requires number { number < 2 ^ 63 }
-    requires begun { HasCleanDisk (state S.Store tx.old.conn.now) → IsTrue (state S.Store tx.old.conn.now).in_transaction }
+    requires begun { HasCleanDisk (state S.Store tx.old.conn.now)
+        → IsTrue (state S.Store tx.old.conn.now).in_transaction }
     ensures same_reference { tx.new.conn.ghost_name ≡ tx.old.conn.ghost_name }
     ensures within { IsInside (state S.Store tx.old.conn.now) (state S.Store tx.new.conn.now) }
-    ensures readied { HasCleanDisk (state S.Store tx.new.conn.now) → OnOk result ((way : Way) (s : State) → Stands (VersionThree way) (state S.Store tx.old.conn.now).now s
+    ensures readied { HasCleanDisk (state S.Store tx.new.conn.now)
+        → OnOk result ((way : Way) (s : State) → Stands (VersionThree way) (state S.Store tx.old.conn.now).now s
         → IsReady way (state S.Store tx.new.conn.now).now s number tries) }
 {
     if tries == 0 {
@@ -101,7 +112,8 @@ fn resent_rows<S: Alter>(conn: &mut Connection<S>, number: u64) -> Result<Vec<Ro
     requires autocommit { conn.old.in_transaction ≡ false }
     requires number { number < 2 ^ 63 }
     ensures autocommit { conn.new.in_transaction ≡ false }
-    ensures rows { Reads (λ s rows. (p : Document → Bool) (d : Document) → find p s.outbox ≡ Some d → number ≡ d.number → d.begun ≡ (nat_le 1 d.tries || has_row rows.items)) (state S.Store conn.old) (state S.Store conn.new) result }
+    ensures rows { Reads (λ s rows. (p : Document → Bool) (d : Document) → find p s.outbox ≡ Some d → number ≡ d.number
+        → d.begun ≡ (nat_le 1 d.tries || has_row rows.items)) (state S.Store conn.old) (state S.Store conn.new) result }
 {
     let number = whole(number);
     query_all(
@@ -117,7 +129,9 @@ pub fn begun_in<S: Alter>(conn: &mut Connection<S>, row: &OutRow) -> Result<bool
     requires open { HasCleanDisk (state S.Store conn.old) → IsTrue (state S.Store conn.old).is_open }
     requires number { row.now.number < 2 ^ 63 }
     ensures autocommit { conn.new.in_transaction ≡ false }
-    ensures begun { Reads (λ s begun. (p : Document → Bool) (d : Document) → find p s.outbox ≡ Some d → row.now.number ≡ d.number → row.now.tries ≡ d.tries → begun ≡ d.begun) (state S.Store conn.old) (state S.Store conn.new) result }
+    ensures begun { Reads (λ s begun. (p : Document → Bool) (d : Document) → find p s.outbox ≡ Some d
+        → row.now.number ≡ d.number → row.now.tries ≡ d.tries
+        → begun ≡ d.begun) (state S.Store conn.old) (state S.Store conn.new) result }
     ensures fault { IfErr result (λ f. may_come f ≡ true) }
 {
     if row.tries >= 1 {

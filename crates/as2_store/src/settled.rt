@@ -14,7 +14,8 @@ use std::alloc::Global;
 pub fn settled_rows<S: Alter>(conn: &mut Connection<S>) -> Result<Vec<Row>, Error>
     requires autocommit { conn.old.in_transaction ≡ false }
     ensures autocommit { conn.new.in_transaction ≡ false }
-    ensures rows { Reads (λ s rows. rows.items ≡ map number_row (settled_numbers s)) (state S.Store conn.old) (state S.Store conn.new) result }
+    ensures rows { Reads (λ s rows. rows.items
+        ≡ map number_row (settled_numbers s)) (state S.Store conn.old) (state S.Store conn.new) result }
 {
     query_all(conn, "SELECT number FROM evidence ORDER BY number", &[])
 }

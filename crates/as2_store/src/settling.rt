@@ -32,9 +32,14 @@ fn set_settled<S: Alter>(
     requires { number < 2 ^ 63 }
     ensures same_reference { tx.new.conn.ghost_name ≡ tx.old.conn.ghost_name }
     ensures within { IsInside (state S.Store tx.old.conn.now) (state S.Store tx.new.conn.now) }
-    ensures open { HasCleanDisk (state S.Store tx.new.conn.now) → OnOk result (IsTrue (state S.Store tx.old.conn.now).is_open) }
-    ensures put { HasCleanDisk (state S.Store tx.new.conn.now) → IfOk result (λ count. (way : Way) (s : State) → Stands (VersionThree way) (state S.Store tx.old.conn.now).now s → (e : Receipt)
-        → Changed (state S.Store tx.old.conn.now) (state S.Store tx.new.conn.now) (store_schema way) outbox_tree (map out_row (change_document s number (settled_as detail e)).outbox) × (count ≡ length (filter (λ d. d.number == number) s.outbox))) }
+    ensures open { HasCleanDisk (state S.Store tx.new.conn.now)
+        → OnOk result (IsTrue (state S.Store tx.old.conn.now).is_open) }
+    ensures put { HasCleanDisk (state S.Store tx.new.conn.now)
+        → IfOk result (λ count. (way : Way) (s : State)
+        → Stands (VersionThree way) (state S.Store tx.old.conn.now).now s → (e : Receipt)
+        → Changed (state S.Store tx.old.conn.now) (state S.Store tx.new.conn.now) (store_schema way) outbox_tree
+        (map out_row (change_document s number (settled_as detail e)).outbox)
+        × (count ≡ length (filter (λ d. d.number == number) s.outbox))) }
 {
     let number = whole(number);
     let detail = detail_code(detail);
@@ -57,7 +62,8 @@ pub fn settle<S: Alter>(
     requires by_receipt { is_by_receipt detail ≡ true }
     requires body { body.now ≡ evidence.now.body }
     ensures autocommit { conn.new.in_transaction ≡ false }
-    ensures settled { Writes (settled_in number detail evidence.now) (state S.Store conn.old) (state S.Store conn.new) result }
+    ensures settled { Writes (settled_in number detail evidence.now) (state S.Store conn.old) (state S.Store conn.new)
+        result }
 {
     let wanted = asked(number);
     let mut tx = conn.transaction();

@@ -85,7 +85,8 @@ impl<S: Alter> Store<S> {
         requires least { 1 ≤ first }
         requires most { first < end_of_numbers }
         ensures created { IfOk result (λ store. Creates first (state S.Store conn) (state S.Store store)) }
-        ensures given_back { IfErr result (λ e. IsGivenBack (CommitsFirst first (state S.Store conn)) (state S.Store conn) (state S.Store e.0)) }
+        ensures given_back { IfErr result
+            (λ e. IsGivenBack (CommitsFirst first (state S.Store conn)) (state S.Store conn) (state S.Store e.0)) }
         ensures fault { IfErr result (λ e. may_come e.1 ≡ true) }
     {
         match make(&mut conn, first) {
@@ -99,7 +100,8 @@ impl<S: Alter> Store<S> {
     pub fn adopt(mut conn: Connection<S>) -> Result<Store<S>, (Connection<S>, StoreFault)>
         requires autocommit { conn.in_transaction ≡ false }
         ensures adopted { IfOk result (λ store. Adopts (state S.Store conn) (state S.Store store)) }
-        ensures given_back { IfErr result (λ e. IsGivenBack (Commits Some (state S.Store conn)) (state S.Store conn) (state S.Store e.0)) }
+        ensures given_back { IfErr result
+            (λ e. IsGivenBack (Commits Some (state S.Store conn)) (state S.Store conn) (state S.Store e.0)) }
         ensures reason { IfErr result (λ e. HasCleanDisk (state S.Store e.0) → IsReason (state S.Store conn) e.1) }
     {
         match check(&mut conn) {
@@ -114,8 +116,10 @@ impl<S: Alter> Store<S> {
     pub fn migrate(mut conn: Connection<S>) -> Result<Store<S>, (Connection<S>, StoreFault)>
         requires autocommit { conn.in_transaction ≡ false }
         ensures migrated { IfOk result (λ store. Migrates (state S.Store conn) (state S.Store store)) }
-        ensures given_back { IfErr result (λ e. IsGivenBack (CommitsMigrated (state S.Store conn)) (state S.Store conn) (state S.Store e.0)) }
-        ensures reason { IfErr result (λ e. HasCleanDisk (state S.Store e.0) → IsMigrationReason (state S.Store conn) e.1) }
+        ensures given_back { IfErr result
+            (λ e. IsGivenBack (CommitsMigrated (state S.Store conn)) (state S.Store conn) (state S.Store e.0)) }
+        ensures reason { IfErr result (λ e. HasCleanDisk (state S.Store e.0)
+            → IsMigrationReason (state S.Store conn) e.1) }
     {
         match migrate(&mut conn) {
             Ok(()) => Ok(Store { conn }),
@@ -142,7 +146,8 @@ impl<S: Alter> Store<S> {
     /// The number below which receipts were recorded by the first version of the tables, 0 where none was. Answers Memory, Disk or
     /// Refused.
     pub fn origin(&mut self) -> Result<u64, StoreFault>
-        ensures origin { Reads (λ s number. number ≡ origin_of s.version) (state S.Store self.old) (state S.Store self.new) result }
+        ensures origin { Reads (λ s number. number
+            ≡ origin_of s.version) (state S.Store self.old) (state S.Store self.new) result }
         ensures fault { IfErr result (λ f. may_come f ≡ true) }
     {
         let rows = origin_rows(&mut self.conn).map_err(fault_of)?;
@@ -222,7 +227,8 @@ impl<S: Alter> Store<S> {
     /// `TriesUsed`. Answers how many there are; Memory, Disk or Refused, and then the state stays.
     pub fn expire(&mut self, moment: Moment) -> Result<u64, StoreFault>
         ensures passed { Writes (ticked_in moment) (state S.Store self.old) (state S.Store self.new) result }
-        ensures counted { HasCleanDisk (state S.Store self.new) → IfOk result (AreTicked moment (state S.Store self.old)) }
+        ensures counted { HasCleanDisk (state S.Store self.new)
+            → IfOk result (AreTicked moment (state S.Store self.old)) }
         ensures fault { IfErr result (λ f. may_come f ≡ true) }
     {
         expire(&mut self.conn, moment).map_err(fault_of)
@@ -264,7 +270,8 @@ impl<S: Alter> Store<S> {
         detail: Detail,
         evidence: &Evidence,
     ) -> Result<(), StoreFault>
-        ensures settled { Writes (settled_in number detail evidence.now) (state S.Store self.old) (state S.Store self.new) result }
+        ensures settled { Writes (settled_in number detail evidence.now) (state S.Store self.old)
+            (state S.Store self.new) result }
         ensures fault { IfErr result (λ f. may_come f ≡ true) }
     {
         if !is_by_receipt(detail) {
@@ -284,7 +291,8 @@ impl<S: Alter> Store<S> {
         receiver: &AsName,
         id_value: &str,
     ) -> Result<Option<InEntry>, StoreFault>
-        ensures found { Reads (IsPostedAs sender.now receiver.now id_value.now) (state S.Store self.old) (state S.Store self.new) result }
+        ensures found { Reads (IsPostedAs sender.now receiver.now id_value.now) (state S.Store self.old)
+            (state S.Store self.new) result }
         ensures fault { IfErr result (λ f. may_come f ≡ true) }
     {
         let rows = rows_by_key(
@@ -303,7 +311,8 @@ impl<S: Alter> Store<S> {
         alloc: Global,
         number: u64,
     ) -> Result<Option<InEntry>, StoreFault>
-        ensures found { Reads (λ s found. found ≡ received s number) (state S.Store self.old) (state S.Store self.new) result }
+        ensures found { Reads (λ s found. found
+            ≡ received s number) (state S.Store self.old) (state S.Store self.new) result }
         ensures fault { IfErr result (λ f. may_come f ≡ true) }
     {
         let rows = inbox::rows_by_number(&mut self.conn, number).map_err(fault_of)?;
@@ -312,7 +321,8 @@ impl<S: Alter> Store<S> {
 
     /// The document of this number, if there is one, with its content and its evidence. Answers Memory, Disk or Refused.
     pub fn find_out(&mut self, alloc: Global, number: u64) -> Result<Option<OutEntry>, StoreFault>
-        ensures found { Reads (λ s found. found ≡ document s number) (state S.Store self.old) (state S.Store self.new) result }
+        ensures found { Reads (λ s found. found
+            ≡ document s number) (state S.Store self.old) (state S.Store self.new) result }
         ensures fault { IfErr result (λ f. may_come f ≡ true) }
     {
         let rows = outbox::rows_by_number(&mut self.conn, number).map_err(fault_of)?;
@@ -326,7 +336,8 @@ impl<S: Alter> Store<S> {
         alloc: Global,
         id_value: &[u8],
     ) -> Result<Option<OutEntry>, StoreFault>
-        ensures found { Reads (λ s found. found ≡ document_named s id_value.now) (state S.Store self.old) (state S.Store self.new) result }
+        ensures found { Reads (λ s found. found
+            ≡ document_named s id_value.now) (state S.Store self.old) (state S.Store self.new) result }
         ensures fault { IfErr result (λ f. may_come f ≡ true) }
     {
         let rows = rows_by_id(&mut self.conn, id_value).map_err(fault_of)?;
@@ -336,7 +347,8 @@ impl<S: Alter> Store<S> {
     /// The receipt that settled the document of this number; None where none has, or where there is no such document. Answers
     /// Memory, Disk or Refused.
     pub fn evidence(&mut self, alloc: Global, number: u64) -> Result<Option<Evidence>, StoreFault>
-        ensures found { Reads (λ s found. found ≡ evidence_at s number) (state S.Store self.old) (state S.Store self.new) result }
+        ensures found { Reads (λ s found. found
+            ≡ evidence_at s number) (state S.Store self.old) (state S.Store self.new) result }
         ensures fault { IfErr result (λ f. may_come f ≡ true) }
     {
         evidence_in(&mut self.conn, alloc, number)
@@ -345,7 +357,8 @@ impl<S: Alter> Store<S> {
     /// The least number of the documents of which a try may begin at this moment, if there is one. Answers Memory, Disk or
     /// Refused.
     pub fn due_out(&mut self, moment: Moment) -> Result<Option<u64>, StoreFault>
-        ensures due { Reads (λ s number. number ≡ least (due_documents s moment)) (state S.Store self.old) (state S.Store self.new) result }
+        ensures due { Reads (λ s number. number
+            ≡ least (due_documents s moment)) (state S.Store self.old) (state S.Store self.new) result }
         ensures fault { IfErr result (λ f. may_come f ≡ true) }
     {
         least_due(&mut self.conn, Wait::ToSend, moment).map_err(fault_of)
@@ -354,7 +367,8 @@ impl<S: Alter> Store<S> {
     /// The least number of the receipts of which a try may begin at this moment, if there is one. Answers Memory, Disk or
     /// Refused.
     pub fn due_mdn(&mut self, moment: Moment) -> Result<Option<u64>, StoreFault>
-        ensures due { Reads (λ s number. number ≡ least (due_receipts s moment)) (state S.Store self.old) (state S.Store self.new) result }
+        ensures due { Reads (λ s number. number
+            ≡ least (due_receipts s moment)) (state S.Store self.old) (state S.Store self.new) result }
         ensures fault { IfErr result (λ f. may_come f ≡ true) }
     {
         least_due(&mut self.conn, Wait::ToAnswer, moment).map_err(fault_of)
@@ -367,7 +381,8 @@ impl<S: Alter> Store<S> {
         alloc: Global,
         wanted: Option<State>,
     ) -> Result<Vec<OutRow>, StoreFault>
-        ensures documents { Reads (λ s documents. documents.items ≡ listed wanted s) (state S.Store self.old) (state S.Store self.new) result }
+        ensures documents { Reads (λ s documents. documents.items
+            ≡ listed wanted s) (state S.Store self.old) (state S.Store self.new) result }
         ensures fault { IfErr result (λ f. may_come f ≡ true) }
     {
         meta_rows(&mut self.conn).map_err(fault_of)?;
@@ -377,7 +392,8 @@ impl<S: Alter> Store<S> {
     /// The entries of the inbox in order of number, each with the length of its content in place of the content. Answers
     /// Memory, Disk or Refused.
     pub fn list_in(&mut self, alloc: Global) -> Result<Vec<InRow>, StoreFault>
-        ensures entries { Reads (λ s entries. entries.items ≡ map in_summary s.inbox) (state S.Store self.old) (state S.Store self.new) result }
+        ensures entries { Reads (λ s entries. entries.items
+            ≡ map in_summary s.inbox) (state S.Store self.old) (state S.Store self.new) result }
         ensures fault { IfErr result (λ f. may_come f ≡ true) }
     {
         meta_rows(&mut self.conn).map_err(fault_of)?;
@@ -386,7 +402,8 @@ impl<S: Alter> Store<S> {
 
     /// The numbers of the documents that a receipt has settled, in order. Answers Memory, Disk or Refused.
     pub fn settled(&mut self, alloc: Global) -> Result<Vec<u64>, StoreFault>
-        ensures numbers { Reads (λ s numbers. numbers.items ≡ settled_numbers s) (state S.Store self.old) (state S.Store self.new) result }
+        ensures numbers { Reads (λ s numbers. numbers.items
+            ≡ settled_numbers s) (state S.Store self.old) (state S.Store self.new) result }
         ensures fault { IfErr result (λ f. may_come f ≡ true) }
     {
         let rows = settled_rows(&mut self.conn).map_err(fault_of)?;
@@ -395,7 +412,8 @@ impl<S: Alter> Store<S> {
 
     /// How much is outstanding. Answers Memory, Disk or Refused.
     pub fn counts(&mut self, alloc: Global) -> Result<Counts, StoreFault>
-        ensures counts { Reads (λ s counts. counts ≡ counts_of s) (state S.Store self.old) (state S.Store self.new) result }
+        ensures counts { Reads (λ s counts. counts
+            ≡ counts_of s) (state S.Store self.old) (state S.Store self.new) result }
         ensures fault { IfErr result (λ f. may_come f ≡ true) }
     {
         let details = details(&mut self.conn, alloc)?;

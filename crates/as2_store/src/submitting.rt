@@ -27,7 +27,13 @@ pub fn is_begun_by_tries(entry: &OutEntry) -> bool
 
 /// How far a document has come.
 fn progress_of(entry: &OutEntry) -> Progress
-    ensures { result ≡ record { tries = entry.now.tries; attempt = entry.now.attempt; due = entry.now.due; detail = entry.now.detail } }
+    ensures { result
+        ≡ record {
+          tries = entry.now.tries;
+          attempt = entry.now.attempt;
+          due = entry.now.due;
+          detail = entry.now.detail;
+        } }
 {
     Progress {
         tries: entry.tries,
@@ -45,8 +51,11 @@ fn put_submitted<S: Alter>(tx: &mut Transaction<'_, S>, entry: &OutEntry) -> Res
     requires begun { entry.now.begun ≡ nat_le 1 entry.now.tries }
     ensures same_reference { tx.new.conn.ghost_name ≡ tx.old.conn.ghost_name }
     ensures within { IsInside (state S.Store tx.old.conn.now) (state S.Store tx.new.conn.now) }
-    ensures open { HasCleanDisk (state S.Store tx.new.conn.now) → OnOk result (IsTrue (state S.Store tx.old.conn.now).is_open) }
-    ensures put { HasCleanDisk (state S.Store tx.new.conn.now) → OnOk result ((way : Way) (s : State) → Stands (VersionThree way) (state S.Store tx.old.conn.now).now s → IsEntered way (state S.Store tx.new.conn.now).now s entry.now.number s.next_out (with_document s entry.now)) }
+    ensures open { HasCleanDisk (state S.Store tx.new.conn.now)
+        → OnOk result (IsTrue (state S.Store tx.old.conn.now).is_open) }
+    ensures put { HasCleanDisk (state S.Store tx.new.conn.now)
+        → OnOk result ((way : Way) (s : State) → Stands (VersionThree way) (state S.Store tx.old.conn.now).now s
+        → IsEntered way (state S.Store tx.new.conn.now).now s entry.now.number s.next_out (with_document s entry.now)) }
 {
     put_out(tx, entry)?;
     put_pieces(tx, Mailbox::Outbox, entry.number, &entry.content)?;

@@ -33,9 +33,12 @@ fn put_waiting<S: Alter>(
     requires due { IfSome due (λ due. due < 2 ^ 63) }
     ensures same_reference { tx.new.conn.ghost_name ≡ tx.old.conn.ghost_name }
     ensures within { IsInside (state S.Store tx.old.conn.now) (state S.Store tx.new.conn.now) }
-    ensures inside { HasCleanDisk (state S.Store tx.new.conn.now) → OnOk result (IsTrue (state S.Store tx.new.conn.now).in_transaction) }
-    ensures put { HasCleanDisk (state S.Store tx.new.conn.now) → OnOk result ((way : Way) → (state S.Store tx.old.conn.now).now.schema ≡ store_schema way
-        → Noted way (state S.Store tx.old.conn.now) (state S.Store tx.new.conn.now) (Some (record { kind = kind_code wait; number = number; due = due }))) }
+    ensures inside { HasCleanDisk (state S.Store tx.new.conn.now)
+        → OnOk result (IsTrue (state S.Store tx.new.conn.now).in_transaction) }
+    ensures put { HasCleanDisk (state S.Store tx.new.conn.now)
+        → OnOk result ((way : Way) → (state S.Store tx.old.conn.now).now.schema ≡ store_schema way
+        → Noted way (state S.Store tx.old.conn.now) (state S.Store tx.new.conn.now)
+        (Some (record { kind = kind_code wait; number = number; due = due }))) }
 {
     let kind = wait.code();
     let place = whole(kind * END_OF_NUMBERS + number);
@@ -63,9 +66,12 @@ fn take_waiting<S: Alter>(tx: &mut Transaction<'_, S>, place: u64) -> Result<(),
     requires { place < 2 ^ 63 }
     ensures same_reference { tx.new.conn.ghost_name ≡ tx.old.conn.ghost_name }
     ensures within { IsInside (state S.Store tx.old.conn.now) (state S.Store tx.new.conn.now) }
-    ensures inside { HasCleanDisk (state S.Store tx.new.conn.now) → OnOk result (IsTrue (state S.Store tx.new.conn.now).in_transaction) }
-    ensures put { HasCleanDisk (state S.Store tx.new.conn.now) → OnOk result ((way : Way) (ws : List WaitingRow) → HoldsWaiting way (state S.Store tx.old.conn.now).now ws
-        → Changed (state S.Store tx.old.conn.now) (state S.Store tx.new.conn.now) (store_schema way) waiting_tree (map waiting_row (not_at place ws))) }
+    ensures inside { HasCleanDisk (state S.Store tx.new.conn.now)
+        → OnOk result (IsTrue (state S.Store tx.new.conn.now).in_transaction) }
+    ensures put { HasCleanDisk (state S.Store tx.new.conn.now)
+        → OnOk result ((way : Way) (ws : List WaitingRow) → HoldsWaiting way (state S.Store tx.old.conn.now).now ws
+        → Changed (state S.Store tx.old.conn.now) (state S.Store tx.new.conn.now) (store_schema way) waiting_tree
+        (map waiting_row (not_at place ws))) }
 {
     let place = whole(place);
     tx.execute("DELETE FROM waiting WHERE place = ?1", params![place])?;
@@ -93,8 +99,11 @@ fn put_owed_waiting<S: Alter>(
     requires due { IfSome progress.due (λ due. due < 2 ^ 63) }
     ensures same_reference { tx.new.conn.ghost_name ≡ tx.old.conn.ghost_name }
     ensures within { IsInside (state S.Store tx.old.conn.now) (state S.Store tx.new.conn.now) }
-    ensures inside { HasCleanDisk (state S.Store tx.new.conn.now) → IsTrue (state S.Store tx.old.conn.now).in_transaction → OnOk result (IsTrue (state S.Store tx.new.conn.now).in_transaction) }
-    ensures put { HasCleanDisk (state S.Store tx.new.conn.now) → OnOk result ((way : Way) → (state S.Store tx.old.conn.now).now.schema ≡ store_schema way
+    ensures inside { HasCleanDisk (state S.Store tx.new.conn.now)
+        → IsTrue (state S.Store tx.old.conn.now).in_transaction
+        → OnOk result (IsTrue (state S.Store tx.new.conn.now).in_transaction) }
+    ensures put { HasCleanDisk (state S.Store tx.new.conn.now)
+        → OnOk result ((way : Way) → (state S.Store tx.old.conn.now).now.schema ≡ store_schema way
         → Noted way (state S.Store tx.old.conn.now) (state S.Store tx.new.conn.now) (answers_at number progress)) }
 {
     if is_to_answer(progress.mdn, progress.attempt) {
@@ -109,7 +118,8 @@ pub fn put_in_waiting<S: Alter>(tx: &mut Transaction<'_, S>, entry: &InEntry) ->
     requires due { IfSome entry.now.due (λ due. due < 2 ^ 63) }
     ensures same_reference { tx.new.conn.ghost_name ≡ tx.old.conn.ghost_name }
     ensures within { IsInside (state S.Store tx.old.conn.now) (state S.Store tx.new.conn.now) }
-    ensures put { HasCleanDisk (state S.Store tx.new.conn.now) → OnOk result ((way : Way) → (state S.Store tx.old.conn.now).now.schema ≡ store_schema way
+    ensures put { HasCleanDisk (state S.Store tx.new.conn.now)
+        → OnOk result ((way : Way) → (state S.Store tx.old.conn.now).now.schema ≡ store_schema way
         → Noted way (state S.Store tx.old.conn.now) (state S.Store tx.new.conn.now) (in_waiting entry.now)) }
 {
     if is_to_answer(entry.mdn, entry.attempt) {
@@ -144,8 +154,11 @@ pub fn put_out_waiting<S: Alter>(
     requires due { IfSome progress.due (λ due. due < 2 ^ 63) }
     ensures same_reference { tx.new.conn.ghost_name ≡ tx.old.conn.ghost_name }
     ensures within { IsInside (state S.Store tx.old.conn.now) (state S.Store tx.new.conn.now) }
-    ensures inside { HasCleanDisk (state S.Store tx.new.conn.now) → IsTrue (state S.Store tx.old.conn.now).in_transaction → OnOk result (IsTrue (state S.Store tx.new.conn.now).in_transaction) }
-    ensures put { HasCleanDisk (state S.Store tx.new.conn.now) → OnOk result ((way : Way) → (state S.Store tx.old.conn.now).now.schema ≡ store_schema way
+    ensures inside { HasCleanDisk (state S.Store tx.new.conn.now)
+        → IsTrue (state S.Store tx.old.conn.now).in_transaction
+        → OnOk result (IsTrue (state S.Store tx.new.conn.now).in_transaction) }
+    ensures put { HasCleanDisk (state S.Store tx.new.conn.now)
+        → OnOk result ((way : Way) → (state S.Store tx.old.conn.now).now.schema ≡ store_schema way
         → Noted way (state S.Store tx.old.conn.now) (state S.Store tx.new.conn.now) (waits_at number progress)) }
 {
     if let Some(wait) = wait_of(progress.detail, progress.attempt) {
@@ -164,9 +177,12 @@ pub fn wait_for<S: Alter>(
     requires due { IfSome progress.due (λ due. due < 2 ^ 63) }
     ensures same_reference { tx.new.conn.ghost_name ≡ tx.old.conn.ghost_name }
     ensures within { IsInside (state S.Store tx.old.conn.now) (state S.Store tx.new.conn.now) }
-    ensures inside { HasCleanDisk (state S.Store tx.new.conn.now) → OnOk result (IsTrue (state S.Store tx.new.conn.now).in_transaction) }
-    ensures put { HasCleanDisk (state S.Store tx.new.conn.now) → OnOk result ((way : Way) (ws : List WaitingRow) → HoldsWaiting way (state S.Store tx.old.conn.now).now ws
-        → Renewed way (state S.Store tx.old.conn.now) (state S.Store tx.new.conn.now) (noted_rows (waits_at number progress) (map waiting_row (without_document number ws)))) }
+    ensures inside { HasCleanDisk (state S.Store tx.new.conn.now)
+        → OnOk result (IsTrue (state S.Store tx.new.conn.now).in_transaction) }
+    ensures put { HasCleanDisk (state S.Store tx.new.conn.now)
+        → OnOk result ((way : Way) (ws : List WaitingRow) → HoldsWaiting way (state S.Store tx.old.conn.now).now ws
+        → Renewed way (state S.Store tx.old.conn.now) (state S.Store tx.new.conn.now)
+        (noted_rows (waits_at number progress) (map waiting_row (without_document number ws)))) }
 {
     take_document(tx, number)?;
     put_out_waiting(tx, number, progress)
@@ -182,9 +198,12 @@ pub fn answer_for<S: Alter>(
     requires due { IfSome progress.due (λ due. due < 2 ^ 63) }
     ensures same_reference { tx.new.conn.ghost_name ≡ tx.old.conn.ghost_name }
     ensures within { IsInside (state S.Store tx.old.conn.now) (state S.Store tx.new.conn.now) }
-    ensures inside { HasCleanDisk (state S.Store tx.new.conn.now) → OnOk result (IsTrue (state S.Store tx.new.conn.now).in_transaction) }
-    ensures put { HasCleanDisk (state S.Store tx.new.conn.now) → OnOk result ((way : Way) (ws : List WaitingRow) → HoldsWaiting way (state S.Store tx.old.conn.now).now ws
-        → Renewed way (state S.Store tx.old.conn.now) (state S.Store tx.new.conn.now) (noted_rows (answers_at number progress) (map waiting_row (not_at (place_of to_answer number) ws)))) }
+    ensures inside { HasCleanDisk (state S.Store tx.new.conn.now)
+        → OnOk result (IsTrue (state S.Store tx.new.conn.now).in_transaction) }
+    ensures put { HasCleanDisk (state S.Store tx.new.conn.now)
+        → OnOk result ((way : Way) (ws : List WaitingRow) → HoldsWaiting way (state S.Store tx.old.conn.now).now ws
+        → Renewed way (state S.Store tx.old.conn.now) (state S.Store tx.new.conn.now)
+        (noted_rows (answers_at number progress) (map waiting_row (not_at (place_of to_answer number) ws)))) }
 {
     take_waiting(tx, place_of(Wait::ToAnswer, number))?;
     put_owed_waiting(tx, number, progress)
@@ -195,9 +214,12 @@ pub fn take_document<S: Alter>(tx: &mut Transaction<'_, S>, number: u64) -> Resu
     requires { number ≤ end_of_numbers }
     ensures same_reference { tx.new.conn.ghost_name ≡ tx.old.conn.ghost_name }
     ensures within { IsInside (state S.Store tx.old.conn.now) (state S.Store tx.new.conn.now) }
-    ensures inside { HasCleanDisk (state S.Store tx.new.conn.now) → OnOk result (IsTrue (state S.Store tx.new.conn.now).in_transaction) }
-    ensures put { HasCleanDisk (state S.Store tx.new.conn.now) → OnOk result ((way : Way) (ws : List WaitingRow) → HoldsWaiting way (state S.Store tx.old.conn.now).now ws
-        → Renewed way (state S.Store tx.old.conn.now) (state S.Store tx.new.conn.now) (map waiting_row (without_document number ws))) }
+    ensures inside { HasCleanDisk (state S.Store tx.new.conn.now)
+        → OnOk result (IsTrue (state S.Store tx.new.conn.now).in_transaction) }
+    ensures put { HasCleanDisk (state S.Store tx.new.conn.now)
+        → OnOk result ((way : Way) (ws : List WaitingRow) → HoldsWaiting way (state S.Store tx.old.conn.now).now ws
+        → Renewed way (state S.Store tx.old.conn.now) (state S.Store tx.new.conn.now)
+        (map waiting_row (without_document number ws))) }
 {
     take_waiting(tx, place_of(Wait::ToSend, number))?;
     take_waiting(tx, place_of(Wait::ToHear, number))?;
