@@ -14,7 +14,8 @@ use Rattle.as2_json.specs.Lines.{lines}
 use Rattle.as2_json.specs.Listings.{Continues, marked_object, outstanding_documents}
 use Rattle.as2_json.proofs.Entries.{same_objects}
 
-pub continued : (s : State) (settled : List ℕ) (rows : List OutRow) (text made : Text) → IsCounted s → settled ≡ settled_numbers s → (Rise settled → made ≡ text ++ lines (map (marked_object settled) rows))
+pub continued : (s : State) (settled : List ℕ) (rows : List OutRow) (text made : Text) → IsCounted s → settled ≡ settled_numbers s
+    → (Rise settled → made ≡ text ++ lines (map (marked_object settled) rows))
     → Continues s rows text made
 continued s settled rows text made stands numbers told p chosen =
     let up = given_rise s.next_out (document_numbers s) stands.documents.1 in
@@ -23,5 +24,6 @@ continued s settled rows text made stands numbers told p chosen =
     ∙ ap (λ l. text ++ lines l) (same_objects (settled_numbers s) p s.outbox (marks s.outbox up))
 
 -- the rows that are kept of all are those of what is outstanding
-pub kept_of_all : (s : State) (m : ℕ) (rows kept shown : List OutRow) → rows ≡ listed None s → kept ≡ filter (is_outstanding m) rows → shown ≡ kept → shown ≡ map out_summary (outstanding_documents s m)
+pub kept_of_all : (s : State) (m : ℕ) (rows kept shown : List OutRow) → rows ≡ listed None s → kept ≡ filter (is_outstanding m) rows → shown ≡ kept
+    → shown ≡ map out_summary (outstanding_documents s m)
 kept_of_all s m rows kept shown all is same = same ∙ is ∙ ap (filter (is_outstanding m)) (all ∙ ap (map out_summary) (all_listed s.outbox)) ∙ kept_rows (is_outstanding m) s.outbox

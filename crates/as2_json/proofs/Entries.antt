@@ -33,12 +33,14 @@ kept is_kept d rest = if is_kept then d ∷ rest else rest
 abbrev of_rows : List ℕ → List OutEntry → List Data
 of_rows settled ds = map (marked_object settled) (map out_summary ds)
 
-kept_object : (b : Bool) (settled : List ℕ) (d : OutEntry) (rest : List OutEntry) → IsMarked settled d → of_rows settled rest ≡ map entry_object rest → of_rows settled (kept b d rest) ≡ map entry_object (kept b d rest)
+kept_object : (b : Bool) (settled : List ℕ) (d : OutEntry) (rest : List OutEntry) → IsMarked settled d → of_rows settled rest ≡ map entry_object rest
+    → of_rows settled (kept b d rest) ≡ map entry_object (kept b d rest)
 kept_object true settled d rest mark same = ap₂ (λ marked more. out_object marked (out_summary d) ∷ more) mark same
 kept_object false settled d rest mark same = same
 
 -- of documents of which something holds
-pub same_objects : (settled : List ℕ) (p : OutEntry → Bool) (ds : List OutEntry) → AllByRecursion (IsMarked settled) ds → of_rows settled (filter p ds) ≡ map entry_object (filter p ds)
+pub same_objects : (settled : List ℕ) (p : OutEntry → Bool) (ds : List OutEntry) → AllByRecursion (IsMarked settled) ds
+    → of_rows settled (filter p ds) ≡ map entry_object (filter p ds)
 same_objects settled p [] m = refl
 same_objects settled p (d ∷ ds) m = kept_object (p d) settled d (filter p ds) m.0 (same_objects settled p ds m.1)
 

@@ -42,15 +42,18 @@ pub fn listings_read_back()
 /// The text of each object of a verification is UTF-8, and the kit's reader finds in it what was written.
 pub fn verifications_read_back()
     ensures finding { (f : Finding) → Fits f.number → ReadsBack (finding_object f) }
-    ensures verified { (received sent findings : ℕ) → Fits received → Fits sent → Fits findings → ReadsBack (verified_object received sent findings) }
+    ensures verified { (received sent findings : ℕ) → Fits received → Fits sent → Fits findings
+        → ReadsBack (verified_object received sent findings) }
 {}
 
 /// The objects of a state's rows are its listings.
 pub fn listings_of_rows()
     ensures inbox { (s : State) → map in_object (map in_summary s.inbox) ≡ list_in_objects s }
     ensures outbox { (s : State) (wanted : Option StateOf) → Rise (document_numbers s) →
-        map (marked_object (settled_numbers s)) (map out_summary (filter (is_in wanted) s.outbox)) ≡ list_out_objects s wanted }
+        map (marked_object (settled_numbers s)) (map out_summary (filter (is_in wanted) s.outbox))
+        ≡ list_out_objects s wanted }
     ensures outstanding { (s : State) (m : ℕ) → Rise (document_numbers s) →
-        counts_object (counts_of s) ∷ map (marked_object (settled_numbers s)) (filter (is_outstanding m) (map out_summary s.outbox))
+        counts_object (counts_of s) ∷ map (marked_object (settled_numbers s))
+        (filter (is_outstanding m) (map out_summary s.outbox))
         ≡ outstanding_objects s m }
 {}

@@ -11,7 +11,8 @@ use serde_json::Value;
 /// Appends the line of a value that holds no number with a fraction.
 #[tactic(auto, unfolding(crate::specs::Lines::line))]
 pub fn add_line(text: &mut Vec<u8>, value: &Value) -> Result<(), Memory>
-    ensures { OnOk result ((d : Data) → view value.now ≡ d → has_float d ≡ false → text.new.items ≡ text.old.items ++ line d) }
+    ensures { OnOk result ((d : Data) → view value.now ≡ d → has_float d ≡ false
+        → text.new.items ≡ text.old.items ++ line d) }
 {
     let written = value.to_vec(*text.allocator())?;
     text.extend_from_slice(&written)?;

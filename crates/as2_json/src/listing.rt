@@ -52,7 +52,8 @@ fn with_rows<R: Records>(
     mut text: Vec<u8>,
     rows: &[OutRow],
 ) -> Result<Vec<u8>, StoreFault>
-    ensures listed { Reads (λ s made. Continues s rows.now text.items made.items) (R.shows records.old) (R.shows records.new) result }
+    ensures listed { Reads (λ s made. Continues s rows.now text.items made.items) (R.shows records.old)
+        (R.shows records.new) result }
     ensures may { IfErr result (λ f. may_come f ≡ true) }
 {
     let settled = records.settled(*text.allocator())?;
@@ -66,7 +67,8 @@ fn with_outstanding<R: Records>(
     text: Vec<u8>,
     moment: Moment,
 ) -> Result<Vec<u8>, StoreFault>
-    ensures listed { Reads (λ s made. HasOutstanding s moment text.items made.items) (R.shows records.old) (R.shows records.new) result }
+    ensures listed { Reads (λ s made. HasOutstanding s moment text.items made.items) (R.shows records.old)
+        (R.shows records.new) result }
     ensures may { IfErr result (λ f. may_come f ≡ true) }
 {
     let mut rows = records.list_out(*text.allocator(), None)?;
@@ -75,11 +77,9 @@ fn with_outstanding<R: Records>(
 }
 
 /// The lines of received documents, in order of number. Answers Memory, Disk or Refused.
-fn received_in_objects<R: Records>(
-    records: &mut R,
-    alloc: Global,
-) -> Result<Vec<u8>, StoreFault>
-    ensures listed { Reads (λ s text. text.items ≡ lines (list_in_objects s)) (R.shows records.old) (R.shows records.new) result }
+fn received_in_objects<R: Records>(records: &mut R, alloc: Global) -> Result<Vec<u8>, StoreFault>
+    ensures listed { Reads (λ s text. text.items
+        ≡ lines (list_in_objects s)) (R.shows records.old) (R.shows records.new) result }
     ensures may { IfErr result (λ f. may_come f ≡ true) }
 {
     let rows = records.list_in(alloc)?;
@@ -92,7 +92,8 @@ fn sent_in_objects<R: Records>(
     alloc: Global,
     wanted: Option<State>,
 ) -> Result<Vec<u8>, StoreFault>
-    ensures listed { Reads (λ s text. text.items ≡ lines (list_out_objects s wanted)) (R.shows records.old) (R.shows records.new) result }
+    ensures listed { Reads (λ s text. text.items
+        ≡ lines (list_out_objects s wanted)) (R.shows records.old) (R.shows records.new) result }
     ensures may { IfErr result (λ f. may_come f ≡ true) }
 {
     let rows = records.list_out(alloc, wanted)?;
@@ -105,7 +106,8 @@ pub fn listing_in_objects<R: Records>(
     alloc: Global,
     filter: Filter,
 ) -> Result<Vec<u8>, StoreFault>
-    ensures listed { Reads (λ s text. text.items ≡ lines (listing_objects filter s)) (R.shows records.old) (R.shows records.new) result }
+    ensures listed { Reads (λ s text. text.items
+        ≡ lines (listing_objects filter s)) (R.shows records.old) (R.shows records.new) result }
     ensures may { IfErr result (λ f. may_come f ≡ true) }
 {
     match filter {
@@ -121,7 +123,8 @@ pub fn outstanding_in_objects<R: Records>(
     alloc: Global,
     moment: Moment,
 ) -> Result<Vec<u8>, StoreFault>
-    ensures outstanding { Reads (λ s text. text.items ≡ lines (outstanding_objects s moment)) (R.shows records.old) (R.shows records.new) result }
+    ensures outstanding { Reads (λ s text. text.items
+        ≡ lines (outstanding_objects s moment)) (R.shows records.old) (R.shows records.new) result }
     ensures may { IfErr result (λ f. may_come f ≡ true) }
 {
     let counts = records.counts(alloc)?;
@@ -135,7 +138,8 @@ pub fn shown_in_objects<R: Records>(
     alloc: Global,
     number: u64,
 ) -> Result<Option<Vec<u8>>, StoreFault>
-    ensures shown { Reads (λ s text. option_map (λ t. t.items) text ≡ option_map line (shown_object s number)) (R.shows records.old) (R.shows records.new) result }
+    ensures shown { Reads (λ s text. option_map (λ t. t.items) text
+        ≡ option_map line (shown_object s number)) (R.shows records.old) (R.shows records.new) result }
     ensures may { IfErr result (λ f. may_come f ≡ true) }
 {
     match records.find_out(alloc, number)? {

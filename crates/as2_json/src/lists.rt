@@ -24,7 +24,8 @@ pub fn add_in_objects(text: &mut Vec<u8>, rows: &[InRow]) -> Result<(), Memory>
 /// settled, from the least to the greatest; in another order some of them may not be marked. Memory where it runs out; a part may be
 /// appended then.
 pub fn add_out_objects(text: &mut Vec<u8>, rows: &[OutRow], settled: &[u64]) -> Result<(), Memory>
-    ensures { Rise settled.now → OnOk result (text.new.items ≡ text.old.items ++ lines (map (marked_object settled.now) rows.now)) }
+    ensures { Rise settled.now
+        → OnOk result (text.new.items ≡ text.old.items ++ lines (map (marked_object settled.now) rows.now)) }
 {
     for row in rows {
         add_out_object(text, row, is_one_of(settled, row.number))?;

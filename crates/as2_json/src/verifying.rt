@@ -30,7 +30,8 @@ fn add_findings(text: &mut Vec<u8>, findings: &[Finding]) -> Result<(), Memory>
 /// The lines of findings, and the one of how many entries there are.
 #[tactic(auto, using(crate::proofs::Endings::ended))]
 fn objects(alloc: Global, findings: &[Finding], received: u64, sent: u64) -> Result<Vec<u8>, Memory>
-    ensures { IfOk result (λ text. text.items ≡ lines (map finding_object findings.now ++ verified_object received sent (length findings.now) ∷ [])) }
+    ensures { IfOk result (λ text. text.items
+        ≡ lines (map finding_object findings.now ++ verified_object received sent (length findings.now) ∷ [])) }
 {
     let mut text = Vec::new(alloc);
     add_findings(&mut text, findings)?;
@@ -44,7 +45,8 @@ pub fn verify_in_objects<R: Records, W: Watch>(
     alloc: Global,
     watch: &mut W,
 ) -> Result<Verification, StoreFault>
-    ensures verified { Reads (λ s v. (v.text.items ≡ lines (verification_objects s)) × (v.findings ≡ length (findings s))) (R.shows records.old) (R.shows records.new) result }
+    ensures verified { Reads (λ s v. (v.text.items ≡ lines (verification_objects s))
+        × (v.findings ≡ length (findings s))) (R.shows records.old) (R.shows records.new) result }
     ensures may { IfErr result (λ f. may_come f ≡ true) }
 {
     let mut findings = Vec::new(alloc);
