@@ -63,6 +63,9 @@ def posts(folder):
     same("outstanding", run(store, ["outstanding"]), (0, NOTHING, ""))
     same("send, with nothing due", run(store, ["send"]), (0, "", ""))
     same("verify", run(store, ["verify"]), (0, "verified: 1 received, 0 sent, 0 findings\n", ""))
+    same("verify in objects", run(store, ["verify", "--format", "json"]), (0, '{"findings":0,"received":1,"sent":0}\n', ""))
+    same("list in objects", run(store, ["list", "in", "--format", "json"]),
+         (0, '{"box":"in","from":"Buyer","identifier":"<m1@x>","number":1,"processed":true,"receipt":"sent","to":"Supplier"}\n', ""))
     evidence = ["evidence", "--received", "1", "--out", folder]
     same("evidence", run(store, evidence), (0, "received-1.content\nreceived-1.receipt\nreceived-1.txt\n", ""))
     with open(f"{folder}/received-1.content", "rb") as content:
