@@ -101,19 +101,19 @@ filter_one kind state Inbox (Outbox o) x y = let same : Some (codes "in") ≡ So
 filter_one kind state (Outbox o) Inbox x y = let same : Some (codes "in") ≡ Some (codes "out") = sym y ∙ x.0 in cc
 filter_one kind state (Outbox o) (Outbox p) x y = ap Outbox (letters_one o p (sym x.1 ∙ y.1))
 
--- the format of a word
-format_one : (own : List Row) (a b : Format) → IsFormat own a → IsFormat own b → a ≡ b
-format_one own format.Text format.Text x y = refl
-format_one own format.Text format.Json x y = let same : Some (codes "text") ≡ Some (codes "json") = sym x ∙ y in cc
-format_one own format.Json format.Text x y = let same : Some (codes "json") ≡ Some (codes "text") = sym x ∙ y in cc
-format_one own format.Json format.Json x y = refl
-
 -- the words of the commands differ in their first and third letters
 mark : Text → ℕ
 mark word = slice_index word 0 * 1000 + slice_index word 2
 
 apart : (m n : ℕ) → m < n → m ≡ n → ⊥
 apart m n less is = omega (arith, less, is)
+
+format_one : (own : List Row) (a b : Format) → IsFormat own a → IsFormat own b → a ≡ b
+unfolding mark
+format_one own format.Text format.Text x y = refl
+format_one own format.Text format.Json x y = absurd (apart 106111 116120 (lit< tt) (ap mark (path_one _ (codes "json") (codes "text") y x)))
+format_one own format.Json format.Text x y = absurd (apart 106111 116120 (lit< tt) (ap mark (path_one _ (codes "json") (codes "text") x y)))
+format_one own format.Json format.Json x y = refl
 
 question_one : (own : List Row) (a b : Question Submission) → question_word a ≡ question_word b → TellQuestion own a → TellQuestion own b → a ≡ b
 unfolding mark

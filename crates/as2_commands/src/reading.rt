@@ -6,11 +6,11 @@ ghost use Rattle.as2_views.specs.Layout.{state_text};
 ghost use Rattle.as2_mdn.specs.declared.detail.State.{State as TheState};
 ghost use Rattle.as2_views.specs.declared.filter.Filter.{Filter as TheFilter};
 ghost use Rattle.clap.specs.Words.{first_of, found_of, one_of, rows_of, subcommand_rows_of};
-ghost use Rattle.as2_commands.specs.Options.{AsksEvidence, AsksList, AsksRun, AsksServe, AsksShow, AsksSubmit, Commands, Give, IsEntry, IsFormat, IsWait, box_of, Lists, is_idle, is_set, NameIs, NumberFrom, NumberIs, SecondsAre, Tasks, TellsMoment, TellsOption};
+ghost use Rattle.as2_commands.specs.Options.{AsksEvidence, AsksRun, AsksServe, AsksShow, AsksSubmit, Commands, Give, IsEntry, IsFormat, IsWait, box_of, Lists, is_idle, is_set, NameIs, NumberFrom, NumberIs, SecondsAre, Tasks, TellsMoment, TellsOption};
 ghost use Rattle.as2_commands.specs.Requests.{Serving as TheServing, Submission as TheSubmission, Wanted as TheWanted};
 ghost use Rattle.as2_commands.specs.declared.tasks.Command.{Command as TheCommand};
 ghost use Rattle.as2_commands.specs.declared.tasks.Format.{Format as TheFormat};
-ghost use Rattle.as2_commands.specs.declared.tasks.Question.{Question as TheQuestion};
+ghost use Rattle.as2_commands.specs.declared.tasks.Question.TheVariants.{Show};
 ghost use Rattle.as2_commands.specs.declared.tasks.RunOptions.{RunOptions as TheOptions};
 ghost use Rattle.as2_commands.specs.declared.tasks.Task.{Task as TheTask};
 
@@ -117,7 +117,11 @@ fn command_of<'a>(
         "send" => Ok(Command::Send(waits(own)?)),
         "tick" => Ok(Command::Ask(Question::Tick)),
         "resend" => Ok(Command::Ask(Question::Resend(entry(own)?))),
-        "list" => Ok(Command::Ask(listing(own)?)),
+        "list" => {
+            let filter = filter(own)?;
+            let is_idle = is_idle(filter, own);
+            Ok(Command::Ask(Question::List(filter, is_idle, format(own)?)))
+        }
         "outstanding" => Ok(Command::Ask(Question::Outstanding(format(own)?))),
         "show" => Ok(Command::Ask(showing(own)?)),
         "fetch" => Ok(Command::Ask(Question::Fetch(entry(own)?))),
@@ -207,20 +211,10 @@ fn wanted<'a>(own: &ArgMatches<'a>) -> Result<Wanted<'a>, OptionFault<'a>>
     })
 }
 
-/// The question of `list`.
-fn listing<'a>(own: &ArgMatches<'a>) -> Result<Question<Submission<'a>>, OptionFault<'a>>
-    ensures given { IfOk result (λ c. AsksList (rows_of (found_of own.now)) c) }
-    ensures none { IfErr result (λ _. (q : TheQuestion TheSubmission) → ¬ AsksList (rows_of (found_of own.now)) q) }
-{
-    let filter = filter(own)?;
-    let format = format(own)?;
-    Ok(Question::List(filter, is_idle(filter, own), format))
-}
-
 /// The question of `show`.
 fn showing<'a>(own: &ArgMatches<'a>) -> Result<Question<Submission<'a>>, OptionFault<'a>>
     ensures given { IfOk result (AsksShow (rows_of (found_of own.now))) }
-    ensures none { IfErr result (λ _. (q : TheQuestion TheSubmission) → ¬ AsksShow (rows_of (found_of own.now)) q) }
+    ensures none { IfErr result (λ _. (n : ℕ) (form : TheFormat) → ¬ AsksShow (rows_of (found_of own.now)) (Show n form)) }
 {
     let number = entry(own)?;
     let format = format(own)?;
