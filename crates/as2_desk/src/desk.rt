@@ -176,7 +176,11 @@ fn carry_out<
             let path = document_path(&command);
             match work_of(alloc, &host.outside.files, command) {
                 Ok(work) => {
-                    let terms = Terms::of(alloc, &agreements, run.moment);
+                    let terms = Terms {
+                        alloc,
+                        agreements: &agreements,
+                        moment: run.moment,
+                    };
                     work_over(&terms, NamedStore::of(store, run), work, host, console)
                 }
                 Err(refusal) => {
