@@ -110,7 +110,7 @@ def main():
             store = stores.store(which)
             if which == len(stores.texts):
                 with sqlite3.connect(store) as tables:
-                    tables.execute("UPDATE inbox2 SET mic = NULL")
+                    tables.execute("UPDATE inbox2 SET mic = NULL, digest = NULL")
                     tables.execute("UPDATE evidence SET body = x'00'")
                 tables.close()
             objects = Objects(stores, store)
