@@ -97,7 +97,10 @@ def rows(partner):
         yield Row(" ".join(command), command, before=[post])
     for command in (("list", "out"), ("show", "1"), ("outstanding",)):
         yield Row(" ".join(command), command, before=[submit, send])
+    for command in (("list", "out"), ("show", "1"), ("outstanding",)):
+        yield Row(" ".join(command) + " in objects", (*command, "--format", "json"), before=[submit, send])
     yield Row("verify", ("verify",), before=[post, submit, send])
+    yield Row("verify in objects", ("verify", "--format", "json"), before=[post, submit, send])
     yield Row("evidence", ("evidence", "1", "--out", OUT), before=[post, submit, send])
     yield Row("evidence --received", ("evidence", "--received", "1", "--out", OUT), before=[post, submit, send])
     yield Row("resend", ("resend", "1"), before=[submit, nobody, send, again], moment=2000)
