@@ -5,7 +5,7 @@ What `verify` says of stores that were changed by another hand, against readers 
 the reader of receipts of tests/hostile/readers.py. The stores are those of tests/migration, migrated, and the same as stores that never
 were, without sums of their pages.
 
-First `sqlite3` changes a row: a content, a MIC, a receipt, a detail, how something waits, a counter. Then single bits of the file are
+First `sqlite3` changes a row: a content, a MIC, a receipt, a detail, how something waits, what waits, a counter. Then single bits of the file are
 turned over. Each time the lines that `verify` prints are exactly those that are expected of what SQLite reads in the file; or the program
 refuses the store, which it may always do; and what the change breaks is found. The status is 1 where something differs.
 """
