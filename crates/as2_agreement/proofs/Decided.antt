@@ -9,7 +9,7 @@ use Rattle.as2_media.specs.declared.fault.TypeFault.{TypeFault}
 use Rattle.as2_media.specs.declared.kind.Kind.{Kind}
 use Rattle.as2_media.specs.declared.kind.Kind.TheVariants as kind
 use Rattle.as2_media.specs.Kinds.{kind_of}
-use Rattle.as2_media.specs.MediaTypes.{Media, reading}
+use Rattle.as2_media.specs.MediaTypes.{Media, media_type_reading}
 use Rattle.as2_media.proofs.Readings.{again}
 use Rattle.as2_media.proofs.Spellings.{found_by}
 use Rattle.as2_text.specs.Addresses.{IsUrl, url_of}
@@ -42,19 +42,19 @@ kind_found kind.Compressed h = absurd cc
 kind_found kind.Signed h = absurd cc
 kind_found kind.Report h = absurd cc
 
-type_found : (text : List ℕ) (r : Result Media TypeFault) → r ≡ reading text → is_document_type r ≡ true → IsDocumentType text
+type_found : (text : List ℕ) (r : Result Media TypeFault) → r ≡ media_type_reading text → is_document_type r ≡ true → IsDocumentType text
 type_found text (Ok media) e h = (media, found_by text (Ok media) e, kind_found (kind_of media) h)
 type_found text (Err f) e h = absurd cc
 
-type_again : (text : List ℕ) → IsDocumentType text → is_document_type (reading text) ≡ true
+type_again : (text : List ℕ) → IsDocumentType text → is_document_type (media_type_reading text) ≡ true
 type_again text d = rw (again text d.0 d.1, d.2) refl
 
 pub content_type_found : (text : List ℕ) → is_content_type text ≡ true → IsContentType text
 content_type_found text h =
-    let all = and_parts (nat_lt 0 (length text) && nat_le (length text) 255 && list_all is_printable text) (is_document_type (reading text)) h in
+    let all = and_parts (nat_lt 0 (length text) && nat_le (length text) 255 && list_all is_printable text) (is_document_type (media_type_reading text)) h in
     let front = and_parts (nat_lt 0 (length text) && nat_le (length text) 255) (list_all is_printable text) all.0 in
     let ends = and_parts (nat_lt 0 (length text)) (nat_le (length text) 255) front.0 in
-    record { some = grind (arith, nat_tests); short = grind (arith, nat_tests); printable = front.1; document = type_found text (reading text) refl all.1 }
+    record { some = grind (arith, nat_tests); short = grind (arith, nat_tests); printable = front.1; document = type_found text (media_type_reading text) refl all.1 }
 
 pub content_type_again : (text : List ℕ) → IsContentType text → is_content_type text ≡ true
 content_type_again text c =

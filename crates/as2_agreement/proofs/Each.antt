@@ -7,7 +7,7 @@ use Rattle.std.proofs.lemmas.Cmp.{nat_list_eq_equiv}
 use Rattle.std.proofs.lemmas.Map.Keys.{IsDistinct-push, IsDistinct-head, IsDistinct-tail}
 use Rattle.toml.specs.Data.{Data, table, Items, no_items, item, Members}
 use Rattle.as2_agreement.specs.Agreements.{SayEach}
-use Rattle.as2_agreement.specs.Reading.{Read, items_len, each}
+use Rattle.as2_agreement.specs.Reading.{OrFirstFault, items_len, each}
 use Rattle.as2_agreement.proofs.Keyed.{bound}
 
 -- ---- names that are distinct
@@ -23,7 +23,7 @@ absent_before (x ∷ front) back y d =
     let other : bytes_eq y x ≡ false = nat_list_eq_equiv.symm y x ∙ apart x y front back (IsDistinct-head bytes_eq x (front ++ y ∷ back) d) in
     rw other (absent_before front back y (IsDistinct-tail bytes_eq x (front ++ y ∷ back) d))
 
-module _ {X : Type 0} (one : List X → Data → Read X) (Says : Members → X → Type 0) (Good : X → Type 0) (name : X → List ℕ) (base : List (List ℕ)) where
+module _ {X : Type 0} (one : List X → Data → OrFirstFault X) (Says : Members → X → Type 0) (Good : X → Type 0) (name : X → List ℕ) (base : List (List ℕ)) where
   -- the names that are taken before the next
   abbrev pub taken : List X → List (List ℕ)
   taken before = base ++ map name before

@@ -15,10 +15,10 @@ use Rattle.as2_agreement.specs.declared.key.Key.{Key}
 use Rattle.as2_agreement.specs.declared.key.Key.TheVariants as key
 use Rattle.as2_agreement.specs.declared.partner.Organization.{Organization}
 use Rattle.as2_agreement.specs.declared.partner.Partner.{Partner}
-use Rattle.as2_agreement.specs.Agreements.{AgreedValues, AreAgreements, Agreed, SaysAgreements, SaysReturnUrl, SayEach, HasEntriesAt, names, wants_return, organizations_limit, partners_limit}
+use Rattle.as2_agreement.specs.Agreements.{AgreedValues, AreAgreements, IsAgreement, SaysAgreements, SaysReturnUrl, SayEach, HasEntriesAt, names, wants_return, organizations_limit, partners_limit}
 use Rattle.as2_agreement.specs.Partners.{SaysOrganization, SaysPartner, IsPartner}
 use Rattle.as2_agreement.specs.Values.{value_at, HasText, IsAddress}
-use Rattle.as2_agreement.specs.Reading.{Read, ◌>>=◌, present, of_kind, text, agreed_address, items_len, few, entries, each, domain, return_url_in, organization, organizations, partner, partners, agreements, document_in, reading, OrMemory, GivesOrMemory}
+use Rattle.as2_agreement.specs.Reading.{OrFirstFault, ◌>>=◌, present, of_kind, text, agreed_address, items_len, few, entries, each, domain, return_url_in, organization, organizations, partner, partners, agreements, document_in, agreements_reading, OrMemory, GivesOrMemory}
 use Rattle.as2_agreement.proofs.Each.{each_read, each_again}
 use Rattle.as2_agreement.proofs.Keyed.{bound, guarded, not_faulty, present_ok, of_kind_ok, as_array_ok, str_ok, text_ok, domain_of_ok, domain_of_again, address_ok, address_in_again}
 use Rattle.as2_agreement.proofs.Members.{organization_name, partner_name, IsOrganization, organization_reads, organization_again, partner_reads, partner_again}
@@ -200,7 +200,7 @@ pub partners_refused : (document : Members) (d : List ℕ) (r : Option (List ℕ
 partners_refused document d r os f at_domain at_url at_organizations (inl e) = inl (rw (at_domain, at_url, at_organizations, e) refl)
 partners_refused document d r os f at_domain at_url at_organizations (inr memory) = inr memory
 
-pub err_given : {A B : Type 0} (view : A → B) (r : Read A) (f : AgreementFault) (answer : Read B) → IsErr r → IsErrAnd r (λ e. e ≡ f)
+pub err_given : {A B : Type 0} (view : A → B) (r : OrFirstFault A) (f : AgreementFault) (answer : OrFirstFault B) → IsErr r → IsErrAnd r (λ e. e ≡ f)
     → (answer ≡ Err f) ⊎ (f ≡ fault.Memory) → GivesOrMemory view r answer
 err_given view (Ok a) f answer is given h = absurd cc
 err_given view (Err e) f answer is given h = rw given h
@@ -222,28 +222,28 @@ document_ok : (o : Option Members) (document : Members) → document_in o ≡ Ok
 document_ok None document e = absurd cc
 document_ok (Some x) document e = cc
 
-pub reading_found : (t : List ℕ) (a : AgreedValues) → reading t ≡ Ok a → Agreed t a
+pub reading_found : (t : List ℕ) (a : AgreedValues) → agreements_reading t ≡ Ok a → IsAgreement t a
 reading_found t a e =
     let (document, at, read) = bound (document_in (parse_document t)) agreements a e in
     let m = made_are document a (agreements_made document a read) in
     record { document = document; parsed = document_ok (parse_document t) document at; says = m.0; are = m.1 }
 
-pub reading_again : (t : List ℕ) (a : AgreedValues) → Agreed t a → reading t ≡ Ok a
+pub reading_again : (t : List ℕ) (a : AgreedValues) → IsAgreement t a → agreements_reading t ≡ Ok a
 reading_again t a g = rw g.parsed (agreements_again g.document a g.says g.are)
 
 -- ---- answers
 
 -- what a document gives, its text gives
-pub given_by : (t : List ℕ) (document : Members) (r : Read AgreedValues) → parse_document t ≡ Some document → GivesOrMemory (λ a. a) r (agreements document) → OrMemory r (reading t)
+pub given_by : (t : List ℕ) (document : Members) (r : OrFirstFault AgreedValues) → parse_document t ≡ Some document → GivesOrMemory (λ a. a) r (agreements document) → OrMemory r (agreements_reading t)
 given_by t document (Ok a) parsed g = inl (sym (rw parsed g))
 given_by t document (Err f) parsed (inl e) = inl (sym (rw parsed e))
 given_by t document (Err f) parsed (inr memory) = inr (ap Err memory)
 
-pub found_by : (t : List ℕ) (r : Read AgreedValues) → OrMemory r (reading t) → IfOk r (Agreed t)
+pub found_by : (t : List ℕ) (r : OrFirstFault AgreedValues) → OrMemory r (agreements_reading t) → IfOk r (IsAgreement t)
 found_by t (Err f) o = tt
 found_by t (Ok a) (inl same) = reading_found t a (sym same)
 found_by t (Ok a) (inr other) = absurd cc
 
-pub only_by : (t : List ℕ) (r : Read AgreedValues) → OrMemory r (reading t) → (a : AgreedValues) → Agreed t a → (r ≡ Ok a) ⊎ (r ≡ Err fault.Memory)
+pub only_by : (t : List ℕ) (r : OrFirstFault AgreedValues) → OrMemory r (agreements_reading t) → (a : AgreedValues) → IsAgreement t a → (r ≡ Ok a) ⊎ (r ≡ Err fault.Memory)
 only_by t r (inl same) a g = inl (same ∙ reading_again t a g)
 only_by t r (inr memory) a g = inr memory

@@ -21,26 +21,26 @@ use Rattle.as2_agreement.specs.declared.partner.Asked.{Asked}
 use Rattle.as2_agreement.specs.declared.partner.Asked.TheVariants as asked
 use Rattle.as2_agreement.specs.Values.{value_at, HasText, HasNumber, IsAddress, is_address, IsContentType, is_content_type, IsCount}
 use Rattle.as2_agreement.specs.Partners.{asked_word}
-use Rattle.as2_agreement.specs.Reading.{Read, ◌>>=◌, present, of_kind, text, agreed_address, count_in, count, readable_name, free, agreed_name, url, asked_named, agreed_receipt, digest_named, agreed_digest, content_type_in, content_type}
+use Rattle.as2_agreement.specs.Reading.{OrFirstFault, ◌>>=◌, present, of_kind, text, agreed_address, count_in, count_of, readable_name, free, agreed_name, url, asked_named, agreed_receipt, digest_named, agreed_digest, content_type_in, content_type}
 use Rattle.as2_agreement.proofs.Decided.{address_found, address_again, content_type_found, content_type_again}
 
 -- ---- steps that met no fault
 
-abbrev pub Gave : {A : Type 0} → Read A → A → Type 0
+abbrev pub Gave : {A : Type 0} → OrFirstFault A → A → Type 0
 Gave r a = r ≡ Ok a
 
 pub same_ok : {A : Type 0} (x y : A) → Gave (Ok x) y → x ≡ y
 same_ok x y e = cc
 
-pub bound : {A B : Type 0} (r : Read A) (next : A → Read B) (b : B) → (r >>= next) ≡ Ok b → (a : A) × (r ≡ Ok a) × (next a ≡ Ok b)
+pub bound : {A B : Type 0} (r : OrFirstFault A) (next : A → OrFirstFault B) (b : B) → (r >>= next) ≡ Ok b → (a : A) × (r ≡ Ok a) × (next a ≡ Ok b)
 bound (Ok a) next b e = (a, refl, e)
 bound (Err f) next b e = absurd cc
 
-pub guarded : {A : Type 0} (t : Bool) (f : AgreementFault) (x y : A) → cond {A = Read A} t (Ok x) (Err f) ≡ Ok y → (t ≡ true) × (x ≡ y)
+pub guarded : {A : Type 0} (t : Bool) (f : AgreementFault) (x y : A) → cond {A = OrFirstFault A} t (Ok x) (Err f) ≡ Ok y → (t ≡ true) × (x ≡ y)
 guarded true f x y e = (refl, cc)
 guarded false f x y e = absurd cc
 
-pub not_faulty : {A : Type 0} (t : Bool) (f : AgreementFault) (x y : A) → cond {A = Read A} t (Err f) (Ok x) ≡ Ok y → (t ≡ false) × (x ≡ y)
+pub not_faulty : {A : Type 0} (t : Bool) (f : AgreementFault) (x y : A) → cond {A = OrFirstFault A} t (Err f) (Ok x) ≡ Ok y → (t ≡ false) × (x ≡ y)
 not_faulty true f x y e = absurd cc
 not_faulty false f x y e = (refl, cc)
 
@@ -109,14 +109,14 @@ count_in_ok k most (pos m) n e =
     let p = and_parts (nat_le 1 m) (nat_le m most) g.0 in
     (ap pos g.1, rw (← g.1) (record { least = grind (arith, nat_tests); most = grind (arith, nat_tests) }))
 
-pub count_ok : (k : Key) (most : ℕ) (entry : Members) (n : ℕ) → count k most entry ≡ Ok n → HasNumber entry k n × IsCount most n
+pub count_ok : (k : Key) (most : ℕ) (entry : Members) (n : ℕ) → count_of k most entry ≡ Ok n → HasNumber entry k n × IsCount most n
 count_ok k most entry n e =
     let (z, read, fits) = bound (present k (value_at k entry) >>= (λ d. of_kind k (as_integer d))) (count_in k most) n e in
     let (d, here, kind) = bound (present k (value_at k entry)) (λ d. of_kind k (as_integer d)) z read in
     let c = count_in_ok k most z n fits in
     (present_ok k (value_at k entry) d here ∙ ap Some (as_integer_ok d z (of_kind_ok k (as_integer d) z kind) ∙ ap integer c.0), c.1)
 
-pub count_again : (k : Key) (most : ℕ) (entry : Members) (n : ℕ) → HasNumber entry k n → IsCount most n → count k most entry ≡ Ok n
+pub count_again : (k : Key) (most : ℕ) (entry : Members) (n : ℕ) → HasNumber entry k n → IsCount most n → count_of k most entry ≡ Ok n
 count_again k most entry n h c =
     let least : nat_le 1 n ≡ true = grind (arith, nat_tests) in
     let below : nat_le n most ≡ true = grind (arith, nat_tests) in

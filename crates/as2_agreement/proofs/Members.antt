@@ -10,7 +10,7 @@ use Rattle.as2_agreement.specs.declared.partner.Organization.{Organization}
 use Rattle.as2_agreement.specs.declared.partner.Partner.{Partner}
 use Rattle.as2_agreement.specs.Agreements.{names}
 use Rattle.as2_agreement.specs.Partners.{SaysOrganization, SaysPartner, IsPartner, tries_limit, seconds_limit}
-use Rattle.as2_agreement.specs.Reading.{of_kind, agreed_name, url, agreed_receipt, agreed_digest, content_type, count, organization, partner}
+use Rattle.as2_agreement.specs.Reading.{of_kind, agreed_name, url, agreed_receipt, agreed_digest, content_type, count_of, organization, partner}
 use Rattle.as2_agreement.proofs.Each.{EachRead, Again}
 use Rattle.as2_agreement.proofs.Keyed.{same_ok, bound, of_kind_ok, as_table_ok, name_ok, name_again, url_ok, url_again, receipt_ok, receipt_again, digest_ok, digest_again, content_type_ok, content_type_in_again, count_ok, count_again}
 
@@ -50,9 +50,9 @@ module _ (os : List Organization) where
       let (r, at_receipt, r3) = bound (agreed_receipt entry) _ p r2 in
       let (a, at_digest, r4) = bound (agreed_digest entry) _ p r3 in
       let (c, at_type, r5) = bound (content_type entry) _ p r4 in
-      let (t, at_tries, r6) = bound (count key.MaxTries tries_limit entry) _ p r5 in
-      let (s, at_retry, r7) = bound (count key.RetrySeconds seconds_limit entry) _ p r6 in
-      let (o, at_overdue, r8) = bound (count key.OverdueSeconds seconds_limit entry) _ p r7 in
+      let (t, at_tries, r6) = bound (count_of key.MaxTries tries_limit entry) _ p r5 in
+      let (s, at_retry, r7) = bound (count_of key.RetrySeconds seconds_limit entry) _ p r6 in
+      let (o, at_overdue, r8) = bound (count_of key.OverdueSeconds seconds_limit entry) _ p r7 in
       let made : record { name = n; url = u; receipt = r; digest = a; content_type = c; max_tries = t; retry_seconds = s; overdue_seconds = o } ≡ p = same_ok _ p r8 in
       let h = name_ok (names os before) entry n named in
       let hu = url_ok entry u at_url in

@@ -70,7 +70,7 @@ pub record SaysAgreements (document : Members) (a : AgreedValues) : Type 0 where
   pub partners : HasEntriesAt SaysPartner document key.Partner a.partners
 
 -- The text has the agreements: its document says them, and they may be agreed.
-pub record Agreed (text : List ℕ) (a : AgreedValues) : Type 0 where
+pub record IsAgreement (text : List ℕ) (a : AgreedValues) : Type 0 where
   pub document : Members
   pub parsed : parse_document text ≡ Some document
   pub says : SaysAgreements document a
@@ -83,5 +83,5 @@ abbrev pub organization_of : List ℕ → List Organization → Option Organizat
 organization_of name organizations = find (λ o. bytes_eq o.name name) organizations
 
 -- the partner of a name
-abbrev pub partner_of : List ℕ → List Partner → Option Partner
-partner_of name partners = find (λ p. bytes_eq p.name name) partners
+abbrev pub partner_named : List ℕ → List Partner → Option Partner
+partner_named name partners = find (λ p. bytes_eq p.name name) partners

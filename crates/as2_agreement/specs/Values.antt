@@ -8,7 +8,7 @@ use Rattle.as2_media.specs.declared.fault.TypeFault.{TypeFault}
 use Rattle.as2_media.specs.declared.kind.Kind.{Kind}
 use Rattle.as2_media.specs.declared.kind.Kind.TheVariants as kind
 use Rattle.as2_media.specs.Kinds.{kind_of}
-use Rattle.as2_media.specs.MediaTypes.{Media, IsMediaType, reading}
+use Rattle.as2_media.specs.MediaTypes.{Media, IsMediaType, media_type_reading}
 use Rattle.as2_text.specs.Addresses.{IsUrl, url_of}
 use Rattle.as2_agreement.specs.declared.key.Key.{Key}
 use Rattle.as2_agreement.specs.Keys.{key_name}
@@ -60,7 +60,7 @@ pub record IsContentType (text : List ℕ) : Type 0 where
 
 -- the same as a test
 abbrev pub is_content_type : List ℕ → Bool
-is_content_type text = nat_lt 0 (length text) && nat_le (length text) 255 && list_all is_printable text && is_document_type (reading text)
+is_content_type text = nat_lt 0 (length text) && nat_le (length text) 255 && list_all is_printable text && is_document_type (media_type_reading text)
 
 -- a number from 1 to the most
 pub record IsCount (limit number : ℕ) : Type 0 where

@@ -1,9 +1,9 @@
 ghost use Rattle.std.specs.Prelude.{◌≡◌, ◌⊎◌, ℕ, ◌≤◌, List, length, option_map, IfOk, IfSome, Some, Ok, Err};
 ghost use Rattle.std.specs.List.{Contains};
 ghost use Rattle.toml.specs.View.{table_view};
-ghost use Rattle.as2_agreement.specs.Agreements.{AgreedValues, AreAgreements, Agreed, organization_of, partner_of, wants_return};
+ghost use Rattle.as2_agreement.specs.Agreements.{AgreedValues, AreAgreements, IsAgreement, organization_of, partner_named, wants_return};
 ghost use Rattle.as2_agreement.specs.Partners.{IsPartner};
-ghost use Rattle.as2_agreement.specs.Reading.{GivesOrMemory, OrMemory, agreements, reading};
+ghost use Rattle.as2_agreement.specs.Reading.{GivesOrMemory, OrMemory, agreements, agreements_reading};
 ghost use Rattle.as2_agreement.specs.declared.partner.Organization.{Organization as OneOrganization};
 ghost use Rattle.as2_agreement.specs.declared.partner.Partner.{Partner as OnePartner};
 ghost use Rattle.as2_agreement.specs.declared.fault.AgreementFault.TheVariants.{Memory};
@@ -74,7 +74,7 @@ fn organization_named<'a>(
 }
 
 fn partner_named<'a>(partners: &'a [Partner], name: &AsName) -> Option<&'a Partner>
-    ensures { option_map (λ p. p.now) result ≡ partner_of name.now partners.now }
+    ensures { option_map (λ p. p.now) result ≡ partner_named name.now partners.now }
 {
     partners.iter().find(|p| p.name.bytes() == name.bytes())
 }
@@ -83,11 +83,11 @@ impl Agreements {
     /// Reads agreements from TOML. The faults are looked for in the order of the keys, `Memory` aside.
     pub fn read(alloc: Global, text: &str) -> Result<Agreements, AgreementFault>
         // What is read is what the text has.
-        ensures found { IfOk result (Agreed text.now) }
+        ensures found { IfOk result (IsAgreement text.now) }
         // What the text has is read, or there was no memory.
-        ensures only { (a : AgreedValues) → Agreed text.now a → (result ≡ Ok a) ⊎ (result ≡ Err Memory) }
+        ensures only { (a : AgreedValues) → IsAgreement text.now a → (result ≡ Ok a) ⊎ (result ≡ Err Memory) }
         // Which fault it is; memory may be wanting in place of any answer.
-        ensures exact { OrMemory result (reading text.now) }
+        ensures exact { OrMemory result (agreements_reading text.now) }
     {
         match toml::table_from_str(alloc, text) {
             Ok(document) => read_document(alloc, &document),
@@ -134,7 +134,7 @@ impl Agreements {
         // Who has the name is found.
         ensures only { (p : OnePartner) → Contains self.now.partners p → p.name ≡ name.now
             → option_map (λ p. p.now) result ≡ Some p }
-        ensures exact { option_map (λ p. p.now) result ≡ partner_of name.now self.now.partners }
+        ensures exact { option_map (λ p. p.now) result ≡ partner_named name.now self.now.partners }
     {
         partner_named(&self.partners, name)
     }

@@ -1,7 +1,7 @@
 // Where the first fault of a text stands.
 ghost use Rattle.std.specs.Prelude.{◌≡◌, ◌≤◌, [], length, IfSome, Some, string_bytes};
 ghost use Rattle.toml.specs.View.{view, items_view, table_view};
-ghost use Rattle.as2_agreement.specs.Places.{IsEntry, IsPlace, IsPlaceIn, first_faulty, line_at, name_in};
+ghost use Rattle.as2_agreement.specs.Places.{IsNamedEntry, IsPlace, IsPlaceIn, first_faulty, line_at, name_of_entry};
 ghost use Rattle.as2_agreement.specs.Reading.{organization, partner};
 
 use crate::agreements::Agreements;
@@ -52,7 +52,7 @@ fn line_at(text: &[u8], at: usize) -> usize
 
 /// The text of an entry's name, where it has one.
 fn name_in(alloc: Global, entry: &Value) -> Option<String>
-    ensures { IfSome result (λ name. name_in (view entry.now) ≡ Some (string_bytes name)) }
+    ensures { IfSome result (λ name. name_of_entry (view entry.now) ≡ Some (string_bytes name)) }
 {
     let table = entry.as_table()?;
     let text = value_at(table, Key::Name)?.as_str()?;
@@ -61,7 +61,7 @@ fn name_in(alloc: Global, entry: &Value) -> Option<String>
 
 /// An entry, with its name.
 fn entry_of(alloc: Global, number: usize, entry: &Value) -> Entry
-    ensures { IsEntry (Some (number, view entry.now)) result }
+    ensures { IsNamedEntry (Some (number, view entry.now)) result }
 {
     Entry {
         number,
@@ -71,7 +71,7 @@ fn entry_of(alloc: Global, number: usize, entry: &Value) -> Entry
 
 /// The first organization that has a fault; None where none has, or memory was wanting.
 fn faulty_organization(alloc: Global, entries: &[Value]) -> Option<Entry>
-    ensures { IfSome result (IsEntry (first_faulty organization 1 [] (items_view entries.now))) }
+    ensures { IfSome result (IsNamedEntry (first_faulty organization 1 [] (items_view entries.now))) }
 {
     let mut kept = Vec::new(alloc);
     for entry in entries {
@@ -85,7 +85,7 @@ fn faulty_organization(alloc: Global, entries: &[Value]) -> Option<Entry>
 
 /// The first partner that has a fault; None where none has, or memory was wanting.
 fn faulty_partner(alloc: Global, organizations: &[Organization], entries: &[Value]) -> Option<Entry>
-    ensures { IfSome result (IsEntry (first_faulty (partner organizations.now) 1 [] (items_view entries.now))) }
+    ensures { IfSome result (IsNamedEntry (first_faulty (partner organizations.now) 1 [] (items_view entries.now))) }
 {
     let mut kept = Vec::new(alloc);
     for entry in entries {

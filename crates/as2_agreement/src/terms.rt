@@ -4,7 +4,7 @@ ghost use Rattle.std.specs.List.{list_any};
 ghost use Rattle.std.specs.Str.{bytes_eq};
 ghost use Rattle.toml.specs.View.{table_view};
 ghost use Rattle.as2_agreement.specs.Values.{IsAddress, IsContentType, is_address, is_content_type, is_document_type};
-ghost use Rattle.as2_media.specs.MediaTypes.{reading};
+ghost use Rattle.as2_media.specs.MediaTypes.{media_type_reading};
 ghost use Rattle.as2_agreement.specs.Agreements.{names};
 ghost use Rattle.as2_agreement.specs.Reading.{IsSeenAs, agreed_name, readable_name, free, asked_named, digest_named, agreed_address, url, agreed_receipt, agreed_digest, content_type, content_type_in};
 
@@ -119,7 +119,7 @@ pub(crate) fn digest_at(entry: &Table) -> Result<Alg, AgreementFault>
 
 /// Whether the text is the media type of a document.
 fn is_document_type(text: &[u8]) -> bool
-    ensures { result ≡ is_document_type (reading text.now) }
+    ensures { result ≡ is_document_type (media_type_reading text.now) }
 {
     match MediaType::parse(text) {
         Ok(media) => matches!(media.kind(), Kind::Document),

@@ -3,7 +3,7 @@ ghost use Rattle.std.specs.Prelude.{◌≡◌, option_map};
 ghost use Rattle.toml.specs.Data.{as_table};
 ghost use Rattle.toml.specs.View.{view, table_view, items_view};
 ghost use Rattle.as2_agreement.specs.Values.{value_at};
-ghost use Rattle.as2_agreement.specs.Reading.{IsSeenAs, present, of_kind, text, count, count_in, entries, few};
+ghost use Rattle.as2_agreement.specs.Reading.{IsSeenAs, present, of_kind, text, count_of, count_in, entries, few};
 
 use crate::fault::AgreementFault;
 use crate::key::Key;
@@ -43,7 +43,7 @@ fn count_in(key: Key, most: u64, number: i64) -> Result<u64, AgreementFault>
 
 /// The number at a key, from 1 to the most.
 pub(crate) fn count_at(table: &Table, key: Key, most: u64) -> Result<u64, AgreementFault>
-    ensures { result ≡ count key most (table_view table.now) }
+    ensures { result ≡ count_of key most (table_view table.now) }
 {
     let value = present(table, key)?;
     let number = value.as_integer().ok_or(AgreementFault::WrongKind(key))?;

@@ -13,7 +13,7 @@ use Rattle.as2_exchange.specs.declared.outbox.Evidence.{Evidence}
 use Rattle.as2_exchange.specs.declared.outbox.OutEntry.{OutEntry}
 use Rattle.as2_exchange.specs.Tries.{is_idle}
 use Rattle.as2_audit.specs.Faults.{gives, is_by_late, is_detail, kept_receipt, receipt_fault, sent_fault, settled_fault}
-use Rattle.as2_audit.specs.Laws.{IsConfirmed}
+use Rattle.as2_audit.specs.Laws.{HasConfirmingReceipt}
 use Rattle.as2_audit.specs.declared.fault.Fault.{Fault}
 use Rattle.as2_audit.specs.declared.fault.Fault.TheVariants.{NoReceipt, StrayReceipt, StillWaits, NeverBegun, ReceiptOfAnother, DetailDiffers}
 
@@ -60,7 +60,7 @@ given_success migrated r content is =
     (λ other. unconfirmed r content (one_name _ other)))
 
 module _ (migrated : Bool) (d : OutEntry) (success : d.detail ≡ detail.Processed) where
-  read_one : (e : Evidence) → d.evidence ≡ Some e → (r : Option Receipt) → kept_receipt e ≡ r → receipt_fault migrated d r ≡ None → IsConfirmed d
+  read_one : (e : Evidence) → d.evidence ≡ Some e → (r : Option Receipt) → kept_receipt e ≡ r → receipt_fault migrated d r ≡ None → HasConfirmingReceipt d
   unfolding verdict
   read_one e kept None read is = cc
   read_one e kept (Some r) read is =
@@ -75,7 +75,7 @@ module _ (migrated : Bool) (d : OutEntry) (success : d.detail ≡ detail.Process
         confirms = (confirmed AllDigests r d.content).0 (given_success migrated r d.content given);
       }
 
-  settled_one : (o : Option Evidence) → d.evidence ≡ o → settled_fault migrated d o ≡ None → IsConfirmed d
+  settled_one : (o : Option Evidence) → d.evidence ≡ o → settled_fault migrated d o ≡ None → HasConfirmingReceipt d
   settled_one None kept is =
       let none : (if is_by_receipt detail.Processed then Some NoReceipt else None) ≡ None = subst (λ (x : Detail). (if is_by_receipt x then Some NoReceipt else None) ≡ None) success is in cc
   settled_one (Some e) kept is =
@@ -83,6 +83,6 @@ module _ (migrated : Bool) (d : OutEntry) (success : d.detail ≡ detail.Process
       (behind (not (is_idle d.attempt) || is_some d.due) StillWaits (receipt_fault migrated d (kept_receipt e))
       (behind (not (is_by_receipt d.detail)) StrayReceipt (if not (is_idle d.attempt) || is_some d.due then Some StillWaits else receipt_fault migrated d (kept_receipt e)) is))
 
-pub passed : (migrated : Bool) (d : OutEntry) → sent_fault migrated d ≡ None → d.detail ≡ detail.Processed → IsConfirmed d
+pub passed : (migrated : Bool) (d : OutEntry) → sent_fault migrated d ≡ None → d.detail ≡ detail.Processed → HasConfirmingReceipt d
 passed migrated d is success =
     settled_one migrated d success d.evidence refl (behind (nat_le 1 d.tries && not d.begun) NeverBegun (settled_fault migrated d d.evidence) is)

@@ -7,7 +7,7 @@ use Rattle.as2_mdn.specs.declared.detail.Detail.{Detail}
 use Rattle.as2_mic.specs.Algs.{AllDigests, alg_named, is_late}
 use Rattle.as2_exchange.specs.Agreement.{Text}
 use Rattle.as2_exchange.specs.Invariants.{is_by_receipt}
-use Rattle.as2_exchange.specs.Readings.{Receipt, is_processed, named_by, report_in, typed, value_of, verdict}
+use Rattle.as2_exchange.specs.Readings.{Receipt, is_processed, named_by, report_in, media_type_of, value_of, verdict}
 use Rattle.as2_exchange.specs.declared.inbox.Posted.{Posted}
 use Rattle.as2_exchange.specs.declared.outbox.Evidence.{Evidence}
 use Rattle.as2_exchange.specs.declared.outbox.OutEntry.{OutEntry}
@@ -30,7 +30,7 @@ received_fault p =
 
 -- the receipt that is kept, where it can be read
 abbrev pub kept_receipt : Evidence → Option Receipt
-kept_receipt e = option_and_then (λ type. report_in type.0 e.body) (typed e.content_type)
+kept_receipt e = option_and_then (λ type. report_in type.0 e.body) (media_type_of e.content_type)
 
 -- both are one detail: no two have one name
 abbrev pub is_detail : Detail → Detail → Bool

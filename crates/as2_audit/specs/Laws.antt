@@ -8,7 +8,7 @@ use Rattle.as2_exchange.specs.declared.outbox.OutEntry.{OutEntry}
 use Rattle.as2_audit.specs.Faults.{kept_receipt}
 
 -- a receipt is kept of it, can be read, names it, and confirms its content
-pub record IsConfirmed (d : OutEntry) : Type 0 where
+pub record HasConfirmingReceipt (d : OutEntry) : Type 0 where
   pub evidence : Evidence
   pub kept : d.evidence ≡ Some evidence
   pub receipt : Receipt

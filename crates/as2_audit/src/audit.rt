@@ -2,7 +2,7 @@
 ghost use Rattle.std.specs.Prelude.{◌≡◌, ◌++◌, IfErr, OnOk, length, true};
 ghost use Rattle.as2_records.specs.Calls.{Reads};
 ghost use Rattle.as2_records.specs.Standing.{may_come};
-ghost use Rattle.as2_audit.specs.Audits.{found, is_migrated, received_at, received_findings, sent_at, sent_findings};
+ghost use Rattle.as2_audit.specs.Audits.{finding_at, is_migrated, received_at, received_findings, sent_at, sent_findings};
 
 use crate::fault::Fault;
 use crate::findings::{Finding, Mailbox, append};
@@ -51,7 +51,7 @@ fn add(
     number: u64,
     fault: Option<Fault>,
 ) -> Result<(), StoreFault>
-    ensures found { OnOk result (findings.new.items ≡ findings.old.items ++ found mailbox number fault) }
+    ensures found { OnOk result (findings.new.items ≡ findings.old.items ++ finding_at mailbox number fault) }
     ensures may { IfErr result (λ f. may_come f ≡ true) }
 {
     let Some(fault) = fault else {

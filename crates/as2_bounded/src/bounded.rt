@@ -2,7 +2,7 @@
 ghost use Rattle.std.specs.Prelude.{◌≡◌, ◌⊎◌, ◌<◌, ◌≤◌, ◌+◌, ◌-◌, ◌^◌, min, length, true, IfErr, IfOk, IfSome, None, Some, Ok, Err};
 ghost use Rattle.as2_exchange.specs.State.{end_of_numbers};
 ghost use Rattle.as2_exchange.specs.declared.fault.StoreFault.TheVariants.{Disk, Full};
-ghost use Rattle.as2_records.specs.Adding.{added, added_document};
+ghost use Rattle.as2_records.specs.Adding.{state_with, added_document};
 ghost use Rattle.as2_records.specs.Calls.{Writes};
 ghost use Rattle.as2_records.specs.Standing.{may_come};
 ghost use Rattle.as2_bounded.specs.Rooms.{room_behind, room_of};
@@ -100,7 +100,7 @@ impl<R: Records> Bounded<R> {
 
     /// Adds an entry to the inbox, as `Records` has it, where there is room for its content, which it takes.
     fn admit_in(&mut self, entry: &InEntry) -> Result<(), StoreFault>
-        ensures added { Writes (added entry.now) (R.shows self.old.records) (R.shows self.new.records) result }
+        ensures added { Writes (state_with entry.now) (R.shows self.old.records) (R.shows self.new.records) result }
         ensures full { IfErr result (λ f. f ≡ Full → end_of_numbers ≤ entry.now.number) }
         ensures full_alone { end_of_numbers ≤ entry.now.number → result ≡ Err Full }
         ensures full_same { end_of_numbers ≤ entry.now.number → self.new ≡ self.old }

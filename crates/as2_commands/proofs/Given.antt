@@ -11,8 +11,8 @@ use Rattle.as2_views.specs.declared.filter.Filter.{Filter}
 use Rattle.as2_views.specs.declared.filter.Filter.TheVariants.{Outbox, Inbox}
 use Rattle.as2_audit.specs.declared.findings.Mailbox.{Mailbox}
 use Rattle.as2_commands.specs.CommandLine.{command_in, option_values}
-use Rattle.as2_commands.specs.Options.{AsksEvidence, AsksRun, AsksServe, AsksSubmit, Gives, IsFormat, Lists, is_idle, NameIs, NumberIs, SecondsAre, Tasks, Tell, TellQuestion, TellsOption, question_word, word_of}
-use Rattle.as2_commands.specs.Requests.{Serving, Submission, Wanted}
+use Rattle.as2_commands.specs.Options.{AsksEvidence, AsksRun, AsksServe, AsksSubmit, Gives, IsFormat, Lists, is_state_ignored, NameIs, NumberIs, SecondsAre, Tasks, Tell, TellQuestion, TellsOption, question_word, word_of}
+use Rattle.as2_commands.specs.Requests.{GivenServing, GivenSubmission, GivenEvidence}
 use Rattle.as2_commands.specs.declared.tasks.Command.{Command}
 use Rattle.as2_commands.specs.declared.tasks.Command.TheVariants as command
 use Rattle.as2_commands.specs.declared.tasks.Format.{Format}
@@ -53,7 +53,7 @@ path_one o a b x y = cc
 
 -- ---- the same for each command
 
-submission_one : (own : List Row) (a b : Submission) → AsksSubmit own a → AsksSubmit own b → a ≡ b
+submission_one : (own : List Row) (a b : GivenSubmission) → AsksSubmit own a → AsksSubmit own b → a ≡ b
 submission_one own a b x y =
     ap (λ (n : List ℕ). record a { from = n }) (name_one _ a.from b.from x.sender y.sender)
     ∙ ap (λ (n : List ℕ). record a { from = b.from; to = n }) (name_one _ a.to b.to x.receiver y.receiver)
@@ -65,7 +65,7 @@ waits_one a b x = ap (λ (n : ℕ). record a { seconds = n }) x
 serving_waits_one : (a b : ServingWaits) → a.seconds ≡ b.seconds → a.idle ≡ b.idle → a ≡ b
 serving_waits_one a b x y = ap (λ (n : ℕ). record a { seconds = n }) x ∙ ap (λ (n : ℕ). record b { idle = n }) y
 
-serving_one : (values own : List Row) (a b : Serving) → AsksServe values own a → AsksServe values own b → a ≡ b
+serving_one : (values own : List Row) (a b : GivenServing) → AsksServe values own a → AsksServe values own b → a ≡ b
 serving_one values own a b x y =
     ap (λ (t : List ℕ). record a { address = t }) (path_one _ a.address b.address x.listens y.listens)
     ∙ ap (λ (n : ℕ). record a { address = b.address; count = n }) (number_one _ a.count b.count x.connections.number y.connections.number)
@@ -115,7 +115,7 @@ format_one own format.Text format.Json x y = absurd (apart 106111 116120 (lit< t
 format_one own format.Json format.Text x y = absurd (apart 106111 116120 (lit< tt) (ap mark (path_one _ (codes "json") (codes "text") x y)))
 format_one own format.Json format.Json x y = refl
 
-question_one : (own : List Row) (a b : Question Submission) → question_word a ≡ question_word b → TellQuestion own a → TellQuestion own b → a ≡ b
+question_one : (own : List Row) (a b : Question GivenSubmission) → question_word a ≡ question_word b → TellQuestion own a → TellQuestion own b → a ≡ b
 unfolding mark
 question_one own (question.Submit s) (question.Submit t) is x y = ap question.Submit (submission_one own s t x y)
 question_one own (question.Submit s) question.Tick is x y = absurd (apart 115098 116099 (lit< tt) (ap mark is))
@@ -143,7 +143,7 @@ question_one own (question.List s i f) question.Tick is x y = absurd (apart 1081
 question_one own (question.List s i f) (question.Resend t) is x y = absurd (apart 108115 114115 (lit< tt) (ap mark is))
 question_one own (question.List s i f) (question.List t j g) is x y =
     let same = filter_one _ _ s t x.0 y.0 in
-    ap₂ (λ (a : Filter) (b : Bool). question.List a b f) same (x.1 ∙ ap (λ (a : Filter). is_idle a (first_of (codes "state") own)) same ∙ sym y.1)
+    ap₂ (λ (a : Filter) (b : Bool). question.List a b f) same (x.1 ∙ ap (λ (a : Filter). is_state_ignored a (first_of (codes "state") own)) same ∙ sym y.1)
     ∙ ap (question.List t j) (format_one own f g x.2 y.2)
 question_one own (question.List s i f) (question.Outstanding g) is x y = absurd (apart 108115 111116 (lit< tt) (ap mark is))
 question_one own (question.List s i f) (question.Show t g) is x y = absurd (apart 108115 115111 (lit< tt) (ap mark is))
@@ -170,7 +170,7 @@ question_one own (question.Fetch s) (question.Outstanding g) is x y = absurd (ap
 question_one own (question.Fetch s) (question.Show t g) is x y = absurd (apart 102116 115111 (lit< tt) (ap mark is))
 question_one own (question.Fetch s) (question.Fetch t) is x y = ap question.Fetch (number_one _ s t x.number y.number)
 
-no_post : (q : Question Submission) → codes "post" ≡ question_word q → ⊥
+no_post : (q : Question GivenSubmission) → codes "post" ≡ question_word q → ⊥
 unfolding mark
 no_post (question.Submit s) is = absurd (apart 112115 115098 (lit< tt) (ap mark is))
 no_post question.Tick is = absurd (apart 112115 116099 (lit< tt) (ap mark is))
@@ -180,7 +180,7 @@ no_post (question.Outstanding f) is = absurd (apart 111116 112115 (lit< tt) (ap 
 no_post (question.Show s f) is = absurd (apart 112115 115111 (lit< tt) (ap mark is))
 no_post (question.Fetch s) is = absurd (apart 102116 112115 (lit< tt) (ap mark (sym is)))
 
-no_send : (q : Question Submission) → codes "send" ≡ question_word q → ⊥
+no_send : (q : Question GivenSubmission) → codes "send" ≡ question_word q → ⊥
 unfolding mark
 no_send (question.Submit s) is = absurd (apart 115098 115110 (lit< tt) (ap mark (sym is)))
 no_send question.Tick is = absurd (apart 115110 116099 (lit< tt) (ap mark is))
@@ -190,7 +190,7 @@ no_send (question.Outstanding f) is = absurd (apart 111116 115110 (lit< tt) (ap 
 no_send (question.Show s f) is = absurd (apart 115110 115111 (lit< tt) (ap mark is))
 no_send (question.Fetch s) is = absurd (apart 102116 115110 (lit< tt) (ap mark (sym is)))
 
-no_serve : (q : Question Submission) → codes "serve" ≡ question_word q → ⊥
+no_serve : (q : Question GivenSubmission) → codes "serve" ≡ question_word q → ⊥
 unfolding mark
 no_serve (question.Submit s) is = absurd (apart 115098 115114 (lit< tt) (ap mark (sym is)))
 no_serve question.Tick is = absurd (apart 115114 116099 (lit< tt) (ap mark is))
@@ -200,7 +200,7 @@ no_serve (question.Outstanding f) is = absurd (apart 111116 115114 (lit< tt) (ap
 no_serve (question.Show s f) is = absurd (apart 115111 115114 (lit< tt) (ap mark (sym is)))
 no_serve (question.Fetch s) is = absurd (apart 102116 115114 (lit< tt) (ap mark (sym is)))
 
-command_one : (values own : List Row) (a b : Command Submission) → word_of a ≡ word_of b → Tell values own a → Tell values own b → a ≡ b
+command_one : (values own : List Row) (a b : Command GivenSubmission) → word_of a ≡ word_of b → Tell values own a → Tell values own b → a ≡ b
 unfolding mark
 command_one values own (command.Post s) (command.Post t) is x y = ap command.Post (x ∙ sym y)
 command_one values own (command.Post s) (command.Ask t) is x y = absurd (no_post t is)
@@ -226,7 +226,7 @@ run_one values clock a b x y =
     ∙ ap (λ (n : ℕ). record b { limit = n }) (number_one _ a.limit b.limit x.limit.number y.limit.number)
 
 -- `check` is no command over the records
-no_check_question : (q : Question Submission) → codes "check" ≡ question_word q → ⊥
+no_check_question : (q : Question GivenSubmission) → codes "check" ≡ question_word q → ⊥
 unfolding mark
 no_check_question (question.Submit s) is = absurd (apart 99101 115098 (lit< tt) (ap mark is))
 no_check_question question.Tick is = absurd (apart 99101 116099 (lit< tt) (ap mark is))
@@ -236,7 +236,7 @@ no_check_question (question.Outstanding f) is = absurd (apart 99101 111116 (lit<
 no_check_question (question.Show s f) is = absurd (apart 99101 115111 (lit< tt) (ap mark is))
 no_check_question (question.Fetch s) is = absurd (apart 99101 102116 (lit< tt) (ap mark is))
 
-no_check : (command : Command Submission) → codes "check" ≡ word_of command → ⊥
+no_check : (command : Command GivenSubmission) → codes "check" ≡ word_of command → ⊥
 unfolding mark
 no_check (command.Post p) is = absurd (apart 99101 112115 (lit< tt) (ap mark is))
 no_check (command.Ask q) is = no_check_question q is
@@ -244,7 +244,7 @@ no_check (command.Send s) is = absurd (apart 99101 115110 (lit< tt) (ap mark is)
 no_check (command.Serve s) is = absurd (apart 99101 115114 (lit< tt) (ap mark is))
 
 -- nor is `migrate`
-no_migrate_question : (q : Question Submission) → codes "migrate" ≡ question_word q → ⊥
+no_migrate_question : (q : Question GivenSubmission) → codes "migrate" ≡ question_word q → ⊥
 unfolding mark
 no_migrate_question (question.Submit s) is = absurd (apart 109103 115098 (lit< tt) (ap mark is))
 no_migrate_question question.Tick is = absurd (apart 109103 116099 (lit< tt) (ap mark is))
@@ -254,7 +254,7 @@ no_migrate_question (question.Outstanding f) is = absurd (apart 109103 111116 (l
 no_migrate_question (question.Show s f) is = absurd (apart 109103 115111 (lit< tt) (ap mark is))
 no_migrate_question (question.Fetch s) is = absurd (apart 102116 109103 (lit< tt) (ap mark (sym is)))
 
-no_migrate : (command : Command Submission) → codes "migrate" ≡ word_of command → ⊥
+no_migrate : (command : Command GivenSubmission) → codes "migrate" ≡ word_of command → ⊥
 unfolding mark
 no_migrate (command.Post p) is = absurd (apart 109103 112115 (lit< tt) (ap mark is))
 no_migrate (command.Ask q) is = no_migrate_question q is
@@ -262,7 +262,7 @@ no_migrate (command.Send s) is = absurd (apart 109103 115110 (lit< tt) (ap mark 
 no_migrate (command.Serve s) is = absurd (apart 109103 115114 (lit< tt) (ap mark is))
 
 -- nor is `verify`
-no_verify_question : (q : Question Submission) → codes "verify" ≡ question_word q → ⊥
+no_verify_question : (q : Question GivenSubmission) → codes "verify" ≡ question_word q → ⊥
 unfolding mark
 no_verify_question (question.Submit s) is = absurd (apart 115098 118114 (lit< tt) (ap mark (sym is)))
 no_verify_question question.Tick is = absurd (apart 116099 118114 (lit< tt) (ap mark (sym is)))
@@ -272,7 +272,7 @@ no_verify_question (question.Outstanding f) is = absurd (apart 111116 118114 (li
 no_verify_question (question.Show s f) is = absurd (apart 115111 118114 (lit< tt) (ap mark (sym is)))
 no_verify_question (question.Fetch s) is = absurd (apart 102116 118114 (lit< tt) (ap mark (sym is)))
 
-no_verify : (command : Command Submission) → codes "verify" ≡ word_of command → ⊥
+no_verify : (command : Command GivenSubmission) → codes "verify" ≡ word_of command → ⊥
 unfolding mark
 no_verify (command.Post p) is = absurd (apart 112115 118114 (lit< tt) (ap mark (sym is)))
 no_verify (command.Ask q) is = no_verify_question q is
@@ -292,7 +292,7 @@ unfolding mark
 check_migrate is = absurd (apart 99101 109103 (lit< tt) (ap mark is))
 
 -- nor is `evidence`
-no_evidence_question : (q : Question Submission) → codes "evidence" ≡ question_word q → ⊥
+no_evidence_question : (q : Question GivenSubmission) → codes "evidence" ≡ question_word q → ⊥
 unfolding mark
 no_evidence_question (question.Submit s) is = absurd (apart 101105 115098 (lit< tt) (ap mark is))
 no_evidence_question question.Tick is = absurd (apart 101105 116099 (lit< tt) (ap mark is))
@@ -302,7 +302,7 @@ no_evidence_question (question.Outstanding f) is = absurd (apart 101105 111116 (
 no_evidence_question (question.Show s f) is = absurd (apart 101105 115111 (lit< tt) (ap mark is))
 no_evidence_question (question.Fetch s) is = absurd (apart 101105 102116 (lit< tt) (ap mark is))
 
-no_evidence : (command : Command Submission) → codes "evidence" ≡ word_of command → ⊥
+no_evidence : (command : Command GivenSubmission) → codes "evidence" ≡ word_of command → ⊥
 unfolding mark
 no_evidence (command.Post p) is = absurd (apart 101105 112115 (lit< tt) (ap mark is))
 no_evidence (command.Ask q) is = no_evidence_question q is
@@ -321,7 +321,7 @@ verify_evidence : codes "verify" ≡ codes "evidence" → ⊥
 unfolding mark
 verify_evidence is = absurd (apart 101105 118114 (lit< tt) (ap mark (sym is)))
 
-wanted_one : (own : List Row) (a b : Wanted) → AsksEvidence own a → AsksEvidence own b → a ≡ b
+wanted_one : (own : List Row) (a b : GivenEvidence) → AsksEvidence own a → AsksEvidence own b → a ≡ b
 wanted_one own a b x y =
     ap (λ (m : Mailbox). record a { mailbox = m }) (x.box ∙ sym y.box)
     ∙ ap (λ (n : ℕ). record a { mailbox = b.mailbox; number = n }) (number_one _ a.number b.number x.entry.number y.entry.number)

@@ -19,12 +19,12 @@ abbrev pub flag : Text → Rule
 flag name = record (new_rule name) { long = Some name; action = Some SetTrue }
 
 -- a value that stands by itself, and must be there
-abbrev pub value : Text → Rule
-value name = record (new_rule name) { value_names = 1; required = true }
+abbrev pub positional : Text → Rule
+positional name = record (new_rule name) { value_names = 1; required = true }
 
 -- it must be there
-abbrev pub required : Rule → Rule
-required rule = record rule { required = true }
+abbrev pub must_be_there : Rule → Rule
+must_be_there rule = record rule { required = true }
 
 -- it has a byte or more
 abbrev pub nonempty : Rule → Rule
@@ -52,7 +52,7 @@ store_limit = number 1 1048576 (default (codes "2048") (option (codes "store-lim
 
 -- the number of an entry
 abbrev pub entry : Rule
-entry = number 1 (end_of_numbers - 1) (value (codes "number"))
+entry = number 1 (end_of_numbers - 1) (positional (codes "number"))
 
 -- the longest wait for a peer, in seconds
 abbrev pub timeout : Rule
@@ -64,7 +64,7 @@ format = default (codes "text") (option (codes "format"))
 
 -- the path of a store
 abbrev pub store : Rule
-store = nonempty (required (option (codes "store")))
+store = nonempty (must_be_there (option (codes "store")))
 
 -- the longest wait for another request, in seconds
 abbrev pub idle : Rule
@@ -75,58 +75,58 @@ abbrev pub folder : Rule
 folder = nonempty (default (codes ".") (option (codes "out")))
 
 -- how many connections are served
-abbrev pub count : Rule
-count = number 1 1000000 (required (option (codes "count")))
+abbrev pub count_option : Rule
+count_option = number 1 1000000 (must_be_there (option (codes "count_option")))
 
 -- the program by its name alone: it has a version
-abbrev pub titled : App
-titled = on_top (λ s. record s { has_version = true }) (new_app (codes "as2desk"))
+abbrev pub titled_program : App
+titled_program = on_top (λ s. record s { has_version = true }) (new_app (codes "as2desk"))
 
 -- the program, before its options: there must be a command
 abbrev pub program : App
-program = on_top (λ s. record s { subcommand_required = true; disable_help_subcommand = true }) titled
+program = on_top (λ s. record s { subcommand_required = true; disable_help_subcommand = true }) titled_program
 
 abbrev pub options : App
-options = with_rule (with_rule (with_rule (with_rule (with_rule program (required (option (codes "agreements")))) store) store_limit) first) moment
+options = with_rule (with_rule (with_rule (with_rule (with_rule program (must_be_there (option (codes "agreements")))) store) store_limit) first) moment
 
 -- a command and what stands behind it
 abbrev pub command : Text → List Rule → Shape
 command name rules = record (new_shape name) { rules = rules }
 
-abbrev pub post : Shape
-post = command (codes "post") (flag (codes "log") ∷ [])
+abbrev pub post_command : Shape
+post_command = command (codes "post_command") (flag (codes "log") ∷ [])
 
-abbrev pub submit : Shape
-submit = command (codes "submit") (required (option (codes "from")) ∷ required (option (codes "to")) ∷ value (codes "file") ∷ [])
+abbrev pub submit_command : Shape
+submit_command = command (codes "submit_command") (must_be_there (option (codes "from")) ∷ must_be_there (option (codes "to")) ∷ positional (codes "file") ∷ [])
 
-abbrev pub list : Shape
-list = command (codes "list") (value (codes "kind") ∷ option (codes "state") ∷ format ∷ [])
+abbrev pub list_command : Shape
+list_command = command (codes "list_command") (positional (codes "kind") ∷ option (codes "state") ∷ format ∷ [])
 
-abbrev pub show : Shape
-show = command (codes "show") (entry ∷ format ∷ [])
+abbrev pub show_command : Shape
+show_command = command (codes "show_command") (entry ∷ format ∷ [])
 
-abbrev pub evidence : Shape
-evidence = command (codes "evidence") (entry ∷ flag (codes "received") ∷ folder ∷ [])
+abbrev pub evidence_command : Shape
+evidence_command = command (codes "evidence_command") (entry ∷ flag (codes "received") ∷ folder ∷ [])
 
-abbrev pub serve : Shape
-serve = command (codes "serve") (required (option (codes "listen")) ∷ count ∷ timeout ∷ idle ∷ [])
+abbrev pub serve_command : Shape
+serve_command = command (codes "serve_command") (must_be_there (option (codes "listen")) ∷ count_option ∷ timeout ∷ idle ∷ [])
 
 abbrev pub commands : List Shape
 commands =
     command (codes "check") []
     ∷ command (codes "migrate") []
     ∷ command (codes "verify") (format ∷ [])
-    ∷ evidence
-    ∷ post
-    ∷ submit
+    ∷ evidence_command
+    ∷ post_command
+    ∷ submit_command
     ∷ command (codes "send") (timeout ∷ [])
     ∷ command (codes "tick") []
     ∷ command (codes "resend") (entry ∷ [])
-    ∷ list
+    ∷ list_command
     ∷ command (codes "outstanding") (format ∷ [])
-    ∷ show
+    ∷ show_command
     ∷ command (codes "fetch") (entry ∷ [])
-    ∷ serve
+    ∷ serve_command
     ∷ []
 
 -- as2desk OPTIONS, and behind that a command

@@ -11,7 +11,7 @@ use Rattle.clap.specs.Words.{Row, Text, first_of, one_of}
 use Rattle.as2_commands.specs.CommandLine.{command_in, faults, option_values}
 use Rattle.as2_audit.specs.declared.findings.Mailbox.{Mailbox}
 use Rattle.as2_audit.specs.declared.findings.Mailbox.TheVariants as mailbox
-use Rattle.as2_commands.specs.Requests.{Serving, Submission, Wanted}
+use Rattle.as2_commands.specs.Requests.{GivenServing, GivenSubmission, GivenEvidence}
 use Rattle.as2_commands.specs.declared.tasks.Command.{Command}
 use Rattle.as2_commands.specs.declared.tasks.Command.TheVariants.{Post, Ask, Send, Serve}
 use Rattle.as2_commands.specs.declared.tasks.Format.{Format}
@@ -69,15 +69,15 @@ pub record AsksRun (values : List Row) (clock : Option ℕ) (options : RunOption
   pub limit : NumberFrom 1 1048576 (one_of (codes "store-limit") values) options.limit
 
 -- the longest wait in seconds
-abbrev pub IsWait : List Row → ℕ → Type 0
-IsWait own seconds = NumberFrom 1 3600 (one_of (codes "timeout") own) seconds
+abbrev pub IsTimeout : List Row → ℕ → Type 0
+IsTimeout own seconds = NumberFrom 1 3600 (one_of (codes "timeout") own) seconds
 
 -- the number of an entry
-abbrev pub IsEntry : List Row → ℕ → Type 0
-IsEntry own n = NumberFrom 1 (end_of_numbers - 1) (one_of (codes "number") own) n
+abbrev pub IsEntryNumber : List Row → ℕ → Type 0
+IsEntryNumber own n = NumberFrom 1 (end_of_numbers - 1) (one_of (codes "number") own) n
 
 -- the sender, the receiver and the path of the document
-pub record AsksSubmit (own : List Row) (s : Submission) : Type 0 where
+pub record AsksSubmit (own : List Row) (s : GivenSubmission) : Type 0 where
   pub sender : NameIs (first_of (codes "from") own) s.from
   pub receiver : NameIs (first_of (codes "to") own) s.to
   pub named : first_of (codes "file") own ≡ Some s.path
@@ -88,9 +88,9 @@ Lists kind state Inbox = kind ≡ Some (codes "in")
 Lists kind state (Outbox only) = (kind ≡ Some (codes "out")) × (state ≡ option_map state_text only)
 
 -- a state is given and isn't looked at
-abbrev pub is_idle : Filter → Option Text → Bool
-is_idle Inbox state = is_some state
-is_idle (Outbox only) state = false
+abbrev pub is_state_ignored : Filter → Option Text → Bool
+is_state_ignored Inbox state = is_some state
+is_state_ignored (Outbox only) state = false
 
 -- the word for a format
 abbrev pub format_word : Format → Text
@@ -102,21 +102,21 @@ abbrev pub IsFormat : List Row → Format → Type 0
 IsFormat own f = first_of (codes "format") own ≡ Some (format_word f)
 
 -- .. and whether a state was given in vain, and the format
-abbrev pub AsksList : List Row → Question Submission → Type 0
+abbrev pub AsksList : List Row → Question GivenSubmission → Type 0
 AsksList own (Listing f idle form) =
-    Lists (first_of (codes "kind") own) (first_of (codes "state") own) f × (idle ≡ is_idle f (first_of (codes "state") own)) × IsFormat own form
+    Lists (first_of (codes "kind") own) (first_of (codes "state") own) f × (idle ≡ is_state_ignored f (first_of (codes "state") own)) × IsFormat own form
 AsksList own other = ⊥
 
 -- the number of the document and the format
-abbrev pub AsksShow : List Row → Question Submission → Type 0
-AsksShow own (Show n form) = IsEntry own n × IsFormat own form
+abbrev pub AsksShow : List Row → Question GivenSubmission → Type 0
+AsksShow own (Show n form) = IsEntryNumber own n × IsFormat own form
 AsksShow own other = ⊥
 
 -- the address, the count and the waits, and the moment where the values before the command give it
-pub record AsksServe (values own : List Row) (s : Serving) : Type 0 where
+pub record AsksServe (values own : List Row) (s : GivenServing) : Type 0 where
   pub listens : first_of (codes "listen") own ≡ Some s.address
   pub connections : NumberFrom 1 1000000 (one_of (codes "count") own) s.count
-  pub wait : IsWait own s.waits.seconds
+  pub wait : IsTimeout own s.waits.seconds
   pub idle : NumberFrom 1 3600 (one_of (codes "idle") own) s.waits.idle
   pub seconds : TellsMoment (one_of (codes "moment") values) s.moment
 
@@ -131,13 +131,13 @@ box_of true = mailbox.Inbox
 box_of false = mailbox.Outbox
 
 -- the box, the number and the folder
-pub record AsksEvidence (own : List Row) (w : Wanted) : Type 0 where
+pub record AsksEvidence (own : List Row) (w : GivenEvidence) : Type 0 where
   pub box : w.mailbox ≡ box_of (is_set (first_of (codes "received") own))
-  pub entry : IsEntry own w.number
+  pub entry : IsEntryNumber own w.number
   pub folder : first_of (codes "out") own ≡ Some w.folder
 
 -- the word for a question
-abbrev pub question_word : Question Submission → Text
+abbrev pub question_word : Question GivenSubmission → Text
 question_word (Submit s) = codes "submit"
 question_word Tick = codes "tick"
 question_word (Resend n) = codes "resend"
@@ -147,31 +147,31 @@ question_word (Show n form) = codes "show"
 question_word (Fetch n) = codes "fetch"
 
 -- .. and for a command
-abbrev pub word_of : Command Submission → Text
+abbrev pub word_of : Command GivenSubmission → Text
 word_of (Post log) = codes "post"
 word_of (Ask question) = question_word question
 word_of (Send w) = codes "send"
 word_of (Serve s) = codes "serve"
 
 -- what the values of a question say for it
-abbrev pub TellQuestion : List Row → Question Submission → Type 0
+abbrev pub TellQuestion : List Row → Question GivenSubmission → Type 0
 TellQuestion own (Submit s) = AsksSubmit own s
-TellQuestion own (Resend n) = IsEntry own n
+TellQuestion own (Resend n) = IsEntryNumber own n
 TellQuestion own (Listing f idle form) = AsksList own (Listing f idle form)
 TellQuestion own (Outstanding form) = IsFormat own form
 TellQuestion own (Show n form) = AsksShow own (Show n form)
-TellQuestion own (Fetch n) = IsEntry own n
+TellQuestion own (Fetch n) = IsEntryNumber own n
 TellQuestion own _ = ⊤
 
 -- what the values before a command and its own say for it
-abbrev pub Tell : List Row → List Row → Command Submission → Type 0
+abbrev pub Tell : List Row → List Row → Command GivenSubmission → Type 0
 Tell values own (Post log) = log ≡ is_set (first_of (codes "log") own)
 Tell values own (Ask question) = TellQuestion own question
-Tell values own (Send w) = IsWait own w.seconds
+Tell values own (Send w) = IsTimeout own w.seconds
 Tell values own (Serve s) = AsksServe values own s
 
 -- the command of a word, by the values
-abbrev pub Commands : List Row → Text → List Row → Command Submission → Type 0
+abbrev pub Commands : List Row → Text → List Row → Command GivenSubmission → Type 0
 Commands values word own command = (word ≡ word_of command) × Tell values own command
 
 -- what the values and the command ask for; a check and a migration need no moment

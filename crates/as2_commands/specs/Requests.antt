@@ -4,20 +4,20 @@ use Rattle.as2_audit.specs.declared.findings.Mailbox.{Mailbox}
 use Rattle.as2_commands.specs.declared.tasks.ServingWaits.{ServingWaits}
 
 -- a document: from whom and to whom it goes, and the path of its file
-pub record Submission : Type 0 where
+pub record GivenSubmission : Type 0 where
   pub from : List ℕ
   pub to : List ℕ
   pub path : List ℕ
 
 -- what is served: the address that is listened on, how many connections, the waits for a peer, and the moment of each, if it is given
-pub record Serving : Type 0 where
+pub record GivenServing : Type 0 where
   pub address : List ℕ
   pub count : ℕ
   pub waits : ServingWaits
   pub moment : Option ℕ
 
 -- which document is to be proved: its box and its number; and the folder that the files are made in
-pub record Wanted : Type 0 where
+pub record GivenEvidence : Type 0 where
   pub mailbox : Mailbox
   pub number : ℕ
   pub folder : List ℕ

@@ -1,7 +1,7 @@
 //! Options and values of commands.
 ghost use Rattle.std.specs.Prelude.{◌≡◌, ◌<◌, ◌≤◌, ◌^◌, codes, false};
 ghost use Rattle.clap.specs.Words.{rule_of};
-ghost use Rattle.as2_commands.specs.CommandLine.{count, default, entry, first, flag, folder, format, idle, moment, nonempty, number, option, required, store, store_limit, timeout, value};
+ghost use Rattle.as2_commands.specs.CommandLine.{count_option, default, entry, first, flag, folder, format, idle, moment, nonempty, number, option, must_be_there, store, store_limit, timeout, positional};
 
 use as2_exchange::END_OF_NUMBERS;
 use as2_text::LAST_MOMENT;
@@ -100,7 +100,7 @@ pub(crate) fn required_option<'a>(
     value: &'a str,
     help: &'a str,
 ) -> Arg<'a>
-    ensures rule { rule_of result ≡ required (option name.entry.now) }
+    ensures rule { rule_of result ≡ must_be_there (option name.entry.now) }
     ensures local { result.global ≡ false }
 {
     option(alloc, name, value, help).required(true)
@@ -122,7 +122,7 @@ fn default_option<'a>(
 
 /// A value that stands by itself, and must be there.
 pub(crate) fn value<'a>(alloc: Global, id: &'a str, name: &'a str, help: &'a str) -> Arg<'a>
-    ensures rule { rule_of result ≡ value id.entry.now }
+    ensures rule { rule_of result ≡ positional id.entry.now }
     ensures local { result.global ≡ false }
 {
     Arg::new(alloc, id)
@@ -226,7 +226,7 @@ pub(crate) fn format<'a>(alloc: Global) -> Arg<'a>
 }
 
 pub(crate) fn count<'a>(alloc: Global) -> Arg<'a>
-    ensures rule { rule_of result ≡ count }
+    ensures rule { rule_of result ≡ count_option }
     ensures local { result.global ≡ false }
 {
     let help = "How many connections are served: 1 to 1000000";

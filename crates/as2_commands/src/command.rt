@@ -1,7 +1,7 @@
 //! The command line that the program reads.
 ghost use Rattle.std.specs.Prelude.{◌≡◌, IfOk};
 ghost use Rattle.clap.specs.Words.{app_of};
-ghost use Rattle.as2_commands.specs.CommandLine.{command_line, options, program, titled};
+ghost use Rattle.as2_commands.specs.CommandLine.{command_line, options, program, titled_program};
 
 use crate::args::{AGREEMENTS, first, moment, required_option, store, store_limit};
 use crate::building::{Made, with_command, with_option};
@@ -43,7 +43,7 @@ fn with_options<'a>(alloc: Global) -> Made<'a>
 
 /// The program's name and what it says of itself.
 fn titled<'a>(alloc: Global) -> Command<'a>
-    ensures { app_of result ≡ titled }
+    ensures { app_of result ≡ titled_program }
 {
     Command::new(alloc, "as2desk")
         .version("0.12.0")

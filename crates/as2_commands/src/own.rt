@@ -1,7 +1,7 @@
 //! Each command, with its own options.
 ghost use Rattle.std.specs.Prelude.{[], ◌∷◌, codes, IfOk};
 ghost use Rattle.as2_commands.specs.Building.{Looks};
-ghost use Rattle.as2_commands.specs.CommandLine.{command, entry, evidence, format, list, post, serve, show, submit, timeout};
+ghost use Rattle.as2_commands.specs.CommandLine.{command, entry, evidence_command, format, list_command, post_command, serve_command, show_command, submit_command, timeout};
 
 use crate::args::{
     FILE, FROM, KIND, LISTEN, LOG, RECEIVED, STATE, TO, count, entry, flag, folder, format, idle,
@@ -69,7 +69,7 @@ pub(crate) fn verify<'a>(alloc: Global) -> Made<'a>
 }
 
 pub(crate) fn evidence<'a>(alloc: Global) -> Made<'a>
-    ensures { IfOk result (Looks evidence) }
+    ensures { IfOk result (Looks evidence_command) }
 {
     let about = "Makes the files that show how a document stands: its content, its receipt, a page";
     let number = entry(alloc, "Number of the document: 1 to 999999999999");
@@ -80,7 +80,7 @@ pub(crate) fn evidence<'a>(alloc: Global) -> Made<'a>
 }
 
 pub(crate) fn post<'a>(alloc: Global) -> Made<'a>
-    ensures { IfOk result (Looks post) }
+    ensures { IfOk result (Looks post_command) }
 {
     let about = "Answers the requests on standard input with replies on standard output";
     let log = "Says a line for each reply on standard error";
@@ -88,7 +88,7 @@ pub(crate) fn post<'a>(alloc: Global) -> Made<'a>
 }
 
 pub(crate) fn submit<'a>(alloc: Global) -> Made<'a>
-    ensures { IfOk result (Looks submit) }
+    ensures { IfOk result (Looks submit_command) }
 {
     let about = "Takes a document in for a partner, and prints its number";
     let from = "The organization that sends it";
@@ -126,7 +126,7 @@ pub(crate) fn resend<'a>(alloc: Global) -> Made<'a>
 }
 
 pub(crate) fn list<'a>(alloc: Global) -> Made<'a>
-    ensures { IfOk result (Looks list) }
+    ensures { IfOk result (Looks list_command) }
 {
     let about = "Lists the documents that were sent or received, a line each";
     let kind = "'out' for those that were handed in to be sent, 'in' for those received";
@@ -148,7 +148,7 @@ pub(crate) fn outstanding<'a>(alloc: Global) -> Made<'a>
 }
 
 pub(crate) fn show<'a>(alloc: Global) -> Made<'a>
-    ensures { IfOk result (Looks show) }
+    ensures { IfOk result (Looks show_command) }
 {
     let about = "Shows a document of the outbox, a line for each thing that is known of it";
     let number = entry(
@@ -171,7 +171,7 @@ pub(crate) fn fetch<'a>(alloc: Global) -> Made<'a>
 }
 
 pub(crate) fn serve<'a>(alloc: Global) -> Made<'a>
-    ensures { IfOk result (Looks serve) }
+    ensures { IfOk result (Looks serve_command) }
 {
     let about = "Answers connections of partners, one after the other";
     let help = "Where it listens, as 127.0.0.1:8080; with port 0 the system chooses one";

@@ -6,8 +6,8 @@ ghost use Rattle.as2_views.specs.Layout.{state_text};
 ghost use Rattle.as2_mdn.specs.declared.detail.State.{State as TheState};
 ghost use Rattle.as2_views.specs.declared.filter.Filter.{Filter as TheFilter};
 ghost use Rattle.clap.specs.Words.{first_of, found_of, one_of, rows_of, subcommand_rows_of};
-ghost use Rattle.as2_commands.specs.Options.{AsksEvidence, AsksRun, AsksServe, AsksShow, AsksSubmit, Commands, Give, IsEntry, IsFormat, IsWait, box_of, Lists, is_idle, is_set, NameIs, NumberFrom, NumberIs, SecondsAre, Tasks, TellsMoment, TellsOption};
-ghost use Rattle.as2_commands.specs.Requests.{Serving as TheServing, Submission as TheSubmission, Wanted as TheWanted};
+ghost use Rattle.as2_commands.specs.Options.{AsksEvidence, AsksRun, AsksServe, AsksShow, AsksSubmit, Commands, Give, IsEntryNumber, IsFormat, IsTimeout, box_of, Lists, is_state_ignored, is_set, NameIs, NumberFrom, NumberIs, SecondsAre, Tasks, TellsMoment, TellsOption};
+ghost use Rattle.as2_commands.specs.Requests.{GivenServing as TheServing, GivenSubmission as TheSubmission, GivenEvidence as TheWanted};
 ghost use Rattle.as2_commands.specs.declared.tasks.Command.{Command as TheCommand};
 ghost use Rattle.as2_commands.specs.declared.tasks.Format.{Format as TheFormat};
 ghost use Rattle.as2_commands.specs.declared.tasks.Question.TheVariants.{Show};
@@ -170,8 +170,8 @@ fn name<'a>(own: &ArgMatches<'a>, option: &'a str) -> Result<AsName, OptionFault
 
 /// How long a peer is waited for.
 fn waits<'a>(own: &ArgMatches<'a>) -> Result<Waits, OptionFault<'a>>
-    ensures given { IfOk result (λ w. IsWait (rows_of (found_of own.now)) w.seconds) }
-    ensures none { IfErr result (λ _. (n : ℕ) → ¬ IsWait (rows_of (found_of own.now)) n) }
+    ensures given { IfOk result (λ w. IsTimeout (rows_of (found_of own.now)) w.seconds) }
+    ensures none { IfErr result (λ _. (n : ℕ) → ¬ IsTimeout (rows_of (found_of own.now)) n) }
 {
     let seconds = number_from(own, TIMEOUT, LEAST_WAIT, MOST_WAIT)?;
     Ok(Waits { seconds })
@@ -179,8 +179,8 @@ fn waits<'a>(own: &ArgMatches<'a>) -> Result<Waits, OptionFault<'a>>
 
 /// The number of an entry.
 fn entry<'a>(own: &ArgMatches<'a>) -> Result<u64, OptionFault<'a>>
-    ensures given { IfOk result (IsEntry (rows_of (found_of own.now))) }
-    ensures none { IfErr result (λ _. (n : ℕ) → ¬ IsEntry (rows_of (found_of own.now)) n) }
+    ensures given { IfOk result (IsEntryNumber (rows_of (found_of own.now))) }
+    ensures none { IfErr result (λ _. (n : ℕ) → ¬ IsEntryNumber (rows_of (found_of own.now)) n) }
 {
     number_from(own, NUMBER, 1, END_OF_NUMBERS - 1)
 }
@@ -235,7 +235,7 @@ fn format<'a>(own: &ArgMatches<'a>) -> Result<Format, OptionFault<'a>>
 
 /// Whether a state is given and isn't looked at.
 fn is_idle(filter: Filter, own: &ArgMatches<'_>) -> bool
-    ensures { result ≡ is_idle filter (first_of (codes "state") (rows_of (found_of own.now))) }
+    ensures { result ≡ is_state_ignored filter (first_of (codes "state") (rows_of (found_of own.now))) }
 {
     match filter {
         Filter::Inbox => text(own, STATE).is_some(),

@@ -28,9 +28,9 @@ pub struct Submission<'a> {
 }
 
 impl<'a> Model for Submission<'a> {
-    ghost use Rattle.as2_commands.specs.Requests.{Submission};
+    ghost use Rattle.as2_commands.specs.Requests.{GivenSubmission};
 
-    ghost Value = { Submission };
+    ghost Value = { GivenSubmission };
 
     ghost view = { λ s. record { from = s.from; to = s.to; path = s.path.now } };
 }
@@ -65,9 +65,9 @@ pub struct Serving<'a> {
 }
 
 impl<'a> Model for Serving<'a> {
-    ghost use Rattle.as2_commands.specs.Requests.{Serving};
+    ghost use Rattle.as2_commands.specs.Requests.{GivenServing};
 
-    ghost Value = { Serving };
+    ghost Value = { GivenServing };
 
     ghost view = { λ s. record { address = s.address.now; count = s.count; waits = s.waits; moment = s.moment } };
 }
@@ -84,9 +84,9 @@ pub struct Wanted<'a> {
 }
 
 impl<'a> Model for Wanted<'a> {
-    ghost use Rattle.as2_commands.specs.Requests.{Wanted};
+    ghost use Rattle.as2_commands.specs.Requests.{GivenEvidence};
 
-    ghost Value = { Wanted };
+    ghost Value = { GivenEvidence };
 
     ghost view = { λ w. record { mailbox = w.mailbox; number = w.number; folder = w.folder.now } };
 }

@@ -30,8 +30,8 @@ pub record AnswersInput (input : List ℕ) (got : TryAnswer) : Type 0 where
   pub needed : ReadsNeeded IsOpenAnswer input unread 0 reads
 
 -- why an exchange over these waits brought no answer, by the kind of the error that was told last: a single wait was over, the whole was, or the connection broke
-abbrev pub fault_of : Option ErrorKind → ℕ → LinkFault
-fault_of None seconds = NoAnswer
-fault_of (Some WouldBlock) seconds = Silent seconds
-fault_of (Some TimedOut) seconds = Slow (min (10 * seconds) (2 ^ 64 - 1))
-fault_of (Some kind) seconds = Broken
+abbrev pub link_fault : Option ErrorKind → ℕ → LinkFault
+link_fault None seconds = NoAnswer
+link_fault (Some WouldBlock) seconds = Silent seconds
+link_fault (Some TimedOut) seconds = Slow (min (10 * seconds) (2 ^ 64 - 1))
+link_fault (Some kind) seconds = Broken

@@ -1,10 +1,10 @@
 //! Links to partners over TCP, and why one brought no answer.
 ghost use Rattle.std.specs.Prelude.{◌≡◌, ℕ, List, Some, true, IfOk, IsTrue};
 ghost use Rattle.std.specs.Io.KnownBytes.{Appends};
-ghost use Rattle.as2_http.specs.Devices.{Opens};
+ghost use Rattle.as2_http.specs.Devices.{OpensLedger};
 ghost use Rattle.as2_http.specs.Sending.{AppendsPart};
 ghost use Rattle.as2_messages.specs.Answering.{is_answered};
-ghost use Rattle.as2_connections.specs.Linking.{AnswersInput, HasWaits, fault_of};
+ghost use Rattle.as2_connections.specs.Linking.{AnswersInput, HasWaits, link_fault};
 
 use crate::network::Stream;
 use as2_commands::Waits;
@@ -90,10 +90,10 @@ fn exchange_counted<R: Read, W: Write, A: Ledger, B: Ledger, C: Ledger, D: Ledge
     writes: Blank,
     failed_writes: Blank,
 ) -> Exchanged<R, W>
-    requires reads { Opens reads.name reads.parts A.name A.parts }
-    requires failed_reads { Opens failed_reads.name failed_reads.parts B.name B.parts }
-    requires writes { Opens writes.name writes.parts C.name C.parts }
-    requires failed_writes { Opens failed_writes.name failed_writes.parts D.name D.parts }
+    requires reads { OpensLedger reads.name reads.parts A.name A.parts }
+    requires failed_reads { OpensLedger failed_reads.name failed_reads.parts B.name B.parts }
+    requires writes { OpensLedger writes.name writes.parts C.name C.parts }
+    requires failed_writes { OpensLedger failed_writes.name failed_writes.parts D.name D.parts }
     ensures written { AppendsPart (W.contents writer) (W.contents result.writer) job.now.bytes }
     ensures whole { IsTrue (is_answered result.got)
         → Appends (W.contents writer) (W.contents result.writer) job.now.bytes }
@@ -120,7 +120,7 @@ fn unconnected(error: io::Error) -> LinkFault {
 
 /// Why a connection brought no answer, by the kind of the error that was told last.
 fn unanswered(last: Option<ErrorKind>, waits: Waits) -> LinkFault
-    ensures { result ≡ fault_of last waits.seconds }
+    ensures { result ≡ link_fault last waits.seconds }
 {
     match last {
         None => LinkFault::NoAnswer,

@@ -1,7 +1,7 @@
 //! The network: connections over TCP that are served.
 ghost use Rattle.std.specs.Prelude.{◌≡◌, ℕ, List, Some, IfOk};
-ghost use Rattle.as2_http.specs.Devices.{Opens};
-ghost use Rattle.as2_http.specs.Notes.{spoken};
+ghost use Rattle.as2_http.specs.Devices.{OpensLedger};
+ghost use Rattle.as2_http.specs.Notes.{sink_and_journal};
 ghost use Rattle.as2_http.specs.StreamReads.{RunsPosts};
 ghost use Rattle.as2_exchange.specs.State.{State};
 ghost use Rattle.as2_connections.specs.Inputs.{ServesInput};
@@ -76,15 +76,15 @@ fn serve_counted<
     writes: Blank,
     failed_writes: Blank,
 ) -> (Served, W)
-    requires reads { Opens reads.name reads.parts A.name A.parts }
-    requires failed_reads { Opens failed_reads.name failed_reads.parts B.name B.parts }
-    requires writes { Opens writes.name writes.parts C.name C.parts }
-    requires failed_writes { Opens failed_writes.name failed_writes.parts D.name D.parts }
+    requires reads { OpensLedger reads.name reads.parts A.name A.parts }
+    requires failed_reads { OpensLedger failed_reads.name failed_reads.parts B.name B.parts }
+    requires writes { OpensLedger writes.name writes.parts C.name C.parts }
+    requires failed_writes { OpensLedger failed_writes.name failed_writes.parts D.name D.parts }
     ensures clean { (K.shows station.new).IsClean → (K.shows station.old).IsClean }
     ensures serves { (K.shows station.new).IsClean → (s : State) → (K.shows station.old).Rests s
         → (input : List ℕ) → R.remaining reader ≡ Some input → (t : State) × (K.shows station.new).Rests t
-        × ServesInput agreements.now moment s t input (spoken (W.contents writer) (J.noted journal.old))
-        (spoken (W.contents result.1) (J.noted journal.new)) result.0 }
+        × ServesInput agreements.now moment s t input (sink_and_journal (W.contents writer) (J.noted journal.old))
+        (sink_and_journal (W.contents result.1) (J.noted journal.new)) result.0 }
     ensures posts { (K.shows station.new).IsClean → (s : State) → (K.shows station.old).Rests s
         → (t : State) × (K.shows station.new).Rests t × RunsPosts agreements.now moment s t }
 {

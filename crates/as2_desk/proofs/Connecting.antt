@@ -9,16 +9,16 @@ use Rattle.as2_exchange.specs.Run.{Trace}
 use Rattle.as2_exchange.specs.State.{State}
 use Rattle.as2_http.specs.declared.device.Sink.{Ghosts}
 use Rattle.as2_http.specs.declared.stream.Served.{Served}
-use Rattle.as2_host.specs.Networks.{EndsEach, Listening, ServesEach}
+use Rattle.as2_host.specs.Networks.{EndsEach, ListenerSeen, ServesEach}
 use Rattle.as2_host.specs.Serving.{ServesOne}
 use Rattle.as2_desk.specs.Connections.{AwaitsFrom, ServesConnections, ServesCount, ServesNext, StopsAt, StopsBy, StopsIn, connection_line, connection_lines, listening_line, stop_fault}
 use Rattle.as2_desk.specs.Endings.{Ends}
 use Rattle.as2_desk.specs.Observed.{Outcome}
 use Rattle.as2_desk.specs.Refusals.{error_line, refusal_status}
-use Rattle.as2_desk.specs.Statuses.{done, failed, refused}
+use Rattle.as2_desk.specs.Statuses.{status_done, status_failed, status_refused}
 use Rattle.as2_desk.specs.Stops.{FailsBehind}
 use Rattle.as2_host.specs.declared.stores.OpenFault.TheVariants as open_fault
-use Rattle.as2_desk.specs.Written.{Breaks, WritesWhole, Written, written_of}
+use Rattle.as2_desk.specs.Written.{Breaks, WritesWhole, WriterSeen, written_of}
 use Rattle.as2_desk.specs.declared.serving.Stop.{Stop}
 use Rattle.as2_desk.specs.declared.serving.Stop.TheVariants.{Unwritten, Unreadable}
 use Rattle.as2_desk.specs.declared.status.Ran.{Ran}
@@ -60,7 +60,7 @@ module _ {L : Type 0} (ended : L → Option ℕ → Trace → Served → L → T
   module _ {M : Medium} {W : Type 0} (sink : Ghosts W) (n : ℕ) (old mid new : Standing M) (l k m : L) (w x y : W)
       (so_far : HasServed sink n old mid l k w x) (clean : new.IsClean → mid.IsClean) where
     -- one more is served
-    abbrev pub Next : (Written → List ℕ → Type 0) → Type 0
+    abbrev pub Next : (WriterSeen → List ℕ → Type 0) → Type 0
     Next Line = ServesNext mid new (λ end. (trace : Trace) × ended k given trace end m) (λ end s t. ServesOne A given (λ trace. ended k given trace end m) s t)
         (λ end. Line (written_of sink x y) (connection_line end))
 
@@ -69,7 +69,7 @@ module _ {L : Type 0} (ended : L → Option ℕ → Trace → Served → L → T
     NoMore count stop = ServesConnections old new (λ ends. EndsEach ended given l ends m) (λ ends s t. ServesEach ended given A ends l s m t)
         (λ ends. (length ends ≤ count) × StopsBy stop ends (written_of sink w y))
 
-    with_next : (Line : Written → List ℕ → Type 0) (next : Next Line) → new.IsClean → (s : State) → old.Rests s
+    with_next : (Line : WriterSeen → List ℕ → Type 0) (next : Next Line) → new.IsClean → (s : State) → old.Rests s
         → (t : State) × new.Rests t × ServesEach ended given A (so_far.ends ++ next.end ∷ []) l s m t
     with_next Line next is_clean s rests =
         let before = so_far.led (clean is_clean) s rests in
@@ -134,14 +134,14 @@ module _ {L : Type 0} (ended : L → Option ℕ → Trace → Served → L → T
 -- ---- what is said of them
 
 -- a fault of the store that ends the serving is told behind where it listens
-pub fails_behind : (stop : Stop) (address : List ℕ) (errors : Written) (ran : Ran)
+pub fails_behind : (stop : Stop) (address : List ℕ) (errors : WriterSeen) (ran : Ran)
     → Ends (refusal_status (stop_fault stop)) (listening_line address ++ error_line (stop_fault stop)) errors ran
-    → ran.status ≡ failed → FailsBehind errors ran
-fails_behind Unwritten address errors ran told is = absurd (let bad : refused ≡ failed = sym told.ended ∙ is in omega (arith, bad))
+    → ran.status ≡ status_failed → FailsBehind errors ran
+fails_behind Unwritten address errors ran told is = absurd (let bad : status_refused ≡ status_failed = sym told.ended ∙ is in omega (arith, bad))
 fails_behind (Unreadable fault) address errors ran told is = (open_fault.Store fault, address, told)
 
 module _ {M : Medium} (count : ℕ) (known : Option State) (o : Outcome) (old new : Standing M) (Ended : List Served → Type 0) (Led : List Served → State → State → Type 0)
-    (l : Listening) (ran : Ran) (address : List ℕ) (stood : IfSome known (λ s. new.IsClean × old.Rests s)) (left : (t : State) → new.Rests t → o.Left t)
+    (l : ListenerSeen) (ran : Ran) (address : List ℕ) (stood : IfSome known (λ s. new.IsClean × old.Rests s)) (left : (t : State) → new.Rests t → o.Left t)
     (awaited : (ends : List Served) → Ended ends → l.Awaited address ends) (led : (ends : List Served) (s t : State) → Led ends s t → l.Led address ends s t) where
   awaits : (Lines : List Served → Type 0) (k : Option State) → IfSome k (λ s. new.IsClean × old.Rests s) → (all : ServesConnections old new Ended Led Lines)
       → AwaitsFrom k o.Left l address all.ends
@@ -152,7 +152,7 @@ module _ {M : Medium} (count : ℕ) (known : Option State) (o : Outcome) (old ne
   abbrev pub AllLines : List Served → Type 0
   AllLines ends = (length ends ≡ count) × WritesWhole o.output (connection_lines ends)
 
-  pub all_told : ServesConnections old new Ended Led AllLines → Ends done (listening_line address) o.errors ran → ServesCount count known o l ran
+  pub all_told : ServesConnections old new Ended Led AllLines → Ends status_done (listening_line address) o.errors ran → ServesCount count known o l ran
   all_told all told = inr (inl (record { address = address; ends = all.ends; awaits = awaits AllLines known stood all; all = all.lines.0; lines = all.lines.1; told = told }))
 
   -- .. or no more were served

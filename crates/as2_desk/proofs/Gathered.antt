@@ -1,7 +1,7 @@
 -- What came of reading the evidence, seen as files.
 use Rattle.std.proofs.Common.{◌≡◌, List, Option, Some, None, IfSome, Result, Ok, Err, IfErr, IfOk, option_map, true}
 use Rattle.as2_agreement.specs.Agreements.{AgreedValues}
-use Rattle.as2_commands.specs.Requests.{Wanted}
+use Rattle.as2_commands.specs.Requests.{GivenEvidence}
 use Rattle.as2_evidence.specs.Evidence.{IsEvidence}
 use Rattle.as2_evidence.specs.Files.{File}
 use Rattle.as2_exchange.specs.State.{State}
@@ -15,7 +15,7 @@ module _ {V : Type 0} (view : V → List File) where
   fault_came (Ok files) may = tt
   fault_came (Err fault) may = may
 
-  of_state : (A : AgreedValues) (s : State) (w : Wanted) (r : Result (Option V) StoreFault)
+  of_state : (A : AgreedValues) (s : State) (w : GivenEvidence) (r : Result (Option V) StoreFault)
       → IfOk r (λ files. IsEvidence A s w.mailbox w.number (option_map view files)) → IsOf A s w (came_of view r)
   of_state A s w (Ok files) is = is
   of_state A s w (Err fault) is = tt
@@ -26,7 +26,7 @@ module _ {V : Type 0} (view : V → List File) where
   each old fits s (Err fault) rests all = tt
 
   -- where the state is known, it is as it was, and what came is what it has
-  pub reads_known : {M : Medium} (old new : Standing M) (A : AgreedValues) (w : Wanted) (r : Result (Option V) StoreFault) (known : Option State)
+  pub reads_known : {M : Medium} (old new : Standing M) (A : AgreedValues) (w : GivenEvidence) (r : Result (Option V) StoreFault) (known : Option State)
       → Reads (λ s files. IsEvidence A s w.mailbox w.number (option_map view files)) old new r → IfSome known (λ s. new.IsClean × old.Rests s)
       → IfSome known (λ s. new.Rests s × IsOf A s w (came_of view r))
   reads_known old new A w r None read stood = tt

@@ -9,9 +9,9 @@ use Rattle.as2_commands.specs.declared.tasks.RunOptions.{RunOptions}
 use Rattle.as2_desk.proofs.HandedBack.{each_known}
 use Rattle.as2_desk.proofs.Working.{does_left, observing}
 use Rattle.as2_desk.specs.Endings.{EndsRefused}
-use Rattle.as2_desk.specs.Observed.{Observed, Stored}
+use Rattle.as2_desk.specs.Observed.{Observation, StoresSeen}
 use Rattle.as2_desk.specs.Runs.{Goes}
-use Rattle.as2_desk.specs.Works.{Does}
+use Rattle.as2_desk.specs.Works.{DoesWork}
 use Rattle.as2_desk.specs.declared.work.Work.{Work}
 use Rattle.as2_desk.specs.declared.refusal.CommandFault.TheVariants.{Store}
 use Rattle.as2_desk.specs.declared.status.Ran.{Ran}
@@ -23,7 +23,7 @@ pub each_left : {A : Type 0} (last : Option A) (Clean : Type 0) (Rests : A → S
 each_left None Clean Rests Keeps Later kept f = tt
 each_left (Some l) Clean Rests Keeps Later kept f = λ clean t rests. f t (kept clean t rests)
 
-module _ {A : Type 0} {M : Medium} (shows : A → Standing M) (agreements : AgreedValues) (options : RunOptions) (w : Work) (o : Observed) (stored : Stored) (ran : Ran) where
+module _ {A : Type 0} {M : Medium} (shows : A → Standing M) (agreements : AgreedValues) (options : RunOptions) (w : Work) (o : Observation) (stored : StoresSeen) (ran : Ran) where
   -- no records could be opened, and that was told
   abbrev pub Failed : Option A → Result A OpenFault → Type 0
   Failed last r = IfErr r (λ fault. (last ≡ None) × o.filing.Untouched × o.Unasked × o.input.Untouched × o.outcome.output.Untouched × EndsRefused (Store fault) o.outcome.errors ran)
@@ -31,7 +31,7 @@ module _ {A : Type 0} {M : Medium} (shows : A → Standing M) (agreements : Agre
   -- the work was done over records that were opened, and they were given back
   abbrev pub Done : Option A → Result A OpenFault → Type 0
   Done last r = IfOk r (λ opened. IsSomeAnd last (λ l. ((shows l).IsClean → (shows opened).IsClean)
-      × ((known : Option State) → IfSome known (λ s. (shows l).IsClean × (shows opened).Rests s) → Does agreements options.moment w known (observing o (λ t. (shows l).Rests t)) ran)))
+      × ((known : Option State) → IfSome known (λ s. (shows l).IsClean × (shows opened).Rests s) → DoesWork agreements options.moment w known (observing o (λ t. (shows l).Rests t)) ran)))
 
   -- over new records in memory
   pub goes_in_memory : (last : Option A) (r : Result A OpenFault) → BeginsNew shows options.first r → Failed last r → Done last r

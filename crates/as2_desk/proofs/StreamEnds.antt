@@ -2,16 +2,16 @@
 use Rattle.std.proofs.Common.{◌≡◌, refl, arith}
 use Rattle.as2_desk.specs.Refusals.{end_line, error_line}
 use Rattle.as2_desk.specs.Endings.{Ends}
-use Rattle.as2_desk.specs.Statuses.{done, failed, refused, exit_status}
+use Rattle.as2_desk.specs.Statuses.{status_done, status_failed, status_refused, exit_status}
 use Rattle.as2_http.specs.declared.stream.Served.{Served}
 use Rattle.as2_http.specs.declared.stream.Served.TheVariants.{Closed, Truncated, BadFraming, ReadFault, WriteFault, Memory, TooLong}
 use Rattle.as2_desk.specs.declared.refusal.CommandFault.TheVariants.{Stream}
-use Rattle.as2_desk.specs.Written.{Written}
+use Rattle.as2_desk.specs.Written.{WriterSeen}
 use Rattle.as2_desk.specs.declared.status.Ran.{Ran}
 
 -- an end that isn't in good order is told as a refusal
-pub told_end : (end : Served) (errors : Written) (ran : Ran) → (end ≡ Closed → ⊥)
-    → Ends refused (error_line (Stream end)) errors ran → Ends (exit_status end) (end_line end) errors ran
+pub told_end : (end : Served) (errors : WriterSeen) (ran : Ran) → (end ≡ Closed → ⊥)
+    → Ends status_refused (error_line (Stream end)) errors ran → Ends (exit_status end) (end_line end) errors ran
 told_end Closed errors ran other e = absurd (other refl)
 told_end Truncated errors ran other e = e
 told_end BadFraming errors ran other e = e
@@ -20,14 +20,14 @@ told_end WriteFault errors ran other e = e
 told_end Memory errors ran other e = e
 told_end TooLong errors ran other e = e
 
-done_is_not_failed : done ≡ failed → ⊥
+done_is_not_failed : status_done ≡ status_failed → ⊥
 done_is_not_failed is = omega arith
 
-refused_is_not_failed : refused ≡ failed → ⊥
+refused_is_not_failed : status_refused ≡ status_failed → ⊥
 refused_is_not_failed is = omega arith
 
 -- no end of a stream is a fault of the store
-pub no_end_failed : (end : Served) → exit_status end ≡ failed → ⊥
+pub no_end_failed : (end : Served) → exit_status end ≡ status_failed → ⊥
 no_end_failed Closed is = done_is_not_failed is
 no_end_failed Truncated is = refused_is_not_failed is
 no_end_failed BadFraming is = refused_is_not_failed is

@@ -15,5 +15,5 @@ is_shown b = nat_le space b && (nat_le b tilde && (not (b == quote) && not (b ==
 abbrev pub escaped_byte : ℕ → List ℕ
 escaped_byte b = if is_shown b then b ∷ [] else backslash ∷ 120 ∷ digit (b / 16) ∷ digit (b % 16) ∷ []
 
-abbrev pub escaped : List ℕ → List ℕ
-escaped text = flat_map escaped_byte text
+abbrev pub escaped_text : List ℕ → List ℕ
+escaped_text text = flat_map escaped_byte text

@@ -1,32 +1,32 @@
 -- Which agreements a file has, or why it has none.
 use Rattle.std.specs.Prelude.{◌≡◌, ◌⊎◌, ℕ, List, Result, Ok, Err, IsUtf8, ⊤}
 use Rattle.as2_agreement.specs.Agreements.{AgreedValues}
-use Rattle.as2_agreement.specs.Reading.{reading}
+use Rattle.as2_agreement.specs.Reading.{agreements_reading}
 use Rattle.as2_agreement.specs.declared.fault.AgreementFault.TheVariants as fault
 use Rattle.as2_host.specs.FileContents.{Content, untold, unreadable, file}
 use Rattle.as2_desk.specs.declared.refusal.CommandFault.{CommandFault}
 use Rattle.as2_desk.specs.declared.refusal.CommandFault.TheVariants as refusal
 
 -- agreements, or the refusal that stands in their place
-abbrev pub Opened : Type 0
-Opened = Result AgreedValues CommandFault
+abbrev pub AgreementsResult : Type 0
+AgreementsResult = Result AgreedValues CommandFault
 
 -- memory was wanting to read the agreements
-abbrev pub IsWant : Opened → Type 0
+abbrev pub IsWant : AgreementsResult → Type 0
 IsWant opened = opened ≡ Err (refusal.Agreements fault.Memory)
 
 -- the bytes are a text that has the agreements, or that fault first; bytes that are no text are no TOML
-abbrev pub BytesHave : List ℕ → Opened → Type 0
-BytesHave bytes (Ok agreements) = IsUtf8 bytes × (reading bytes ≡ Ok agreements)
-BytesHave bytes (Err (refusal.Agreements e)) = (IsUtf8 bytes × (reading bytes ≡ Err e)) ⊎ (¬ IsUtf8 bytes × (e ≡ fault.NotToml))
+abbrev pub BytesHave : List ℕ → AgreementsResult → Type 0
+BytesHave bytes (Ok agreements) = IsUtf8 bytes × (agreements_reading bytes ≡ Ok agreements)
+BytesHave bytes (Err (refusal.Agreements e)) = (IsUtf8 bytes × (agreements_reading bytes ≡ Err e)) ⊎ (¬ IsUtf8 bytes × (e ≡ fault.NotToml))
 BytesHave bytes (Err e) = ⊥
 
 -- the same, but memory may be wanting in place of any answer
-abbrev pub BytesGive : List ℕ → Opened → Type 0
+abbrev pub BytesGive : List ℕ → AgreementsResult → Type 0
 BytesGive bytes opened = BytesHave bytes opened ⊎ IsWant opened
 
 -- what the file that stands under a path comes to, as far as that is told
-abbrev pub Opens : Content → Opened → Type 0
-Opens untold opened = ⊤
-Opens unreadable opened = opened ≡ Err refusal.CannotRead
-Opens (file bytes) opened = BytesGive bytes opened
+abbrev pub ComesTo : Content → AgreementsResult → Type 0
+ComesTo untold opened = ⊤
+ComesTo unreadable opened = opened ≡ Err refusal.CannotRead
+ComesTo (file bytes) opened = BytesGive bytes opened

@@ -3,17 +3,17 @@ use Rattle.std.specs.Prelude.{ℕ, List, [], ◌++◌, ◌==◌, Bool, codes, de
 use Rattle.as2_commands.specs.declared.tasks.Command.{Command}
 use Rattle.as2_commands.specs.declared.tasks.Command.TheVariants.{Ask}
 use Rattle.as2_commands.specs.declared.tasks.Question.TheVariants.{List as Listing}
-use Rattle.as2_commands.specs.Requests.{Submission}
-use Rattle.as2_desk.specs.Escapes.{escaped}
+use Rattle.as2_commands.specs.Requests.{GivenSubmission}
+use Rattle.as2_desk.specs.Escapes.{escaped_text}
 
 -- what is given and not looked at: a state, where what was received is listed
-abbrev pub idle_hint : Command Submission → List ℕ
+abbrev pub idle_hint : Command GivenSubmission → List ℕ
 idle_hint (Ask (Listing filter true format)) = codes "hint: 'list in' doesn't look at --state\n"
 idle_hint other = []
 
 -- which file can't be read
 abbrev pub file_hint : List ℕ → List ℕ
-file_hint path = codes "hint: file \"" ++ (escaped path ++ codes "\"\n")
+file_hint path = codes "hint: file \"" ++ (escaped_text path ++ codes "\"\n")
 
 abbrev pub file_hint_if : Bool → List ℕ → List ℕ
 file_hint_if unread path = if unread then file_hint path else []

@@ -3,9 +3,9 @@ use Rattle.std.specs.Prelude.{◌⊎◌, ℕ, List, ◌++◌, Option, Some, None
 use Rattle.as2_host.specs.declared.stores.Entries.{Entries}
 use Rattle.as2_host.specs.declared.stores.Migration.{Migration}
 use Rattle.as2_desk.specs.Endings.{Fails}
-use Rattle.as2_desk.specs.Observed.{Stored}
+use Rattle.as2_desk.specs.Observed.{StoresSeen}
 use Rattle.as2_desk.specs.Questions.{Prints}
-use Rattle.as2_desk.specs.Written.{Written}
+use Rattle.as2_desk.specs.Written.{WriterSeen}
 use Rattle.as2_desk.specs.declared.status.Ran.{Ran}
 
 -- the version that the store has
@@ -24,7 +24,7 @@ counts_hint it = entries_hint (codes "before") it.before ++ entries_hint (codes 
 
 -- The store of the path was of an earlier version, and is one of the version that is read, with the same entries, which is said; or
 -- it is as it was, and why is told. No store is opened for a command.
-abbrev pub Migrates : Stored → Written → Written → Ran → Type 0
-Migrates stored output errors ran =
+abbrev pub DoesMigration : StoresSeen → WriterSeen → WriterSeen → Ran → Type 0
+DoesMigration stored output errors ran =
     stored.Unopened × ((stored.Moved × Prints (Ok version_line) output errors ran)
     ⊎ (stored.Kept × stored.KeptEarlier × output.Untouched × Fails stored.Stays errors ran))

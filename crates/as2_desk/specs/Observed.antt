@@ -1,12 +1,12 @@
 -- What a run observes of what it is given.
 use Rattle.std.specs.Prelude.{◌≡◌, ◌<◌, ◌+◌, ℕ, List, Option}
 use Rattle.as2_agreement.specs.Agreements.{AgreedValues}
-use Rattle.as2_commands.specs.Requests.{Serving}
+use Rattle.as2_commands.specs.Requests.{GivenServing}
 use Rattle.as2_commands.specs.declared.tasks.Waits.{Waits}
 use Rattle.as2_exchange.specs.State.{State}
 use Rattle.as2_evidence.specs.Files.{File}
-use Rattle.as2_host.specs.Migrating.{moved}
-use Rattle.as2_host.specs.Networks.{Listening}
+use Rattle.as2_host.specs.Migrating.{migrated_if_first}
+use Rattle.as2_host.specs.Networks.{ListenerSeen}
 use Rattle.as2_host.specs.declared.files.MakeFiles.{Ghosts as Files}
 use Rattle.as2_host.specs.declared.files.MakingFault.{MakingFault}
 use Rattle.as2_host.specs.declared.stores.OpenFault.{OpenFault}
@@ -14,8 +14,8 @@ use Rattle.as2_host.specs.declared.stores.OpenStores.{Ghosts as Stores}
 use Rattle.as2_http.specs.declared.device.Sink.{Ghosts as Sinks}
 use Rattle.as2_http.specs.declared.device.Source.{Ghosts as Sources}
 use Rattle.as2_sending.specs.Exchanges.{Exchange}
-use Rattle.as2_desk.specs.Stores.{Begins, IsFaultAt, IsStayAt, is_in_memory, opens_at}
-use Rattle.as2_desk.specs.Written.{Written, written_of}
+use Rattle.as2_desk.specs.Stores.{StoreBegins, IsFaultAt, IsStayAt, is_in_memory, opens_at}
+use Rattle.as2_desk.specs.Written.{WriterSeen, written_of}
 use Rattle.as2_desk.specs.declared.console.Console.{Console}
 
 -- a reader, before and behind
@@ -35,13 +35,13 @@ pub record Input : Type 1 where
 
 -- what is written and left
 pub record Outcome : Type 1 where
-  pub output : Written
-  pub errors : Written
+  pub output : WriterSeen
+  pub errors : WriterSeen
   -- the records stand for that state then
   pub Left : State → Type 0
 
 -- the files, before and behind
-pub record Filing : Type 1 where
+pub record FilesSeen : Type 1 where
   -- none was made
   pub Untouched : Type 0
   -- these were made in that folder
@@ -50,19 +50,19 @@ pub record Filing : Type 1 where
   pub MakesNone : List ℕ → List File → MakingFault → Type 0
 
 -- the streams, the files, the network, and the state that is left
-pub record Observed : Type 1 where
+pub record Observation : Type 1 where
   pub input : Input
   pub outcome : Outcome
-  pub filing : Filing
+  pub filing : FilesSeen
   -- the network wasn't asked for anything
   pub Unasked : Type 0
   -- it was asked once, for links with these waits, and these exchanges went over them
   pub Exchanged : Waits → List Exchange → Type 0
   -- it was asked once, for a listener as the words say: what came of it, over these agreements
-  pub listening : AgreedValues → Serving → Listening
+  pub listening : AgreedValues → GivenServing → ListenerSeen
 
 -- the stores
-pub record Stored : Type 1 where
+pub record StoresSeen : Type 1 where
   -- nothing was done to them
   pub Untouched : Type 0
   -- none was opened
@@ -95,17 +95,17 @@ module _ {R W H E : Type 0} where
     IsSound = g.failed new.input ≡ g.failed old.input;
   }
 
-  abbrev pub output_of : Sinks W → Console R W H E → Console R W H E → Written
+  abbrev pub output_of : Sinks W → Console R W H E → Console R W H E → WriterSeen
   output_of g old new = written_of g old.output new.output
 
-  abbrev pub errors_of : Sinks E → Console R W H E → Console R W H E → Written
+  abbrev pub errors_of : Sinks E → Console R W H E → Console R W H E → WriterSeen
   errors_of g old new = written_of g old.errors new.errors
 
-  abbrev pub outcome_of : Sinks W → Sinks E → Console R W H E → Console R W H E → (State → Type 0) → Outcome
-  outcome_of w e old new Left = record { output = output_of w old new; errors = errors_of e old new; Left = Left }
+  abbrev pub console_outcome : Sinks W → Sinks E → Console R W H E → Console R W H E → (State → Type 0) → Outcome
+  console_outcome w e old new Left = record { output = output_of w old new; errors = errors_of e old new; Left = Left }
 
 -- of files, before and behind
-abbrev pub filing_of : {F : Type 0} → Files F → F → F → Filing
+abbrev pub filing_of : {F : Type 0} → Files F → F → F → FilesSeen
 filing_of g old new = record {
   Untouched = new ≡ old;
   Makes = λ folder files. g.makes old folder files new;
@@ -113,15 +113,15 @@ filing_of g old new = record {
 }
 
 -- of stores, before and behind, and the path of the one that is asked for
-abbrev pub stored_of : {O Opened InMemory : Type 0} → Stores O Opened InMemory → O → O → List ℕ → Stored
+abbrev pub stored_of : {O Opened InMemory : Type 0} → Stores O Opened InMemory → O → O → List ℕ → StoresSeen
 stored_of g old new path = record {
   Untouched = new ≡ old;
   Unopened = g.opens new ≡ g.opens old;
   Kept = (number : ℕ) (s : State) → g.keeps old path number s → g.keeps new path number s;
   Fails = IsFaultAt path (g.fails old path);
-  Moved = g.is_clean new → (s : State) → g.keeps_earlier old path s → (number : ℕ) → g.keeps new path number (moved s);
+  Moved = g.is_clean new → (s : State) → g.keeps_earlier old path s → (number : ℕ) → g.keeps new path number (migrated_if_first s);
   KeptEarlier = (s : State) → g.keeps_earlier old path s → g.keeps_earlier new path s;
   Stays = IsStayAt path (g.stays old path);
   Opened = g.opens new ≡ g.opens old + opens_at (is_in_memory path);
-  Begins = λ first s. Begins path first (g.is_clean new) (g.keeps old path) s;
+  Begins = λ first s. StoreBegins path first (g.is_clean new) (g.keeps old path) s;
 }

@@ -8,12 +8,12 @@ use Rattle.as2_agreement.specs.declared.unknown.Holder.TheVariants as holder
 use Rattle.as2_agreement.specs.declared.unknown.Unknown.{Unknown}
 use Rattle.as2_desk.specs.declared.agreed.Noticed.{Noticed}
 use Rattle.as2_desk.specs.declared.agreed.Noticed.TheVariants as noticed
-use Rattle.as2_desk.specs.Escapes.{escaped}
+use Rattle.as2_desk.specs.Escapes.{escaped_text}
 
 -- the name behind an entry's number, where it has one
 abbrev pub name_end : Option (List ℕ) → List ℕ
 name_end None = codes "\n"
-name_end (Some name) = codes ", \"" ++ (escaped name ++ codes "\"\n")
+name_end (Some name) = codes ", \"" ++ (escaped_text name ++ codes "\"\n")
 
 -- `hint: KIND NUMBER`, and the name
 abbrev pub entry_hint : List ℕ → Entry → List ℕ
@@ -33,7 +33,7 @@ holder_end (holder.Partner n) = codes "\" of partner " ++ (decimal n ++ codes " 
 
 -- which key isn't known
 abbrev pub unknown_line : Unknown → List ℕ
-unknown_line u = codes "warning: key \"" ++ (escaped (string_bytes u.key) ++ holder_end u.holder)
+unknown_line u = codes "warning: key \"" ++ (escaped_text (string_bytes u.key) ++ holder_end u.holder)
 
 -- what was noticed in agreements
 abbrev pub noticed_line : Noticed → List ℕ

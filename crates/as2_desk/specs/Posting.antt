@@ -2,7 +2,7 @@
 use Rattle.std.specs.Prelude.{◌≡◌, ◌≤◌, ◌+◌, ℕ, Bool, true, false, List, Option, Some, None, IfSome}
 use Rattle.as2_agreement.specs.Agreements.{AgreedValues}
 use Rattle.as2_exchange.specs.State.{State}
-use Rattle.as2_http.specs.Notes.{spoken}
+use Rattle.as2_http.specs.Notes.{sink_and_journal}
 use Rattle.as2_http.specs.StreamReads.{RunsPosts, Serves}
 use Rattle.as2_http.specs.declared.stream.Served.{Served}
 use Rattle.as2_http.specs.declared.stream.Served.TheVariants.{ReadFault, TooLong, WriteFault}
@@ -10,7 +10,7 @@ use Rattle.as2_desk.specs.Endings.{Ends}
 use Rattle.as2_desk.specs.Observed.{Input, Outcome}
 use Rattle.as2_desk.specs.Refusals.{end_line}
 use Rattle.as2_desk.specs.Statuses.{exit_status}
-use Rattle.as2_desk.specs.Written.{Written}
+use Rattle.as2_desk.specs.Written.{WriterSeen}
 use Rattle.as2_desk.specs.declared.status.Ran.{Ran}
 
 -- what a journal holds, where replies are noted in it
@@ -23,7 +23,7 @@ abbrev pub most_reads : ℕ
 most_reads = 100000
 
 -- the cause of an end: a read or a write that failed, which no other end has, or as many reads as are made at most
-pub record HasCause (end : Served) (input : Input) (output : Written) : Type 0 where
+pub record HasCause (end : Served) (input : Input) (output : WriterSeen) : Type 0 where
   pub read_fault : end ≡ ReadFault → input.HasFailed
   pub sound_reads : ¬ (end ≡ ReadFault) → input.IsSound
   pub write_fault : end ≡ WriteFault → output.HasFailed
@@ -42,5 +42,5 @@ pub record Posts (agreements : AgreedValues) (moment : ℕ) (known : Option Stat
   pub posts : IfSome known (λ s. (t : State) × o.Left t × RunsPosts agreements moment s t)
   pub serves : IfSome known (λ s. (text : List ℕ) → input.before ≡ Some text
       → (t : State) × o.Left t
-      × Serves agreements moment s t text input.after (spoken o.output.before noted) (spoken o.output.after new) input.calls input.later end)
+      × Serves agreements moment s t text input.after (sink_and_journal o.output.before noted) (sink_and_journal o.output.after new) input.calls input.later end)
   pub told : Ends (exit_status end) (end_line end) o.errors ran

@@ -2,7 +2,7 @@
 use Rattle.std.specs.Prelude.{◌≡◌, ◌⊎◌, ℕ, List, ◌++◌, Option, Some, None, option_map, Result, Ok, Err, IfErr, IfSome, true, codes, ⊤}
 use Rattle.std.specs.List.{flat_map}
 use Rattle.as2_agreement.specs.Agreements.{AgreedValues}
-use Rattle.as2_commands.specs.Requests.{Wanted}
+use Rattle.as2_commands.specs.Requests.{GivenEvidence}
 use Rattle.as2_evidence.specs.Evidence.{IsEvidence}
 use Rattle.as2_evidence.specs.Files.{File}
 use Rattle.as2_exchange.specs.State.{State}
@@ -13,9 +13,9 @@ use Rattle.as2_host.specs.declared.files.MakingFault.TheVariants as making
 use Rattle.as2_host.specs.declared.stores.OpenFault.TheVariants as open_fault
 use Rattle.as2_records.specs.Standing.{may_come}
 use Rattle.as2_desk.specs.Endings.{Ends, EndsRefused}
-use Rattle.as2_desk.specs.Observed.{Filing, Outcome}
-use Rattle.as2_desk.specs.Statuses.{done}
-use Rattle.as2_desk.specs.Written.{Breaks, WritesWhole, Written}
+use Rattle.as2_desk.specs.Observed.{FilesSeen, Outcome}
+use Rattle.as2_desk.specs.Statuses.{status_done}
+use Rattle.as2_desk.specs.Written.{Breaks, WritesWhole, WriterSeen}
 use Rattle.as2_desk.specs.declared.refusal.CommandFault.{CommandFault}
 use Rattle.as2_desk.specs.declared.refusal.CommandFault.TheVariants.{CannotWrite, Exists, Memory, Station, Store}
 use Rattle.as2_desk.specs.declared.status.Ran.{Ran}
@@ -34,15 +34,15 @@ making_refusal making.CannotWrite = CannotWrite
 making_refusal making.Memory = Memory
 
 -- the names are printed, or a write failed behind a part of them
-abbrev pub PrintsNames : List ℕ → Written → Written → Ran → Type 0
-PrintsNames names output errors ran = (WritesWhole output names × Ends done (codes "") errors ran) ⊎ (Breaks output names × EndsRefused CannotWrite errors ran)
+abbrev pub PrintsNames : List ℕ → WriterSeen → WriterSeen → Ran → Type 0
+PrintsNames names output errors ran = (WritesWhole output names × Ends status_done (codes "") errors ran) ⊎ (Breaks output names × EndsRefused CannotWrite errors ran)
 
 -- none is made, and that is told
-abbrev pub MakesNone : List ℕ → List File → Filing → Written → Written → Ran → Type 0
+abbrev pub MakesNone : List ℕ → List File → FilesSeen → WriterSeen → WriterSeen → Ran → Type 0
 MakesNone folder files filing output errors ran = (fault : MakingFault) × filing.MakesNone folder files fault × output.Untouched × EndsRefused (making_refusal fault) errors ran
 
 -- they are made, and their names printed; or none is; or memory for the names was wanting, and nothing is done
-abbrev pub MakesFiles : List ℕ → List File → Filing → Written → Written → Ran → Type 0
+abbrev pub MakesFiles : List ℕ → List File → FilesSeen → WriterSeen → WriterSeen → Ran → Type 0
 MakesFiles folder files filing output errors ran =
     (filing.Makes folder files × PrintsNames (name_lines files) output errors ran)
     ⊎ (MakesNone folder files filing output errors ran ⊎ (filing.Untouched × output.Untouched × EndsRefused Memory errors ran))
@@ -52,18 +52,18 @@ abbrev pub Came : Type 0
 Came = Result (Option (List File)) StoreFault
 
 -- the files that were read are made; without them nothing is, and it is told why
-abbrev pub MakesWhatCame : List ℕ → Came → Filing → Written → Written → Ran → Type 0
+abbrev pub MakesWhatCame : List ℕ → Came → FilesSeen → WriterSeen → WriterSeen → Ran → Type 0
 MakesWhatCame folder (Ok (Some files)) filing output errors ran = MakesFiles folder files filing output errors ran
 MakesWhatCame folder (Ok None) filing output errors ran = filing.Untouched × output.Untouched × EndsRefused (Station NoSuchNumber) errors ran
 MakesWhatCame folder (Err fault) filing output errors ran = filing.Untouched × output.Untouched × EndsRefused (Store (open_fault.Store fault)) errors ran
 
 -- what came is what the state has of that document
-abbrev pub IsOf : AgreedValues → State → Wanted → Came → Type 0
+abbrev pub IsOf : AgreedValues → State → GivenEvidence → Came → Type 0
 IsOf agreements s wanted (Ok files) = IsEvidence agreements s wanted.mailbox wanted.number files
 IsOf agreements s wanted (Err fault) = ⊤
 
 -- where the state is known that the records stood for, they stand for it still, and the files are of it
-pub record Proves (agreements : AgreedValues) (wanted : Wanted) (known : Option State) (filing : Filing) (o : Outcome) (ran : Ran) : Type 0 where
+pub record Proves (agreements : AgreedValues) (wanted : GivenEvidence) (known : Option State) (filing : FilesSeen) (o : Outcome) (ran : Ran) : Type 0 where
   pub came : Came
   -- a fault is one that may come of any call
   pub fault : IfErr came (λ f. may_come f ≡ true)

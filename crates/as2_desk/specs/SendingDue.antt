@@ -4,8 +4,8 @@ use Rattle.as2_agreement.specs.Agreements.{AgreedValues}
 use Rattle.as2_exchange.specs.State.{State}
 use Rattle.as2_desk.specs.Endings.{Ends, EndsRefused}
 use Rattle.as2_desk.specs.Observed.{Outcome}
-use Rattle.as2_desk.specs.Statuses.{done}
-use Rattle.as2_desk.specs.Written.{Written}
+use Rattle.as2_desk.specs.Statuses.{status_done}
+use Rattle.as2_desk.specs.Written.{WriterSeen}
 use Rattle.as2_desk.specs.declared.refusal.CommandFault.TheVariants.{CannotWrite, Station, Store}
 use Rattle.as2_sending.specs.Exchanges.{Exchange}
 use Rattle.as2_sending.specs.Turns.{Sends}
@@ -15,8 +15,8 @@ use Rattle.as2_desk.specs.declared.status.Ran.{Ran}
 use Rattle.as2_host.specs.declared.stores.OpenFault.TheVariants as open_fault
 
 -- nothing is said where nothing more is due; else one line says why it isn't done
-abbrev pub TellsSent : Sent → Written → Ran → Type 0
-TellsSent sent.Done errors ran = Ends done (codes "") errors ran
+abbrev pub TellsSent : Sent → WriterSeen → Ran → Type 0
+TellsSent sent.Done errors ran = Ends status_done (codes "") errors ran
 TellsSent (sent.Refused reason) errors ran = EndsRefused (Station reason) errors ran
 TellsSent (sent.Failed fault) errors ran = EndsRefused (Store (open_fault.Store fault)) errors ran
 TellsSent sent.Unwritten errors ran = EndsRefused CannotWrite errors ran

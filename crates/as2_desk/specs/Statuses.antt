@@ -4,22 +4,22 @@ use Rattle.as2_http.specs.declared.stream.Served.{Served}
 use Rattle.as2_http.specs.declared.stream.Served.TheVariants as end
 
 -- the exit statuses
-abbrev pub done : ℕ
-done = 0
+abbrev pub status_done : ℕ
+status_done = 0
 
-abbrev pub refused : ℕ
-refused = 1
+abbrev pub status_refused : ℕ
+status_refused = 1
 
-abbrev pub faulty : ℕ
-faulty = 2
+abbrev pub status_faulty : ℕ
+status_faulty = 2
 
-abbrev pub failed : ℕ
-failed = 3
+abbrev pub status_failed : ℕ
+status_failed = 3
 
 -- only an end in good order is no refusal
 abbrev pub exit_status : Served → ℕ
-exit_status end.Closed = done
-exit_status _ = refused
+exit_status end.Closed = status_done
+exit_status _ = status_refused
 
 abbrev pub end_name : Served → List ℕ
 end_name end.Closed = codes "Closed"

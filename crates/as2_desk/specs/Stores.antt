@@ -18,8 +18,8 @@ ByPlace false InMemory Kept = Kept
 
 -- the store begins with that state: one in memory with no entry, and this first number; another with what is kept, or is made with
 -- that number (Keeps), on a medium that returned what was written until the store was closed (Clean)
-abbrev pub Begins : List ℕ → ℕ → Type 0 → (ℕ → State → Type 0) → State → Type 0
-Begins path first Clean Keeps s = ByPlace (is_in_memory path) (s ≡ empty (LaterVersion 0) first) (Keeps first s × Clean)
+abbrev pub StoreBegins : List ℕ → ℕ → Type 0 → (ℕ → State → Type 0) → State → Type 0
+StoreBegins path first Clean Keeps s = ByPlace (is_in_memory path) (s ≡ empty (LaterVersion 0) first) (Keeps first s × Clean)
 
 -- that state is kept once the store is closed, whatever number is given from then on (Keeps); one in memory is kept nowhere
 abbrev pub Leaves : List ℕ → (ℕ → State → Type 0) → State → Type 0

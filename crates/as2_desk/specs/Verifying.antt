@@ -9,19 +9,19 @@ use Rattle.as2_commands.specs.declared.tasks.Format.{Format}
 use Rattle.as2_desk.specs.Endings.{Ends, EndsRefused}
 use Rattle.as2_desk.specs.Formats.{verification_in}
 use Rattle.as2_desk.specs.Observed.{Outcome}
-use Rattle.as2_desk.specs.Statuses.{done, refused}
-use Rattle.as2_desk.specs.Written.{Breaks, WritesWhole, Written}
+use Rattle.as2_desk.specs.Statuses.{status_done, status_refused}
+use Rattle.as2_desk.specs.Written.{Breaks, WritesWhole, WriterSeen}
 use Rattle.as2_desk.specs.declared.refusal.CommandFault.TheVariants.{CannotWrite, Store}
 use Rattle.as2_desk.specs.declared.status.Ran.{Ran}
 use Rattle.as2_host.specs.declared.stores.OpenFault.TheVariants as open_fault
 
 -- it is 1 where there is a finding
 abbrev pub audit_status : ℕ → ℕ
-audit_status found = if found == 0 then done else refused
+audit_status found = if found == 0 then status_done else status_refused
 
 -- the lines are written, and the status tells whether there is a finding; or a write failed behind a part of them; or a fault of the store
 -- is told, and nothing is written
-abbrev pub PrintsAudit : Result Verification StoreFault → Written → Written → Ran → Type 0
+abbrev pub PrintsAudit : Result Verification StoreFault → WriterSeen → WriterSeen → Ran → Type 0
 PrintsAudit (Ok audit) output errors ran =
     (WritesWhole output audit.text.items × Ends (audit_status audit.findings) (codes "") errors ran) ⊎ (Breaks output audit.text.items × EndsRefused CannotWrite errors ran)
 PrintsAudit (Err fault) output errors ran = output.Untouched × EndsRefused (Store (open_fault.Store fault)) errors ran

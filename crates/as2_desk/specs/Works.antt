@@ -6,13 +6,13 @@ use Rattle.as2_station.specs.declared.said.NewDocument.{NewDocument}
 use Rattle.as2_desk.specs.Connections.{ServesCount}
 use Rattle.as2_host.specs.FileContents.{Content, front}
 use Rattle.as2_desk.specs.FileDocuments.{Document, HasDocument}
-use Rattle.as2_desk.specs.Observed.{Observed}
+use Rattle.as2_desk.specs.Observed.{Observation}
 use Rattle.as2_desk.specs.Posting.{Posts}
 use Rattle.as2_desk.specs.Proving.{Proves}
-use Rattle.as2_desk.specs.Questions.{Asked, Asks}
+use Rattle.as2_desk.specs.Questions.{QuestionInHand, AnswersQuestion}
 use Rattle.as2_desk.specs.SendingDue.{SendsDue}
 use Rattle.as2_desk.specs.Verifying.{Verifies}
-use Rattle.as2_commands.specs.Requests.{Submission}
+use Rattle.as2_commands.specs.Requests.{GivenSubmission}
 use Rattle.as2_commands.specs.declared.tasks.Command.{Command}
 use Rattle.as2_commands.specs.declared.tasks.Command.TheVariants.{Post, Ask, Send, Serve}
 use Rattle.as2_commands.specs.declared.tasks.Question.{Question}
@@ -23,26 +23,26 @@ use Rattle.as2_desk.specs.declared.work.Work.{Work}
 use Rattle.as2_desk.specs.declared.work.Work.TheVariants.{At, Verify, Prove}
 
 -- a command, whose document was read
-abbrev pub Read : Type 0
-Read = Command NewDocument
+abbrev pub CommandInHand : Type 0
+CommandInHand = Command NewDocument
 
 -- what is done over the store, or the refusal that stands in its place
 abbrev pub Begun : Type 0
 Begun = Result Work CommandFault
 
 -- the same of a document alone
-abbrev pub asked_of : Result NewDocument CommandFault → Result Asked CommandFault
+abbrev pub asked_of : Result NewDocument CommandFault → Result QuestionInHand CommandFault
 asked_of (Ok document) = Ok (question.Submit document)
 asked_of (Err refusal) = Err refusal
 
 -- a document in hand is handed in
-abbrev pub handing : Submission → Document → Result Asked CommandFault
-handing s (Ok content) = Ok (question.Submit (record { organization = s.from; partner = s.to; content = content }))
-handing s (Err refusal) = Err refusal
+abbrev pub hand_in : GivenSubmission → Document → Result QuestionInHand CommandFault
+hand_in s (Ok content) = Ok (question.Submit (record { organization = s.from; partner = s.to; content = content }))
+hand_in s (Err refusal) = Err refusal
 
 -- what is asked once the file of a submission is read; of it one byte more is read than a content may have
-abbrev pub IsAsked : (List ℕ → Content) → Question Submission → Result Asked CommandFault → Type 0
-IsAsked contents (question.Submit s) asked = (document : Document) × HasDocument (front (content_limit + 1) (contents s.path)) document × (asked ≡ handing s document)
+abbrev pub IsAsked : (List ℕ → Content) → Question GivenSubmission → Result QuestionInHand CommandFault → Type 0
+IsAsked contents (question.Submit s) asked = (document : Document) × HasDocument (front (content_limit + 1) (contents s.path)) document × (asked ≡ hand_in s document)
 IsAsked contents question.Tick asked = asked ≡ Ok question.Tick
 IsAsked contents (question.Resend n) asked = asked ≡ Ok (question.Resend n)
 IsAsked contents (question.List filter idle format) asked = asked ≡ Ok (question.List filter idle format)
@@ -50,41 +50,41 @@ IsAsked contents (question.Outstanding format) asked = asked ≡ Ok (question.Ou
 IsAsked contents (question.Show n format) asked = asked ≡ Ok (question.Show n format)
 IsAsked contents (question.Fetch n) asked = asked ≡ Ok (question.Fetch n)
 
-abbrev pub asking : Result Asked CommandFault → Begun
-asking (Ok asked) = Ok (At (Ask asked))
-asking (Err refusal) = Err refusal
+abbrev pub begin_question : Result QuestionInHand CommandFault → Begun
+begin_question (Ok asked) = Ok (At (Ask asked))
+begin_question (Err refusal) = Err refusal
 
 -- the same of a command
-abbrev pub IsWork : (List ℕ → Content) → Command Submission → Begun → Type 0
+abbrev pub IsWork : (List ℕ → Content) → Command GivenSubmission → Begun → Type 0
 IsWork contents (Post logs) begun = begun ≡ Ok (At (Post logs))
-IsWork contents (Ask question) begun = (asked : Result Asked CommandFault) × IsAsked contents question asked × (begun ≡ asking asked)
+IsWork contents (Ask question) begun = (asked : Result QuestionInHand CommandFault) × IsAsked contents question asked × (begun ≡ begin_question asked)
 IsWork contents (Send waits) begun = begun ≡ Ok (At (Send waits))
 IsWork contents (Serve serving) begun = begun ≡ Ok (At (Serve serving))
 
 -- the command is carried out, at this moment; no other than `post` reads the input, and only `send` and `serve` ask something of the network
-abbrev pub CarriesOut : AgreedValues → ℕ → Read → Option State → Observed → Ran → Type 0
+abbrev pub CarriesOut : AgreedValues → ℕ → CommandInHand → Option State → Observation → Ran → Type 0
 CarriesOut agreements moment (Post logs) known o ran = o.Unasked × Posts agreements moment known o.input o.outcome ran
-CarriesOut agreements moment (Ask asked) known o ran = o.Unasked × o.input.Untouched × Asks agreements moment asked known o.outcome ran
+CarriesOut agreements moment (Ask asked) known o ran = o.Unasked × o.input.Untouched × AnswersQuestion agreements moment asked known o.outcome ran
 CarriesOut agreements moment (Send waits) known o ran = o.input.Untouched × SendsDue agreements moment known o.outcome (o.Exchanged waits) ran
 CarriesOut agreements moment (Serve serving) known o ran = o.input.Untouched × ServesCount serving.count known o.outcome (o.listening agreements serving) ran
 
 -- that is done
-abbrev pub Does : AgreedValues → ℕ → Work → Option State → Observed → Ran → Type 0
-Does agreements moment (At command) known o ran = o.filing.Untouched × CarriesOut agreements moment command known o ran
-Does agreements moment (Verify format) known o ran = o.filing.Untouched × o.Unasked × o.input.Untouched × Verifies format known o.outcome ran
-Does agreements moment (Prove wanted) known o ran = o.Unasked × o.input.Untouched × Proves agreements wanted known o.filing o.outcome ran
+abbrev pub DoesWork : AgreedValues → ℕ → Work → Option State → Observation → Ran → Type 0
+DoesWork agreements moment (At command) known o ran = o.filing.Untouched × CarriesOut agreements moment command known o ran
+DoesWork agreements moment (Verify format) known o ran = o.filing.Untouched × o.Unasked × o.input.Untouched × Verifies format known o.outcome ran
+DoesWork agreements moment (Prove wanted) known o ran = o.Unasked × o.input.Untouched × Proves agreements wanted known o.filing o.outcome ran
 
 -- it sends
-abbrev pub Sends : Read → Type 0
-Sends (Send waits) = ⊤
-Sends other = ⊥
+abbrev pub IsSendCommand : CommandInHand → Type 0
+IsSendCommand (Send waits) = ⊤
+IsSendCommand other = ⊥
 
 abbrev pub SendsWork : Work → Type 0
-SendsWork (At command) = Sends command
+SendsWork (At command) = IsSendCommand command
 SendsWork other = ⊥
 
 -- it serves
-abbrev pub ServesIt : Read → Type 0
+abbrev pub ServesIt : CommandInHand → Type 0
 ServesIt (Serve serving) = ⊤
 ServesIt other = ⊥
 

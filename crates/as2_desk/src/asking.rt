@@ -6,10 +6,10 @@ ghost use Rattle.as2_exchange.specs.declared.answer.Answer.TheVariants.{Ticked};
 ghost use Rattle.as2_station.specs.Said.{said_to_resend, said_to_submit};
 ghost use Rattle.as2_station.specs.Theorem.{said_as};
 ghost use Rattle.as2_desk.specs.Endings.{EndsRefused};
-ghost use Rattle.as2_desk.specs.Observed.{errors_of, outcome_of};
+ghost use Rattle.as2_desk.specs.Observed.{errors_of, console_outcome};
 ghost use Rattle.as2_commands.specs.declared.tasks.Question.TheVariants.{Resend};
-ghost use Rattle.as2_desk.specs.Questions.{Asked, Asks, EndsByEvent, FaultMayCome, IsToldOf, Prints, Tells, looked_up, number_line, printed_text, read_told, refusal_to, told_as};
-ghost use Rattle.as2_desk.specs.Statuses.{done, failed, refused};
+ghost use Rattle.as2_desk.specs.Questions.{QuestionInHand, AnswersQuestion, EndsByEvent, FaultMayCome, IsToldOf, Prints, Tells, looked_up, number_line, printed_text, read_told, refusal_to, told_as};
+ghost use Rattle.as2_desk.specs.Statuses.{status_done, status_failed, status_refused};
 ghost use Rattle.as2_desk.specs.Written.{WritesBy, written_of};
 ghost use Rattle.as2_desk.specs.declared.refusal.CommandFault.TheVariants.{Station as Refusing, Store as Failing};
 ghost use Rattle.as2_host.specs.declared.stores.OpenFault.{OpenFault as TheFault};
@@ -43,7 +43,7 @@ pub(crate) enum Printed {
 
 /// The number of a document that was handed in, or why there is none.
 fn submitted_told(said: Result<Submitted, StoreFault>) -> Result<Printed, CommandFault>
-    ensures { (asked : Asked) → IsToldOf asked (said_as said_to_submit said) (told_as result) }
+    ensures { (asked : QuestionInHand) → IsToldOf asked (said_as said_to_submit said) (told_as result) }
 {
     match said {
         Ok(Ok(number)) => Ok(Printed::Number(number)),
@@ -54,7 +54,7 @@ fn submitted_told(said: Result<Submitted, StoreFault>) -> Result<Printed, Comman
 
 /// The count of documents that were given up, or why there is none.
 fn ticked_told(said: Result<u64, StoreFault>) -> Result<Printed, CommandFault>
-    ensures { (asked : Asked) → IsToldOf asked (said_as Ticked said) (told_as result) }
+    ensures { (asked : QuestionInHand) → IsToldOf asked (said_as Ticked said) (told_as result) }
 {
     match said {
         Ok(count) => Ok(Printed::Number(count)),
@@ -151,14 +151,14 @@ pub(crate) fn ask<K: Records, R, W: Sink, H, E: Sink>(
     question: Question<NewDocument>,
     console: &mut Console<R, W, H, E>,
 ) -> Ran
-    ensures status { (result.status ≡ done) ⊎ ((result.status ≡ refused) ⊎ (result.status ≡ failed)) }
+    ensures status { (result.status ≡ status_done) ⊎ ((result.status ≡ status_refused) ⊎ (result.status ≡ status_failed)) }
     ensures unread { console.new.input ≡ console.old.input }
     ensures clean { (K.shows station.new).IsClean → (K.shows station.old).IsClean }
     ensures asks { (known : Option State)
         → IfSome known (λ s. (K.shows station.new).IsClean × (K.shows station.old).Rests s)
-        → Asks terms.now.agreements.now terms.now.moment question known
-        (outcome_of W.Sink E.Sink console.old console.new (λ t. (K.shows station.new).Rests t)) result }
-    ensures store { result.status ≡ failed → (console.new.output ≡ console.old.output)
+        → AnswersQuestion terms.now.agreements.now terms.now.moment question known
+        (console_outcome W.Sink E.Sink console.old console.new (λ t. (K.shows station.new).Rests t)) result }
+    ensures store { result.status ≡ status_failed → (console.new.output ≡ console.old.output)
         × ((fault : TheFault) × EndsRefused (Failing fault) (errors_of E.Sink console.old console.new) result) }
 {
     let told = answer(terms, station, question);
@@ -191,10 +191,10 @@ fn print<W: Sink, E: Sink>(
     output: &mut W,
     errors: &mut E,
 ) -> Ran
-    ensures status { (result.status ≡ done) ⊎ ((result.status ≡ refused) ⊎ (result.status ≡ failed)) }
+    ensures status { (result.status ≡ status_done) ⊎ ((result.status ≡ status_refused) ⊎ (result.status ≡ status_failed)) }
     ensures prints { Prints (told_as told) (written_of W.Sink output.old output.new)
         (written_of E.Sink errors.old errors.new) result }
-    ensures store { result.status ≡ failed → (output.new ≡ output.old)
+    ensures store { result.status ≡ status_failed → (output.new ≡ output.old)
         × ((fault : TheFault) × EndsRefused (Failing fault) (written_of E.Sink errors.old errors.new) result) }
 {
     let printed = match told {

@@ -1,8 +1,8 @@
 //! The command `check`: how many members agreements have, and what to be warned of.
 ghost use Rattle.std.specs.Prelude.{◌≡◌, ◌⊎◌, IfOk, string_bytes};
 ghost use Rattle.as2_desk.specs.Checks.{counts_line, is_elsewhere, warnings};
-ghost use Rattle.as2_desk.specs.Runs.{Counts};
-ghost use Rattle.as2_desk.specs.Statuses.{done, refused};
+ghost use Rattle.as2_desk.specs.Runs.{PrintsCounts};
+ghost use Rattle.as2_desk.specs.Statuses.{status_done, status_refused};
 ghost use Rattle.as2_desk.specs.Written.{WritesIf, written_of};
 
 use crate::refusal::{CommandFault, is_said, refuse};
@@ -49,8 +49,8 @@ pub(crate) fn check<W: Sink, E: Sink>(
     output: &mut W,
     errors: &mut E,
 ) -> Ran
-    ensures status { (result.status ≡ done) ⊎ (result.status ≡ refused) }
-    ensures counts { Counts agreements.now (written_of W.Sink output.old output.new)
+    ensures status { (result.status ≡ status_done) ⊎ (result.status ≡ status_refused) }
+    ensures counts { PrintsCounts agreements.now (written_of W.Sink output.old output.new)
         (written_of E.Sink errors.old errors.new) result }
 {
     let Ok(line) = counts(alloc, agreements) else {

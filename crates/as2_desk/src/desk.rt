@@ -8,10 +8,10 @@ ghost use Rattle.as2_commands.specs.Options.{Gives, GivesNone};
 ghost use Rattle.as2_host.specs.Networks.{ExchangedOver, listening_of};
 ghost use Rattle.as2_desk.specs.Endings.{EndsRefused};
 ghost use Rattle.as2_desk.specs.Helping.{Helps, SaysFaulty};
-ghost use Rattle.as2_desk.specs.Observed.{errors_of, filing_of, input_of, outcome_of, output_of, stored_of};
-ghost use Rattle.as2_desk.specs.Runs.{AsksFor, Comes, IsSending, IsServing, Runs};
-ghost use Rattle.as2_desk.specs.Stops.{Stopped};
-ghost use Rattle.as2_desk.specs.Statuses.{done, failed, faulty, refused};
+ghost use Rattle.as2_desk.specs.Observed.{errors_of, filing_of, input_of, console_outcome, output_of, stored_of};
+ghost use Rattle.as2_desk.specs.Runs.{WordsAskFor, DoesTask, IsSending, IsServing, Runs};
+ghost use Rattle.as2_desk.specs.Stops.{StopsAtFault};
+ghost use Rattle.as2_desk.specs.Statuses.{status_done, status_failed, status_faulty, status_refused};
 ghost use Rattle.as2_desk.specs.Stores.{Leaves};
 ghost use Rattle.as2_desk.specs.Written.{written_of};
 ghost use Rattle.as2_commands.specs.declared.tasks.Task.{Task as TheTask};
@@ -57,11 +57,11 @@ pub fn run<
     host: &mut Host<F, O, N>,
     console: &mut Console<R, W, H, E>,
 ) -> Ran
-    ensures status { (result.status ≡ done)
-        ⊎ ((result.status ≡ refused) ⊎ ((result.status ≡ faulty) ⊎ (result.status ≡ failed))) }
+    ensures status { (result.status ≡ status_done)
+        ⊎ ((result.status ≡ status_refused) ⊎ ((result.status ≡ status_faulty) ⊎ (result.status ≡ status_failed))) }
     // Words that ask for something are no faulty command line.
     ensures given { (path store : List ℕ) (task : TheTask) → Gives (texts words.entry.now) clock path store task
-        → result.status ≢ faulty }
+        → result.status ≢ status_faulty }
     // It is done over the agreements and the store that they name, or the refusal is told that stands in their place; where
     // memory for the words was wanting nothing is done.
     ensures runs { (path store : List ℕ) (task : TheTask)
@@ -69,7 +69,7 @@ pub fn run<
         → Runs (F.content host.old.outside.files) path task
         (record {
           input = input_of R.Source console.old console.new;
-          outcome = outcome_of W.Sink E.Sink console.old console.new (Leaves store (O.keeps host.new.stores store));
+          outcome = console_outcome W.Sink E.Sink console.old console.new (Leaves store (O.keeps host.new.stores store));
           filing = filing_of F.MakeFiles host.old.outside.files host.new.outside.files;
           Unasked = host.new.outside.network ≡ host.old.outside.network;
           Exchanged = ExchangedOver N.Network N.Links.Links host.old.outside.network host.new.outside.network;
@@ -88,19 +88,19 @@ pub fn run<
         × (host.new.outside ≡ host.old.outside) }
     // They are faulty, unless they ask for the help or the version; memory may be wanting to say so.
     ensures none { GivesNone (texts words.entry.now) clock → ¬ AsksForHelp (texts words.entry.now)
-        → ((result.status ≡ faulty) ⊎ EndsRefused Memory (errors_of E.Sink console.old console.new) result)
+        → ((result.status ≡ status_faulty) ⊎ EndsRefused Memory (errors_of E.Sink console.old console.new) result)
         × (console.new.output ≡ console.old.output) }
     // Why they are faulty is said, and the help or the version is printed.
-    ensures said { result.status ≡ faulty → SaysFaulty (errors_of E.Sink console.old console.new) result }
-    ensures help { GivesNone (texts words.entry.now) clock → result.status ≢ faulty
+    ensures said { result.status ≡ status_faulty → SaysFaulty (errors_of E.Sink console.old console.new) result }
+    ensures help { GivesNone (texts words.entry.now) clock → result.status ≢ status_faulty
         → Helps (output_of W.Sink console.old console.new) (errors_of E.Sink console.old console.new) result }
     // A faulty command line reads and prints nothing, opens nothing, makes no file, and asks nothing of the network.
-    ensures untouched { result.status ≡ faulty → (console.new.input ≡ console.old.input)
+    ensures untouched { result.status ≡ status_faulty → (console.new.input ≡ console.old.input)
         × (console.new.output ≡ console.old.output)
         × (host.new.stores ≡ host.old.stores) × (host.new.outside ≡ host.old.outside) }
     // A store with a fault is told, and nothing is read or written then; what was sent or served before stands, with its lines.
-    ensures store { result.status ≡ failed
-        → Stopped (AsksFor (texts words.entry.now) clock IsSending) (AsksFor (texts words.entry.now) clock IsServing)
+    ensures store { result.status ≡ status_failed
+        → StopsAtFault (WordsAskFor (texts words.entry.now) clock IsSending) (WordsAskFor (texts words.entry.now) clock IsServing)
         (input_of R.Source console.old console.new) (output_of W.Sink console.old console.new)
         (errors_of E.Sink console.old console.new) result }
 {
@@ -135,11 +135,11 @@ fn carry_out<
     host: &mut Host<F, O, N>,
     console: &mut Console<R, W, H, E>,
 ) -> Ran
-    ensures status { (result.status ≡ done) ⊎ ((result.status ≡ refused) ⊎ (result.status ≡ failed)) }
-    ensures comes { Comes (F.content host.old.outside.files) agreed options.entry.task
+    ensures status { (result.status ≡ status_done) ⊎ ((result.status ≡ status_refused) ⊎ (result.status ≡ status_failed)) }
+    ensures comes { DoesTask (F.content host.old.outside.files) agreed options.entry.task
         (record {
           input = input_of R.Source console.old console.new;
-          outcome = outcome_of W.Sink E.Sink console.old console.new
+          outcome = console_outcome W.Sink E.Sink console.old console.new
               (Leaves options.entry.store.now (O.keeps host.new.stores options.entry.store.now));
           filing = filing_of F.MakeFiles host.old.outside.files host.new.outside.files;
           Unasked = host.new.outside.network ≡ host.old.outside.network;
@@ -148,8 +148,8 @@ fn carry_out<
         })
         (stored_of O.OpenStores host.old.stores host.new.stores options.entry.store.now) result }
     ensures memory { options.entry.store.now ≡ codes ":memory:" → host.new.stores ≡ host.old.stores }
-    ensures store { result.status ≡ failed
-        → Stopped (IsSending options.entry.task) (IsServing options.entry.task)
+    ensures store { result.status ≡ status_failed
+        → StopsAtFault (IsSending options.entry.task) (IsServing options.entry.task)
         (input_of R.Source console.old console.new)
         (output_of W.Sink console.old console.new) (errors_of E.Sink console.old console.new) result }
 {
@@ -206,13 +206,13 @@ fn is_unread(agreed: &Result<Agreements, CommandFault>) -> bool {
 
 /// Says why nothing is run: help and the version on `output`, a fault on `errors`.
 fn tell<W: Sink, E: Sink>(alloc: Global, error: &Error, output: &mut W, errors: &mut E) -> Ran
-    ensures status { (result.status ≡ done) ⊎ ((result.status ≡ refused) ⊎ (result.status ≡ faulty)) }
+    ensures status { (result.status ≡ status_done) ⊎ ((result.status ≡ status_refused) ⊎ (result.status ≡ status_faulty)) }
     ensures fault { ¬ IsHelp (kind_of error.now)
-        → ((result.status ≡ faulty) ⊎ EndsRefused Memory (written_of E.Sink errors.old errors.new) result)
+        → ((result.status ≡ status_faulty) ⊎ EndsRefused Memory (written_of E.Sink errors.old errors.new) result)
         × (output.new ≡ output.old) }
-    ensures help { IsHelp (kind_of error.now) → result.status ≢ faulty }
-    ensures said { result.status ≡ faulty → SaysFaulty (written_of E.Sink errors.old errors.new) result }
-    ensures helps { result.status ≢ faulty
+    ensures help { IsHelp (kind_of error.now) → result.status ≢ status_faulty }
+    ensures said { result.status ≡ status_faulty → SaysFaulty (written_of E.Sink errors.old errors.new) result }
+    ensures helps { result.status ≢ status_faulty
         → Helps (written_of W.Sink output.old output.new) (written_of E.Sink errors.old errors.new) result }
     // Want of memory is told as such, or the error is another.
     ensures memory { ((output.new ≡ output.old) × EndsRefused Memory (written_of E.Sink errors.old errors.new) result)

@@ -1,7 +1,7 @@
 //! Texts that others chose, as they are shown: no byte of theirs but one that prints reaches the terminal.
 ghost use Rattle.std.specs.Prelude.{◌≡◌, ◌<◌, OnOk};
 ghost use Rattle.std.specs.Io.KnownBytes.{Appends};
-ghost use Rattle.as2_desk.specs.Escapes.{digit, escaped, escaped_byte, is_shown};
+ghost use Rattle.as2_desk.specs.Escapes.{digit, escaped_text, escaped_byte, is_shown};
 
 use std::io;
 use std::io::Write;
@@ -37,7 +37,7 @@ fn write_byte<E: Write>(byte: u8, errors: &mut E) -> io::Result<()>
 
 /// Writes bytes, one by one.
 fn write_bytes<E: Write>(bytes: &[u8], errors: &mut E) -> io::Result<()>
-    ensures { OnOk result (Appends (E.contents errors.old) (E.contents errors.new) (escaped bytes.now)) }
+    ensures { OnOk result (Appends (E.contents errors.old) (E.contents errors.new) (escaped_text bytes.now)) }
 {
     for byte in bytes {
         write_byte(*byte, errors)?;
@@ -47,7 +47,7 @@ fn write_bytes<E: Write>(bytes: &[u8], errors: &mut E) -> io::Result<()>
 
 /// Writes a text.
 pub(crate) fn write_escaped<E: Write>(text: &str, errors: &mut E) -> io::Result<()>
-    ensures { OnOk result (Appends (E.contents errors.old) (E.contents errors.new) (escaped text.now)) }
+    ensures { OnOk result (Appends (E.contents errors.old) (E.contents errors.new) (escaped_text text.now)) }
 {
     write_bytes(text.as_bytes(), errors)
 }

@@ -2,11 +2,11 @@
 ghost use Rattle.std.specs.Prelude.{◌≡◌, ◌⊎◌, OnOk, IfErr, IfOk, codes, true, ℕ};
 ghost use Rattle.std.specs.Io.KnownBytes.{Appends};
 ghost use Rattle.as2_exchange.specs.State.{State};
-ghost use Rattle.as2_host.specs.Migrating.{moved};
+ghost use Rattle.as2_host.specs.Migrating.{migrated_if_first};
 ghost use Rattle.as2_desk.specs.Endings.{EndsRefused};
-ghost use Rattle.as2_desk.specs.Migrating.{Migrates, counts_hint, entries_hint};
+ghost use Rattle.as2_desk.specs.Migrating.{DoesMigration, counts_hint, entries_hint};
 ghost use Rattle.as2_desk.specs.Observed.{stored_of};
-ghost use Rattle.as2_desk.specs.Statuses.{done, failed, refused};
+ghost use Rattle.as2_desk.specs.Statuses.{status_done, status_failed, status_refused};
 ghost use Rattle.as2_desk.specs.Stores.{IsStayAt};
 ghost use Rattle.as2_desk.specs.Written.{written_of};
 ghost use Rattle.as2_desk.specs.declared.refusal.CommandFault.TheVariants.{Store as Failing};
@@ -47,7 +47,7 @@ fn write_counts<H: Write>(migration: Migration, hints: &mut H) -> io::Result<()>
 /// Migrates the store of that path. One in memory is none, since it ends with the program.
 fn migrated<O: OpenStores>(path: &str, stores: &mut O) -> Result<Migration, OpenFault>
     ensures moved { IfOk result (λ _. O.is_clean stores.new → (s : State) → O.keeps_earlier stores.old path.now s
-        → (number : ℕ) → O.keeps stores.new path.now number (moved s)) }
+        → (number : ℕ) → O.keeps stores.new path.now number (migrated_if_first s)) }
     ensures fault { IfErr result (IsStayAt path.now (O.stays stores.old path.now)) }
     ensures same { IfErr result (λ fault. (number : ℕ) (s : State) → O.keeps stores.old path.now number s
         → O.keeps stores.new path.now number s) }
@@ -68,14 +68,14 @@ pub(crate) fn migrate<F, O: OpenStores, N, R, W: Sink, H: Write, E: Sink>(
     host: &mut Host<F, O, N>,
     console: &mut Console<R, W, H, E>,
 ) -> Ran
-    ensures status { (result.status ≡ done) ⊎ ((result.status ≡ refused) ⊎ (result.status ≡ failed)) }
+    ensures status { (result.status ≡ status_done) ⊎ ((result.status ≡ status_refused) ⊎ (result.status ≡ status_failed)) }
     ensures unread { console.new.input ≡ console.old.input }
     ensures unasked { host.new.outside ≡ host.old.outside }
-    ensures migrates { Migrates (stored_of O.OpenStores host.old.stores host.new.stores path.now)
+    ensures migrates { DoesMigration (stored_of O.OpenStores host.old.stores host.new.stores path.now)
         (written_of W.Sink console.old.output console.new.output)
         (written_of E.Sink console.old.errors console.new.errors) result }
     ensures memory { path.now ≡ codes ":memory:" → host.new.stores ≡ host.old.stores }
-    ensures store { result.status ≡ failed → (console.new.output ≡ console.old.output)
+    ensures store { result.status ≡ status_failed → (console.new.output ≡ console.old.output)
         × ((fault : TheFault)
         × EndsRefused (Failing fault) (written_of E.Sink console.old.errors console.new.errors) result) }
 {

@@ -2,12 +2,12 @@
 ghost use Rattle.std.specs.Prelude.{◌≡◌, ◌⊎◌, ℕ, List, Option, Some, IfSome, false};
 ghost use Rattle.as2_exchange.specs.State.{State};
 ghost use Rattle.as2_desk.specs.Endings.{Ends};
-ghost use Rattle.as2_http.specs.Notes.{spoken};
+ghost use Rattle.as2_http.specs.Notes.{sink_and_journal};
 ghost use Rattle.as2_http.specs.StreamReads.{RunsPosts, Serves};
-ghost use Rattle.as2_desk.specs.Observed.{input_of, outcome_of, output_of};
+ghost use Rattle.as2_desk.specs.Observed.{input_of, console_outcome, output_of};
 ghost use Rattle.as2_desk.specs.Posting.{HasCause, Posts, if_noted};
 ghost use Rattle.as2_desk.specs.Refusals.{end_line};
-ghost use Rattle.as2_desk.specs.Statuses.{done, exit_status, refused};
+ghost use Rattle.as2_desk.specs.Statuses.{status_done, exit_status, status_refused};
 ghost use Rattle.as2_desk.specs.Written.{written_of};
 
 use crate::console::Console;
@@ -33,8 +33,8 @@ fn serve_input<K: Records, R: Source, W: Sink, H: Journal + CountsBusy, E>(
     ensures serves { (K.shows station.new).IsClean → (s : State) → (K.shows station.old).Rests s
         → (text : List ℕ) → R.left console.old.input ≡ Some text → (t : State) × (K.shows station.new).Rests t
         × Serves terms.now.agreements.now terms.now.moment s t text (R.left console.new.input)
-        (spoken (W.written console.old.output) (if_noted logs (H.noted console.old.hints)))
-        (spoken (W.written console.new.output) (if_noted logs (H.noted console.new.hints)))
+        (sink_and_journal (W.written console.old.output) (if_noted logs (H.noted console.old.hints)))
+        (sink_and_journal (W.written console.new.output) (if_noted logs (H.noted console.new.hints)))
         (R.calls console.old.input) (R.calls console.new.input) result.0 }
     ensures posts { (K.shows station.new).IsClean → (s : State) → (K.shows station.old).Rests s
         → (t : State) × (K.shows station.new).Rests t × RunsPosts terms.now.agreements.now terms.now.moment s t }
@@ -75,12 +75,12 @@ pub(crate) fn post<K: Records, R: Source, W: Sink, H: Write + Journal + CountsBu
     logs: bool,
     console: &mut Console<R, W, H, E>,
 ) -> Ran
-    ensures status { (result.status ≡ done) ⊎ (result.status ≡ refused) }
+    ensures status { (result.status ≡ status_done) ⊎ (result.status ≡ status_refused) }
     ensures clean { (K.shows station.new).IsClean → (K.shows station.old).IsClean }
     ensures posts { (known : Option State)
         → IfSome known (λ s. (K.shows station.new).IsClean × (K.shows station.old).Rests s)
         → (it : Posts terms.now.agreements.now terms.now.moment known (input_of R.Source console.old console.new)
-        (outcome_of W.Sink E.Sink console.old console.new (λ t. (K.shows station.new).Rests t)) result)
+        (console_outcome W.Sink E.Sink console.old console.new (λ t. (K.shows station.new).Rests t)) result)
         × (it.noted ≡ if_noted logs (H.noted console.old.hints))
         × ((told : H) × (busy : ℕ) × (it.new ≡ if_noted logs (H.noted told)) × (logs ≡ false → told ≡ console.old.hints)
         × (busy ≡ 0 → console.new.hints ≡ told)) }

@@ -1,9 +1,9 @@
 //! The command `evidence`: the files that show how a document stands.
 ghost use Rattle.std.specs.Prelude.{◌≡◌, ◌⊎◌, ◌++◌, Option, IfOk, IfSome, OnOk};
 ghost use Rattle.as2_desk.specs.Endings.{EndsRefused};
-ghost use Rattle.as2_desk.specs.Observed.{errors_of, filing_of, outcome_of, output_of};
+ghost use Rattle.as2_desk.specs.Observed.{errors_of, filing_of, console_outcome, output_of};
 ghost use Rattle.as2_desk.specs.Proving.{MakesFiles, MakesWhatCame, PrintsNames, Proves, came_of, making_refusal, name_line, name_lines};
-ghost use Rattle.as2_desk.specs.Statuses.{done, failed, refused};
+ghost use Rattle.as2_desk.specs.Statuses.{status_done, status_failed, status_refused};
 ghost use Rattle.as2_desk.specs.Written.{written_of};
 ghost use Rattle.as2_desk.specs.declared.refusal.CommandFault.TheVariants.{Store as Failing};
 ghost use Rattle.as2_evidence.specs.Files.{file_of, files_of};
@@ -56,7 +56,7 @@ fn name_lines(alloc: Global, files: &[NewFile]) -> Result<Vec<u8>, Memory>
 
 /// Prints the names of the files that were made.
 fn print_names<W: Sink, E: Sink>(names: &[u8], output: &mut W, errors: &mut E) -> Ran
-    ensures status { (result.status ≡ done) ⊎ (result.status ≡ refused) }
+    ensures status { (result.status ≡ status_done) ⊎ (result.status ≡ status_refused) }
     ensures prints { PrintsNames names.now (written_of W.Sink output.old output.new)
         (written_of E.Sink errors.old errors.new) result }
 {
@@ -77,7 +77,7 @@ fn make<F: MakeFiles, R, W: Sink, H, E: Sink>(
     maker: &mut F,
     console: &mut Console<R, W, H, E>,
 ) -> Ran
-    ensures status { (result.status ≡ done) ⊎ (result.status ≡ refused) }
+    ensures status { (result.status ≡ status_done) ⊎ (result.status ≡ status_refused) }
     ensures unread { console.new.input ≡ console.old.input }
     ensures makes { MakesFiles folder.now (files_of files.now) (filing_of F.MakeFiles maker.old maker.new)
         (output_of W.Sink console.old console.new) (errors_of E.Sink console.old console.new) result }
@@ -99,12 +99,12 @@ fn make_what_came<F: MakeFiles, R, W: Sink, H, E: Sink>(
     maker: &mut F,
     console: &mut Console<R, W, H, E>,
 ) -> Ran
-    ensures status { (result.status ≡ done) ⊎ ((result.status ≡ refused) ⊎ (result.status ≡ failed)) }
+    ensures status { (result.status ≡ status_done) ⊎ ((result.status ≡ status_refused) ⊎ (result.status ≡ status_failed)) }
     ensures unread { console.new.input ≡ console.old.input }
     ensures makes { MakesWhatCame folder.now (came_of (λ v. files_of v.items) came)
         (filing_of F.MakeFiles maker.old maker.new)
         (output_of W.Sink console.old console.new) (errors_of E.Sink console.old console.new) result }
-    ensures store { result.status ≡ failed → (console.new.output ≡ console.old.output)
+    ensures store { result.status ≡ status_failed → (console.new.output ≡ console.old.output)
         × ((fault : TheFault) × EndsRefused (Failing fault) (errors_of E.Sink console.old console.new) result) }
 {
     match came {
@@ -128,14 +128,14 @@ pub(crate) fn prove<K: Records, F: MakeFiles, R, W: Sink, H, E: Sink>(
     maker: &mut F,
     console: &mut Console<R, W, H, E>,
 ) -> Ran
-    ensures status { (result.status ≡ done) ⊎ ((result.status ≡ refused) ⊎ (result.status ≡ failed)) }
+    ensures status { (result.status ≡ status_done) ⊎ ((result.status ≡ status_refused) ⊎ (result.status ≡ status_failed)) }
     ensures unread { console.new.input ≡ console.old.input }
     ensures clean { (K.shows records.new).IsClean → (K.shows records.old).IsClean }
     ensures proves { (known : Option State)
         → IfSome known (λ s. (K.shows records.new).IsClean × (K.shows records.old).Rests s)
         → Proves terms.now.agreements.now wanted.entry known (filing_of F.MakeFiles maker.old maker.new)
-        (outcome_of W.Sink E.Sink console.old console.new (λ t. (K.shows records.new).Rests t)) result }
-    ensures store { result.status ≡ failed → (console.new.output ≡ console.old.output)
+        (console_outcome W.Sink E.Sink console.old console.new (λ t. (K.shows records.new).Rests t)) result }
+    ensures store { result.status ≡ status_failed → (console.new.output ≡ console.old.output)
         × ((fault : TheFault) × EndsRefused (Failing fault) (errors_of E.Sink console.old console.new) result) }
 {
     let Wanted {

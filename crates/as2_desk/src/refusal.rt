@@ -2,7 +2,7 @@
 ghost use Rattle.std.specs.Prelude.{◌≡◌, ◌⊎◌, ◌≤◌, length, false, true};
 ghost use Rattle.as2_desk.specs.Refusals.{agreements_line, error_line, refusal_name, refusal_status, refused_line, store_fault_name, store_lines};
 ghost use Rattle.as2_desk.specs.Endings.{EndsRefused};
-ghost use Rattle.as2_desk.specs.Statuses.{failed, refused};
+ghost use Rattle.as2_desk.specs.Statuses.{status_failed, status_refused};
 ghost use Rattle.as2_desk.specs.Written.{WritesIf, written_of};
 ghost use Rattle.as2_desk.specs.declared.refusal.CommandFault.TheVariants.{Store as Failing};
 ghost use Rattle.as2_host.specs.declared.stores.OpenFault.{OpenFault as TheFault};
@@ -156,8 +156,8 @@ pub(crate) fn is_said<E: Sink>(text: &str, errors: &mut E) -> bool
 /// Says that something was refused.
 pub(crate) fn refuse<E: Sink>(refusal: CommandFault, errors: &mut E) -> Ran
     ensures told { EndsRefused refusal (written_of E.Sink errors.old errors.new) result }
-    ensures status { (result.status ≡ refused) ⊎ (result.status ≡ failed) }
-    ensures store { result.status ≡ failed → (fault : TheFault) × (refusal ≡ Failing fault) }
+    ensures status { (result.status ≡ status_refused) ⊎ (result.status ≡ status_failed) }
+    ensures store { result.status ≡ status_failed → (fault : TheFault) × (refusal ≡ Failing fault) }
 {
     Ran {
         status: refusal_status(refusal),

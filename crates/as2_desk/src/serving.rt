@@ -4,11 +4,11 @@ ghost use Rattle.as2_exchange.specs.Run.{Trace};
 ghost use Rattle.as2_exchange.specs.State.{State};
 ghost use Rattle.as2_host.specs.Networks.{EndsEach, ServesEach, listening_of};
 ghost use Rattle.as2_host.specs.Serving.{ServesOne};
-ghost use Rattle.as2_desk.specs.Observed.{errors_of, outcome_of, output_of};
+ghost use Rattle.as2_desk.specs.Observed.{errors_of, console_outcome, output_of};
 ghost use Rattle.as2_desk.specs.Connections.{ServesConnections, ServesCount, ServesNext, TellsNext, WritesLines, connection_line, listening_line, stop_fault};
 ghost use Rattle.as2_desk.specs.Stops.{FailsBehind};
 ghost use Rattle.as2_desk.specs.Written.{WritesBy};
-ghost use Rattle.as2_desk.specs.Statuses.{done, failed, refused};
+ghost use Rattle.as2_desk.specs.Statuses.{status_done, status_failed, status_refused};
 
 use crate::console::Console;
 use crate::hints::is_busy_told;
@@ -148,14 +148,14 @@ pub(crate) fn serve<K: Records, N: Network, R, W: Sink, H: Write + Journal + Cou
     network: &mut N,
     console: &mut Console<R, W, H, E>,
 ) -> Ran
-    ensures status { (result.status ≡ done) ⊎ ((result.status ≡ refused) ⊎ (result.status ≡ failed)) }
+    ensures status { (result.status ≡ status_done) ⊎ ((result.status ≡ status_refused) ⊎ (result.status ≡ status_failed)) }
     ensures unread { console.new.input ≡ console.old.input }
-    ensures store { result.status ≡ failed → FailsBehind (errors_of E.Sink console.old console.new) result }
+    ensures store { result.status ≡ status_failed → FailsBehind (errors_of E.Sink console.old console.new) result }
     ensures clean { (K.shows station.new).IsClean → (K.shows station.old).IsClean }
     ensures serves { (known : Option State)
         → IfSome known (λ s. (K.shows station.new).IsClean × (K.shows station.old).Rests s)
         → ServesCount serving.entry.count known
-        (outcome_of W.Sink E.Sink console.old console.new (λ t. (K.shows station.new).Rests t))
+        (console_outcome W.Sink E.Sink console.old console.new (λ t. (K.shows station.new).Rests t))
         (listening_of N.Network N.Listener.Listens network.old network.new terms.now.agreements.now serving.entry)
         result }
 {

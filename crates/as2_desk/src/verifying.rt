@@ -6,8 +6,8 @@ ghost use Rattle.as2_records.specs.Calls.{Reads};
 ghost use Rattle.as2_records.specs.Standing.{may_come};
 ghost use Rattle.as2_desk.specs.Endings.{EndsRefused};
 ghost use Rattle.as2_desk.specs.Formats.{verification_in};
-ghost use Rattle.as2_desk.specs.Observed.{errors_of, outcome_of};
-ghost use Rattle.as2_desk.specs.Statuses.{done, failed, refused};
+ghost use Rattle.as2_desk.specs.Observed.{errors_of, console_outcome};
+ghost use Rattle.as2_desk.specs.Statuses.{status_done, status_failed, status_refused};
 ghost use Rattle.as2_desk.specs.Verifying.{PrintsAudit, Verifies, audit_status};
 ghost use Rattle.as2_desk.specs.Written.{written_of};
 ghost use Rattle.as2_desk.specs.declared.refusal.CommandFault.TheVariants.{Store as Failing};
@@ -59,10 +59,10 @@ fn print_audit<W: Sink, E: Sink>(
     output: &mut W,
     errors: &mut E,
 ) -> Ran
-    ensures status { (result.status ≡ done) ⊎ ((result.status ≡ refused) ⊎ (result.status ≡ failed)) }
+    ensures status { (result.status ≡ status_done) ⊎ ((result.status ≡ status_refused) ⊎ (result.status ≡ status_failed)) }
     ensures prints { PrintsAudit came (written_of W.Sink output.old output.new)
         (written_of E.Sink errors.old errors.new) result }
-    ensures store { result.status ≡ failed → (output.new ≡ output.old)
+    ensures store { result.status ≡ status_failed → (output.new ≡ output.old)
         × ((fault : TheFault) × EndsRefused (Failing fault) (written_of E.Sink errors.old errors.new) result) }
 {
     let audit = match came {
@@ -85,14 +85,14 @@ pub(crate) fn look_through<K: Records, R, W: Sink, H: Watch, E: Sink>(
     records: &mut K,
     console: &mut Console<R, W, H, E>,
 ) -> Ran
-    ensures status { (result.status ≡ done) ⊎ ((result.status ≡ refused) ⊎ (result.status ≡ failed)) }
+    ensures status { (result.status ≡ status_done) ⊎ ((result.status ≡ status_refused) ⊎ (result.status ≡ status_failed)) }
     ensures unread { console.new.input ≡ console.old.input }
     ensures clean { (K.shows records.new).IsClean → (K.shows records.old).IsClean }
     ensures verifies { (known : Option State)
         → IfSome known (λ s. (K.shows records.new).IsClean × (K.shows records.old).Rests s)
-        → Verifies format known (outcome_of W.Sink E.Sink console.old console.new (λ t. (K.shows records.new).Rests t))
+        → Verifies format known (console_outcome W.Sink E.Sink console.old console.new (λ t. (K.shows records.new).Rests t))
         result }
-    ensures store { result.status ≡ failed → (console.new.output ≡ console.old.output)
+    ensures store { result.status ≡ status_failed → (console.new.output ≡ console.old.output)
         × ((fault : TheFault) × EndsRefused (Failing fault) (errors_of E.Sink console.old console.new) result) }
 {
     let came = audited(terms.alloc, format, records, &mut console.hints);

@@ -5,14 +5,14 @@ ghost use Rattle.as2_host.specs.Networks.{ExchangedOver, listening_of};
 ghost use Rattle.as2_host.specs.Stores.{Finds, opens_of};
 ghost use Rattle.as2_bounded.specs.Rooms.{room_of};
 ghost use Rattle.as2_desk.specs.Endings.{EndsRefused};
-ghost use Rattle.as2_desk.specs.Observed.{errors_of, filing_of, input_of, outcome_of, output_of, stored_of};
+ghost use Rattle.as2_desk.specs.Observed.{errors_of, filing_of, input_of, console_outcome, output_of, stored_of};
 ghost use Rattle.as2_desk.specs.Runs.{Goes};
-ghost use Rattle.as2_desk.specs.Statuses.{done, failed, refused};
-ghost use Rattle.as2_desk.specs.Stops.{Stopped};
+ghost use Rattle.as2_desk.specs.Statuses.{status_done, status_failed, status_refused};
+ghost use Rattle.as2_desk.specs.Stops.{StopsAtFault};
 ghost use Rattle.as2_desk.specs.Stores.{Leaves};
 ghost use Rattle.as2_host.specs.FileContents.{front};
 ghost use Rattle.as2_desk.specs.FileDocuments.{Document, HasDocument};
-ghost use Rattle.as2_desk.specs.Works.{CarriesOut, Does, IsAsked, IsWork, Sends, SendsWork, ServesIt, ServesWork, asked_of, handing};
+ghost use Rattle.as2_desk.specs.Works.{CarriesOut, DoesWork, IsAsked, IsWork, IsSendCommand, SendsWork, ServesIt, ServesWork, asked_of, hand_in};
 ghost use Rattle.as2_desk.specs.declared.refusal.CommandFault.TheVariants.{Store as Failing};
 
 use crate::asking::ask;
@@ -56,7 +56,7 @@ fn handed<F: ReadFiles>(
 ) -> Result<NewDocument, CommandFault>
     ensures { (document : Document)
         × HasDocument (front (content_limit + 1) (F.content files.now submission.entry.path)) document
-        × (asked_of result ≡ handing submission.entry document) }
+        × (asked_of result ≡ hand_in submission.entry document) }
 {
     let content = document_in(alloc, files, submission.path)?;
     Ok(NewDocument {
@@ -120,21 +120,21 @@ fn do_at<
     outside: &mut Outside<F, N>,
     console: &mut Console<R, W, H, E>,
 ) -> Ran
-    ensures status { (result.status ≡ done) ⊎ ((result.status ≡ refused) ⊎ (result.status ≡ failed)) }
+    ensures status { (result.status ≡ status_done) ⊎ ((result.status ≡ status_refused) ⊎ (result.status ≡ status_failed)) }
     ensures unmade { outside.new.files ≡ outside.old.files }
     ensures clean { (K.shows station.new).IsClean → (K.shows station.old).IsClean }
     ensures does { (known : Option State)
         → IfSome known (λ s. (K.shows station.new).IsClean × (K.shows station.old).Rests s)
         → CarriesOut terms.now.agreements.now terms.now.moment command.entry known (record {
           input = input_of R.Source console.old console.new;
-          outcome = outcome_of W.Sink E.Sink console.old console.new (λ t. (K.shows station.new).Rests t);
+          outcome = console_outcome W.Sink E.Sink console.old console.new (λ t. (K.shows station.new).Rests t);
           filing = filing_of F.MakeFiles outside.old.files outside.new.files;
           Unasked = outside.new.network ≡ outside.old.network;
           Exchanged = ExchangedOver N.Network N.Links.Links outside.old.network outside.new.network;
           listening = listening_of N.Network N.Listener.Listens outside.old.network outside.new.network;
         }) result }
-    ensures store { result.status ≡ failed
-        → Stopped (Sends command.entry) (ServesIt command.entry) (input_of R.Source console.old console.new)
+    ensures store { result.status ≡ status_failed
+        → StopsAtFault (IsSendCommand command.entry) (ServesIt command.entry) (input_of R.Source console.old console.new)
         (output_of W.Sink console.old console.new) (errors_of E.Sink console.old console.new) result }
 {
     match command {
@@ -166,7 +166,7 @@ fn do_over<
     outside: &mut Outside<F, N>,
     console: &mut Console<R, W, H, E>,
 ) -> (Ran, Option<K>)
-    ensures status { (result.0.status ≡ done) ⊎ ((result.0.status ≡ refused) ⊎ (result.0.status ≡ failed)) }
+    ensures status { (result.0.status ≡ status_done) ⊎ ((result.0.status ≡ status_refused) ⊎ (result.0.status ≡ status_failed)) }
     ensures fails { IfErr records (λ fault. (result.1 ≡ None) × (outside.new.files ≡ outside.old.files)
         × (outside.new.network ≡ outside.old.network) × (console.new.input ≡ console.old.input)
         × (console.new.output ≡ console.old.output)
@@ -174,16 +174,16 @@ fn do_over<
     ensures does { IfOk records (λ opened. IsSomeAnd result.1 (λ last. ((K.shows last).IsClean
         → (K.shows opened).IsClean)
         × ((known : Option State) → IfSome known (λ s. (K.shows last).IsClean × (K.shows opened).Rests s)
-        → Does terms.now.agreements.now terms.now.moment work.entry known (record {
+        → DoesWork terms.now.agreements.now terms.now.moment work.entry known (record {
           input = input_of R.Source console.old console.new;
-          outcome = outcome_of W.Sink E.Sink console.old console.new (λ t. (K.shows last).Rests t);
+          outcome = console_outcome W.Sink E.Sink console.old console.new (λ t. (K.shows last).Rests t);
           filing = filing_of F.MakeFiles outside.old.files outside.new.files;
           Unasked = outside.new.network ≡ outside.old.network;
           Exchanged = ExchangedOver N.Network N.Links.Links outside.old.network outside.new.network;
           listening = listening_of N.Network N.Listener.Listens outside.old.network outside.new.network;
         }) result.0))) }
-    ensures store { result.0.status ≡ failed
-        → Stopped (SendsWork work.entry) (ServesWork work.entry) (input_of R.Source console.old console.new)
+    ensures store { result.0.status ≡ status_failed
+        → StopsAtFault (SendsWork work.entry) (ServesWork work.entry) (input_of R.Source console.old console.new)
         (output_of W.Sink console.old console.new) (errors_of E.Sink console.old console.new) result.0 }
 {
     let records = match records {
@@ -269,14 +269,14 @@ pub(crate) fn work_over<
     host: &mut Host<F, O, N>,
     console: &mut Console<R, W, H, E>,
 ) -> Ran
-    ensures status { (result.status ≡ done) ⊎ ((result.status ≡ refused) ⊎ (result.status ≡ failed)) }
+    ensures status { (result.status ≡ status_done) ⊎ ((result.status ≡ status_refused) ⊎ (result.status ≡ status_failed)) }
     ensures goes { Goes terms.now.agreements.now (record {
       first = store.entry.first;
       moment = terms.now.moment;
       limit = store.entry.limit;
     }) (Ok work.entry) (record {
       input = input_of R.Source console.old console.new;
-      outcome = outcome_of W.Sink E.Sink console.old console.new
+      outcome = console_outcome W.Sink E.Sink console.old console.new
           (Leaves store.entry.path.now (O.keeps host.new.stores store.entry.path.now));
       filing = filing_of F.MakeFiles host.old.outside.files host.new.outside.files;
       Unasked = host.new.outside.network ≡ host.old.outside.network;
@@ -284,8 +284,8 @@ pub(crate) fn work_over<
       listening = listening_of N.Network N.Listener.Listens host.old.outside.network host.new.outside.network;
     }) (stored_of O.OpenStores host.old.stores host.new.stores store.entry.path.now) result }
     ensures memory { store.entry.path.now ≡ codes ":memory:" → host.new.stores ≡ host.old.stores }
-    ensures store { result.status ≡ failed
-        → Stopped (SendsWork work.entry) (ServesWork work.entry) (input_of R.Source console.old console.new)
+    ensures store { result.status ≡ status_failed
+        → StopsAtFault (SendsWork work.entry) (ServesWork work.entry) (input_of R.Source console.old console.new)
         (output_of W.Sink console.old console.new) (errors_of E.Sink console.old console.new) result }
 {
     let NamedStore { path, first, limit } = store;

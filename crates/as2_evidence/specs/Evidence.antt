@@ -5,9 +5,9 @@ use Rattle.as2_audit.specs.Audits.{is_migrated}
 use Rattle.as2_audit.specs.declared.findings.Mailbox.{Mailbox}
 use Rattle.as2_audit.specs.declared.findings.Mailbox.TheVariants.{Inbox, Outbox}
 use Rattle.as2_exchange.specs.Agreement.{Text}
-use Rattle.as2_exchange.specs.Readings.{report_text}
+use Rattle.as2_exchange.specs.Readings.{receipt_bytes}
 use Rattle.as2_exchange.specs.Recording.{report}
-use Rattle.as2_exchange.specs.State.{State, document, received}
+use Rattle.as2_exchange.specs.State.{State, document, received_entry}
 use Rattle.as2_exchange.specs.declared.inbox.InEntry.{InEntry}
 use Rattle.as2_exchange.specs.declared.inbox.MdnState.{MdnState}
 use Rattle.as2_exchange.specs.declared.inbox.MdnState.TheVariants.{Sent}
@@ -18,18 +18,18 @@ use Rattle.as2_evidence.specs.Files.{File}
 use Rattle.as2_evidence.specs.Pages.{received_page, sent_page, stem}
 
 -- the file of that name
-abbrev pub named : Text → Text → Text → File
-named stem end bytes = record { name = stem ++ end; bytes = bytes }
+abbrev pub file_named : Text → Text → Text → File
+file_named stem end bytes = record { name = stem ++ end; bytes = bytes }
 
 -- a receipt, where there is one
 abbrev pub receipt_files : Text → Option Text → List File
 receipt_files stem None = []
-receipt_files stem (Some receipt) = named stem (codes ".receipt") receipt ∷ []
+receipt_files stem (Some receipt) = file_named stem (codes ".receipt") receipt ∷ []
 
 -- a content, a receipt and a page
 abbrev pub files_named : Text → Text → Option Text → Text → List File
 files_named stem content receipt page =
-    named stem (codes ".content") content ∷ (receipt_files stem receipt ++ named stem (codes ".txt") page ∷ [])
+    file_named stem (codes ".content") content ∷ (receipt_files stem receipt ++ file_named stem (codes ".txt") page ∷ [])
 
 -- ---- a document that is sent
 
@@ -55,7 +55,7 @@ pub record AreSentFiles (migrated : Bool) (d : OutEntry) (files : List File) : T
 
 -- the receipt that was given, as these agreements have it
 abbrev pub given_receipt : AgreedValues → InEntry → MdnState → Option Text
-given_receipt agreements e Sent = Some (report_text (report agreements e.number e.posted))
+given_receipt agreements e Sent = Some (receipt_bytes (report agreements e.number e.posted))
 given_receipt agreements e other = None
 
 -- its content, the receipt that was given and the page
@@ -78,5 +78,5 @@ AreOf Are (Some a) files = IsSomeAnd files (Are a)
 
 -- the files of the document of that number, where there is one
 abbrev pub IsEvidence : AgreedValues → State → Mailbox → ℕ → Option (List File) → Type 0
-IsEvidence agreements s Inbox number files = AreOf (AreReceivedFiles agreements) (received s number) files
+IsEvidence agreements s Inbox number files = AreOf (AreReceivedFiles agreements) (received_entry s number) files
 IsEvidence agreements s Outbox number files = AreOf (AreSentFiles (is_migrated s)) (document s number) files

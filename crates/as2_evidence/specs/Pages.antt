@@ -15,7 +15,7 @@ use Rattle.as2_mic.specs.Algs.{alg_name}
 use Rattle.as2_mic.specs.Mic.{mic}
 use Rattle.as2_mic.specs.declared.alg.Alg.{Alg}
 use Rattle.as2_mic.specs.declared.alg.Alg.TheVariants.{Md5, Sha1, Sha256}
-use Rattle.as2_names.specs.Names.{spelling}
+use Rattle.as2_names.specs.Names.{name_spelling}
 use Rattle.as2_views.specs.Layout.{named_line}
 use Rattle.as2_views.specs.Pieces.{size_text}
 use Rattle.as2_views.specs.Texts.{shown_words}
@@ -103,8 +103,8 @@ sent_page migrated d submitted came =
 unfoldable pub received_names : InEntry → Text
 received_names e =
     named_line (codes "number") (decimal e.number)
-    ++ named_line (codes "from") (spelling e.posted.sender)
-    ++ named_line (codes "to") (spelling e.posted.receiver)
+    ++ named_line (codes "from") (name_spelling e.posted.sender)
+    ++ named_line (codes "to") (name_spelling e.posted.receiver)
     ++ named_line (codes "identifier") e.posted.id
 
 -- .. what it is and how long, and the integrity checks of its content

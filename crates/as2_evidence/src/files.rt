@@ -1,6 +1,6 @@
 //! Files that are to be made.
 ghost use Rattle.std.specs.Prelude.{◌≡◌, ◌++◌, [], ◌∷◌, IfOk, OnOk};
-ghost use Rattle.as2_evidence.specs.Evidence.{files_named, named, receipt_files};
+ghost use Rattle.as2_evidence.specs.Evidence.{files_named, file_named, receipt_files};
 ghost use Rattle.as2_evidence.specs.Files.{files_of};
 
 use as2_mic::Pieces;
@@ -24,7 +24,7 @@ fn add_file(
     end: &str,
     bytes: Pieces,
 ) -> Result<(), Memory>
-    ensures { OnOk result (files_of files.new.items ≡ files_of files.old.items ++ named stem.now end.now bytes ∷ []) }
+    ensures { OnOk result (files_of files.new.items ≡ files_of files.old.items ++ file_named stem.now end.now bytes ∷ []) }
 {
     let name = format!(in alloc; "{stem}{end}")?;
     files.push(NewFile { name, bytes })?;

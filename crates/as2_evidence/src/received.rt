@@ -3,7 +3,7 @@ ghost use Rattle.std.specs.Prelude.{◌≡◌, ◌++◌, IfOk, OnOk};
 ghost use Rattle.as2_evidence.specs.Evidence.{AreReceivedFiles, given_receipt};
 ghost use Rattle.as2_evidence.specs.Files.{files_of};
 ghost use Rattle.as2_evidence.specs.Pages.{outcome_lines, received_content, received_names, received_page, received_title};
-ghost use Rattle.as2_exchange.specs.Readings.{report_text};
+ghost use Rattle.as2_exchange.specs.Readings.{receipt_bytes};
 ghost use Rattle.as2_exchange.specs.Recording.{report};
 
 use crate::files::{NewFile, files_in, in_pieces};
@@ -85,9 +85,9 @@ fn received_page(alloc: Global, entry: &InEntry, came: &[u8]) -> Result<Vec<u8>,
 }
 
 /// The body of the receipt that the station gives for a document.
-#[tactic(auto, unfolding(as2_exchange::specs::Readings::report_text))]
+#[tactic(auto, unfolding(as2_exchange::specs::Readings::receipt_bytes))]
 fn receipt_of(alloc: Global, agreements: &Agreements, entry: &InEntry) -> Result<Pieces, Memory>
-    ensures { IfOk result (λ bytes. bytes ≡ report_text (report agreements.now entry.now.number entry.now.posted)) }
+    ensures { IfOk result (λ bytes. bytes ≡ receipt_bytes (report agreements.now entry.now.number entry.now.posted)) }
 {
     let out = report(agreements, entry.number, &entry.posted)?;
     let text = write_report(alloc, &out)?;

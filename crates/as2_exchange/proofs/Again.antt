@@ -8,14 +8,14 @@ use Rattle.std.proofs.lemmas.List.Folds.{find-append}
 use Rattle.std.proofs.lemmas.Option.{same_Some}
 use Rattle.as2_exchange.specs.Agreement.{Text, Agreements, is_organization, partner_of}
 use Rattle.as2_exchange.specs.Readings.{Head, MediaType, names_of, version_fits, type_of, is_report, report_in, id_of, ask_of}
-use Rattle.as2_exchange.specs.State.{Posted, InEntry, State, Digests, Version, LaterVersion, known_digests, origin_of, lasting, same_key, received_as, change_received}
+use Rattle.as2_exchange.specs.State.{Posted, InEntry, State, Digests, Version, LaterVersion, known_digests, origin_of, lasting_part, same_key, received_as, change_received}
 use Rattle.as2_exchange.specs.Events.{Post, Answer, Words, IdUsedBefore, Line, BadNames, BadVersion, UnknownNames, BadType, BadId, BadAsk, UnreadableReceipt}
-use Rattle.as2_exchange.specs.Posts.{Reading, Refuses, IsReceipt, IsDocument, needs, report_posted, document_posted, reading, same_post, repeats}
+use Rattle.as2_exchange.specs.Posts.{Reading, Refuses, IsReceipt, IsDocument, needs, report_posted, document_posted, post_reading, same_post, repeats}
 use Rattle.as2_exchange.specs.Documents.{settle}
 use Rattle.as2_exchange.specs.Lines.{http}
-use Rattle.as2_exchange.specs.Recording.{recorded, record_post, answer_to, requeued_by_repeat, first_entry}
+use Rattle.as2_exchange.specs.Recording.{record_given, record_post, answer_to, requeued_by_repeat, first_entry}
 use Rattle.as2_exchange.specs.Step.{post, step}
-use Rattle.as2_exchange.specs.Run.{Trace, Run, AnEvent, AMigration, Answered, Failed, migrated}
+use Rattle.as2_exchange.specs.Run.{Trace, Run, AnEvent, AMigration, Answered, Failed, migrated_state}
 use Rattle.as2_exchange.proofs.Repeats.{RecordedOrSame, fresh, repeated, clash, left_is, recorded_posts, Grows, run_grows, find-lasting, key_same, post_itself, repeats_itself, settle_inbox, queued_lasting, map_append, changed_entries}
 use Rattle.as2_exchange.proofs.Equal.{post_key, received_one}
 use Rattle.as2_exchange.proofs.Steady.{step_steady}
@@ -54,8 +54,8 @@ document_alike k l names type head body =
     made : (p q : Posted) → q ≡ p → same_post p q ≡ true
     made p q is = subst (λ (x : Posted). same_post p x ≡ true) (sym is) (post_itself p)
 
-reading_alike : (A : Agreements) (k l : Digests) (head : Head) (body : Text) → Alike (reading A k head body) (reading A l head body)
-unfolding reading
+reading_alike : (A : Agreements) (k l : Digests) (head : Head) (body : Text) → Alike (post_reading A k head body) (post_reading A l head body)
+unfolding post_reading
 reading_alike A k l head body =
     needs_alike (names_of head) BadNames _ _ (λ names.
     if_alike (not (version_fits head)) _ _ _ _ (refused_alike BadVersion)
@@ -79,7 +79,7 @@ run_origin A old (AnEvent e (Answered a) ∷ rest) new run =
     on mid same more (inl is) = inl (is ∙ same)
     on mid same more (inr is) = inr (omega (arith, more, is))
 run_origin A old (AnEvent e (Failed fault) ∷ rest) new run = run_origin A old rest new run.1
-run_origin A old (AMigration n ∷ rest) new run = on (run_origin A (migrated old) rest new run.2)
+run_origin A old (AMigration n ∷ rest) new run = on (run_origin A (migrated_state old) rest new run.2)
   where
     on : (new.version ≡ LaterVersion old.next_in) ⊎ (old.next_in ≤ origin_of new.version) → (new.version ≡ old.version) ⊎ (old.next_in ≤ origin_of new.version)
     on (inl is) = let at : origin_of new.version ≡ old.next_in = ap origin_of is in inr (omega (arith, at))
@@ -104,7 +104,7 @@ was_new A s m (IsReceipt r) y h grew = absurd (let at : (settle s m r).1.next_in
 was_new A s m (IsDocument p) y h grew = (p, refl, new_document_is A s m p y grew (left_is A s m p (received_as s p) y h))
 
 -- the entry is found again, however many came behind it
-found_later : (s t u : State) (n m : ℕ) (p : Posted) → received_as s p ≡ None → recorded_posts t ≡ recorded_posts s ++ (n, p) ∷ [] → Grows t u → option_map lasting (received_as u p) ≡ Some (n, p)
+found_later : (s t u : State) (n m : ℕ) (p : Posted) → received_as s p ≡ None → recorded_posts t ≡ recorded_posts s ++ (n, p) ∷ [] → Grows t u → option_map lasting_part (received_as u p) ≡ Some (n, p)
 found_later s t u n m p none is grows =
     sym (find-lasting p u.inbox)
     ∙ ap (find key) (grows.1 ∙ ap (λ (l : List (ℕ × Posted)). l ++ grows.0) is)
@@ -132,7 +132,7 @@ repeats_still old new n p q posted same less (inr is) =
 AnswersAlike : Agreements → State → ℕ → Posted → Option (Answer × State) → Type 0
 AnswersAlike A u n p o = (end : State) × (o ≡ Some (answer_to A n p, end)) × (recorded_posts end ≡ recorded_posts u) × (end.next_in ≡ u.next_in) × (end.outbox ≡ u.outbox)
 
-again : (A : Agreements) (u : State) (k n : ℕ) (p q : Posted) (o : Option InEntry) → option_map lasting o ≡ Some (n, p) → repeats (origin_of u.version) n p q ≡ true → AnswersAlike A u n p (recorded A u k q o)
+again : (A : Agreements) (u : State) (k n : ℕ) (p q : Posted) (o : Option InEntry) → option_map lasting_part o ≡ Some (n, p) → repeats (origin_of u.version) n p q ≡ true → AnswersAlike A u n p (record_given A u k q o)
 unfolding AnswersAlike
 again A u k n p q None found repeat = absurd (cc)
 again A u k n p q (Some e) found repeat = (
@@ -144,7 +144,7 @@ again A u k n p q (Some e) found repeat = (
   refl,
 )
   where
-    it : lasting e ≡ (n, p)
+    it : lasting_part e ≡ (n, p)
     it = same_Some _ _ found
 
     same : repeats (origin_of u.version) e.number e.posted q ≡ true
@@ -154,25 +154,25 @@ same_document : (p q : Posted) → IsDocument p ≡ IsDocument q → p ≡ q
 same_document p q is = cc
 
 -- under one version it is read as one document
-same_under : (A : Agreements) (v w : Version) (head : Head) (body : Text) (p q : Posted) → reading A (known_digests v) head body ≡ IsDocument p → reading A (known_digests w) head body ≡ IsDocument q → w ≡ v → p ≡ q
-same_under A v w head body p q here there is = same_document p q (sym here ∙ ap (λ (x : Version). reading A (known_digests x) head body) (sym is) ∙ there)
+same_under : (A : Agreements) (v w : Version) (head : Head) (body : Text) (p q : Posted) → post_reading A (known_digests v) head body ≡ IsDocument p → post_reading A (known_digests w) head body ≡ IsDocument q → w ≡ v → p ≡ q
+same_under A v w head body p q here there is = same_document p q (sym here ∙ ap (λ (x : Version). post_reading A (known_digests x) head body) (sym is) ∙ there)
 
 -- the post of a document that repeats the entry, by what it is read as
-posted_again : (A : Agreements) (later : State) (k n : ℕ) (p q : Posted) (first : Answer) (r : Reading) → r ≡ IsDocument q → answer_to A n p ≡ first → AnswersAlike A later n p (recorded A later k q (received_as later q)) → (end : State) × (post A later k r ≡ Some (first, end)) × (map lasting end.inbox ≡ map lasting later.inbox) × (end.next_in ≡ later.next_in) × (end.outbox ≡ later.outbox)
+posted_again : (A : Agreements) (later : State) (k n : ℕ) (p q : Posted) (first : Answer) (r : Reading) → r ≡ IsDocument q → answer_to A n p ≡ first → AnswersAlike A later n p (record_given A later k q (received_as later q)) → (end : State) × (post A later k r ≡ Some (first, end)) × (map lasting_part end.inbox ≡ map lasting_part later.inbox) × (end.next_in ≡ later.next_in) × (end.outbox ≡ later.outbox)
 unfolding record_post AnswersAlike
 posted_again A later k n p q first r is answer a = (a.0, ap (post A later k) is ∙ a.1 ∙ ap (λ (x : Answer). Some (x, a.0)) answer, a.2, a.3, a.4)
 
-pub repeat_law : (A : Agreements) (old recorded later : State) (head : Head) (body : Text) (m n : ℕ) (first : Answer) (trace : Trace) → step A old (Post head body m) ≡ Some (first, recorded) → old.next_in < recorded.next_in → Run A recorded trace later → (end : State) × (step A later (Post head body n) ≡ Some (first, end)) × (map lasting end.inbox ≡ map lasting later.inbox) × (end.next_in ≡ later.next_in) × (end.outbox ≡ later.outbox)
+pub repeat_law : (A : Agreements) (old recorded later : State) (head : Head) (body : Text) (m n : ℕ) (first : Answer) (trace : Trace) → step A old (Post head body m) ≡ Some (first, recorded) → old.next_in < recorded.next_in → Run A recorded trace later → (end : State) × (step A later (Post head body n) ≡ Some (first, end)) × (map lasting_part end.inbox ≡ map lasting_part later.inbox) × (end.next_in ≡ later.next_in) × (end.outbox ≡ later.outbox)
 unfolding record_post WasNew
 repeat_law A old recorded later head body m n first trace one grew run =
-    let was = was_new A old m (reading A (known_digests old.version) head body) (first, recorded) one grew in
+    let was = was_new A old m (post_reading A (known_digests old.version) head body) (first, recorded) one grew in
     let is : recorded_posts recorded ≡ recorded_posts old ++ (old.next_in, was.0) ∷ [] = ap (λ (z : Answer × State). recorded_posts z.1) was.2.1 ∙ map_append old.inbox (first_entry old.next_in m was.0) in
     let found = found_later old recorded later old.next_in m was.0 was.2.0 is (run_grows A recorded trace later run) in
     let now = reading_alike A (known_digests old.version) (known_digests later.version) head body was.0 was.1 in
     let version : recorded.version ≡ old.version = (step_steady A old (Post head body m) (first, recorded) one).0 in
     let same : later.version ≡ recorded.version → was.0 ≡ now.0 = λ v. same_under A old.version later.version head body was.0 now.0 was.1 now.1 (v ∙ version) in
     let repeat = repeats_still recorded later old.next_in was.0 now.0 now.2 same grew (run_origin A recorded trace later run) in
-    let found_now : option_map lasting (received_as later now.0) ≡ Some (old.next_in, was.0) = ap (option_map lasting) (sym (received_one later was.0 now.0 (post_key was.0 now.0 now.2))) ∙ found in
-    posted_again A later n old.next_in was.0 now.0 first (reading A (known_digests later.version) head body) now.1
+    let found_now : option_map lasting_part (received_as later now.0) ≡ Some (old.next_in, was.0) = ap (option_map lasting_part) (sym (received_one later was.0 now.0 (post_key was.0 now.0 now.2))) ∙ found in
+    posted_again A later n old.next_in was.0 now.0 first (post_reading A (known_digests later.version) head body) now.1
     (sym (ap (λ (z : Answer × State). z.0) was.2.1))
     (again A later n old.next_in was.0 now.0 (received_as later now.0) found_now repeat)

@@ -8,8 +8,8 @@ use Rattle.std.proofs.lemmas.Bool.{false≢true}
 use Rattle.as2_exchange.specs.Agreement.{Agreements, Partner, partner_of}
 use Rattle.as2_exchange.specs.State.{State, Version, OutEntry, empty, document}
 use Rattle.as2_exchange.specs.Events.{Done}
-use Rattle.as2_exchange.specs.Run.{Trace, Run, AnEvent, AMigration, Answered, Failed, migrated, accepted}
-use Rattle.as2_exchange.specs.History.{Found, Submission, Fact, fact, first_of, last_of, submission, try_in}
+use Rattle.as2_exchange.specs.Run.{Trace, Run, AnEvent, AMigration, Answered, Failed, migrated_state, accepted_events}
+use Rattle.as2_exchange.specs.History.{FoundAt, Submission, Fact, fact, first_of, last_of, submission, try_in}
 use Rattle.as2_exchange.proofs.Places.{found_place, further, first_of-push, last_of-push}
 use Rattle.as2_exchange.proofs.Entry.{entry_by}
 use Rattle.as2_exchange.proofs.Pushes.{answered_event, with_fact, facts-push}
@@ -24,7 +24,7 @@ still_tried : (facts : List Fact) (o : Option Fact) → IsTried facts → IsTrie
 still_tried facts None h = h
 still_tried facts (Some f) h = rw (last_of-push try_in facts f) (by (option_map (found_place []) (try_in f)) (last_of try_in facts) h)
   where
-    by : (now before : Option (Found ℕ Fact)) → is_some before ≡ true → is_some (option_or now (option_map (further f) before)) ≡ true
+    by : (now before : Option (FoundAt ℕ Fact)) → is_some before ≡ true → is_some (option_or now (option_map (further f) before)) ≡ true
     by (Some x) before g = refl
     by None (Some x) g = refl
     by None None g = absurd (false≢true g)
@@ -39,18 +39,18 @@ begun_run A k d p past after old (AnEvent e (Answered a) ∷ rest) new theirs ke
     (first_of-push (submission k) past (answered_event old.version e a) ∙ rw found refl)
     (rw (facts-push A k d after (answered_event old.version e a)) (still_tried (filter_map (fact A k d) after) (fact A k d (answered_event old.version e a)) has))
 begun_run A k d p past after old (AnEvent e (Failed fault) ∷ rest) new theirs keeps run found has = begun_run A k d p past after old rest new theirs keeps run.1 found has
-begun_run A k d p past after old (AMigration n ∷ rest) new theirs keeps run found has = begun_run A k d p past after (migrated old) rest new theirs (migrated_keeps A past old keeps) run.2 found has
+begun_run A k d p past after old (AMigration n ∷ rest) new theirs keeps run found has = begun_run A k d p past after (migrated_state old) rest new theirs (migrated_keeps A past old keeps) run.2 found has
 
 pub begun_stays_law : (A : Agreements) (v : Version) (first : ℕ) (one two : Trace) (s t : State) → Run A (empty v first) one s → Run A s two t → (k : ℕ) (d : OutEntry) → document s k ≡ Some d → d.begun ≡ true → IsSomeAnd (document t k) (λ e. e.begun ≡ true)
-begun_stays_law A v first one two s t run on k d is begun = by (first_of (submission k) (accepted v one)) refl
+begun_stays_law A v first one two s t run on k d is begun = by (first_of (submission k) (accepted_events v one)) refl
   where
-    keeps : IsAsTold A (accepted v one) s
+    keeps : IsAsTold A (accepted_events v one) s
     keeps = run_keeps A [] (empty v first) one s (begins A v first) run
 
-    by : (o : Option (Found Submission Done)) → first_of (submission k) (accepted v one) ≡ o → IsSomeAnd (document t k) (λ e. e.begun ≡ true)
+    by : (o : Option (FoundAt Submission Done)) → first_of (submission k) (accepted_events v one) ≡ o → IsSomeAnd (document t k) (λ e. e.begun ≡ true)
     by None h = absurd (let two : None ≡ Some d = sym (keeps.each k ∙ rw h refl) ∙ is in cc)
     by (Some f) h =
         let known = keeps.ours k f h in
         let facts = filter_map (fact A k f.it) f.after in
         let entry_is : entry_by A k f.it facts known.0 ≡ d = same_Some _ _ (sym (keeps.each k ∙ rw (h, known.1.theirs) refl) ∙ is) in
-        begun_run A k f.it known.0 (accepted v one) f.after s two t known.1.theirs keeps on h (ap (λ (e : OutEntry). e.begun) entry_is ∙ begun)
+        begun_run A k f.it known.0 (accepted_events v one) f.after s two t known.1.theirs keeps on h (ap (λ (e : OutEntry). e.begun) entry_is ∙ begun)

@@ -5,20 +5,20 @@ use Rattle.std.specs.Fmt.{digits}
 use Rattle.sha2.specs.Sha256.{first_words, schedule, rounds, compress, hash_after, digest_bytes, sha256}
 use Rattle.base64.proofs.OnLiterals.{base64_on_literals}
 use Rattle.as2_names.specs.Blanks.{without_blanks}
-use Rattle.as2_names.specs.Identifiers.{value_of as bare}
+use Rattle.as2_names.specs.Identifiers.{without_brackets as bare}
 use Rattle.as2_media.specs.Values.{between_quotes}
-use Rattle.as2_mic.specs.Mic.{mic, encoded}
+use Rattle.as2_mic.specs.Mic.{mic, base64_text}
 use Rattle.as2_mdn.specs.Receipts.{Mic as MicRead, Given}
 use Rattle.as2_exchange.specs.Agreement.{Text, Alg, Sha1, Sha256}
 use Rattle.as2_exchange.specs.Detail.{New, Idle, Processed, UnknownMic}
-use Rattle.as2_exchange.specs.Readings.{Head, Sync as SyncReceipt, Processed as WasProcessed, ReportOut, report_text, names_of, version_fits, type_of, is_report, report_in, verdict, named_by, value_of, out_id, id_of, ask_of, how_of, outcome_of, encoding_refused, mic_for}
+use Rattle.as2_exchange.specs.Readings.{Head, Sync as SyncReceipt, Processed as WasProcessed, ReportOut, receipt_bytes, names_of, version_fits, type_of, is_report, report_in, verdict, named_by, value_of, out_id, id_of, ask_of, how_of, document_outcome, encoding_refused, mic_for}
 use Rattle.as2_exchange.specs.State.{State, Posted, FirstVersion, LaterVersion, EarlyDigests, AllDigests, empty}
 use Rattle.as2_exchange.specs.Events.{Post, Begin, Outcome, Answer, Settled, Words, Report, IdUsedBefore, Reply}
-use Rattle.as2_exchange.specs.Posts.{IsDocument, reading}
-use Rattle.as2_exchange.specs.Documents.{begun, closed}
+use Rattle.as2_exchange.specs.Posts.{IsDocument, post_reading}
+use Rattle.as2_exchange.specs.Documents.{begun, closed_document}
 use Rattle.as2_exchange.specs.Lines.{http}
 use Rattle.as2_exchange.specs.Recording.{record_post, answer_to, report, first_entry}
-use Rattle.as2_exchange.specs.Run.{migrated}
+use Rattle.as2_exchange.specs.Run.{migrated_state}
 use Rattle.as2_exchange.proofs.Fixture.{buyer, fixture, abc, receipt_head, receipt_body, q_names, q_typed, q_media, tells, first_id, m1, sha1_text, sha1_mic}
 use Rattle.as2_exchange.proofs.Rows.{play, job_1, detail_1}
 use Rattle.as2_exchange.proofs.TurnRows.{standing, with_document}
@@ -34,7 +34,7 @@ sha256_text = codes "ungWv48Bz+pBQUDeXa4iI7ADYaOWF3qctBD/YfIAFa0="
 
 sha256_mic : mic Sha256 abc ≡ sha256_text
 unfolding base64_on_literals
-sha256_mic = ap encoded sha256_of_abc
+sha256_mic = ap base64_text sha256_of_abc
 
 -- ---- posts that ask for it
 
@@ -53,25 +53,25 @@ asking_for list =
 abbrev made_of : Text → Alg → Text → Posted
 made_of content digest text = record { sender = codes "Buyer"; receiver = codes "Supplier"; id = m1; content_type = codes "application/edi-x12"; content = content; outcome = WasProcessed; how = SyncReceipt; mic = Some (record { digest = digest; text = text }) }
 
-asked_alone : reading fixture AllDigests (asking_for (codes "sha-256")) abc ≡ IsDocument (made_of abc Sha256 sha256_text)
-unfolding asking_for reading names_of version_fits type_of is_report id_of ask_of how_of outcome_of encoding_refused mic_for without_blanks between_quotes bare
+asked_alone : post_reading fixture AllDigests (asking_for (codes "sha-256")) abc ≡ IsDocument (made_of abc Sha256 sha256_text)
+unfolding asking_for post_reading names_of version_fits type_of is_report id_of ask_of how_of document_outcome encoding_refused mic_for without_blanks between_quotes bare
 asked_alone = ap (λ (text : Text). IsDocument (made_of abc Sha256 text)) sha256_mic
 
-asked_first : reading fixture AllDigests (asking_for (codes "sha-256, sha1")) abc ≡ IsDocument (made_of abc Sha256 sha256_text)
-unfolding asking_for reading names_of version_fits type_of is_report id_of ask_of how_of outcome_of encoding_refused mic_for without_blanks between_quotes bare
+asked_first : post_reading fixture AllDigests (asking_for (codes "sha-256, sha1")) abc ≡ IsDocument (made_of abc Sha256 sha256_text)
+unfolding asking_for post_reading names_of version_fits type_of is_report id_of ask_of how_of document_outcome encoding_refused mic_for without_blanks between_quotes bare
 asked_first = ap (λ (text : Text). IsDocument (made_of abc Sha256 text)) sha256_mic
 
-asked_behind : reading fixture AllDigests (asking_for (codes "sha1, sha-256")) abc ≡ IsDocument (made_of abc Sha1 sha1_text)
-unfolding asking_for reading names_of version_fits type_of is_report id_of ask_of how_of outcome_of encoding_refused mic_for without_blanks between_quotes bare
+asked_behind : post_reading fixture AllDigests (asking_for (codes "sha1, sha-256")) abc ≡ IsDocument (made_of abc Sha1 sha1_text)
+unfolding asking_for post_reading names_of version_fits type_of is_report id_of ask_of how_of document_outcome encoding_refused mic_for without_blanks between_quotes bare
 asked_behind = ap (λ (text : Text). IsDocument (made_of abc Sha1 text)) sha1_mic
 
 -- a store of the first version goes on to the next digest
-asked_before : reading fixture EarlyDigests (asking_for (codes "sha-256, sha1")) abc ≡ IsDocument (made_of abc Sha1 sha1_text)
-unfolding asking_for reading names_of version_fits type_of is_report id_of ask_of how_of outcome_of encoding_refused mic_for without_blanks between_quotes bare
+asked_before : post_reading fixture EarlyDigests (asking_for (codes "sha-256, sha1")) abc ≡ IsDocument (made_of abc Sha1 sha1_text)
+unfolding asking_for post_reading names_of version_fits type_of is_report id_of ask_of how_of document_outcome encoding_refused mic_for without_blanks between_quotes bare
 asked_before = ap (λ (text : Text). IsDocument (made_of abc Sha1 text)) sha1_mic
 
-other_content : reading fixture AllDigests (asking_for (codes "sha-256, sha1")) (codes "abd") ≡ IsDocument (made_of (codes "abd") Sha256 (mic Sha256 (codes "abd")))
-unfolding asking_for reading names_of version_fits type_of is_report id_of ask_of how_of outcome_of encoding_refused mic_for without_blanks between_quotes bare
+other_content : post_reading fixture AllDigests (asking_for (codes "sha-256, sha1")) (codes "abd") ≡ IsDocument (made_of (codes "abd") Sha256 (mic Sha256 (codes "abd")))
+unfolding asking_for post_reading names_of version_fits type_of is_report id_of ask_of how_of document_outcome encoding_refused mic_for without_blanks between_quotes bare
 other_content = refl
 
 -- the report of such a document, under the first number
@@ -79,10 +79,10 @@ abbrev report_of : Alg → Text → ReportOut
 report_of digest text = report fixture 1 (made_of abc digest text)
 
 abbrev answered_by : Alg → Text → Answer
-answered_by digest text = http 200 (Report (report_of digest text) (report_text (report_of digest text)))
+answered_by digest text = http 200 (Report (report_of digest text) (receipt_bytes (report_of digest text)))
 
-report_lengths : (length (report_text (report_of Sha256 sha256_text)) ≡ 416) × (length (report_text (report_of Sha1 sha1_text)) ≡ 397)
-unfolding report_text digits
+report_lengths : (length (receipt_bytes (report_of Sha256 sha256_text)) ≡ 416) × (length (receipt_bytes (report_of Sha1 sha1_text)) ≡ 397)
+unfolding receipt_bytes digits
 report_lengths = (refl, refl)
 
 abbrev count : State → ℕ
@@ -103,12 +103,12 @@ unfolding play record_post answer_to
 posted_before = rw asked_before refl
 
 -- the same post is answered alike, and adds no entry; another content under its identifier is a clash
-posted_again : play count (migrated before) (Post (asking_for (codes "sha-256, sha1")) abc 2000 ∷ Post (asking_for (codes "sha-256, sha1")) (codes "abd") 2000 ∷ []) ≡ Some (answered_by Sha1 sha1_text ∷ http 409 (Words IdUsedBefore) ∷ [], 1)
+posted_again : play count (migrated_state before) (Post (asking_for (codes "sha-256, sha1")) abc 2000 ∷ Post (asking_for (codes "sha-256, sha1")) (codes "abd") 2000 ∷ []) ≡ Some (answered_by Sha1 sha1_text ∷ http 409 (Words IdUsedBefore) ∷ [], 1)
 unfolding play record_post answer_to value_of bare
 posted_again = rw (asked_first, other_content) refl
 
 -- what was recorded after the migration is compared whole
-posted_since : play count (migrated (empty FirstVersion 1)) (Post (asking_for (codes "sha1, sha-256")) abc 1000 ∷ Post (asking_for (codes "sha-256, sha1")) abc 1000 ∷ []) ≡ Some (answered_by Sha1 sha1_text ∷ http 409 (Words IdUsedBefore) ∷ [], 1)
+posted_since : play count (migrated_state (empty FirstVersion 1)) (Post (asking_for (codes "sha1, sha-256")) abc 1000 ∷ Post (asking_for (codes "sha-256, sha1")) abc 1000 ∷ []) ≡ Some (answered_by Sha1 sha1_text ∷ http 409 (Words IdUsedBefore) ∷ [], 1)
 unfolding play record_post answer_to value_of bare
 posted_since = rw (asked_behind, asked_first) refl
 
@@ -132,5 +132,5 @@ r_says = (rw sha256_mic refl, refl)
 
 -- it is a success to a store that knows the digest
 settled_by_it : play detail_1 (with_document (standing 0 Idle (Some 1000) New None)) (Begin 1 1000 ∷ Outcome 1 (Reply 200 (receipt_head (codes "Buyer")) r) 1000 ∷ []) ≡ Some (job_1 buyer ∷ Settled Processed ∷ [], Some Processed)
-unfolding play begun closed named_by value_of digits out_id bare
+unfolding play begun closed_document named_by value_of digits out_id bare
 settled_by_it = rw (q_names, q_typed, r_read, r_says.0) refl

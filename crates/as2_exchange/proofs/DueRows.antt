@@ -1,12 +1,12 @@
 -- Worked rows of what is next.
 use Rattle.std.proofs.Common.{◌≡◌, ℕ, List, [], ◌∷◌, Option, Some, None, refl}
 use Rattle.std.specs.Prelude.{nat_le, codes, option_map}
-use Rattle.as2_names.specs.Identifiers.{value_of as bare}
+use Rattle.as2_names.specs.Identifiers.{without_brackets as bare}
 use Rattle.as2_exchange.specs.Detail.{Detail, Sending, Awaiting, Attempt, Idle, Running, Last}
 use Rattle.as2_exchange.specs.Readings.{value_of}
 use Rattle.as2_exchange.specs.State.{LaterVersion, State, OutEntry, empty}
 use Rattle.as2_exchange.specs.Events.{Event, Post, Begin, Outcome, BeginMdn, OutcomeMdn, NoAnswer}
-use Rattle.as2_exchange.specs.Documents.{begun, closed, submit}
+use Rattle.as2_exchange.specs.Documents.{begun, closed_document, submit}
 use Rattle.as2_exchange.specs.Due.{next}
 use Rattle.as2_exchange.specs.OwedReceipts.{mdn_begun, mdn_closed}
 use Rattle.as2_exchange.specs.Recording.{record_post, answer_to}
@@ -43,7 +43,7 @@ due_of_them = refl
 
 -- a document is due when its retry is, and not a second before
 retry_is_next : (seen (next_at 1029 1030) (empty (LaterVersion 0) 1) (submit_to buyer ∷ Begin 1 1000 ∷ Outcome 1 NoAnswer 1000 ∷ []) ≡ Some (None, Some (Document 1)))
-unfolding seen play submit begun closed
+unfolding seen play submit begun closed_document
 retry_is_next = refl
 
 -- of two documents the one of the smaller number goes first

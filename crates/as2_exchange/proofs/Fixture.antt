@@ -6,16 +6,16 @@ use Rattle.md5.proofs.StandardFacts.{digest_of_abc as md5_of_abc}
 use Rattle.md5.specs.Md5.{block_words, rounds, compress, hash_after, digest_bytes, md5}
 use Rattle.base64.proofs.OnLiterals.{base64_on_literals}
 use Rattle.as2_names.specs.Blanks.{without_blanks}
-use Rattle.as2_names.specs.Identifiers.{value_of as bare}
+use Rattle.as2_names.specs.Identifiers.{without_brackets as bare}
 use Rattle.as2_media.specs.MediaTypes.{Media}
 use Rattle.as2_media.specs.Values.{between_quotes}
-use Rattle.as2_mic.specs.Mic.{mic, encoded}
+use Rattle.as2_mic.specs.Mic.{mic, base64_text}
 use Rattle.as2_mdn.specs.Receipts.{Mic as MicRead, Given}
 use Rattle.as2_exchange.specs.Agreement.{Text, Agreements, Partner, Asked, NoReceipt, Sync, Async, Sha1, Md5}
 use Rattle.as2_exchange.specs.Detail.{Processed}
-use Rattle.as2_exchange.specs.Readings.{Head, Receipt, ReceiptDelivery, Sync as SyncReceipt, Async as AsyncReceipt, Processed as WasProcessed, names_of, version_fits, type_of, is_report, report_in, verdict, id_of, ask_of, how_of, outcome_of, encoding_refused, mic_for}
+use Rattle.as2_exchange.specs.Readings.{Head, Receipt, ReceiptDelivery, Sync as SyncReceipt, Async as AsyncReceipt, Processed as WasProcessed, names_of, version_fits, type_of, is_report, report_in, verdict, id_of, ask_of, how_of, document_outcome, encoding_refused, mic_for}
 use Rattle.as2_exchange.specs.State.{Posted, AllDigests}
-use Rattle.as2_exchange.specs.Posts.{IsDocument, IsReceipt, ReceivedReceipt, reading}
+use Rattle.as2_exchange.specs.Posts.{IsDocument, IsReceipt, ReceivedReceipt, post_reading}
 
 -- ---- the agreements
 
@@ -46,11 +46,11 @@ abc = codes "abc"
 
 pub sha1_mic : mic Sha1 abc ≡ codes "qZk+NkcGgWq6PiVxeFDCbJzQ2J0="
 unfolding base64_on_literals
-sha1_mic = ap encoded sha1_of_abc
+sha1_mic = ap base64_text sha1_of_abc
 
 pub md5_mic : mic Md5 abc ≡ codes "kAFQmDzST7DWlj99KOF/cg=="
 unfolding base64_on_literals
-md5_mic = ap encoded md5_of_abc
+md5_mic = ap base64_text md5_of_abc
 
 -- ---- a receipt as Buyer's station writes it
 
@@ -115,8 +115,8 @@ pub q_read : report_in q_media q ≡ Some (tells first_id (codes "processed", []
 unfolding receipt_body q report_in without_blanks between_quotes bare
 q_read = refl
 
-pub q_posted : reading fixture AllDigests (receipt_head (codes "Buyer")) q ≡ IsReceipt (came_from (codes "Buyer") first_id q)
-unfolding receipt_head receipt_body q reading names_of version_fits type_of is_report report_in without_blanks between_quotes bare
+pub q_posted : post_reading fixture AllDigests (receipt_head (codes "Buyer")) q ≡ IsReceipt (came_from (codes "Buyer") first_id q)
+unfolding receipt_head receipt_body q post_reading names_of version_fits type_of is_report report_in without_blanks between_quotes bare
 q_posted = refl
 
 pub q_says : verdict AllDigests (tells first_id (codes "processed", []) md5_given) abc ≡ Processed
@@ -124,16 +124,16 @@ unfolding verdict
 q_says = rw md5_mic refl
 
 -- under another partner's name
-pub q_from_depot : reading fixture AllDigests (receipt_head (codes "Depot")) q ≡ IsReceipt (came_from (codes "Depot") first_id q)
-unfolding receipt_head receipt_body q reading names_of version_fits type_of is_report report_in without_blanks between_quotes bare
+pub q_from_depot : post_reading fixture AllDigests (receipt_head (codes "Depot")) q ≡ IsReceipt (came_from (codes "Depot") first_id q)
+unfolding receipt_head receipt_body q post_reading names_of version_fits type_of is_report report_in without_blanks between_quotes bare
 q_from_depot = refl
 
 -- naming another document
 unfoldable pub q_for_2 : Text
 q_for_2 = receipt_body (codes "<out-2@station.example>") (codes "processed") md5_line
 
-pub q_for_2_posted : reading fixture AllDigests (receipt_head (codes "Buyer")) q_for_2 ≡ IsReceipt (came_from (codes "Buyer") (codes "<out-2@station.example>") q_for_2)
-unfolding receipt_head receipt_body q_for_2 reading names_of version_fits type_of is_report report_in without_blanks between_quotes bare
+pub q_for_2_posted : post_reading fixture AllDigests (receipt_head (codes "Buyer")) q_for_2 ≡ IsReceipt (came_from (codes "Buyer") (codes "<out-2@station.example>") q_for_2)
+unfolding receipt_head receipt_body q_for_2 post_reading names_of version_fits type_of is_report report_in without_blanks between_quotes bare
 q_for_2_posted = refl
 
 -- with LF in place of CRLF, and a third part
@@ -144,8 +144,8 @@ q_in_lf =
     ++ codes "Original-Message-ID: <out-1@station.example>\nDisposition: automatic-action/MDN-sent-automatically; processed\n"
     ++ codes "Received-content-MIC: kAFQmDzST7DWlj99KOF/cg==, md5\n\n--as2-mdn-7\nContent-Type: text/plain\n\nthird\n--as2-mdn-7--\n"
 
-pub q_in_lf_posted : reading fixture AllDigests (receipt_head (codes "Buyer")) q_in_lf ≡ IsReceipt (came_from (codes "Buyer") first_id q_in_lf)
-unfolding receipt_head q_in_lf reading names_of version_fits type_of is_report report_in without_blanks between_quotes bare
+pub q_in_lf_posted : post_reading fixture AllDigests (receipt_head (codes "Buyer")) q_in_lf ≡ IsReceipt (came_from (codes "Buyer") first_id q_in_lf)
+unfolding receipt_head q_in_lf post_reading names_of version_fits type_of is_report report_in without_blanks between_quotes bare
 q_in_lf_posted = refl
 
 -- ---- a posted document
@@ -174,26 +174,26 @@ sha1_text = codes "qZk+NkcGgWq6PiVxeFDCbJzQ2J0="
 abbrev pub m1 : Text
 m1 = codes "<m1@x>"
 
-pub p1_posted : reading fixture AllDigests (post_head (codes "Buyer") m1 []) abc ≡ IsDocument (document_of (codes "Buyer") m1 abc SyncReceipt sha1_text)
-unfolding post_head reading names_of version_fits type_of is_report id_of ask_of how_of outcome_of encoding_refused mic_for without_blanks between_quotes bare
+pub p1_posted : post_reading fixture AllDigests (post_head (codes "Buyer") m1 []) abc ≡ IsDocument (document_of (codes "Buyer") m1 abc SyncReceipt sha1_text)
+unfolding post_head post_reading names_of version_fits type_of is_report id_of ask_of how_of document_outcome encoding_refused mic_for without_blanks between_quotes bare
 p1_posted = ap (λ (text : Text). IsDocument (document_of (codes "Buyer") m1 abc SyncReceipt text)) sha1_mic
 
 -- with another content
-pub p1_changed : reading fixture AllDigests (post_head (codes "Buyer") m1 []) (codes "abd") ≡ IsDocument (document_of (codes "Buyer") m1 (codes "abd") SyncReceipt (mic Sha1 (codes "abd")))
-unfolding post_head reading names_of version_fits type_of is_report id_of ask_of how_of outcome_of encoding_refused mic_for without_blanks between_quotes bare
+pub p1_changed : post_reading fixture AllDigests (post_head (codes "Buyer") m1 []) (codes "abd") ≡ IsDocument (document_of (codes "Buyer") m1 (codes "abd") SyncReceipt (mic Sha1 (codes "abd")))
+unfolding post_head post_reading names_of version_fits type_of is_report id_of ask_of how_of document_outcome encoding_refused mic_for without_blanks between_quotes bare
 p1_changed = refl
 
 -- under another identifier
-pub p2_posted : reading fixture AllDigests (post_head (codes "Buyer") (codes "<m2@x>") []) abc ≡ IsDocument (document_of (codes "Buyer") (codes "<m2@x>") abc SyncReceipt sha1_text)
-unfolding post_head reading names_of version_fits type_of is_report id_of ask_of how_of outcome_of encoding_refused mic_for without_blanks between_quotes bare
+pub p2_posted : post_reading fixture AllDigests (post_head (codes "Buyer") (codes "<m2@x>") []) abc ≡ IsDocument (document_of (codes "Buyer") (codes "<m2@x>") abc SyncReceipt sha1_text)
+unfolding post_head post_reading names_of version_fits type_of is_report id_of ask_of how_of document_outcome encoding_refused mic_for without_blanks between_quotes bare
 p2_posted = ap (λ (text : Text). IsDocument (document_of (codes "Buyer") (codes "<m2@x>") abc SyncReceipt text)) sha1_mic
 
 -- the receipt is to come later, to an address
 abbrev pub return_head : Head
 return_head = (codes "receipt-delivery-option", codes "http://127.0.0.1:8082/mdn") ∷ []
 
-pub p1_from_depot : reading fixture AllDigests (post_head (codes "Depot") m1 return_head) abc ≡ IsDocument (document_of (codes "Depot") m1 abc (AsyncReceipt (codes "http://127.0.0.1:8082/mdn")) sha1_text)
-unfolding post_head reading names_of version_fits type_of is_report id_of ask_of how_of outcome_of encoding_refused mic_for without_blanks between_quotes bare
+pub p1_from_depot : post_reading fixture AllDigests (post_head (codes "Depot") m1 return_head) abc ≡ IsDocument (document_of (codes "Depot") m1 abc (AsyncReceipt (codes "http://127.0.0.1:8082/mdn")) sha1_text)
+unfolding post_head post_reading names_of version_fits type_of is_report id_of ask_of how_of document_outcome encoding_refused mic_for without_blanks between_quotes bare
 p1_from_depot = ap (λ (text : Text). IsDocument (document_of (codes "Depot") m1 abc (AsyncReceipt (codes "http://127.0.0.1:8082/mdn")) text)) sha1_mic
 
 -- the MIC of no content

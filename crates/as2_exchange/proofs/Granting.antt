@@ -7,13 +7,13 @@ use Rattle.std.proofs.lemmas.Option.{same_Some}
 use Rattle.as2_exchange.specs.Agreement.{Text, Agreements, Partner, is_organization, partner_of}
 use Rattle.as2_exchange.specs.Detail.{MdnState, Unasked, Pending, Sent}
 use Rattle.as2_exchange.specs.Readings.{Job, document_job, receipt_job}
-use Rattle.as2_exchange.specs.State.{State, InEntry, OutEntry, document, received, is_settled}
+use Rattle.as2_exchange.specs.State.{State, InEntry, OutEntry, document, received_entry, is_settled}
 use Rattle.as2_exchange.specs.Events.{Answer, Job as AJob, Refused, NoSuchNumber, UnknownOrganization, UnknownPartner, AllSettled, TriesUsedUp, NotDue, Begin, BeginMdn}
 use Rattle.as2_exchange.specs.Documents.{begun, waits}
 use Rattle.as2_exchange.specs.OwedReceipts.{is_pending, mdn_begun}
 use Rattle.as2_exchange.specs.Recording.{report}
-use Rattle.as2_exchange.specs.Step.{acted, acted_in, step}
-use Rattle.as2_exchange.specs.Tries.{agreed, is_early}
+use Rattle.as2_exchange.specs.Step.{act_on, acted_in, step}
+use Rattle.as2_exchange.specs.Tries.{where_agreed, is_early}
 
 less : (n k : ℕ) → nat_le n k ≡ false → k < n
 less n k h = grind (arith, nat_tests)
@@ -29,7 +29,7 @@ granted_by e x job given false false true h = absurd (cc)
 granted_by e x job given false false false h = (refl, refl)
 
 -- and only to a partner that is agreed
-granted_to : {E : Type 0} (A : Agreements) (organization partner : Text) (e : E) (act : Partner → Answer × E) (job : Job) (P : Partner → Type 0) → ((p : Partner) → (act p).0 ≡ AJob job → P p) → (agreed A organization partner e act).0 ≡ AJob job → IsSomeAnd (partner_of A partner) P
+granted_to : {E : Type 0} (A : Agreements) (organization partner : Text) (e : E) (act : Partner → Answer × E) (job : Job) (P : Partner → Type 0) → ((p : Partner) → (act p).0 ≡ AJob job → P p) → (where_agreed A organization partner e act).0 ≡ AJob job → IsSomeAnd (partner_of A partner) P
 granted_to {E} A organization partner e act job P rest h = by (is_organization A organization) (partner_of A partner) h
   where
     given : Bool → Option Partner → Answer × E
@@ -59,7 +59,7 @@ parted d (Some p) h = (h.0, h.1)
 pub document_granted : (A : Agreements) (s t : State) (n m : ℕ) (job : Job) → step A s (Begin n m) ≡ Some (AJob job, t) → (d : OutEntry) × (document s n ≡ Some d) × (is_settled d ≡ false) × IsSomeAnd (partner_of A d.partner) (λ p. d.tries < p.max_tries)
 document_granted A s t n m job h = by (document s n) refl (same_Some _ (AJob job, t) h)
   where
-    by : (o : Option OutEntry) → document s n ≡ o → acted s n (begun A m) o ≡ (AJob job, t) → (d : OutEntry) × (document s n ≡ Some d) × (is_settled d ≡ false) × IsSomeAnd (partner_of A d.partner) (λ p. d.tries < p.max_tries)
+    by : (o : Option OutEntry) → document s n ≡ o → act_on s n (begun A m) o ≡ (AJob job, t) → (d : OutEntry) × (document s n ≡ Some d) × (is_settled d ≡ false) × IsSomeAnd (partner_of A d.partner) (λ p. d.tries < p.max_tries)
     by None at g = absurd (let first : Refused NoSuchNumber ≡ AJob job = ap (λ (y : Answer × State). y.0) g in cc)
     by (Some d) at g =
         let is = parted d (partner_of A d.partner) (begun_granted A m d job (ap (λ (y : Answer × State). y.0) g)) in
@@ -85,10 +85,10 @@ parted_receipt : (e : InEntry) (o : Option Partner) → IsSomeAnd o (StillOwed e
 parted_receipt e None h = absurd h
 parted_receipt e (Some p) h = (h.0, h.1)
 
-pub receipt_granted : (A : Agreements) (s t : State) (n m : ℕ) (job : Job) → step A s (BeginMdn n m) ≡ Some (AJob job, t) → (e : InEntry) × (received s n ≡ Some e) × (e.mdn ≡ Pending) × IsSomeAnd (partner_of A e.posted.sender) (λ p. e.tries < p.max_tries)
-receipt_granted A s t n m job h = by (received s n) refl (same_Some _ (AJob job, t) h)
+pub receipt_granted : (A : Agreements) (s t : State) (n m : ℕ) (job : Job) → step A s (BeginMdn n m) ≡ Some (AJob job, t) → (e : InEntry) × (received_entry s n ≡ Some e) × (e.mdn ≡ Pending) × IsSomeAnd (partner_of A e.posted.sender) (λ p. e.tries < p.max_tries)
+receipt_granted A s t n m job h = by (received_entry s n) refl (same_Some _ (AJob job, t) h)
   where
-    by : (o : Option InEntry) → received s n ≡ o → acted_in s n (mdn_begun A m) o ≡ (AJob job, t) → (e : InEntry) × (received s n ≡ Some e) × (e.mdn ≡ Pending) × IsSomeAnd (partner_of A e.posted.sender) (λ p. e.tries < p.max_tries)
+    by : (o : Option InEntry) → received_entry s n ≡ o → acted_in s n (mdn_begun A m) o ≡ (AJob job, t) → (e : InEntry) × (received_entry s n ≡ Some e) × (e.mdn ≡ Pending) × IsSomeAnd (partner_of A e.posted.sender) (λ p. e.tries < p.max_tries)
     by None at g = absurd (let first : Refused NoSuchNumber ≡ AJob job = ap (λ (y : Answer × State). y.0) g in cc)
     by (Some e) at g =
         let is = parted_receipt e (partner_of A e.posted.sender) (mdn_begun_granted A m e job (ap (λ (y : Answer × State). y.0) g)) in

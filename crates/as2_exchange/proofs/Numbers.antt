@@ -5,16 +5,16 @@ use Rattle.std.proofs.lemmas.Bool.Decides.{nat_tests}
 use Rattle.as2_exchange.specs.Agreement.{Text, Agreements, is_organization, partner_of}
 use Rattle.as2_exchange.specs.State.{Posted, InEntry, State, known_digests, origin_of, end_of_numbers, content_limit, received_as}
 use Rattle.as2_exchange.specs.Events.{Event, Post, Submit, Begin, Outcome, Resend, BeginMdn, OutcomeMdn, Tick, Answer}
-use Rattle.as2_exchange.specs.Posts.{Reading, Refuses, IsReceipt, IsDocument, reading, repeats}
+use Rattle.as2_exchange.specs.Posts.{Reading, Refuses, IsReceipt, IsDocument, post_reading, repeats}
 use Rattle.as2_exchange.specs.Documents.{submit}
-use Rattle.as2_exchange.specs.Recording.{recorded, record_post}
+use Rattle.as2_exchange.specs.Recording.{record_given, record_post}
 use Rattle.as2_exchange.specs.Step.{post, step}
 use Rattle.as2_exchange.specs.Run.{IsOutOfNumbers}
 
 used_up : (n : ℕ) → nat_le end_of_numbers n ≡ true → end_of_numbers ≤ n
 used_up n h = grind (arith, nat_tests)
 
-none_recorded : (A : Agreements) (s : State) (m : ℕ) (p : Posted) (o : Option InEntry) → recorded A s m p o ≡ None → end_of_numbers ≤ s.next_in
+none_recorded : (A : Agreements) (s : State) (m : ℕ) (p : Posted) (o : Option InEntry) → record_given A s m p o ≡ None → end_of_numbers ≤ s.next_in
 none_recorded A s m p (Some e) h = by (repeats (origin_of s.version) e.number e.posted p) _ _ h
   where
     by : (b : Bool) (x y : Answer × State) → (if b then Some x else Some y) ≡ None → end_of_numbers ≤ s.next_in
@@ -45,7 +45,7 @@ none_submitted A s organization partner content m h =
     by false false false false y1 y2 y3 y4 is g = absurd (cc)
 
 pub numbers_law : (A : Agreements) (s : State) (e : Event) → step A s e ≡ None → IsOutOfNumbers s e
-numbers_law A s (Post head body m) h = none_posted A s m (reading A (known_digests s.version) head body) h
+numbers_law A s (Post head body m) h = none_posted A s m (post_reading A (known_digests s.version) head body) h
 numbers_law A s (Submit organization partner content m) h = none_submitted A s organization partner content m h
 numbers_law A s (Begin n m) h = absurd (cc)
 numbers_law A s (Outcome n got m) h = absurd (cc)

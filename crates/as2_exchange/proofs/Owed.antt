@@ -14,16 +14,16 @@ use Rattle.as2_exchange.specs.Receipts.{is_delivery}
 use Rattle.as2_exchange.specs.OwedReceipts.{is_pending, is_shut, mdn_begun, mdn_closed}
 use Rattle.as2_exchange.specs.Recording.{requeued_by_repeat, is_done_with, report}
 use Rattle.as2_exchange.specs.Tries.{is_early, is_last}
-use Rattle.as2_exchange.specs.History.{Found, Fact, ATry, AnOutcome, is_job, try_in, tries, with_past, first_of, last_of}
+use Rattle.as2_exchange.specs.History.{FoundAt, Fact, ATry, AnOutcome, is_job, try_in, tries, with_past, first_of, last_of}
 use Rattle.as2_exchange.specs.ReceiptHistory.{delivers, is_delivered, are_used, mdn_after, mdn_attempt, mdn_due}
 use Rattle.as2_exchange.proofs.Decisions.{or_false}
 use Rattle.as2_exchange.proofs.Places.{found_place, with_past-push, count_by-push}
-use Rattle.as2_exchange.proofs.Entry.{Tried, last_tried, later}
+use Rattle.as2_exchange.proofs.Entry.{TryWithOutcome, last_tried, later}
 use Rattle.as2_exchange.proofs.Pushes.{with_fact, has_open, last_tried-push, is_some-last_tried, is_open-last_tried}
 use Rattle.as2_exchange.proofs.Acts.{AreAgreed, agreed_is}
 
 -- the entry is as the facts since it was queued tell
-pub record Owed (p : Partner) (since : Found ℕ Fact) (e : InEntry) : Type 0 where
+pub record Owed (p : Partner) (since : FoundAt ℕ Fact) (e : InEntry) : Type 0 where
   pub state : e.mdn ≡ mdn_after (is_delivered since.after)
   pub count : e.tries ≡ tries since.after
   pub try : e.attempt ≡ mdn_attempt (is_delivered since.after) (nat_le p.max_tries (tries since.after)) (last_tried since.after)
@@ -40,7 +40,7 @@ tries-push since x = count_by-push (λ f. is_some (try_in f)) since x
 
 -- ---- a post
 
-done_with : (d l : Bool) (t : Option Tried) → is_done_with (mdn_after d) (mdn_attempt d l t) ≡ (d || (is_some t && l))
+done_with : (d l : Bool) (t : Option TryWithOutcome) → is_done_with (mdn_after d) (mdn_attempt d l t) ≡ (d || (is_some t && l))
 done_with true l t = refl
 done_with false l None = refl
 done_with false true (Some (t, None)) = refl
@@ -53,7 +53,7 @@ pub queued_owed : (p : Partner) (m : ℕ) (e : InEntry) → e.mdn ≡ Pending �
 unfolding with_past last_of first_of
 queued_owed p m e h g f k = record { state = h; count = g; try = f; wait = k }
 
-pub reposted_owed : (p : Partner) (since : Found ℕ Fact) (m : ℕ) (e : InEntry) → is_async e.posted.how ≡ true → Owed p since e → Owed p (if is_delivered since.after || are_used p since.after then found_place [] m else since) (requeued_by_repeat m e)
+pub reposted_owed : (p : Partner) (since : FoundAt ℕ Fact) (m : ℕ) (e : InEntry) → is_async e.posted.how ≡ true → Owed p since e → Owed p (if is_delivered since.after || are_used p since.after then found_place [] m else since) (requeued_by_repeat m e)
 reposted_owed p since m e async h = subst (λ (b : Bool). Owed p (if is_delivered since.after || are_used p since.after then found_place [] m else since) (if b then queued else e)) (sym same) (by (is_delivered since.after || are_used p since.after))
   where
     queued : InEntry
@@ -88,10 +88,10 @@ pending_not true x is h = absurd (false≢true (sym (ap is_pending is) ∙ h))
 pending_not false x is h = refl
 
 -- one more fact since it was queued
-abbrev pub more : Found ℕ Fact → Fact → Found ℕ Fact
+abbrev pub more : FoundAt ℕ Fact → Fact → FoundAt ℕ Fact
 more since x = found_place (since.after ++ x ∷ []) since.it
 
-tried_owed : (p : Partner) (since : Found ℕ Fact) (m : ℕ) (e : InEntry) → Owed p since e → is_pending e.mdn ≡ true → Owed p (more since (ATry m)) (tried p m e (nat_le p.max_tries (e.tries + 1)))
+tried_owed : (p : Partner) (since : FoundAt ℕ Fact) (m : ℕ) (e : InEntry) → Owed p since e → is_pending e.mdn ≡ true → Owed p (more since (ATry m)) (tried p m e (nat_le p.max_tries (e.tries + 1)))
 tried_owed p since m e h pending =
     let is = tried_is p m e (nat_le p.max_tries (e.tries + 1)) in
     let none : is_delivered since.after ≡ false = pending_not (is_delivered since.after) e.mdn h.state pending in
@@ -111,16 +111,16 @@ begun_if p m e job pending used early =
     else (Job job, tried p m e (nat_le p.max_tries (e.tries + 1)))
 
 -- the facts of a receipt's tries, after a BeginMdn that was answered so
-abbrev pub with_try : Found ℕ Fact → ℕ → Answer → Found ℕ Fact
+abbrev pub with_try : FoundAt ℕ Fact → ℕ → Answer → FoundAt ℕ Fact
 with_try since m a = found_place (with_fact since.after (if is_job a then Some (ATry m) else None)) since.it
 
-begun_by : (p : Partner) (since : Found ℕ Fact) (m : ℕ) (e : InEntry) (job : TheJob) (pending used early : Bool) → is_pending e.mdn ≡ pending → Owed p since e → Owed p (with_try since m (begun_if p m e job pending used early).0) (begun_if p m e job pending used early).1
+begun_by : (p : Partner) (since : FoundAt ℕ Fact) (m : ℕ) (e : InEntry) (job : TheJob) (pending used early : Bool) → is_pending e.mdn ≡ pending → Owed p since e → Owed p (with_try since m (begun_if p m e job pending used early).0) (begun_if p m e job pending used early).1
 begun_by p since m e job false used early is h = h
 begun_by p since m e job true true early is h = h
 begun_by p since m e job true false true is h = h
 begun_by p since m e job true false false is h = tried_owed p since m e h is
 
-pub begun_owed : (A : Agreements) (p : Partner) (since : Found ℕ Fact) (m : ℕ) (e : InEntry) → AreAgreed A e.posted.receiver e.posted.sender p → Owed p since e → Owed p (with_try since m (mdn_begun A m e).0) (mdn_begun A m e).1
+pub begun_owed : (A : Agreements) (p : Partner) (since : FoundAt ℕ Fact) (m : ℕ) (e : InEntry) → AreAgreed A e.posted.receiver e.posted.sender p → Owed p since e → Owed p (with_try since m (mdn_begun A m e).0) (mdn_begun A m e).1
 unfolding mdn_begun
 begun_owed A p since m e agreed h = rw (agreed_is A e.posted.receiver e.posted.sender p e _ agreed) (begun_by p since m e (receipt_job e.posted.how (report A e.number e.posted)) (is_pending e.mdn) (nat_le p.max_tries e.tries) (is_early m e.due) refl h)
 
@@ -134,7 +134,7 @@ ended p m e mdn attempt delivery =
     else if is_last attempt then (TryFailed, record e { attempt = Used; due = None })
     else (TryFailed, record e { attempt = Idle; due = Some (m + p.retry_seconds) })
 
-ended_is : (p : Partner) (m queued : ℕ) (e : InEntry) (g d l : Bool) (t : Option Tried) (x : Fact) (got : TryAnswer) → e.mdn ≡ mdn_after d → e.attempt ≡ mdn_attempt d l t → e.due ≡ mdn_due p d l queued t → let y = (ended p m e (mdn_after d) (mdn_attempt d l t) g).1 in let d' = d || (has_open t && g) in let t' = option_map (later x (Some (m, got))) t in (y.mdn ≡ mdn_after d') × (y.tries ≡ e.tries) × (y.attempt ≡ mdn_attempt d' l t') × (y.due ≡ mdn_due p d' l queued t')
+ended_is : (p : Partner) (m queued : ℕ) (e : InEntry) (g d l : Bool) (t : Option TryWithOutcome) (x : Fact) (got : TryAnswer) → e.mdn ≡ mdn_after d → e.attempt ≡ mdn_attempt d l t → e.due ≡ mdn_due p d l queued t → let y = (ended p m e (mdn_after d) (mdn_attempt d l t) g).1 in let d' = d || (has_open t && g) in let t' = option_map (later x (Some (m, got))) t in (y.mdn ≡ mdn_after d') × (y.tries ≡ e.tries) × (y.attempt ≡ mdn_attempt d' l t') × (y.due ≡ mdn_due p d' l queued t')
 ended_is p m queued e g true l t x got h k w = (h, refl, k, w)
 ended_is p m queued e g false l None x got h k w = (h, refl, k, w)
 ended_is p m queued e g false true (Some (t, Some f)) x got h k w = (h, refl, k, w)
@@ -144,7 +144,7 @@ ended_is p m queued e true false false (Some (t, None)) x got h k w = (refl, ref
 ended_is p m queued e false false true (Some (t, None)) x got h k w = (h, refl, refl, refl)
 ended_is p m queued e false false false (Some (t, None)) x got h k w = (h, refl, refl, refl)
 
-ended_owed : (p : Partner) (since : Found ℕ Fact) (known : Digests) (got : TryAnswer) (m : ℕ) (e : InEntry) → Owed p since e → Owed p (more since (AnOutcome m known got)) (ended p m e e.mdn e.attempt (is_delivery got)).1
+ended_owed : (p : Partner) (since : FoundAt ℕ Fact) (known : Digests) (got : TryAnswer) (m : ℕ) (e : InEntry) → Owed p since e → Owed p (more since (AnOutcome m known got)) (ended p m e e.mdn e.attempt (is_delivery got)).1
 ended_owed p since known got m e h =
     let is = ended_is p m since.it e (is_delivery got) (is_delivered since.after) (nat_le p.max_tries (tries since.after)) (last_tried since.after) (AnOutcome m known got) got h.state h.try h.wait in
     record {
@@ -165,7 +165,7 @@ ended_owed p since known got m e h =
     counted : tries (since.after ++ AnOutcome m known got ∷ []) ≡ tries since.after
     counted = tries-push since.after (AnOutcome m known got) ∙ add-zero (tries since.after)
 
-pub closed_owed : (A : Agreements) (p : Partner) (since : Found ℕ Fact) (known : Digests) (got : TryAnswer) (m : ℕ) (e : InEntry) → AreAgreed A e.posted.receiver e.posted.sender p → Owed p since e → Owed p (more since (AnOutcome m known got)) (mdn_closed A got m e).1
+pub closed_owed : (A : Agreements) (p : Partner) (since : FoundAt ℕ Fact) (known : Digests) (got : TryAnswer) (m : ℕ) (e : InEntry) → AreAgreed A e.posted.receiver e.posted.sender p → Owed p since e → Owed p (more since (AnOutcome m known got)) (mdn_closed A got m e).1
 unfolding mdn_closed
 closed_owed A p since known got m e agreed h = rw (agreed_is A e.posted.receiver e.posted.sender p e _ agreed) (ended_owed p since known got m e h)
 

@@ -11,16 +11,16 @@ use Rattle.std.proofs.lemmas.List.Folds.{find-append}
 use Rattle.as2_exchange.specs.Agreement.{Text, Agreements, Partner, is_organization, partner_of}
 use Rattle.as2_exchange.specs.Detail.{Idle, Unasked, Sent}
 use Rattle.as2_exchange.specs.Readings.{Head, ReceiptDelivery, NoReceipt, Sync, Async, is_async, is_report, names_of, version_fits, type_of, id_of, ask_of, report_in}
-use Rattle.as2_exchange.specs.State.{Digests, Version, LaterVersion, known_digests, origin_of, Posted, InEntry, State, empty, lasting, same_key, document, received, received_as, change_received}
+use Rattle.as2_exchange.specs.State.{Digests, Version, LaterVersion, known_digests, origin_of, Posted, InEntry, State, empty, lasting_part, same_key, document, received_entry, received_as, change_received}
 use Rattle.as2_exchange.specs.Events.{Event, Post, Submit, Begin, Outcome, Resend, BeginMdn, OutcomeMdn, Tick, Answer, Refused, NoSuchNumber, TryAnswer, Line, BadNames, BadVersion, UnknownNames, BadType, UnreadableReceipt, BadId, BadAsk, Done}
-use Rattle.as2_exchange.specs.Posts.{Reading, Refuses, IsReceipt, IsDocument, needs, reading, repeats, ReceivedReceipt}
-use Rattle.as2_exchange.specs.Documents.{begun as begun_document, closed as closed_document, resent as resent_document}
+use Rattle.as2_exchange.specs.Posts.{Reading, Refuses, IsReceipt, IsDocument, needs, post_reading, repeats, ReceivedReceipt}
+use Rattle.as2_exchange.specs.Documents.{begun as begun_document, closed_document as closed_document, resent as resent_document}
 use Rattle.as2_exchange.specs.OwedReceipts.{is_pending, mdn_begun, mdn_closed}
 use Rattle.as2_exchange.specs.Recording.{record_post, requeued_by_repeat, first_entry}
 use Rattle.as2_exchange.specs.Step.{post, step, acted_in}
-use Rattle.as2_exchange.specs.Run.{Trace, Run, AnEvent, AMigration, Answered, Failed, migrated, accepted}
+use Rattle.as2_exchange.specs.Run.{Trace, Run, AnEvent, AMigration, Answered, Failed, migrated_state, accepted_events}
 use Rattle.as2_exchange.specs.Invariants.{IsCounter, IsWellFormed}
-use Rattle.as2_exchange.specs.History.{Found, Fact, ATry, AnOutcome, is_job}
+use Rattle.as2_exchange.specs.History.{FoundAt, Fact, ATry, AnOutcome, is_job}
 use Rattle.as2_exchange.specs.ReceiptHistory.{ReceiptFact, APost, OfATry, receipt_fact, receipt_fact_of, sent_later, is_delivered, are_used, queued_by, since_queued, history_by_how, receipt_history, receipt_told}
 use Rattle.as2_exchange.proofs.Decisions.{same_number, number_is, is_some_value, apart_turned}
 use Rattle.as2_exchange.proofs.Finds.{find-map, find_passes, find_none, one_found}
@@ -57,7 +57,7 @@ since-push p facts f = fold_last (queued_by p) None facts f
 abbrev StandsAs : ReceiptDelivery → Partner → List ReceiptFact → InEntry → Type 0
 StandsAs NoReceipt p facts e = (e.mdn ≡ Unasked) × (e.tries ≡ 0) × (e.attempt ≡ Idle) × (e.due ≡ None)
 StandsAs Sync p facts e = (e.mdn ≡ Sent) × (e.tries ≡ 0) × (e.attempt ≡ Idle) × (e.due ≡ None)
-StandsAs (Async url) p facts e = (since : Found ℕ Fact) × (since_queued p facts ≡ Some since) × Owed p since e
+StandsAs (Async url) p facts e = (since : FoundAt ℕ Fact) × (since_queued p facts ≡ Some since) × Owed p since e
 
 -- the entry of this number and document stands as the events tell
 record EntryStands (A : Agreements) (n : ℕ) (past : List Done) (q : Posted) (e : InEntry) : Type 0 where
@@ -87,7 +87,7 @@ reposted NoReceipt p facts m e is h = subst (StandsAs NoReceipt p (facts ++ APos
 reposted Sync p facts m e is h = subst (StandsAs Sync p (facts ++ APost m ∷ [])) (sym (unqueued m e (ap is_async is))) h
 reposted (Async url) p facts m e is h = (
   if is_delivered h.0.after || are_used p h.0.after then found_place [] m else h.0,
-  since-push p facts (APost m) ∙ ap (λ (o : Option (Found ℕ Fact)). queued_by p o (APost m)) h.1,
+  since-push p facts (APost m) ∙ ap (λ (o : Option (FoundAt ℕ Fact)). queued_by p o (APost m)) h.1,
   reposted_owed p h.0 m e (ap is_async is) h.2,
 )
 
@@ -97,11 +97,11 @@ reposted (Async url) p facts m e is h = (
 abbrev begin_fact : ℕ → Answer → Option ReceiptFact
 begin_fact m a = if is_job a then Some (OfATry (ATry m)) else None
 
-since_begun : (p : Partner) (facts : List ReceiptFact) (since : Found ℕ Fact) (m : ℕ) (a : Answer) → since_queued p facts ≡ Some since → since_queued p (with_more facts (begin_fact m a)) ≡ Some (with_try since m a)
+since_begun : (p : Partner) (facts : List ReceiptFact) (since : FoundAt ℕ Fact) (m : ℕ) (a : Answer) → since_queued p facts ≡ Some since → since_queued p (with_more facts (begin_fact m a)) ≡ Some (with_try since m a)
 since_begun p facts since m a is = by (is_job a)
   where
     by : (b : Bool) → since_queued p (with_more facts (if b then Some (OfATry (ATry m)) else None)) ≡ Some (found_place (with_fact since.after (if b then Some (ATry m) else None)) since.it)
-    by true = since-push p facts (OfATry (ATry m)) ∙ ap (λ (o : Option (Found ℕ Fact)). queued_by p o (OfATry (ATry m))) is
+    by true = since-push p facts (OfATry (ATry m)) ∙ ap (λ (o : Option (FoundAt ℕ Fact)). queued_by p o (OfATry (ATry m))) is
     by false = is
 
 try_begun : (A : Agreements) (how : ReceiptDelivery) (p : Partner) (facts : List ReceiptFact) (m : ℕ) (e : InEntry) → AreAgreed A e.posted.receiver e.posted.sender p → StandsAs how p facts e → StandsAs how p (with_more facts (begin_fact m (mdn_begun A m e).0)) (mdn_begun A m e).1
@@ -120,7 +120,7 @@ try_closed A NoReceipt p facts known got m e agreed h = subst (StandsAs NoReceip
 try_closed A Sync p facts known got m e agreed h = subst (StandsAs Sync p (facts ++ OfATry (AnOutcome m known got) ∷ [])) (sym (never_closed A p got m e agreed (ap is_pending h.0))) h
 try_closed A (Async url) p facts known got m e agreed h = (
   more h.0 (AnOutcome m known got),
-  since-push p facts (OfATry (AnOutcome m known got)) ∙ ap (λ (o : Option (Found ℕ Fact)). queued_by p o (OfATry (AnOutcome m known got))) h.1,
+  since-push p facts (OfATry (AnOutcome m known got)) ∙ ap (λ (o : Option (FoundAt ℕ Fact)). queued_by p o (OfATry (AnOutcome m known got))) h.1,
   closed_owed A p h.0 known got m e agreed h.2,
 )
 
@@ -150,8 +150,8 @@ if_agreed A false theirs rest h = tt
 agreed_names : (A : Agreements) (names : Text × Text) → is_organization A names.1 ≡ true → is_some (partner_of A names.0) ≡ true → (p : Partner) × AreAgreed A names.1 names.0 p
 agreed_names A names ours theirs = let known = is_some_value (partner_of A names.0) theirs in (known.0, record { ours = ours; theirs = known.1 })
 
-reading_known : (A : Agreements) (known : Digests) (head : Head) (body : Text) → IsKnown A (reading A known head body)
-unfolding reading IsKnown
+reading_known : (A : Agreements) (known : Digests) (head : Head) (body : Text) → IsKnown A (post_reading A known head body)
+unfolding post_reading IsKnown
 reading_known A known head body =
     needs_known A (names_of head) BadNames _ (λ names.
     if_known A (not (version_fits head)) (Refuses BadVersion) _ tt
@@ -167,41 +167,41 @@ document_known A r q h is = subst (IsKnown A) is h
 
 -- ---- look-ups
 
-received_number : (s : State) (n : ℕ) (e : InEntry) → received s n ≡ Some e → e.number ≡ n
+received_number : (s : State) (n : ℕ) (e : InEntry) → received_entry s n ≡ Some e → e.number ≡ n
 received_number s n e h = number_is e.number n (find_passes (λ (x : InEntry). x.number == n) s.inbox e h)
 
-changed_number : (n : ℕ) (f : InEntry → InEntry) → ((e : InEntry) → lasting (f e) ≡ lasting e) → (e : InEntry) → (if e.number == n then f e else e).number ≡ e.number
+changed_number : (n : ℕ) (f : InEntry → InEntry) → ((e : InEntry) → lasting_part (f e) ≡ lasting_part e) → (e : InEntry) → (if e.number == n then f e else e).number ≡ e.number
 changed_number n f kept e = by (e.number == n)
   where
     by : (b : Bool) → (if b then f e else e).number ≡ e.number
     by true = ap (λ (x : ℕ × Posted). x.0) (kept e)
     by false = refl
 
-received-changed : (s : State) (n : ℕ) (f : InEntry → InEntry) (k : ℕ) → ((e : InEntry) → lasting (f e) ≡ lasting e) → received (change_received s n f) k ≡ option_map (λ (e : InEntry). if e.number == n then f e else e) (received s k)
+received-changed : (s : State) (n : ℕ) (f : InEntry → InEntry) (k : ℕ) → ((e : InEntry) → lasting_part (f e) ≡ lasting_part e) → received_entry (change_received s n f) k ≡ option_map (λ (e : InEntry). if e.number == n then f e else e) (received_entry s k)
 received-changed s n f k kept = find-map (λ (e : InEntry). e.number == k) (λ (e : InEntry). if e.number == n then f e else e) (λ e. ap (λ (j : ℕ). j == k) (changed_number n f kept e)) s.inbox
 
-received-changed_same : (s : State) (n : ℕ) (f : InEntry → InEntry) (e : InEntry) → ((d : InEntry) → lasting (f d) ≡ lasting d) → received s n ≡ Some e → received (change_received s n f) n ≡ Some (f e)
+received-changed_same : (s : State) (n : ℕ) (f : InEntry → InEntry) (e : InEntry) → ((d : InEntry) → lasting_part (f d) ≡ lasting_part d) → received_entry s n ≡ Some e → received_entry (change_received s n f) n ≡ Some (f e)
 received-changed_same s n f e kept h = received-changed s n f n kept ∙ rw (h, received_number s n e h, same_number) refl
 
-received-changed_other : (s : State) (n : ℕ) (f : InEntry → InEntry) (k : ℕ) → ((d : InEntry) → lasting (f d) ≡ lasting d) → (k == n) ≡ false → received (change_received s n f) k ≡ received s k
-received-changed_other s n f k kept apart = received-changed s n f k kept ∙ by (received s k) refl
+received-changed_other : (s : State) (n : ℕ) (f : InEntry → InEntry) (k : ℕ) → ((d : InEntry) → lasting_part (f d) ≡ lasting_part d) → (k == n) ≡ false → received_entry (change_received s n f) k ≡ received_entry s k
+received-changed_other s n f k kept apart = received-changed s n f k kept ∙ by (received_entry s k) refl
   where
-    by : (o : Option InEntry) → received s k ≡ o → option_map (λ (e : InEntry). if e.number == n then f e else e) o ≡ o
+    by : (o : Option InEntry) → received_entry s k ≡ o → option_map (λ (e : InEntry). if e.number == n then f e else e) o ≡ o
     by None h = refl
     by (Some e) h = rw (received_number s k e h, apart) refl
 
 -- the entry that a key finds is the one of its number
-found_by_key : (A : Agreements) (s : State) (q : Posted) (d : InEntry) → IsWellFormed A s → received_as s q ≡ Some d → received s d.number ≡ Some d
-found_by_key A s q d formed found = by (received s d.number) refl
+found_by_key : (A : Agreements) (s : State) (q : Posted) (d : InEntry) → IsWellFormed A s → received_as s q ≡ Some d → received_entry s d.number ≡ Some d
+found_by_key A s q d formed found = by (received_entry s d.number) refl
   where
-    by : (o : Option InEntry) → received s d.number ≡ o → o ≡ Some d
+    by : (o : Option InEntry) → received_entry s d.number ≡ o → o ≡ Some d
     by None none = absurd (false≢true (sym (find_none (λ (e : InEntry). e.number == d.number) (λ (e : InEntry). same_key e.posted q) s.inbox d none found) ∙ same_number d.number))
     by (Some e) is =
         let num : e.number ≡ d.number = received_number s d.number e is in
         ap Some (one_found (λ a b. a == b) (λ (x : InEntry). x.number) (λ (x : InEntry). x.number == d.number) (λ (x : InEntry). same_key x.posted q) s.inbox e d formed.received.numbers.distinct is found (rw num (same_number d.number)) (rw num (same_number d.number)))
 
 -- and the only one that the post repeats
-repeated_is : (A : Agreements) (s : State) (q : Posted) (d e : InEntry) (n o k : ℕ) → IsWellFormed A s → received_as s q ≡ Some d → received s n ≡ Some e → repeats o k e.posted q ≡ true → e ≡ d
+repeated_is : (A : Agreements) (s : State) (q : Posted) (d e : InEntry) (n o k : ℕ) → IsWellFormed A s → received_as s q ≡ Some d → received_entry s n ≡ Some e → repeats o k e.posted q ≡ true → e ≡ d
 repeated_is A s q d e n o k formed found is same =
     let its : HaveOneKey e.posted q = post_key e.posted q (both _ _ same).0 in
     let key : HaveOneKey d.posted q = key_is d.posted q (find_passes (λ (x : InEntry). same_key x.posted q) s.inbox d found) in
@@ -212,7 +212,7 @@ repeated_is A s q d e n o k formed found is same =
 
 record KeepsReceipts (A : Agreements) (past : List Done) (s : State) : Type 0 where
   formed : IsWellFormed A s
-  each : (n : ℕ) (e : InEntry) → received s n ≡ Some e → EntryStands A n past e.posted e
+  each : (n : ℕ) (e : InEntry) → received_entry s n ≡ Some e → EntryStands A n past e.posted e
   unposted : (q : Posted) → received_as s q ≡ None → (n : ℕ) (p : Partner) → since_queued p (filter_map (receipt_fact A n q) past) ≡ None
 
 -- what isn't there wasn't there
@@ -222,7 +222,7 @@ gone_before s s' q grows none = by (received_as s q) refl
     key : ℕ × Posted → Bool
     key z = same_key z.1 q
 
-    here : option_map lasting (received_as s' q) ≡ option_or (option_map lasting (received_as s q)) (find key grows.0)
+    here : option_map lasting_part (received_as s' q) ≡ option_or (option_map lasting_part (received_as s q)) (find key grows.0)
     here =
         sym (find-lasting q s'.inbox) ∙ ap (find key) grows.1 ∙ find-append key (recorded_posts s) grows.0
         ∙ ap (λ (o : Option (ℕ × Posted)). option_or o (find key grows.0)) (find-lasting q s.inbox)
@@ -230,7 +230,7 @@ gone_before s s' q grows none = by (received_as s q) refl
     by : (o : Option InEntry) → received_as s q ≡ o → o ≡ None
     by None h = refl
     by (Some e) h =
-        let two : None ≡ Some (lasting e) = sym (ap (option_map lasting) none) ∙ here ∙ ap (λ (o : Option InEntry). option_or (option_map lasting o) (find key grows.0)) h in
+        let two : None ≡ Some (lasting_part e) = sym (ap (option_map lasting_part) none) ∙ here ∙ ap (λ (o : Option InEntry). option_or (option_map lasting_part o) (find key grows.0)) h in
         absurd (cc)
 
 -- an event that isn't the first post of the document
@@ -240,7 +240,7 @@ still_unposted A n q p past x never h = ap (since_queued p) (facts-push A n q pa
     by : (o : Option ReceiptFact) → ((j : ℕ) → o ≡ Some (APost j) → ⊥) → since_queued p (with_more (filter_map (receipt_fact A n q) past) o) ≡ None
     by None never = h
     by (Some (APost j)) never = absurd (never j refl)
-    by (Some (OfATry f)) never = since-push p (filter_map (receipt_fact A n q) past) (OfATry f) ∙ ap (λ (o : Option (Found ℕ Fact)). queued_by p o (OfATry f)) h
+    by (Some (OfATry f)) never = since-push p (filter_map (receipt_fact A n q) past) (OfATry f) ∙ ap (λ (o : Option (FoundAt ℕ Fact)). queued_by p o (OfATry f)) h
 
 unposted_on : (A : Agreements) (past : List Done) (s s' : State) (x : Done) → KeepsReceipts A past s → Grows s s' → ((q : Posted) (n : ℕ) → received_as s' q ≡ None → (j : ℕ) → receipt_fact A n q x ≡ Some (APost j) → ⊥) → (q : Posted) → received_as s' q ≡ None → (n : ℕ) (p : Partner) → since_queued p (filter_map (receipt_fact A n q) (past ++ x ∷ [])) ≡ None
 unposted_on A past s s' x keeps grows never q none n p = still_unposted A n q p past x (never q n none) (keeps.unposted q (gone_before s s' q grows none) n p)
@@ -256,29 +256,29 @@ quiet A past s s' x keeps formed grows same none = record {
 -- ---- a try of one receipt begins or ends
 
 -- the entry that the event acts on, or another one
-acted_entry : (A : Agreements) (past : List Done) (s : State) (k : ℕ) (act : InEntry → Answer × InEntry) (e : Event) (d : InEntry) → KeepsReceipts A past s → ((z : InEntry) → lasting (act z).1 ≡ lasting z) → ((n : ℕ) (q : Posted) (a : Answer) → (k == n) ≡ false → receipt_fact A n q (answered_event s.version e a) ≡ None) → ((z : InEntry) (p : Partner) (facts : List ReceiptFact) → AreAgreed A z.posted.receiver z.posted.sender p → StandsAs z.posted.how p facts z → StandsAs z.posted.how p (with_more facts (receipt_fact A k z.posted (answered_event s.version e (act z).0))) (act z).1) → received s k ≡ Some d → (n : ℕ) (x : InEntry) → received (change_received s k (λ z. (act z).1)) n ≡ Some x → (b : Bool) → (k == n) ≡ b → EntryStands A n (past ++ answered_event s.version e (act d).0 ∷ []) x.posted x
+acted_entry : (A : Agreements) (past : List Done) (s : State) (k : ℕ) (act : InEntry → Answer × InEntry) (e : Event) (d : InEntry) → KeepsReceipts A past s → ((z : InEntry) → lasting_part (act z).1 ≡ lasting_part z) → ((n : ℕ) (q : Posted) (a : Answer) → (k == n) ≡ false → receipt_fact A n q (answered_event s.version e a) ≡ None) → ((z : InEntry) (p : Partner) (facts : List ReceiptFact) → AreAgreed A z.posted.receiver z.posted.sender p → StandsAs z.posted.how p facts z → StandsAs z.posted.how p (with_more facts (receipt_fact A k z.posted (answered_event s.version e (act z).0))) (act z).1) → received_entry s k ≡ Some d → (n : ℕ) (x : InEntry) → received_entry (change_received s k (λ z. (act z).1)) n ≡ Some x → (b : Bool) → (k == n) ≡ b → EntryStands A n (past ++ answered_event s.version e (act d).0 ∷ []) x.posted x
 acted_entry A past s k act e d keeps kept silent moves found n x is false h =
     stands_still A n past (answered_event s.version e (act d).0) x.posted x (silent n x.posted (act d).0 h)
     (keeps.each n x (sym (received-changed_other s k (λ z. (act z).1) n kept (apart_turned k n k refl h)) ∙ is))
 acted_entry A past s k act e d keeps kept silent moves found n x is true h =
     let same : k ≡ n = number_is k n h in
-    let it : (act d).1 ≡ x = same_Some _ _ (sym (received-changed_same s k (λ z. (act z).1) d kept found) ∙ ap (received (change_received s k (λ z. (act z).1))) same ∙ is) in
+    let it : (act d).1 ≡ x = same_Some _ _ (sym (received-changed_same s k (λ z. (act z).1) d kept found) ∙ ap (received_entry (change_received s k (λ z. (act z).1))) same ∙ is) in
     let posted : (act d).1.posted ≡ d.posted = ap (λ (z : ℕ × Posted). z.1) (kept d) in
     let stood = stands_on A k past (answered_event s.version e (act d).0) d.posted d (act d).1 (keeps.each k d found) (moves d) in
     let of_it = subst (λ (q : Posted). EntryStands A k (past ++ answered_event s.version e (act d).0 ∷ []) q (act d).1) (sym posted) stood in
     let of_x = subst (λ (z : InEntry). EntryStands A k (past ++ answered_event s.version e (act d).0 ∷ []) z.posted z) it of_it in
     subst (λ (j : ℕ). EntryStands A j (past ++ answered_event s.version e (act d).0 ∷ []) x.posted x) same of_x
 
-acted_receipts : (A : Agreements) (past : List Done) (s : State) (k : ℕ) (act : InEntry → Answer × InEntry) (e : Event) → KeepsReceipts A past s → ((z : InEntry) → lasting (act z).1 ≡ lasting z) → ((n : ℕ) (q : Posted) (a : Answer) → (k == n) ≡ false → receipt_fact A n q (answered_event s.version e a) ≡ None) → ((n : ℕ) (q : Posted) (a : Answer) (j : ℕ) → receipt_fact A n q (answered_event s.version e a) ≡ Some (APost j) → ⊥) → ((z : InEntry) (p : Partner) (facts : List ReceiptFact) → AreAgreed A z.posted.receiver z.posted.sender p → StandsAs z.posted.how p facts z → StandsAs z.posted.how p (with_more facts (receipt_fact A k z.posted (answered_event s.version e (act z).0))) (act z).1) → (o : Option InEntry) → received s k ≡ o → IsWellFormed A (acted_in s k act o).1 → Grows s (acted_in s k act o).1 → KeepsReceipts A (past ++ answered_event s.version e (acted_in s k act o).0 ∷ []) (acted_in s k act o).1
+acted_receipts : (A : Agreements) (past : List Done) (s : State) (k : ℕ) (act : InEntry → Answer × InEntry) (e : Event) → KeepsReceipts A past s → ((z : InEntry) → lasting_part (act z).1 ≡ lasting_part z) → ((n : ℕ) (q : Posted) (a : Answer) → (k == n) ≡ false → receipt_fact A n q (answered_event s.version e a) ≡ None) → ((n : ℕ) (q : Posted) (a : Answer) (j : ℕ) → receipt_fact A n q (answered_event s.version e a) ≡ Some (APost j) → ⊥) → ((z : InEntry) (p : Partner) (facts : List ReceiptFact) → AreAgreed A z.posted.receiver z.posted.sender p → StandsAs z.posted.how p facts z → StandsAs z.posted.how p (with_more facts (receipt_fact A k z.posted (answered_event s.version e (act z).0))) (act z).1) → (o : Option InEntry) → received_entry s k ≡ o → IsWellFormed A (acted_in s k act o).1 → Grows s (acted_in s k act o).1 → KeepsReceipts A (past ++ answered_event s.version e (acted_in s k act o).0 ∷ []) (acted_in s k act o).1
 acted_receipts A past s k act e keeps kept silent never moves None none formed grows = record {
   formed = formed;
   each = λ n d is. stands_still A n past (answered_event s.version e (Refused NoSuchNumber)) d.posted d (silent n d.posted (Refused NoSuchNumber) (absent n d is (k == n) refl)) (keeps.each n d is);
   unposted = unposted_on A past s s (answered_event s.version e (Refused NoSuchNumber)) keeps grows (λ q n gone. never n q (Refused NoSuchNumber));
 }
   where
-    absent : (n : ℕ) (d : InEntry) → received s n ≡ Some d → (b : Bool) → (k == n) ≡ b → (k == n) ≡ false
+    absent : (n : ℕ) (d : InEntry) → received_entry s n ≡ Some d → (b : Bool) → (k == n) ≡ b → (k == n) ≡ false
     absent n d is false h = h
-    absent n d is true h = absurd (let same : k ≡ n = number_is k n h in let two : None ≡ Some d = sym none ∙ ap (received s) same ∙ is in cc)
+    absent n d is true h = absurd (let same : k ≡ n = number_is k n h in let two : None ≡ Some d = sym none ∙ ap (received_entry s) same ∙ is in cc)
 acted_receipts A past s k act e keeps kept silent never moves (Some d) found formed grows = record {
   formed = formed;
   each = λ n x is. acted_entry A past s k act e d keeps kept silent moves found n x is (k == n) refl;
@@ -313,17 +313,17 @@ outcome_fact_is : (v : Version) (A : Agreements) (k : ℕ) (got : TryAnswer) (m 
 unfolding receipt_fact
 outcome_fact_is v A k got m q a = ap (λ (b : Bool). if b then Some (OfATry (AnOutcome m (known_digests v) got)) else None) (same_number k)
 
-begin_receipts : (A : Agreements) (past : List Done) (s : State) (k m : ℕ) → KeepsReceipts A past s → let y = acted_in s k (mdn_begun A m) (received s k) in IsWellFormed A y.1 → Grows s y.1 → KeepsReceipts A (past ++ answered_event s.version (BeginMdn k m) y.0 ∷ []) y.1
+begin_receipts : (A : Agreements) (past : List Done) (s : State) (k m : ℕ) → KeepsReceipts A past s → let y = acted_in s k (mdn_begun A m) (received_entry s k) in IsWellFormed A y.1 → Grows s y.1 → KeepsReceipts A (past ++ answered_event s.version (BeginMdn k m) y.0 ∷ []) y.1
 begin_receipts A past s k m keeps formed grows =
     acted_receipts A past s k (mdn_begun A m) (BeginMdn k m) keeps (mdn_begun_lasting A m) (begin_silent s.version A k m) (begin_never s.version A k m)
     (λ z p facts agreed h. subst (λ (o : Option ReceiptFact). StandsAs z.posted.how p (with_more facts o) (mdn_begun A m z).1) (sym (begin_fact_is s.version A k m z.posted (mdn_begun A m z).0)) (try_begun A z.posted.how p facts m z agreed h))
-    (received s k) refl formed grows
+    (received_entry s k) refl formed grows
 
-outcome_receipts : (A : Agreements) (past : List Done) (s : State) (k : ℕ) (got : TryAnswer) (m : ℕ) → KeepsReceipts A past s → let y = acted_in s k (mdn_closed A got m) (received s k) in IsWellFormed A y.1 → Grows s y.1 → KeepsReceipts A (past ++ answered_event s.version (OutcomeMdn k got m) y.0 ∷ []) y.1
+outcome_receipts : (A : Agreements) (past : List Done) (s : State) (k : ℕ) (got : TryAnswer) (m : ℕ) → KeepsReceipts A past s → let y = acted_in s k (mdn_closed A got m) (received_entry s k) in IsWellFormed A y.1 → Grows s y.1 → KeepsReceipts A (past ++ answered_event s.version (OutcomeMdn k got m) y.0 ∷ []) y.1
 outcome_receipts A past s k got m keeps formed grows =
     acted_receipts A past s k (mdn_closed A got m) (OutcomeMdn k got m) keeps (mdn_closed_lasting A got m) (outcome_silent s.version A k got m) (outcome_never s.version A k got m)
     (λ z p facts agreed h. subst (λ (o : Option ReceiptFact). StandsAs z.posted.how p (with_more facts o) (mdn_closed A got m z).1) (sym (outcome_fact_is s.version A k got m z.posted (mdn_closed A got m z).0)) (try_closed A z.posted.how p facts (known_digests s.version) got m z agreed h))
-    (received s k) refl formed grows
+    (received_entry s k) refl formed grows
 
 -- ---- a document is posted
 
@@ -331,7 +331,7 @@ outcome_receipts A past s k got m keeps formed grows =
 abbrev PostsFor : Agreements → ℕ → Done → ℕ → Posted → Type 0
 PostsFor A o x m q = (n : ℕ) (p : Posted) → receipt_fact A n p x ≡ (if repeats o n p q then Some (APost m) else None)
 
-posts_for : (v : Version) (A : Agreements) (head : Head) (body : Text) (m : ℕ) (a : Answer) (q : Posted) → reading A (known_digests v) head body ≡ IsDocument q → PostsFor A (origin_of v) (answered_event v (Post head body m) a) m q
+posts_for : (v : Version) (A : Agreements) (head : Head) (body : Text) (m : ℕ) (a : Answer) (q : Posted) → post_reading A (known_digests v) head body ≡ IsDocument q → PostsFor A (origin_of v) (answered_event v (Post head body m) a) m q
 unfolding receipt_fact
 posts_for v A head body m a q is n p = rw is refl
 
@@ -360,11 +360,11 @@ with_first s m q = record s { inbox = s.inbox ++ first_entry s.next_in m q ∷ [
 fresh_receipts : (A : Agreements) (past : List Done) (s : State) (m : ℕ) (q : Posted) (x : Done) → KeepsReceipts A past s → PostsFor A (origin_of s.version) x m q → ((p : Partner) × AreAgreed A q.receiver q.sender p) → received_as s q ≡ None → IsWellFormed A (with_first s m q) → Grows s (with_first s m q) → KeepsReceipts A (past ++ x ∷ []) (with_first s m q)
 fresh_receipts A past s m q x keeps post known none formed grows = record {
   formed = formed;
-  each = λ n e is. by n e (received s n) refl (sym (find-append (λ (d : InEntry). d.number == n) s.inbox (first_entry s.next_in m q ∷ [])) ∙ is);
+  each = λ n e is. by n e (received_entry s n) refl (sym (find-append (λ (d : InEntry). d.number == n) s.inbox (first_entry s.next_in m q ∷ [])) ∙ is);
   unposted = unposted_on A past s (with_first s m q) x keeps grows never;
 }
   where
-    other : (n : ℕ) (d : InEntry) → received s n ≡ Some d → (b : Bool) → repeats (origin_of s.version) n d.posted q ≡ b → repeats (origin_of s.version) n d.posted q ≡ false
+    other : (n : ℕ) (d : InEntry) → received_entry s n ≡ Some d → (b : Bool) → repeats (origin_of s.version) n d.posted q ≡ b → repeats (origin_of s.version) n d.posted q ≡ false
     other n d is false h = h
     other n d is true h =
         let key : same_key d.posted q ≡ false = find_none (λ (e : InEntry). same_key e.posted q) (λ (e : InEntry). e.number == n) s.inbox d none is in
@@ -378,14 +378,14 @@ fresh_receipts A past s m q x keeps post known none formed grows = record {
           (ap (since_queued known.0) (facts-push A n q past x)
           ∙ ap (λ (o : Option ReceiptFact). since_queued known.0 (with_more (filter_map (receipt_fact A n q) past) o)) (is_posted A (origin_of s.version) x m q n q post (repeats_itself (origin_of s.version) n q))
           ∙ since-push known.0 (filter_map (receipt_fact A n q) past) (APost m)
-          ∙ ap (λ (o : Option (Found ℕ Fact)). queued_by known.0 o (APost m)) (keeps.unposted q none n known.0));
+          ∙ ap (λ (o : Option (FoundAt ℕ Fact)). queued_by known.0 o (APost m)) (keeps.unposted q none n known.0));
     }
 
     new : (n : ℕ) (e : InEntry) (b : Bool) → (if b then Some (first_entry s.next_in m q) else None) ≡ Some e → EntryStands A n (past ++ x ∷ []) e.posted e
     new n e true h = subst (λ (z : InEntry). EntryStands A n (past ++ x ∷ []) z.posted z) (same_Some _ _ h) (its_first n)
     new n e false h = absurd (cc)
 
-    by : (n : ℕ) (e : InEntry) (o : Option InEntry) → received s n ≡ o → option_or o (find (λ (d : InEntry). d.number == n) (first_entry s.next_in m q ∷ [])) ≡ Some e → EntryStands A n (past ++ x ∷ []) e.posted e
+    by : (n : ℕ) (e : InEntry) (o : Option InEntry) → received_entry s n ≡ o → option_or o (find (λ (d : InEntry). d.number == n) (first_entry s.next_in m q ∷ [])) ≡ Some e → EntryStands A n (past ++ x ∷ []) e.posted e
     by n e (Some d) at h =
         subst (λ (z : InEntry). EntryStands A n (past ++ x ∷ []) z.posted z) (same_Some _ _ h)
         (stands_still A n past x d.posted d (not_posted A (origin_of s.version) x m q n d.posted post (other n d at (repeats (origin_of s.version) n d.posted q) refl)) (keeps.each n d at))
@@ -406,21 +406,21 @@ never_new A s s' x m q d post grows found p n gone j h =
     absurd (cc)
 
 -- no other entry is repeated
-others_not : (A : Agreements) (s : State) (q : Posted) (d e : InEntry) (n : ℕ) → IsWellFormed A s → received_as s q ≡ Some d → received s n ≡ Some e → (e ≡ d → ⊥) → (b : Bool) → repeats (origin_of s.version) n e.posted q ≡ b → repeats (origin_of s.version) n e.posted q ≡ false
+others_not : (A : Agreements) (s : State) (q : Posted) (d e : InEntry) (n : ℕ) → IsWellFormed A s → received_as s q ≡ Some d → received_entry s n ≡ Some e → (e ≡ d → ⊥) → (b : Bool) → repeats (origin_of s.version) n e.posted q ≡ b → repeats (origin_of s.version) n e.posted q ≡ false
 others_not A s q d e n formed found is other false h = h
 others_not A s q d e n formed found is other true h = absurd (other (repeated_is A s q d e n (origin_of s.version) n formed found is h))
 
-repeated_entry : (A : Agreements) (past : List Done) (s : State) (m : ℕ) (q : Posted) (x : Done) (d : InEntry) → KeepsReceipts A past s → PostsFor A (origin_of s.version) x m q → received_as s q ≡ Some d → repeats (origin_of s.version) d.number d.posted q ≡ true → (n : ℕ) (e : InEntry) → received (change_received s d.number (requeued_by_repeat m)) n ≡ Some e → (b : Bool) → (d.number == n) ≡ b → EntryStands A n (past ++ x ∷ []) e.posted e
+repeated_entry : (A : Agreements) (past : List Done) (s : State) (m : ℕ) (q : Posted) (x : Done) (d : InEntry) → KeepsReceipts A past s → PostsFor A (origin_of s.version) x m q → received_as s q ≡ Some d → repeats (origin_of s.version) d.number d.posted q ≡ true → (n : ℕ) (e : InEntry) → received_entry (change_received s d.number (requeued_by_repeat m)) n ≡ Some e → (b : Bool) → (d.number == n) ≡ b → EntryStands A n (past ++ x ∷ []) e.posted e
 repeated_entry A past s m q x d keeps post found same n e is false h =
-    let at : received s n ≡ Some e = sym (received-changed_other s d.number (requeued_by_repeat m) n (queued_lasting m) (apart_turned d.number n d.number refl h)) ∙ is in
+    let at : received_entry s n ≡ Some e = sym (received-changed_other s d.number (requeued_by_repeat m) n (queued_lasting m) (apart_turned d.number n d.number refl h)) ∙ is in
     let num : e.number ≡ n = received_number s n e at in
     stands_still A n past x e.posted e
     (not_posted A (origin_of s.version) x m q n e.posted post (others_not A s q d e n keeps.formed found at (λ it. false≢true (sym h ∙ ap (λ (j : ℕ). d.number == j) (sym num ∙ ap (λ (z : InEntry). z.number) it) ∙ same_number d.number)) (repeats (origin_of s.version) n e.posted q) refl))
     (keeps.each n e at)
 repeated_entry A past s m q x d keeps post found same n e is true h =
     let num : d.number ≡ n = number_is d.number n h in
-    let at : received s d.number ≡ Some d = found_by_key A s q d keeps.formed found in
-    let it : requeued_by_repeat m d ≡ e = same_Some _ _ (sym (received-changed_same s d.number (requeued_by_repeat m) d (queued_lasting m) at) ∙ ap (received (change_received s d.number (requeued_by_repeat m))) num ∙ is) in
+    let at : received_entry s d.number ≡ Some d = found_by_key A s q d keeps.formed found in
+    let it : requeued_by_repeat m d ≡ e = same_Some _ _ (sym (received-changed_same s d.number (requeued_by_repeat m) d (queued_lasting m) at) ∙ ap (received_entry (change_received s d.number (requeued_by_repeat m))) num ∙ is) in
     let posted : (requeued_by_repeat m d).posted ≡ d.posted = ap (λ (z : ℕ × Posted). z.1) (queued_lasting m d) in
     let stood = stands_on A d.number past x d.posted d (requeued_by_repeat m d) (keeps.each d.number d at) (λ p facts agreed stands. subst (λ (o : Option ReceiptFact). StandsAs d.posted.how p (with_more facts o) (requeued_by_repeat m d)) (sym (is_posted A (origin_of s.version) x m q d.number d.posted post same)) (reposted d.posted.how p facts m d refl stands)) in
     let of_it = subst (λ (p : Posted). EntryStands A d.number (past ++ x ∷ []) p (requeued_by_repeat m d)) (sym posted) stood in
@@ -434,7 +434,7 @@ repeated_receipts A past s m q x d keeps post found same formed grows = record {
   unposted = unposted_on A past s (change_received s d.number (requeued_by_repeat m)) x keeps grows (never_new A s (change_received s d.number (requeued_by_repeat m)) x m q d post grows found);
 }
 
-clash_not : (A : Agreements) (s : State) (q : Posted) (d e : InEntry) (n : ℕ) → IsWellFormed A s → received_as s q ≡ Some d → repeats (origin_of s.version) d.number d.posted q ≡ false → received s n ≡ Some e → (b : Bool) → repeats (origin_of s.version) n e.posted q ≡ b → repeats (origin_of s.version) n e.posted q ≡ false
+clash_not : (A : Agreements) (s : State) (q : Posted) (d e : InEntry) (n : ℕ) → IsWellFormed A s → received_as s q ≡ Some d → repeats (origin_of s.version) d.number d.posted q ≡ false → received_entry s n ≡ Some e → (b : Bool) → repeats (origin_of s.version) n e.posted q ≡ b → repeats (origin_of s.version) n e.posted q ≡ false
 clash_not A s q d e n formed found other is false h = h
 clash_not A s q d e n formed found other is true h =
     let it : e ≡ d = repeated_is A s q d e n (origin_of s.version) n formed found is h in
@@ -460,11 +460,11 @@ left_receipts A past s m q x y keeps post known (clash d there other is) formed 
 
 -- ---- a step and a run
 
-refused_quiet : (v : Version) (A : Agreements) (head : Head) (body : Text) (m : ℕ) (a : Answer) (line : Line) → reading A (known_digests v) head body ≡ Refuses line → (n : ℕ) (q : Posted) → receipt_fact A n q (answered_event v (Post head body m) a) ≡ None
+refused_quiet : (v : Version) (A : Agreements) (head : Head) (body : Text) (m : ℕ) (a : Answer) (line : Line) → post_reading A (known_digests v) head body ≡ Refuses line → (n : ℕ) (q : Posted) → receipt_fact A n q (answered_event v (Post head body m) a) ≡ None
 unfolding receipt_fact
 refused_quiet v A head body m a line is n q = rw is refl
 
-receipt_quiet : (v : Version) (A : Agreements) (head : Head) (body : Text) (m : ℕ) (a : Answer) (r : ReceivedReceipt) → reading A (known_digests v) head body ≡ IsReceipt r → (n : ℕ) (q : Posted) → receipt_fact A n q (answered_event v (Post head body m) a) ≡ None
+receipt_quiet : (v : Version) (A : Agreements) (head : Head) (body : Text) (m : ℕ) (a : Answer) (r : ReceivedReceipt) → post_reading A (known_digests v) head body ≡ IsReceipt r → (n : ℕ) (q : Posted) → receipt_fact A n q (answered_event v (Post head body m) a) ≡ None
 unfolding receipt_fact
 receipt_quiet v A head body m a r is n q = rw is refl
 
@@ -472,14 +472,14 @@ other_quiet : (v : Version) (A : Agreements) (e : Event) (a : Answer) (n : ℕ) 
 unfolding receipt_fact
 other_quiet v A e a n q h = h
 
-post_receipts : (A : Agreements) (past : List Done) (s : State) (head : Head) (body : Text) (m : ℕ) (r : Reading) (y : Answer × State) → reading A (known_digests s.version) head body ≡ r → KeepsReceipts A past s → post A s m r ≡ Some y → IsWellFormed A y.1 → Grows s y.1 → KeepsReceipts A (past ++ answered_event s.version (Post head body m) y.0 ∷ []) y.1
+post_receipts : (A : Agreements) (past : List Done) (s : State) (head : Head) (body : Text) (m : ℕ) (r : Reading) (y : Answer × State) → post_reading A (known_digests s.version) head body ≡ r → KeepsReceipts A past s → post A s m r ≡ Some y → IsWellFormed A y.1 → Grows s y.1 → KeepsReceipts A (past ++ answered_event s.version (Post head body m) y.0 ∷ []) y.1
 unfolding record_post
 post_receipts A past s head body m (Refuses line) y is keeps h formed grows = quiet A past s y.1 (answered_event s.version (Post head body m) y.0) keeps formed grows (ap (λ (z : Answer × State). z.1.inbox) (sym (same_Some _ y h))) (refused_quiet s.version A head body m y.0 line is)
 post_receipts A past s head body m (IsReceipt r) y is keeps h formed grows = quiet A past s y.1 (answered_event s.version (Post head body m) y.0) keeps formed grows (ap (λ (z : Answer × State). z.1.inbox) (sym (same_Some _ y h)) ∙ (settle_inbox s m r).0) (receipt_quiet s.version A head body m y.0 r is)
-post_receipts A past s head body m (IsDocument q) y is keeps h formed grows = left_receipts A past s m q (answered_event s.version (Post head body m) y.0) y keeps (posts_for s.version A head body m y.0 q is) (document_known A (reading A (known_digests s.version) head body) q (reading_known A (known_digests s.version) head body) is) (left_is A s m q (received_as s q) y h) formed grows
+post_receipts A past s head body m (IsDocument q) y is keeps h formed grows = left_receipts A past s m q (answered_event s.version (Post head body m) y.0) y keeps (posts_for s.version A head body m y.0 q is) (document_known A (post_reading A (known_digests s.version) head body) q (reading_known A (known_digests s.version) head body) is) (left_is A s m q (received_as s q) y h) formed grows
 
 step_receipts : (A : Agreements) (past : List Done) (s : State) (e : Event) (y : Answer × State) → KeepsReceipts A past s → step A s e ≡ Some y → IsWellFormed A y.1 → Grows s y.1 → KeepsReceipts A (past ++ answered_event s.version e y.0 ∷ []) y.1
-step_receipts A past s (Post head body m) y keeps h formed grows = post_receipts A past s head body m (reading A (known_digests s.version) head body) y refl keeps h formed grows
+step_receipts A past s (Post head body m) y keeps h formed grows = post_receipts A past s head body m (post_reading A (known_digests s.version) head body) y refl keeps h formed grows
 step_receipts A past s (Submit organization partner content m) y keeps h formed grows = quiet A past s y.1 _ keeps formed grows (submit_inbox A s organization partner content m y h) (λ n q. other_quiet s.version A (Submit organization partner content m) y.0 n q refl)
 step_receipts A past s (Begin k m) y keeps h formed grows = quiet A past s y.1 _ keeps formed grows (ap (λ (z : Answer × State). z.1.inbox) (sym (same_Some _ y h)) ∙ acted_inbox s k (begun_document A m) (document s k)) (λ n q. other_quiet s.version A (Begin k m) y.0 n q refl)
 step_receipts A past s (Outcome k got m) y keeps h formed grows = quiet A past s y.1 _ keeps formed grows (ap (λ (z : Answer × State). z.1.inbox) (sym (same_Some _ y h)) ∙ acted_inbox s k (closed_document A (known_digests s.version) got m) (document s k)) (λ n q. other_quiet s.version A (Outcome k got m) y.0 n q refl)
@@ -499,19 +499,19 @@ unfolding since_queued
 nothing_received A v first h = record { formed = empty_formed A v first h; each = λ n e is. absurd (cc); unposted = λ q gone n p. refl }
 
 -- a migration leaves the receipts
-migrated_receipts : (A : Agreements) (past : List Done) (s : State) → KeepsReceipts A past s → KeepsReceipts A past (migrated s)
+migrated_receipts : (A : Agreements) (past : List Done) (s : State) → KeepsReceipts A past s → KeepsReceipts A past (migrated_state s)
 migrated_receipts A past s keeps = record { formed = migrated_formed A s keeps.formed; each = keeps.each; unposted = keeps.unposted }
 
-run_receipts : (A : Agreements) (past : List Done) (old : State) (trace : Trace) (new : State) → KeepsReceipts A past old → Run A old trace new → KeepsReceipts A (past ++ accepted old.version trace) new
+run_receipts : (A : Agreements) (past : List Done) (old : State) (trace : Trace) (new : State) → KeepsReceipts A past old → Run A old trace new → KeepsReceipts A (past ++ accepted_events old.version trace) new
 run_receipts A past old [] new keeps run = rw (run, append-nil past) keeps
 run_receipts A past old (AnEvent e (Answered a) ∷ rest) new keeps run =
-    subst (λ (d : List Done). KeepsReceipts A d new) (append_assoc past (answered_event old.version e a ∷ []) (accepted old.version rest))
-    (subst (λ (v : Version). KeepsReceipts A ((past ++ answered_event old.version e a ∷ []) ++ accepted v rest) new) (step_steady A old e (a, run.0) run.1).0
+    subst (λ (d : List Done). KeepsReceipts A d new) (append_assoc past (answered_event old.version e a ∷ []) (accepted_events old.version rest))
+    (subst (λ (v : Version). KeepsReceipts A ((past ++ answered_event old.version e a ∷ []) ++ accepted_events v rest) new) (step_steady A old e (a, run.0) run.1).0
     (run_receipts A (past ++ answered_event old.version e a ∷ []) run.0 rest new (step_receipts A past old e (a, run.0) keeps run.1 (step_formed A old e (a, run.0) keeps.formed run.1) (step_grows A old e (a, run.0) run.1)) run.2))
 run_receipts A past old (AnEvent e (Failed fault) ∷ rest) new keeps run = run_receipts A past old rest new keeps run.1
 run_receipts A past old (AMigration n ∷ rest) new keeps run =
-    subst (λ (m : ℕ). KeepsReceipts A (past ++ accepted (LaterVersion m) rest) new) (sym run.1)
-    (run_receipts A past (migrated old) rest new (migrated_receipts A past old keeps) run.2)
+    subst (λ (m : ℕ). KeepsReceipts A (past ++ accepted_events (LaterVersion m) rest) new) (sym run.1)
+    (run_receipts A past (migrated_state old) rest new (migrated_receipts A past old keeps) run.2)
 
 -- ---- the law
 
@@ -520,8 +520,8 @@ stands_told NoReceipt p facts e h = λ i. Some (record { mdn = sym h.0 i; tries 
 stands_told Sync p facts e h = λ i. Some (record { mdn = sym h.0 i; tries = sym h.1 i; attempt = sym h.2 i; due = sym h.3 i })
 stands_told (Async url) p facts e h = ap (option_map (sent_later p)) h.1 ∙ (λ i. Some (record { mdn = sym h.2.state i; tries = sym h.2.count i; attempt = sym h.2.try i; due = sym h.2.wait i }))
 
-pub receipts_law : (A : Agreements) (v : Version) (first : ℕ) (trace : Trace) (s : State) → IsCounter first → Run A (empty v first) trace s → (n : ℕ) (e : InEntry) → received s n ≡ Some e → receipt_history A (accepted v trace) n e.posted ≡ Some (receipt_told e)
+pub receipts_law : (A : Agreements) (v : Version) (first : ℕ) (trace : Trace) (s : State) → IsCounter first → Run A (empty v first) trace s → (n : ℕ) (e : InEntry) → received_entry s n ≡ Some e → receipt_history A (accepted_events v trace) n e.posted ≡ Some (receipt_told e)
 receipts_law A v first trace s h run n e is =
     let stands = (run_receipts A [] (empty v first) trace s (nothing_received A v first h) run).each n e is in
-    ap (λ (o : Option Partner). option_and_then (λ (p : Partner). history_by_how e.posted.how p (since_queued p (filter_map (receipt_fact A n e.posted) (accepted v trace)))) o) stands.agreed.theirs
-    ∙ stands_told e.posted.how stands.partner (filter_map (receipt_fact A n e.posted) (accepted v trace)) e stands.stands
+    ap (λ (o : Option Partner). option_and_then (λ (p : Partner). history_by_how e.posted.how p (since_queued p (filter_map (receipt_fact A n e.posted) (accepted_events v trace)))) o) stands.agreed.theirs
+    ∙ stands_told e.posted.how stands.partner (filter_map (receipt_fact A n e.posted) (accepted_events v trace)) e stands.stands

@@ -2,14 +2,14 @@
 use Rattle.std.proofs.Common.{◌≡◌, ℕ, [], ◌∷◌, Option, Some, None, refl}
 use Rattle.std.specs.Prelude.{codes, replicate, option_map}
 use Rattle.as2_names.specs.Blanks.{without_blanks}
-use Rattle.as2_names.specs.Identifiers.{value_of as bare}
+use Rattle.as2_names.specs.Identifiers.{without_brackets as bare}
 use Rattle.as2_media.specs.Values.{between_quotes}
 use Rattle.as2_exchange.specs.Agreement.{Text, Alg, Sha1, Md5}
-use Rattle.as2_exchange.specs.Readings.{Head, ReceiptDelivery, NoReceipt, Sync, Outcome, Processed, DecryptionFailed, DecompressionFailed, AuthenticationFailed, UnsupportedFormat, UnsupportedMicAlgorithms, names_of, version_fits, type_of, is_report, report_in, id_of, value_of, ask_of, how_of, outcome_of, encoding_refused, mic_for}
+use Rattle.as2_exchange.specs.Readings.{Head, ReceiptDelivery, NoReceipt, Sync, Outcome, Processed, DecryptionFailed, DecompressionFailed, AuthenticationFailed, UnsupportedFormat, UnsupportedMicAlgorithms, names_of, version_fits, type_of, is_report, report_in, id_of, value_of, ask_of, how_of, document_outcome, encoding_refused, mic_for}
 use Rattle.as2_exchange.specs.State.{AllDigests, LaterVersion, empty}
 use Rattle.as2_exchange.specs.Events.{Post, Nothing, Words, Line, BadNames, BadVersion, UnknownNames, BadType, UnreadableReceipt, BadId, BadAsk, IdUsedBefore, NotProcessed}
 use Rattle.as2_exchange.specs.Lines.{http, status_of}
-use Rattle.as2_exchange.specs.Posts.{Reading, Refuses, IsDocument, reading}
+use Rattle.as2_exchange.specs.Posts.{Reading, Refuses, IsDocument, post_reading}
 use Rattle.as2_exchange.specs.Recording.{record_post, answer_to}
 use Rattle.as2_exchange.proofs.Fixture.{fixture, abc, sha1_mic, q_type_text, m1}
 use Rattle.as2_exchange.proofs.Rows.{play}
@@ -35,7 +35,7 @@ abbrev usual : Head
 usual = asks (codes "signed-receipt-micalg=optional, sha1")
 
 abbrev read : Head → Reading
-read head = reading fixture AllDigests head abc
+read head = post_reading fixture AllDigests head abc
 
 -- the line that refuses a post, with its status
 abbrev refusal_told : Reading → Option (ℕ × Line)
@@ -55,7 +55,7 @@ refused_posts : (refusal_told (read []) ≡ Some (400, BadNames))
     × (refusal_told (read (message (codes "1.0") (codes "Buyer") (codes "<>") edi usual)) ≡ Some (400, BadId))
     × (refusal_told (read (message (codes "1.0") (codes "Buyer") m1 edi ((codes "message-id", m1) ∷ usual))) ≡ Some (400, BadId))
     × (refusal_told (read (message (codes "1.0") (codes "Buyer") m1 edi (asks (codes "x")))) ≡ Some (400, BadAsk))
-unfolding reading names_of version_fits type_of is_report report_in id_of ask_of without_blanks between_quotes bare
+unfolding post_reading names_of version_fits type_of is_report report_in id_of ask_of without_blanks between_quotes bare
 refused_posts = (refl, refl, refl, refl, refl, refl, refl, refl, refl, refl, refl, refl)
 
 -- where several lines fit, it is the first
@@ -64,7 +64,7 @@ first_line_that_fits : (refusal_told (read (message (codes "2.0") [] (codes "<>"
     × (refusal_told (read (message (codes "1.0") (codes "Nobody") (codes "<>") (codes "edi") (asks (codes "x")))) ≡ Some (403, UnknownNames))
     × (refusal_told (read (message (codes "1.9") (codes "Buyer") (codes "<>") (codes "edi") (asks (codes "x")))) ≡ Some (400, BadType))
     × (refusal_told (read (message (codes "1.0") (codes "Buyer") (codes "<>") edi (asks (codes "x")))) ≡ Some (400, BadId))
-unfolding reading names_of version_fits type_of is_report id_of ask_of without_blanks between_quotes bare
+unfolding post_reading names_of version_fits type_of is_report id_of ask_of without_blanks between_quotes bare
 first_line_that_fits = (refl, refl, refl, refl, refl)
 
 -- a field that is given twice; a receiver that is no organization
@@ -72,7 +72,7 @@ given_twice : (refusal_told (read (message (codes "1.0") (codes "Buyer") m1 edi 
     × (refusal_told (read (message (codes "1.0") (codes "Buyer") m1 edi ((codes "content-type", edi) ∷ usual))) ≡ Some (400, BadType))
     × (refusal_told (read (message (codes "1.0") (codes "Buyer") m1 edi ((codes "disposition-notification-to", codes "a@x") ∷ usual))) ≡ Some (400, BadAsk))
     × (refusal_told (read ((codes "as2-from", codes "Buyer") ∷ (codes "as2-to", codes "Buyer") ∷ [])) ≡ Some (403, UnknownNames))
-unfolding reading names_of version_fits type_of is_report id_of ask_of without_blanks between_quotes bare
+unfolding post_reading names_of version_fits type_of is_report id_of ask_of without_blanks between_quotes bare
 given_twice = (refl, refl, refl, refl)
 
 -- the version may be absent, and so may the content type
@@ -85,11 +85,11 @@ seen_as (IsDocument p) = Some (p.sender, p.content_type, p.outcome, p.how)
 seen_as other = None
 
 least_post : seen_as (read short_head) ≡ Some (codes "Buyer", codes "application/octet-stream", Processed, NoReceipt)
-unfolding reading names_of version_fits type_of is_report id_of ask_of how_of outcome_of encoding_refused without_blanks between_quotes bare
+unfolding post_reading names_of version_fits type_of is_report id_of ask_of how_of document_outcome encoding_refused without_blanks between_quotes bare
 least_post = refl
 
 quoted_name : seen_as (read (message (codes "1.0") (codes "\"A \\\"B\\\" \\\\ C\"") m1 edi usual)) ≡ Some (codes "A \"B\" \\ C", edi, Processed, Sync)
-unfolding reading names_of version_fits type_of is_report id_of ask_of how_of outcome_of encoding_refused without_blanks between_quotes bare
+unfolding post_reading names_of version_fits type_of is_report id_of ask_of how_of document_outcome encoding_refused without_blanks between_quotes bare
 quoted_name = refl
 
 -- what becomes of a document from Buyer
@@ -102,7 +102,7 @@ became type more = became_in (read (message (codes "1.0") (codes "Buyer") m1 typ
 
 compressed_and_enveloped : (became (codes "application/pkcs7-mime; smime-type=compressed-data") usual ≡ Some DecompressionFailed)
     × (became (codes "application/pkcs7-mime") usual ≡ Some DecryptionFailed)
-unfolding reading names_of version_fits type_of is_report id_of ask_of how_of outcome_of encoding_refused without_blanks between_quotes bare
+unfolding post_reading names_of version_fits type_of is_report id_of ask_of how_of document_outcome encoding_refused without_blanks between_quotes bare
 compressed_and_enveloped = (refl, refl)
 
 signed_and_unsupported : (became (codes "multipart/signed; protocol=\"application/pkcs7-signature\"; micalg=sha1; boundary=\"b\"") usual ≡ Some AuthenticationFailed)
@@ -112,7 +112,7 @@ signed_and_unsupported : (became (codes "multipart/signed; protocol=\"applicatio
     × (became edi ((codes "content-transfer-encoding", codes "Binary") ∷ usual) ≡ Some Processed)
     × (became edi ((codes "content-encoding", codes "gzip") ∷ usual) ≡ Some UnsupportedFormat)
     × (became edi ((codes "content-encoding", codes "identity") ∷ usual) ≡ Some Processed)
-unfolding reading names_of version_fits type_of is_report id_of ask_of how_of outcome_of encoding_refused without_blanks between_quotes bare
+unfolding post_reading names_of version_fits type_of is_report id_of ask_of how_of document_outcome encoding_refused without_blanks between_quotes bare
 signed_and_unsupported = (refl, refl, refl, refl, refl, refl, refl)
 
 -- the digest of the MIC
@@ -127,7 +127,7 @@ mic_algorithms : (became edi (asks (codes "signed-receipt-micalg=required, sha-3
     × (digest_of (codes "signed-receipt-micalg=required, sha-384") ≡ None)
     × (digest_of (codes "signed-receipt-micalg=optional, sha-384") ≡ Some Sha1)
     × (digest_of (codes "signed-receipt-micalg=optional, sha-384, MD5, sha1") ≡ Some Md5)
-unfolding reading names_of version_fits type_of is_report id_of ask_of how_of outcome_of encoding_refused mic_for without_blanks between_quotes bare
+unfolding post_reading names_of version_fits type_of is_report id_of ask_of how_of document_outcome encoding_refused mic_for without_blanks between_quotes bare
 mic_algorithms = (refl, refl, refl, refl)
 
 abbrev bare_head : Text → Head
@@ -135,15 +135,15 @@ bare_head id = message (codes "1.0") (codes "Buyer") id edi []
 
 -- one value in two spellings is no repeat
 identifier_spelling : play (λ s. s.next_in) (empty (LaterVersion 0) 1) (Post (bare_head (codes "m1@x")) abc 1000 ∷ Post (bare_head m1) abc 1000 ∷ []) ≡ Some (http 200 Nothing ∷ http 409 (Words IdUsedBefore) ∷ [], 2)
-unfolding play reading names_of version_fits type_of is_report id_of value_of ask_of how_of outcome_of encoding_refused mic_for without_blanks between_quotes bare record_post answer_to
+unfolding play post_reading names_of version_fits type_of is_report id_of value_of ask_of how_of document_outcome encoding_refused mic_for without_blanks between_quotes bare record_post answer_to
 identifier_spelling = refl
 
 -- an absent content type and the same one spelled out repeat each other
 absent_type_is_octets : play (λ s. s.next_in) (empty (LaterVersion 0) 1) (Post short_head abc 1000 ∷ Post (message (codes "1.0") (codes "Buyer") m1 (codes "application/octet-stream") []) abc 1000 ∷ []) ≡ Some (http 200 Nothing ∷ http 200 Nothing ∷ [], 2)
-unfolding play reading names_of version_fits type_of is_report id_of value_of ask_of how_of outcome_of encoding_refused mic_for without_blanks between_quotes bare record_post answer_to
+unfolding play post_reading names_of version_fits type_of is_report id_of value_of ask_of how_of document_outcome encoding_refused mic_for without_blanks between_quotes bare record_post answer_to
 absent_type_is_octets = rw sha1_mic refl
 
 -- a document that isn't processed, and no receipt asked
 unprocessed_without_receipt : play (λ s. s.next_in) (empty (LaterVersion 0) 1) (Post (message (codes "1.0") (codes "Buyer") m1 (codes "application/pkcs7-mime") []) abc 1000 ∷ []) ≡ Some (http 400 (Words (NotProcessed DecryptionFailed)) ∷ [], 2)
-unfolding play reading names_of version_fits type_of is_report id_of value_of ask_of how_of outcome_of encoding_refused mic_for without_blanks between_quotes bare record_post answer_to
+unfolding play post_reading names_of version_fits type_of is_report id_of value_of ask_of how_of document_outcome encoding_refused mic_for without_blanks between_quotes bare record_post answer_to
 unprocessed_without_receipt = refl

@@ -5,19 +5,19 @@ use Rattle.std.specs.Option.{option_map_or}
 use Rattle.std.specs.List.{AllByRecursion, IsDistinct, find}
 use Rattle.std.proofs.lemmas.Bool.{false≢true}
 use Rattle.std.proofs.lemmas.Option.{same_Some}
-use Rattle.as2_mdn.specs.Details.{state_of}
+use Rattle.as2_mdn.specs.Details.{class_of}
 use Rattle.as2_exchange.specs.Agreement.{Text, Agreements, Partner, Asked, NoReceipt, Sync, Async, is_organization, partner_of}
 use Rattle.as2_exchange.specs.Readings.{ReceiptDelivery, NoReceipt as NoneAsked, Sync as SyncReceipt, Async as AsyncReceipt, Outcome as WhatBecame, is_processed, named_by}
-use Rattle.as2_exchange.specs.State.{Posted, InEntry, OutEntry, State, Digests, known_digests, origin_of, end_of_numbers, document, document_named, received, received_as, change_document, change_received, is_settled}
+use Rattle.as2_exchange.specs.State.{Posted, InEntry, OutEntry, State, Digests, known_digests, origin_of, end_of_numbers, document, document_named, received_entry, received_as, change_document, change_received, is_settled}
 use Rattle.as2_exchange.specs.Events.{Event, Post, Submit, Begin, Outcome, Resend, BeginMdn, OutcomeMdn, Tick, Answer, Refused, Submitted, UnknownOrganization, UnknownPartner, TooLarge, TryAnswer, Nothing, Words, NotProcessed, IdUsedBefore, NoSuchMessage}
-use Rattle.as2_exchange.specs.Posts.{ReceivedReceipt, Reading, Refuses, IsReceipt, IsDocument, reading, repeats}
+use Rattle.as2_exchange.specs.Posts.{ReceivedReceipt, Reading, Refuses, IsReceipt, IsDocument, post_reading, repeats}
 use Rattle.as2_exchange.specs.Receipts.{receipt_in_answer, is_delivery, bears}
-use Rattle.as2_exchange.specs.Documents.{begun, waits, resent, is_error, closed, closed_by, if_for, delivered, failed_try, submit, new_document, settle, settle_for, settled, tick}
+use Rattle.as2_exchange.specs.Documents.{begun, waits, resent, is_error, closed_document, closed_by, if_for, delivered_document, failed_try, submit, new_document, settle, settle_for, settled_document, tick}
 use Rattle.as2_exchange.specs.Lines.{http}
 use Rattle.as2_exchange.specs.OwedReceipts.{mdn_begun, mdn_closed, is_pending, is_shut}
-use Rattle.as2_exchange.specs.Recording.{record_post, recorded, requeued_by_repeat, first_entry, answer_to}
-use Rattle.as2_exchange.specs.Step.{is_refusal, acted, acted_in, post, step}
-use Rattle.as2_exchange.specs.Tries.{agreed, is_early, is_idle, is_last}
+use Rattle.as2_exchange.specs.Recording.{record_post, record_given, requeued_by_repeat, first_entry, answer_to}
+use Rattle.as2_exchange.specs.Step.{is_refusal, act_on, acted_in, post, step}
+use Rattle.as2_exchange.specs.Tries.{where_agreed, is_early, is_idle, is_last}
 use Rattle.as2_exchange.specs.Invariants.{HasDistinctNumbers}
 use Rattle.as2_exchange.proofs.Decisions.{number_is, apart_turned}
 
@@ -53,7 +53,7 @@ left_as_is number f n d (x ∷ xs) apart found same = left_step number f n d x x
 AnswersOnly : {E : Type 0} → E → Answer × E → Type 0
 AnswersOnly e y = is_refusal y.0 ≡ true → y.1 ≡ e
 
-agreed_leaves : {E : Type 0} (A : Agreements) (organization partner : Text) (e : E) (act : Partner → Answer × E) → ((p : Partner) → AnswersOnly e (act p)) → AnswersOnly e (agreed A organization partner e act)
+agreed_leaves : {E : Type 0} (A : Agreements) (organization partner : Text) (e : E) (act : Partner → Answer × E) → ((p : Partner) → AnswersOnly e (act p)) → AnswersOnly e (where_agreed A organization partner e act)
 unfolding AnswersOnly
 agreed_leaves {E} A organization partner e act rest = by (is_organization A organization) (partner_of A partner)
   where
@@ -90,7 +90,7 @@ begun_leaves A m d = agreed_leaves A d.organization d.partner d _
 failed_leaves : (p : Partner) (m : ℕ) (d : OutEntry) → AnswersOnly d (failed_try p m d)
 failed_leaves p m d = either_acts d (is_last d.attempt) _ _ (acts d _ refl) (acts d _ refl)
 
-delivered_leaves : (a : Asked) (p : Partner) (m : ℕ) (d : OutEntry) → AnswersOnly d (delivered a p m d)
+delivered_leaves : (a : Asked) (p : Partner) (m : ℕ) (d : OutEntry) → AnswersOnly d (delivered_document a p m d)
 delivered_leaves Async p m d = acts d _ refl
 delivered_leaves NoReceipt p m d = acts d _ refl
 delivered_leaves Sync p m d = failed_leaves p m d
@@ -99,8 +99,8 @@ closed_by_leaves : (p : Partner) (got : TryAnswer) (m : ℕ) (d : OutEntry) (o :
 closed_by_leaves p got m d (Some r) = acts d _ refl
 closed_by_leaves p got m d None = either_acts d (is_delivery got) _ _ (delivered_leaves p.receipt p m d) (failed_leaves p m d)
 
-closed_leaves : (A : Agreements) (known : Digests) (got : TryAnswer) (m : ℕ) (d : OutEntry) → AnswersOnly d (closed A known got m d)
-unfolding closed
+closed_leaves : (A : Agreements) (known : Digests) (got : TryAnswer) (m : ℕ) (d : OutEntry) → AnswersOnly d (closed_document A known got m d)
+unfolding closed_document
 closed_leaves A known got m d = agreed_leaves A d.organization d.partner d _
     (λ p. test_leaves d (is_settled d) _ _
     (test_leaves d (is_idle d.attempt) _ _ (closed_by_leaves p got m d (option_and_then (if_for d) (receipt_in_answer known got)))))
@@ -109,7 +109,7 @@ resent_leaves : (A : Agreements) (m : ℕ) (d : OutEntry) → AnswersOnly d (res
 unfolding resent
 resent_leaves A m d = agreed_leaves A d.organization d.partner d _
     (λ p. test_leaves d (is_settled d) _ _
-    (test_leaves d (not (is_error (state_of d.detail))) _ _ (acts d _ refl)))
+    (test_leaves d (not (is_error (class_of d.detail))) _ _ (acts d _ refl)))
 
 mdn_begun_leaves : (A : Agreements) (m : ℕ) (e : InEntry) → AnswersOnly e (mdn_begun A m e)
 unfolding mdn_begun
@@ -128,12 +128,12 @@ mdn_closed_leaves A got m e = agreed_leaves A e.posted.receiver e.posted.sender 
 
 -- ---- a step
 
-acted_leaves : (A : Agreements) (s : State) (n : ℕ) (act : OutEntry → Answer × OutEntry) (o : Option OutEntry) → document s n ≡ o → ((d : OutEntry) → AnswersOnly d (act d)) → HasDistinctNumbers s → AnswersOnly s (acted s n act o)
+acted_leaves : (A : Agreements) (s : State) (n : ℕ) (act : OutEntry → Answer × OutEntry) (o : Option OutEntry) → document s n ≡ o → ((d : OutEntry) → AnswersOnly d (act d)) → HasDistinctNumbers s → AnswersOnly s (act_on s n act o)
 unfolding AnswersOnly
 acted_leaves A s n act None found leaves apart h = refl
 acted_leaves A s n act (Some d) found leaves apart h = ap (λ (ds : List OutEntry). record s { outbox = ds }) (left_as_is (λ (x : OutEntry). x.number) (λ (x : OutEntry). (act x).1) n d s.outbox apart.sent found (leaves d h))
 
-acted_in_leaves : (A : Agreements) (s : State) (n : ℕ) (act : InEntry → Answer × InEntry) (o : Option InEntry) → received s n ≡ o → ((e : InEntry) → AnswersOnly e (act e)) → HasDistinctNumbers s → AnswersOnly s (acted_in s n act o)
+acted_in_leaves : (A : Agreements) (s : State) (n : ℕ) (act : InEntry → Answer × InEntry) (o : Option InEntry) → received_entry s n ≡ o → ((e : InEntry) → AnswersOnly e (act e)) → HasDistinctNumbers s → AnswersOnly s (acted_in s n act o)
 unfolding AnswersOnly
 acted_in_leaves A s n act None found leaves apart h = refl
 acted_in_leaves A s n act (Some e) found leaves apart h = ap (λ (es : List InEntry). record s { inbox = es }) (left_as_is (λ (x : InEntry). x.number) (λ (x : InEntry). (act x).1) n e s.inbox apart.received found (leaves e h))
@@ -161,7 +161,7 @@ answered_by A n p SyncReceipt is = rw is refl
 answered_by A n p (AsyncReceipt url) is = rw is refl
 answered_by A n p NoneAsked is = rw is (with_line (is_processed p.outcome) p.outcome)
 
-recorded_acts : (A : Agreements) (s : State) (m : ℕ) (p : Posted) (o : Option InEntry) (y : Answer × State) → recorded A s m p o ≡ Some y → is_refusal y.0 ≡ false
+recorded_acts : (A : Agreements) (s : State) (m : ℕ) (p : Posted) (o : Option InEntry) (y : Answer × State) → record_given A s m p o ≡ Some y → is_refusal y.0 ≡ false
 recorded_acts A s m p (Some e) y h = by (repeats (origin_of s.version) e.number e.posted p) h
   where
     by : (b : Bool) → (if b then Some (answer_to A e.number e.posted, change_received s e.number (requeued_by_repeat m)) else Some (http 409 (Words IdUsedBefore), s)) ≡ Some y → is_refusal y.0 ≡ false
@@ -175,7 +175,7 @@ recorded_acts A s m p None y h = by (nat_le end_of_numbers s.next_in) h
 
 settle_acts : (s : State) (m : ℕ) (r : ReceivedReceipt) (o : Option OutEntry) → is_refusal (settle_for s m r o).0 ≡ false
 settle_acts s m r None = refl
-settle_acts s m r (Some d) = by (not (bears r d.organization d.partner d.id && d.begun)) (if is_settled d then s else change_document s d.number (settled m r))
+settle_acts s m r (Some d) = by (not (bears r d.organization d.partner d.id && d.begun)) (if is_settled d then s else change_document s d.number (settled_document m r))
   where
     given : Bool → State → Answer × State
     given b t = if b then (http 404 (Words NoSuchMessage), s) else (http 200 Nothing, t)
@@ -195,13 +195,13 @@ unfolding tick
 tick_acts m s = refl
 
 step_leaves : (A : Agreements) (s : State) (e : Event) (y : Answer × State) → HasDistinctNumbers s → step A s e ≡ Some y → AnswersOnly s y
-step_leaves A s (Post head body m) y apart h = acts s y (post_acts A s m (reading A (known_digests s.version) head body) y h)
+step_leaves A s (Post head body m) y apart h = acts s y (post_acts A s m (post_reading A (known_digests s.version) head body) y h)
 step_leaves A s (Submit organization partner content m) y apart h = submit_leaves A s organization partner content m y h
 step_leaves A s (Begin n m) y apart h = subst (AnswersOnly s) (same_Some _ y h) (acted_leaves A s n (begun A m) (document s n) refl (begun_leaves A m) apart)
 step_leaves A s (Resend n m) y apart h = subst (AnswersOnly s) (same_Some _ y h) (acted_leaves A s n (resent A m) (document s n) refl (resent_leaves A m) apart)
-step_leaves A s (Outcome n got m) y apart h = subst (AnswersOnly s) (same_Some _ y h) (acted_leaves A s n (closed A (known_digests s.version) got m) (document s n) refl (closed_leaves A (known_digests s.version) got m) apart)
-step_leaves A s (BeginMdn n m) y apart h = subst (AnswersOnly s) (same_Some _ y h) (acted_in_leaves A s n (mdn_begun A m) (received s n) refl (mdn_begun_leaves A m) apart)
-step_leaves A s (OutcomeMdn n got m) y apart h = subst (AnswersOnly s) (same_Some _ y h) (acted_in_leaves A s n (mdn_closed A got m) (received s n) refl (mdn_closed_leaves A got m) apart)
+step_leaves A s (Outcome n got m) y apart h = subst (AnswersOnly s) (same_Some _ y h) (acted_leaves A s n (closed_document A (known_digests s.version) got m) (document s n) refl (closed_leaves A (known_digests s.version) got m) apart)
+step_leaves A s (BeginMdn n m) y apart h = subst (AnswersOnly s) (same_Some _ y h) (acted_in_leaves A s n (mdn_begun A m) (received_entry s n) refl (mdn_begun_leaves A m) apart)
+step_leaves A s (OutcomeMdn n got m) y apart h = subst (AnswersOnly s) (same_Some _ y h) (acted_in_leaves A s n (mdn_closed A got m) (received_entry s n) refl (mdn_closed_leaves A got m) apart)
 step_leaves A s (Tick m) y apart h = acts s y (ap (λ (z : Answer × State). is_refusal z.0) (sym (same_Some _ y h)) ∙ tick_acts m s)
 
 pub refused_leaves : (A : Agreements) (s t : State) (e : Event) (a : Answer) → HasDistinctNumbers s → step A s e ≡ Some (a, t) → is_refusal a ≡ true → t ≡ s

@@ -2,7 +2,7 @@
 use Rattle.std.proofs.Common.{◌≡◌, ℕ, Bool, true, false, not, ◌||◌, Option, Some, None, refl, sym, ap, subst, arith}
 use Rattle.std.specs.Prelude.{option_and_then, if◌then◌else◌, nat_le}
 use Rattle.std.proofs.lemmas.Option.{same_Some}
-use Rattle.as2_mdn.specs.Details.{state_of}
+use Rattle.as2_mdn.specs.Details.{class_of}
 use Rattle.as2_mdn.specs.Dispositions.{says_processed, has_modifier, has_error}
 use Rattle.as2_mdn.specs.Verdicts.{differs, is_missing, is_unknown, mic_compared}
 use Rattle.as2_exchange.specs.Agreement.{Text, Agreements, Partner, Asked, NoReceipt, Sync, Async}
@@ -12,7 +12,7 @@ use Rattle.as2_exchange.specs.State.{OutEntry, Digests, is_settled}
 use Rattle.as2_exchange.specs.Events.{Answer, TryAnswer, Refused, AllSettled, TriesUsedUp, NotDue, NoOpenTry, AlreadySettled, Resent}
 use Rattle.as2_exchange.specs.Posts.{ReceivedReceipt}
 use Rattle.as2_exchange.specs.Receipts.{receipt_in_answer, is_delivery}
-use Rattle.as2_exchange.specs.Documents.{settled, passes_at, passed, passes_into, begun, waits, resent, is_error, closed, closed_by, if_for, delivered, failed_try}
+use Rattle.as2_exchange.specs.Documents.{settled_document, passes_at, passed_document, passes_into, begun, waits, resent, is_error, closed_document, closed_by, if_for, delivered_document, failed_try}
 use Rattle.as2_exchange.specs.Tries.{is_due, is_early, is_idle, is_last}
 use Rattle.as2_exchange.specs.Invariants.{is_by_receipt, IsEntry}
 use Rattle.as2_exchange.proofs.Documents.{settled_names, passed_names, begun_names, closed_names, resent_names, agreed_either, if_either, changed, changed_names}
@@ -34,10 +34,10 @@ pub verdict_range : (known : Digests) (r : Receipt) (content : Text) → is_by_r
 unfolding verdict
 verdict_range known r content = judged_range (not (says_processed r.disposition)) (has_error r.disposition) (differs (mic_compared known r.mic content)) (has_modifier r.disposition) (is_missing (mic_compared known r.mic content)) (is_unknown (mic_compared known r.mic content))
 
-settled_entry : (m : ℕ) (r : ReceivedReceipt) (d : OutEntry) → IsEntry d → IsEntry (settled m r d)
+settled_entry : (m : ℕ) (r : ReceivedReceipt) (d : OutEntry) → IsEntry d → IsEntry (settled_document m r d)
 settled_entry m r d h = record { evidence = sym (verdict_range r.known r.receipt d.content); at_rest = λ g. (refl, refl); tried = h.tried }
 
-pub settled_keeps : (m : ℕ) (r : ReceivedReceipt) → KeepsEntries (settled m r)
+pub settled_keeps : (m : ℕ) (r : ReceivedReceipt) → KeepsEntries (settled_document m r)
 settled_keeps m r = record { names = settled_names m r; entry = settled_entry m r }
 
 -- ---- a change of one document
@@ -71,10 +71,10 @@ passes_range TriesUsed a y h = absurd (cc)
 passes_range Overdue a y h = absurd (cc)
 
 -- a settled document waits for nothing
-passed_settled : (m : ℕ) (d : OutEntry) → d.due ≡ None → passed d (passes_at m d) ≡ d
+passed_settled : (m : ℕ) (d : OutEntry) → d.due ≡ None → passed_document d (passes_at m d) ≡ d
 passed_settled m d h = rw h refl
 
-passed_by : (d : OutEntry) (o : Option Detail) → ((y : Detail) → o ≡ Some y → is_by_receipt y ≡ false) → is_settled d ≡ false → IsEntry d → IsEntry (passed d o)
+passed_by : (d : OutEntry) (o : Option Detail) → ((y : Detail) → o ≡ Some y → is_by_receipt y ≡ false) → is_settled d ≡ false → IsEntry d → IsEntry (passed_document d o)
 passed_by d None range none h = h
 passed_by d (Some y) range none h = unsettled_entry (record d { due = None; detail = y }) none (range y refl) h.tried
 
@@ -82,11 +82,11 @@ due_range : (b : Bool) (x : Detail) (a : Attempt) (y : Detail) → (if b then pa
 due_range true x a y h = passes_range x a y h
 due_range false x a y h = absurd (cc)
 
-passed_entry : (m : ℕ) (d : OutEntry) (b : Bool) → is_settled d ≡ b → IsEntry d → IsEntry (passed d (passes_at m d))
+passed_entry : (m : ℕ) (d : OutEntry) (b : Bool) → is_settled d ≡ b → IsEntry d → IsEntry (passed_document d (passes_at m d))
 passed_entry m d true is h = subst IsEntry (sym (passed_settled m d (h.at_rest is).1)) h
 passed_entry m d false is h = passed_by d (passes_at m d) (due_range (is_due m d.due) d.detail d.attempt) is h
 
-pub passed_keeps : (m : ℕ) → KeepsEntries (λ d. passed d (passes_at m d))
+pub passed_keeps : (m : ℕ) → KeepsEntries (λ d. passed_document d (passes_at m d))
 passed_keeps m = record { names = passed_names m; entry = λ d h. passed_entry m d (is_settled d) refl h }
 
 -- ---- a try begins
@@ -113,14 +113,14 @@ begun_keeps A m = record { names = begun_names A m; entry = begun_entry A m }
 failed_entry : (p : Partner) (m : ℕ) (d : OutEntry) → is_settled d ≡ false → IsEntry d → IsEntry (failed_try p m d).1
 failed_entry p m d none h = if_either IsEntry (is_last d.attempt) _ _ (unsettled_entry _ none refl h.tried) (unsettled_entry _ none refl h.tried)
 
-delivered_entry : (a : Asked) (p : Partner) (m : ℕ) (d : OutEntry) → is_settled d ≡ false → IsEntry d → IsEntry (delivered a p m d).1
+delivered_entry : (a : Asked) (p : Partner) (m : ℕ) (d : OutEntry) → is_settled d ≡ false → IsEntry d → IsEntry (delivered_document a p m d).1
 delivered_entry Async p m d none h = unsettled_entry _ none refl h.tried
 delivered_entry NoReceipt p m d none h = unsettled_entry _ none refl h.tried
 delivered_entry Sync p m d none h = failed_entry p m d none h
 
 closed_by_entry : (p : Partner) (got : TryAnswer) (m : ℕ) (d : OutEntry) (o : Option ReceivedReceipt) → is_settled d ≡ false → IsEntry d → IsEntry (closed_by p got m d o).1
 closed_by_entry p got m d (Some r) none h = settled_entry m r d h
-closed_by_entry p got m d None none h = if_either IsEntry (is_delivery got) (delivered p.receipt p m d) (failed_try p m d) (delivered_entry p.receipt p m d none h) (failed_entry p m d none h)
+closed_by_entry p got m d None none h = if_either IsEntry (is_delivery got) (delivered_document p.receipt p m d) (failed_try p m d) (delivered_entry p.receipt p m d none h) (failed_entry p m d none h)
 
 abbrev closed_if : Partner → TryAnswer → ℕ → OutEntry → Option ReceivedReceipt → Bool → Bool → Answer × OutEntry
 closed_if p got m d o b1 b2 = if b1 then (AlreadySettled, d) else if b2 then (Refused NoOpenTry, d) else closed_by p got m d o
@@ -130,12 +130,12 @@ closed_as_entry p got m d o true b2 is h = h
 closed_as_entry p got m d o false true is h = h
 closed_as_entry p got m d o false false is h = closed_by_entry p got m d o is h
 
-closed_entry : (A : Agreements) (known : Digests) (got : TryAnswer) (m : ℕ) (d : OutEntry) → IsEntry d → IsEntry (closed A known got m d).1
-unfolding closed
+closed_entry : (A : Agreements) (known : Digests) (got : TryAnswer) (m : ℕ) (d : OutEntry) → IsEntry d → IsEntry (closed_document A known got m d).1
+unfolding closed_document
 closed_entry A known got m d h = agreed_either IsEntry A d.organization d.partner d _ h
     (λ p. closed_as_entry p got m d (option_and_then (if_for d) (receipt_in_answer known got)) (is_settled d) (is_idle d.attempt) refl h)
 
-pub closed_keeps : (A : Agreements) (known : Digests) (got : TryAnswer) (m : ℕ) → KeepsEntries (λ d. (closed A known got m d).1)
+pub closed_keeps : (A : Agreements) (known : Digests) (got : TryAnswer) (m : ℕ) → KeepsEntries (λ d. (closed_document A known got m d).1)
 closed_keeps A known got m = record { names = closed_names A known got m; entry = closed_entry A known got m }
 
 -- ---- a document is sent anew
@@ -151,7 +151,7 @@ resent_by m d false false is h = unsettled_entry _ is refl (λ g. absurd (omega 
 resent_entry : (A : Agreements) (m : ℕ) (d : OutEntry) → IsEntry d → IsEntry (resent A m d).1
 unfolding resent
 resent_entry A m d h = agreed_either IsEntry A d.organization d.partner d _ h
-    (λ p. resent_by m d (is_settled d) (not (is_error (state_of d.detail))) refl h)
+    (λ p. resent_by m d (is_settled d) (not (is_error (class_of d.detail))) refl h)
 
 pub resent_keeps : (A : Agreements) (m : ℕ) → KeepsEntries (λ d. (resent A m d).1)
 resent_keeps A m = record { names = resent_names A m; entry = resent_entry A m }

@@ -5,14 +5,14 @@ use Rattle.std.specs.List.{IsDistinct}
 use Rattle.std.proofs.lemmas.Option.{same_Some}
 use Rattle.as2_exchange.specs.Agreement.{Text, Agreements, is_organization, partner_of}
 use Rattle.as2_exchange.specs.Readings.{Head, MediaType, ReceiptAsk, Outcome as WhatBecame, Processed, DecryptionFailed, DecompressionFailed, AuthenticationFailed, UnsupportedFormat, UnsupportedMicAlgorithms, is_processed, mic_for, is_report, names_of, version_fits, type_of, id_of, ask_of, report_in, named_by}
-use Rattle.as2_exchange.specs.State.{Posted, InEntry, OutEntry, State, Digests, Version, known_digests, empty, end_of_numbers, document, document_named, received, received_as, change_document, change_received, lasting, is_settled}
+use Rattle.as2_exchange.specs.State.{Posted, InEntry, OutEntry, State, Digests, Version, known_digests, empty, end_of_numbers, document, document_named, received_entry, received_as, change_document, change_received, lasting_part, is_settled}
 use Rattle.as2_exchange.specs.Events.{Event, Post, Submit, Begin, Outcome, Resend, BeginMdn, OutcomeMdn, Tick, Answer, Refused, Submitted, UnknownOrganization, UnknownPartner, TooLarge, Line, BadNames, BadVersion, UnknownNames, BadType, UnreadableReceipt, BadId, BadAsk}
-use Rattle.as2_exchange.specs.Posts.{ReceivedReceipt, Reading, Refuses, IsReceipt, IsDocument, needs, report_posted, document_posted, reading}
-use Rattle.as2_exchange.specs.Documents.{settle, settle_for, settled, submit, new_document, begun, closed, resent, tick}
+use Rattle.as2_exchange.specs.Posts.{ReceivedReceipt, Reading, Refuses, IsReceipt, IsDocument, needs, report_posted, document_posted, post_reading}
+use Rattle.as2_exchange.specs.Documents.{settle, settle_for, settled_document, submit, new_document, begun, closed_document, resent, tick}
 use Rattle.as2_exchange.specs.OwedReceipts.{mdn_begun, mdn_closed}
 use Rattle.as2_exchange.specs.Recording.{record_post, first_entry, requeued_by_repeat}
-use Rattle.as2_exchange.specs.Step.{post, step, acted, acted_in}
-use Rattle.as2_exchange.specs.Run.{Trace, Run, AnEvent, AMigration, Answered, Failed, migrated}
+use Rattle.as2_exchange.specs.Step.{post, step, act_on, acted_in}
+use Rattle.as2_exchange.specs.Run.{Trace, Run, AnEvent, AMigration, Answered, Failed, migrated_state}
 use Rattle.as2_exchange.specs.Invariants.{IsCounter, IsRecorded, IsWellFormed}
 use Rattle.as2_exchange.proofs.Documents.{if_either}
 use Rattle.as2_exchange.proofs.Keeping.{is_left}
@@ -55,8 +55,8 @@ report_good : (known : Digests) (names : Text × Text) (type : MediaType × Text
 unfolding IsGood
 report_good known names type body = needs_good (report_in type.0 body) UnreadableReceipt _ (λ r. tt)
 
-reading_good : (A : Agreements) (known : Digests) (head : Head) (body : Text) → IsGood (reading A known head body)
-unfolding reading IsGood
+reading_good : (A : Agreements) (known : Digests) (head : Head) (body : Text) → IsGood (post_reading A known head body)
+unfolding post_reading IsGood
 reading_good A known head body =
     needs_good (names_of head) BadNames _ (λ names.
     if_good (not (version_fits head)) (Refuses BadVersion) _ tt
@@ -70,27 +70,27 @@ document_recorded r p h is = subst IsGood is h
 
 -- ---- acts on the two boxes
 
-keeps_lasting : (f : InEntry → InEntry) → ((e : InEntry) → lasting (f e) ≡ lasting e) → KeepsLasting f
+keeps_lasting : (f : InEntry → InEntry) → ((e : InEntry) → lasting_part (f e) ≡ lasting_part e) → KeepsLasting f
 keeps_lasting f kept = record { number = λ e. ap (λ (x : ℕ × Posted). x.0) (kept e); posted = λ e. ap (λ (x : ℕ × Posted). x.1) (kept e) }
 
-changed_lasting : (n : ℕ) (f : InEntry → InEntry) → ((e : InEntry) → lasting (f e) ≡ lasting e) → (e : InEntry) → lasting (if e.number == n then f e else e) ≡ lasting e
+changed_lasting : (n : ℕ) (f : InEntry → InEntry) → ((e : InEntry) → lasting_part (f e) ≡ lasting_part e) → (e : InEntry) → lasting_part (if e.number == n then f e else e) ≡ lasting_part e
 changed_lasting n f kept e = by (e.number == n)
   where
-    by : (b : Bool) → lasting (if b then f e else e) ≡ lasting e
+    by : (b : Bool) → lasting_part (if b then f e else e) ≡ lasting_part e
     by true = kept e
     by false = refl
 
-received_formed : (A : Agreements) (s : State) (n : ℕ) (f : InEntry → InEntry) → ((e : InEntry) → lasting (f e) ≡ lasting e) → IsWellFormed A s → IsWellFormed A (change_received s n f)
+received_formed : (A : Agreements) (s : State) (n : ℕ) (f : InEntry → InEntry) → ((e : InEntry) → lasting_part (f e) ≡ lasting_part e) → IsWellFormed A s → IsWellFormed A (change_received s n f)
 received_formed A s n f kept h = record { received = inbox_map s.next_in s.inbox (λ e. if e.number == n then f e else e) (keeps_lasting _ (changed_lasting n f kept)) h.received; sent = h.sent }
 
 document_formed : (A : Agreements) (s : State) (n : ℕ) (f : OutEntry → OutEntry) → KeepsEntries f → IsWellFormed A s → IsWellFormed A (change_document s n f)
 document_formed A s n f kept h = record { received = h.received; sent = outbox_map A s.next_out s.outbox _ (changed_keeps n f kept) h.sent }
 
-acted_formed : (A : Agreements) (s : State) (n : ℕ) (act : OutEntry → Answer × OutEntry) (o : Option OutEntry) → KeepsEntries (λ d. (act d).1) → IsWellFormed A s → IsWellFormed A (acted s n act o).1
+acted_formed : (A : Agreements) (s : State) (n : ℕ) (act : OutEntry → Answer × OutEntry) (o : Option OutEntry) → KeepsEntries (λ d. (act d).1) → IsWellFormed A s → IsWellFormed A (act_on s n act o).1
 acted_formed A s n act None kept h = h
 acted_formed A s n act (Some d) kept h = document_formed A s n (λ d. (act d).1) kept h
 
-acted_in_formed : (A : Agreements) (s : State) (n : ℕ) (act : InEntry → Answer × InEntry) (o : Option InEntry) → ((e : InEntry) → lasting (act e).1 ≡ lasting e) → IsWellFormed A s → IsWellFormed A (acted_in s n act o).1
+acted_in_formed : (A : Agreements) (s : State) (n : ℕ) (act : InEntry → Answer × InEntry) (o : Option InEntry) → ((e : InEntry) → lasting_part (act e).1 ≡ lasting_part e) → IsWellFormed A s → IsWellFormed A (acted_in s n act o).1
 acted_in_formed A s n act None kept h = h
 acted_in_formed A s n act (Some e) kept h = received_formed A s n (λ x. (act x).1) kept h
 
@@ -102,9 +102,9 @@ settle_for_formed : (A : Agreements) (s : State) (m : ℕ) (r : ReceivedReceipt)
 settle_for_formed A s m r None h = h
 settle_for_formed A s m r (Some d) h = if_either (IsWellFormed A) _ _ _ h (by (is_settled d))
   where
-    by : (b : Bool) → IsWellFormed A (if b then s else change_document s d.number (settled m r))
+    by : (b : Bool) → IsWellFormed A (if b then s else change_document s d.number (settled_document m r))
     by true = h
-    by false = document_formed A s d.number (settled m r) (settled_keeps m r) h
+    by false = document_formed A s d.number (settled_document m r) (settled_keeps m r) h
 
 settle_formed : (A : Agreements) (s : State) (m : ℕ) (r : ReceivedReceipt) → IsWellFormed A s → IsWellFormed A (settle s m r).1
 unfolding settle
@@ -150,13 +150,13 @@ post_formed A s m (IsDocument p) y good h e = record_formed A s m p y (document_
 -- ---- a step and a run
 
 pub step_formed : (A : Agreements) (s : State) (e : Event) (y : Answer × State) → IsWellFormed A s → step A s e ≡ Some y → IsWellFormed A y.1
-step_formed A s (Post head body m) y h is = post_formed A s m (reading A (known_digests s.version) head body) y (reading_good A (known_digests s.version) head body) h is
+step_formed A s (Post head body m) y h is = post_formed A s m (post_reading A (known_digests s.version) head body) y (reading_good A (known_digests s.version) head body) h is
 step_formed A s (Submit organization partner content m) y h is = submit_formed A s organization partner content m y h is
 step_formed A s (Begin n m) y h is = subst (λ (z : Answer × State). IsWellFormed A z.1) (same_Some _ y is) (acted_formed A s n (begun A m) (document s n) (begun_keeps A m) h)
 step_formed A s (Resend n m) y h is = subst (λ (z : Answer × State). IsWellFormed A z.1) (same_Some _ y is) (acted_formed A s n (resent A m) (document s n) (resent_keeps A m) h)
-step_formed A s (Outcome n got m) y h is = subst (λ (z : Answer × State). IsWellFormed A z.1) (same_Some _ y is) (acted_formed A s n (closed A (known_digests s.version) got m) (document s n) (closed_keeps A (known_digests s.version) got m) h)
-step_formed A s (BeginMdn n m) y h is = subst (λ (z : Answer × State). IsWellFormed A z.1) (same_Some _ y is) (acted_in_formed A s n (mdn_begun A m) (received s n) (mdn_begun_lasting A m) h)
-step_formed A s (OutcomeMdn n got m) y h is = subst (λ (z : Answer × State). IsWellFormed A z.1) (same_Some _ y is) (acted_in_formed A s n (mdn_closed A got m) (received s n) (mdn_closed_lasting A got m) h)
+step_formed A s (Outcome n got m) y h is = subst (λ (z : Answer × State). IsWellFormed A z.1) (same_Some _ y is) (acted_formed A s n (closed_document A (known_digests s.version) got m) (document s n) (closed_keeps A (known_digests s.version) got m) h)
+step_formed A s (BeginMdn n m) y h is = subst (λ (z : Answer × State). IsWellFormed A z.1) (same_Some _ y is) (acted_in_formed A s n (mdn_begun A m) (received_entry s n) (mdn_begun_lasting A m) h)
+step_formed A s (OutcomeMdn n got m) y h is = subst (λ (z : Answer × State). IsWellFormed A z.1) (same_Some _ y is) (acted_in_formed A s n (mdn_closed A got m) (received_entry s n) (mdn_closed_lasting A got m) h)
 step_formed A s (Tick m) y h is = subst (λ (z : Answer × State). IsWellFormed A z.1) (same_Some _ y is) (tick_formed A m s h)
 
 pub empty_formed : (A : Agreements) (v : Version) (first : ℕ) → IsCounter first → IsWellFormed A (empty v first)
@@ -167,14 +167,14 @@ empty_formed A v first h = record {
 }
 
 -- the boxes stay
-pub migrated_formed : (A : Agreements) (s : State) → IsWellFormed A s → IsWellFormed A (migrated s)
+pub migrated_formed : (A : Agreements) (s : State) → IsWellFormed A s → IsWellFormed A (migrated_state s)
 migrated_formed A s h = record { received = h.received; sent = h.sent }
 
 run_formed : (A : Agreements) (old : State) (trace : Trace) (new : State) → IsWellFormed A old → Run A old trace new → IsWellFormed A new
 run_formed A old [] new h run = subst (IsWellFormed A) (sym run) h
 run_formed A old (AnEvent e (Answered a) ∷ rest) new h run = run_formed A run.0 rest new (step_formed A old e (a, run.0) h run.1) run.2
 run_formed A old (AnEvent e (Failed fault) ∷ rest) new h run = run_formed A old rest new h run.1
-run_formed A old (AMigration n ∷ rest) new h run = run_formed A (migrated old) rest new (migrated_formed A old h) run.2
+run_formed A old (AMigration n ∷ rest) new h run = run_formed A (migrated_state old) rest new (migrated_formed A old h) run.2
 
 pub formed : (A : Agreements) (v : Version) (first : ℕ) (trace : Trace) (s : State) → IsCounter first → Run A (empty v first) trace s → IsWellFormed A s
 formed A v first trace s h run = run_formed A (empty v first) trace s (empty_formed A v first h) run

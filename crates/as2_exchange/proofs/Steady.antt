@@ -4,14 +4,14 @@ use Rattle.std.specs.Prelude.{is_some, nat_le, nat_lt, length, if◌then◌else�
 use Rattle.std.proofs.lemmas.Option.{same_Some}
 use Rattle.as2_exchange.specs.Agreement.{Text, Agreements, is_organization, partner_of}
 use Rattle.as2_exchange.specs.Readings.{named_by}
-use Rattle.as2_exchange.specs.State.{Posted, InEntry, OutEntry, State, Version, LaterVersion, known_digests, end_of_numbers, document, document_named, received, received_as, change_document, is_settled}
+use Rattle.as2_exchange.specs.State.{Posted, InEntry, OutEntry, State, Version, LaterVersion, known_digests, end_of_numbers, document, document_named, received_entry, received_as, change_document, is_settled}
 use Rattle.as2_exchange.specs.Events.{Event, Post, Submit, Begin, Outcome, Resend, BeginMdn, OutcomeMdn, Tick, Answer, Refused, Submitted, UnknownOrganization, UnknownPartner, TooLarge}
-use Rattle.as2_exchange.specs.Posts.{ReceivedReceipt, Reading, Refuses, IsReceipt, IsDocument, reading}
-use Rattle.as2_exchange.specs.Documents.{settled, settle, settle_for, submit, new_document, begun, closed, resent, tick}
+use Rattle.as2_exchange.specs.Posts.{ReceivedReceipt, Reading, Refuses, IsReceipt, IsDocument, post_reading}
+use Rattle.as2_exchange.specs.Documents.{settled_document, settle, settle_for, submit, new_document, begun, closed_document, resent, tick}
 use Rattle.as2_exchange.specs.OwedReceipts.{mdn_begun, mdn_closed}
 use Rattle.as2_exchange.specs.Recording.{record_post}
-use Rattle.as2_exchange.specs.Step.{post, step, acted, acted_in}
-use Rattle.as2_exchange.specs.Run.{Trace, Run, AnEvent, AMigration, Answered, Failed, migrated, version_after}
+use Rattle.as2_exchange.specs.Step.{post, step, act_on, acted_in}
+use Rattle.as2_exchange.specs.Run.{Trace, Run, AnEvent, AMigration, Answered, Failed, migrated_state, version_after}
 use Rattle.as2_exchange.proofs.Documents.{if_either}
 use Rattle.as2_exchange.proofs.Repeats.{RecordedOrSame, fresh, repeated, clash, left_is}
 
@@ -21,7 +21,7 @@ Steady s t = (t.version ≡ s.version) × (s.next_in ≤ t.next_in)
 steady : (s : State) → Steady s s
 steady s = (refl, omega arith)
 
-acted_steady : (s : State) (n : ℕ) (act : OutEntry → Answer × OutEntry) (o : Option OutEntry) → Steady s (acted s n act o).1
+acted_steady : (s : State) (n : ℕ) (act : OutEntry → Answer × OutEntry) (o : Option OutEntry) → Steady s (act_on s n act o).1
 acted_steady s n act None = steady s
 acted_steady s n act (Some d) = (refl, omega arith)
 
@@ -33,7 +33,7 @@ settle_for_steady : (s : State) (m : ℕ) (r : ReceivedReceipt) (o : Option OutE
 settle_for_steady s m r None = steady s
 settle_for_steady s m r (Some d) = if_either (Steady s) _ _ _ (steady s) (by (is_settled d))
   where
-    by : (b : Bool) → Steady s (if b then s else change_document s d.number (settled m r))
+    by : (b : Bool) → Steady s (if b then s else change_document s d.number (settled_document m r))
     by true = steady s
     by false = (refl, omega arith)
 
@@ -69,13 +69,13 @@ unfolding tick
 tick_steady m s = (refl, omega arith)
 
 pub step_steady : (A : Agreements) (s : State) (e : Event) (y : Answer × State) → step A s e ≡ Some y → Steady s y.1
-step_steady A s (Post head body m) y h = post_steady A s m (reading A (known_digests s.version) head body) y h
+step_steady A s (Post head body m) y h = post_steady A s m (post_reading A (known_digests s.version) head body) y h
 step_steady A s (Submit organization partner content m) y h = submit_steady A s organization partner content m y h
 step_steady A s (Begin n m) y h = subst (λ (z : Answer × State). Steady s z.1) (same_Some _ y h) (acted_steady s n (begun A m) (document s n))
-step_steady A s (Outcome n got m) y h = subst (λ (z : Answer × State). Steady s z.1) (same_Some _ y h) (acted_steady s n (closed A (known_digests s.version) got m) (document s n))
+step_steady A s (Outcome n got m) y h = subst (λ (z : Answer × State). Steady s z.1) (same_Some _ y h) (acted_steady s n (closed_document A (known_digests s.version) got m) (document s n))
 step_steady A s (Resend n m) y h = subst (λ (z : Answer × State). Steady s z.1) (same_Some _ y h) (acted_steady s n (resent A m) (document s n))
-step_steady A s (BeginMdn n m) y h = subst (λ (z : Answer × State). Steady s z.1) (same_Some _ y h) (acted_in_steady s n (mdn_begun A m) (received s n))
-step_steady A s (OutcomeMdn n got m) y h = subst (λ (z : Answer × State). Steady s z.1) (same_Some _ y h) (acted_in_steady s n (mdn_closed A got m) (received s n))
+step_steady A s (BeginMdn n m) y h = subst (λ (z : Answer × State). Steady s z.1) (same_Some _ y h) (acted_in_steady s n (mdn_begun A m) (received_entry s n))
+step_steady A s (OutcomeMdn n got m) y h = subst (λ (z : Answer × State). Steady s z.1) (same_Some _ y h) (acted_in_steady s n (mdn_closed A got m) (received_entry s n))
 step_steady A s (Tick m) y h = subst (λ (z : Answer × State). Steady s z.1) (same_Some _ y h) (tick_steady m s)
 
 -- a run leads to the version that its trace tells
@@ -86,5 +86,5 @@ run_version A old (AnEvent e (Answered a) ∷ rest) new run =
     ∙ ap (λ (v : Version). version_after v rest) (step_steady A old e (a, run.0) run.1).0
 run_version A old (AnEvent e (Failed fault) ∷ rest) new run = run_version A old rest new run.1
 run_version A old (AMigration n ∷ rest) new run =
-    run_version A (migrated old) rest new run.2
+    run_version A (migrated_state old) rest new run.2
     ∙ ap (λ (m : ℕ). version_after (LaterVersion m) rest) (sym run.1)

@@ -2,14 +2,14 @@
 use Rattle.std.proofs.Common.{◌≡◌, ℕ, true, false, [], ◌∷◌, Option, Some, None, refl}
 use Rattle.std.specs.Prelude.{nat_le, codes}
 use Rattle.as2_names.specs.Blanks.{without_blanks}
-use Rattle.as2_names.specs.Identifiers.{value_of as bare}
+use Rattle.as2_names.specs.Identifiers.{without_brackets as bare}
 use Rattle.as2_media.specs.Values.{between_quotes}
 use Rattle.as2_exchange.specs.Agreement.{Text, Agreements}
 use Rattle.as2_exchange.specs.Detail.{Detail, New, Sending, Awaiting, Retry, Processed, NoReceiptAsked, TriesUsed, Overdue, Attempt, Idle, Running, Last, Used, MdnState, Unasked, Pending, Sent}
 use Rattle.as2_exchange.specs.Readings.{ReceiptDelivery, NoReceipt, Sync, Async, document_job, receipt_job as receipt_sent, names_of, type_of, report_in, named_by, value_of}
 use Rattle.as2_exchange.specs.State.{AllDigests, LaterVersion, State, InEntry, OutEntry, Evidence, empty}
 use Rattle.as2_exchange.specs.Events.{Post, Begin, Outcome, Answer, Nothing, NoAnswer, Reply, Job, Settled, Delivered, TryFailed, AlreadySettled, Submitted, Ticked, Refused, UnknownOrganization, UnknownPartner, NoSuchNumber, NotDue, AllSettled, NoOpenTry, TriesUsedUp}
-use Rattle.as2_exchange.specs.Documents.{begun, closed, submit, tick}
+use Rattle.as2_exchange.specs.Documents.{begun, closed_document, submit, tick}
 use Rattle.as2_exchange.specs.Lines.{http}
 use Rattle.as2_exchange.specs.OwedReceipts.{mdn_begun, mdn_closed}
 use Rattle.as2_exchange.specs.Receipts.{is_success}
@@ -71,22 +71,22 @@ begin_opens = (refl, refl)
 
 -- what an Outcome without an answer is answered
 abbrev outcome_answer : Agreements → OutEntry → Answer
-outcome_answer A d = (closed A AllDigests NoAnswer 1000 d).0
+outcome_answer A d = (closed_document A AllDigests NoAnswer 1000 d).0
 
 outcome_refusals : (outcome_answer no_organization settled_late ≡ Refused UnknownOrganization)
     × (outcome_answer no_partner settled_late ≡ Refused UnknownPartner)
     × (outcome_answer fixture settled_late ≡ AlreadySettled)
     × (outcome_answer fixture (standing 2 Idle None Overdue None) ≡ Refused NoOpenTry)
-unfolding closed
+unfolding closed_document
 outcome_refusals = (refl, refl, refl, refl)
 
 -- ---- an Outcome: what it leaves
 
 -- a try that failed, and the last one
-failures : ((closed fixture AllDigests NoAnswer 1000 (standing 1 Running (Some 1030) Sending None)).1 ≡ standing 1 Idle (Some 1030) Retry None)
-    × ((closed fixture AllDigests NoAnswer 1000 (standing 2 Last (Some 1030) Sending None)).1 ≡ standing 2 Idle None TriesUsed None)
-    × ((closed fixture AllDigests NoAnswer 1000 (standing 2 Last None TriesUsed None)).1 ≡ standing 2 Idle None TriesUsed None)
-unfolding closed
+failures : ((closed_document fixture AllDigests NoAnswer 1000 (standing 1 Running (Some 1030) Sending None)).1 ≡ standing 1 Idle (Some 1030) Retry None)
+    × ((closed_document fixture AllDigests NoAnswer 1000 (standing 2 Last (Some 1030) Sending None)).1 ≡ standing 2 Idle None TriesUsed None)
+    × ((closed_document fixture AllDigests NoAnswer 1000 (standing 2 Last None TriesUsed None)).1 ≡ standing 2 Idle None TriesUsed None)
+unfolding closed_document
 failures = (refl, refl, refl)
 
 -- 200 to 299 are the statuses of success
@@ -94,39 +94,39 @@ statuses_of_success : (is_success 199 ≡ false) × (is_success 200 ≡ true) ×
 statuses_of_success = (refl, refl, refl, refl)
 
 -- whatever an answer with another status brings, the try failed
-other_statuses : ((closed fixture AllDigests (Reply 404 (receipt_head (codes "Buyer")) q) 1000 (standing 1 Running (Some 1030) Sending None)) ≡ (TryFailed, standing 1 Idle (Some 1030) Retry None))
-    × ((closed fixture AllDigests (Reply 300 (receipt_head (codes "Buyer")) q) 1000 (standing 1 Running (Some 1030) Sending None)) ≡ (TryFailed, standing 1 Idle (Some 1030) Retry None))
-unfolding closed
+other_statuses : ((closed_document fixture AllDigests (Reply 404 (receipt_head (codes "Buyer")) q) 1000 (standing 1 Running (Some 1030) Sending None)) ≡ (TryFailed, standing 1 Idle (Some 1030) Retry None))
+    × ((closed_document fixture AllDigests (Reply 300 (receipt_head (codes "Buyer")) q) 1000 (standing 1 Running (Some 1030) Sending None)) ≡ (TryFailed, standing 1 Idle (Some 1030) Retry None))
+unfolding closed_document
 other_statuses = (refl, refl)
 
 -- a receipt in the answer settles the document: the try is closed, nothing is waited for, and the receipt is kept as it came
-settled_by_answer : closed fixture AllDigests (Reply 299 (receipt_head (codes "Buyer")) q) 1001 (standing 1 Running (Some 1030) Sending None) ≡ (Settled Processed, standing 1 Idle None Processed (Some (record { moment = 1001; content_type = q_type_text; body = q })))
-unfolding closed named_by value_of bare
+settled_by_answer : closed_document fixture AllDigests (Reply 299 (receipt_head (codes "Buyer")) q) 1001 (standing 1 Running (Some 1030) Sending None) ≡ (Settled Processed, standing 1 Idle None Processed (Some (record { moment = 1001; content_type = q_type_text; body = q })))
+unfolding closed_document named_by value_of bare
 settled_by_answer = rw (q_names, q_typed, q_read, q_says) refl
 
 -- a receipt under another partner's name, one for another document, and one whose sender is given twice settle nothing; each
 -- is still an answer of success
-foreign_answers : (closed fixture AllDigests (Reply 200 (receipt_head (codes "Depot")) q) 1001 (standing 1 Running (Some 1030) Sending None) ≡ (TryFailed, standing 1 Idle (Some 1031) Retry None))
-    × (closed fixture AllDigests (Reply 200 (receipt_head (codes "Buyer")) q_for_2) 1001 (standing 1 Running (Some 1030) Sending None) ≡ (TryFailed, standing 1 Idle (Some 1031) Retry None))
-    × (closed fixture AllDigests (Reply 200 ((codes "as2-from", codes "Depot") ∷ receipt_head (codes "Depot")) q) 1001 (record (standing 1 Running (Some 1030) Sending None) { partner = codes "Depot" }) ≡ (Delivered, record (standing 1 Idle (Some 1061) Awaiting None) { partner = codes "Depot" }))
-unfolding closed receipt_head receipt_body q q_for_2 names_of type_of report_in named_by value_of without_blanks between_quotes bare
+foreign_answers : (closed_document fixture AllDigests (Reply 200 (receipt_head (codes "Depot")) q) 1001 (standing 1 Running (Some 1030) Sending None) ≡ (TryFailed, standing 1 Idle (Some 1031) Retry None))
+    × (closed_document fixture AllDigests (Reply 200 (receipt_head (codes "Buyer")) q_for_2) 1001 (standing 1 Running (Some 1030) Sending None) ≡ (TryFailed, standing 1 Idle (Some 1031) Retry None))
+    × (closed_document fixture AllDigests (Reply 200 ((codes "as2-from", codes "Depot") ∷ receipt_head (codes "Depot")) q) 1001 (record (standing 1 Running (Some 1030) Sending None) { partner = codes "Depot" }) ≡ (Delivered, record (standing 1 Idle (Some 1061) Awaiting None) { partner = codes "Depot" }))
+unfolding closed_document receipt_head receipt_body q q_for_2 names_of type_of report_in named_by value_of without_blanks between_quotes bare
 foreign_answers = (refl, refl, refl)
 
 -- a receipt in the Outcome of a try that is closed is none
 late_outcome : play due_1 (empty (LaterVersion 0) 1) (submit_to buyer ∷ Begin 1 1000 ∷ Outcome 1 NoAnswer 1000 ∷ Outcome 1 (Reply 200 (receipt_head (codes "Buyer")) q) 1001 ∷ [])
     ≡ Some (Submitted 1 ∷ job_1 buyer ∷ TryFailed ∷ Refused NoOpenTry ∷ [], Some (Retry, Some 1030))
-unfolding play submit begun closed
+unfolding play submit begun closed_document
 late_outcome = refl
 
 -- an answer of success without a receipt, by what is agreed with the partner
 abbrev delivery_to : Text → OutEntry → OutEntry
-delivery_to partner d = (closed fixture AllDigests (Reply 200 no_head []) 1000 (record d { partner = partner })).1
+delivery_to partner d = (closed_document fixture AllDigests (Reply 200 no_head []) 1000 (record d { partner = partner })).1
 
 deliveries : (delivery_to (codes "Depot") (standing 1 Running (Some 1030) Sending None) ≡ record (standing 1 Idle (Some 1060) Awaiting None) { partner = codes "Depot" })
     × (delivery_to (codes "A \"B\" \\ C") (standing 1 Running (Some 1030) Sending None) ≡ record (standing 1 Idle None NoReceiptAsked None) { partner = codes "A \"B\" \\ C" })
     × (delivery_to (codes "Buyer") (standing 1 Running (Some 1030) Sending None) ≡ standing 1 Idle (Some 1030) Retry None)
     × (delivery_to (codes "Buyer") (standing 2 Last (Some 1030) Sending None) ≡ standing 2 Idle None TriesUsed None)
-unfolding closed names_of
+unfolding closed_document names_of
 deliveries = (refl, refl, refl, refl)
 
 -- ---- a Tick

@@ -1,7 +1,7 @@
 -- Documents to a partner: taken in, tried, settled by a receipt, given up as time goes by, sent anew (RFC 4130, sections 5 to 7;
 -- tries and moments are this station's own rules).
 use Rattle.std.specs.Prelude.{ℕ, ◌+◌, Bool, true, false, ◌&&◌, ◌||◌, not, [], ◌∷◌, ◌++◌, map, length, Option, Some, None, option_and_then, is_some, nat_lt, nat_le, count_by, if◌then◌else◌}
-use Rattle.as2_mdn.specs.Details.{state_of}
+use Rattle.as2_mdn.specs.Details.{class_of}
 use Rattle.as2_mdn.specs.declared.detail.State.{State as StateOf}
 use Rattle.as2_mdn.specs.declared.detail.State.TheVariants.{E}
 use Rattle.as2_exchange.specs.Agreement.{Text, Agreements, Partner, Asked, NoReceipt, Sync, Async, is_organization, partner_of}
@@ -12,15 +12,15 @@ use Rattle.as2_exchange.specs.Events.{TryAnswer, UnknownOrganization, UnknownPar
 use Rattle.as2_exchange.specs.Lines.{http, refusal}
 use Rattle.as2_exchange.specs.Posts.{ReceivedReceipt}
 use Rattle.as2_exchange.specs.Receipts.{bears, receipt_in_answer, is_delivery, evidence_of}
-use Rattle.as2_exchange.specs.Tries.{agreed, is_early, is_due, is_last, is_idle}
+use Rattle.as2_exchange.specs.Tries.{where_agreed, is_early, is_due, is_last, is_idle}
 
 -- the document once a receipt has settled it by this detail, which closes an open try
 abbrev pub settled_as : Detail → Evidence → OutEntry → OutEntry
 settled_as detail evidence d = record d { attempt = Idle; due = None; detail = detail; evidence = Some evidence }
 
 -- the document once this receipt has settled it
-abbrev pub settled : ℕ → ReceivedReceipt → OutEntry → OutEntry
-settled m r d = settled_as (verdict r.known r.receipt d.content) (evidence_of m r) d
+abbrev pub settled_document : ℕ → ReceivedReceipt → OutEntry → OutEntry
+settled_document m r d = settled_as (verdict r.known r.receipt d.content) (evidence_of m r) d
 
 -- it is waiting for what no try can bring
 abbrev pub waits : Detail → Bool
@@ -32,7 +32,7 @@ waits other = false
 -- a try of a document begins
 unfoldable pub begun : Agreements → ℕ → OutEntry → Answer × OutEntry
 begun A m d =
-    agreed A d.organization d.partner d λ p.
+    where_agreed A d.organization d.partner d λ p.
     if is_settled d then (Refused AllSettled, d)
     else if nat_le p.max_tries d.tries then (Refused TriesUsedUp, d)
     else if waits d.detail || is_early m d.due then (Refused NotDue, d)
@@ -55,10 +55,10 @@ failed_try p m d =
     else (TryFailed, record d { attempt = Idle; due = Some (m + p.retry_seconds); detail = Retry })
 
 -- the document after an answer of success that brought no receipt for it
-abbrev pub delivered : Asked → Partner → ℕ → OutEntry → Answer × OutEntry
-delivered Async p m d = (Delivered, record d { attempt = Idle; due = Some (m + p.overdue_seconds); detail = Awaiting })
-delivered NoReceipt p m d = (Delivered, record d { attempt = Idle; due = None; detail = NoReceiptAsked })
-delivered Sync p m d = failed_try p m d
+abbrev pub delivered_document : Asked → Partner → ℕ → OutEntry → Answer × OutEntry
+delivered_document Async p m d = (Delivered, record d { attempt = Idle; due = Some (m + p.overdue_seconds); detail = Awaiting })
+delivered_document NoReceipt p m d = (Delivered, record d { attempt = Idle; due = None; detail = NoReceiptAsked })
+delivered_document Sync p m d = failed_try p m d
 
 -- the receipt, where it is for this document
 abbrev pub if_for : OutEntry → ReceivedReceipt → Option ReceivedReceipt
@@ -66,13 +66,13 @@ if_for d r = if bears r d.organization d.partner d.id then Some r else None
 
 -- the receipt for it that came closes the open try; else the answer does
 abbrev pub closed_by : Partner → TryAnswer → ℕ → OutEntry → Option ReceivedReceipt → Answer × OutEntry
-closed_by p got m d (Some r) = (Settled (verdict r.known r.receipt d.content), settled m r d)
-closed_by p got m d None = if is_delivery got then delivered p.receipt p m d else failed_try p m d
+closed_by p got m d (Some r) = (Settled (verdict r.known r.receipt d.content), settled_document m r d)
+closed_by p got m d None = if is_delivery got then delivered_document p.receipt p m d else failed_try p m d
 
 -- the outcome of a document's try, where these digests are known
-unfoldable pub closed : Agreements → Digests → TryAnswer → ℕ → OutEntry → Answer × OutEntry
-closed A known answer m d =
-    agreed A d.organization d.partner d λ p.
+unfoldable pub closed_document : Agreements → Digests → TryAnswer → ℕ → OutEntry → Answer × OutEntry
+closed_document A known answer m d =
+    where_agreed A d.organization d.partner d λ p.
     if is_settled d then (AlreadySettled, d)
     else if is_idle d.attempt then (Refused NoOpenTry, d)
     else closed_by p answer m d (option_and_then (if_for d) (receipt_in_answer known answer))
@@ -89,9 +89,9 @@ queued_anew m d = record d { tries = 0; attempt = Idle; due = Some m; detail = N
 -- a document that failed is to be sent anew
 unfoldable pub resent : Agreements → ℕ → OutEntry → Answer × OutEntry
 resent A m d =
-    agreed A d.organization d.partner d λ p.
+    where_agreed A d.organization d.partner d λ p.
     if is_settled d then (Refused AllSettled, d)
-    else if not (is_error (state_of d.detail)) then (Refused NotDue, d)
+    else if not (is_error (class_of d.detail)) then (Refused NotDue, d)
     else (Resent, queued_anew m d)
 
 -- what a document that is due passes into as time goes by
@@ -105,20 +105,20 @@ abbrev pub passes_at : ℕ → OutEntry → Option Detail
 passes_at m d = if is_due m d.due then passes_into d.detail d.attempt else None
 
 -- the document as it passes into another detail; the attempt stays, so that a late outcome is still taken
-abbrev pub passed : OutEntry → Option Detail → OutEntry
-passed d None = d
-passed d (Some detail) = record d { due = None; detail = detail }
+abbrev pub passed_document : OutEntry → Option Detail → OutEntry
+passed_document d None = d
+passed_document d (Some detail) = record d { due = None; detail = detail }
 
 -- each document as time goes by, and how many pass into another detail
 unfoldable pub tick : ℕ → State → Answer × State
-tick m s = (Ticked (count_by (λ d. is_some (passes_at m d)) s.outbox), record s { outbox = map (λ d. passed d (passes_at m d)) s.outbox })
+tick m s = (Ticked (count_by (λ d. is_some (passes_at m d)) s.outbox), record s { outbox = map (λ d. passed_document d (passes_at m d)) s.outbox })
 
 -- a receipt that was posted settles its document, if that was begun and nothing has settled it
 abbrev pub settle_for : State → ℕ → ReceivedReceipt → Option OutEntry → Answer × State
 settle_for s m r None = (Http (refusal NoSuchMessage), s)
 settle_for s m r (Some d) =
     if not (bears r d.organization d.partner d.id && d.begun) then (Http (refusal NoSuchMessage), s)
-    else (http 200 Nothing, if is_settled d then s else change_document s d.number (settled m r))
+    else (http 200 Nothing, if is_settled d then s else change_document s d.number (settled_document m r))
 
 -- the document whose identifier the receipt names, if there is one
 unfoldable pub settle : State → ℕ → ReceivedReceipt → Answer × State

@@ -1,10 +1,10 @@
 -- The requests that the station sends: a document to its partner (RFC 4130, sections 5.3 and 6), and a receipt that is
 -- sent later (RFC 4130, section 7.3). Both are HTTP requests (RFC 9112, section 3), one to a connection.
 use Rattle.std.specs.Prelude.{ℕ, [], ◌++◌, length, Option, Some, None, codes, decimal}
-use Rattle.as2_names.specs.Names.{spelling}
+use Rattle.as2_names.specs.Names.{name_spelling}
 use Rattle.as2_text.specs.Addresses.{authority_of, address_target, url_of}
 use Rattle.as2_mic.specs.Algs.{alg_name}
-use Rattle.as2_mdn.specs.Reports.{report_line, head_fields, report_text}
+use Rattle.as2_mdn.specs.Reports.{report_line, head_fields, receipt_text}
 use Rattle.as2_mdn.specs.declared.report.ReportOut.{ReportOut}
 use Rattle.as2_exchange.specs.declared.answer.Job.{Job}
 use Rattle.as2_exchange.specs.Agreement.{Text, Agreements, Partner, Asked, NoReceipt, Sync, Async}
@@ -16,8 +16,8 @@ abbrev pub identifier_value : Agreements → ℕ → Text
 identifier_value A n = codes "out-" ++ decimal n ++ codes "@" ++ A.domain
 
 -- an identifier as it is written: its value between angle brackets (RFC 4130, section 5.3.3)
-abbrev pub bracketed : Text → Text
-bracketed value = codes "<" ++ value ++ codes ">"
+abbrev pub identifier_in_brackets : Text → Text
+identifier_in_brackets value = codes "<" ++ value ++ codes ">"
 
 -- ---- what both begin with
 
@@ -30,8 +30,8 @@ abbrev pub address_of : Text → Text × Text
 address_of url = address_or_nothing (url_of url)
 
 -- the request line, and the fields of the connection, which is closed after the answer
-abbrev pub opening : Text × Text → Text
-opening address =
+abbrev pub request_opening : Text × Text → Text
+request_opening address =
     report_line (codes "POST ") (address_target address ++ codes " HTTP/1.1")
     ++ report_line (codes "Host: ") (authority_of address)
     ++ codes "Connection: close\r\n"
@@ -59,8 +59,8 @@ asking_fields Async A p = request_fields A p ++ return_field A.return_url
 abbrev pub document_fields : Agreements → Partner → Text → Text → Text → Text
 document_fields A p organization id content =
     codes "AS2-Version: 1.0\r\n"
-    ++ report_line (codes "AS2-From: ") (spelling organization)
-    ++ report_line (codes "AS2-To: ") (spelling p.name)
+    ++ report_line (codes "AS2-From: ") (name_spelling organization)
+    ++ report_line (codes "AS2-To: ") (name_spelling p.name)
     ++ report_line (codes "Message-ID: ") id
     ++ report_line (codes "Content-Type: ") p.content_type
     ++ codes "Content-Transfer-Encoding: binary\r\n"
@@ -72,7 +72,7 @@ abbrev pub document_request : Agreements → Partner → Text → Text → Text 
 document_request A p organization id content =
     record {
       authority = authority_of (address_of p.url);
-      bytes = opening (address_of p.url) ++ document_fields A p organization id content ++ codes "\r\n" ++ content;
+      bytes = request_opening (address_of p.url) ++ document_fields A p organization id content ++ codes "\r\n" ++ content;
     }
 
 -- ---- a receipt
@@ -82,5 +82,5 @@ abbrev pub receipt_request : Text → ReportOut → Job
 receipt_request url out =
     record {
       authority = authority_of (address_of url);
-      bytes = opening (address_of url) ++ head_fields out ++ codes "\r\n" ++ report_text out;
+      bytes = request_opening (address_of url) ++ head_fields out ++ codes "\r\n" ++ receipt_text out;
     }

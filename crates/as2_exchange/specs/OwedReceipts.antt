@@ -8,7 +8,7 @@ use Rattle.as2_exchange.specs.State.{InEntry}
 use Rattle.as2_exchange.specs.Events.{TryAnswer, NotDue, AllSettled, NoOpenTry, TriesUsedUp, Answer, Job, Delivered, TryFailed, AlreadySettled, Refused}
 use Rattle.as2_exchange.specs.Receipts.{is_delivery}
 use Rattle.as2_exchange.specs.Recording.{report}
-use Rattle.as2_exchange.specs.Tries.{agreed, is_early, is_last}
+use Rattle.as2_exchange.specs.Tries.{where_agreed, is_early, is_last}
 
 -- the receipt is still to be sent
 abbrev pub is_pending : MdnState → Bool
@@ -18,7 +18,7 @@ is_pending other = false
 -- a try of a receipt begins
 unfoldable pub mdn_begun : Agreements → ℕ → InEntry → Answer × InEntry
 mdn_begun A m e =
-    agreed A e.posted.receiver e.posted.sender e λ p.
+    where_agreed A e.posted.receiver e.posted.sender e λ p.
     if not (is_pending e.mdn) then (Refused AllSettled, e)
     else if nat_le p.max_tries e.tries then (Refused TriesUsedUp, e)
     else if is_early m e.due then (Refused NotDue, e)
@@ -38,7 +38,7 @@ is_shut other = false
 -- the outcome of a receipt's try
 unfoldable pub mdn_closed : Agreements → TryAnswer → ℕ → InEntry → Answer × InEntry
 mdn_closed A answer m e =
-    agreed A e.posted.receiver e.posted.sender e λ p.
+    where_agreed A e.posted.receiver e.posted.sender e λ p.
     if not (is_pending e.mdn) then (AlreadySettled, e)
     else if is_shut e.attempt then (Refused NoOpenTry, e)
     else if is_delivery answer then (Delivered, record e { mdn = Sent; attempt = Idle; due = None })

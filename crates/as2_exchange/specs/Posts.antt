@@ -2,7 +2,7 @@
 use Rattle.std.specs.Prelude.{◌≡◌, ℕ, Bool, true, false, ◌&&◌, ◌||◌, not, Option, Some, None, is_some, nat_lt, if◌then◌else◌}
 use Rattle.std.specs.Str.{bytes_eq}
 use Rattle.as2_exchange.specs.Agreement.{Text, Alg, Md5, Sha1, Sha256, Agreements, is_organization, partner_of}
-use Rattle.as2_exchange.specs.Readings.{Head, MediaType, Receipt, ReceiptAsk, ReceiptDelivery, NoReceipt, Sync, Async, Outcome as WhatBecame, Processed, DecryptionFailed, DecompressionFailed, AuthenticationFailed, UnsupportedFormat, UnsupportedMicAlgorithms, Mic, names_of, version_fits, type_of, is_report, report_in, id_of, ask_of, how_of, outcome_of, mic_for}
+use Rattle.as2_exchange.specs.Readings.{Head, MediaType, Receipt, ReceiptAsk, ReceiptDelivery, NoReceipt, Sync, Async, Outcome as WhatBecame, Processed, DecryptionFailed, DecompressionFailed, AuthenticationFailed, UnsupportedFormat, UnsupportedMicAlgorithms, Mic, names_of, version_fits, type_of, is_report, report_in, id_of, ask_of, how_of, document_outcome, mic_for}
 use Rattle.as2_exchange.specs.State.{Posted, Digests}
 use Rattle.as2_exchange.specs.Events.{Line, BadNames, BadVersion, UnknownNames, BadType, UnreadableReceipt, BadId, BadAsk}
 
@@ -27,9 +27,9 @@ needs None line rest = Refuses line
 needs (Some x) line rest = rest x
 
 -- the document of a post, with what is made of it where these digests are known
-abbrev pub posted : Digests → Text × Text → Text → MediaType × Text → Head → Text → ReceiptAsk → Posted
-posted known names id type head content ask =
-    let became = outcome_of known type.0 head ask in
+abbrev pub posted_document : Digests → Text × Text → Text → MediaType × Text → Head → Text → ReceiptAsk → Posted
+posted_document known names id type head content ask =
+    let became = document_outcome known type.0 head ask in
     record {
       sender = names.0;
       receiver = names.1;
@@ -54,15 +54,15 @@ abbrev pub document_posted : Digests → Text × Text → MediaType × Text → 
 document_posted known names type head body =
     needs (id_of head) BadId λ id.
     needs (ask_of head) BadAsk λ ask.
-    IsDocument (posted known names id type head body ask)
+    IsDocument (posted_document known names id type head body ask)
 
 -- a post whose names, version and content type are in order
 abbrev pub read_further : Digests → Text × Text → MediaType × Text → Head → Text → Reading
 read_further known names type head body = if is_report type.0 then report_posted known names type body else document_posted known names type head body
 
 -- a post as it is read where these digests are known: the first line of the table of answers that fits
-unfoldable pub reading : Agreements → Digests → Head → Text → Reading
-reading A known head body =
+unfoldable pub post_reading : Agreements → Digests → Head → Text → Reading
+post_reading A known head body =
     needs (names_of head) BadNames λ names.
     if not (version_fits head) then Refuses BadVersion
     else if not (is_organization A names.1 && is_some (partner_of A names.0)) then Refuses UnknownNames

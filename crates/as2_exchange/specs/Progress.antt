@@ -1,6 +1,6 @@
 -- How far documents have come: in which state they are, and which are new, awaited, under way or given up.
 use Rattle.std.specs.Prelude.{ℕ, Bool, true, false, count_by, Option, Some, None}
-use Rattle.as2_mdn.specs.Details.{state_of}
+use Rattle.as2_mdn.specs.Details.{class_of}
 use Rattle.as2_mdn.specs.declared.detail.State.{State as StateOf}
 use Rattle.as2_mdn.specs.declared.detail.State.TheVariants.{P, R, S, W, E}
 use Rattle.as2_exchange.specs.Detail.{Detail, New, Sending, Awaiting, Retry, TriesUsed, Overdue}
@@ -17,7 +17,7 @@ same_state a b = false
 -- in this state, where one is asked for
 abbrev pub is_in : Option StateOf → OutEntry → Bool
 is_in None d = true
-is_in (Some state) d = same_state state (state_of d.detail)
+is_in (Some state) d = same_state state (class_of d.detail)
 
 abbrev pub is_new : OutEntry → Bool
 is_new d = by d.detail

@@ -6,10 +6,10 @@ use Rattle.as2_exchange.specs.Detail.{Attempt, Idle, Running, Last, Used, MdnSta
 use Rattle.as2_exchange.specs.Readings.{ReceiptDelivery, NoReceipt, Sync, Async}
 use Rattle.as2_exchange.specs.State.{Posted, InEntry, Version, known_digests, origin_of}
 use Rattle.as2_exchange.specs.Events.{Event, Post, BeginMdn, OutcomeMdn, Answer, Done}
-use Rattle.as2_exchange.specs.Posts.{Reading, IsDocument, reading, repeats}
+use Rattle.as2_exchange.specs.Posts.{Reading, IsDocument, post_reading, repeats}
 use Rattle.as2_exchange.specs.Receipts.{is_delivery}
-use Rattle.as2_exchange.specs.History.{Found, Fact, ATry, AnOutcome, is_job, try_in, tries, is_open, last_of, with_past}
-use Rattle.as2_exchange.specs.Waiting.{Tried, last_tried}
+use Rattle.as2_exchange.specs.History.{FoundAt, Fact, ATry, AnOutcome, is_job, try_in, tries, is_open, last_of, with_past}
+use Rattle.as2_exchange.specs.Waiting.{TryWithOutcome, last_tried}
 
 -- what an event is to the receipt: its document is posted, for the first time or again; or a try to send it begins or ends
 pub data ReceiptFact : Type 0 where
@@ -23,7 +23,7 @@ post_of v n p m other = None
 
 -- A try of receipt n is a BeginMdn of n that was answered by a Job.
 abbrev pub receipt_fact_of : Agreements → ℕ → Posted → Version → Answer → Event → Option ReceiptFact
-receipt_fact_of A n p v answer (Post head body m) = post_of v n p m (reading A (known_digests v) head body)
+receipt_fact_of A n p v answer (Post head body m) = post_of v n p m (post_reading A (known_digests v) head body)
 receipt_fact_of A n p v answer (BeginMdn k m) = if k == n && is_job answer then Some (OfATry (ATry m)) else None
 receipt_fact_of A n p v answer (OutcomeMdn k got m) = if k == n then Some (OfATry (AnOutcome m (known_digests v) got)) else None
 receipt_fact_of A n p v answer other = None
@@ -48,14 +48,14 @@ are_used p facts = is_some (last_of try_in facts) && nat_le p.max_tries (tries f
 
 -- The moment at which it was queued last, and the facts of its tries since, after one more fact. A post queues it where it
 -- wasn't queued before, or was delivered or tried as often as is agreed since.
-abbrev pub queued_by : Partner → Option (Found ℕ Fact) → ReceiptFact → Option (Found ℕ Fact)
+abbrev pub queued_by : Partner → Option (FoundAt ℕ Fact) → ReceiptFact → Option (FoundAt ℕ Fact)
 queued_by p None (APost m) = Some (record { it = m; after = [] })
 queued_by p None (OfATry f) = None
 queued_by p (Some since) (APost m) = Some (if is_delivered since.after || are_used p since.after then record { it = m; after = [] } else since)
 queued_by p (Some since) (OfATry f) = Some (record { it = since.it; after = since.after ++ f ∷ [] })
 
 -- the same after all facts; nothing, where it never was queued
-unfoldable pub since_queued : Partner → List ReceiptFact → Option (Found ℕ Fact)
+unfoldable pub since_queued : Partner → List ReceiptFact → Option (FoundAt ℕ Fact)
 since_queued p facts = fold (queued_by p) None facts
 
 -- ---- the history
@@ -79,21 +79,21 @@ abbrev pub mdn_after : Bool → MdnState
 mdn_after delivered = if delivered then Sent else Pending
 
 -- by whether it was delivered, whether the tries are as many as agreed, and the last try: open, or closed by its Outcome
-abbrev pub mdn_attempt : Bool → Bool → Option Tried → Attempt
+abbrev pub mdn_attempt : Bool → Bool → Option TryWithOutcome → Attempt
 mdn_attempt true used t = Idle
 mdn_attempt false used None = Idle
 mdn_attempt false used (Some (t, None)) = if used then Last else Running
 mdn_attempt false used (Some (t, Some o)) = if used then Used else Idle
 
 -- the first try is due when it is queued, each other one after the one before, or after the Outcome of that
-abbrev pub mdn_due : Partner → Bool → Bool → ℕ → Option Tried → Option ℕ
+abbrev pub mdn_due : Partner → Bool → Bool → ℕ → Option TryWithOutcome → Option ℕ
 mdn_due p true used queued t = None
 mdn_due p false used queued None = Some queued
 mdn_due p false used queued (Some (t, None)) = if used then None else Some (t.it + p.retry_seconds)
 mdn_due p false used queued (Some (t, Some o)) = if used then None else Some (o.it.0 + p.retry_seconds)
 
 -- what stands of one that is sent later
-abbrev pub sent_later : Partner → Found ℕ Fact → ReceiptHistory
+abbrev pub sent_later : Partner → FoundAt ℕ Fact → ReceiptHistory
 sent_later p since =
     let delivered = is_delivered since.after in
     let used = nat_le p.max_tries (tries since.after) in
@@ -105,7 +105,7 @@ sent_later p since =
     }
 
 -- by how it was asked for: not at all, in the answer to the post, or later
-abbrev pub history_by_how : ReceiptDelivery → Partner → Option (Found ℕ Fact) → Option ReceiptHistory
+abbrev pub history_by_how : ReceiptDelivery → Partner → Option (FoundAt ℕ Fact) → Option ReceiptHistory
 history_by_how NoReceipt p since = Some (at_rest Unasked)
 history_by_how Sync p since = Some (at_rest Sent)
 history_by_how (Async url) p since = option_map (sent_later p) since

@@ -6,8 +6,8 @@ use Rattle.as2_exchange.specs.Detail.{Attempt, Idle, Last}
 use Rattle.as2_exchange.specs.Events.{UnknownOrganization, UnknownPartner, Answer, Refused}
 
 -- refuses where the agreements lack the organization or the partner
-abbrev pub agreed : {E : Type 0} → Agreements → Text → Text → E → (Partner → Answer × E) → Answer × E
-agreed A organization partner e act =
+abbrev pub where_agreed : {E : Type 0} → Agreements → Text → Text → E → (Partner → Answer × E) → Answer × E
+where_agreed A organization partner e act =
     if not (is_organization A organization) then (Refused UnknownOrganization, e)
     else option_map_or act (partner_of A partner) (Refused UnknownPartner, e)
 

@@ -9,9 +9,9 @@ use Rattle.sqlite.specs.Store.{Ghosts}
 use Rattle.sqlite.proofs.StateLemmas.{survives_then}
 use Rattle.sqlite.proofs.Callers.{survives_begin}
 use Rattle.as2_exchange.specs.State.{State, Version}
-use Rattle.as2_host.specs.Migrating.{moved, moved_from}
+use Rattle.as2_host.specs.Migrating.{migrated_if_first, moved_from}
 use Rattle.as2_store.proofs.Querying.{nothing_inside}
-use Rattle.as2_store.specs.Calls.{IsGivenBack, IsInside, Reaches}
+use Rattle.as2_store.specs.Calls.{IsGivenBack, IsInside, ReachesTables}
 use Rattle.as2_store.specs.Migrating.{RestsAs, migrated_from}
 use Rattle.as2_store.specs.Stands.{Holds, Rests, Stands}
 use Rattle.as2_store.specs.Tables.{Layout, VersionOne, VersionTwo, VersionThree}
@@ -100,7 +100,7 @@ back_to old new s back clean rests = record {
 -- ---- the state that is next
 
 -- by the tables of an earlier version, the state has that version
-pub moves_to : (layout : Layout) (image : Image) (s : State) → IsEarlier layout → HoldsAs layout image s → migrated_from layout s ≡ Some (moved s)
+pub moves_to : (layout : Layout) (image : Image) (s : State) → IsEarlier layout → HoldsAs layout image s → migrated_from layout s ≡ Some (migrated_if_first s)
 moves_to VersionOne image s earlier held = ap (λ (v : Version). Some (moved_from v s)) (sym held.stands.version)
 moves_to (VersionTwo way) image s earlier held = ap (λ (v : Version). Some (moved_from v s)) (sym held.stands.version.version_is)
 moves_to (VersionThree way) image s earlier held = absurd earlier
@@ -110,6 +110,6 @@ some_is : (s t : State) → Some s ≡ Some t → s ≡ t
 some_is s t e = cc
 
 pub reaches_moved : (layout : Layout) (image : Image) (c : Connected) (s : State) → IsEarlier layout → HoldsAs layout image s
-    → Reaches c (migrated_from layout s) → Rests c (moved s)
+    → ReachesTables c (migrated_from layout s) → Rests c (migrated_if_first s)
 reaches_moved layout image c s earlier held it =
-    subst (λ (t : State). Rests c t) (some_is it.state (moved s) (sym it.is ∙ moves_to layout image s earlier held)) it.rests
+    subst (λ (t : State). Rests c t) (some_is it.state (migrated_if_first s) (sym it.is ∙ moves_to layout image s earlier held)) it.rests

@@ -13,5 +13,5 @@ front_of [] = codes "./"
 front_of (byte ∷ rest) = if ends_with (λ x y. x == y) (byte ∷ rest) (codes "/") then byte ∷ rest else (byte ∷ rest) ++ codes "/"
 
 -- the names of these files in that folder
-abbrev pub names_of : List ℕ → List NewFile → List (List ℕ)
-names_of folder files = map (λ f. front_of folder ++ string_bytes f.name) files
+abbrev pub paths_of : List ℕ → List NewFile → List (List ℕ)
+paths_of folder files = map (λ f. front_of folder ++ string_bytes f.name) files

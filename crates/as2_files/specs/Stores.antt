@@ -12,7 +12,7 @@ use Rattle.sqlite_wal.specs.Files.{outcomes}
 use Rattle.sqlite_wal.specs.Reads.{AreClean}
 use Rattle.sqlite_wal.specs.Recovery.{Image}
 use Rattle.as2_exchange.specs.State.{State}
-use Rattle.as2_kept.specs.Instance.{standing, tables}
+use Rattle.as2_kept.specs.Instance.{tables_standing, tables}
 use Rattle.as2_records.specs.Standing.{Medium, Standing}
 use Rattle.as2_storage.specs.Files.{AreClosed}
 use Rattle.as2_store.specs.Files.{HoldsState}
@@ -25,8 +25,8 @@ abbrev pub IsFound : Image → Connected → Type 0
 IsFound image c = HasCleanDisk c → IsTrue c.is_open × ((s : State) → HoldsState image s → Rests c s)
 
 -- a store in files, as records
-abbrev pub shown : {D : Type 0} {g : Ghosts D} → Held (FileStore D g) → Standing tables
-shown c = standing (file_state c)
+abbrev pub records_of_store : {D : Type 0} {g : Ghosts D} → Held (FileStore D g) → Standing tables
+records_of_store c = tables_standing (file_state c)
 
 module _ {D R : Type 0} {M : Medium} (g : Ghosts D) (shows : R → Standing M) (LeftOf : R → Files D → Type 0) where
   -- the files into which records were closed hold that state; the files of some that couldn't be closed, and stood for it, are what was
@@ -36,9 +36,9 @@ module _ {D R : Type 0} {M : Medium} (g : Ghosts D) (shows : R → Standing M) (
   EndsIn (Left files) s = (records : R) × (shows records).Rests s × LeftOf records files
 
   -- the tables in the files stand for that state: by what they held as they were opened, until they are closed
-  abbrev pub Keeps : Image → Option (End D) → State → Type 0
-  Keeps image None s = HoldsState image s
-  Keeps image (Some end) s = EndsIn end s
+  abbrev pub FilesKeep : Image → Option (End D) → State → Type 0
+  FilesKeep image None s = HoldsState image s
+  FilesKeep image (Some end) s = EndsIn end s
 
 module _ {D : Type 0} (g : Ghosts D) where
   -- until they were closed, all that was read of them is what had been written

@@ -7,10 +7,10 @@ ghost use Rattle.sqlite_wal.specs.Recovery.{Image};
 ghost use Rattle.as2_exchange.specs.State.{State};
 ghost use Rattle.as2_store.specs.Files.{HoldsState};
 ghost use Rattle.as2_store.specs.Stands.{Rests};
-ghost use Rattle.as2_host.specs.Migrating.{moved};
+ghost use Rattle.as2_host.specs.Migrating.{migrated_if_first};
 ghost use Rattle.as2_files.specs.Earlier.{HoldsEarlier};
 ghost use Rattle.as2_storage.specs.Files.{AreLeftBy};
-ghost use Rattle.as2_files.specs.Stores.{EndsIn, IfClosed, IfLeft, IsCleanEnd, IsFound, NeedsNoLog, shown};
+ghost use Rattle.as2_files.specs.Stores.{EndsIn, IfClosed, IfLeft, IsCleanEnd, IsFound, NeedsNoLog, records_of_store};
 
 use crate::closing::opening_fault;
 use crate::migrating::{Moved, migrate_in_files};
@@ -50,7 +50,7 @@ pub trait KeepFiles<R: Records> {
     /// Makes records of an earlier version in the files of that name those of the version that is read, and closes them.
     fn migrate_records(self, rt: &HostRuntime, name: &str) -> Result<Moved<Self::Disk>, OpenFault>
         ensures moved { IfOk result (λ it. IsCleanEnd Self.Disk.Disk (Some it.end) → (s : State)
-            → HoldsEarlier (image name.now) s → EndsIn Self.Disk.Disk R.Records.shows left_of it.end (moved s)) }
+            → HoldsEarlier (image name.now) s → EndsIn Self.Disk.Disk R.Records.shows left_of it.end (migrated_if_first s)) }
         ensures alone { IfOk result (λ it. IfClosed (NeedsNoLog Self.Disk.Disk) it.end) };
 
     /// Closes the records into their files.
@@ -93,7 +93,7 @@ pub fn open_in_files<F: OpenFiles>(
 pub fn close_into_files<D: Disk + Drop>(records: Kept<FileStore<D>>) -> End<D>
     ensures clean { IsCleanEnd D.Disk (Some result) → HasCleanDisk (file_state records) }
     ensures kept { IsCleanEnd D.Disk (Some result) → (s : State) → Rests (file_state records) s
-        → EndsIn D.Disk shown (AreLeftBy D.Disk) result s }
+        → EndsIn D.Disk records_of_store (AreLeftBy D.Disk) result s }
     ensures left { IfLeft (AreLeftBy D.Disk records) result }
     ensures alone { IfClosed (NeedsNoLog D.Disk) result }
 {

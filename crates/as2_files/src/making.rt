@@ -1,7 +1,7 @@
 //! Files that are made in a folder, each of them or none.
 ghost use Rattle.std.specs.Prelude.{◌≡◌, ◌++◌, IfOk, OnOk, map, string_bytes};
 ghost use Rattle.std.specs.Io.KnownBytes.{Appends};
-ghost use Rattle.as2_files.specs.Names.{front_of, names_of};
+ghost use Rattle.as2_files.specs.Names.{front_of, paths_of};
 
 use crate::file_system::FileSystem;
 use as2_evidence::NewFile;
@@ -47,7 +47,7 @@ fn name_in(alloc: Global, folder: &str, file: &str) -> Result<String, AllocError
 
 /// The names of these files in that folder, in order.
 fn names_in(alloc: Global, folder: &str, files: &[NewFile]) -> Result<Vec<String>, AllocError>
-    ensures { IfOk result (λ names. map string_bytes names.items ≡ names_of folder.now files.now) }
+    ensures { IfOk result (λ names. map string_bytes names.items ≡ paths_of folder.now files.now) }
 {
     let mut names = Vec::new(alloc);
     for file in files {

@@ -5,7 +5,7 @@ ghost use Rattle.sqlite.specs.Steps.{over_memory};
 ghost use Rattle.as2_host.specs.Stores.{MayCome};
 ghost use Rattle.as2_store.specs.Calls.{empty_store};
 ghost use Rattle.as2_store.specs.Stands.{Rests};
-ghost use Rattle.as2_files.specs.Stores.{IsCleanEnd, Keeps};
+ghost use Rattle.as2_files.specs.Stores.{IsCleanEnd, FilesKeep};
 
 use crate::file_system::FileSystem;
 use crate::keeping::{End, KeepFiles};
@@ -66,7 +66,7 @@ impl<R: Records + Drop, K: KeepFiles<R> + Drop> OpenStores for StoreFiles<'_, R,
 
     type InMemory = Kept<MemStore>;
 
-    ghost keeps = { λ it path number s. Keeps K.Disk.Disk R.Records.shows K.left_of (K.image (file_name path)) it.end s };
+    ghost keeps = { λ it path number s. FilesKeep K.Disk.Disk R.Records.shows K.left_of (K.image (file_name path)) it.end s };
 
     ghost fails = { λ it path fault. ⊤ };
 

@@ -11,7 +11,7 @@ use Rattle.as2_framing.specs.Places.{GoesOn}
 use Rattle.as2_framing.specs.declared.chunk_line.LineRead.{LineRead}
 use Rattle.as2_framing.specs.declared.chunk_line.LineRead.TheVariants as read
 use Rattle.as2_framing.specs.declared.chunked.ChunkStep.{ChunkStep}
-use Rattle.as2_framing.specs.Scanning.{missing_of, scanned}
+use Rattle.as2_framing.specs.Scanning.{missing_of, scan_from}
 use Rattle.as2_framing.specs.declared.chunked_body.ChunkedBody.{ChunkedBody}
 use Rattle.as2_framing.specs.declared.place.ChunkPlace.{ChunkPlace}
 use Rattle.as2_framing.specs.declared.place.ChunkPlace.TheVariants as place
@@ -333,7 +333,7 @@ takes_feed body text rest some is h =
 
 -- ---- the trailer
 
-pub takes_end : (count : ℕ) (line : LineSoFar) (front body text rest : List ℕ) (k : ℕ) → front ≡ take (16384 - count) rest → scanned 0 line front ≡ Ended k
+pub takes_end : (count : ℕ) (line : LineSoFar) (front body text rest : List ℕ) (k : ℕ) → front ≡ take (16384 - count) rest → scan_from 0 line front ≡ Ended k
     → HoldsTrailer count line body text rest → BeginsChunked text body (drop k rest)
 takes_end count line front body text rest k is end h =
     let ran : Runs h.came front 0 (Ended k) = subst (Runs h.came front 0) end (runs front h.came 0 line h.none h.last) in
@@ -349,7 +349,7 @@ takes_end count line front body text rest k is end h =
       ends = subst (λ (n : ℕ). HasTrailer h.trailer (drop n rest)) (sym same) (subst (λ (t : List ℕ). HasTrailer t (drop ran.0 rest)) (sym h.follows) ends);
     }
 
-pub takes_trailer : (count : ℕ) (line next : LineSoFar) (front body text rest : List ℕ) → front ≡ take (16384 - count) rest → scanned 0 line front ≡ Open next
+pub takes_trailer : (count : ℕ) (line next : LineSoFar) (front body text rest : List ℕ) → front ≡ take (16384 - count) rest → scan_from 0 line front ≡ Open next
     → length front + missing_of next ≤ 16384 - count → HoldsTrailer count line body text rest
     → HoldsTrailer (16384 - (16384 - count - length front)) next body text (drop (length front) rest)
 takes_trailer count line next front body text rest is opened room h =
@@ -370,7 +370,7 @@ takes_trailer count line next front body text rest is opened room h =
       short = omega (arith, room, some);
     }
 
-pub bad_trailer_of : (count : ℕ) (line next : LineSoFar) (front body text rest : List ℕ) → front ≡ take (16384 - count) rest → scanned 0 line front ≡ Open next
+pub bad_trailer_of : (count : ℕ) (line next : LineSoFar) (front body text rest : List ℕ) → front ≡ take (16384 - count) rest → scan_from 0 line front ≡ Open next
     → 16384 - count < length front + missing_of next → HoldsTrailer count line body text rest → IsBadChunk text
 bad_trailer_of count line next front body text rest is opened long h =
     let ran : Runs h.came front 0 (Open next) = subst (Runs h.came front 0) opened (runs front h.came 0 line h.none h.last) in

@@ -5,7 +5,7 @@ use Rattle.std.proofs.lemmas.List.{take_all, take-append-drop, take-append-le, l
 use Rattle.as2_media.specs.Bytes.{is_line_byte}
 use Rattle.as2_framing.specs.HeadText.{unblank, up_to_empty_line, head_limit, window, HasHeadText, HasNoHeadText}
 use Rattle.as2_framing.specs.HeadPieces.{HoldsText, HoldsHead, EndsHead, LeavesRest}
-use Rattle.as2_framing.specs.Scanning.{line_in, scanned}
+use Rattle.as2_framing.specs.Scanning.{line_in, scan_from}
 use Rattle.as2_framing.specs.declared.head_bytes.HeadBytes.{HeadBytes}
 use Rattle.as2_framing.specs.declared.scan.LineSoFar.{LineSoFar}
 use Rattle.as2_framing.specs.declared.scan.LineSoFar.TheVariants.{Nothing}
@@ -49,7 +49,7 @@ short_window text le = ap unblank (take_all head_limit text le)
 
 -- the pieces' bytes were scanned, and no empty line ended
 pub added_none : (old new : HeadBytes) (text front : List ℕ) (blank : ℕ) (line : LineSoFar) → HoldsText old text → LeavesRest old.text.items front blank → blank ≤ length front
-    → scanned 0 old.line (drop blank front) ≡ Open line → new.text.items ≡ old.text.items ++ drop blank front → new.skipped ≡ old.skipped + blank → new.line ≡ line → HoldsText new (text ++ front)
+    → scan_from 0 old.line (drop blank front) ≡ Open line → new.text.items ≡ old.text.items ++ drop blank front → new.skipped ≡ old.skipped + blank → new.line ≡ line → HoldsText new (text ++ front)
 added_none old new text front blank line h k le s items skipped same =
     let r : Runs old.text.items (drop blank front) 0 (Open line) = subst (Runs old.text.items (drop blank front) 0) s (runs (drop blank front) old.text.items 0 old.line h.none h.line) in
     record {
@@ -62,7 +62,7 @@ added_none old new text front blank line h k le s items skipped same =
 -- .. or one ended
 pub added_some : (old new : HeadBytes) (text front : List ℕ) (blank count : ℕ) → HoldsText old text → LeavesRest old.text.items front blank → blank ≤ length front
     → old.skipped + length old.text.items + length front ≤ head_limit
-    → scanned 0 old.line (drop blank front) ≡ Ended count → new.text.items ≡ old.text.items ++ take count (drop blank front) → EndsHead new text front (blank + count)
+    → scan_from 0 old.line (drop blank front) ≡ Ended count → new.text.items ≡ old.text.items ++ take count (drop blank front) → EndsHead new text front (blank + count)
 added_some old new text front blank count h k le room s items =
     let rest = drop blank front in
     let r : Runs old.text.items rest 0 (Ended count) = subst (Runs old.text.items rest 0) s (runs rest old.text.items 0 old.line h.none h.line) in

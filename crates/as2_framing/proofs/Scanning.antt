@@ -3,7 +3,7 @@ use Rattle.std.proofs.Common.{◌≡◌, ◌+◌, ◌-◌, ◌<◌, ◌≤◌, �
 use Rattle.std.specs.List.{list_any, onto_first}
 use Rattle.std.proofs.lemmas.Bool.{cases_Bool, eqb-true}
 use Rattle.as2_framing.specs.HeadText.{up_to_empty_line}
-use Rattle.as2_framing.specs.Scanning.{with_byte, may_end, line_in, scanned}
+use Rattle.as2_framing.specs.Scanning.{with_byte, may_end, line_in, scan_from}
 use Rattle.as2_framing.specs.declared.scan.LineSoFar.{LineSoFar}
 use Rattle.as2_framing.specs.declared.scan.LineSoFar.TheVariants.{Nothing, Return, Text}
 use Rattle.as2_framing.specs.declared.scan.Scanned.{Scanned}
@@ -109,12 +109,12 @@ later p rest b n (Open line) x = (
   ap (line_in Nothing) (sym (append_assoc p (b ∷ []) rest)) ∙ x.1,
 )
 
-pub runs : (bytes p : List ℕ) (n : ℕ) (line : LineSoFar) → up_to_empty_line p ≡ None → line_in Nothing p ≡ line → Runs p bytes n (scanned n line bytes)
+pub runs : (bytes p : List ℕ) (n : ℕ) (line : LineSoFar) → up_to_empty_line p ≡ None → line_in Nothing p ≡ line → Runs p bytes n (scan_from n line bytes)
 runs [] p n line none at = (ap up_to_empty_line (append-nil p) ∙ none, ap (line_in Nothing) (append-nil p) ∙ at)
 runs (b ∷ rest) p n line none at =
     elim (cases_Bool (eqb b 10 && may_end line)) [
       | inl t ↦ rw t (1, refl, omega arith, omega arith, ends_here p b none (ap (λ (l : LineSoFar). eqb b 10 && may_end l) at ∙ t))
-      | inr f ↦ rw f (later p rest b n (scanned (n + 1) (with_byte line b) rest)
+      | inr f ↦ rw f (later p rest b n (scan_from (n + 1) (with_byte line b) rest)
           (runs rest (p ++ b ∷ []) (n + 1) (with_byte line b)
           (ends_nowhere p b none (ap (λ (l : LineSoFar). eqb b 10 && may_end l) at ∙ f))
           (line_on Nothing p b ∙ ap (λ (l : LineSoFar). with_byte l b) at)))

@@ -34,9 +34,9 @@ line_in line [] = line
 line_in line (b ∷ text) = line_in (with_byte line b) text
 
 -- how many bytes there are up to the end of the first empty line, n of them before these; or what stands of the last line
-abbrev pub scanned : ℕ → LineSoFar → List ℕ → Scanned
-scanned n line [] = Open line
-scanned n line (b ∷ text) = if b == line_feed && may_end line then Ended (n + 1) else scanned (n + 1) (with_byte line b) text
+abbrev pub scan_from : ℕ → LineSoFar → List ℕ → Scanned
+scan_from n line [] = Open line
+scan_from n line (b ∷ text) = if b == line_feed && may_end line then Ended (n + 1) else scan_from (n + 1) (with_byte line b) text
 
 -- an end lies within so many bytes
 abbrev pub EndsWithin : ℕ → Scanned → Type 0

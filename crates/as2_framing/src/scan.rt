@@ -1,6 +1,6 @@
 //! Where the first empty line ends in a text that comes in pieces (RFC 9112, section 2.1).
 ghost use Rattle.std.specs.Prelude.{◌≡◌, length};
-ghost use Rattle.as2_framing.specs.Scanning.{EndsWithin, with_byte, may_end, missing_of, scanned};
+ghost use Rattle.as2_framing.specs.Scanning.{EndsWithin, with_byte, may_end, missing_of, scan_from};
 
 /// What stands of the line that a text ends in.
 #[derive(Clone, Copy, Debug, PartialEq, Eq)]
@@ -51,7 +51,7 @@ pub enum Scanned {
 
 /// Looks at each byte once, up to the end of the first empty line, where that stands of the line before them.
 pub fn scan(line: LineSoFar, bytes: &[u8]) -> Scanned
-    ensures exact { result ≡ scanned 0 line bytes.now }
+    ensures exact { result ≡ scan_from 0 line bytes.now }
     ensures within { EndsWithin (length bytes.now) result }
 {
     let mut line = line;

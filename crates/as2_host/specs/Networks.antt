@@ -1,7 +1,7 @@
 -- What goes over a network: connections that are served, and links to partners.
 use Rattle.std.specs.Prelude.{◌≡◌, ℕ, List, [], ◌∷◌, Option}
 use Rattle.as2_agreement.specs.Agreements.{AgreedValues}
-use Rattle.as2_commands.specs.Requests.{Serving}
+use Rattle.as2_commands.specs.Requests.{GivenServing}
 use Rattle.as2_commands.specs.declared.tasks.Waits.{Waits}
 use Rattle.as2_exchange.specs.Run.{Trace}
 use Rattle.as2_exchange.specs.State.{State}
@@ -13,7 +13,7 @@ use Rattle.as2_host.specs.declared.network.Listens.{Ghosts as Listeners}
 use Rattle.as2_host.specs.declared.network.Network.{Ghosts as Networks}
 
 -- what came of asking a network once, for a listener
-pub record Listening : Type 1 where
+pub record ListenerSeen : Type 1 where
   -- it gave none
   pub Refused : Type 0
   -- it gave one, and got it back as it had been
@@ -37,7 +37,7 @@ module _ {Listener : Type 0} (ended : Listener → Option ℕ → Trace → Serv
 
 module _ {Network Listener Links : Type 0} (n : Networks Network Listener Links) where
   -- a network that was so, and is so, was asked once: for a listener where the words say, with their waits; and was given it back
-  abbrev pub listening_of : Listeners Listener → Network → Network → AgreedValues → Serving → Listening
+  abbrev pub listening_of : Listeners Listener → Network → Network → AgreedValues → GivenServing → ListenerSeen
   listening_of l old new A serving = record {
     Refused = n.refuses old serving.address serving.waits new;
     Opened = (first : Listener) × (mid : Network) × n.listens old serving.address serving.waits first mid × n.stops mid first new;

@@ -4,11 +4,11 @@ use Rattle.as2_agreement.specs.Agreements.{AgreedValues}
 use Rattle.as2_exchange.specs.Run.{Trace}
 use Rattle.as2_exchange.specs.State.{State}
 use Rattle.as2_http.specs.StreamReads.{RunsPosts}
-use Rattle.as2_http.specs.Streams.{events}
+use Rattle.as2_http.specs.Streams.{stream_events}
 
 -- the posts that a connection brought (Brought), at one moment, and nothing else, led the machine from s to t; it is that moment where one is given
 pub record ServesOne (A : AgreedValues) (given : Option ℕ) (Brought : Trace → Type 0) (s t : State) : Type 0 where
   pub moment : ℕ
   pub is_given : IfSome given (λ m. moment ≡ m)
   pub posts : RunsPosts A moment s t
-  pub brought : Brought (events moment posts.done)
+  pub brought : Brought (stream_events moment posts.done)

@@ -1,7 +1,7 @@
 //! Stores of records, opened and closed by a path.
 ghost use Rattle.std.specs.Prelude.{◌≡◌, ◌+◌, ℕ, List, IfErr, IfOk};
 ghost use Rattle.as2_exchange.specs.State.{State};
-ghost use Rattle.as2_host.specs.Migrating.{moved};
+ghost use Rattle.as2_host.specs.Migrating.{migrated_if_first};
 ghost use Rattle.as2_host.specs.Stores.{BeginsNew, Finds, opens_of};
 ghost use Rattle.as2_host.specs.declared.stores.OpenFault.{OpenFault as TheFault};
 
@@ -100,7 +100,7 @@ pub trait OpenStores {
     /// it stays as it was; where nothing stands there, nothing does.
     fn migrate(&mut self, path: &str) -> Result<Migration, OpenFault>
         ensures moved { IfOk result (λ _. is_clean self.new → (s : State) → keeps_earlier self.old path.now s
-            → (number : ℕ) → keeps self.new path.now number (moved s)) }
+            → (number : ℕ) → keeps self.new path.now number (migrated_if_first s)) }
         ensures fault { IfErr result (λ fault. stays self.old path.now fault) }
         ensures same { IfErr result (λ fault. (number : ℕ) (s : State) → keeps self.old path.now number s
             → keeps self.new path.now number s) }

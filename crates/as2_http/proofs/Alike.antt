@@ -7,13 +7,13 @@ use Rattle.as2_exchange.specs.declared.answer.Answer.{Answer}
 use Rattle.as2_exchange.specs.declared.answer.Answer.TheVariants.{Http}
 use Rattle.as2_exchange.specs.declared.answer.HttpAnswer.{HttpAnswer}
 use Rattle.as2_framing.specs.HeadText.{unblank}
-use Rattle.as2_http.specs.Notes.{Spoken}
+use Rattle.as2_http.specs.Notes.{SinkAndJournal}
 use Rattle.as2_messages.specs.Replies.{IsReply}
-use Rattle.as2_messages.specs.Requests.{IsRefused, IsOpen}
-use Rattle.as2_http.specs.Responses.{RespondsTo, Responds, Takes, Unsaid, answer_of, post_event}
+use Rattle.as2_messages.specs.Requests.{BeginsNoRequest, IsOpen}
+use Rattle.as2_http.specs.Responses.{RespondsTo, Responds, TakesPost, Unsaid, http_answer, post_event}
 use Rattle.as2_http.specs.Sending.{form_of}
-use Rattle.as2_http.specs.StreamLaws.{AreSound, AtJudged, IsSound, ServesInOneWay}
-use Rattle.as2_http.specs.Streams.{Exchange, AnswersAll, EndsLast, Ends, GoOn}
+use Rattle.as2_http.specs.StreamLaws.{AreSound, AtJudged, IsSoundResponse, ServesInOneWay}
+use Rattle.as2_http.specs.Streams.{RequestAndResponse, AnswersAll, EndsLast, StreamEnds, StayOpen}
 use Rattle.as2_messages.specs.declared.framing.Refused.{Refused}
 use Rattle.as2_messages.specs.declared.framing.Method.{Method}
 use Rattle.as2_messages.specs.declared.framing.Method.TheVariants.{Post, Head, Other as OtherMethod}
@@ -39,8 +39,8 @@ steps_once : (came : Option (Answer × State)) (a b : HttpAnswer) (t u : State) 
     × (t ≡ u)
 steps_once came a b t u x y = let both = some_once (Http a, t) (Http b, u) (sym x ∙ y) in (answers_once a b (ap (λ p. p.0) both), ap (λ p. p.1) both)
 
-takes_once : (A : AgreedValues) (moment : ℕ) (s : State) (r : Request) (x y : Response) (t u : State) → Takes A moment s r x Unsaid t
-    → Takes A moment s r y Unsaid u → IsSound x → IsSound y → (x ≡ y) × (t ≡ u)
+takes_once : (A : AgreedValues) (moment : ℕ) (s : State) (r : Request) (x y : Response) (t u : State) → TakesPost A moment s r x Unsaid t
+    → TakesPost A moment s r y Unsaid u → IsSoundResponse x → IsSoundResponse y → (x ≡ y) × (t ≡ u)
 takes_once A moment s r (Answered a) (Answered b) t u x y _ _ = steps_once (step A s (post_event r moment)) a b t u x.0 y.0
 takes_once A moment s r (Answered a) (Failed f) t u x y _ failed = absurd failed
 takes_once A moment s r (Answered a) OnlyPost t u x y _ _ = absurd y
@@ -50,7 +50,7 @@ takes_once A moment s r OnlyPost b t u x y _ _ = absurd x
 takes_once A moment s r NoPath b t u x y _ _ = absurd x
 
 responds_once : (A : AgreedValues) (moment : ℕ) (s : State) (r : Request) (m : Method) (at : Target) (x y : Response) (t u : State)
-    → RespondsTo m at A moment s r x Unsaid t → RespondsTo m at A moment s r y Unsaid u → IsSound x → IsSound y → (x ≡ y) × (t ≡ u)
+    → RespondsTo m at A moment s r x Unsaid t → RespondsTo m at A moment s r y Unsaid u → IsSoundResponse x → IsSoundResponse y → (x ≡ y) × (t ≡ u)
 responds_once A moment s r Post Station x y t u p q a b = takes_once A moment s r x y t u p q a b
 responds_once A moment s r Post OtherTarget x y t u p q a b = (p.0 ∙ sym q.0, p.1 ∙ sym q.1)
 responds_once A moment s r Head at x y t u p q a b = (p.0 ∙ sym q.0, p.1 ∙ sym q.1)
@@ -59,35 +59,35 @@ responds_once A moment s r OtherMethod at x y t u p q a b = (p.0 ∙ sym q.0, p.
 -- ---- all requests
 
 -- no request stands behind these that is to be answered
-abbrev Stops : List Exchange → List ℕ → Type 0
-Stops [] rest = IsOpen rest ⊎ ((refused : Refused) × IsRefused rest refused)
+abbrev Stops : List RequestAndResponse → List ℕ → Type 0
+Stops [] rest = IsOpen rest ⊎ ((refused : Refused) × BeginsNoRequest rest refused)
 Stops (x ∷ more) rest = ((x.0.last ≡ true) × (more ≡ [])) ⊎ ((x.0.last ≡ false) × Stops more rest)
 
-stops_behind : (done : List Exchange) (rest : List ℕ) → GoOn done → Stops [] rest → Stops done rest
+stops_behind : (done : List RequestAndResponse) (rest : List ℕ) → StayOpen done → Stops [] rest → Stops done rest
 stops_behind [] rest go stops = stops
 stops_behind (x ∷ done) rest go stops = inr (go.0, stops_behind done rest go.1 stops)
 
-stops_last : (before : List Exchange) (x : Exchange) (rest : List ℕ) → GoOn before → x.0.last ≡ true → Stops (before ++ x ∷ []) rest
+stops_last : (before : List RequestAndResponse) (x : RequestAndResponse) (rest : List ℕ) → StayOpen before → x.0.last ≡ true → Stops (before ++ x ∷ []) rest
 stops_last [] x rest go last = inl (last, refl)
 stops_last (y ∷ before) x rest go last = inr (go.0, stops_last before x rest go.1 last)
 
-abbrev IsOne : List Exchange → List Exchange → State → State → List ℕ → List ℕ → List ℕ → List ℕ → Type 0
+abbrev IsOne : List RequestAndResponse → List RequestAndResponse → State → State → List ℕ → List ℕ → List ℕ → List ℕ → Type 0
 IsOne done other t u replies same rest behind = (done ≡ other) × (t ≡ u) × (replies ≡ same) × (rest ≡ behind)
 
 -- nothing more was answered
-none_more : (A : AgreedValues) (moment : ℕ) (s t : State) (text replies rest : List ℕ) (more : List Exchange) → more ≡ []
+none_more : (A : AgreedValues) (moment : ℕ) (s t : State) (text replies rest : List ℕ) (more : List RequestAndResponse) → more ≡ []
     → AnswersAll A moment s text more t replies rest → (t ≡ s) × (replies ≡ []) × (rest ≡ text)
-none_more A moment s t text replies rest more none a = subst (λ (d : List Exchange). AnswersAll A moment s text d t replies rest) none a
+none_more A moment s t text replies rest more none a = subst (λ (d : List RequestAndResponse). AnswersAll A moment s text d t replies rest) none a
 
-both_none : (A : AgreedValues) (moment : ℕ) (s t u : State) (text replies same rest behind : List ℕ) (more later : List Exchange) → more ≡ [] → later ≡ []
+both_none : (A : AgreedValues) (moment : ℕ) (s t u : State) (text replies same rest behind : List ℕ) (more later : List RequestAndResponse) → more ≡ [] → later ≡ []
     → AnswersAll A moment s text more t replies rest → AnswersAll A moment s text later u same behind → IsOne more later t u replies same rest behind
 both_none A moment s t u text replies same rest behind more later none zero a b =
     let x = none_more A moment s t text replies rest more none a in
     let y = none_more A moment s u text same behind later zero b in (none ∙ sym zero, x.0 ∙ sym y.0, x.1 ∙ sym y.1, x.2 ∙ sym y.2)
 
-begins_none : (A : AgreedValues) (moment : ℕ) (s t : State) (text replies rest : List ℕ) (x : Exchange) (more : List Exchange)
+begins_none : (A : AgreedValues) (moment : ℕ) (s t : State) (text replies rest : List ℕ) (x : RequestAndResponse) (more : List RequestAndResponse)
     → AnswersAll A moment s text (x ∷ more) t replies rest
-    → IsOpen text ⊎ ((refused : Refused) × IsRefused text refused) → ⊥
+    → IsOpen text ⊎ ((refused : Refused) × BeginsNoRequest text refused) → ⊥
 begins_none A moment s t text replies rest x more a (inl is) = never_opens_requests text x.0 a.2 a.4.begins is
 begins_none A moment s t text replies rest x more a (inr (refused, is)) = never_refuses_requests text x.0 a.2 refused a.4.begins is
 
@@ -98,23 +98,23 @@ last_once : (r q : Request) → r ≡ q → r.last ≡ true → q.last ≡ false
 last_once r q same one two = true_is_not_false (sym one ∙ ap (λ (x : Request). x.last) same ∙ two)
 
 -- the first of both are one, and the others begin in one state and one text
-record First (A : AgreedValues) (moment : ℕ) (s u : State) (x y : Exchange) (mid : State) (reply after : List ℕ) (later : List Exchange) (text same behind : List ℕ) : Type 0 where
+record First (A : AgreedValues) (moment : ℕ) (s u : State) (x y : RequestAndResponse) (mid : State) (reply after : List ℕ) (later : List RequestAndResponse) (text same behind : List ℕ) : Type 0 where
   pub request : x.0 ≡ y.0
   pub exchange : x ≡ y
   pub rest : List ℕ
   pub replies : same ≡ reply ++ rest
   pub others : AnswersAll A moment mid after later u rest behind
 
-first_one : (A : AgreedValues) (moment : ℕ) (s t u : State) (text replies same rest behind : List ℕ) (x y : Exchange) (more later : List Exchange)
+first_one : (A : AgreedValues) (moment : ℕ) (s t u : State) (text replies same rest behind : List ℕ) (x y : RequestAndResponse) (more later : List RequestAndResponse)
     → (a : AnswersAll A moment s text (x ∷ more) t replies rest)
-    → AnswersAll A moment s text (y ∷ later) u same behind → IsSound x.1 → IsSound y.1 → First A moment s u x y a.0 a.1 a.2 later text same behind
+    → AnswersAll A moment s text (y ∷ later) u same behind → IsSoundResponse x.1 → IsSoundResponse y.1 → First A moment s u x y a.0 a.1 a.2 later text same behind
 first_one A moment s t u text replies same rest behind x y more later a b sound ok =
     let one = begins_with_one text x.0 y.0 a.2 b.2 a.4.begins b.4.begins in
     let other : Responds A moment s x.0 y.1 Unsaid b.0 = subst (λ (r : Request). Responds A moment s r y.1 Unsaid b.0) (sym one.0) b.4.responds in
     let gets = responds_once A moment s x.0 x.0.method x.0.target x.1 y.1 a.0 b.0 a.4.responds other sound ok in
     let reply : a.1 ≡ b.1 =
-    replies_in_one_way moment (form_of x.0) (answer_of x.1) a.1 b.1 a.4.replies
-    (subst (λ (r : Request). IsReply moment (form_of r) (answer_of x.1) b.1) (sym one.0) (subst (λ (z : Response). IsReply moment (form_of y.0) (answer_of z) b.1) (sym gets.0) b.4.replies)) in
+    replies_in_one_way moment (form_of x.0) (http_answer x.1) a.1 b.1 a.4.replies
+    (subst (λ (r : Request). IsReply moment (form_of r) (http_answer x.1) b.1) (sym one.0) (subst (λ (z : Response). IsReply moment (form_of y.0) (http_answer z) b.1) (sym gets.0) b.4.replies)) in
     record {
       request = one.0;
       exchange = ap (λ (r : Request). (r, x.1)) one.0 ∙ ap (λ (z : Response). (y.0, z)) gets.0;
@@ -124,21 +124,21 @@ first_one A moment s t u text replies same rest behind x y more later a b sound 
     }
 
 -- .. and so all
-with_first : (x y : Exchange) (more later : List Exchange) (t u : State) (reply replies same rest behind left one : List ℕ) → x ≡ y → replies ≡ reply ++ left
+with_first : (x y : RequestAndResponse) (more later : List RequestAndResponse) (t u : State) (reply replies same rest behind left one : List ℕ) → x ≡ y → replies ≡ reply ++ left
     → same ≡ reply ++ one → IsOne more later t u left one rest behind
     → IsOne (x ∷ more) (y ∷ later) t u replies same rest behind
 with_first x y more later t u reply replies same rest behind left one e a b (d, state, texts, r) =
-    (ap (λ (z : Exchange). z ∷ more) e ∙ ap (λ (l : List Exchange). y ∷ l) d, state, a ∙ ap (λ (l : List ℕ). reply ++ l) texts ∙ sym b, r)
+    (ap (λ (z : RequestAndResponse). z ∷ more) e ∙ ap (λ (l : List RequestAndResponse). y ∷ l) d, state, a ∙ ap (λ (l : List ℕ). reply ++ l) texts ∙ sym b, r)
 
-alike : (A : AgreedValues) (moment : ℕ) (s t u : State) (text replies same rest behind : List ℕ) (done other : List Exchange)
+alike : (A : AgreedValues) (moment : ℕ) (s t u : State) (text replies same rest behind : List ℕ) (done other : List RequestAndResponse)
     → AnswersAll A moment s text done t replies rest → AnswersAll A moment s text other u same behind → Stops done rest → Stops other behind → AreSound done
     → AreSound other
     → IsOne done other t u replies same rest behind
 alike A moment s t u text replies same rest behind [] [] a b stops ends sound ok = both_none A moment s t u text replies same rest behind [] [] refl refl a b
 alike A moment s t u text replies same rest behind [] (y ∷ later) a b stops ends sound ok =
-    absurd (begins_none A moment s u text same behind y later b (subst (λ (x : List ℕ). IsOpen x ⊎ ((refused : Refused) × IsRefused x refused)) a.2 stops))
+    absurd (begins_none A moment s u text same behind y later b (subst (λ (x : List ℕ). IsOpen x ⊎ ((refused : Refused) × BeginsNoRequest x refused)) a.2 stops))
 alike A moment s t u text replies same rest behind (x ∷ more) [] a b stops ends sound ok =
-    absurd (begins_none A moment s t text replies rest x more a (subst (λ (z : List ℕ). IsOpen z ⊎ ((refused : Refused) × IsRefused z refused)) b.2 ends))
+    absurd (begins_none A moment s t text replies rest x more a (subst (λ (z : List ℕ). IsOpen z ⊎ ((refused : Refused) × BeginsNoRequest z refused)) b.2 ends))
 alike A moment s t u text replies same rest behind (x ∷ more) (y ∷ later) a b (inl p) (inl q) sound ok =
     let f = first_one A moment s t u text replies same rest behind x y more later a b sound.0 ok.0 in
     with_first x y more later t u a.1 replies same rest behind a.3 f.rest f.exchange a.5 f.replies
@@ -173,17 +173,17 @@ at_judged WriteFault P p = tt
 at_judged Memory P p = tt
 at_judged TooLong P p = tt
 
-abbrev EndsSo : List Exchange → List ℕ → Served → Type 0
-EndsSo done rest Closed = EndsLast done ⊎ (GoOn done × IsOpen rest × (unblank rest ≡ []))
-EndsSo done rest Truncated = GoOn done × IsOpen rest × ¬ (unblank rest ≡ [])
-EndsSo done rest BadFraming = GoOn done × ((refused : Refused) × IsRefused rest refused)
+abbrev EndsSo : List RequestAndResponse → List ℕ → Served → Type 0
+EndsSo done rest Closed = EndsLast done ⊎ (StayOpen done × IsOpen rest × (unblank rest ≡ []))
+EndsSo done rest Truncated = StayOpen done × IsOpen rest × ¬ (unblank rest ≡ [])
+EndsSo done rest BadFraming = StayOpen done × ((refused : Refused) × BeginsNoRequest rest refused)
 EndsSo done rest ReadFault = ⊥
 EndsSo done rest WriteFault = ⊥
 EndsSo done rest Memory = ⊥
 EndsSo done rest TooLong = ⊥
 
-ends_so : (A : AgreedValues) (moment : ℕ) (done : List Exchange) (mid t : State) (replies rest : List ℕ) (unread : Option (List ℕ)) (before after : Spoken) (end : Served) → IsJudged end
-    → Ends A moment done mid replies rest unread before after t end → (t ≡ mid) × EndsSo done rest end
+ends_so : (A : AgreedValues) (moment : ℕ) (done : List RequestAndResponse) (mid t : State) (replies rest : List ℕ) (unread : Option (List ℕ)) (before after : SinkAndJournal) (end : Served) → IsJudged end
+    → StreamEnds A moment done mid replies rest unread before after t end → (t ≡ mid) × EndsSo done rest end
 ends_so A moment done mid t replies rest unread before after Closed is e = (e.0, e.2)
 ends_so A moment done mid t replies rest unread before after Truncated is e = (e.0, (e.2, e.3, e.4))
 ends_so A moment done mid t replies rest unread before after BadFraming is e = (e.0, (e.1, (e.2.refused, e.2.refuses)))
@@ -192,8 +192,8 @@ ends_so A moment done mid t replies rest unread before after WriteFault is e = a
 ends_so A moment done mid t replies rest unread before after Memory is e = absurd is
 ends_so A moment done mid t replies rest unread before after TooLong is e = absurd is
 
-stops_so : (done : List Exchange) (rest : List ℕ) (end : Served) → EndsSo done rest end → Stops done rest
-stops_so done rest Closed (inl (before, x, is, go, last)) = subst (λ (d : List Exchange). Stops d rest) (sym is) (stops_last before x rest go last)
+stops_so : (done : List RequestAndResponse) (rest : List ℕ) (end : Served) → EndsSo done rest end → Stops done rest
+stops_so done rest Closed (inl (before, x, is, go, last)) = subst (λ (d : List RequestAndResponse). Stops d rest) (sym is) (stops_last before x rest go last)
 stops_so done rest Closed (inr (go, is, blank)) = stops_behind done rest go (inl is)
 stops_so done rest Truncated (go, is, some) = stops_behind done rest go (inl is)
 stops_so done rest BadFraming (go, (refused, is)) = stops_behind done rest go (inr (refused, is))
@@ -202,14 +202,14 @@ stops_so done rest WriteFault e = absurd e
 stops_so done rest Memory e = absurd e
 stops_so done rest TooLong e = absurd e
 
-goes_not : (before : List Exchange) (x : Exchange) → x.0.last ≡ true → GoOn (before ++ x ∷ []) → ⊥
+goes_not : (before : List RequestAndResponse) (x : RequestAndResponse) → x.0.last ≡ true → StayOpen (before ++ x ∷ []) → ⊥
 goes_not [] x last go = true_is_not_false (sym last ∙ go.0)
 goes_not (y ∷ before) x last go = goes_not before x last go.1
 
-never_both : (done : List Exchange) → EndsLast done → GoOn done → ⊥
-never_both done (before, x, is, go, last) all = goes_not before x last (subst GoOn is all)
+never_both : (done : List RequestAndResponse) → EndsLast done → StayOpen done → ⊥
+never_both done (before, x, is, go, last) all = goes_not before x last (subst StayOpen is all)
 
-one_end : (done : List Exchange) (rest : List ℕ) (end other : Served) → EndsSo done rest end → EndsSo done rest other → end ≡ other
+one_end : (done : List RequestAndResponse) (rest : List ℕ) (end other : Served) → EndsSo done rest end → EndsSo done rest other → end ≡ other
 one_end done rest Closed Closed e f = refl
 one_end done rest Closed Truncated (inl e) f = absurd (never_both done e f.0)
 one_end done rest Closed Truncated (inr e) f = absurd (f.2 e.2)
@@ -247,5 +247,5 @@ serves_in_one_way A moment s t u input unread later before after base now i j k 
     let f = ends_so A moment two.done two.mid u two.replies two.rest later base now other was two.ends in
     let same = alike A moment s one.mid two.mid input one.replies two.replies one.rest two.rest one.done two.done one.all two.all (stops_so one.done one.rest end e.1) (stops_so two.done two.rest other f.1) sound ok in
     let there : EndsSo one.done one.rest other =
-    subst (λ (d : List Exchange). EndsSo d one.rest other) (sym same.0) (subst (λ (r : List ℕ). EndsSo two.done r other) (sym same.3) f.1) in
+    subst (λ (d : List RequestAndResponse). EndsSo d one.rest other) (sym same.0) (subst (λ (r : List ℕ). EndsSo two.done r other) (sym same.3) f.1) in
     (same.0, same.2, same.3, one_end one.done one.rest end other e.1 there, e.0 ∙ same.1 ∙ sym f.0)))

@@ -18,5 +18,5 @@ push_faults bytes (Ok n) = taken_faults bytes n
 push_faults bytes (Err fault) = 1
 
 -- a new ledger of that name and of so many parts, one at least, may be opened as that of a type
-abbrev pub Opens : ℕ → ℕ → ℕ → ℕ → Type 0
-Opens name parts of_type parts_of_type = (name ≡ of_type) × (parts ≡ parts_of_type) × (0 < parts)
+abbrev pub OpensLedger : ℕ → ℕ → ℕ → ℕ → Type 0
+OpensLedger name parts of_type parts_of_type = (name ≡ of_type) × (parts ≡ parts_of_type) × (0 < parts)

@@ -5,12 +5,12 @@ use Rattle.std.specs.Io.KnownBytes.{Appends}
 use Rattle.as2_names.specs.Blanks.{without_blanks}
 use Rattle.as2_names.specs.Heads.{values}
 use Rattle.as2_names.specs.Identifiers.{is_identifier}
-use Rattle.as2_names.specs.Names.{reading, spelling}
+use Rattle.as2_names.specs.Names.{name_reading, name_spelling}
 use Rattle.as2_names.specs.declared.name.NameFault.{NameFault}
 use Rattle.as2_exchange.specs.Lines.{refusal}
 use Rattle.as2_messages.specs.Replies.{refusal_line}
 use Rattle.as2_messages.specs.Requests.{Fields}
-use Rattle.as2_http.specs.Responses.{answer_of}
+use Rattle.as2_http.specs.Responses.{http_answer}
 use Rattle.as2_messages.specs.declared.framing.RequestFault.{RequestFault}
 use Rattle.as2_messages.specs.declared.request.Request.{Request}
 use Rattle.as2_http.specs.declared.response.Response.{Response}
@@ -18,13 +18,13 @@ use Rattle.as2_http.specs.declared.response.Response.{Response}
 -- ---- the line
 
 abbrev pub name_if : Result (List ℕ) NameFault → List ℕ
-name_if (Ok name) = spelling name
+name_if (Ok name) = name_spelling name
 name_if (Err fault) = codes "-"
 
 -- the one name that a field tells
 abbrev pub name_told : List (List ℕ) → List ℕ
 name_told [] = codes "-"
-name_told (text ∷ []) = name_if (reading text)
+name_told (text ∷ []) = name_if (name_reading text)
 name_told (first ∷ second ∷ others) = codes "-"
 
 -- the one identifier that a field tells
@@ -34,8 +34,8 @@ identifier_told (text ∷ []) = if is_identifier (without_blanks text) then with
 identifier_told (first ∷ second ∷ others) = codes "-"
 
 -- how the line begins
-abbrev pub opening : ℕ → List ℕ
-opening moment = codes "reply: " ++ decimal moment ++ codes " "
+abbrev pub note_opening : ℕ → List ℕ
+note_opening moment = codes "reply: " ++ decimal moment ++ codes " "
 
 -- what a head tells
 abbrev pub head_told : Fields → List ℕ
@@ -47,27 +47,27 @@ head_told fields =
     ++ identifier_told (values (codes "message-id") fields)
 
 -- how the line ends
-abbrev pub closing : ℕ → List ℕ
-closing status = codes " " ++ decimal status ++ codes "\n"
+abbrev pub note_closing : ℕ → List ℕ
+note_closing status = codes " " ++ decimal status ++ codes "\n"
 
 -- the line of a request that got that
 abbrev pub note : ℕ → Request → Response → List ℕ
-note moment r x = opening moment ++ head_told r.fields ++ closing (answer_of x).status
+note moment r x = note_opening moment ++ head_told r.fields ++ note_closing (http_answer x).status
 
 -- the line of bytes that no request begins with
 abbrev pub refusal_note : ℕ → RequestFault → List ℕ
-refusal_note moment reason = opening moment ++ codes "- - -" ++ closing (refusal (refusal_line reason)).status
+refusal_note moment reason = note_opening moment ++ codes "- - -" ++ note_closing (refusal (refusal_line reason)).status
 
 -- ---- what was written, and what was noted
 
 -- what a sink has taken, and what a journal holds
-pub record Spoken : Type 0 where
+pub record SinkAndJournal : Type 0 where
   pub written : Option (List ℕ)
   pub noted : Option (List ℕ)
 
-abbrev pub spoken : Option (List ℕ) → Option (List ℕ) → Spoken
-spoken written noted = record { written = written; noted = noted }
+abbrev pub sink_and_journal : Option (List ℕ) → Option (List ℕ) → SinkAndJournal
+sink_and_journal written noted = record { written = written; noted = noted }
 
 -- those bytes were written, and those lines noted
-abbrev pub Says : Spoken → Spoken → List ℕ → List ℕ → Type 0
-Says before after text lines = Appends before.written after.written text × Appends before.noted after.noted lines
+abbrev pub WritesAndNotes : SinkAndJournal → SinkAndJournal → List ℕ → List ℕ → Type 0
+WritesAndNotes before after text lines = Appends before.written after.written text × Appends before.noted after.noted lines

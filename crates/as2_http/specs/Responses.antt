@@ -3,7 +3,7 @@ use Rattle.std.specs.Prelude.{◌≡◌, ℕ, Some, IsTrue, true, ⊤}
 use Rattle.as2_records.specs.Standing.{Medium, Standing}
 use Rattle.as2_agreement.specs.Agreements.{AgreedValues}
 use Rattle.as2_exchange.specs.Lines.{refusal}
-use Rattle.as2_exchange.specs.Posts.{Refuses, reading}
+use Rattle.as2_exchange.specs.Posts.{Refuses, post_reading}
 use Rattle.as2_exchange.specs.Run.{MayFail}
 use Rattle.as2_exchange.specs.State.{AllDigests, State}
 use Rattle.as2_exchange.specs.Step.{step}
@@ -32,17 +32,17 @@ abbrev pub store_fault_line : StoreFault → TheLine
 store_fault_line Full = line.StoreFull
 store_fault_line other = line.StoreFailed
 
-abbrev pub answer_of : Response → HttpAnswer
-answer_of (Answered answer) = answer
-answer_of (Failed fault) = refusal (store_fault_line fault)
-answer_of OnlyPost = refusal line.OnlyPost
-answer_of NoPath = refusal line.NoSuchPath
+abbrev pub http_answer : Response → HttpAnswer
+http_answer (Answered answer) = answer
+http_answer (Failed fault) = refusal (store_fault_line fault)
+http_answer OnlyPost = refusal line.OnlyPost
+http_answer NoPath = refusal line.NoSuchPath
 
 -- ---- what a request gets
 
 -- the head of a post doesn't decide its answer
 abbrev pub IsPastHead : AgreedValues → Request → Type 0
-IsPastHead A r = (line : TheLine) → reading A AllDigests r.fields r.body ≡ Refuses line → ¬ (is_of_head line ≡ true)
+IsPastHead A r = (line : TheLine) → post_reading A AllDigests r.fields r.body ≡ Refuses line → ¬ (is_of_head line ≡ true)
 
 -- a post at this moment, as an event
 abbrev pub post_event : Request → ℕ → Event
@@ -59,16 +59,16 @@ Unsaid t = ⊤
 
 -- the post is a step of the machine, and where it asks the records, the state that it leaves is safe; or there is a fault, which
 -- changes nothing, and never stands in place of what the head decides
-abbrev pub Takes : AgreedValues → ℕ → State → Request → Response → (State → Type 0) → State → Type 0
-Takes A moment s r (Answered answer) Safe t =
+abbrev pub TakesPost : AgreedValues → ℕ → State → Request → Response → (State → Type 0) → State → Type 0
+TakesPost A moment s r (Answered answer) Safe t =
     (step A s (post_event r moment) ≡ Some (Http answer, t)) × (asks_store A (post_event r moment) ≡ true → Safe t)
-Takes A moment s r (Failed fault) Safe t = MayFail A s (post_event r moment) fault × (t ≡ s) × IsPastHead A r
-Takes A moment s r OnlyPost Safe t = ⊥
-Takes A moment s r NoPath Safe t = ⊥
+TakesPost A moment s r (Failed fault) Safe t = MayFail A s (post_event r moment) fault × (t ≡ s) × IsPastHead A r
+TakesPost A moment s r OnlyPost Safe t = ⊥
+TakesPost A moment s r NoPath Safe t = ⊥
 
 -- a post to the station's path is an event; any other request changes nothing
 abbrev pub RespondsTo : Method → Target → AgreedValues → ℕ → State → Request → Response → (State → Type 0) → State → Type 0
-RespondsTo Post Station A moment s r response Safe t = Takes A moment s r response Safe t
+RespondsTo Post Station A moment s r response Safe t = TakesPost A moment s r response Safe t
 RespondsTo Post OtherTarget A moment s r response Safe t = (response ≡ NoPath) × (t ≡ s)
 RespondsTo Head target A moment s r response Safe t = (response ≡ OnlyPost) × (t ≡ s)
 RespondsTo OtherMethod target A moment s r response Safe t = (response ≡ OnlyPost) × (t ≡ s)

@@ -26,7 +26,7 @@ pub record AppendsPart (before after : Option (List ℕ)) (bytes : List ℕ) : T
   pub appended : Appends before after part
 
 -- the answer's reply is written; or the first of its bytes are, where a write failed; or none is, where memory was wanting
-abbrev pub Sends : {U : Type 0} → ℕ → Form → HttpAnswer → Option (List ℕ) → Option (List ℕ) → Result U SendFault → Type 0
-Sends moment form answer before after (Ok done) = (text : List ℕ) × IsReply moment form answer text × Appends before after text
-Sends moment form answer before after (Err fault.Write) = (text : List ℕ) × IsReply moment form answer text × AppendsPart before after text
-Sends moment form answer before after (Err fault.Memory) = Appends before after []
+abbrev pub WritesReply : {U : Type 0} → ℕ → Form → HttpAnswer → Option (List ℕ) → Option (List ℕ) → Result U SendFault → Type 0
+WritesReply moment form answer before after (Ok done) = (text : List ℕ) × IsReply moment form answer text × Appends before after text
+WritesReply moment form answer before after (Err fault.Write) = (text : List ℕ) × IsReply moment form answer text × AppendsPart before after text
+WritesReply moment form answer before after (Err fault.Memory) = Appends before after []

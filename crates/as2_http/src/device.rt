@@ -1,7 +1,7 @@
 //! Readers and writers, a call at a time, with counts of their calls.
 ghost use Rattle.std.specs.Prelude.{◌≡◌, ◌+◌, ◌<◌, ◌≤◌, ℕ, List, Option, length, IfOk};
 ghost use Rattle.std.specs.Io.KnownBytes.{ReadConsumes, WriteAppends};
-ghost use Rattle.as2_http.specs.Devices.{Opens, pull_faults, push_faults};
+ghost use Rattle.as2_http.specs.Devices.{OpensLedger, pull_faults, push_faults};
 
 use std::io::{Read, Write};
 use std::marker::Model;
@@ -69,7 +69,7 @@ impl<L: Ledger> Model for Count<L> {
 impl<L: Ledger> Count<L> {
     /// Nothing is counted yet.
     fn new(blank: Blank) -> Count<L>
-        requires { Opens blank.name blank.parts L.name L.parts }
+        requires { OpensLedger blank.name blank.parts L.name L.parts }
         ensures { result ≡ 0 }
     {
         let (book, share) = blank.open();
@@ -98,8 +98,8 @@ pub struct Counted<T, L: Ledger, M: Ledger> {
 impl<T, L: Ledger, M: Ledger> Counted<T, L, M> {
     /// Over this reader or writer; no call was made of it yet.
     pub fn new(inner: T, calls: Blank, failed: Blank) -> Counted<T, L, M>
-        requires calls { Opens calls.name calls.parts L.name L.parts }
-        requires failed { Opens failed.name failed.parts M.name M.parts }
+        requires calls { OpensLedger calls.name calls.parts L.name L.parts }
+        requires failed { OpensLedger failed.name failed.parts M.name M.parts }
         ensures inner { result.inner ≡ inner }
         ensures calls { result.calls ≡ 0 }
         ensures failed { result.failed ≡ 0 }

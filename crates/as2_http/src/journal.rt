@@ -1,8 +1,8 @@
 //! A journal: a line for each reply.
 ghost use Rattle.std.specs.Prelude.{◌≡◌, ◌++◌, List, ℕ, Option, None, codes};
 ghost use Rattle.std.specs.Io.KnownBytes.{Appends};
-ghost use Rattle.as2_names.specs.Heads.{Tells};
-ghost use Rattle.as2_http.specs.Notes.{closing, head_told, identifier_told, name_told, opening, refusal_note};
+ghost use Rattle.as2_names.specs.Heads.{IsOnceOf};
+ghost use Rattle.as2_http.specs.Notes.{note_closing, head_told, identifier_told, name_told, note_opening, refusal_note};
 
 use arrayvec::ArrayString;
 use as2_messages::{RequestFault, refusal};
@@ -40,7 +40,7 @@ fn dash() -> ArrayString<258>
 
 /// The one name that a field tells, as it is spelled, or a dash.
 fn name_told(field: Once<'_>) -> ArrayString<258>
-    ensures { (texts : List (List ℕ)) → Tells field.entry texts → result.bytes ≡ name_told texts }
+    ensures { (texts : List (List ℕ)) → IsOnceOf field.entry texts → result.bytes ≡ name_told texts }
 {
     if let Once::One(text) = field {
         if let Ok(name) = AsName::parse(text) {
@@ -52,7 +52,7 @@ fn name_told(field: Once<'_>) -> ArrayString<258>
 
 /// The one identifier that a field tells, or a dash.
 fn identifier_told(field: Once<'_>) -> &[u8]
-    ensures { (texts : List (List ℕ)) → Tells field.entry texts → result.now ≡ identifier_told texts }
+    ensures { (texts : List (List ℕ)) → IsOnceOf field.entry texts → result.now ≡ identifier_told texts }
 {
     match field {
         Once::One(text) if is_identifier(without_blanks(text)) => without_blanks(text),
@@ -62,7 +62,7 @@ fn identifier_told(field: Once<'_>) -> &[u8]
 
 /// Notes how a line begins.
 fn note_opening<J: Journal>(moment: Moment, journal: &mut J)
-    ensures { Appends (J.noted journal.old) (J.noted journal.new) (opening moment) }
+    ensures { Appends (J.noted journal.old) (J.noted journal.new) (note_opening moment) }
 {
     journal.note(b"reply: ");
     journal.note(Buffer::new().format(moment.seconds()).as_bytes());
@@ -82,7 +82,7 @@ fn note_head<J: Journal>(fields: &Head, journal: &mut J)
 
 /// Notes how a line ends.
 pub(crate) fn note_status<J: Journal>(status: u16, journal: &mut J)
-    ensures { Appends (J.noted journal.old) (J.noted journal.new) (closing status) }
+    ensures { Appends (J.noted journal.old) (J.noted journal.new) (note_closing status) }
 {
     journal.note(b" ");
     journal.note(Buffer::new().format(status).as_bytes());
@@ -91,7 +91,7 @@ pub(crate) fn note_status<J: Journal>(status: u16, journal: &mut J)
 
 /// Notes the line of a request up to its status: it is taken next.
 pub(crate) fn note_request<J: Journal>(moment: Moment, fields: &Head, journal: &mut J)
-    ensures { Appends (J.noted journal.old) (J.noted journal.new) (opening moment ++ head_told fields.now) }
+    ensures { Appends (J.noted journal.old) (J.noted journal.new) (note_opening moment ++ head_told fields.now) }
 {
     note_opening(moment, journal);
     note_head(fields, journal);

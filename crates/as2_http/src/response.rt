@@ -1,7 +1,7 @@
 //! What a request gets over the records of the station.
 ghost use Rattle.std.specs.Prelude.{◌≡◌, []};
 ghost use Rattle.as2_exchange.specs.State.{State};
-ghost use Rattle.as2_http.specs.Responses.{IsSafe, Responds, answer_of, store_fault_line};
+ghost use Rattle.as2_http.specs.Responses.{IsSafe, Responds, http_answer, store_fault_line};
 
 use as2_agreement::Agreements;
 use as2_exchange::{HttpAnswer, Line, StoreFault};
@@ -27,7 +27,7 @@ pub enum Response {
 impl Response {
     /// The answer that it is.
     pub fn answer(self) -> HttpAnswer
-        ensures { result ≡ answer_of self }
+        ensures { result ≡ http_answer self }
     {
         match self {
             Response::Answered(answer) => answer,

@@ -3,7 +3,7 @@ ghost use Rattle.std.specs.Prelude.{◌≡◌, ◌+◌, ◌<◌, ◌≤◌, Err,
 ghost use Rattle.std.specs.Io.KnownBytes.{Appends};
 ghost use Rattle.as2_exchange.specs.Lines.{refusal};
 ghost use Rattle.as2_messages.specs.Replies.{refusal_line};
-ghost use Rattle.as2_http.specs.Sending.{AppendsPart, Sends, refusal_form};
+ghost use Rattle.as2_http.specs.Sending.{AppendsPart, WritesReply, refusal_form};
 ghost use Rattle.as2_http.specs.declared.sending.SendFault.TheVariants.{Write};
 
 use crate::device::{DeviceFault, Sink};
@@ -49,7 +49,7 @@ pub fn send<W: Sink>(
     answer: &HttpAnswer,
     sink: &mut W,
 ) -> Result<(), SendFault>
-    ensures sends { Sends moment form answer.now (W.written sink.old) (W.written sink.new) result }
+    ensures sends { WritesReply moment form answer.now (W.written sink.old) (W.written sink.new) result }
     ensures failed { result ≡ Err Write → W.failed sink.old < W.failed sink.new }
     ensures sound { ¬ (result ≡ Err Write) → W.failed sink.new ≡ W.failed sink.old }
     ensures once { W.failed sink.new ≤ W.failed sink.old + 1 }
@@ -70,7 +70,7 @@ pub fn send_refusal<W: Sink>(
     refused: Refused,
     sink: &mut W,
 ) -> Result<(), SendFault>
-    ensures sends { Sends moment (refusal_form refused) (refusal (refusal_line refused.reason))
+    ensures sends { WritesReply moment (refusal_form refused) (refusal (refusal_line refused.reason))
         (W.written sink.old) (W.written sink.new) result }
     ensures failed { result ≡ Err Write → W.failed sink.old < W.failed sink.new }
     ensures sound { ¬ (result ≡ Err Write) → W.failed sink.new ≡ W.failed sink.old }

@@ -7,12 +7,12 @@ ghost use Rattle.as2_http.specs.declared.sending.SendFault.TheVariants.{Write};
 ghost use Rattle.as2_exchange.specs.State.{State};
 ghost use Rattle.as2_http.specs.InputReads.{read_limit};
 ghost use Rattle.as2_messages.specs.Parsing.{HasTaken};
-ghost use Rattle.as2_http.specs.Notes.{Spoken, refusal_note, spoken};
-ghost use Rattle.as2_http.specs.Sending.{Sends, refusal_form};
+ghost use Rattle.as2_http.specs.Notes.{SinkAndJournal, refusal_note, sink_and_journal};
+ghost use Rattle.as2_http.specs.Sending.{WritesReply, refusal_form};
 ghost use Rattle.as2_messages.specs.Replies.{refusal_line};
 ghost use Rattle.as2_exchange.specs.Lines.{refusal};
 ghost use Rattle.as2_http.specs.StreamReads.{AnswersNext, BetweenReads, RunsPosts, Serves};
-ghost use Rattle.as2_http.specs.Streams.{AnswersPiece, Replied, end_by, may_end_piece};
+ghost use Rattle.as2_http.specs.Streams.{AnswersPiece, RepliesTo, end_by, may_end_piece};
 
 use crate::device::{Sink, Source};
 use crate::journal::{Journal, note_refusal, note_request, note_status};
@@ -64,7 +64,7 @@ fn refuse<W: Sink, J: Journal>(
     sink: &mut W,
     journal: &mut J,
 ) -> Result<(), SendFault>
-    ensures sends { Sends moment (refusal_form refused) (refusal (refusal_line refused.reason))
+    ensures sends { WritesReply moment (refusal_form refused) (refusal (refusal_line refused.reason))
         (W.written sink.old) (W.written sink.new) result }
     ensures noted { Appends (J.noted journal.old) (J.noted journal.new) (refusal_note moment refused.reason) }
     ensures failed { result ≡ Err Write → W.failed sink.old < W.failed sink.new }
@@ -87,8 +87,8 @@ fn reply<K: Records, W: Sink, J: Journal>(
 ) -> Result<(), SendFault>
     ensures clean { (K.shows station.new).IsClean → (K.shows station.old).IsClean }
     ensures replied { (K.shows station.new).IsClean → (s : State) → (K.shows station.old).Rests s
-        → Replied agreements.now moment s request (K.shows station.new)
-        (spoken (W.written sink.old) (J.noted journal.old)) (spoken (W.written sink.new) (J.noted journal.new)) result }
+        → RepliesTo agreements.now moment s request (K.shows station.new)
+        (sink_and_journal (W.written sink.old) (J.noted journal.old)) (sink_and_journal (W.written sink.new) (J.noted journal.new)) result }
     ensures failed { result ≡ Err Write → W.failed sink.old < W.failed sink.new }
     ensures sound { ¬ (result ≡ Err Write) → W.failed sink.new ≡ W.failed sink.old }
     ensures once { W.failed sink.new ≤ W.failed sink.old + 1 }
@@ -120,7 +120,7 @@ fn answer_piece<K: Records, W: Sink, J: Journal>(
     ensures answered { (K.shows station.new).IsClean → (s : State) → (K.shows station.old).Rests s
         → (held left : List ℕ) → HasTaken parser.old held
         → AnswersPiece agreements.now moment s (held ++ piece.now ++ left) left parser.new (K.shows station.new)
-        (spoken (W.written sink.old) (J.noted journal.old)) (spoken (W.written sink.new) (J.noted journal.new)) result }
+        (sink_and_journal (W.written sink.old) (J.noted journal.old)) (sink_and_journal (W.written sink.new) (J.noted journal.new)) result }
     ensures failed { result ≡ Some WriteFault → W.failed sink.old < W.failed sink.new }
     ensures sound { ¬ (result ≡ Some WriteFault) → W.failed sink.new ≡ W.failed sink.old }
     ensures once { W.failed sink.new ≤ W.failed sink.old + 1 }
@@ -185,11 +185,11 @@ fn answer_next<K: Records, R: Source, W: Sink, J: Journal>(
     requires room { vec_len buffer.old ≡ read_limit }
     ensures clean { (K.shows station.new).IsClean → (K.shows station.old).IsClean }
     ensures calls { R.calls source.new ≡ R.calls source.old + 1 }
-    ensures answered { (K.shows station.new).IsClean → (s : State) (input : List ℕ) (before : Spoken) (calls : ℕ)
+    ensures answered { (K.shows station.new).IsClean → (s : State) (input : List ℕ) (before : SinkAndJournal) (calls : ℕ)
         → BetweenReads agreements.now moment s input parser.old (K.shows station.old) (R.left source.old) before
-        (spoken (W.written sink.old) (J.noted journal.old)) calls (R.calls source.old)
+        (sink_and_journal (W.written sink.old) (J.noted journal.old)) calls (R.calls source.old)
         → AnswersNext agreements.now moment s input parser.new (K.shows station.new) (R.left source.new) before
-        (spoken (W.written sink.new) (J.noted journal.new)) calls (R.calls source.new) result }
+        (sink_and_journal (W.written sink.new) (J.noted journal.new)) calls (R.calls source.new) result }
     ensures posts { (K.shows station.new).IsClean → (s mid : State) → (K.shows station.old).Rests mid
         → RunsPosts agreements.now moment s mid
         → (t : State) × (K.shows station.new).Rests t × RunsPosts agreements.now moment s t }
@@ -230,8 +230,8 @@ pub fn serve_stream<K: Records, R: Source, W: Sink, J: Journal>(
     ensures clean { (K.shows station.new).IsClean → (K.shows station.old).IsClean }
     ensures serves { (K.shows station.new).IsClean → (s : State) → (K.shows station.old).Rests s
         → (input : List ℕ) → R.left source.old ≡ Some input → (t : State) × (K.shows station.new).Rests t
-        × Serves agreements.now moment s t input (R.left source.new) (spoken (W.written sink.old) (J.noted journal.old))
-        (spoken (W.written sink.new) (J.noted journal.new)) (R.calls source.old) (R.calls source.new) result }
+        × Serves agreements.now moment s t input (R.left source.new) (sink_and_journal (W.written sink.old) (J.noted journal.old))
+        (sink_and_journal (W.written sink.new) (J.noted journal.new)) (R.calls source.old) (R.calls source.new) result }
     // Whatever the reader tells, nothing but posts at this moment was taken.
     ensures posts { (K.shows station.new).IsClean → (s : State) → (K.shows station.old).Rests s
         → (t : State) × (K.shows station.new).Rests t × RunsPosts agreements.now moment s t }

@@ -8,7 +8,7 @@ use Rattle.as2_exchange.specs.declared.answer.Answer.{Answer}
 use Rattle.as2_exchange.specs.declared.event.Event.{Event}
 use Rattle.as2_exchange.specs.declared.fault.StoreFault.{StoreFault}
 use Rattle.as2_store.specs.Stands.{Rests}
-use Rattle.as2_store.specs.Calls.{Lasts}
+use Rattle.as2_store.specs.Calls.{TablesLast}
 use Rattle.as2_station.specs.Theorem.{EndsByHistory, said_as}
 
 -- what the tables stand for then is by this event, behind what led to the state that they stood for
@@ -17,4 +17,4 @@ TakesOver A event old new r = HasCleanDisk new → (s : State) → Rests old s �
 
 -- and lasts, whatever stops the computer
 abbrev pub LastsOver : Connected → Type 0
-LastsOver c = IsTrue c.is_open → (s : State) → Rests c s → Lasts c s
+LastsOver c = IsTrue c.is_open → (s : State) → Rests c s → TablesLast c s

@@ -6,7 +6,7 @@ ghost use Rattle.sqlite.specs.Held.{state};
 ghost use Rattle.sqlite.specs.State.{HasCleanDisk};
 ghost use Rattle.as2_exchange.specs.State.{State};
 ghost use Rattle.as2_store.specs.Stands.{Rests};
-ghost use Rattle.as2_store.specs.Calls.{Lasts};
+ghost use Rattle.as2_store.specs.Calls.{TablesLast};
 ghost use Rattle.as2_instance.specs.Tables.{TakesOver, LastsOver};
 
 use as2_agreement::Agreements;

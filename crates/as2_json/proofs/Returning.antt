@@ -7,7 +7,7 @@ use Rattle.json.proofs.Printed.Utf8.{are_ascii, IsUtf8-are_ascii}
 use Rattle.serde_json.specs.Read.{of_json}
 use Rattle.serde_json.specs.Written.{outline}
 use Rattle.serde_json.proofs.Numbers.{number_of-decimal}
-use Rattle.as2_mdn.specs.Details.{state_of}
+use Rattle.as2_mdn.specs.Details.{class_of}
 use Rattle.as2_exchange.specs.declared.outbox.Evidence.{Evidence}
 use Rattle.as2_exchange.specs.declared.outbox.OutEntry.{OutEntry}
 use Rattle.as2_records.specs.declared.counts.Counts.{Counts}
@@ -16,7 +16,7 @@ use Rattle.as2_records.specs.declared.summaries.OutRow.{OutRow}
 use Rattle.as2_audit.specs.declared.findings.Finding.{Finding}
 use Rattle.as2_json.specs.Lines.{ReadsBack}
 use Rattle.as2_json.specs.Objects.{counts_object, document_object, due_value, finding_object, in_object, out_object, receipt_value, verified_object}
-use Rattle.as2_json.specs.Types.{AreCounts, Fits, IsDocument, IsInRow, IsOutRow, IsReceipt}
+use Rattle.as2_json.specs.Types.{AreCounts, FitsNumber, IsDocument, IsInRow, IsOutRow, IsReceipt}
 use Rattle.as2_json.proofs.Encoded.{HasTexts, IsUtf8-decimal}
 use Rattle.as2_json.proofs.Named.{box_utf8, detail_utf8, fault_utf8, id_utf8, name_utf8, receipt_utf8, state_utf8}
 use Rattle.as2_json.proofs.Reading.{back}
@@ -58,7 +58,7 @@ out_back is_settled r h = back _ (record {
                           (
                             word _ refl,
                             (
-                              state_utf8 (state_of r.detail),
+                              state_utf8 (class_of r.detail),
                               (
                                 word _ refl,
                                 (
@@ -176,15 +176,15 @@ counts_back c h = back _ (record {
 
 -- ---- one document
 
-due_known : (due : Option ℕ) → IfSome due Fits → of_json (outline (due_value due)) ≡ Some (due_value due)
+due_known : (due : Option ℕ) → IfSome due FitsNumber → of_json (outline (due_value due)) ≡ Some (due_value due)
 due_known None h = refl
 due_known (Some due) h = rw (number_of-decimal due h)
 
-due_numerals : (due : Option ℕ) → IfSome due Fits → HasNumbers (outline (due_value due))
+due_numerals : (due : Option ℕ) → IfSome due FitsNumber → HasNumbers (outline (due_value due))
 due_numerals None h = tt
 due_numerals (Some due) h = IsNumber-decimal due h
 
-due_texts : (due : Option ℕ) → IfSome due Fits → HasTexts (due_value due)
+due_texts : (due : Option ℕ) → IfSome due FitsNumber → HasTexts (due_value due)
 due_texts None h = tt
 due_texts (Some due) h = IsUtf8-decimal due h
 
@@ -253,7 +253,7 @@ document_back d h = back _ (record {
                                   (
                                     word _ refl,
                                     (
-                                      state_utf8 (state_of d.detail),
+                                      state_utf8 (class_of d.detail),
                                       (
                                         word _ refl,
                                         (
@@ -287,7 +287,7 @@ document_back d h = back _ (record {
 
 -- ---- a verification
 
-pub finding_back : (f : Finding) → Fits f.number → ReadsBack (finding_object f)
+pub finding_back : (f : Finding) → FitsNumber f.number → ReadsBack (finding_object f)
 finding_back f n = back _ (record {
   known = rw (number_of-decimal f.number n);
   numerals = (tt, (tt, (IsNumber-decimal f.number n, tt)));
@@ -295,7 +295,7 @@ finding_back f n = back _ (record {
   shallow = omega arith;
 })
 
-pub verified_back : (received sent findings : ℕ) → Fits received → Fits sent → Fits findings → ReadsBack (verified_object received sent findings)
+pub verified_back : (received sent findings : ℕ) → FitsNumber received → FitsNumber sent → FitsNumber findings → ReadsBack (verified_object received sent findings)
 verified_back received sent findings r s f = back _ (record {
   known = rw (number_of-decimal findings f, number_of-decimal received r, number_of-decimal sent s);
   numerals = (IsNumber-decimal findings f, (IsNumber-decimal received r, (IsNumber-decimal sent s, tt)));

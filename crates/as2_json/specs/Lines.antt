@@ -9,12 +9,12 @@ use Rattle.as2_names.specs.Cuts.{IsCutAt}
 use Rattle.as2_exchange.specs.Agreement.{Text}
 
 -- the text of the value as the kit writes it, and a line feed
-unfoldable pub line : Data → Text
-line d = compact_text d ++ codes "\n"
+unfoldable pub object_line : Data → Text
+object_line d = compact_text d ++ codes "\n"
 
 -- a line for each value
-abbrev pub lines : List Data → Text
-lines ds = flat_map line ds
+abbrev pub object_lines : List Data → Text
+object_lines ds = flat_map object_line ds
 
 -- ---- reading
 
@@ -28,7 +28,7 @@ abbrev pub ReadsBack : Data → Type 0
 ReadsBack d = IsTextOf d (compact_text d)
 
 -- up to its first line feed the text is one of the value, and that is behind it
-pub record Begins (d : Data) (text rest : Text) : Type 0 where
+pub record BeginsObject (d : Data) (text rest : Text) : Type 0 where
   pub object : Text
   pub cut : IsCutAt line_feed text object rest
   pub found : IsTextOf d object
@@ -36,4 +36,4 @@ pub record Begins (d : Data) (text rest : Text) : Type 0 where
 -- who cuts the text at its line feeds, and reads each part, finds these values and nothing else
 abbrev pub ReadsAs : List Data → Text → Type 0
 ReadsAs [] text = text ≡ []
-ReadsAs (d ∷ ds) text = (rest : Text) × Begins d text rest × ReadsAs ds rest
+ReadsAs (d ∷ ds) text = (rest : Text) × BeginsObject d text rest × ReadsAs ds rest

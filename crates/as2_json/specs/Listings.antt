@@ -15,7 +15,7 @@ use Rattle.as2_audit.specs.Audits.{findings}
 use Rattle.as2_views.specs.Lists.{is_one_of}
 use Rattle.as2_views.specs.declared.filter.Filter.{Filter}
 use Rattle.as2_views.specs.declared.filter.Filter.TheVariants.{Inbox, Outbox}
-use Rattle.as2_json.specs.Lines.{lines}
+use Rattle.as2_json.specs.Lines.{object_lines}
 use Rattle.as2_json.specs.Objects.{counts_object, document_object, finding_object, in_object, out_object, verified_object}
 
 -- of a document that is sent, as it is listed
@@ -59,8 +59,8 @@ marked_object settled r = out_object (is_one_of settled r.number) r
 
 -- where the rows are those of the documents of which something holds, the lines of their objects stand behind the text
 abbrev pub Continues : State → List OutRow → Text → Text → Type 0
-Continues s rows text made = (p : OutEntry → Bool) → rows ≡ map out_summary (filter p s.outbox) → made ≡ text ++ lines (map entry_object (filter p s.outbox))
+Continues s rows text made = (p : OutEntry → Bool) → rows ≡ map out_summary (filter p s.outbox) → made ≡ text ++ object_lines (map entry_object (filter p s.outbox))
 
 -- the lines of what is outstanding stand behind the text
 abbrev pub HasOutstanding : State → ℕ → Text → Text → Type 0
-HasOutstanding s m text made = made ≡ text ++ lines (map entry_object (outstanding_documents s m))
+HasOutstanding s m text made = made ≡ text ++ object_lines (map entry_object (outstanding_documents s m))

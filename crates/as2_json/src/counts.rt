@@ -1,7 +1,7 @@
 //! The object of what is outstanding.
 ghost use Rattle.std.specs.Prelude.{◌≡◌, ◌++◌, IfOk, OnOk};
 ghost use Rattle.serde_json.specs.View.{view};
-ghost use Rattle.as2_json.specs.Lines.{line};
+ghost use Rattle.as2_json.specs.Lines.{object_line};
 ghost use Rattle.as2_json.specs.Objects.{counts_object};
 
 use crate::lines::add_line;
@@ -26,7 +26,7 @@ fn counts_value(alloc: Global, counts: Counts) -> Result<Value, AllocError>
 /// Appends the object of what is outstanding, in a line: a count a member. Memory where it runs out; a part of the line may be appended
 /// then.
 pub fn add_counts_object(text: &mut Vec<u8>, counts: Counts) -> Result<(), Memory>
-    ensures { OnOk result (text.new.items ≡ text.old.items ++ line (counts_object counts)) }
+    ensures { OnOk result (text.new.items ≡ text.old.items ++ object_line (counts_object counts)) }
 {
     let value = counts_value(*text.allocator(), counts)?;
     add_line(text, &value)

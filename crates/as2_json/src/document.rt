@@ -1,7 +1,7 @@
 //! The object of one document, in full.
 ghost use Rattle.std.specs.Prelude.{◌≡◌, ◌++◌, IfOk, OnOk, option_map};
 ghost use Rattle.serde_json.specs.View.{view};
-ghost use Rattle.as2_json.specs.Lines.{line};
+ghost use Rattle.as2_json.specs.Lines.{object_line};
 ghost use Rattle.as2_json.specs.Objects.{document_object, due_value, receipt_value};
 
 use crate::lines::add_line;
@@ -56,7 +56,7 @@ fn document_value(alloc: Global, document: &OutEntry) -> Result<Value, AllocErro
 
 /// Appends the object of all that is known of a document, in a line. Memory where it runs out; a part of the line may be appended then.
 pub fn add_document_object(text: &mut Vec<u8>, document: &OutEntry) -> Result<(), Memory>
-    ensures { OnOk result (text.new.items ≡ text.old.items ++ line (document_object document.now)) }
+    ensures { OnOk result (text.new.items ≡ text.old.items ++ object_line (document_object document.now)) }
 {
     let value = document_value(*text.allocator(), document)?;
     add_line(text, &value)

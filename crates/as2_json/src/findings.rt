@@ -1,7 +1,7 @@
 //! Objects of what a verification finds.
 ghost use Rattle.std.specs.Prelude.{◌≡◌, ◌++◌, IfOk, OnOk};
 ghost use Rattle.serde_json.specs.View.{view};
-ghost use Rattle.as2_json.specs.Lines.{line};
+ghost use Rattle.as2_json.specs.Lines.{object_line};
 ghost use Rattle.as2_json.specs.Objects.{finding_object, verified_object};
 
 use crate::lines::add_line;
@@ -25,7 +25,7 @@ fn finding_value(alloc: Global, finding: Finding) -> Result<Value, AllocError>
 /// Appends the object of a finding, in a line: which entry it is of, and what is wrong. Memory where it runs out; a part of the line may
 /// be appended then.
 pub fn add_finding_object(text: &mut Vec<u8>, finding: Finding) -> Result<(), Memory>
-    ensures { OnOk result (text.new.items ≡ text.old.items ++ line (finding_object finding)) }
+    ensures { OnOk result (text.new.items ≡ text.old.items ++ object_line (finding_object finding)) }
 {
     let value = finding_value(*text.allocator(), finding)?;
     add_line(text, &value)
@@ -51,7 +51,7 @@ pub fn add_verified_object(
     sent: u64,
     findings: u64,
 ) -> Result<(), Memory>
-    ensures { OnOk result (text.new.items ≡ text.old.items ++ line (verified_object received sent findings)) }
+    ensures { OnOk result (text.new.items ≡ text.old.items ++ object_line (verified_object received sent findings)) }
 {
     let value = verified_value(*text.allocator(), received, sent, findings)?;
     add_line(text, &value)

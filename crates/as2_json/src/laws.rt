@@ -18,17 +18,17 @@ ghost use Rattle.as2_records.specs.declared.summaries.InRow.{InRow};
 ghost use Rattle.as2_records.specs.declared.summaries.OutRow.{OutRow};
 ghost use Rattle.as2_audit.specs.declared.findings.Finding.{Finding};
 ghost use Rattle.as2_views.specs.Lists.{Rise, document_numbers, is_outstanding};
-ghost use Rattle.as2_json.specs.Lines.{ReadsAs, ReadsBack, line, lines};
+ghost use Rattle.as2_json.specs.Lines.{ReadsAs, ReadsBack, object_line, object_lines};
 ghost use Rattle.as2_json.specs.Listings.{list_in_objects, list_out_objects, marked_object, outstanding_objects};
 ghost use Rattle.as2_json.specs.Objects.{counts_object, document_object, finding_object, in_object, out_object, verified_object};
-ghost use Rattle.as2_json.specs.Types.{AreCounts, Fits, IsDocument, IsInRow, IsOutRow};
+ghost use Rattle.as2_json.specs.Types.{AreCounts, FitsNumber, IsDocument, IsInRow, IsOutRow};
 
 /// Lines are read back: who cuts them at the line feeds finds each object again, and nothing else.
 pub fn lines_read_back()
     // What stands before the first line feed of a line, with any text behind it, is the whole text of its object.
-    ensures cut { (d : Data) (rest : Text) → IsCutAt line_feed (line d ++ rest) (compact_text d) rest }
+    ensures cut { (d : Data) (rest : Text) → IsCutAt line_feed (object_line d ++ rest) (compact_text d) rest }
     // So it is with all of them.
-    ensures whole { (ds : List Data) → AllByRecursion ReadsBack ds → ReadsAs ds (lines ds) }
+    ensures whole { (ds : List Data) → AllByRecursion ReadsBack ds → ReadsAs ds (object_lines ds) }
 {}
 
 /// The text of each object of a listing is UTF-8, and the kit's reader finds in it what was written.
@@ -41,8 +41,8 @@ pub fn listings_read_back()
 
 /// The text of each object of a verification is UTF-8, and the kit's reader finds in it what was written.
 pub fn verifications_read_back()
-    ensures finding { (f : Finding) → Fits f.number → ReadsBack (finding_object f) }
-    ensures verified { (received sent findings : ℕ) → Fits received → Fits sent → Fits findings
+    ensures finding { (f : Finding) → FitsNumber f.number → ReadsBack (finding_object f) }
+    ensures verified { (received sent findings : ℕ) → FitsNumber received → FitsNumber sent → FitsNumber findings
         → ReadsBack (verified_object received sent findings) }
 {}
 

@@ -2,7 +2,7 @@
 ghost use Rattle.std.specs.Prelude.{◌≡◌, IfErr, IfOk, map, option_map, true};
 ghost use Rattle.as2_records.specs.Calls.{Reads};
 ghost use Rattle.as2_records.specs.Standing.{may_come};
-ghost use Rattle.as2_json.specs.Lines.{line, lines};
+ghost use Rattle.as2_json.specs.Lines.{object_line, object_lines};
 ghost use Rattle.as2_json.specs.Listings.{Continues, HasOutstanding, list_in_objects, list_out_objects, listing_objects, outstanding_objects, shown_object};
 ghost use Rattle.as2_json.specs.Objects.{counts_object, document_object, in_object};
 
@@ -18,7 +18,7 @@ use std::alloc::Global;
 
 /// The lines of rows of received documents. Memory where it runs out.
 fn in_objects(alloc: Global, rows: &[InRow]) -> Result<Vec<u8>, StoreFault>
-    ensures lines { IfOk result (λ text. text.items ≡ lines (map in_object rows.now)) }
+    ensures lines { IfOk result (λ text. text.items ≡ object_lines (map in_object rows.now)) }
     ensures may { IfErr result (λ f. may_come f ≡ true) }
 {
     let mut text = Vec::new(alloc);
@@ -28,7 +28,7 @@ fn in_objects(alloc: Global, rows: &[InRow]) -> Result<Vec<u8>, StoreFault>
 
 /// The line of the counts. Memory where it runs out.
 fn counts_object(alloc: Global, counts: Counts) -> Result<Vec<u8>, StoreFault>
-    ensures line { IfOk result (λ text. text.items ≡ line (counts_object counts)) }
+    ensures line { IfOk result (λ text. text.items ≡ object_line (counts_object counts)) }
     ensures may { IfErr result (λ f. may_come f ≡ true) }
 {
     let mut text = Vec::new(alloc);
@@ -38,7 +38,7 @@ fn counts_object(alloc: Global, counts: Counts) -> Result<Vec<u8>, StoreFault>
 
 /// The line of a document. Memory where it runs out.
 fn document_object(alloc: Global, document: &OutEntry) -> Result<Vec<u8>, StoreFault>
-    ensures line { IfOk result (λ text. text.items ≡ line (document_object document.now)) }
+    ensures line { IfOk result (λ text. text.items ≡ object_line (document_object document.now)) }
     ensures may { IfErr result (λ f. may_come f ≡ true) }
 {
     let mut text = Vec::new(alloc);
@@ -79,7 +79,7 @@ fn with_outstanding<R: Records>(
 /// The lines of received documents, in order of number. Answers Memory, Disk or Refused.
 fn received_in_objects<R: Records>(records: &mut R, alloc: Global) -> Result<Vec<u8>, StoreFault>
     ensures listed { Reads (λ s text. text.items
-        ≡ lines (list_in_objects s)) (R.shows records.old) (R.shows records.new) result }
+        ≡ object_lines (list_in_objects s)) (R.shows records.old) (R.shows records.new) result }
     ensures may { IfErr result (λ f. may_come f ≡ true) }
 {
     let rows = records.list_in(alloc)?;
@@ -93,7 +93,7 @@ fn sent_in_objects<R: Records>(
     wanted: Option<State>,
 ) -> Result<Vec<u8>, StoreFault>
     ensures listed { Reads (λ s text. text.items
-        ≡ lines (list_out_objects s wanted)) (R.shows records.old) (R.shows records.new) result }
+        ≡ object_lines (list_out_objects s wanted)) (R.shows records.old) (R.shows records.new) result }
     ensures may { IfErr result (λ f. may_come f ≡ true) }
 {
     let rows = records.list_out(alloc, wanted)?;
@@ -107,7 +107,7 @@ pub fn listing_in_objects<R: Records>(
     filter: Filter,
 ) -> Result<Vec<u8>, StoreFault>
     ensures listed { Reads (λ s text. text.items
-        ≡ lines (listing_objects filter s)) (R.shows records.old) (R.shows records.new) result }
+        ≡ object_lines (listing_objects filter s)) (R.shows records.old) (R.shows records.new) result }
     ensures may { IfErr result (λ f. may_come f ≡ true) }
 {
     match filter {
@@ -124,7 +124,7 @@ pub fn outstanding_in_objects<R: Records>(
     moment: Moment,
 ) -> Result<Vec<u8>, StoreFault>
     ensures outstanding { Reads (λ s text. text.items
-        ≡ lines (outstanding_objects s moment)) (R.shows records.old) (R.shows records.new) result }
+        ≡ object_lines (outstanding_objects s moment)) (R.shows records.old) (R.shows records.new) result }
     ensures may { IfErr result (λ f. may_come f ≡ true) }
 {
     let counts = records.counts(alloc)?;
@@ -139,7 +139,7 @@ pub fn shown_in_objects<R: Records>(
     number: u64,
 ) -> Result<Option<Vec<u8>>, StoreFault>
     ensures shown { Reads (λ s text. option_map (λ t. t.items) text
-        ≡ option_map line (shown_object s number)) (R.shows records.old) (R.shows records.new) result }
+        ≡ option_map object_line (shown_object s number)) (R.shows records.old) (R.shows records.new) result }
     ensures may { IfErr result (λ f. may_come f ≡ true) }
 {
     match records.find_out(alloc, number)? {

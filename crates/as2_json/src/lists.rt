@@ -1,7 +1,7 @@
 //! Objects of many rows.
 ghost use Rattle.std.specs.Prelude.{◌≡◌, ◌++◌, OnOk, map};
 ghost use Rattle.as2_views.specs.Lists.{Rise};
-ghost use Rattle.as2_json.specs.Lines.{lines};
+ghost use Rattle.as2_json.specs.Lines.{object_lines};
 ghost use Rattle.as2_json.specs.Listings.{marked_object};
 ghost use Rattle.as2_json.specs.Objects.{in_object};
 
@@ -12,7 +12,7 @@ use as2_views::is_one_of;
 
 /// Appends the objects of received documents, in their order, each in a line. Memory where it runs out; a part may be appended then.
 pub fn add_in_objects(text: &mut Vec<u8>, rows: &[InRow]) -> Result<(), Memory>
-    ensures { OnOk result (text.new.items ≡ text.old.items ++ lines (map in_object rows.now)) }
+    ensures { OnOk result (text.new.items ≡ text.old.items ++ object_lines (map in_object rows.now)) }
 {
     for row in rows {
         add_in_object(text, row)?;
@@ -25,7 +25,7 @@ pub fn add_in_objects(text: &mut Vec<u8>, rows: &[InRow]) -> Result<(), Memory>
 /// appended then.
 pub fn add_out_objects(text: &mut Vec<u8>, rows: &[OutRow], settled: &[u64]) -> Result<(), Memory>
     ensures { Rise settled.now
-        → OnOk result (text.new.items ≡ text.old.items ++ lines (map (marked_object settled.now) rows.now)) }
+        → OnOk result (text.new.items ≡ text.old.items ++ object_lines (map (marked_object settled.now) rows.now)) }
 {
     for row in rows {
         add_out_object(text, row, is_one_of(settled, row.number))?;

@@ -1,7 +1,7 @@
 //! Objects of rows.
 ghost use Rattle.std.specs.Prelude.{◌≡◌, ◌++◌, IfOk, OnOk};
 ghost use Rattle.serde_json.specs.View.{view};
-ghost use Rattle.as2_json.specs.Lines.{line};
+ghost use Rattle.as2_json.specs.Lines.{object_line};
 ghost use Rattle.as2_json.specs.Objects.{in_object, out_object};
 
 use crate::lines::add_line;
@@ -31,7 +31,7 @@ fn out_value(alloc: Global, row: &OutRow, is_settled: bool) -> Result<Value, All
 /// Appends the object of a document that is sent, in a line: its number, identifier, state and detail, how often it was tried, whether a
 /// receipt has settled it, and from whom and to whom it is. Memory where it runs out; a part of the line may be appended then.
 pub fn add_out_object(text: &mut Vec<u8>, row: &OutRow, is_settled: bool) -> Result<(), Memory>
-    ensures { OnOk result (text.new.items ≡ text.old.items ++ line (out_object is_settled row.now)) }
+    ensures { OnOk result (text.new.items ≡ text.old.items ++ object_line (out_object is_settled row.now)) }
 {
     let value = out_value(*text.allocator(), row, is_settled)?;
     add_line(text, &value)
@@ -55,7 +55,7 @@ fn in_value(alloc: Global, row: &InRow) -> Result<Value, AllocError>
 /// Appends the object of a document that was received, in a line: its number, whether it was processed, how its receipt stands, from whom
 /// and to whom it is, and its identifier. Memory where it runs out; a part of the line may be appended then.
 pub fn add_in_object(text: &mut Vec<u8>, row: &InRow) -> Result<(), Memory>
-    ensures { OnOk result (text.new.items ≡ text.old.items ++ line (in_object row.now)) }
+    ensures { OnOk result (text.new.items ≡ text.old.items ++ object_line (in_object row.now)) }
 {
     let value = in_value(*text.allocator(), row)?;
     add_line(text, &value)

@@ -4,7 +4,7 @@ ghost use Rattle.std.specs.List.{flat_map};
 ghost use Rattle.as2_records.specs.Calls.{Reads};
 ghost use Rattle.as2_records.specs.Standing.{may_come};
 ghost use Rattle.as2_audit.specs.Audits.{findings};
-ghost use Rattle.as2_json.specs.Lines.{line, lines};
+ghost use Rattle.as2_json.specs.Lines.{object_line, object_lines};
 ghost use Rattle.as2_json.specs.Listings.{verification_objects};
 ghost use Rattle.as2_json.specs.Objects.{finding_object, verified_object};
 
@@ -19,7 +19,7 @@ use std::alloc::Global;
 
 /// Appends the objects of findings.
 fn add_findings(text: &mut Vec<u8>, findings: &[Finding]) -> Result<(), Memory>
-    ensures { OnOk result (text.new.items ≡ text.old.items ++ flat_map (λ f. line (finding_object f)) findings.now) }
+    ensures { OnOk result (text.new.items ≡ text.old.items ++ flat_map (λ f. object_line (finding_object f)) findings.now) }
 {
     for finding in findings {
         add_finding_object(text, *finding)?;
@@ -31,7 +31,7 @@ fn add_findings(text: &mut Vec<u8>, findings: &[Finding]) -> Result<(), Memory>
 #[tactic(auto, using(crate::proofs::Endings::ended))]
 fn objects(alloc: Global, findings: &[Finding], received: u64, sent: u64) -> Result<Vec<u8>, Memory>
     ensures { IfOk result (λ text. text.items
-        ≡ lines (map finding_object findings.now ++ verified_object received sent (length findings.now) ∷ [])) }
+        ≡ object_lines (map finding_object findings.now ++ verified_object received sent (length findings.now) ∷ [])) }
 {
     let mut text = Vec::new(alloc);
     add_findings(&mut text, findings)?;
@@ -45,7 +45,7 @@ pub fn verify_in_objects<R: Records, W: Watch>(
     alloc: Global,
     watch: &mut W,
 ) -> Result<Verification, StoreFault>
-    ensures verified { Reads (λ s v. (v.text.items ≡ lines (verification_objects s))
+    ensures verified { Reads (λ s v. (v.text.items ≡ object_lines (verification_objects s))
         × (v.findings ≡ length (findings s))) (R.shows records.old) (R.shows records.new) result }
     ensures may { IfErr result (λ f. may_come f ≡ true) }
 {

@@ -3,12 +3,12 @@ use Rattle.std.proofs.Common.{◌≡◌, Option, Result, Ok, Err, subst, inl, in
 use Rattle.sqlite.specs.State.{State as Connected, Survives as SurvivesTables}
 use Rattle.as2_exchange.specs.State.{State}
 use Rattle.as2_records.specs.Calls.{Commits, Survives, Writes}
-use Rattle.as2_store.specs.Calls.{Commits as CommitsTables, Writes as WritesTables}
-use Rattle.as2_kept.specs.Instance.{standing, tables}
+use Rattle.as2_store.specs.Calls.{CommitsTables as CommitsTables, WritesTables as WritesTables}
+use Rattle.as2_kept.specs.Instance.{tables_standing, tables}
 
 -- what a stop leaves of tables it leaves of records
 survives_of : (next : State → Option State) (old new : Connected) → SurvivesTables old new (CommitsTables next old)
-    → Survives {M = tables} (standing old) (standing new) (Commits next (standing old))
+    → Survives {M = tables} (tables_standing old) (tables_standing new) (Commits next (tables_standing old))
 survives_of next old new it = record {
   counts = it.counts;
   closes = it.closes;
@@ -21,7 +21,7 @@ survives_of next old new it = record {
 
 -- a write of tables is one of records
 write_of : {A E : Type 0} (next : State → Option State) (old new : Connected) (r : Result A E) → WritesTables next old new r
-    → Writes {M = tables} next (standing old) (standing new) r
+    → Writes {M = tables} next (tables_standing old) (tables_standing new) r
 write_of next old new (Ok a) it = record {
   clean = it.clean;
   was_open = it.was_open;
@@ -41,5 +41,5 @@ write_of next old new (Err e) it = record {
 
 -- seen from where the records are
 pub write_over : {A E : Type 0} (next : State → Option State) (inside outside new : Connected) (r : Result A E) → inside ≡ outside
-    → WritesTables next inside new r → Writes {M = tables} next (standing outside) (standing new) r
-write_over next inside outside new r same it = subst (λ (c : Connected). Writes {M = tables} next (standing c) (standing new) r) same (write_of next inside new r it)
+    → WritesTables next inside new r → Writes {M = tables} next (tables_standing outside) (tables_standing new) r
+write_over next inside outside new r same it = subst (λ (c : Connected). Writes {M = tables} next (tables_standing c) (tables_standing new) r) same (write_of next inside new r it)

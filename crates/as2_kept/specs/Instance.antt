@@ -25,8 +25,8 @@ tables = record {
 }
 
 -- a connection, as records
-abbrev pub standing : Connected → Standing tables
-standing c = record {
+abbrev pub tables_standing : Connected → Standing tables
+tables_standing c = record {
   IsClean = HasCleanDisk c;
   is_open = c.is_open;
   faults = c.faults;
@@ -42,7 +42,7 @@ pub clean_if_open : (clean opened : Bool) → (clean ≡ false → opened ≡ fa
 clean_if_open clean opened shut is = no_doubt clean (true_from_ne_false clean (λ dirty. both_ways opened (shut dirty) is))
 
 -- what they stand for lasts, since over an open connection a stop leaves what is committed
-pub lasting : (c : Connected) → ((db : Trees) → IsTrue c.is_open → c.may_leave db → db ≡ c.committed.trees) → IsTrue c.is_open → (s : State) → Rests c s → Lasts {M = tables} (standing c) s
-lasting c settled opened s rests = record {
+pub tables_last : (c : Connected) → ((db : Trees) → IsTrue c.is_open → c.may_leave db → db ≡ c.committed.trees) → IsTrue c.is_open → (s : State) → Rests c s → Lasts {M = tables} (tables_standing c) s
+tables_last c settled opened s rests = record {
   each = λ db may. subst (λ (t : Trees). Keeps t s) (sym (settled db opened may ∙ ap (λ (d : Database). d.trees) (rests.committed opened))) (keeps_of c.now s (rests.stands opened));
 }

@@ -59,11 +59,11 @@ impl<S: Alter> Kept<S> {
 
 impl<S: Alter> Records for Kept<S> {
     ghost use Rattle.sqlite.specs.Held.{state};
-    ghost use Rattle.as2_kept.specs.Instance.{clean_if_open, lasting, standing, tables};
+    ghost use Rattle.as2_kept.specs.Instance.{clean_if_open, tables_last, tables_standing, tables};
 
     ghost medium = { tables };
 
-    ghost shows = { λ c. standing (state S.Store c) };
+    ghost shows = { λ c. tables_standing (state S.Store c) };
 
     fn next_numbers(&mut self) -> Result<NextNumbers, StoreFault> {
         self.store.next_numbers()
@@ -176,5 +176,5 @@ impl<S: Alter> Records for Kept<S> {
 
     ghost stop_leaves = { λ lasting c opened. (_, S.Store.stays c.store opened) };
 
-    ghost rests_last = { λ c opened s rests. lasting _ (λ db opened may. S.Store.settled c.store db opened may) opened s rests };
+    ghost rests_last = { λ c opened s rests. tables_last _ (λ db opened may. S.Store.settled c.store db opened may) opened s rests };
 }

@@ -5,7 +5,7 @@ ghost use Rattle.sqlite.specs.State.{HasCleanDisk};
 ghost use Rattle.sqlite.specs.Steps.{over_memory};
 ghost use Rattle.as2_exchange.specs.State.{end_of_numbers};
 ghost use Rattle.as2_records.specs.Standing.{may_come};
-ghost use Rattle.as2_store.specs.Calls.{Adopts, Commits, CommitsFirst, Creates, IsGivenBack, IsReason, empty_store};
+ghost use Rattle.as2_store.specs.Calls.{Adopts, CommitsTables, CommitsFirst, Creates, IsGivenBack, IsReason, empty_store};
 ghost use Rattle.as2_store.specs.Stands.{Rests};
 
 use crate::Kept;
@@ -19,7 +19,7 @@ pub fn adopt<S: Alter>(conn: Connection<S>) -> Result<Kept<S>, (Connection<S>, S
     requires autocommit { conn.in_transaction ≡ false }
     ensures adopted { IfOk result (λ kept. Adopts (state S.Store conn) (state S.Store kept)) }
     ensures given_back { IfErr result
-        (λ e. IsGivenBack (Commits Some (state S.Store conn)) (state S.Store conn) (state S.Store e.0)) }
+        (λ e. IsGivenBack (CommitsTables Some (state S.Store conn)) (state S.Store conn) (state S.Store e.0)) }
     ensures reason { IfErr result (λ e. HasCleanDisk (state S.Store e.0) → IsReason (state S.Store conn) e.1) }
 {
     match Store::adopt(conn) {

@@ -3,14 +3,14 @@ use Rattle.std.proofs.Common.{◌≡◌, inl, Some, Option, Ok, refl, sym, ap, �
 use Rattle.as2_exchange.specs.State.{State, known_digests}
 use Rattle.as2_records.specs.Standing.{IsCounted}
 use Rattle.as2_records.specs.Calls.{Reads, Survives, Writes}
-use Rattle.as2_lists.specs.Standing.{memory, standing}
+use Rattle.as2_lists.specs.Standing.{memory, lists_standing}
 
 -- lists never fail, and nothing of them is left
-stays_open : (s t : State) (P : ⊥ → Type 0) → Survives {M = memory} (standing s) (standing t) P
+stays_open : (s t : State) (P : ⊥ → Type 0) → Survives {M = memory} (lists_standing s) (lists_standing t) P
 stays_open s t P = record { counts = omega arith; closes = λ clean opened. inl refl; shield = λ is. is; crash = λ clean left may. absurd may }
 
 pub reads_ok : {A E : Type 0} (fits : State → A → Type 0) (s : State) (a : A) → (IsCounted s → fits s a)
-    → Reads {M = memory} {A = A} {E = E} fits (standing s) (standing s) (Ok a)
+    → Reads {M = memory} {A = A} {E = E} fits (lists_standing s) (lists_standing s) (Ok a)
 reads_ok fits s a fit = record {
   clean = λ clean. clean;
   was_open = λ clean. refl;
@@ -27,7 +27,7 @@ pub record Takes (next : State → Option State) (s t : State) : Type 0 where
   pub version : t.version ≡ s.version
 
 pub writes_ok : {A E : Type 0} (next : State → Option State) (s t : State) (a : A) → (IsCounted s → Takes next s t)
-    → Writes {M = memory} {A = A} {E = E} next (standing s) (standing t) (Ok a)
+    → Writes {M = memory} {A = A} {E = E} next (lists_standing s) (lists_standing t) (Ok a)
 writes_ok next s t a takes = record {
   clean = λ clean. clean;
   was_open = λ clean. refl;

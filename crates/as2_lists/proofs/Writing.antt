@@ -4,7 +4,7 @@ use Rattle.std.specs.Prelude.{◌==◌, ◌||◌, not, if◌then◌else◌, is_s
 use Rattle.std.specs.Option.{option_map_or}
 use Rattle.std.proofs.lemmas.Bool.Decides.{nat_tests}
 use Rattle.as2_exchange.proofs.Decisions.{is_some_value}
-use Rattle.as2_exchange.specs.Documents.{passed, passes_at, settled_as, tick}
+use Rattle.as2_exchange.specs.Documents.{passed_document, passes_at, settled_as, tick}
 use Rattle.as2_exchange.specs.Invariants.{is_by_receipt}
 use Rattle.as2_exchange.specs.State.{State, change_document, change_received, document, end_of_numbers, is_settled}
 use Rattle.as2_exchange.specs.declared.answer.Answer.TheVariants.{Ticked}
@@ -13,7 +13,7 @@ use Rattle.as2_exchange.specs.declared.inbox.InEntry.{InEntry}
 use Rattle.as2_exchange.specs.declared.outbox.Evidence.{Evidence}
 use Rattle.as2_exchange.specs.declared.outbox.OutEntry.{OutEntry}
 use Rattle.as2_mdn.specs.declared.detail.Detail.{Detail}
-use Rattle.as2_records.specs.Adding.{added, added_document, with_received, with_document}
+use Rattle.as2_records.specs.Adding.{state_with, added_document, with_received, with_document}
 use Rattle.as2_records.specs.Calls.{Writes}
 use Rattle.as2_records.specs.Expiring.{ticked_in}
 use Rattle.as2_records.specs.Progressing.{come_to, set_out_in}
@@ -21,14 +21,14 @@ use Rattle.as2_records.specs.Resending.{queued_anew, resent_in}
 use Rattle.as2_records.specs.Settling.{settled_in}
 use Rattle.as2_records.specs.Standing.{IsCounted}
 use Rattle.as2_records.specs.declared.progress.Progress.{Progress}
-use Rattle.as2_lists.specs.Standing.{memory, standing}
+use Rattle.as2_lists.specs.Standing.{memory, lists_standing}
 use Rattle.as2_lists.proofs.Calls.{Takes, writes_ok}
 use Rattle.as2_lists.proofs.Counted.{received_counted, document_counted, one_received_counted, one_document_counted, outbox_counted}
 
 -- the write takes what they stood for to this state, which is counted where that was
 pub writes_from : {A : Type 0} (next : State → Option State) (s before t : State) (a : A) → before ≡ s → (IsCounted before → Takes next before t)
-    → Writes {M = memory} {A = A} {E = StoreFault} next (standing s) (standing t) (Ok a)
-writes_from {A = A} next s before t a is takes = subst (λ (z : State). Writes {M = memory} {A = A} {E = StoreFault} next (standing z) (standing t) (Ok a)) is (writes_ok next before t a takes)
+    → Writes {M = memory} {A = A} {E = StoreFault} next (lists_standing s) (lists_standing t) (Ok a)
+writes_from {A = A} next s before t a is takes = subst (λ (z : State). Writes {M = memory} {A = A} {E = StoreFault} next (lists_standing z) (lists_standing t) (Ok a)) is (writes_ok next before t a takes)
 
 -- ---- an entry more
 
@@ -40,8 +40,8 @@ if_equal k n t is = by (k == n) (grind (arith, nat_tests))
     by false so = absurd (cc)
 
 pub takes_received : (s : State) (e : InEntry) (items : List InEntry) → e.number ≡ s.next_in → s.next_in < end_of_numbers → items ≡ s.inbox ++ e ∷ []
-    → IsCounted s → Takes (added e) s (record s { inbox = items; next_in = s.next_in + 1 })
-takes_received s e items is small new counted = subst (λ (l : List InEntry). Takes (added e) s (record s { inbox = l; next_in = s.next_in + 1 })) (sym new) (record {
+    → IsCounted s → Takes (state_with e) s (record s { inbox = items; next_in = s.next_in + 1 })
+takes_received s e items is small new counted = subst (λ (l : List InEntry). Takes (state_with e) s (record s { inbox = l; next_in = s.next_in + 1 })) (sym new) (record {
   is = if_equal e.number s.next_in (with_received s e) is;
   counted = received_counted s e is small counted;
   version = refl;
@@ -103,16 +103,16 @@ takes_settled s n detail evidence items open_still by_receipt new counted = subs
 
 -- ---- time passes
 
-passed_number : (d : OutEntry) (o : Option Detail) → (passed d o).number ≡ d.number
+passed_number : (d : OutEntry) (o : Option Detail) → (passed_document d o).number ≡ d.number
 passed_number d None = refl
 passed_number d (Some detail) = refl
 
-pub takes_ticked : (s : State) (m : ℕ) (items : List OutEntry) → items ≡ map (λ d. passed d (passes_at m d)) s.outbox → IsCounted s
+pub takes_ticked : (s : State) (m : ℕ) (items : List OutEntry) → items ≡ map (λ d. passed_document d (passes_at m d)) s.outbox → IsCounted s
     → Takes (ticked_in m) s (record s { outbox = items })
 unfolding tick
 takes_ticked s m items new counted = subst (λ (l : List OutEntry). Takes (ticked_in m) s (record s { outbox = l })) (sym new) (record {
   is = refl;
-  counted = outbox_counted s (λ d. passed d (passes_at m d)) (λ d. passed_number d (passes_at m d)) counted;
+  counted = outbox_counted s (λ d. passed_document d (passes_at m d)) (λ d. passed_number d (passes_at m d)) counted;
   version = refl;
 })
 

@@ -1,6 +1,6 @@
 -- Lists in memory, as records.
 use Rattle.std.specs.Prelude.{◌≡◌, true, false}
-use Rattle.as2_exchange.specs.State.{AllDigests, State, known}
+use Rattle.as2_exchange.specs.State.{AllDigests, State, digests_of}
 use Rattle.as2_records.specs.Standing.{Medium, Standing, IsCounted}
 
 -- they lie in memory, of which a stop of the computer leaves nothing that an open could find
@@ -16,13 +16,13 @@ memory = record {
 -- lists of a state stand for it and for no other, and it is counted
 pub record StandsFor (s t : State) : Type 0 where
   pub same : t ≡ s
-  pub knows : known t ≡ AllDigests
+  pub knows : digests_of t ≡ AllDigests
   pub counted : IsCounted t
 
 -- lists of a state, as records. Memory gives back what was put into it, so they are always clean, and they never fail: no fault
 -- shuts them. Since a stop leaves nothing, what the calls say of it holds for want of anything left: memory is no lasting medium
-abbrev pub standing : State → Standing memory
-standing s = record {
+abbrev pub lists_standing : State → Standing memory
+lists_standing s = record {
   IsClean = Unit {0};
   is_open = true;
   faults = 0;

@@ -56,11 +56,11 @@ impl Lists {
 
 impl Records for Lists {
     ghost use Rattle.std.proofs.Common.{sym, true≢false};
-    ghost use Rattle.as2_lists.specs.Standing.{memory, standing};
+    ghost use Rattle.as2_lists.specs.Standing.{memory, lists_standing};
 
     ghost medium = { memory };
 
-    ghost shows = { standing };
+    ghost shows = { lists_standing };
 
     fn next_numbers(&mut self) -> Result<NextNumbers, StoreFault> {
         Ok(NextNumbers {

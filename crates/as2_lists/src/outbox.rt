@@ -4,7 +4,7 @@ ghost use Rattle.std.specs.Prelude.{◌≡◌, ◌==◌, [], ◌∷◌, ◌++◌
 ghost use Rattle.std.specs.List.{IsDistinct, position};
 ghost use Rattle.std.specs.Option.{option_map_or};
 ghost use Rattle.std.specs.Str.{bytes_eq};
-ghost use Rattle.as2_exchange.specs.Documents.{passed, passes_at, passes_into, settled_as};
+ghost use Rattle.as2_exchange.specs.Documents.{passed_document, passes_at, passes_into, settled_as};
 ghost use Rattle.as2_exchange.specs.Readings.{value_of};
 ghost use Rattle.as2_exchange.specs.State.{is_settled};
 ghost use Rattle.as2_exchange.specs.Due.{is_due_document, may_begin};
@@ -179,7 +179,7 @@ fn passes_at(moment: Moment, document: &OutEntry) -> Option<Detail>
 
 /// Lets the document pass into what it passes into at this moment, if it does, and answers whether it does.
 fn pass(document: &mut OutEntry, moment: Moment) -> bool
-    ensures passed { document.new ≡ passed document.old (passes_at moment document.old) }
+    ensures passed { document.new ≡ passed_document document.old (passes_at moment document.old) }
     ensures told { result ≡ is_some (passes_at moment document.old) }
 {
     match passes_at(moment, document) {
@@ -194,7 +194,7 @@ fn pass(document: &mut OutEntry, moment: Moment) -> bool
 
 /// Lets each document pass into what it passes into at this moment, and answers how many do.
 pub fn expire(documents: &mut Vec<OutEntry>, moment: Moment) -> u64
-    ensures passed { documents.new.items ≡ map (λ d. passed d (passes_at moment d)) documents.old.items }
+    ensures passed { documents.new.items ≡ map (λ d. passed_document d (passes_at moment d)) documents.old.items }
     ensures counted { result ≡ count_by (λ d. is_some (passes_at moment d)) documents.old.items }
 {
     let mut count = 0;

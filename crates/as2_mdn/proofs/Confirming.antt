@@ -6,7 +6,7 @@ use Rattle.std.proofs.lemmas.Option.{same_Some}
 use Rattle.as2_mic.specs.declared.field.Compared.{Compared}
 use Rattle.as2_mic.specs.declared.field.Compared.TheVariants.{UnknownAlg, Same, Differs}
 use Rattle.as2_mic.specs.Algs.{Digests}
-use Rattle.as2_mic.specs.Field.{compared}
+use Rattle.as2_mic.specs.Field.{comparison}
 use Rattle.as2_mdn.specs.Dispositions.{modifier_of, says_processed, has_modifier, has_error}
 use Rattle.as2_mdn.specs.Receipts.{ReceiptRead, Mic, Missing, Unreadable, Given}
 use Rattle.as2_mdn.specs.Verdicts.{mic_compared, differs, is_missing, is_unknown, verdict_of, Confirms}
@@ -30,7 +30,7 @@ nothing_there [] h = refl
 nothing_there (x ∷ xs) h = absurd (grind (arith, nat_tests))
 
 -- the MIC of a content is given
-given_so : (known : Digests) (given : Mic) (content : List ℕ) → mic_compared known given content ≡ Some Same → (field : List ℕ × List ℕ) × (given ≡ Given field) × (compared known field content ≡ Same)
+given_so : (known : Digests) (given : Mic) (content : List ℕ) → mic_compared known given content ≡ Some Same → (field : List ℕ × List ℕ) × (given ≡ Given field) × (comparison known field content ≡ Same)
 given_so known Missing content h = absurd (cc)
 given_so known Unreadable content h = absurd (cc)
 given_so known (Given field) content h = (field, refl, same_Some _ _ h)

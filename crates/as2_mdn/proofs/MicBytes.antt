@@ -11,7 +11,7 @@ use Rattle.base64.specs.Rfc4648.{encode_symbols, encode_group, padding_len}
 use Rattle.base64.specs.Engines.{standard}
 use Rattle.as2_mic.specs.declared.alg.Alg.{Alg}
 use Rattle.as2_mic.specs.declared.alg.Alg.TheVariants.{Md5, Sha1, Sha256}
-use Rattle.as2_mic.specs.Mic.{digest, encoded, mic}
+use Rattle.as2_mic.specs.Mic.{digest, base64_text, mic}
 use Rattle.as2_mdn.specs.MicBytes.{is_mic_byte, IsOfMicBytes}
 
 -- each number is below the bound
@@ -95,7 +95,7 @@ at_place [] h i lt = absurd (omega (arith, lt))
 at_place (x ∷ t) h zero lt = (and_parts (is_mic_byte x) (list_all is_mic_byte t) h).0
 at_place (x ∷ t) h (suc i) lt = at_place t (and_parts (is_mic_byte x) (list_all is_mic_byte t) h).1 i (omega (arith, lt))
 
-encoded_of_mic_bytes : (m : List ℕ) → AreBytes m → IsOfMicBytes (encoded m)
+encoded_of_mic_bytes : (m : List ℕ) → AreBytes m → IsOfMicBytes (base64_text m)
 encoded_of_mic_bytes m h =
     text_append (encode_symbols standard.encode_table m) (replicate (padding_len (length m)) 61) (symbols standard.encode_table m (at_place standard.encode_table refl) h) (fills (padding_len (length m)) 61 refl)
 

@@ -7,7 +7,7 @@ use Rattle.std.specs.Str.{str_to_ascii_lowercase}
 use Rattle.std.proofs.lemmas.Bool.{cases_Bool, and_parts, or_cases, eqb-true, eq-eqb, true≢false, not-true}
 use Rattle.std.proofs.lemmas.List.Elements.{All-head, All-tail, All-cons, All-nil}
 use Rattle.as2_names.specs.Ascii.{slash, semicolon}
-use Rattle.as2_names.specs.Trim.{falls_off, all_fall_off, without_front, without_back, trimmed}
+use Rattle.as2_names.specs.Trim.{falls_off, all_fall_off, without_front, without_back, trimmed_text}
 use Rattle.as2_names.specs.Cuts.{Lacks}
 use Rattle.as2_names.specs.Options.{is_word}
 use Rattle.as2_mdn.specs.Dispositions.{is_action_mode, is_sending_mode}
@@ -52,7 +52,7 @@ back_has_none byte (b ∷ rest) stays h =
           All-cons (λ b. (b == byte) ≡ false) b rest first (back_has_none byte rest stays (All-tail (λ b. (b == byte) ≡ false) b (without_back rest) kept))
     ]
 
-trimmed_has_none : (byte : ℕ) (text : List ℕ) → Stays byte → Lacks byte (trimmed text) → Lacks byte text
+trimmed_has_none : (byte : ℕ) (text : List ℕ) → Stays byte → Lacks byte (trimmed_text text) → Lacks byte text
 trimmed_has_none byte text stays h = front_has_none byte text stays (back_has_none byte (without_front text) stays h)
 
 -- ---- the words have none
@@ -98,12 +98,12 @@ apart byte word u l = record { uncased = u; lacking = l }
 
 pub action_has_no_slash : (text : List ℕ) → IsTrue (is_action_mode text) → Lacks slash text
 action_has_no_slash text h =
-    trimmed_has_none slash text slash_stays (either_has_none slash (trimmed text) (codes "manual-action") (codes "automatic-action") (apart _ _ refl refl) (apart _ _ refl refl) h)
+    trimmed_has_none slash text slash_stays (either_has_none slash (trimmed_text text) (codes "manual-action") (codes "automatic-action") (apart _ _ refl refl) (apart _ _ refl refl) h)
 
 pub action_has_no_semicolon : (text : List ℕ) → IsTrue (is_action_mode text) → Lacks semicolon text
 action_has_no_semicolon text h =
-    trimmed_has_none semicolon text semicolon_stays (either_has_none semicolon (trimmed text) (codes "manual-action") (codes "automatic-action") (apart _ _ refl refl) (apart _ _ refl refl) h)
+    trimmed_has_none semicolon text semicolon_stays (either_has_none semicolon (trimmed_text text) (codes "manual-action") (codes "automatic-action") (apart _ _ refl refl) (apart _ _ refl refl) h)
 
 pub sending_has_no_semicolon : (text : List ℕ) → IsTrue (is_sending_mode text) → Lacks semicolon text
 sending_has_no_semicolon text h =
-    trimmed_has_none semicolon text semicolon_stays (either_has_none semicolon (trimmed text) (codes "MDN-sent-manually") (codes "MDN-sent-automatically") (apart _ _ refl refl) (apart _ _ refl refl) h)
+    trimmed_has_none semicolon text semicolon_stays (either_has_none semicolon (trimmed_text text) (codes "MDN-sent-manually") (codes "MDN-sent-automatically") (apart _ _ refl refl) (apart _ _ refl refl) h)

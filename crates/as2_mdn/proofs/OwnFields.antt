@@ -3,9 +3,9 @@ use Rattle.std.proofs.Common.{◌≡◌, ℕ, ◌<◌, true, false, List, [], �
 use Rattle.std.specs.Prelude.{codes}
 use Rattle.std.specs.List.{list_all}
 use Rattle.as2_names.specs.Ascii.{comma}
-use Rattle.as2_names.specs.Names.{spelling}
+use Rattle.as2_names.specs.Names.{name_spelling}
 use Rattle.as2_names.specs.Identifiers.{IsIdentifier}
-use Rattle.as2_names.specs.Trim.{trimmed}
+use Rattle.as2_names.specs.Trim.{trimmed_text}
 use Rattle.as2_media.proofs.Padding.{IsUnpadded, IsSolid, one_ends, front_ends, padded_trimmed}
 use Rattle.as2_media.proofs.Spellings as media_found
 use Rattle.as2_media.specs.MediaTypes.{IsMediaType}
@@ -58,7 +58,7 @@ notification_head = record {
 
 -- the value of a field of which that text stands behind the colon
 abbrev raw_value : List ℕ → List ℕ
-raw_value raw = trimmed (raw ++ 13 ∷ 10 ∷ [])
+raw_value raw = trimmed_text (raw ++ 13 ∷ 10 ∷ [])
 
 abbrev mic_fields : Option ReportMic → List FieldText
 mic_fields None = []
@@ -67,7 +67,7 @@ mic_fields (Some mic) = (codes "Received-content-MIC", raw_value (32 ∷ mic_wit
 abbrev fields_with : ReportOut → List FieldText → List FieldText
 fields_with out more =
     (codes "Reporting-UA", raw_value (codes " as2-station"))
-    ∷ (codes "Final-Recipient", raw_value (codes " rfc822; " ++ spelling out.from))
+    ∷ (codes "Final-Recipient", raw_value (codes " rfc822; " ++ name_spelling out.from))
     ∷ (codes "Original-Message-ID", raw_value (32 ∷ out.original_id))
     ∷ (codes "Disposition", raw_value (codes " automatic-action/MDN-sent-automatically; " ++ outcome_text out.outcome))
     ∷ more
@@ -86,7 +86,7 @@ mic_free (Some mic) = refl
 -- no value of a content has an LF
 pub record ContentFeedless (out : ReportOut) (mic : Option ReportMic) : Type 0 where
   pub outcome : HasNoFeed (outcome_text out.outcome)
-  pub from : HasNoFeed (spelling out.from)
+  pub from : HasNoFeed (name_spelling out.from)
   pub id : HasNoFeed out.original_id
   pub mic_lines : HaveNoFeed (mic_texts mic)
 
@@ -94,7 +94,7 @@ fields_are : (out : ReportOut) (mic : Option ReportMic) → ContentFeedless out 
 fields_are out mic f =
     let m = mic_texts mic in
     let d = codes " automatic-action/MDN-sent-automatically; " ++ outcome_text out.outcome in
-    let r = codes " rfc822; " ++ spelling out.from in
+    let r = codes " rfc822; " ++ name_spelling out.from in
     let disposition = codes "Disposition" ++ 58 ∷ d in
     let id = codes "Original-Message-ID" ++ 58 ∷ 32 ∷ out.original_id in
     let recipient = codes "Final-Recipient" ++ 58 ∷ r in
@@ -124,7 +124,7 @@ name_ends Md5 = front_ends (codes ", md") (codes "5") (one_ends 53 refl)
 name_ends Sha1 = front_ends (codes ", sha") (codes "1") (one_ends 49 refl)
 name_ends Sha256 = front_ends (codes ", sha-25") (codes "6") (one_ends 54 refl)
 
-name_trimmed : (digest : Alg) → alg_name digest ≡ trimmed (32 ∷ alg_name digest)
+name_trimmed : (digest : Alg) → alg_name digest ≡ trimmed_text (32 ∷ alg_name digest)
 name_trimmed Md5 = refl
 name_trimmed Sha1 = refl
 name_trimmed Sha256 = refl
@@ -138,7 +138,7 @@ text_some : (text : List ℕ) → 0 < length text → text ≡ [] → ⊥
 text_some [] some e = absurd (omega (arith, some))
 text_some (b ∷ rest) some e = absurd cc
 
-solid_trimmed : (text : List ℕ) → IsSolid text → text ≡ trimmed text
+solid_trimmed : (text : List ℕ) → IsSolid text → text ≡ trimmed_text text
 solid_trimmed text s = sym (padded_trimmed text text (record { front = []; back = []; whole = sym (append-nil text); blank_front = refl; blank_back = refl }) s)
 
 mic_read_back : (mic : ReportMic) → IsMicText mic.text → IsOfMicBytes mic.text → raw_value (32 ∷ mic_with_digest mic) ≡ mic.text ++ (codes ", " ++ alg_name mic.digest)

@@ -4,7 +4,7 @@ use Rattle.std.specs.Prelude.{not, decimal, codes}
 use Rattle.std.specs.List.{list_all, concat}
 use Rattle.std.proofs.lemmas.List.{map-append}
 use Rattle.std.proofs.lemmas.List.Elements.{All-nil}
-use Rattle.as2_names.specs.Names.{spelling}
+use Rattle.as2_names.specs.Names.{name_spelling}
 use Rattle.as2_mic.specs.Algs.{alg_name}
 use Rattle.as2_parts.specs.Lines.{lines, without_line_end, IsDelimiter, IsClosing}
 use Rattle.as2_parts.specs.Parts.{PartText, IsTwoParts, part_in, part_of, cut_at_empty_line}
@@ -12,7 +12,7 @@ use Rattle.as2_parts.proofs.Laws.{HasNoFeed}
 use Rattle.as2_mdn.specs.declared.report.ReportMic.{ReportMic}
 use Rattle.as2_mdn.specs.declared.report.ReportOut.{ReportOut}
 use Rattle.as2_mdn.specs.Outcomes.{outcome_text}
-use Rattle.as2_mdn.specs.Reports.{boundary_text, mic_with_digest, mic_line, report_text}
+use Rattle.as2_mdn.specs.Reports.{boundary_text, mic_with_digest, mic_line, receipt_text}
 use Rattle.as2_mdn.proofs.Written.{Joint, leaf, both, bytes, same_bytes, crlf, joined, HaveNoFeed, no_feed_append, lines_of_joined, concat_crlf, joined_push, line_end_off, begins_with_hyphen, no_marks}
 
 -- ---- the lines, without their ends
@@ -24,7 +24,7 @@ mic_texts (Some mic) = (codes "Received-content-MIC: " ++ mic_with_digest mic) �
 abbrev pub field_texts : ReportOut → List (List ℕ) → List (List ℕ)
 field_texts out more =
     codes "Reporting-UA: as2-station"
-    ∷ (codes "Final-Recipient: rfc822; " ++ spelling out.from)
+    ∷ (codes "Final-Recipient: rfc822; " ++ name_spelling out.from)
     ∷ (codes "Original-Message-ID: " ++ out.original_id)
     ∷ (codes "Disposition: automatic-action/MDN-sent-automatically; " ++ outcome_text out.outcome)
     ∷ more
@@ -74,7 +74,7 @@ abbrev notification_joint : ReportOut → Joint → Joint
 notification_joint out more =
     both (both (both (both (both (both (leaf (codes "Content-Type: message/disposition-notification\r\n")) (leaf (codes "\r\n")))
     (line_joint (codes "Reporting-UA: ") (leaf (codes "as2-station"))))
-    (line_joint (codes "Final-Recipient: rfc822; ") (leaf (spelling out.from))))
+    (line_joint (codes "Final-Recipient: rfc822; ") (leaf (name_spelling out.from))))
     (line_joint (codes "Original-Message-ID: ") (leaf out.original_id)))
     (line_joint (codes "Disposition: automatic-action/MDN-sent-automatically; ") (leaf (outcome_text out.outcome))))
     more
@@ -104,7 +104,7 @@ lines_joint out more =
     ∷ leaf type_line
     ∷ leaf []
     ∷ leaf (codes "Reporting-UA: as2-station")
-    ∷ both (leaf (codes "Final-Recipient: rfc822; ")) (leaf (spelling out.from))
+    ∷ both (leaf (codes "Final-Recipient: rfc822; ")) (leaf (name_spelling out.from))
     ∷ both (leaf (codes "Original-Message-ID: ")) (leaf out.original_id)
     ∷ both (leaf (codes "Disposition: automatic-action/MDN-sent-automatically; ")) (leaf (outcome_text out.outcome))
     ∷ (more ++ leaf [] ∷ both (both (leaf (codes "--")) (boundary_joint out)) (leaf (codes "--")) ∷ []))
@@ -119,7 +119,7 @@ with_is : (out : ReportOut) (mic : Option ReportMic) → report_with out (mic_li
 with_is out None = same_bytes (report_joint out (leaf [])) (lines_joint out []) refl
 with_is out (Some mic) = same_bytes (report_joint out (mic_joint mic)) (lines_joint out (mic_line_joint mic ∷ [])) refl
 
-text_is : (out : ReportOut) → report_text out ≡ joined (texts_with out (mic_texts out.mic))
+text_is : (out : ReportOut) → receipt_text out ≡ joined (texts_with out (mic_texts out.mic))
 text_is out = with_is out out.mic
 
 -- ---- its lines
@@ -128,7 +128,7 @@ text_is out = with_is out out.mic
 pub record Feedless (out : ReportOut) : Type 0 where
   pub digits : HasNoFeed (decimal out.number)
   pub outcome : HasNoFeed (outcome_text out.outcome)
-  pub from : HasNoFeed (spelling out.from)
+  pub from : HasNoFeed (name_spelling out.from)
   pub id : HasNoFeed out.original_id
   pub mic : HaveNoFeed (mic_texts out.mic)
 
@@ -150,7 +150,7 @@ texts_feedless out f =
     let rest : HaveNoFeed (mark out.number ∷ (second_texts out (mic_texts out.mic) ++ closing out.number ∷ [])) = (f.digits, have_append (second_texts out (mic_texts out.mic)) (closing out.number ∷ []) second end) in
     (f.digits, have_append (first_texts out) (mark out.number ∷ (second_texts out (mic_texts out.mic) ++ closing out.number ∷ [])) (first_feedless out f) rest)
 
-lines_are : (out : ReportOut) → Feedless out → lines (report_text out)
+lines_are : (out : ReportOut) → Feedless out → lines (receipt_text out)
     ≡ [] ++ crlf (mark out.number) ∷ (map crlf (first_texts out) ++ crlf (mark out.number) ∷ (map crlf (second_texts out (mic_texts out.mic)) ++ crlf (closing out.number) ∷ []))
 lines_are out f =
     ap lines (text_is out)
@@ -182,7 +182,7 @@ part_is out f =
     ∙ ap cut_at_empty_line (lines_of_joined texts (notification_feedless out f))
     ∙ (λ i. (crlf type_line, concat_crlf (field_texts out (mic_texts out.mic)) i)))
 
-pub two_parts : (out : ReportOut) → Feedless out → IsTwoParts (boundary_text out.number) (report_text out) (part_of (map crlf (first_texts out))) (notification_part out)
+pub two_parts : (out : ReportOut) → Feedless out → IsTwoParts (boundary_text out.number) (receipt_text out) (part_of (map crlf (first_texts out))) (notification_part out)
 two_parts out f = record {
   preamble = [];
   opening = crlf (mark out.number);

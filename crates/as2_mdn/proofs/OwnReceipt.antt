@@ -9,7 +9,7 @@ use Rattle.as2_parts.proofs.Laws.{HasNoFeed}
 use Rattle.as2_mdn.specs.Laws.{ReportsAreOfOne, ReportsAreRead, ReportsHaveTypes, IsOut, HasMicBytes, IsItsReport, receipt_of}
 use Rattle.as2_mdn.specs.MicBytes.{is_mic_byte}
 use Rattle.as2_mdn.specs.Outcomes.{outcome_text}
-use Rattle.as2_mdn.specs.Reports.{content_type_text, report_text}
+use Rattle.as2_mdn.specs.Reports.{content_type_text, receipt_text}
 use Rattle.as2_mdn.specs.ReportReading.{IsReport}
 use Rattle.as2_mdn.specs.declared.outcome.Outcome.{Outcome}
 use Rattle.as2_mdn.specs.declared.outcome.Outcome.TheVariants.{DecryptionFailed, DecompressionFailed, AuthenticationFailed, UnsupportedFormat, UnsupportedMicAlgorithms, Processed}
@@ -56,7 +56,7 @@ feedless out x b = record {
 
 -- ---- the report
 
-own : (out : ReportOut) → IsOut out → HasMicBytes out.mic → IsReport (spelled_media out.number) (report_text out) (receipt_of out)
+own : (out : ReportOut) → IsOut out → HasMicBytes out.mic → IsReport (spelled_media out.number) (receipt_text out) (receipt_of out)
 own out x b =
     let f = feedless out x b in
     record {
@@ -77,12 +77,12 @@ media_is out media x m =
     cc same
 
 pub read : ReportsAreRead
-read out x b media m = subst (λ (t : Media). IsReport t (report_text out) (receipt_of out)) (media_is out media x m) (own out x b)
+read out x b media m = subst (λ (t : Media). IsReport t (receipt_text out) (receipt_of out)) (media_is out media x m) (own out x b)
 
-pub its_report : (out : ReportOut) (text : List ℕ) → text ≡ report_text out → IsOut out → IsItsReport out text
+pub its_report : (out : ReportOut) (text : List ℕ) → text ≡ receipt_text out → IsOut out → IsItsReport out text
 its_report out text same x = subst (IsItsReport out) (sym same) (read out x)
 
 pub of_one : ReportsAreOfOne
 of_one out media receipt x b m r =
-    let same : Ok receipt ≡ Ok (receipt_of out) = sym (again media (report_text out) receipt r) ∙ again media (report_text out) (receipt_of out) (read out x b media m) in
+    let same : Ok receipt ≡ Ok (receipt_of out) = sym (again media (receipt_text out) receipt r) ∙ again media (receipt_text out) (receipt_of out) (read out x b media m) in
     cc same

@@ -6,7 +6,7 @@ use Rattle.std.proofs.lemmas.List.{nil_from_length}
 use Rattle.std.proofs.lemmas.List.Elements.{All-cons, All-append}
 use Rattle.as2_names.specs.Ascii.{slash, semicolon}
 use Rattle.as2_names.specs.Cuts.{IsCutAt, cut_at}
-use Rattle.as2_mdn.specs.Dispositions.{type_in_disposition, is_action_mode, is_sending_mode, IsModified, IsUnmodified, IsDisposition, type_and_modifier, with_type, with_mode, with_both, reading}
+use Rattle.as2_mdn.specs.Dispositions.{type_in_disposition, is_action_mode, is_sending_mode, IsModified, IsUnmodified, IsDisposition, type_and_modifier, with_type, with_mode, with_both, disposition_reading}
 use Rattle.as2_mdn.specs.declared.disposition.DispositionFault.{DispositionFault}
 use Rattle.as2_mdn.specs.declared.disposition.DispositionFault.TheVariants as fault
 use Rattle.as2_names.proofs.Cuts.{cut_some, cut_none, cut_found}
@@ -39,7 +39,7 @@ mode_cut value d x = record {
 action_cut : (value : List ℕ) (d : List ℕ × List ℕ) (x : IsDisposition value d) → IsCutAt slash (x.action ++ slash ∷ x.sending) x.action x.sending
 action_cut value d x = record { whole = refl; first = action_has_no_slash x.action x.is_action }
 
-pub again : (value : List ℕ) (d : List ℕ × List ℕ) → IsDisposition value d → reading value ≡ Ok d
+pub again : (value : List ℕ) (d : List ℕ × List ℕ) → IsDisposition value d → disposition_reading value ≡ Ok d
 again value d x =
     rw (cut_some semicolon value (x.action ++ slash ∷ x.sending) x.typed (mode_cut value d x), cut_some slash (x.action ++ slash ∷ x.sending) x.action x.sending (action_cut value d x), x.is_action, x.is_sending, typed_again x.typed d x.is_typed)
     (type_again d x.has_type)
@@ -92,9 +92,9 @@ both_found : (value : List ℕ) (d : List ℕ × List ℕ) (cut : Option (List �
 both_found value d None e h = absurd cc
 both_found value d (Some p) e h = mode_found value p.0 p.1 d (cut_at slash p.0) (cut_found semicolon value p e) refl h
 
-found : (value : List ℕ) (d : List ℕ × List ℕ) → reading value ≡ Ok d → IsDisposition value d
+found : (value : List ℕ) (d : List ℕ × List ℕ) → disposition_reading value ≡ Ok d → IsDisposition value d
 found value d h = both_found value d (cut_at semicolon value) refl h
 
-pub found_by : (value : List ℕ) (r : Result (List ℕ × List ℕ) DispositionFault) → r ≡ reading value → IfOk r (IsDisposition value)
+pub found_by : (value : List ℕ) (r : Result (List ℕ × List ℕ) DispositionFault) → r ≡ disposition_reading value → IfOk r (IsDisposition value)
 found_by value (Ok d) e = found value d (sym e)
 found_by value (Err f) e = tt

@@ -11,8 +11,8 @@ use Rattle.std.proofs.lemmas.Slice.Eq.{bytes_eq-Decides}
 use Rattle.as2_names.specs.Ascii.{comma, is_printable}
 use Rattle.as2_names.specs.Blanks.{without_blanks}
 use Rattle.as2_names.specs.Cuts.{cut_at}
-use Rattle.as2_names.specs.Identifiers.{IsIdentifier, is_identifier, value_of}
-use Rattle.as2_names.specs.Trim.{trimmed}
+use Rattle.as2_names.specs.Identifiers.{IsIdentifier, is_identifier, without_brackets}
+use Rattle.as2_names.specs.Trim.{trimmed_text}
 use Rattle.as2_names.proofs.Cuts.{cut_some, cut_found}
 use Rattle.as2_media.specs.MediaTypes.{Media, IsMediaType}
 use Rattle.as2_media.specs.MediaTypes as media_types
@@ -37,7 +37,7 @@ use Rattle.as2_mdn.specs.declared.report_reader.Found.TheVariants as found_in
 use Rattle.as2_mdn.specs.declared.report_reader.ReportFault.{ReportFault}
 use Rattle.as2_mdn.specs.declared.report_reader.ReportFault.TheVariants as fault
 use Rattle.as2_mdn.specs.Receipts.{ReceiptRead, Mic, Unreadable, Given}
-use Rattle.as2_mdn.specs.ReportReading.{field_values, IsTyped, IsUnencoded, IsNotificationHead, IsMic, IsNotification, IsReport, Once, Absent, One, Twice, once, once_in, mic_with_both, mic_cut, mic_field, read_mic, mic_once, once_of, with_disposition, disposed, identified_receipt, is_twice, told_receipt, content_reading, is_media_of_notification, is_type_of_notification, leaves_content, part_reading, second_reading, body_reading, is_kind_report, reading}
+use Rattle.as2_mdn.specs.ReportReading.{field_values, IsTyped, IsUnencoded, IsNotificationHead, IsMic, IsNotification, IsReport, Once, Absent, One, Twice, once, once_in, mic_with_both, mic_cut, mic_field, read_mic, mic_once, once_of, with_disposition, receipt_with_disposition, identified_receipt, is_twice, told_receipt, content_reading, is_media_of_notification, is_type_of_notification, leaves_content, part_reading, second_reading, body_reading, is_kind_report, receipt_reading}
 use Rattle.as2_mdn.proofs.Reading as disposition_laws
 
 -- ---- which way a test went
@@ -72,8 +72,8 @@ no_bytes text h e = absurd (let none : (length text == 0) ≡ true = ap (λ (x :
 
 pub mic_again : (text : List ℕ) (field : List ℕ × List ℕ) → IsMicField text field → mic_field text ≡ Some field
 mic_again text field f =
-    let mic_some : (length (trimmed f.before) == 0) ≡ false = some_bytes (trimmed f.before) (λ e. f.has_mic (f.mic ∙ e)) in
-    let digest_some : (length (trimmed f.behind) == 0) ≡ false = some_bytes (trimmed f.behind) (λ e. f.has_digest (f.digest ∙ e)) in
+    let mic_some : (length (trimmed_text f.before) == 0) ≡ false = some_bytes (trimmed_text f.before) (λ e. f.has_mic (f.mic ∙ e)) in
+    let digest_some : (length (trimmed_text f.behind) == 0) ≡ false = some_bytes (trimmed_text f.behind) (λ e. f.has_digest (f.digest ∙ e)) in
     rw (cut_some comma text f.before f.behind f.cut, mic_some, digest_some) (λ i. Some ((sym f.mic) i, (sym f.digest) i))
 
 both_found : (mic digest : List ℕ) (field : List ℕ × List ℕ) → mic_with_both mic digest ≡ Some field → ((length mic == 0) ≡ false) × ((length digest == 0) ≡ false) × ((mic, digest) ≡ field)
@@ -91,15 +91,15 @@ both_found mic digest field h =
 mic_cut_found : (text : List ℕ) (cut : Option (List ℕ × List ℕ)) (field : List ℕ × List ℕ) → cut_at comma text ≡ cut → mic_cut cut ≡ Some field → IsMicField text field
 mic_cut_found text None field e h = absurd cc
 mic_cut_found text (Some cut) field e h =
-    let b = both_found (trimmed cut.0) (trimmed cut.1) field h in
+    let b = both_found (trimmed_text cut.0) (trimmed_text cut.1) field h in
     subst (IsMicField text) b.2 (record {
       before = cut.0;
       behind = cut.1;
       cut = cut_found comma text cut e;
       mic = refl;
       digest = refl;
-      has_mic = no_bytes (trimmed cut.0) b.0;
-      has_digest = no_bytes (trimmed cut.1) b.1;
+      has_mic = no_bytes (trimmed_text cut.0) b.0;
+      has_digest = no_bytes (trimmed_text cut.1) b.1;
     })
 
 pub mic_found : (text : List ℕ) (field : List ℕ × List ℕ) → mic_field text ≡ Some field → IsMicField text field
@@ -138,13 +138,13 @@ unreadable_by mic value e none = sym (ap (λ (m : Found). mic_once (once_of m)) 
 identifier_is : (text : List ℕ) → is_identifier text ≡ true → IsIdentifier text
 identifier_is text h =
     let bare = bytes_eq (without_blanks text) text in
-    let some = not (length (value_of text) == 0) in
-    let short = nat_le (length (value_of text)) 998 in
+    let some = not (length (without_brackets text) == 0) in
+    let short = nat_le (length (without_brackets text)) 998 in
     let a = and_parts (bare && some && short) (list_all is_printable text) h in
     let b = and_parts (bare && some) short a.0 in
     let c = and_parts bare some b.0 in
-    let is_some : not (length (value_of text) == 0) ≡ true = c.1 in
-    let is_short : nat_le (length (value_of text)) 998 ≡ true = b.1 in
+    let is_some : not (length (without_brackets text) == 0) ≡ true = c.1 in
+    let is_short : nat_le (length (without_brackets text)) 998 ≡ true = b.1 in
     record {
       bare = (bytes_eq-Decides (without_blanks text) text).0 c.0;
       printable = a.1;
@@ -155,8 +155,8 @@ identifier_is text h =
 pub is_identifier_of : (text : List ℕ) → IsIdentifier text → is_identifier text ≡ true
 is_identifier_of text x =
     let bare : bytes_eq (without_blanks text) text ≡ true = (bytes_eq-Decides (without_blanks text) text).1 x.bare in
-    let some : (length (value_of text) == 0) ≡ false = grind (arith, nat_tests) in
-    let short : nat_le (length (value_of text)) 998 ≡ true = grind (arith, nat_tests) in
+    let some : (length (without_brackets text) == 0) ≡ false = grind (arith, nat_tests) in
+    let short : nat_le (length (without_brackets text)) 998 ≡ true = grind (arith, nat_tests) in
     rw (bare, some, short) x.printable
 
 -- ---- the head
@@ -164,13 +164,13 @@ is_identifier_of text x =
 typed_again : (texts : List (List ℕ)) → IsTyped texts → is_type_of_notification (once texts) ≡ true
 typed_again texts t = rw (t.one, media_again.again t.text t.media t.is) t.notification
 
-media_typed : (text : List ℕ) (r : Result Media TypeFault) → media_types.reading text ≡ r → is_media_of_notification r ≡ true → IsTyped (text ∷ [])
+media_typed : (text : List ℕ) (r : Result Media TypeFault) → media_types.media_type_reading text ≡ r → is_media_of_notification r ≡ true → IsTyped (text ∷ [])
 media_typed text (Ok media) e h = record { text = text; media = media; one = refl; is = media_found.found_by text (Ok media) (sym e); notification = h }
 media_typed text (Err f) e h = absurd cc
 
 typed_found : (texts : List (List ℕ)) → is_type_of_notification (once texts) ≡ true → IsTyped texts
 typed_found [] h = absurd cc
-typed_found (text ∷ []) h = media_typed text (media_types.reading text) refl h
+typed_found (text ∷ []) h = media_typed text (media_types.media_type_reading text) refl h
 typed_found (first ∷ second ∷ others) h = absurd cc
 
 unencoded_again : (texts : List (List ℕ)) → IsUnencoded texts → leaves_content (once texts) ≡ true
@@ -198,7 +198,7 @@ part_again part receipt h n =
     let plain : leaves_content (once_in part.0 (codes "content-transfer-encoding")) ≡ true = ap (λ (fs : List FieldText). leaves_content (once (field_values (codes "content-transfer-encoding") fs))) same ∙ unencoded_again _ h.unencoded in
     rw (typed, plain) (content_again part.1 receipt n)
 
-pub again : (media : Media) (body : List ℕ) (receipt : ReceiptRead) → IsReport media body receipt → reading media body ≡ Ok receipt
+pub again : (media : Media) (body : List ℕ) (receipt : ReceiptRead) → IsReport media body receipt → receipt_reading media body ≡ Ok receipt
 again media body receipt r =
     rw (r.kind_is, r.given, two_parts.again r.boundary body r.first r.second r.two) (part_again r.second receipt r.head r.content)
 
@@ -216,24 +216,24 @@ record ReceiptSaid (id disposition : Once) (mic : Mic) (receipt : ReceiptRead) :
   pub is_id : is_identifier receipt.original_id ≡ true
   pub text : List ℕ
   pub one_disposition : disposition ≡ One text
-  pub read : dispositions.reading text ≡ Ok receipt.disposition
+  pub read : dispositions.disposition_reading text ≡ Ok receipt.disposition
   pub mic_is : receipt.mic ≡ mic
 
-says_read : (id text : List ℕ) (mic : Mic) (receipt : ReceiptRead) (r : Result (List ℕ × List ℕ) DispositionFault) → is_identifier id ≡ true → dispositions.reading text ≡ r → with_disposition id mic r ≡ Ok receipt → ReceiptSaid (One id) (One text) mic receipt
+says_read : (id text : List ℕ) (mic : Mic) (receipt : ReceiptRead) (r : Result (List ℕ × List ℕ) DispositionFault) → is_identifier id ≡ true → dispositions.disposition_reading text ≡ r → with_disposition id mic r ≡ Ok receipt → ReceiptSaid (One id) (One text) mic receipt
 says_read id text mic receipt (Ok d) good e h =
     let same : record { original_id = id; disposition = d; mic = mic } ≡ receipt = cc in
     subst (ReceiptSaid (One id) (One text) mic) same (record { one_id = refl; is_id = good; text = text; one_disposition = refl; read = e; mic_is = refl })
 says_read id text mic receipt (Err f) good e h = absurd cc
 
-says_disposed : (id : List ℕ) (disposition : Once) (mic : Mic) (receipt : ReceiptRead) → is_identifier id ≡ true → disposed id mic disposition ≡ Ok receipt → ReceiptSaid (One id) disposition mic receipt
+says_disposed : (id : List ℕ) (disposition : Once) (mic : Mic) (receipt : ReceiptRead) → is_identifier id ≡ true → receipt_with_disposition id mic disposition ≡ Ok receipt → ReceiptSaid (One id) disposition mic receipt
 says_disposed id Absent mic receipt good h = absurd cc
-says_disposed id (One text) mic receipt good h = says_read id text mic receipt (dispositions.reading text) good refl h
+says_disposed id (One text) mic receipt good h = says_read id text mic receipt (dispositions.disposition_reading text) good refl h
 says_disposed id Twice mic receipt good h = absurd cc
 
 says_identified : (id disposition : Once) (mic : Mic) (receipt : ReceiptRead) → identified_receipt mic id disposition ≡ Ok receipt → ReceiptSaid id disposition mic receipt
 says_identified Absent disposition mic receipt h = absurd cc
 says_identified (One id) disposition mic receipt h =
-    let w = when (is_identifier id) fault.NoId (disposed id mic disposition) receipt h in
+    let w = when (is_identifier id) fault.NoId (receipt_with_disposition id mic disposition) receipt h in
     says_disposed id disposition mic receipt w.0 w.1
 says_identified Twice disposition mic receipt h = absurd cc
 
@@ -282,7 +282,7 @@ kind_is_report kind.Compressed h = absurd cc
 kind_is_report kind.Signed h = absurd cc
 kind_is_report kind.Report h = refl
 
-two_found : (media : Media) (body : List ℕ) (receipt : ReceiptRead) (boundary : List ℕ) (r : Result (PartText × PartText) PartFault) → kind_of media ≡ kind.Report → boundary_of media ≡ Some boundary → parts.reading boundary body ≡ r → second_reading r ≡ Ok receipt → IsReport media body receipt
+two_found : (media : Media) (body : List ℕ) (receipt : ReceiptRead) (boundary : List ℕ) (r : Result (PartText × PartText) PartFault) → kind_of media ≡ kind.Report → boundary_of media ≡ Some boundary → parts.parts_reading boundary body ≡ r → second_reading r ≡ Ok receipt → IsReport media body receipt
 two_found media body receipt boundary (Err f) k b e h = absurd cc
 two_found media body receipt boundary (Ok both) k b e h =
     let p = part_found both.1 receipt h in
@@ -299,13 +299,13 @@ two_found media body receipt boundary (Ok both) k b e h =
 
 body_found : (media : Media) (body : List ℕ) (receipt : ReceiptRead) (b : Option (List ℕ)) → kind_of media ≡ kind.Report → boundary_of media ≡ b → body_reading b body ≡ Ok receipt → IsReport media body receipt
 body_found media body receipt None k e h = absurd cc
-body_found media body receipt (Some boundary) k e h = two_found media body receipt boundary (parts.reading boundary body) k e refl h
+body_found media body receipt (Some boundary) k e h = two_found media body receipt boundary (parts.parts_reading boundary body) k e refl h
 
-pub found : (media : Media) (body : List ℕ) (receipt : ReceiptRead) → reading media body ≡ Ok receipt → IsReport media body receipt
+pub found : (media : Media) (body : List ℕ) (receipt : ReceiptRead) → receipt_reading media body ≡ Ok receipt → IsReport media body receipt
 found media body receipt h =
     let w = when (is_kind_report (kind_of media)) fault.NotReport (body_reading (boundary_of media) body) receipt h in
     body_found media body receipt (boundary_of media) (kind_is_report (kind_of media) w.0) refl w.1
 
-pub found_by : (media : Media) (body : List ℕ) (r : Result ReceiptRead ReportFault) → r ≡ reading media body → IfOk r (IsReport media body)
+pub found_by : (media : Media) (body : List ℕ) (r : Result ReceiptRead ReportFault) → r ≡ receipt_reading media body → IfOk r (IsReport media body)
 found_by media body (Ok receipt) e = found media body receipt (sym e)
 found_by media body (Err f) e = tt

@@ -10,7 +10,7 @@ use Rattle.as2_parts.specs.Parts.{IsMark, HasNoMark}
 use Rattle.as2_parts.specs.Fields.{IsField, begins_with_blank, fields, is_field_name_byte}
 use Rattle.as2_parts.proofs.Deciding.{plain_is}
 use Rattle.as2_parts.proofs.Laws.{HasNoFeed, lines_front, fields_front}
-use Rattle.as2_names.specs.Trim.{trimmed}
+use Rattle.as2_names.specs.Trim.{trimmed_text}
 
 -- ---- texts that are put together
 
@@ -109,10 +109,10 @@ pub record Names (name raw : List ℕ) : Type 0 where
   pub named : list_all is_field_name_byte name ≡ true
   pub whole : HasNoFeed (name ++ 58 ∷ raw)
 
-pub field_line : (name raw : List ℕ) (texts : List (List ℕ)) → Names name raw → begins_with_blank (joined texts) ≡ false → fields (joined ((name ++ 58 ∷ raw) ∷ texts)) ≡ (name, trimmed (raw ++ 13 ∷ 10 ∷ [])) ∷ fields (joined texts)
+pub field_line : (name raw : List ℕ) (texts : List (List ℕ)) → Names name raw → begins_with_blank (joined texts) ≡ false → fields (joined ((name ++ 58 ∷ raw) ∷ texts)) ≡ (name, trimmed_text (raw ++ 13 ∷ 10 ∷ [])) ∷ fields (joined texts)
 field_line name raw texts n free =
     let text = name ++ 58 ∷ raw in
     let whole : (text ++ 13 ∷ []) ++ 10 ∷ [] ≡ name ++ 58 ∷ (raw ++ 13 ∷ 10 ∷ []) = append_assoc text (13 ∷ []) (10 ∷ []) ∙ append_assoc name (58 ∷ raw) (13 ∷ 10 ∷ []) in
-    let field : IsField ((text ++ 13 ∷ []) ++ 10 ∷ []) (name, trimmed (raw ++ 13 ∷ 10 ∷ [])) = record { raw = raw ++ 13 ∷ 10 ∷ []; whole = whole; some = n.some; named = n.named; value = refl } in
+    let field : IsField ((text ++ 13 ∷ []) ++ 10 ∷ []) (name, trimmed_text (raw ++ 13 ∷ 10 ∷ [])) = record { raw = raw ++ 13 ∷ 10 ∷ []; whole = whole; some = n.some; named = n.named; value = refl } in
     ap fields (sym (append_assoc text (13 ∷ []) (10 ∷ joined texts)))
-    ∙ fields_front (text ++ 13 ∷ []) (joined texts) (name, trimmed (raw ++ 13 ∷ 10 ∷ [])) (no_feed_append text (13 ∷ []) n.whole refl) free field
+    ∙ fields_front (text ++ 13 ∷ []) (joined texts) (name, trimmed_text (raw ++ 13 ∷ 10 ∷ [])) (no_feed_append text (13 ∷ []) n.whole refl) free field

@@ -11,10 +11,10 @@ use Rattle.std.proofs.lemmas.List.{reverse-append, reverse-reverse, length-rever
 use Rattle.as2_names.specs.Ascii.{is_printable}
 use Rattle.as2_names.specs.Blanks.{is_blank, skip_blanks, without_blanks}
 use Rattle.as2_names.specs.Cuts.{Lacks}
-use Rattle.as2_names.specs.Identifiers.{IsIdentifier, value_of}
-use Rattle.as2_names.specs.Names.{IsName, is_escaped_mark, is_text_byte, escaped, spelling}
+use Rattle.as2_names.specs.Identifiers.{IsIdentifier, without_brackets}
+use Rattle.as2_names.specs.Names.{IsName, is_escaped_mark, is_text_byte, quoted_byte, name_spelling}
 use Rattle.as2_names.proofs.Cuts.{lacks_front}
-use Rattle.as2_names.specs.Trim.{trimmed}
+use Rattle.as2_names.specs.Trim.{trimmed_text}
 use Rattle.as2_media.proofs.Padding.{is_margin, IsSolid, IsUnpadded, one_ends, more_ends, front_ends, solid, padded_trimmed}
 use Rattle.as2_parts.proofs.Laws.{HasNoFeed}
 use Rattle.as2_mdn.specs.MicBytes.{is_mic_byte}
@@ -64,7 +64,7 @@ decimal_no_feed n small = no_feed_of is_plain (decimal n) refl (decimal_plain n 
 
 -- ---- names
 
-escaped_no_feed : (name : List ℕ) → list_all is_printable name ≡ true → HasNoFeed (flat_map escaped name)
+escaped_no_feed : (name : List ℕ) → list_all is_printable name ≡ true → HasNoFeed (flat_map quoted_byte name)
 escaped_no_feed [] h = refl
 escaped_no_feed (b ∷ rest) h =
     let q = and_parts (is_printable b) (list_all is_printable rest) h in
@@ -73,11 +73,11 @@ escaped_no_feed (b ∷ rest) h =
       | inr apart ↦ rw (apart, other is_printable b 10 refl q.0) (escaped_no_feed rest q.1)
     ]
 
-pub spelling_no_feed : (name : List ℕ) → IsName name → HasNoFeed (spelling name)
+pub spelling_no_feed : (name : List ℕ) → IsName name → HasNoFeed (name_spelling name)
 spelling_no_feed name n =
     elim (cases_Bool (list_all is_text_byte name)) [
       | inl plain ↦ rw plain (no_feed_of is_printable name refl n.printable)
-      | inr apart ↦ rw apart (no_feed_append (flat_map escaped name) (34 ∷ []) (escaped_no_feed name n.printable) refl)
+      | inr apart ↦ rw apart (no_feed_append (flat_map quoted_byte name) (34 ∷ []) (escaped_no_feed name n.printable) refl)
     ]
 
 -- ---- texts with no blank at their ends
@@ -136,8 +136,8 @@ bare_solid (b ∷ rest) bare printable some =
     let back = back_length (b ∷ rest) bare (skip_none b rest seen) in
     solid b rest (is_margin_of b (and_parts (is_printable b) (list_all is_printable rest) printable).0 seen) (ends_back (b ∷ rest) (reverse (b ∷ rest)) refl printable some back)
 
-some_value : (text : List ℕ) → 0 < length (value_of text) → text ≡ [] → ⊥
-unfolding value_of
+some_value : (text : List ℕ) → 0 < length (without_brackets text) → text ≡ [] → ⊥
+unfolding without_brackets
 some_value [] some e = absurd (omega (arith, some))
 some_value (b ∷ rest) some e = absurd cc
 
@@ -148,7 +148,7 @@ pub identifier_no_feed : (id : List ℕ) → IsIdentifier id → HasNoFeed id
 identifier_no_feed id x = no_feed_of is_printable id refl x.printable
 
 -- the value of a line that is a space and a solid text
-pub value_trimmed : (text : List ℕ) → IsSolid text → trimmed ((32 ∷ text) ++ 13 ∷ 10 ∷ []) ≡ text
+pub value_trimmed : (text : List ℕ) → IsSolid text → trimmed_text ((32 ∷ text) ++ 13 ∷ 10 ∷ []) ≡ text
 value_trimmed text s = padded_trimmed ((32 ∷ text) ++ 13 ∷ 10 ∷ []) text (record { front = 32 ∷ []; back = 13 ∷ 10 ∷ []; whole = refl; blank_front = refl; blank_back = refl }) s
 
 -- ---- MICs

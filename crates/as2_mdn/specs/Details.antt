@@ -6,21 +6,21 @@ use Rattle.as2_mdn.specs.declared.detail.Detail.{Detail}
 use Rattle.as2_mdn.specs.declared.detail.Detail.TheVariants.{New, Sending, Awaiting, Retry, Processed, NoReceiptAsked, Warning, NoMic, UnknownMic, NotProcessed, ErrorModifier, MicDiffers, TriesUsed, Overdue}
 
 -- pending P, retry R, success S, warning W or error E
-abbrev pub state_of : Detail → State
-state_of New = P
-state_of Sending = R
-state_of Awaiting = P
-state_of Retry = R
-state_of Processed = S
-state_of NoReceiptAsked = W
-state_of Warning = W
-state_of NoMic = W
-state_of UnknownMic = W
-state_of NotProcessed = E
-state_of ErrorModifier = E
-state_of MicDiffers = E
-state_of TriesUsed = E
-state_of Overdue = E
+abbrev pub class_of : Detail → State
+class_of New = P
+class_of Sending = R
+class_of Awaiting = P
+class_of Retry = R
+class_of Processed = S
+class_of NoReceiptAsked = W
+class_of Warning = W
+class_of NoMic = W
+class_of UnknownMic = W
+class_of NotProcessed = E
+class_of ErrorModifier = E
+class_of MicDiffers = E
+class_of TriesUsed = E
+class_of Overdue = E
 
 -- the name that is written
 abbrev pub name_of : Detail → List ℕ

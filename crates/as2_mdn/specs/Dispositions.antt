@@ -3,7 +3,7 @@
 use Rattle.std.specs.Prelude.{◌≡◌, ◌≢◌, ◌⊎◌, ℕ, Bool, ◌&&◌, ◌||◌, not, ◌==◌, nat_le, List, [], ◌∷◌, ◌++◌, length, take, codes, if◌then◌else◌, IsTrue, Option, Some, None, Result, Ok, Err}
 use Rattle.as2_names.specs.Ascii.{slash, semicolon}
 use Rattle.as2_names.specs.Options.{is_word}
-use Rattle.as2_names.specs.Trim.{trimmed}
+use Rattle.as2_names.specs.Trim.{trimmed_text}
 use Rattle.as2_names.specs.Cuts.{Lacks, IsCutAt, cut_at}
 use Rattle.as2_mdn.specs.declared.disposition.DispositionFault.{DispositionFault}
 use Rattle.as2_mdn.specs.declared.disposition.DispositionFault.TheVariants as fault
@@ -17,24 +17,24 @@ modifier_of disposition = disposition.1
 
 -- action-mode, with blanks and line ends around it
 abbrev pub is_action_mode : List ℕ → Bool
-is_action_mode text = is_word (trimmed text) (codes "manual-action") || is_word (trimmed text) (codes "automatic-action")
+is_action_mode text = is_word (trimmed_text text) (codes "manual-action") || is_word (trimmed_text text) (codes "automatic-action")
 
 -- sending-mode, with blanks and line ends around it
 abbrev pub is_sending_mode : List ℕ → Bool
-is_sending_mode text = is_word (trimmed text) (codes "MDN-sent-manually") || is_word (trimmed text) (codes "MDN-sent-automatically")
+is_sending_mode text = is_word (trimmed_text text) (codes "MDN-sent-manually") || is_word (trimmed_text text) (codes "MDN-sent-automatically")
 
 -- `type/modifier`, with blanks and line ends around both
 pub record IsModified (text : List ℕ) (disposition : List ℕ × List ℕ) : Type 0 where
   pub before : List ℕ
   pub behind : List ℕ
   pub cut : IsCutAt slash text before behind
-  pub is_type : type_in_disposition disposition ≡ trimmed before
-  pub is_modifier : modifier_of disposition ≡ trimmed behind
+  pub is_type : type_in_disposition disposition ≡ trimmed_text before
+  pub is_modifier : modifier_of disposition ≡ trimmed_text behind
 
 -- `type` alone, with blanks and line ends around it
 pub record IsUnmodified (text : List ℕ) (disposition : List ℕ × List ℕ) : Type 0 where
   pub whole : Lacks slash text
-  pub is_type : type_in_disposition disposition ≡ trimmed text
+  pub is_type : type_in_disposition disposition ≡ trimmed_text text
   pub no_modifier : modifier_of disposition ≡ []
 
 -- The value has the disposition: an action mode, `/`, a sending mode, `;`, a type that isn't empty, and perhaps `/` and a
@@ -73,8 +73,8 @@ says_processed disposition = is_word (type_in_disposition disposition) (codes "p
 
 -- the type and the modifier of a text that is cut so at its first `/`
 abbrev pub type_and_modifier : List ℕ → Option (List ℕ × List ℕ) → List ℕ × List ℕ
-type_and_modifier text None = (trimmed text, [])
-type_and_modifier text (Some p) = (trimmed p.0, trimmed p.1)
+type_and_modifier text None = (trimmed_text text, [])
+type_and_modifier text (Some p) = (trimmed_text p.0, trimmed_text p.1)
 
 -- the disposition, unless its type is empty
 abbrev pub with_type : List ℕ × List ℕ → Result (List ℕ × List ℕ) DispositionFault
@@ -92,5 +92,5 @@ with_both None = Err fault.NoMode
 with_both (Some p) = with_mode (cut_at slash p.0) p.1
 
 -- the disposition that a value has, or its first fault
-abbrev pub reading : List ℕ → Result (List ℕ × List ℕ) DispositionFault
-reading value = with_both (cut_at semicolon value)
+abbrev pub disposition_reading : List ℕ → Result (List ℕ × List ℕ) DispositionFault
+disposition_reading value = with_both (cut_at semicolon value)

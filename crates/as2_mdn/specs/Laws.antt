@@ -12,7 +12,7 @@ use Rattle.as2_mdn.specs.declared.report.ReportOut.{ReportOut}
 use Rattle.as2_mdn.specs.MicBytes.{IsOfMicBytes}
 use Rattle.as2_mdn.specs.Receipts.{ReceiptRead, Mic, Missing, Given}
 use Rattle.as2_mdn.specs.ReportReading.{IsReport}
-use Rattle.as2_mdn.specs.Reports.{content_type_text, report_text}
+use Rattle.as2_mdn.specs.Reports.{content_type_text, receipt_text}
 
 -- ---- the receipt of a report
 
@@ -67,9 +67,9 @@ ReportsHaveTypes = (out : ReportOut) → IsOut out → (media : Media) × IsMedi
 
 -- its text is a report of its own receipt
 abbrev pub ReportsAreRead : Type 0
-ReportsAreRead = (out : ReportOut) → IsOut out → IsItsReport out (report_text out)
+ReportsAreRead = (out : ReportOut) → IsOut out → IsItsReport out (receipt_text out)
 
 -- and of no other
 abbrev pub ReportsAreOfOne : Type 0
 ReportsAreOfOne =
-    (out : ReportOut) (media : Media) (receipt : ReceiptRead) → IsOut out → HasMicBytes out.mic → IsMediaType (content_type_text out.number) media → IsReport media (report_text out) receipt → receipt ≡ receipt_of out
+    (out : ReportOut) (media : Media) (receipt : ReceiptRead) → IsOut out → HasMicBytes out.mic → IsMediaType (content_type_text out.number) media → IsReport media (receipt_text out) receipt → receipt ≡ receipt_of out

@@ -35,11 +35,11 @@ outcome_of_plain known encoding_refused request =
     else Processed
 
 -- the outcome of a content of that kind, whose encoding is refused or not, where these digests are known
-abbrev pub outcome_of : Digests → Kind → Bool → Request → Outcome
-outcome_of known Enveloped encoding_refused request = DecryptionFailed
-outcome_of known Compressed encoding_refused request = DecompressionFailed
-outcome_of known Signed encoding_refused request = AuthenticationFailed
-outcome_of known kind encoding_refused request = outcome_of_plain known encoding_refused request
+abbrev pub outcome_of_kind : Digests → Kind → Bool → Request → Outcome
+outcome_of_kind known Enveloped encoding_refused request = DecryptionFailed
+outcome_of_kind known Compressed encoding_refused request = DecompressionFailed
+outcome_of_kind known Signed encoding_refused request = AuthenticationFailed
+outcome_of_kind known kind encoding_refused request = outcome_of_plain known encoding_refused request
 
 -- ---- the MIC of a document
 

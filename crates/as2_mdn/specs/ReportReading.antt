@@ -5,7 +5,7 @@ use Rattle.std.specs.Prelude.{◌≡◌, ℕ, ◌⊎◌, Bool, true, false, ◌|
 use Rattle.std.specs.Str.{str_eq_ignore_ascii_case}
 use Rattle.as2_names.specs.Ascii.{comma}
 use Rattle.as2_names.specs.Cuts.{cut_at}
-use Rattle.as2_names.specs.Trim.{trimmed}
+use Rattle.as2_names.specs.Trim.{trimmed_text}
 use Rattle.as2_names.specs.Identifiers.{IsIdentifier, is_identifier}
 use Rattle.as2_media.specs.declared.fault.TypeFault.{TypeFault}
 use Rattle.as2_media.specs.declared.kind.Kind.{Kind}
@@ -14,7 +14,7 @@ use Rattle.as2_media.specs.MediaTypes.{Media, IsMediaType, media_is_type}
 use Rattle.as2_media.specs.MediaTypes as media_types
 use Rattle.as2_media.specs.Kinds.{kind_of, boundary_of}
 use Rattle.as2_parts.specs.declared.parts.PartFault.{PartFault}
-use Rattle.as2_parts.specs.Fields.{FieldText, HasFields, fields, named}
+use Rattle.as2_parts.specs.Fields.{FieldText, HasFields, fields, fields_named}
 use Rattle.as2_parts.specs.Parts.{PartText, IsTwoParts}
 use Rattle.as2_parts.specs.Parts as parts
 use Rattle.as2_mic.specs.Field.{IsMicField}
@@ -29,7 +29,7 @@ use Rattle.as2_mdn.specs.declared.report_reader.ReportFault.TheVariants as fault
 
 -- the values of the fields of that name, whatever the case of its letters
 abbrev pub field_values : List ℕ → List FieldText → List (List ℕ)
-field_values name fields = map (λ (field : FieldText). field.1) (named name fields)
+field_values name fields = map (λ (field : FieldText). field.1) (fields_named name fields)
 
 -- ---- the head of the second part
 
@@ -131,7 +131,7 @@ mic_with_both mic digest = if length mic == 0 || length digest == 0 then None el
 -- those of a value that is cut so at its first comma
 abbrev pub mic_cut : Option (List ℕ × List ℕ) → Option (List ℕ × List ℕ)
 mic_cut None = None
-mic_cut (Some cut) = mic_with_both (trimmed cut.0) (trimmed cut.1)
+mic_cut (Some cut) = mic_with_both (trimmed_text cut.0) (trimmed_text cut.1)
 
 -- the MIC and the name that a value has, if it has them
 abbrev pub mic_field : List ℕ → Option (List ℕ × List ℕ)
@@ -154,13 +154,13 @@ with_disposition id mic (Err e) = Err fault.BadDisposition
 with_disposition id mic (Ok disposition) = Ok (record { original_id = id; disposition = disposition; mic = mic })
 
 -- the same of the disposition that a field gives
-abbrev pub disposed : List ℕ → Mic → Once → Result ReceiptRead ReportFault
-disposed id mic (One text) = with_disposition id mic (dispositions.reading text)
-disposed id mic other = Err fault.NoDisposition
+abbrev pub receipt_with_disposition : List ℕ → Mic → Once → Result ReceiptRead ReportFault
+receipt_with_disposition id mic (One text) = with_disposition id mic (dispositions.disposition_reading text)
+receipt_with_disposition id mic other = Err fault.NoDisposition
 
 -- the same of the identifier that a field gives
 abbrev pub identified_receipt : Mic → Once → Once → Result ReceiptRead ReportFault
-identified_receipt mic (One id) disposition = if is_identifier id then disposed id mic disposition else Err fault.NoId
+identified_receipt mic (One id) disposition = if is_identifier id then receipt_with_disposition id mic disposition else Err fault.NoId
 identified_receipt mic other disposition = Err fault.NoId
 
 -- there are more values than one
@@ -185,7 +185,7 @@ is_media_of_notification (Err e) = false
 
 -- one value is given, and is the media type of a notification
 abbrev pub is_type_of_notification : Once → Bool
-is_type_of_notification (One text) = is_media_of_notification (media_types.reading text)
+is_type_of_notification (One text) = is_media_of_notification (media_types.media_type_reading text)
 is_type_of_notification other = false
 
 -- no value is given, or one that leaves the content as it is
@@ -209,7 +209,7 @@ second_reading (Ok both) = part_reading both.1
 -- the receipt of a body with that boundary
 abbrev pub body_reading : Option (List ℕ) → List ℕ → Result ReceiptRead ReportFault
 body_reading None body = Err fault.NotReport
-body_reading (Some boundary) body = second_reading (parts.reading boundary body)
+body_reading (Some boundary) body = second_reading (parts.parts_reading boundary body)
 
 -- a body of that kind is a report
 abbrev pub is_kind_report : Kind → Bool
@@ -217,5 +217,5 @@ is_kind_report kind.Report = true
 is_kind_report other = false
 
 -- the receipt that a body of that media type tells, or its first fault
-abbrev pub reading : Media → List ℕ → Result ReceiptRead ReportFault
-reading media body = if is_kind_report (kind_of media) then body_reading (boundary_of media) body else Err fault.NotReport
+abbrev pub receipt_reading : Media → List ℕ → Result ReceiptRead ReportFault
+receipt_reading media body = if is_kind_report (kind_of media) then body_reading (boundary_of media) body else Err fault.NotReport

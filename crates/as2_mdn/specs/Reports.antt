@@ -1,7 +1,7 @@
 -- The report that is written: a multipart/report (RFC 6522, section 3) whose second part is a message disposition
 -- notification (RFC 8098, section 3) with the fields of AS2 (RFC 4130, section 7.4), and its head fields.
 use Rattle.std.specs.Prelude.{ℕ, List, [], ◌++◌, length, Option, Some, None, codes, decimal}
-use Rattle.as2_names.specs.Names.{spelling}
+use Rattle.as2_names.specs.Names.{name_spelling}
 use Rattle.as2_mic.specs.Algs.{alg_name}
 use Rattle.as2_mdn.specs.Outcomes.{outcome_text}
 use Rattle.as2_mdn.specs.declared.report.ReportOut.{ReportOut}
@@ -52,7 +52,7 @@ notification_text out =
     codes "Content-Type: message/disposition-notification\r\n"
     ++ codes "\r\n"
     ++ report_line (codes "Reporting-UA: ") (codes "as2-station")
-    ++ report_line (codes "Final-Recipient: rfc822; ") (spelling out.from)
+    ++ report_line (codes "Final-Recipient: rfc822; ") (name_spelling out.from)
     ++ report_line (codes "Original-Message-ID: ") out.original_id
     ++ report_line (codes "Disposition: automatic-action/MDN-sent-automatically; ") (outcome_text out.outcome)
     ++ mic_line out.mic
@@ -60,8 +60,8 @@ notification_text out =
 -- ---- the report
 
 -- The body. The line end before a delimiter belongs to the delimiter, and not to the part.
-abbrev pub report_text : ReportOut → List ℕ
-report_text out =
+abbrev pub receipt_text : ReportOut → List ℕ
+receipt_text out =
     report_line (codes "--") (boundary_text out.number)
     ++ explanation_text out.number out.outcome
     ++ report_line (codes "\r\n--") (boundary_text out.number)
@@ -72,8 +72,8 @@ report_text out =
 abbrev pub as2_fields_text : ReportOut → List ℕ
 as2_fields_text out =
     codes "AS2-Version: 1.0\r\n"
-    ++ report_line (codes "AS2-From: ") (spelling out.from)
-    ++ report_line (codes "AS2-To: ") (spelling out.to)
+    ++ report_line (codes "AS2-From: ") (name_spelling out.from)
+    ++ report_line (codes "AS2-To: ") (name_spelling out.to)
 
 -- the head fields of a body of n bytes (RFC 4130, section 7.3)
 abbrev pub head_fields_of : ReportOut → ℕ → List ℕ
@@ -85,4 +85,4 @@ head_fields_of out n =
 
 -- the head fields of the report
 abbrev pub head_fields : ReportOut → List ℕ
-head_fields out = head_fields_of out (length (report_text out))
+head_fields out = head_fields_of out (length (receipt_text out))

@@ -3,7 +3,7 @@ use Rattle.std.specs.Prelude.{◌≡◌, ℕ, Bool, true, false, not, List, [], 
 use Rattle.as2_mic.specs.declared.field.Compared.{Compared}
 use Rattle.as2_mic.specs.declared.field.Compared.TheVariants.{UnknownAlg, Same, Differs}
 use Rattle.as2_mic.specs.Algs.{Digests}
-use Rattle.as2_mic.specs.Field.{compared}
+use Rattle.as2_mic.specs.Field.{comparison}
 use Rattle.as2_mdn.specs.Dispositions.{modifier_of, says_processed, has_modifier, has_error}
 use Rattle.as2_mdn.specs.Receipts.{ReceiptRead, Mic, Missing, Unreadable, Given}
 use Rattle.as2_mdn.specs.declared.detail.Detail.{Detail}
@@ -14,7 +14,7 @@ use Rattle.as2_mdn.specs.declared.detail.Detail.TheVariants.{Processed, Warning,
 abbrev pub mic_compared : Digests → Mic → List ℕ → Option Compared
 mic_compared known Missing content = None
 mic_compared known Unreadable content = Some UnknownAlg
-mic_compared known (Given field) content = Some (compared known field content)
+mic_compared known (Given field) content = Some (comparison known field content)
 
 -- a MIC is given under a known digest, and isn't the content's
 abbrev pub differs : Option Compared → Bool
@@ -32,8 +32,8 @@ is_unknown (Some UnknownAlg) = true
 is_unknown found = false
 
 -- the verdict on a disposition and what came of comparing: the first line that fits
-abbrev pub judged : List ℕ × List ℕ → Option Compared → Detail
-judged disposition found =
+abbrev pub verdict_on : List ℕ × List ℕ → Option Compared → Detail
+verdict_on disposition found =
     if not (says_processed disposition) then NotProcessed
     else if has_error disposition then ErrorModifier
     else if differs found then MicDiffers
@@ -44,7 +44,7 @@ judged disposition found =
 
 -- the verdict of a receipt on a content, where these digests are known
 abbrev pub verdict_of : Digests → ReceiptRead → List ℕ → Detail
-verdict_of known receipt content = judged receipt.disposition (mic_compared known receipt.mic content)
+verdict_of known receipt content = verdict_on receipt.disposition (mic_compared known receipt.mic content)
 
 -- The receipt confirms the content: it says `processed`, without modifier, and gives a MIC that is the content's own under
 -- the digest that it names, whichever of the known ones.
@@ -53,4 +53,4 @@ pub record Confirms (known : Digests) (receipt : ReceiptRead) (content : List �
   pub processed : IsTrue (says_processed receipt.disposition)
   pub unmodified : modifier_of receipt.disposition ≡ []
   pub given : receipt.mic ≡ Given field
-  pub same : compared known field content ≡ Same
+  pub same : comparison known field content ≡ Same

@@ -1,5 +1,5 @@
 ghost use Rattle.std.specs.Prelude.{◌≡◌};
-ghost use Rattle.as2_mdn.specs.Details.{state_of, name_of};
+ghost use Rattle.as2_mdn.specs.Details.{class_of, name_of};
 
 /// The state of a document that was sent, as listings group the details.
 #[derive(Clone, Copy, Debug, PartialEq, Eq)]
@@ -52,7 +52,7 @@ pub enum Detail {
 impl Detail {
     /// The state that the detail belongs to.
     pub fn state(self) -> State
-        ensures { result ≡ state_of self }
+        ensures { result ≡ class_of self }
     {
         match self {
             Detail::New | Detail::Awaiting => State::P,

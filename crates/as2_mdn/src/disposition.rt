@@ -2,7 +2,7 @@ ghost use Rattle.std.specs.Prelude.{◌≡◌, ℕ, List, Ok, IfOk, option_map};
 ghost use Rattle.std.specs.Str.{str_eq_ignore_ascii_case};
 ghost use Rattle.as2_names.specs.Ascii.{slash};
 ghost use Rattle.as2_names.specs.Cuts.{cut_at};
-ghost use Rattle.as2_mdn.specs.Dispositions.{IsDisposition, reading, type_and_modifier, given_modifier, has_modifier, has_error, begins_with, says_processed, is_action_mode, is_sending_mode};
+ghost use Rattle.as2_mdn.specs.Dispositions.{IsDisposition, disposition_reading, type_and_modifier, given_modifier, has_modifier, has_error, begins_with, says_processed, is_action_mode, is_sending_mode};
 
 use as2_text::{cut_at, without_blanks_and_line_ends};
 use std::marker::Model;
@@ -76,7 +76,7 @@ fn type_and_modifier(text: &[u8]) -> Disposition<'_>
 
 /// The disposition that a value has, or its first fault.
 fn read(value: &[u8]) -> Result<Disposition<'_>, DispositionFault>
-    ensures { result ≡ reading value.now }
+    ensures { result ≡ disposition_reading value.now }
 {
     let Some((mode, rest)) = cut_at(value, b';') else {
         return Err(DispositionFault::NoMode);
@@ -104,7 +104,7 @@ impl<'a> Disposition<'a> {
         // What stands in the value is read.
         ensures only { (disposition : List ℕ × List ℕ) → IsDisposition value.now disposition → result ≡ Ok disposition }
         // Which fault it is.
-        ensures exact { result ≡ reading value.now }
+        ensures exact { result ≡ disposition_reading value.now }
     {
         read(value)
     }

@@ -1,7 +1,7 @@
 ghost use Rattle.std.specs.Prelude.{◌≡◌};
 ghost use Rattle.as2_mic.specs.Algs.{AllDigests};
 ghost use Rattle.as2_text.specs.ReceiptRequests.{request_of};
-ghost use Rattle.as2_mdn.specs.Outcomes.{outcome_of, outcome_of_plain, outcome_text, requires_unknown_digest};
+ghost use Rattle.as2_mdn.specs.Outcomes.{outcome_of_kind, outcome_of_plain, outcome_text, requires_unknown_digest};
 
 use as2_mic::Alg;
 use as2_text::{Kind, ReceiptAsk};
@@ -62,7 +62,7 @@ fn outcome_of_plain(encoding_refused: bool, ask: &ReceiptAsk<'_>) -> Outcome
 /// The outcome of a document of that kind (RFC 4130, section 7.5): the first that fits in the order of the variants.
 /// Its encoding is refused where the content isn't given as it is.
 pub fn outcome_of(kind: Kind, encoding_refused: bool, ask: &ReceiptAsk<'_>) -> Outcome
-    ensures { result ≡ outcome_of AllDigests kind encoding_refused (request_of ask.now) }
+    ensures { result ≡ outcome_of_kind AllDigests kind encoding_refused (request_of ask.now) }
 {
     match kind {
         Kind::Enveloped => Outcome::DecryptionFailed,

@@ -1,5 +1,5 @@
 ghost use Rattle.std.specs.Prelude.{◌≡◌, ◌↔◌, IsTrue};
-ghost use Rattle.as2_names.specs.Identifiers.{value_of};
+ghost use Rattle.as2_names.specs.Identifiers.{without_brackets};
 
 use crate::Disposition;
 use as2_mic::MicField;
@@ -40,7 +40,7 @@ impl<'a> Receipt<'a> {
     /// Whether the receipt is of the document whose identifier has that value: the identifiers are compared without the
     /// angle brackets around them (RFC 4130, section 5.3.3).
     pub fn names(&self, id_value: &str) -> bool
-        ensures { IsTrue result ↔ (value_of self.now.original_id ≡ id_value.now) }
+        ensures { IsTrue result ↔ (without_brackets self.now.original_id ≡ id_value.now) }
     {
         without_brackets(self.original_id) == id_value.as_bytes()
     }

@@ -1,10 +1,10 @@
 //! The report that answers a document: its body and its head fields.
 ghost use Rattle.std.specs.Prelude.{◌≡◌, ◌<◌, ◌^◌, ◌++◌, IfOk, OnOk, OnErr, codes};
 ghost use Rattle.as2_names.specs.Identifiers.{IsIdentifier};
-ghost use Rattle.as2_names.specs.Names.{IsName, spelling};
+ghost use Rattle.as2_names.specs.Names.{IsName, name_spelling};
 ghost use Rattle.as2_mic.specs.Mic.{IsMicText};
 ghost use Rattle.as2_mdn.specs.Laws.{HasMicText, IsItsReport, IsOut};
-ghost use Rattle.as2_mdn.specs.Reports.{as2_fields_text, boundary_text, content_type_text, explanation_text, head_fields_of, report_line, mic_line, mic_with_digest, notification_text, report_id_text, report_text};
+ghost use Rattle.as2_mdn.specs.Reports.{as2_fields_text, boundary_text, content_type_text, explanation_text, head_fields_of, report_line, mic_line, mic_with_digest, notification_text, report_id_text, receipt_text};
 
 use crate::outcome::Outcome;
 use as2_mic::{Alg, MicText};
@@ -52,7 +52,7 @@ pub fn add_line(text: &mut Vec<u8>, start: &[u8], value: &[u8]) -> Result<(), Al
 
 /// Appends a line whose value is a name as it is spelled.
 fn add_name(text: &mut Vec<u8>, start: &[u8], name: &AsName) -> Result<(), AllocError>
-    ensures added { OnOk result (text.new.items ≡ text.old.items ++ report_line start.now (spelling name.now)) }
+    ensures added { OnOk result (text.new.items ≡ text.old.items ++ report_line start.now (name_spelling name.now)) }
     ensures name { IsName name.now }
 {
     add_line(text, start, name.spelling().as_str().as_bytes())
@@ -154,7 +154,7 @@ fn notification(alloc: Global, out: &ReportOut) -> Result<Vec<u8>, AllocError>
 }
 
 fn report_body(alloc: Global, out: &ReportOut) -> Result<Vec<u8>, AllocError>
-    ensures text { IfOk result (λ text. text.items ≡ report_text out.now) }
+    ensures text { IfOk result (λ text. text.items ≡ receipt_text out.now) }
     ensures out { IfOk result (λ text. IsOut out.now) }
 {
     let boundary = boundary(alloc, out.number)?;
@@ -172,7 +172,7 @@ fn report_body(alloc: Global, out: &ReportOut) -> Result<Vec<u8>, AllocError>
 /// The body of a report (RFC 6522, section 3), all its lines with their CRLF.
 pub fn write_report(alloc: Global, out: &ReportOut) -> Result<Vec<u8>, Memory>
     // The text.
-    ensures text { IfOk result (λ text. text.items ≡ report_text out.now) }
+    ensures text { IfOk result (λ text. text.items ≡ receipt_text out.now) }
     // It is read as a receipt with the document's identifier, the disposition of the outcome, and the MIC.
     ensures own { IfOk result (λ text. IsItsReport out.now text.items) }
 {

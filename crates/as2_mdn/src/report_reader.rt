@@ -1,9 +1,9 @@
 //! The report that answers a document, read.
 ghost use Rattle.std.specs.Prelude.{◌≡◌, IfOk, Ok};
-ghost use Rattle.as2_media.specs.MediaTypes.{reading as type_reading};
+ghost use Rattle.as2_media.specs.MediaTypes.{media_type_reading as type_reading};
 ghost use Rattle.as2_parts.specs.Parts.{part_text};
 ghost use Rattle.as2_mdn.specs.Receipts.{ReceiptRead, mic_of};
-ghost use Rattle.as2_mdn.specs.ReportReading.{IsReport, body_reading, content_reading, disposed, identified_receipt, is_plain_encoding, is_media_of_notification, is_type_of_notification, leaves_content, mic_once, once_in, once_of, part_reading, reading};
+ghost use Rattle.as2_mdn.specs.ReportReading.{IsReport, body_reading, content_reading, receipt_with_disposition, identified_receipt, is_plain_encoding, is_media_of_notification, is_type_of_notification, leaves_content, mic_once, once_in, once_of, part_reading, receipt_reading};
 
 use crate::{Disposition, MicPart, Receipt};
 use as2_mic::MicField;
@@ -110,7 +110,7 @@ fn disposed<'a>(
     disposition: Found<'a>,
     mic: MicPart<'a>,
 ) -> Result<Receipt<'a>, ReportFault>
-    ensures { result ≡ disposed original_id.now (mic_of mic.entry) (once_of disposition.entry) }
+    ensures { result ≡ receipt_with_disposition original_id.now (mic_of mic.entry) (once_of disposition.entry) }
 {
     let Found::One(value) = disposition else {
         return Err(ReportFault::NoDisposition);
@@ -154,7 +154,7 @@ fn read_part(part: Part<'_>) -> Result<Receipt<'_>, ReportFault>
 
 /// The receipt that a body of that media type tells.
 fn read<'a>(media: &MediaType<'_>, body: &'a [u8]) -> Result<Receipt<'a>, ReportFault>
-    ensures { result ≡ reading media.now body.now }
+    ensures { result ≡ receipt_reading media.now body.now }
 {
     if media.kind() != Kind::Report {
         return Err(ReportFault::NotReport);
@@ -172,7 +172,7 @@ pub fn read_report<'a>(media: &MediaType<'_>, body: &'a [u8]) -> Result<Receipt<
     // What stands in the report is read.
     ensures only { (receipt : ReceiptRead) → IsReport media.now body.now receipt → result ≡ Ok receipt }
     // Which fault it is.
-    ensures exact { result ≡ reading media.now body.now }
+    ensures exact { result ≡ receipt_reading media.now body.now }
 {
     read(media, body)
 }

@@ -1,6 +1,6 @@
 ghost use Rattle.std.specs.Prelude.{◌≡◌};
 ghost use Rattle.as2_mic.specs.Algs.{AllDigests};
-ghost use Rattle.as2_mdn.specs.Verdicts.{judged, verdict_of};
+ghost use Rattle.as2_mdn.specs.Verdicts.{verdict_on, verdict_of};
 
 use crate::{Detail, Disposition, MicPart, Receipt};
 use as2_mic::{Compared, Pieces};
@@ -8,7 +8,7 @@ use as2_mic::{Compared, Pieces};
 /// The verdict on a disposition and on what came of comparing the content with the MIC, where one is given. What stands
 /// first counts: no success is told of a content that differs, whatever else the receipt says.
 fn judged(disposition: &Disposition<'_>, found: Option<Compared>) -> Detail
-    ensures { result ≡ judged disposition.now found }
+    ensures { result ≡ verdict_on disposition.now found }
 {
     if !disposition.is_processed() {
         return Detail::NotProcessed;

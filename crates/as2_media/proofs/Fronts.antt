@@ -4,7 +4,7 @@ use Rattle.std.specs.Prelude.{◌&&◌, ◌||◌, ◌==◌, ◌⊎◌, if◌then
 use Rattle.std.proofs.lemmas.Bool.{cases_Bool, and_from}
 use Rattle.as2_names.specs.Ascii.{line_feed, carriage_return}
 use Rattle.as2_names.specs.Blanks.{is_blank}
-use Rattle.as2_names.specs.Trim.{begins_with_lf, falls_off, all_fall_off, without_front, without_back, trimmed}
+use Rattle.as2_names.specs.Trim.{begins_with_lf, falls_off, all_fall_off, without_front, without_back, trimmed_text}
 use Rattle.as2_media.specs.Parameters.{IsPadded}
 use Rattle.as2_media.proofs.Padding.{falls_on, all_off_append}
 
@@ -60,17 +60,17 @@ back_blank (b ∷ rest) =
     ]
 
 -- the text is what is kept of it, and blanks around that
-pub trimmed_padded : (text : List ℕ) → IsPadded text (trimmed text)
+pub trimmed_padded : (text : List ℕ) → IsPadded text (trimmed_text text)
 trimmed_padded text = record {
   front = front_of text;
   back = back_of (without_front text);
-  whole = front_whole text ∙ ap (λ (x : List ℕ). front_of text ++ x) (back_whole (without_front text)) ∙ sym (append_assoc (front_of text) (trimmed text) (back_of (without_front text)));
+  whole = front_whole text ∙ ap (λ (x : List ℕ). front_of text ++ x) (back_whole (without_front text)) ∙ sym (append_assoc (front_of text) (trimmed_text text) (back_of (without_front text)));
   blank_front = front_blank text;
   blank_back = back_blank (without_front text);
 }
 
 -- where nothing is kept, all falls off
-pub nothing_kept : (text : List ℕ) → trimmed text ≡ [] → all_fall_off text ≡ true
+pub nothing_kept : (text : List ℕ) → trimmed_text text ≡ [] → all_fall_off text ≡ true
 nothing_kept text e =
     let p = trimmed_padded text in
     let whole : text ≡ p.front ++ p.back = p.whole ∙ ap (λ (x : List ℕ). p.front ++ x ++ p.back) e ∙ append_assoc p.front [] p.back in
@@ -145,7 +145,7 @@ fronted (b ∷ rest) =
 front_stays : (b : ℕ) (rest : List ℕ) → falls_off b rest ≡ false → without_front (without_back (b ∷ rest)) ≡ without_back (b ∷ rest)
 front_stays b rest on = rw (and_false (falls_off b rest) (all_fall_off rest) on, stays_kept b rest on) refl
 
-pub trimmed_again : (text : List ℕ) → trimmed (trimmed text) ≡ trimmed text
+pub trimmed_again : (text : List ℕ) → trimmed_text (trimmed_text text) ≡ trimmed_text text
 trimmed_again text =
     elim (fronted text) [
       | inl none ↦ rw none refl

@@ -6,7 +6,7 @@ use Rattle.std.specs.Prelude.{◌&&◌, ◌||◌, ◌==◌}
 use Rattle.std.proofs.lemmas.Bool.{cases_Bool, and_parts, and_from}
 use Rattle.as2_names.specs.Ascii.{line_feed, carriage_return}
 use Rattle.as2_names.specs.Blanks.{is_blank}
-use Rattle.as2_names.specs.Trim.{begins_with_lf, falls_off, all_fall_off, without_front, without_back, trimmed}
+use Rattle.as2_names.specs.Trim.{begins_with_lf, falls_off, all_fall_off, without_front, without_back, trimmed_text}
 use Rattle.as2_media.specs.Parameters.{IsPadded}
 
 -- ---- what falls off
@@ -45,7 +45,7 @@ none_in_front (b ∷ rest) h =
     let p = and_parts (falls_off b rest) (all_fall_off rest) h in
     rw p.0 (none_in_front rest p.1)
 
-pub blank_trimmed : (text : List ℕ) → all_fall_off text ≡ true → trimmed text ≡ []
+pub blank_trimmed : (text : List ℕ) → all_fall_off text ≡ true → trimmed_text text ≡ []
 blank_trimmed text h = ap without_back (none_in_front text h)
 
 -- ---- texts that stay as they are with blanks around them
@@ -100,8 +100,8 @@ pub solid : (b : ℕ) (rest : List ℕ) → is_margin b ≡ false → IsUnpadded
 solid b rest h e = record { ends = e; front = λ behind. rw (stays b (rest ++ behind) h) refl }
 
 -- blanks around a solid text come off
-pub padded_trimmed : (text inner : List ℕ) → IsPadded text inner → IsSolid inner → trimmed text ≡ inner
+pub padded_trimmed : (text inner : List ℕ) → IsPadded text inner → IsSolid inner → trimmed_text text ≡ inner
 padded_trimmed text inner p s =
-    ap trimmed (p.whole ∙ append_assoc p.front inner p.back)
+    ap trimmed_text (p.whole ∙ append_assoc p.front inner p.back)
     ∙ ap without_back (front_off p.front (inner ++ p.back) p.blank_front ∙ s.front p.back)
     ∙ s.ends.back p.back p.blank_back

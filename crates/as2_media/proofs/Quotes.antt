@@ -8,13 +8,13 @@ use Rattle.std.proofs.lemmas.List.{length_push, take_at, get_or_push, drop_more,
 use Rattle.std.proofs.lemmas.List.Folds.{drop_split}
 use Rattle.as2_names.specs.Ascii.{quote, backslash}
 use Rattle.as2_media.specs.Bytes.{is_line_byte}
-use Rattle.as2_media.specs.Values.{QuotedUnit, qtext, pair, print_unit, is_unit, IsQuoted, is_quoted_text, quoted, is_enclosed, between_quotes}
+use Rattle.as2_media.specs.Values.{QuotedUnit, qtext, pair, print_unit, is_unit, IsQuoted, is_quoted_text, in_quotes, is_enclosed, between_quotes}
 
 -- what stands between the quotes of a quoted value is the value
-pub between_quoted : (value : List ℕ) → between_quotes (quoted value) ≡ Some value
+pub between_quoted : (value : List ℕ) → between_quotes (in_quotes value) ≡ Some value
 unfolding between_quotes
 between_quoted value =
-    let text = quoted value in
+    let text = in_quotes value in
     let long : length text ≡ length value + 2 = omega (arith, length_push (quote ∷ value) quote) in
     let last : get_or text (length text - 1) 0 ≡ quote = get_or_push (quote ∷ value) quote 0 (length text - 1) (omega arith) in
     let two : nat_le 2 (length text) ≡ true = grind (arith, nat_tests) in
@@ -39,7 +39,7 @@ last_byte text c two last =
     drop_split text 1 (n - 1) (omega (arith, two))
     ∙ ap (λ (x : List ℕ). slice_range text 1 (n - 1) ++ x) (drop_more text (n - 1) 0 (omega (arith, two)) ∙ rw (last, end) refl)
 
-quotes_again : (b : ℕ) (rest value : List ℕ) → is_enclosed (b ∷ rest) ≡ true → slice_range (b ∷ rest) 1 (length (b ∷ rest) - 1) ≡ value → b ∷ rest ≡ quoted value
+quotes_again : (b : ℕ) (rest value : List ℕ) → is_enclosed (b ∷ rest) ≡ true → slice_range (b ∷ rest) 1 (length (b ∷ rest) - 1) ≡ value → b ∷ rest ≡ in_quotes value
 quotes_again b rest value h e =
     let p = and_parts (nat_le 2 (length (b ∷ rest)) && b == quote) (get_or (b ∷ rest) (length (b ∷ rest) - 1) 0 == quote) h in
     let q = and_parts (nat_le 2 (length (b ∷ rest))) (b == quote) p.0 in
@@ -50,7 +50,7 @@ quotes_again b rest value h e =
     ap (λ (x : List ℕ). b ∷ x) (last_byte (b ∷ rest) quote two last ∙ ap (λ (x : List ℕ). x ++ quote ∷ []) e)
     ∙ ap (λ (x : ℕ). x ∷ value ++ quote ∷ []) first
 
-pub quotes_whole : (text value : List ℕ) → between_quotes text ≡ Some value → text ≡ quoted value
+pub quotes_whole : (text value : List ℕ) → between_quotes text ≡ Some value → text ≡ in_quotes value
 unfolding between_quotes
 quotes_whole [] value h = absurd cc
 quotes_whole (b ∷ rest) value h =

@@ -6,9 +6,9 @@ use Rattle.std.proofs.lemmas.Bool.{cases_Bool, and_parts}
 use Rattle.std.proofs.lemmas.Bool.Decides.{nat_tests}
 use Rattle.as2_names.specs.Ascii.{quote, semicolon, line_feed, carriage_return}
 use Rattle.as2_names.specs.Blanks.{is_blank}
-use Rattle.as2_names.specs.Trim.{falls_off, all_fall_off, without_front, without_back, trimmed}
+use Rattle.as2_names.specs.Trim.{falls_off, all_fall_off, without_front, without_back, trimmed_text}
 use Rattle.as2_media.specs.Bytes.{is_token_byte, is_token, is_special, is_bare_byte}
-use Rattle.as2_media.specs.Values.{IsBare, SpellsValue, quoted}
+use Rattle.as2_media.specs.Values.{IsBare, SpellsValue, in_quotes}
 use Rattle.as2_media.proofs.Padding.{is_margin, IsSolid, IsUnpadded, one_ends, more_ends, front_ends, solid}
 
 token_byte_inside : (b : ℕ) → is_token_byte b ≡ true → is_margin b ≡ false
@@ -40,7 +40,7 @@ tokens_solid (b ∷ rest) c behind h s =
 
 -- ---- values
 
-quoted_solid : (value : List ℕ) → IsSolid (quoted value)
+quoted_solid : (value : List ℕ) → IsSolid (in_quotes value)
 quoted_solid value = solid quote (value ++ quote ∷ []) refl (front_ends (quote ∷ value) (quote ∷ []) (one_ends quote refl))
 
 front_shorter : (text : List ℕ) → length (without_front text) ≤ length text
@@ -60,7 +60,7 @@ back_shorter (b ∷ rest) =
     ]
 
 -- the first byte of a text that is kept stays
-first_stays : (b : ℕ) (rest : List ℕ) → trimmed (b ∷ rest) ≡ b ∷ rest → falls_off b rest ≡ false
+first_stays : (b : ℕ) (rest : List ℕ) → trimmed_text (b ∷ rest) ≡ b ∷ rest → falls_off b rest ≡ false
 first_stays b rest e =
     elim (cases_Bool (falls_off b rest)) [
       | inl off ↦

@@ -19,8 +19,8 @@ abbrev pub says : List ℕ → List ℕ → Media → Bool
 says name word media = is_given word (first_value name media.parameters)
 
 -- what a body of type `application/pkcs7-mime` is
-abbrev pub secured : Media → Kind
-secured media =
+abbrev pub pkcs7_kind : Media → Kind
+pkcs7_kind media =
     if says (codes "smime-type") (codes "compressed-data") media then kind.Compressed
     else if says (codes "smime-type") (codes "signed-data") media then kind.Signed
     else kind.Enveloped
@@ -28,7 +28,7 @@ secured media =
 -- what a body is
 abbrev pub kind_of : Media → Kind
 kind_of media =
-    if media_is_type (codes "application") (codes "pkcs7-mime") media || media_is_type (codes "application") (codes "x-pkcs7-mime") media then secured media
+    if media_is_type (codes "application") (codes "pkcs7-mime") media || media_is_type (codes "application") (codes "x-pkcs7-mime") media then pkcs7_kind media
     else if media_is_type (codes "multipart") (codes "signed") media then kind.Signed
     else if media_is_type (codes "multipart") (codes "report") media && says (codes "report-type") (codes "disposition-notification") media then kind.Report
     else kind.Document

@@ -4,7 +4,7 @@ use Rattle.std.specs.List.{flat_map}
 use Rattle.std.specs.Str.{str_eq_ignore_ascii_case}
 use Rattle.as2_names.specs.Ascii.{slash, semicolon}
 use Rattle.as2_names.specs.Cuts.{cut_at}
-use Rattle.as2_names.specs.Trim.{trimmed}
+use Rattle.as2_names.specs.Trim.{trimmed_text}
 use Rattle.as2_media.specs.Bytes.{is_token}
 use Rattle.as2_media.specs.Cuts.{segments}
 use Rattle.as2_media.specs.Parameters.{IsPadded, Spell, parameters}
@@ -51,7 +51,7 @@ tokens (Some cut) = if is_token cut.0 && is_token cut.1 then Ok cut else Err fau
 
 -- the type and the subtype that the text before the first `;` gives
 abbrev pub essence : List ℕ → Result (List ℕ × List ℕ) TypeFault
-essence text = tokens (cut_at slash (trimmed text))
+essence text = tokens (cut_at slash (trimmed_text text))
 
 abbrev pub media_of : Result (List ℕ × List ℕ) TypeFault → Result (List (List ℕ × List ℕ)) TypeFault → Result Media TypeFault
 media_of (Err e) parameters = Err e
@@ -64,5 +64,5 @@ reading_of text None = media_of (essence text) (Ok [])
 reading_of text (Some cut) = media_of (essence cut.0) (parameters 8 (segments Outside cut.1))
 
 -- the media type that a text is, or its first fault
-abbrev pub reading : List ℕ → Result Media TypeFault
-reading text = reading_of text (cut_at semicolon text)
+abbrev pub media_type_reading : List ℕ → Result Media TypeFault
+media_type_reading text = reading_of text (cut_at semicolon text)

@@ -4,7 +4,7 @@ use Rattle.std.specs.Str.{str_eq_ignore_ascii_case}
 use Rattle.as2_names.specs.Ascii.{equals_sign}
 use Rattle.as2_names.specs.Cuts.{cut_at}
 use Rattle.as2_names.specs.Names.{with_front}
-use Rattle.as2_names.specs.Trim.{trimmed, all_fall_off}
+use Rattle.as2_names.specs.Trim.{trimmed_text, all_fall_off}
 use Rattle.as2_media.specs.Bytes.{is_token}
 use Rattle.as2_media.specs.Values.{SpellsValue, spelled_value}
 use Rattle.as2_media.specs.declared.fault.TypeFault.{TypeFault}
@@ -14,8 +14,8 @@ use Rattle.as2_media.specs.declared.fault.TypeFault.TheVariants as fault
 abbrev pub parameter_name : List ℕ × List ℕ → List ℕ
 parameter_name parameter = parameter.0
 
-abbrev pub value : List ℕ × List ℕ → List ℕ
-value parameter = parameter.1
+abbrev pub parameter_value : List ℕ × List ℕ → List ℕ
+parameter_value parameter = parameter.1
 
 -- the text is the inner one with blanks and line ends at its ends
 pub record IsPadded (text inner : List ℕ) : Type 0 where
@@ -33,7 +33,7 @@ pub record SpellsParameter (text : List ℕ) (parameter : List ℕ × List ℕ) 
   pub whole : text ≡ left ++ equals_sign ∷ right
   pub token : IsTrue (is_token (parameter_name parameter))
   pub named : IsPadded left (parameter_name parameter)
-  pub spells : SpellsValue spelled (value parameter)
+  pub spells : SpellsValue spelled (parameter_value parameter)
   pub given : IsPadded right spelled
 
 -- The texts between the `;` spell the parameters in order; texts of blanks alone, the empty parameters, don't count.
@@ -47,7 +47,7 @@ Spell (text ∷ texts) parameters =
 abbrev pub first_value : List ℕ → List (List ℕ × List ℕ) → Option (List ℕ)
 first_value wanted [] = None
 first_value wanted (parameter ∷ others) =
-    if str_eq_ignore_ascii_case (parameter_name parameter) wanted then Some (value parameter) else first_value wanted others
+    if str_eq_ignore_ascii_case (parameter_name parameter) wanted then Some (parameter_value parameter) else first_value wanted others
 
 -- ---- reading
 
@@ -60,7 +60,7 @@ with_name name (Some value) = Some (name, value)
 abbrev pub parameter_of : Option (List ℕ × List ℕ) → Option (List ℕ × List ℕ)
 parameter_of None = None
 parameter_of (Some cut) =
-    if is_token (trimmed cut.0) then with_name (trimmed cut.0) (spelled_value (trimmed cut.1)) else None
+    if is_token (trimmed_text cut.0) then with_name (trimmed_text cut.0) (spelled_value (trimmed_text cut.1)) else None
 
 -- the parameter that a text spells
 abbrev pub parameter : List ℕ → Option (List ℕ × List ℕ)
@@ -76,5 +76,5 @@ and_then (suc room) (Some first) others = with_front (first ∷ []) others
 abbrev pub parameters : ℕ → List (List ℕ) → Result (List (List ℕ × List ℕ)) TypeFault
 parameters room [] = Ok []
 parameters room (text ∷ texts) =
-    if length (trimmed text) == 0 then parameters room texts
+    if length (trimmed_text text) == 0 then parameters room texts
     else and_then room (parameter text) (parameters (room - 1) texts)

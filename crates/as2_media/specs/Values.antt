@@ -2,13 +2,13 @@
 use Rattle.std.specs.Prelude.{◌≡◌, ◌≢◌, ℕ, ◌-◌, ◌⊎◌, Bool, true, false, ◌&&◌, not, ◌==◌, nat_le, List, [], ◌∷◌, ◌++◌, length, slice_index, slice_range, if◌then◌else◌, IsTrue, Option, Some, None}
 use Rattle.std.specs.List.{flat_map, list_all}
 use Rattle.as2_names.specs.Ascii.{quote, backslash}
-use Rattle.as2_names.specs.Trim.{trimmed}
+use Rattle.as2_names.specs.Trim.{trimmed_text}
 use Rattle.as2_media.specs.Bytes.{is_bare_byte, is_line_byte}
 
 -- a value that stands without quotes: no blank at its ends
 pub record IsBare (value : List ℕ) : Type 0 where
   pub some : value ≢ []
-  pub trim : trimmed value ≡ value
+  pub trim : trimmed_text value ≡ value
   pub bytes : IsTrue (list_all is_bare_byte value)
 
 -- a unit between quotes: a byte (qtext), or a backslash and the byte behind it (quoted-pair)
@@ -32,12 +32,12 @@ pub record IsQuoted (value : List ℕ) : Type 0 where
   pub each : IsTrue (list_all is_unit units)
 
 -- the text between quotes
-abbrev pub quoted : List ℕ → List ℕ
-quoted value = quote ∷ value ++ quote ∷ []
+abbrev pub in_quotes : List ℕ → List ℕ
+in_quotes value = quote ∷ value ++ quote ∷ []
 
 -- The text spells the value: as itself, or between quotes, where the value is what stands there, backslashes and all.
 abbrev pub SpellsValue : List ℕ → List ℕ → Type 0
-SpellsValue text value = (IsBare value × (text ≡ value)) ⊎ (IsQuoted value × (text ≡ quoted value))
+SpellsValue text value = (IsBare value × (text ≡ value)) ⊎ (IsQuoted value × (text ≡ in_quotes value))
 
 -- ---- reading
 

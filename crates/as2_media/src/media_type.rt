@@ -1,9 +1,9 @@
 // Media types.
 ghost use Rattle.std.specs.Prelude.{◌≡◌, ℕ, IfOk, Ok, Option, option_map};
-ghost use Rattle.as2_media.specs.MediaTypes.{Media, IsMediaType, reading, essence, media_of, media_is_type};
+ghost use Rattle.as2_media.specs.MediaTypes.{Media, IsMediaType, media_type_reading, essence, media_of, media_is_type};
 ghost use Rattle.as2_media.specs.Parameters.{parameters};
 ghost use Rattle.as2_media.specs.Cuts.{segments_of};
-ghost use Rattle.as2_media.specs.Kinds.{kind_of, secured, says, boundary_of, is_boundary_byte, is_boundary};
+ghost use Rattle.as2_media.specs.Kinds.{kind_of, pkcs7_kind, says, boundary_of, is_boundary_byte, is_boundary};
 ghost use Rattle.std.specs.List.{list_all};
 
 use crate::essence::Essence;
@@ -59,7 +59,7 @@ fn media_type<'a>(text: &'a [u8], behind: Option<&'a [u8]>) -> Result<MediaType<
 }
 
 fn read(field: &[u8]) -> Result<MediaType<'_>, TypeFault>
-    ensures { result ≡ reading field.now }
+    ensures { result ≡ media_type_reading field.now }
 {
     match cut_at(field, b';') {
         None => media_type(field, None),
@@ -75,7 +75,7 @@ impl<'a> MediaType<'a> {
         // What spells a media type is read as that one.
         ensures only { (media : Media) → IsMediaType field.now media → result ≡ Ok media }
         // Which fault it is.
-        ensures exact { result ≡ reading field.now }
+        ensures exact { result ≡ media_type_reading field.now }
     {
         read(field)
     }
@@ -99,7 +99,7 @@ impl<'a> MediaType<'a> {
 
     /// What a body of type `application/pkcs7-mime` is (RFC 8551, section 3.2.2).
     fn secured(&self) -> Kind
-        ensures { result ≡ secured self.now }
+        ensures { result ≡ pkcs7_kind self.now }
     {
         if self.says(b"smime-type", b"compressed-data") {
             Kind::Compressed

@@ -10,7 +10,7 @@ use Rattle.as2_framing.proofs.OneBody.{front_once}
 use Rattle.as2_messages.specs.Framing.{IsFaultyBody}
 use Rattle.as2_messages.specs.declared.framing.RequestFault.TheVariants.{BadHead, TransferCoding, BadLength, BadChunk, TooLarge, NoLength}
 use Rattle.as2_framing.specs.HeadText.{HasHeadText, HasNoHeadText}
-use Rattle.as2_messages.specs.Requests.{Fields, IsHead, Frames, too_long, no_head, framing, faulty_body, in_head, in_body, appended, method_of, target_of, body_framing, is_last_request, is_head}
+use Rattle.as2_messages.specs.Requests.{Fields, IsHead, Frames, too_long, no_head, framing, faulty_body, in_head, in_body, fields_behind, method_of, target_of, body_framing, is_last_request, is_head}
 use Rattle.as2_messages.specs.Laws.{BeginsWithOne, RefusesInOneWay, NeverRefusesRequests, NeverOpensRequests, NeverOpensRefused}
 use Rattle.as2_messages.specs.declared.framing.Method.{Method}
 use Rattle.as2_messages.specs.declared.framing.Target.{Target}
@@ -27,7 +27,7 @@ no_head_text text a x h none = absurd (cc (sym h.0 ∙ none))
 one_head : (bytes : List ℕ) (h k : RequestHead) (fields others : Fields) → IsHead bytes h fields → IsHead bytes k others → (h ≡ k) × (fields ≡ others)
 one_head bytes h k fields others x y =
     let same : h ≡ k = (request_unique bytes h k [] [] x.0 y.0).0 in
-    let e : Some fields ≡ Some others = sym x.1 ∙ ap (λ (r : RequestHead). appended [] (map name_and_value r.fields)) same ∙ y.1 in
+    let e : Some fields ≡ Some others = sym x.1 ∙ ap (λ (r : RequestHead). fields_behind [] (map name_and_value r.fields)) same ∙ y.1 in
     (same, cc e)
 
 -- one head stands at the front, and says one thing of the body

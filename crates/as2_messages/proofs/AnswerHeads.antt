@@ -11,7 +11,7 @@ use Rattle.httparse.specs.declared.spans.ResponseSpans.{ResponseSpans}
 use Rattle.as2_messages.specs.Answering.{IsAnswerHead, FramesAnswer, BeginsAnswer}
 use Rattle.as2_messages.specs.AnswerPieces.{JudgesAnswer}
 use Rattle.as2_framing.specs.HeadText.{HasHeadText}
-use Rattle.as2_messages.specs.Requests.{Fields, appended}
+use Rattle.as2_messages.specs.Requests.{Fields, fields_behind}
 use Rattle.as2_messages.specs.declared.answer_head.BodyEnd.{BodyEnd}
 use Rattle.as2_messages.specs.declared.answer_head.BodyEnd.TheVariants.{Framing}
 use Rattle.as2_framing.proofs.Bodies.{body_append}
@@ -41,13 +41,13 @@ not_shorter buf headers (Err e) s f is other head fields h = absurd cc
 
 -- a head whose fields aren't taken
 pub not_taken : (buf : List ℕ) (headers : List HeaderSpan) (r : Result (Status ResponseSpans) Error) (s : ResponseSpans) → FindsResponse buf 64 headers r → r ≡ Ok (Complete s)
-    → appended [] (map (header_bytes buf) (take s.headers headers)) ≡ None
+    → fields_behind [] (map (header_bytes buf) (take s.headers headers)) ≡ None
     → (head : ResponseHead) (fields : Fields) → IsAnswerHead buf head fields → ⊥
 not_taken buf headers (Ok (Complete q)) s f is none head fields h =
     let at = f head [] h.0 (few_fields buf head fields h) in
     let same : q ≡ s = cc in
     let e : map (header_bytes buf) (take s.headers headers) ≡ map name_and_value head.fields = ap (λ (x : ResponseSpans). map (header_bytes buf) (take x.headers headers)) (sym same) ∙ at.fields in
-    absurd (cc (sym none ∙ ap (appended []) e ∙ h.1))
+    absurd (cc (sym none ∙ ap (fields_behind []) e ∙ h.1))
 not_taken buf headers (Ok Partial) s f is none head fields h = absurd cc
 not_taken buf headers (Err e) s f is none head fields h = absurd cc
 

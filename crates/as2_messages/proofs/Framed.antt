@@ -6,7 +6,7 @@ use Rattle.as2_framing.specs.HeadText.{HasNoHeadText, head_limit}
 use Rattle.as2_framing.specs.declared.body.BodyFraming.{BodyFraming}
 use Rattle.as2_framing.proofs.Bodies.{bad_body_append, body_append, large_body_append}
 use Rattle.as2_messages.specs.Framing.{IsFaultyBody}
-use Rattle.as2_messages.specs.Requests.{Fields, Frames, Begins, IsRefused, too_long, no_head, framing, faulty_body}
+use Rattle.as2_messages.specs.Requests.{Fields, Frames, BeginsRequest, BeginsNoRequest, too_long, no_head, framing, faulty_body}
 use Rattle.as2_messages.specs.declared.framing.RequestFault.TheVariants.{BadHead, TransferCoding, BadLength, BadChunk, TooLarge, NoLength}
 use Rattle.as2_messages.specs.declared.request.Request.{Request}
 use Rattle.as2_messages.specs.declared.framing.RequestFault.{RequestFault}
@@ -22,7 +22,7 @@ frames_append text more head fields after framed f = record {
   framed = f.framed;
 }
 
-pub begins_append : (text more : List ℕ) (r : Request) (rest : List ℕ) → Begins text r rest → Begins (text ++ more) r (rest ++ more)
+pub begins_append : (text more : List ℕ) (r : Request) (rest : List ℕ) → BeginsRequest text r rest → BeginsRequest (text ++ more) r (rest ++ more)
 begins_append text more r rest b = record {
   head = b.head;
   after = b.after ++ more;
@@ -46,7 +46,7 @@ faulty_append how text more TransferCoding f = absurd f
 faulty_append how text more BadLength f = absurd f
 faulty_append how text more NoLength f = absurd f
 
-pub refuses_append : (text more : List ℕ) (refused : Refused) → IsRefused text refused → IsRefused (text ++ more) refused
+pub refuses_append : (text more : List ℕ) (refused : Refused) → BeginsNoRequest text refused → BeginsNoRequest (text ++ more) refused
 refuses_append text more refused (too_long none long is) = too_long (window_full text more long none) (omega (arith, long, length-append text more)) is
 refuses_append text more refused (no_head bytes after found never is) = no_head bytes (after ++ more) (head_append text more bytes after found) never is
 refuses_append text more refused (framing head fields after frames is) = framing head fields (after ++ more) (frames_append text more head fields after (Err refused.reason) frames) is

@@ -11,23 +11,23 @@ use Rattle.httparse.specs.declared.Status.TheVariants.{Complete, Partial}
 use Rattle.httparse.specs.declared.spans.HeaderSpan.{HeaderSpan}
 use Rattle.httparse.specs.declared.spans.RequestSpans.{RequestSpans}
 use Rattle.as2_names.specs.Heads.{is_field, field_of}
-use Rattle.as2_messages.specs.Requests.{Fields, appended, IsHead}
+use Rattle.as2_messages.specs.Requests.{Fields, fields_behind, IsHead}
 
 -- a head takes no more than 64 fields
-pub appended_fits : (fields more all : Fields) → length fields ≤ 64 → appended fields more ≡ Some all → length fields + length more ≤ 64
+pub appended_fits : (fields more all : Fields) → length fields ≤ 64 → fields_behind fields more ≡ Some all → length fields + length more ≤ 64
 appended_fits fields [] all fits h = omega arith
 appended_fits fields (f ∷ more) all fits h =
     elim (cases_Bool (is_field f.0 f.1)) [
       | inl t ↦ elim (cases_Bool (nat_lt (length fields) 64)) [
         | inl room ↦
-            let e : appended fields (f ∷ more) ≡ appended (fields ++ field_of f.0 f.1 ∷ []) more = rw (t, room) refl in
+            let e : fields_behind fields (f ∷ more) ≡ fields_behind (fields ++ field_of f.0 f.1 ∷ []) more = rw (t, room) refl in
             let n : length (fields ++ field_of f.0 f.1 ∷ []) ≡ length fields + 1 = length-append fields (field_of f.0 f.1 ∷ []) in
             let below : length fields < 64 = grind (arith, nat_tests) in
             let r = appended_fits (fields ++ field_of f.0 f.1 ∷ []) more all (omega (arith, n, below)) (sym e ∙ h) in
             omega (arith, n, r)
-        | inr full ↦ let e : appended fields (f ∷ more) ≡ None = rw (t, full) refl in absurd (cc (sym e ∙ h))
+        | inr full ↦ let e : fields_behind fields (f ∷ more) ≡ None = rw (t, full) refl in absurd (cc (sym e ∙ h))
       ]
-      | inr bad ↦ let e : appended fields (f ∷ more) ≡ None = rw bad refl in absurd (cc (sym e ∙ h))
+      | inr bad ↦ let e : fields_behind fields (f ∷ more) ≡ None = rw bad refl in absurd (cc (sym e ∙ h))
     ]
 
 pub few_fields : (buf : List ℕ) (head : RequestHead) (fields : Fields) → IsHead buf head fields → length head.fields ≤ 64
@@ -52,12 +52,12 @@ not_shorter buf headers (Err e) s f is other head fields h = absurd cc
 
 -- a head whose fields aren't taken
 pub not_taken : (buf : List ℕ) (headers : List HeaderSpan) (r : Result (Status RequestSpans) Error) (s : RequestSpans) → FindsRequest buf 64 headers r → r ≡ Ok (Complete s)
-    → appended [] (map (header_bytes buf) (take s.headers headers)) ≡ None
+    → fields_behind [] (map (header_bytes buf) (take s.headers headers)) ≡ None
     → (head : RequestHead) (fields : Fields) → IsHead buf head fields → ⊥
 not_taken buf headers (Ok (Complete q)) s f is none head fields h =
     let at = f head [] h.0 (few_fields buf head fields h) in
     let same : q ≡ s = cc in
     let e : map (header_bytes buf) (take s.headers headers) ≡ map name_and_value head.fields = ap (λ (x : RequestSpans). map (header_bytes buf) (take x.headers headers)) (sym same) ∙ at.fields in
-    absurd (cc (sym none ∙ ap (appended []) e ∙ h.1))
+    absurd (cc (sym none ∙ ap (fields_behind []) e ∙ h.1))
 not_taken buf headers (Ok Partial) s f is none head fields h = absurd cc
 not_taken buf headers (Err e) s f is none head fields h = absurd cc

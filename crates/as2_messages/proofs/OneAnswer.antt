@@ -11,7 +11,7 @@ use Rattle.as2_framing.specs.declared.body.BodyFraming.{BodyFraming}
 use Rattle.as2_framing.proofs.Bodies.{body_not_open, one_body}
 use Rattle.as2_framing.specs.HeadText.{HasHeadText, HasNoHeadText}
 use Rattle.as2_messages.specs.Framing.{IsFaultyBody}
-use Rattle.as2_messages.specs.Requests.{Fields, appended}
+use Rattle.as2_messages.specs.Requests.{Fields, fields_behind}
 use Rattle.as2_messages.specs.declared.answer_head.BodyEnd.{BodyEnd}
 use Rattle.as2_messages.specs.declared.answer_head.BodyEnd.TheVariants.{Framing, WithInput}
 use Rattle.as2_messages.proofs.Alone.{body_not_faulty, faulty_not_open, one_head_text, there}
@@ -19,7 +19,7 @@ use Rattle.as2_messages.proofs.Alone.{body_not_faulty, faulty_not_open, one_head
 one_head : (bytes : List ℕ) (h k : ResponseHead) (fields others : Fields) → IsAnswerHead bytes h fields → IsAnswerHead bytes k others → (h ≡ k) × (fields ≡ others)
 one_head bytes h k fields others x y =
     let same : h ≡ k = (response_unique bytes h k [] [] x.0 y.0).0 in
-    let e : Some fields ≡ Some others = sym x.1 ∙ ap (λ (r : ResponseHead). appended [] (map name_and_value r.fields)) same ∙ y.1 in
+    let e : Some fields ≡ Some others = sym x.1 ∙ ap (λ (r : ResponseHead). fields_behind [] (map name_and_value r.fields)) same ∙ y.1 in
     (same, cc e)
 
 -- one head stands at the front, and says one thing of the body

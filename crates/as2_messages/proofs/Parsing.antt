@@ -10,9 +10,9 @@ use Rattle.as2_framing.specs.declared.chunked.BodyPiece.{BodyPiece}
 use Rattle.as2_framing.specs.declared.chunked.BodyPiece.TheVariants as fed
 use Rattle.as2_framing.proofs.Bodies.{body_more, body_open}
 use Rattle.as2_framing.specs.declared.body.MissingBody.{MissingBody}
-use Rattle.as2_messages.specs.Parsing.{Awaits, FeedsRequest, RefusesHead, HasTakenBy, HasTaken, Framed, EndsRequest, TellsBlank}
+use Rattle.as2_messages.specs.Parsing.{Awaits, FeedsRequest, RefusesHead, HasTakenBy, HasTaken, HasHead, EndsRequest, TellsBlank}
 use Rattle.as2_messages.specs.Reading.{Judges}
-use Rattle.as2_messages.specs.Requests.{Fields, Frames, Begins, IsRefused, framing, faulty_body, IsOpen, in_head, in_body, body_framing, is_head, is_last_request}
+use Rattle.as2_messages.specs.Requests.{Fields, Frames, BeginsRequest, BeginsNoRequest, framing, faulty_body, IsOpen, in_head, in_body, body_framing, is_head, is_last_request}
 use Rattle.as2_messages.specs.declared.framing.Method.{Method}
 use Rattle.as2_messages.specs.declared.framing.Refused.{Refused}
 use Rattle.as2_messages.specs.declared.framing.RequestFault.{RequestFault}
@@ -38,13 +38,13 @@ judged_frames text bytes after j found q = record {
 }
 
 pub judged_refused : (text bytes after : List ℕ) (j : Judged) (reason : RequestFault) (to_head : Bool) → HasHeadText text bytes after → Judges bytes j → j.framing ≡ Err reason → to_head ≡ is_head j.method
-    → IsRefused text (record { reason = reason; to_head = to_head })
+    → BeginsNoRequest text (record { reason = reason; to_head = to_head })
 judged_refused text bytes after j reason to_head found q is same =
     framing q.head j.fields after (subst (λ (l : Result BodyFraming RequestFault). Frames text q.head j.fields after l) is (judged_frames text bytes after j found q)) (same ∙ ap is_head q.method)
 
 -- the bytes that were refused are those of the head
 pub head_refused : (bytes head : List ℕ) (r : Result Awaited NotAwaited) (n : NotAwaited) (refused : Refused) → IfErr r (RefusesHead bytes) → r ≡ Err n → n ≡ not_awaited.Refused refused → bytes ≡ head
-    → (text after : List ℕ) → HasHeadText text head after → IsRefused text refused
+    → (text after : List ℕ) → HasHeadText text head after → BeginsNoRequest text refused
 head_refused bytes head (Ok a) n refused h is same from text after found = absurd cc
 head_refused bytes head (Err m) n refused h is same from text after found =
     let e : m ≡ not_awaited.Refused refused = (let f : Err m ≡ Err n = is in cc) in
@@ -141,12 +141,12 @@ some_used : (m : MissingBody) (from used : ℕ) → (from ≡ 0 → IsMissing m)
 some_used m zero used missing some = omega (arith, some (missing refl))
 some_used m (suc n) used missing some = omega arith
 
-pub ends_request : (p : RequestParser) (old new : Awaited) (text bytes : List ℕ) (from used : ℕ) → p.awaited ≡ None → from ≤ length bytes → Framed p.head old text bytes from
+pub ends_request : (p : RequestParser) (old new : Awaited) (text bytes : List ℕ) (from used : ℕ) → p.awaited ≡ None → from ≤ length bytes → HasHead p.head old text bytes from
     → FeedsRequest old new (text ++ bytes) (drop from bytes) (fed.Whole used) → EndsRequest p text bytes new.request (from + used)
 ends_request p old new text bytes from used none le f whole = record {
   some = some_used old.missing from used f.some whole.0;
   within = omega (arith, whole.1, length-drop from bytes, le);
-  begins = subst (λ (rest : List ℕ). Begins (text ++ bytes) new.request rest) (drop-drop used from bytes) whole.2;
+  begins = subst (λ (rest : List ℕ). BeginsRequest (text ++ bytes) new.request rest) (drop-drop used from bytes) whole.2;
   empty = subst (λ (a : Option Awaited). HasTakenBy p.head a []) (sym none) f.empty;
 }
 
@@ -167,7 +167,7 @@ pub when_ok : {A E : Type 0} (P Q : A → Type 0) (r : Result A E) → ((a : A) 
 when_ok P Q (Ok a) f p = f a p
 when_ok P Q (Err e) f p = tt
 
-pub framed_again : (p : RequestParser) (a : Awaited) (text bytes : List ℕ) → p.awaited ≡ Some a → HasTaken p text → Framed p.head a text bytes 0
+pub framed_again : (p : RequestParser) (a : Awaited) (text bytes : List ℕ) → p.awaited ≡ Some a → HasTaken p text → HasHead p.head a text bytes 0
 framed_again p a text bytes is h =
     let k : HasTakenBy p.head (Some a) text = subst (λ (o : Option Awaited). HasTakenBy p.head o text) is h in
     record { empty = k.0; some = λ is. k.1; awaits = awaits_more a text bytes k.2 }

@@ -58,10 +58,10 @@ abbrev pub IsSpent : AnswerParser → Type 0
 IsSpent p = IsTrue p.is_spent × (p.awaited ≡ None)
 
 -- what an awaited answer is with the rest of the text
-abbrev pub Takes : List ℕ → Taken → Type 0
-Takes text (taken.Open a) = IsMissingEnd a.missing × AwaitsAnswer a text []
-Takes text (taken.Whole r) = (rest : List ℕ) × BeginsAnswer text r.status r.fields r.body rest
-Takes text taken.NoAnswer = IsNoAnswer text
+abbrev pub IsTakenAs : List ℕ → Taken → Type 0
+IsTakenAs text (taken.Open a) = IsMissingEnd a.missing × AwaitsAnswer a text []
+IsTakenAs text (taken.Whole r) = (rest : List ℕ) × BeginsAnswer text r.status r.fields r.body rest
+IsTakenAs text taken.NoAnswer = IsNoAnswer text
 
 -- what the whole text begins with, and that of it is kept
 abbrev pub ParsesAnswer : AnswerParser → List ℕ → ParsedAnswer → Type 0

@@ -11,7 +11,7 @@ use Rattle.as2_framing.specs.declared.body.BodyFraming.{BodyFraming}
 use Rattle.as2_framing.specs.declared.body.BodyFraming.TheVariants.{Length}
 use Rattle.as2_messages.specs.Framing.{IsFaultyBody, coded_framing, content_length, is_chunked}
 use Rattle.as2_framing.specs.HeadText.{HasHeadText, HasNoHeadText, head_limit}
-use Rattle.as2_messages.specs.Requests.{Fields, appended}
+use Rattle.as2_messages.specs.Requests.{Fields, fields_behind}
 use Rattle.as2_messages.specs.declared.answer_head.BodyEnd.{BodyEnd}
 use Rattle.as2_messages.specs.declared.answer_head.BodyEnd.TheVariants.{Framing, WithInput}
 use Rattle.as2_messages.specs.declared.framing.RequestFault.{RequestFault}
@@ -20,7 +20,7 @@ use Rattle.as2_messages.specs.declared.framing.RequestFault.{RequestFault}
 
 -- the bytes are the head of an answer and nothing else, and its fields are those (RFC 9112, section 4)
 abbrev pub IsAnswerHead : List ℕ → ResponseHead → Fields → Type 0
-IsAnswerHead bytes head fields = ReadsResponse bytes head [] × (appended [] (map name_and_value head.fields) ≡ Some fields)
+IsAnswerHead bytes head fields = ReadsResponse bytes head [] × (fields_behind [] (map name_and_value head.fields) ≡ Some fields)
 
 -- ---- where the body ends (RFC 9112, section 6.3)
 

@@ -7,7 +7,7 @@ use Rattle.as2_framing.specs.declared.chunked.BodyPiece.TheVariants as fed
 use Rattle.httparse.specs.Grammar.{RequestHead}
 use Rattle.as2_framing.specs.HeadText.{unblank, HasHeadText}
 use Rattle.as2_framing.specs.HeadPieces.{HoldsHead}
-use Rattle.as2_messages.specs.Requests.{Frames, Begins, IsRefused, IsOpen, method_of, target_of, is_head, is_last_request}
+use Rattle.as2_messages.specs.Requests.{Frames, BeginsRequest, BeginsNoRequest, IsOpen, method_of, target_of, is_head, is_last_request}
 use Rattle.as2_messages.specs.declared.framing.Refused.{Refused}
 use Rattle.as2_messages.specs.declared.framing.RequestFault.{RequestFault}
 use Rattle.as2_messages.specs.declared.framing.RequestFault.TheVariants.{BadChunk, TooLarge}
@@ -33,7 +33,7 @@ pub record Awaits (a : Awaited) (text rest : List ℕ) : Type 0 where
 
 -- the text that a head with these bytes stands in front of is refused so
 abbrev pub RefusesHead : List ℕ → NotAwaited → Type 0
-RefusesHead head (not_awaited.Refused refused) = (text after : List ℕ) → HasHeadText text head after → IsRefused text refused
+RefusesHead head (not_awaited.Refused refused) = (text after : List ℕ) → HasHeadText text head after → BeginsNoRequest text refused
 RefusesHead head not_awaited.Memory = ⊤
 
 -- the refusal of a request of that method
@@ -43,9 +43,9 @@ refused_for reason a = record { reason = reason; to_head = is_head a.request.met
 -- what all of the rest tells of a request that is awaited
 abbrev pub FeedsRequest : Awaited → Awaited → List ℕ → List ℕ → BodyPiece → Type 0
 FeedsRequest old new text rest fed.Open = IsMissing new.missing × IsOpen text × Awaits new text []
-FeedsRequest old new text rest (fed.Whole n) = (IsMissing old.missing → 0 < n) × (n ≤ length rest) × Begins text new.request (drop n rest)
-FeedsRequest old new text rest fed.Bad = IsRefused text (refused_for BadChunk new)
-FeedsRequest old new text rest fed.TooLarge = IsRefused text (refused_for TooLarge new)
+FeedsRequest old new text rest (fed.Whole n) = (IsMissing old.missing → 0 < n) × (n ≤ length rest) × BeginsRequest text new.request (drop n rest)
+FeedsRequest old new text rest fed.Bad = BeginsNoRequest text (refused_for BadChunk new)
+FeedsRequest old new text rest fed.TooLarge = BeginsNoRequest text (refused_for TooLarge new)
 
 -- the text is less than a request: a part of a head is kept, or a request with a part of its body
 abbrev pub HasTakenBy : HeadBytes → Option Awaited → List ℕ → Type 0
@@ -60,7 +60,7 @@ abbrev pub IsSpent : RequestParser → Type 0
 IsSpent p = IsTrue p.is_spent
 
 -- the head of a request is there, in the text or with so many bytes of the piece, and the rest of the piece is to be taken
-pub record Framed (head : HeadBytes) (a : Awaited) (text bytes : List ℕ) (from : ℕ) : Type 0 where
+pub record HasHead (head : HeadBytes) (a : Awaited) (text bytes : List ℕ) (from : ℕ) : Type 0 where
   pub empty : HoldsHead head []
   pub some : from ≡ 0 → IsMissing a.missing
   pub awaits : Awaits a (text ++ bytes) (drop from bytes)
@@ -69,14 +69,14 @@ pub record Framed (head : HeadBytes) (a : Awaited) (text bytes : List ℕ) (from
 pub record EndsRequest (p : RequestParser) (text bytes : List ℕ) (r : Request) (n : ℕ) : Type 0 where
   pub some : 0 < n
   pub within : n ≤ length bytes
-  pub begins : Begins (text ++ bytes) r (drop n bytes)
+  pub begins : BeginsRequest (text ++ bytes) r (drop n bytes)
   pub empty : HasTaken p []
 
 -- what the text and the piece behind it begin with
 abbrev pub Parses : RequestParser → List ℕ → List ℕ → Parsed → Type 0
 Parses p text bytes parsed.Open = IsOpen (text ++ bytes) × HasTaken p (text ++ bytes)
 Parses p text bytes (parsed.Request r n) = EndsRequest p text bytes r n
-Parses p text bytes (parsed.Refused refused) = IsRefused (text ++ bytes) refused
+Parses p text bytes (parsed.Refused refused) = BeginsNoRequest (text ++ bytes) refused
 
 -- the text has nothing but CR and LF bytes, or more
 abbrev pub TellsBlank : List ℕ → Bool → Type 0

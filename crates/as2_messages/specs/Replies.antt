@@ -33,10 +33,10 @@ abbrev pub line_fields : ℕ → List ℕ
 line_fields n = report_line (codes "Content-Type: text/plain\r\nContent-Length: ") (decimal n)
 
 -- the head fields that a body has
-abbrev pub content_fields : HttpBody → List ℕ
-content_fields Nothing = codes "Content-Length: 0\r\n"
-content_fields (Words line) = line_fields (length (content (Words line)))
-content_fields (Report out bytes) = head_fields_of out (length bytes)
+abbrev pub body_fields : HttpBody → List ℕ
+body_fields Nothing = codes "Content-Length: 0\r\n"
+body_fields (Words line) = line_fields (length (content (Words line)))
+body_fields (Report out bytes) = head_fields_of out (length bytes)
 
 abbrev pub status_line : ℕ → List ℕ
 status_line status = codes "HTTP/1.1 " ++ decimal status ++ codes " " ++ phrase status ++ codes "\r\n"
@@ -53,7 +53,7 @@ reply_start date closes status =
 abbrev pub reply : List ℕ → Form → HttpAnswer → List ℕ
 reply date form answer =
     reply_start date form.closes answer.status
-    ++ content_fields answer.body
+    ++ body_fields answer.body
     ++ codes "\r\n"
     ++ (if not form.to_head then content answer.body else [])
 

@@ -24,15 +24,15 @@ use Rattle.as2_messages.specs.declared.request.Request.{Request}
 -- ---- the head
 
 -- these fields behind those, where a head takes each: it has at most 64
-abbrev pub appended : Fields → Fields → Option Fields
-appended fields [] = Some fields
-appended fields (f ∷ more) =
-    if is_field f.0 f.1 then (if nat_lt (length fields) 64 then appended (fields ++ field_of f.0 f.1 ∷ []) more else None)
+abbrev pub fields_behind : Fields → Fields → Option Fields
+fields_behind fields [] = Some fields
+fields_behind fields (f ∷ more) =
+    if is_field f.0 f.1 then (if nat_lt (length fields) 64 then fields_behind (fields ++ field_of f.0 f.1 ∷ []) more else None)
     else None
 
 -- the bytes are the head of a request and nothing else, and its fields are those
 abbrev pub IsHead : List ℕ → RequestHead → Fields → Type 0
-IsHead bytes head fields = ReadsRequest bytes head [] × (appended [] (map name_and_value head.fields) ≡ Some fields)
+IsHead bytes head fields = ReadsRequest bytes head [] × (fields_behind [] (map name_and_value head.fields) ≡ Some fields)
 
 -- the method, of those that an answer depends on (RFC 9110, section 9.3)
 abbrev pub method_of : List ℕ → Method
@@ -79,7 +79,7 @@ pub record Frames (text : List ℕ) (head : RequestHead) (fields : Fields) (afte
   pub framed : body_framing head.minor (method_of head.method) fields ≡ framing
 
 -- the text begins with that request, and then comes the rest
-pub record Begins (text : List ℕ) (r : Request) (rest : List ℕ) : Type 0 where
+pub record BeginsRequest (text : List ℕ) (r : Request) (rest : List ℕ) : Type 0 where
   pub head : RequestHead
   pub after : List ℕ
   pub how : BodyFraming
@@ -101,12 +101,12 @@ is_head method.Other = false
 
 -- The text begins with no request, however it goes on: no head ends within its limit, the bytes up to the first empty line are no
 -- head, the framing is refused, or what came of the body.
-pub data IsRefused (text : List ℕ) (refused : Refused) : Type 0 where
-  too_long : (none : HasNoHeadText text) (long : head_limit ≤ length text) (is : refused ≡ bad_head) → IsRefused text refused
-  no_head : (bytes after : List ℕ) (found : HasHeadText text bytes after) (never : (head : RequestHead) (fields : Fields) → ¬ (IsHead bytes head fields)) (is : refused ≡ bad_head) → IsRefused text refused
-  framing : (head : RequestHead) (fields : Fields) (after : List ℕ) (frames : Frames text head fields after (Err refused.reason)) (is : refused.to_head ≡ is_head (method_of head.method)) → IsRefused text refused
+pub data BeginsNoRequest (text : List ℕ) (refused : Refused) : Type 0 where
+  too_long : (none : HasNoHeadText text) (long : head_limit ≤ length text) (is : refused ≡ bad_head) → BeginsNoRequest text refused
+  no_head : (bytes after : List ℕ) (found : HasHeadText text bytes after) (never : (head : RequestHead) (fields : Fields) → ¬ (IsHead bytes head fields)) (is : refused ≡ bad_head) → BeginsNoRequest text refused
+  framing : (head : RequestHead) (fields : Fields) (after : List ℕ) (frames : Frames text head fields after (Err refused.reason)) (is : refused.to_head ≡ is_head (method_of head.method)) → BeginsNoRequest text refused
   faulty_body : (head : RequestHead) (fields : Fields) (after : List ℕ) (how : BodyFraming) (frames : Frames text head fields after (Ok how)) (faulty : IsFaultyBody how after refused.reason)
-      (is : refused.to_head ≡ is_head (method_of head.method)) → IsRefused text refused
+      (is : refused.to_head ≡ is_head (method_of head.method)) → BeginsNoRequest text refused
 
 -- the text ends before its first request does: before its head, or before its body
 pub data IsOpen (text : List ℕ) : Type 0 where

@@ -1,7 +1,7 @@
 //! The answer that bytes begin with which come in any pieces (RFC 9112, section 2.1). No reader is known here.
 ghost use Rattle.std.specs.Prelude.{◌≡◌, ◌≤◌, List, ℕ, [], ◌++◌, length, drop, None, IfOk, OnErr, IsErr};
 ghost use Rattle.as2_framing.specs.HeadPieces.{EndsHead};
-ghost use Rattle.as2_messages.specs.AnswerPieces.{AwaitsAnswer, EndsAnswer, HasKept, HoldsEnd, IsSpent, ParsesAnswer, Takes};
+ghost use Rattle.as2_messages.specs.AnswerPieces.{AwaitsAnswer, EndsAnswer, HasKept, HoldsEnd, IsSpent, ParsesAnswer, IsTakenAs};
 
 use crate::answer_head::{BodyEnd, JudgedAnswer, judge_answer};
 use crate::request::NotJudged;
@@ -75,7 +75,7 @@ pub enum ParsedAnswer {
 
 /// Takes what is there of a body whose end the head tells.
 fn take_framed(answer: ReceivedAnswer, missing: MissingBody, bytes: &[u8]) -> Result<Taken, Memory>
-    ensures { IfOk result (λ t. (text : List ℕ) → AwaitsAnswer (record { answer = answer; missing = MissingEnd.Body missing }) text bytes.now → Takes text t) }
+    ensures { IfOk result (λ t. (text : List ℕ) → AwaitsAnswer (record { answer = answer; missing = MissingEnd.Body missing }) text bytes.now → IsTakenAs text t) }
 {
     let mut answer = answer;
     let mut missing = missing;
@@ -91,7 +91,7 @@ fn take_framed(answer: ReceivedAnswer, missing: MissingBody, bytes: &[u8]) -> Re
 
 /// Takes more of a body that ends with the input.
 fn take_all(answer: ReceivedAnswer, bytes: &[u8]) -> Result<Taken, Memory>
-    ensures { IfOk result (λ t. (text : List ℕ) → AwaitsAnswer (record { answer = answer; missing = MissingEnd.Input }) text bytes.now → Takes text t) }
+    ensures { IfOk result (λ t. (text : List ℕ) → AwaitsAnswer (record { answer = answer; missing = MissingEnd.Input }) text bytes.now → IsTakenAs text t) }
 {
     let mut answer = answer;
     if bytes.len() > BODY_LIMIT.saturating_sub(answer.body.len()) {
@@ -106,7 +106,7 @@ fn take_all(answer: ReceivedAnswer, bytes: &[u8]) -> Result<Taken, Memory>
 
 /// Takes what is there of the body of an answer.
 fn take(awaited: AwaitedAnswer, bytes: &[u8]) -> Result<Taken, Memory>
-    ensures { IfOk result (λ t. (text : List ℕ) → AwaitsAnswer awaited text bytes.now → Takes text t) }
+    ensures { IfOk result (λ t. (text : List ℕ) → AwaitsAnswer awaited text bytes.now → IsTakenAs text t) }
 {
     let AwaitedAnswer { answer, missing } = awaited;
     match missing {

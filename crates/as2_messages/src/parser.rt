@@ -3,7 +3,7 @@ ghost use Rattle.std.specs.Prelude.{◌≡◌, ◌≤◌, List, ℕ, [], ◌++�
 ghost use Rattle.as2_framing.specs.HeadText.{HasHeadText};
 ghost use Rattle.as2_framing.specs.ChunkPieces.{BodyWithin};
 ghost use Rattle.as2_framing.specs.HeadPieces.{EndsHead};
-ghost use Rattle.as2_messages.specs.Parsing.{Awaits, FeedsRequest, Framed, HasTaken, IsSpent, RefusesHead, Parses, TellsBlank, refused_for};
+ghost use Rattle.as2_messages.specs.Parsing.{Awaits, FeedsRequest, HasHead, HasTaken, IsSpent, RefusesHead, Parses, TellsBlank, refused_for};
 
 use crate::framing::{Refused, RequestFault};
 use crate::request::{NotJudged, Request, judge};
@@ -120,7 +120,7 @@ impl RequestParser {
     fn take_body(&mut self, awaited: Awaited, bytes: &[u8], from: usize) -> Result<Parsed, Memory>
         requires within { from ≤ length bytes.now }
         requires none { self.old.awaited ≡ None }
-        ensures { IfOk result (λ p. (text : List ℕ) → Framed self.old.head awaited text bytes.now from → Parses self.new text bytes.now p) }
+        ensures { IfOk result (λ p. (text : List ℕ) → HasHead self.old.head awaited text bytes.now from → Parses self.new text bytes.now p) }
     {
         let mut awaited = awaited;
         match awaited.feed(&bytes[from..])? {

@@ -1,7 +1,7 @@
 //! The texts of replies (RFC 9112, section 4).
 ghost use Rattle.std.specs.Prelude.{◌≡◌, ◌++◌, List, ℕ, [], if◌then◌else◌, length, IfOk, OnOk};
 ghost use Rattle.as2_exchange.specs.Lines.{refusal};
-ghost use Rattle.as2_messages.specs.Replies.{IsDateOf, IsReply, content, content_fields, line_fields, phrase, refusal_line, reply, reply_start, status_line};
+ghost use Rattle.as2_messages.specs.Replies.{IsDateOf, IsReply, content, body_fields, line_fields, phrase, refusal_line, reply, reply_start, status_line};
 
 use crate::framing::RequestFault;
 use as2_exchange::{HttpAnswer, HttpBody, Line};
@@ -86,7 +86,7 @@ fn add_line_fields(text: &mut Vec<u8>, size: usize) -> Result<(), AllocError>
 
 /// Appends the head fields of a body.
 fn add_fields(alloc: Global, text: &mut Vec<u8>, body: &HttpBody) -> Result<(), Memory>
-    ensures { OnOk result (text.new.items ≡ text.old.items ++ content_fields body.now) }
+    ensures { OnOk result (text.new.items ≡ text.old.items ++ body_fields body.now) }
 {
     match body {
         HttpBody::Nothing => text.extend_from_slice(b"Content-Length: 0\r\n")?,

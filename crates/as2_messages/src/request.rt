@@ -2,7 +2,7 @@
 ghost use Rattle.std.specs.Prelude.{◌≡◌, ◌≤◌, List, ℕ, length, map, codes, All, IfOk, Some, None, Ok, Err, []};
 ghost use Rattle.httparse.specs.Grammar.{RequestHead};
 ghost use Rattle.httparse.specs.Spans.{IsHeaderWithin, header_bytes};
-ghost use Rattle.as2_messages.specs.Requests.{Fields, IsHead, appended, method_of, target_of, body_framing, framing_by_lengths, is_last_request};
+ghost use Rattle.as2_messages.specs.Requests.{Fields, IsHead, fields_behind, method_of, target_of, body_framing, framing_by_lengths, is_last_request};
 ghost use Rattle.as2_names.specs.Heads.{values};
 ghost use Rattle.as2_messages.specs.Reading.{Judges};
 
@@ -106,8 +106,8 @@ fn is_last(minor: u8, fields: &Head) -> bool
 /// The fields of a head.
 pub(crate) fn fields_of(alloc: Global, text: &[u8], spans: &[HeaderSpan]) -> Result<Head, NotJudged>
     requires within { All (IsHeaderWithin (length text.now)) spans.now }
-    ensures found { IfOk result (λ fields. appended [] (map (header_bytes text.now) spans.now) ≡ Some fields) }
-    ensures none { result ≡ Err NotJudged.BadHead → appended [] (map (header_bytes text.now) spans.now) ≡ None }
+    ensures found { IfOk result (λ fields. fields_behind [] (map (header_bytes text.now) spans.now) ≡ Some fields) }
+    ensures none { result ≡ Err NotJudged.BadHead → fields_behind [] (map (header_bytes text.now) spans.now) ≡ None }
 {
     let mut fields = Head::new(alloc);
     for span in spans {

@@ -17,5 +17,5 @@ IsFed (hasher.Sha256 h) alg.Sha256 fed = sha2.Holds256 h fed
 IsFed _ _ fed = ⊥
 
 -- the digester makes MICs of that digest, and was fed those bytes
-abbrev pub Fed : Digester → Alg → List ℕ → Type 0
-Fed digester alg fed = IsFed digester.hasher alg fed
+abbrev pub HasDigested : Digester → Alg → List ℕ → Type 0
+HasDigested digester alg fed = IsFed digester.hasher alg fed

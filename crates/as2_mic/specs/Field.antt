@@ -8,7 +8,7 @@ use Rattle.as2_mic.specs.Algs.{Digests, alg_named}
 use Rattle.as2_names.specs.Ascii.{comma}
 use Rattle.as2_names.specs.Cuts.{IsCutAt}
 use Rattle.as2_mic.specs.Mic.{mic}
-use Rattle.as2_names.specs.Trim.{trimmed}
+use Rattle.as2_names.specs.Trim.{trimmed_text}
 
 -- a field: the text of the MIC and the name of the digest
 abbrev pub given_mic : List ℕ × List ℕ → List ℕ
@@ -23,8 +23,8 @@ pub record IsMicField (value : List ℕ) (field : List ℕ × List ℕ) : Type 0
   pub before : List ℕ
   pub behind : List ℕ
   pub cut : IsCutAt comma value before behind
-  pub mic : given_mic field ≡ trimmed before
-  pub digest : given_digest field ≡ trimmed behind
+  pub mic : given_mic field ≡ trimmed_text before
+  pub digest : given_digest field ≡ trimmed_text behind
   pub has_mic : given_mic field ≢ []
   pub has_digest : given_digest field ≢ []
 
@@ -38,5 +38,5 @@ compared_under (Some alg) text content = compared_to text (mic alg content)
 compared_under None text content = UnknownAlg
 
 -- what comes of comparing a content with a field, where these digests are known
-abbrev pub compared : Digests → List ℕ × List ℕ → List ℕ → Compared
-compared known field content = compared_under (alg_named known (given_digest field)) (given_mic field) content
+abbrev pub comparison : Digests → List ℕ × List ℕ → List ℕ → Compared
+comparison known field content = compared_under (alg_named known (given_digest field)) (given_mic field) content

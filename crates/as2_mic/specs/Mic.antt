@@ -15,11 +15,11 @@ digest Sha1 content = sha1 content
 digest Sha256 content = sha256 content
 
 -- the base64 text, with padding
-abbrev pub encoded : List ℕ → List ℕ
-encoded bytes = encode_of standard bytes
+abbrev pub base64_text : List ℕ → List ℕ
+base64_text bytes = encode_of standard bytes
 
 abbrev pub mic : Alg → List ℕ → List ℕ
-mic alg content = encoded (digest alg content)
+mic alg content = base64_text (digest alg content)
 
 -- what is kept as the text of a MIC: 1 to 44 bytes
 pub record IsMicText (text : List ℕ) : Type 0 where

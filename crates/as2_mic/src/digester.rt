@@ -1,7 +1,7 @@
 ghost use Rattle.std.specs.Prelude.{◌≡◌, ℕ, List, [], ◌++◌};
 ghost use Rattle.as2_mic.specs.declared.alg.Alg.{Alg as Digest};
 ghost use Rattle.as2_mic.specs.Mic.{mic};
-ghost use Rattle.as2_mic.specs.Fed.{IsFed, Fed};
+ghost use Rattle.as2_mic.specs.Fed.{IsFed, HasDigested};
 
 use crate::mic_text::spelled;
 use crate::{Alg, MicText};
@@ -26,7 +26,7 @@ pub struct Digester {
 impl Digester {
     /// A digester that was fed nothing.
     pub fn new(alg: Alg) -> Digester
-        ensures { Fed result alg [] }
+        ensures { HasDigested result alg [] }
     {
         let hasher = match alg {
             Alg::Md5 => Hasher::Md5(Md5::new()),
@@ -38,7 +38,7 @@ impl Digester {
 
     /// Feeds the next piece of the content.
     pub fn update(&mut self, piece: &[u8])
-        ensures { (alg : Digest) (fed : List ℕ) → Fed self.old alg fed → Fed self.new alg (fed ++ piece.now) }
+        ensures { (alg : Digest) (fed : List ℕ) → HasDigested self.old alg fed → HasDigested self.new alg (fed ++ piece.now) }
     {
         match &mut self.hasher {
             Hasher::Md5(hasher) => hasher.update(piece),
@@ -49,7 +49,7 @@ impl Digester {
 
     /// The MIC of all that was fed.
     pub fn finish(self) -> MicText
-        ensures { (alg : Digest) (fed : List ℕ) → Fed self alg fed → result ≡ mic alg fed }
+        ensures { (alg : Digest) (fed : List ℕ) → HasDigested self alg fed → result ≡ mic alg fed }
     {
         match self.hasher {
             Hasher::Md5(hasher) => spelled(&hasher.finalize()),

@@ -1,6 +1,6 @@
 ghost use Rattle.std.specs.Prelude.{◌≡◌, ℕ, List, Some, IfSome, IfNone};
 ghost use Rattle.as2_mic.specs.Algs.{AllDigests};
-ghost use Rattle.as2_mic.specs.Field.{IsMicField, compared, compared_to};
+ghost use Rattle.as2_mic.specs.Field.{IsMicField, comparison, compared_to};
 
 use crate::{Alg, MicText, Pieces, mic_of, mic_of_pieces};
 use as2_names::{cut_at, without_blanks_and_line_ends};
@@ -81,7 +81,7 @@ impl<'a> MicField<'a> {
 
     /// Compares the MIC that the field gives with the one of the content.
     pub fn compare(&self, content: &[u8]) -> Compared
-        ensures { result ≡ compared AllDigests self.now content.now }
+        ensures { result ≡ comparison AllDigests self.now content.now }
     {
         match Alg::named(self.digest) {
             Some(alg) => compared_to(self.mic, &mic_of(alg, content)),
@@ -91,7 +91,7 @@ impl<'a> MicField<'a> {
 
     /// Compares the MIC that the field gives with the one of a content in pieces.
     pub fn compare_pieces(&self, content: &Pieces) -> Compared
-        ensures { result ≡ compared AllDigests self.now content.now }
+        ensures { result ≡ comparison AllDigests self.now content.now }
     {
         match Alg::named(self.digest) {
             Some(alg) => compared_to(self.mic, &mic_of_pieces(alg, content)),

@@ -1,5 +1,5 @@
 ghost use Rattle.std.specs.Prelude.{◌≡◌, ◌<◌, ◌≤◌, length};
-ghost use Rattle.as2_mic.specs.Mic.{IsMicText, mic_text, encoded};
+ghost use Rattle.as2_mic.specs.Mic.{IsMicText, mic_text, base64_text};
 
 use base64::engine::general_purpose::STANDARD;
 use std::marker::Model;
@@ -36,7 +36,7 @@ impl Model for MicText {
 pub fn spelled(digest: &[u8]) -> MicText
     requires some { 0 < length digest.now }
     requires short { length digest.now ≤ 32 }
-    ensures { result ≡ encoded digest.now }
+    ensures { result ≡ base64_text digest.now }
 {
     let mut bytes = [0u8; MOST];
     match STANDARD.encode_slice(digest, &mut bytes) {

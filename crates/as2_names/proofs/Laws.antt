@@ -6,12 +6,12 @@ use Rattle.std.proofs.lemmas.Bool.{cases_Bool, and_from}
 use Rattle.std.proofs.lemmas.Bool.Decides.{nat_tests}
 use Rattle.std.proofs.lemmas.List.{length_push, take_at, get_or_push}
 use Rattle.as2_names.specs.Ascii.{open_angle, close_angle}
-use Rattle.as2_names.specs.Identifiers.{is_bracketed, value_of}
+use Rattle.as2_names.specs.Identifiers.{is_bracketed, without_brackets}
 use Rattle.as2_names.specs.Heads.{values}
 
 -- the value of a text between angle brackets is what stands between them
-pub value_of-bracketed : (value : List ℕ) → value_of (open_angle ∷ value ++ close_angle ∷ []) ≡ value
-unfolding value_of
+pub value_of-bracketed : (value : List ℕ) → without_brackets (open_angle ∷ value ++ close_angle ∷ []) ≡ value
+unfolding without_brackets
 value_of-bracketed value =
     let text = open_angle ∷ value ++ close_angle ∷ [] in
     let long : length text ≡ length value + 2 = omega (arith, length_push (open_angle ∷ value) close_angle) in

@@ -6,7 +6,7 @@ use Rattle.std.proofs.lemmas.Bool.{cases_Bool, and_parts}
 use Rattle.std.proofs.lemmas.Bool.Decides.{nat_tests}
 use Rattle.std.proofs.lemmas.Str.{IsUtf8-from_ascii, IsAscii-take, IsAscii-drop}
 use Rattle.as2_names.specs.Ascii.{is_printable}
-use Rattle.as2_names.specs.Identifiers.{is_bracketed, value_of}
+use Rattle.as2_names.specs.Identifiers.{is_bracketed, without_brackets}
 
 printable_small : (b : ℕ) → is_printable b ≡ true → b < 128
 printable_small b h = grind (arith, nat_tests)
@@ -23,8 +23,8 @@ pub printable_text : (bs : List ℕ) → list_all is_printable bs ≡ true → I
 printable_text bs h = IsUtf8-from_ascii bs (printable_ascii bs h)
 
 -- the value of a printable text is text
-pub value_text : (text : List ℕ) → list_all is_printable text ≡ true → IsUtf8 (value_of text)
-unfolding value_of
+pub value_text : (text : List ℕ) → list_all is_printable text ≡ true → IsUtf8 (without_brackets text)
+unfolding without_brackets
 value_text text h =
     elim (cases_Bool (is_bracketed text)) [
       | inl bracketed ↦ rw bracketed (IsUtf8-from_ascii _ (IsAscii-take (drop 1 text) (length text - 1 - 1) (IsAscii-drop text 1 (printable_ascii text h))))

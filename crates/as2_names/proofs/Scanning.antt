@@ -5,7 +5,7 @@ use Rattle.std.proofs.lemmas.Bool.Decides.{nat_tests}
 use Rattle.std.proofs.lemmas.List.{append-nil, take_all, take_at, take-append-le, length-take, length_push}
 use Rattle.std.proofs.lemmas.List.Folds.{list_all-append}
 use Rattle.as2_names.specs.Ascii.{quote, backslash, is_printable}
-use Rattle.as2_names.specs.Names.{units, with_front, is_escaped_mark, fitted, fitting, IsName}
+use Rattle.as2_names.specs.Names.{units, with_front, is_escaped_mark, limited_name, limited_units, IsName}
 use Rattle.as2_names.specs.Scan.{Scans}
 
 pub take_push : (n : ℕ) (met : List ℕ) (b : ℕ) → take n (take n met ++ b ∷ []) ≡ take n (met ++ b ∷ [])
@@ -48,5 +48,5 @@ met_all text items count s le = s.first ∙ take_all 128 s.met (omega (arith, s.
 pub scanned_name : (text items : List ℕ) (count : ℕ) → Scans text items count false (quote ∷ []) → 0 < count → count ≤ 128 → IsName items
 scanned_name text items count s lt le = rw (met_all text items count s le) (record { some = omega (arith, s.all); short = omega (arith, s.all); printable = s.printable })
 
-pub finished : (text items : List ℕ) (count : ℕ) (s : Scans text items count false (quote ∷ [])) → fitted (units false text) ≡ fitting s.met
-finished text items count s = ap fitted (sym s.whole) ∙ ap fitting (append-nil s.met)
+pub finished : (text items : List ℕ) (count : ℕ) (s : Scans text items count false (quote ∷ [])) → limited_name (units false text) ≡ limited_units s.met
+finished text items count s = ap limited_name (sym s.whole) ∙ ap limited_units (append-nil s.met)

@@ -7,7 +7,7 @@ use Rattle.std.proofs.lemmas.Bool.Decides.{nat_tests}
 use Rattle.as2_names.specs.declared.name.NameFault.{NameFault}
 use Rattle.as2_names.specs.declared.name.NameFault.TheVariants.{Empty, TooLong, BadByte, BadQuoting}
 use Rattle.as2_names.specs.Ascii.{quote, backslash, is_printable}
-use Rattle.as2_names.specs.Names.{units, at_closing_quote, with_front, is_escaped_mark, is_text_byte, fitting, fitted, atomic, reading, IsName, Spells, escaped, quoted}
+use Rattle.as2_names.specs.Names.{units, at_closing_quote, with_front, is_escaped_mark, is_text_byte, limited_units, limited_name, atomic, name_reading, IsName, Spells, quoted_byte, quoted_name}
 use Rattle.as2_names.specs.Scan.{Scans}
 use Rattle.as2_names.proofs.Scanning.{special_printable, met_all, scanned_name, finished}
 
@@ -53,7 +53,7 @@ abbrev with_backslash : Bool → List ℕ → List ℕ
 with_backslash escaping text = cond escaping (backslash ∷ text) text
 
 record Unquotes (escaping : Bool) (text name : List ℕ) : Type 0 where
-  pub spelled : with_backslash escaping text ≡ flat_map escaped name ++ quote ∷ []
+  pub spelled : with_backslash escaping text ≡ flat_map quoted_byte name ++ quote ∷ []
   pub printable : list_all is_printable name ≡ true
 
 unquotes_special : (b : ℕ) (rest more : List ℕ) → is_escaped_mark b ≡ true → Unquotes false rest more → Unquotes true (b ∷ rest) (b ∷ more)
@@ -97,7 +97,7 @@ units_take false (b ∷ rest) name h =
           ]
     ]
 
-units_again : (name : List ℕ) → list_all is_printable name ≡ true → NameRead (units false (flat_map escaped name ++ quote ∷ [])) name
+units_again : (name : List ℕ) → list_all is_printable name ≡ true → NameRead (units false (flat_map quoted_byte name ++ quote ∷ [])) name
 units_again [] h = refl
 units_again (b ∷ more) h =
     let p = and_parts (is_printable b) (list_all is_printable more) h in
@@ -111,7 +111,7 @@ units_again (b ∷ more) h =
 
 -- ---- the whole name
 
-fits : (us name : List ℕ) → NameRead (fitting us) name → (us ≡ name) × (0 < length name) × (length name ≤ 128)
+fits : (us name : List ℕ) → NameRead (limited_units us) name → (us ≡ name) × (0 < length name) × (length name ≤ 128)
 fits us name h =
     elim (read_chosen (eqb (length us) 0) (Err Empty) (cond (ltb 128 (length us)) (Err TooLong) (Ok us)) name h) [
       | inl x ↦ absurd cc
@@ -126,17 +126,17 @@ fits us name h =
           ]
     ]
 
-pub fits_again : (name : List ℕ) → IsName name → NameRead (fitting name) name
+pub fits_again : (name : List ℕ) → IsName name → NameRead (limited_units name) name
 fits_again name n =
     let some : eqb (length name) 0 ≡ false = ne_eqb (length name) 0 (λ e. absurd (omega (arith, n.some))) in
     let short : ltb 128 (length name) ≡ false = le-ltb 128 (length name) n.short in
     rw (some, short) refl
 
-fitted_ok : (r : Result (List ℕ) NameFault) (name : List ℕ) → NameRead (fitted r) name → (us : List ℕ) × NameRead r us × NameRead (fitting us) name
+fitted_ok : (r : Result (List ℕ) NameFault) (name : List ℕ) → NameRead (limited_name r) name → (us : List ℕ) × NameRead r us × NameRead (limited_units us) name
 fitted_ok (Ok us) name h = (us, refl, h)
 fitted_ok (Err e) name h = absurd cc
 
-quoted_found : (rest name : List ℕ) → NameRead (fitted (units false rest)) name → IsName name × (quote ∷ rest ≡ quoted name)
+quoted_found : (rest name : List ℕ) → NameRead (limited_name (units false rest)) name → IsName name × (quote ∷ rest ≡ quoted_name name)
 quoted_found rest name h =
     let f = fitted_ok (units false rest) name h in
     let g = fits f.0 name f.2 in
@@ -146,15 +146,15 @@ quoted_found rest name h =
 
 atomic_found : (text name : List ℕ) → NameRead (atomic text) name → IsName name × (list_all is_text_byte name ≡ true) × (text ≡ name)
 atomic_found text name h =
-    let g = guard_ok (list_all is_text_byte text) BadByte (fitting text) name h in
+    let g = guard_ok (list_all is_text_byte text) BadByte (limited_units text) name h in
     let f = fits text name g.1 in
     let e : text ≡ name = f.0 in
     (record { some = f.1; short = f.2; printable = rw (← e) (all_text_printable text g.0) }, rw (← e) g.0, e)
 
-pub found : (text name : List ℕ) → NameRead (reading text) name → Spells text name
+pub found : (text name : List ℕ) → NameRead (name_reading text) name → Spells text name
 found [] name h = absurd cc
 found (b ∷ rest) name h =
-    elim (read_chosen (eqb b quote) (fitted (units false rest)) (atomic (b ∷ rest)) name h) [
+    elim (read_chosen (eqb b quote) (limited_name (units false rest)) (atomic (b ∷ rest)) name h) [
       | inl x ↦
           let q = quoted_found rest name x.1 in
           (q.0, inr (rw (eqb-true b quote x.0) q.1))
@@ -163,24 +163,24 @@ found (b ∷ rest) name h =
           (a.0, inl (a.1, a.2))
     ]
 
-atomic_again : (name : List ℕ) → IsName name → list_all is_text_byte name ≡ true → NameRead (reading name) name
+atomic_again : (name : List ℕ) → IsName name → list_all is_text_byte name ≡ true → NameRead (name_reading name) name
 atomic_again [] n t = absurd (omega (arith, n.some))
 atomic_again (b ∷ more) n t =
     let p = and_parts (is_text_byte b) (list_all is_text_byte more) t in
     rw (t, text_plain b p.0) (fits_again (b ∷ more) n)
 
-pub again : (text name : List ℕ) → Spells text name → NameRead (reading text) name
+pub again : (text name : List ℕ) → Spells text name → NameRead (name_reading text) name
 again text name s =
     elim s.1 [
       | inl x ↦ rw x.1 (atomic_again name s.0 x.0)
       | inr x ↦ rw (x, units_again name s.0.printable) (fits_again name s.0)
     ]
 
-pub found_by : (text : List ℕ) (r : Result (List ℕ) NameFault) → r ≡ reading text → IfOk r (Spells text)
+pub found_by : (text : List ℕ) (r : Result (List ℕ) NameFault) → r ≡ name_reading text → IfOk r (Spells text)
 found_by text (Ok name) e = found text name (sym e)
 found_by text (Err f) e = tt
 
-pub finish_ok : (text items : List ℕ) (count : ℕ) → Scans text items count false (quote ∷ []) → 0 < count → count ≤ 128 → NameRead (fitted (units false text)) items
+pub finish_ok : (text items : List ℕ) (count : ℕ) → Scans text items count false (quote ∷ []) → 0 < count → count ≤ 128 → NameRead (limited_name (units false text)) items
 finish_ok text items count s lt le =
     let m = met_all text items count s le in
     let n = scanned_name text items count s lt le in

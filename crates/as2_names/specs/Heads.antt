@@ -41,10 +41,10 @@ values name [] = []
 values name (field ∷ rest) = if bytes_eq field.0 name then field.1 ∷ values name rest else values name rest
 
 -- none of the values, the only one, or that there are more
-abbrev pub Tells : Once → List (List ℕ) → Type 0
-Tells once.Absent vs = vs ≡ []
-Tells (once.One v) vs = vs ≡ v.now ∷ []
-Tells once.Twice vs = (a b : List ℕ) × (others : List (List ℕ)) × (vs ≡ a ∷ b ∷ others)
+abbrev pub IsOnceOf : Once → List (List ℕ) → Type 0
+IsOnceOf once.Absent vs = vs ≡ []
+IsOnceOf (once.One v) vs = vs ≡ v.now ∷ []
+IsOnceOf once.Twice vs = (a b : List ℕ) × (others : List (List ℕ)) × (vs ≡ a ∷ b ∷ others)
 
 -- the value that is told, if there is one, has no blanks at its ends
 abbrev pub IsTrimmed : Once → Type 0
@@ -61,6 +61,6 @@ append_fault name value head =
     else None
 
 -- the answer is the fault, or there is none; where there is none, memory may be wanting
-abbrev pub Answers : {A : Type 0} → Result A HeadFault → Option HeadFault → Type 0
-Answers (Ok done) first = first ≡ None
-Answers (Err e) first = (first ≡ Some e) ⊎ ((first ≡ None) × (e ≡ fault.Memory))
+abbrev pub FailsBy : {A : Type 0} → Result A HeadFault → Option HeadFault → Type 0
+FailsBy (Ok done) first = first ≡ None
+FailsBy (Err e) first = (first ≡ Some e) ⊎ ((first ≡ None) × (e ≡ fault.Memory))

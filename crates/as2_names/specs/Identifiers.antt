@@ -16,37 +16,37 @@ is_bracketed text =
     && slice_index text (length text - 1) == close_angle
 
 -- the text without one surrounding pair `<` `>`
-unfoldable pub value_of : List ℕ → List ℕ
-value_of text = if is_bracketed text then slice_range text 1 (length text - 1) else text
+unfoldable pub without_brackets : List ℕ → List ℕ
+without_brackets text = if is_bracketed text then slice_range text 1 (length text - 1) else text
 
 -- an identifier, as it is received
 pub record IsIdentifier (text : List ℕ) : Type 0 where
   pub bare : without_blanks text ≡ text
   pub printable : IsTrue (list_all is_printable text)
-  pub some : 0 < length (value_of text)
-  pub short : length (value_of text) ≤ 998
+  pub some : 0 < length (without_brackets text)
+  pub short : length (without_brackets text) ≤ 998
 
 -- the text is one
 abbrev pub is_identifier : List ℕ → Bool
 is_identifier text =
     bytes_eq (without_blanks text) text
-    && not (length (value_of text) == 0)
-    && nat_le (length (value_of text)) 998
+    && not (length (without_brackets text) == 0)
+    && nat_le (length (without_brackets text)) 998
     && list_all is_printable text
 
 -- ---- the first fault
 
 -- the text, or its first fault
-abbrev pub identified : List ℕ → Result (List ℕ) IdFault
-identified text =
-    if length (value_of text) == 0 then Err fault.Empty
-    else if nat_lt 998 (length (value_of text)) then Err fault.TooLong
+abbrev pub identifier_of : List ℕ → Result (List ℕ) IdFault
+identifier_of text =
+    if length (without_brackets text) == 0 then Err fault.Empty
+    else if nat_lt 998 (length (without_brackets text)) then Err fault.TooLong
     else if list_all is_printable text then Ok text
     else Err fault.BadByte
 
 -- the identifier that a field holds, or its first fault
-abbrev pub reading : List ℕ → Result (List ℕ) IdFault
-reading field = identified (without_blanks field)
+abbrev pub identifier_reading : List ℕ → Result (List ℕ) IdFault
+identifier_reading field = identifier_of (without_blanks field)
 
 -- that answer, but memory may be wanting for an identifier
 abbrev pub OrNoMemory : Result (List ℕ) IdFault → Result (List ℕ) IdFault → Type 0

@@ -20,20 +20,20 @@ pub record IsName (name : List ℕ) : Type 0 where
   pub printable : IsTrue (list_all is_printable name)
 
 -- a byte as it stands between quotes
-abbrev pub escaped : ℕ → List ℕ
-escaped b = if is_escaped_mark b then backslash ∷ b ∷ [] else b ∷ []
+abbrev pub quoted_byte : ℕ → List ℕ
+quoted_byte b = if is_escaped_mark b then backslash ∷ b ∷ [] else b ∷ []
 
 -- the name between double quotes
-abbrev pub quoted : List ℕ → List ℕ
-quoted name = quote ∷ flat_map escaped name ++ quote ∷ []
+abbrev pub quoted_name : List ℕ → List ℕ
+quoted_name name = quote ∷ flat_map quoted_byte name ++ quote ∷ []
 
 -- The text spells the name: as itself, where it is all AS2-text, or between quotes.
 abbrev pub Spells : List ℕ → List ℕ → Type 0
-Spells text name = IsName name × ((IsTrue (list_all is_text_byte name) × (text ≡ name)) ⊎ (text ≡ quoted name))
+Spells text name = IsName name × ((IsTrue (list_all is_text_byte name) × (text ≡ name)) ⊎ (text ≡ quoted_name name))
 
 -- the spelling that is written: the atomic one where there is one
-abbrev pub spelling : List ℕ → List ℕ
-spelling name = if list_all is_text_byte name then name else quoted name
+abbrev pub name_spelling : List ℕ → List ℕ
+name_spelling name = if list_all is_text_byte name then name else quoted_name name
 
 -- ---- reading from the left, up to the first fault
 
@@ -57,25 +57,25 @@ units false (b ∷ rest) =
     else if is_printable b then with_front (b ∷ []) (units false rest) else Err BadByte
 
 -- the units, where there are 1 to 128
-abbrev pub fitting : List ℕ → Result (List ℕ) NameFault
-fitting units = if length units == 0 then Err Empty else if nat_lt 128 (length units) then Err TooLong else Ok units
+abbrev pub limited_units : List ℕ → Result (List ℕ) NameFault
+limited_units units = if length units == 0 then Err Empty else if nat_lt 128 (length units) then Err TooLong else Ok units
 
 -- the units of a text that could be read, where they fit
-abbrev pub fitted : Result (List ℕ) NameFault → Result (List ℕ) NameFault
-fitted (Ok units) = fitting units
-fitted (Err e) = Err e
+abbrev pub limited_name : Result (List ℕ) NameFault → Result (List ℕ) NameFault
+limited_name (Ok units) = limited_units units
+limited_name (Err e) = Err e
 
 -- the name that an atomic text spells
 abbrev pub atomic : List ℕ → Result (List ℕ) NameFault
-atomic text = if list_all is_text_byte text then fitting text else Err BadByte
+atomic text = if list_all is_text_byte text then limited_units text else Err BadByte
 
 -- the name that a text spells, or its first fault
-abbrev pub reading : List ℕ → Result (List ℕ) NameFault
-reading [] = Err Empty
-reading (b ∷ rest) = if b == quote then fitted (units false rest) else atomic (b ∷ rest)
+abbrev pub name_reading : List ℕ → Result (List ℕ) NameFault
+name_reading [] = Err Empty
+name_reading (b ∷ rest) = if b == quote then limited_name (units false rest) else atomic (b ∷ rest)
 
 -- the name that the bytes are, without a spelling
 abbrev pub plain : List ℕ → Result (List ℕ) NameFault
 plain bytes =
     if length bytes == 0 then Err Empty
-    else if list_all is_printable bytes then fitting bytes else Err BadByte
+    else if list_all is_printable bytes then limited_units bytes else Err BadByte

@@ -27,5 +27,5 @@ without_back [] = []
 without_back (b ∷ rest) = if all_fall_off (b ∷ rest) then [] else b ∷ without_back rest
 
 -- the text without the blanks and line ends at its ends
-abbrev pub trimmed : List ℕ → List ℕ
-trimmed text = without_back (without_front text)
+abbrev pub trimmed_text : List ℕ → List ℕ
+trimmed_text text = without_back (without_front text)

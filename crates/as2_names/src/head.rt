@@ -4,7 +4,7 @@ ghost use Rattle.std.specs.Str.{bytes_eq, str_to_ascii_lowercase};
 ghost use Rattle.as2_names.specs.Options.{lists};
 ghost use Rattle.as2_names.specs.Blanks.{without_blanks};
 ghost use Rattle.as2_names.specs.declared.head.HeadFault.TheVariants.{Memory};
-ghost use Rattle.as2_names.specs.Heads.{IsKept, field_of, is_name_byte, is_name, is_value_byte, is_field, values, Tells, IsTrimmed, Answers, append_fault};
+ghost use Rattle.as2_names.specs.Heads.{IsKept, field_of, is_name_byte, is_name, is_value_byte, is_field, values, IsOnceOf, IsTrimmed, FailsBy, append_fault};
 
 use crate::blanks::without_blanks;
 use crate::options::lists;
@@ -140,7 +140,7 @@ impl Model for Head {
 
 /// What the fields say of a name.
 fn told<'a>(fields: &'a [Field], name: &[u8]) -> Once<'a>
-    ensures tells { Tells result (values (str_to_ascii_lowercase name.now) fields.now) }
+    ensures tells { IsOnceOf result (values (str_to_ascii_lowercase name.now) fields.now) }
     ensures bare { IsTrimmed result }
 {
     let mut found = None;
@@ -195,7 +195,7 @@ impl Head {
         // A refusal leaves the head as it was.
         ensures unchanged { OnErr result (self.new ≡ self.old) }
         // Which fault it is; memory is wanting only where there is no other.
-        ensures exact { Answers result (append_fault name.now value.now self.old) }
+        ensures exact { FailsBy result (append_fault name.now value.now self.old) }
     {
         if !is_field(name, value) {
             return Err(HeadFault::BadField);
@@ -210,7 +210,7 @@ impl Head {
 
     /// What the head says of a name, in whichever case it is written.
     pub fn value(&self, name: &[u8]) -> Once<'_>
-        ensures tells { Tells result (values (str_to_ascii_lowercase name.now) self.now) }
+        ensures tells { IsOnceOf result (values (str_to_ascii_lowercase name.now) self.now) }
         // A value has no blanks at its ends.
         ensures bare { IsTrimmed result }
     {

@@ -1,6 +1,6 @@
 ghost use Rattle.std.specs.Prelude.{◌≡◌, ◌⊎◌, ◌↔◌, ℕ, List, IfOk, Ok, Err, IsTrue, string_bytes};
 ghost use Rattle.as2_names.specs.Blanks.{without_blanks};
-ghost use Rattle.as2_names.specs.Identifiers.{IsIdentifier, OrNoMemory, identified, is_identifier, reading, value_of};
+ghost use Rattle.as2_names.specs.Identifiers.{IsIdentifier, OrNoMemory, identifier_of, is_identifier, identifier_reading, without_brackets};
 ghost use Rattle.as2_names.specs.declared.identifier.IdFault.TheVariants.{Memory};
 
 use crate::ascii::all_printable;
@@ -45,9 +45,9 @@ impl Model for MessageId {
 }
 
 /// The value of an identifier: the text without one surrounding pair of angle brackets (RFC 4130, section 5.3.3).
-#[tactic(auto, unfolding(crate::specs::Identifiers::value_of))]
+#[tactic(auto, unfolding(crate::specs::Identifiers::without_brackets))]
 pub fn without_brackets(text: &[u8]) -> &[u8]
-    ensures { result.now ≡ value_of text.now }
+    ensures { result.now ≡ without_brackets text.now }
 {
     match text {
         [b'<', value @ .., b'>'] => value,
@@ -78,7 +78,7 @@ fn keep(alloc: Global, text: &[u8]) -> Result<MessageId, IdFault>
 /// The identifier that a text without blanks at its ends is.
 fn identify(alloc: Global, text: &[u8]) -> Result<MessageId, IdFault>
     requires { without_blanks text.now ≡ text.now }
-    ensures { OrNoMemory result (identified text.now) }
+    ensures { OrNoMemory result (identifier_of text.now) }
 {
     let value = without_brackets(text);
     if value.is_empty() {
@@ -101,7 +101,7 @@ impl MessageId {
         // A field that holds an identifier is read, or there was no memory.
         ensures only { IsIdentifier (without_blanks field.now) → (result ≡ Ok (without_blanks field.now)) ⊎ (result ≡ Err Memory) }
         // Which fault it is; memory is wanting only for an identifier.
-        ensures exact { OrNoMemory result (reading field.now) }
+        ensures exact { OrNoMemory result (identifier_reading field.now) }
     {
         identify(alloc, without_blanks(field))
     }
@@ -116,14 +116,14 @@ impl MessageId {
 
     /// The identifier's value: what stands between its brackets, or all of it where it has none.
     pub fn value(&self) -> &str
-        ensures { result.now ≡ value_of self.now }
+        ensures { result.now ≡ without_brackets self.now }
     {
         str::from_utf8(without_brackets(self.text.as_bytes())).unwrap()
     }
 
     /// Whether both have one value, with brackets or without.
     pub fn same_value(&self, other: &MessageId) -> bool
-        ensures { IsTrue result ↔ (value_of self.now ≡ value_of other.now) }
+        ensures { IsTrue result ↔ (without_brackets self.now ≡ without_brackets other.now) }
     {
         self.value() == other.value()
     }

@@ -2,7 +2,7 @@ ghost use Rattle.std.specs.Prelude.{◌≡◌, ◌==◌, ◌≢◌, ◌<◌, ◌
 ghost use Rattle.std.specs.List.{list_all};
 ghost use Rattle.arrayvec.specs.ArrayString.{array_string_len};
 ghost use Rattle.as2_names.specs.Ascii.{is_printable, quote};
-ghost use Rattle.as2_names.specs.Names.{IsName, Spells, spelling, quoted, reading, fitting, fitted, atomic, plain, units, is_text_byte, is_escaped_mark};
+ghost use Rattle.as2_names.specs.Names.{IsName, Spells, name_spelling, quoted_name, name_reading, limited_units, limited_name, atomic, plain, units, is_text_byte, is_escaped_mark};
 ghost use Rattle.as2_names.specs.Scan.{Scans};
 
 use crate::ascii::{all_printable, is_printable};
@@ -118,7 +118,7 @@ impl Scan {
     fn finish(self) -> Result<AsName, NameFault>
         requires { (text : List ℕ) × Scans text self.kept.items self.count false (quote ∷ []) }
         ensures { (text : List ℕ) → Scans text self.kept.items self.count false (quote ∷ [])
-            → result ≡ fitted (units false text) }
+            → result ≡ limited_name (units false text) }
     {
         if self.count == 0 {
             return Err(NameFault::Empty);
@@ -133,7 +133,7 @@ impl Scan {
 /// The name that printable bytes are, where they fit.
 fn fit(bytes: &[u8]) -> Result<AsName, NameFault>
     requires { IsTrue (list_all is_printable bytes.now) }
-    ensures { result ≡ fitting bytes.now }
+    ensures { result ≡ limited_units bytes.now }
 {
     if bytes.is_empty() {
         return Err(NameFault::Empty);
@@ -147,7 +147,7 @@ fn fit(bytes: &[u8]) -> Result<AsName, NameFault>
 
 /// The name between quotes, from behind the first.
 fn quoted_name(text: &[u8]) -> Result<AsName, NameFault>
-    ensures { result ≡ fitted (units false text.now) }
+    ensures { result ≡ limited_name (units false text.now) }
 {
     let mut scan = Scan::new();
     for (i, b) in text.iter().enumerate() {
@@ -173,7 +173,7 @@ fn atomic_name(text: &[u8]) -> Result<AsName, NameFault>
 }
 
 fn read(field: &[u8]) -> Result<AsName, NameFault>
-    ensures { result ≡ reading field.now }
+    ensures { result ≡ name_reading field.now }
 {
     match field {
         [] => Err(NameFault::Empty),
@@ -204,7 +204,7 @@ fn atom(name: &[u8]) -> ArrayString<258>
 
 fn quote(name: &[u8]) -> ArrayString<258>
     requires { IsName name.now }
-    ensures { result.bytes ≡ quoted name.now }
+    ensures { result.bytes ≡ quoted_name name.now }
 {
     let mut text = ArrayString::new();
     put(&mut text, b'"');
@@ -220,7 +220,7 @@ fn quote(name: &[u8]) -> ArrayString<258>
 
 fn spell(name: &[u8]) -> ArrayString<258>
     requires { IsName name.now }
-    ensures { result.bytes ≡ spelling name.now }
+    ensures { result.bytes ≡ name_spelling name.now }
 {
     if all_text(name) {
         atom(name)
@@ -237,7 +237,7 @@ impl AsName {
         // What spells a name is read as that name.
         ensures only { (name : List ℕ) → Spells field.now name → result ≡ Ok name }
         // Which fault it is.
-        ensures exact { result ≡ reading field.now }
+        ensures exact { result ≡ name_reading field.now }
     {
         read(field)
     }
@@ -265,7 +265,7 @@ impl AsName {
 
     /// The spelling that is written: the name itself where that spells it, or else the name in quotes.
     pub fn spelling(&self) -> ArrayString<258>
-        ensures text { result.bytes ≡ spelling self.now }
+        ensures text { result.bytes ≡ name_spelling self.now }
         ensures spells { Spells result.bytes self.now }
     {
         spell(self.bytes())

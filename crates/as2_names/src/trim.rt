@@ -1,5 +1,5 @@
 ghost use Rattle.std.specs.Prelude.{◌≡◌};
-ghost use Rattle.as2_names.specs.Trim.{falls_off, without_front, without_back, trimmed};
+ghost use Rattle.as2_names.specs.Trim.{falls_off, without_front, without_back, trimmed_text};
 
 use crate::blanks::is_blank;
 
@@ -40,7 +40,7 @@ fn falls_off(b: u8, behind: &[u8]) -> bool
 /// The part of a text without the blanks and line ends at its two ends (RFC 5322, section 2.2). A line end is LF, with
 /// the CR just before it if there is one.
 pub fn without_blanks_and_line_ends(text: &[u8]) -> &[u8]
-    ensures { result.now ≡ trimmed text.now }
+    ensures { result.now ≡ trimmed_text text.now }
 {
     without_back(without_front(text))
 }

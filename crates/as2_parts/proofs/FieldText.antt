@@ -7,12 +7,12 @@ use Rattle.std.proofs.lemmas.Iterator.Adapters.{position_from-zero}
 use Rattle.std.specs.Prelude.{◌≢◌, ◌&&◌, not, nat_lt, nat_le, position}
 use Rattle.std.specs.List.{list_all, position_from}
 use Rattle.as2_names.specs.Blanks.{is_blank}
-use Rattle.as2_names.specs.Trim.{trimmed}
+use Rattle.as2_names.specs.Trim.{trimmed_text}
 use Rattle.as2_parts.specs.Fields.{FieldText, IsField, is_colon, is_field_name_byte, is_field_name, field_with, field_cut, folded_field, begins_with_blank}
 
-pub field_found : (line name behind value : List ℕ) (n : ℕ) → position is_colon line ≡ Some n → name ≡ take n line → behind ≡ drop n line → is_field_name name ≡ true → value ≡ trimmed (take (length behind - 1) (drop 1 behind)) → Some (name, value) ≡ folded_field line
+pub field_found : (line name behind value : List ℕ) (n : ℕ) → position is_colon line ≡ Some n → name ≡ take n line → behind ≡ drop n line → is_field_name name ≡ true → value ≡ trimmed_text (take (length behind - 1) (drop 1 behind)) → Some (name, value) ≡ folded_field line
 field_found line name behind value n place front back may e =
-    let v : value ≡ trimmed (drop (n + 1) line) = e ∙ ap trimmed (take_rest behind 1 ∙ ap (drop 1) back ∙ drop-drop 1 n line) in
+    let v : value ≡ trimmed_text (drop (n + 1) line) = e ∙ ap trimmed_text (take_rest behind 1 ∙ ap (drop 1) back ∙ drop-drop 1 n line) in
     let m : is_field_name (take n line) ≡ true = rw (← front) may in
     rw (place, m, ← front, ← v) refl
 
@@ -24,10 +24,10 @@ colon_at line n place =
     let at : get_or line n 0 ≡ 58 = eqb-true (get_or line n 0) 58 p.1 in
     sym (take-append-drop n line) ∙ ap (λ (t : List ℕ). take n line ++ t) (drop_more line n 0 p.0 ∙ ap (λ (b : ℕ). b ∷ drop (n + 1) line) at)
 
-with_some : (name raw : List ℕ) (field : FieldText) → field_with name raw ≡ Some field → (is_field_name name ≡ true) × (field ≡ (name, trimmed raw))
+with_some : (name raw : List ℕ) (field : FieldText) → field_with name raw ≡ Some field → (is_field_name name ≡ true) × (field ≡ (name, trimmed_text raw))
 with_some name raw field e =
     elim (cases_Bool (is_field_name name)) [
-      | inl may ↦ let same : Some (name, trimmed raw) ≡ Some field = rw may at e in (may, sym (cc same))
+      | inl may ↦ let same : Some (name, trimmed_text raw) ≡ Some field = rw may at e in (may, sym (cc same))
       | inr but ↦ let none : None ≡ Some field = rw but at e in absurd cc
     ]
 

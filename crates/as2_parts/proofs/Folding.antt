@@ -5,12 +5,12 @@ use Rattle.std.specs.List.{concat, onto_first, cons_option}
 use Rattle.std.proofs.lemmas.Bool.{cases_Bool, not_from_false, not-true, eqb-true}
 use Rattle.std.proofs.lemmas.List.Elements.{All-nil, All-cons, All-head, All-tail}
 use Rattle.as2_parts.specs.Lines.{lines}
-use Rattle.as2_parts.specs.Fields.{FieldText, Folded, lines_of, GoOn, IsFolded, HoldsFields, HasFields, begins_with_blank, folded_lines, folded_field, fields}
+use Rattle.as2_parts.specs.Fields.{FieldText, FoldedLine, lines_of, GoOn, IsFolded, HoldsFields, HasFields, begins_with_blank, folded_lines, folded_field, fields}
 use Rattle.as2_parts.proofs.FieldText.{field_take, field_again, no_field, blank_no_field}
 
 -- the lines at the front that go on with none, and the others with those that go on with them
 abbrev Groups : Type 0
-Groups = List (List ℕ) × List Folded
+Groups = List (List ℕ) × List FoldedLine
 
 abbrev onto_groups : List ℕ → Groups → Groups
 onto_groups line groups = cond (begins_with_blank line) (line ∷ groups.0, groups.1) ([], record { line = line; more = groups.0 } ∷ groups.1)
@@ -48,13 +48,13 @@ group_each (line ∷ rest) =
       | inr first ↦ rw first (All-cons IsFolded (record { line = line; more = (group rest).0 }) (group rest).1 (not_from_false (begins_with_blank line) first, group_loose rest) (group_each rest))
     ]
 
-group_front : (loose : List (List ℕ)) (rest : List (List ℕ)) (groups : List Folded) → GoOn loose → group rest ≡ ([], groups) → group (loose ++ rest) ≡ (loose, groups)
+group_front : (loose : List (List ℕ)) (rest : List (List ℕ)) (groups : List FoldedLine) → GoOn loose → group rest ≡ ([], groups) → group (loose ++ rest) ≡ (loose, groups)
 group_front [] rest groups go_on e = e
 group_front (line ∷ loose) rest groups go_on e =
     let blank : begins_with_blank line ≡ true = All-head Blank line loose go_on in
     rw (group_front loose rest groups (All-tail Blank line loose go_on) e, blank) refl
 
-group_again : (groups : List Folded) → All IsFolded groups → group (flat_map lines_of groups) ≡ ([], groups)
+group_again : (groups : List FoldedLine) → All IsFolded groups → group (flat_map lines_of groups) ≡ ([], groups)
 group_again [] each = refl
 group_again (f ∷ rest) each =
     let here = All-head IsFolded f rest each in
@@ -64,7 +64,7 @@ group_again (f ∷ rest) each =
 
 -- ---- the text is cut into them
 
-abbrev joined : List Folded → List (List ℕ)
+abbrev joined : List FoldedLine → List (List ℕ)
 joined groups = map (λ f. concat (lines_of f)) groups
 
 abbrev blocks : List (List ℕ) → List (List ℕ)
@@ -124,15 +124,15 @@ fields_joined (line ∷ rest) =
 fields_are : (text : List ℕ) → fields text ≡ filter_map folded_field (joined (group (lines text)).1)
 fields_are text = ap (filter_map folded_field) (folded_is text) ∙ fields_joined (lines text)
 
-holds_one : (f : Folded) (rest : List Folded) (others : List FieldText) → HoldsFields rest others → (o : Option FieldText) → folded_field (concat (lines_of f)) ≡ o → HoldsFields (f ∷ rest) (cons_option o others)
+holds_one : (f : FoldedLine) (rest : List FoldedLine) (others : List FieldText) → HoldsFields rest others → (o : Option FieldText) → folded_field (concat (lines_of f)) ≡ o → HoldsFields (f ∷ rest) (cons_option o others)
 holds_one f rest others more None e = inr ((λ field i. absurd (cc (sym e ∙ field_again (concat (lines_of f)) field i))), more)
 holds_one f rest others more (Some field) e = inl (field, others, refl, field_take (concat (lines_of f)) field e, more)
 
-holds : (groups : List Folded) → HoldsFields groups (filter_map folded_field (joined groups))
+holds : (groups : List FoldedLine) → HoldsFields groups (filter_map folded_field (joined groups))
 holds [] = refl
 holds (f ∷ rest) = holds_one f rest (filter_map folded_field (joined rest)) (holds rest) (folded_field (concat (lines_of f))) refl
 
-holds_again : (groups : List Folded) (given : List FieldText) → HoldsFields groups given → filter_map folded_field (joined groups) ≡ given
+holds_again : (groups : List FoldedLine) (given : List FieldText) → HoldsFields groups given → filter_map folded_field (joined groups) ≡ given
 holds_again [] given h = sym h
 holds_again (f ∷ rest) given (inl h) = rw (field_again (concat (lines_of f)) h.0 h.3, holds_again rest h.1 h.4) (sym h.2)
 holds_again (f ∷ rest) given (inr h) = rw (no_field (concat (lines_of f)) h.0) (holds_again rest given h.1)

@@ -9,7 +9,7 @@ use Rattle.as2_parts.specs.declared.parts.Part.{Part}
 use Rattle.as2_parts.specs.declared.parts.PartFault.{PartFault}
 use Rattle.as2_parts.specs.declared.parts.PartFault.TheVariants.{NoDelimiter, OnePart, NotClosed}
 use Rattle.as2_parts.specs.Lines.{lines, is_delimiter, is_closing, is_mark, IsDelimiter, IsClosing}
-use Rattle.as2_parts.specs.Parts.{PartText, part_of, before_mark, from_mark, behind_first, behind_preamble, reading, IsMark, HasNoMark, IsTwoParts, part_text, shown}
+use Rattle.as2_parts.specs.Parts.{PartText, part_of, before_mark, from_mark, behind_first, behind_preamble, parts_reading, IsMark, HasNoMark, IsTwoParts, part_text, parts_result}
 use Rattle.as2_parts.proofs.Deciding.{delimiter_is, is_delimiter_of, closing_is, is_closing_of, mark_is, is_mark_of, plain_of, plain_is, delimiter_opens}
 use Rattle.as2_parts.proofs.Reading.{HasDelimiter, closing_from, closing_after, reads_two}
 
@@ -132,7 +132,7 @@ closed_behind boundary after between rest found parts closed =
     let later : list_any (is_closing boundary) rest ≡ true = rw parts at both in
     closing_from boundary rest ∙ later
 
-pub found : (boundary body : List ℕ) (first second : PartText) → reading boundary body ≡ Ok (first, second) → IsTwoParts boundary body first second
+pub found : (boundary body : List ℕ) (first second : PartText) → parts_reading boundary body ≡ Ok (first, second) → IsTwoParts boundary body first second
 found boundary body first second e =
     let r = reads_first boundary (lines body) (from_mark boundary (lines body)) first second refl e in
     let a = cut_from boundary (lines body) r.opening r.after r.starts in
@@ -170,7 +170,7 @@ delimiter_marks boundary line d = is_mark_of boundary line (inl d)
 closes : (boundary : List ℕ) (ls : List (List ℕ)) → Any (IsClosing boundary) ls → list_any (is_closing boundary) ls ≡ true
 closes boundary ls a = list_any-from_Any (is_closing boundary) ls (a.0, a.1, a.2, a.3, is_closing_of boundary a.1 a.4)
 
-pub again : (boundary body : List ℕ) (first second : PartText) → IsTwoParts boundary body first second → reading boundary body ≡ Ok (first, second)
+pub again : (boundary body : List ℕ) (first second : PartText) → IsTwoParts boundary body first second → parts_reading boundary body ≡ Ok (first, second)
 again boundary body first second t =
     let rest = t.second_lines ++ t.next ∷ t.rest in
     let after = t.first_lines ++ t.between ∷ rest in
@@ -191,6 +191,6 @@ again boundary body first second t =
 
 -- ---- the answer of the code
 
-pub found_if : (boundary body : List ℕ) (r : Result (Part × Part) PartFault) → shown r ≡ reading boundary body → IfOk r (λ parts. IsTwoParts boundary body (part_text parts.0) (part_text parts.1))
+pub found_if : (boundary body : List ℕ) (r : Result (Part × Part) PartFault) → parts_result r ≡ parts_reading boundary body → IfOk r (λ parts. IsTwoParts boundary body (part_text parts.0) (part_text parts.1))
 found_if boundary body (Ok parts) e = found boundary body (part_text parts.0) (part_text parts.1) (sym e)
 found_if boundary body (Err fault) e = tt

@@ -4,7 +4,7 @@ use Rattle.std.specs.List.{concat, list_all, onto_first}
 use Rattle.std.specs.Str.{str_eq_ignore_ascii_case}
 use Rattle.as2_names.specs.Ascii.{line_feed, colon, space, tilde}
 use Rattle.as2_names.specs.Blanks.{is_blank}
-use Rattle.as2_names.specs.Trim.{trimmed}
+use Rattle.as2_names.specs.Trim.{trimmed_text}
 use Rattle.as2_parts.specs.declared.fields.Field.{Field}
 use Rattle.as2_parts.specs.declared.fields.Twice.{Twice}
 use Rattle.as2_parts.specs.Lines.{lines}
@@ -28,14 +28,14 @@ pub record IsField (text : List ℕ) (field : FieldText) : Type 0 where
   pub whole : text ≡ field.0 ++ colon ∷ raw
   pub some : field.0 ≢ []
   pub named : IsTrue (list_all is_field_name_byte field.0)
-  pub value : field.1 ≡ trimmed raw
+  pub value : field.1 ≡ trimmed_text raw
 
 -- a line, and the lines that go on with it
-pub record Folded : Type 0 where
+pub record FoldedLine : Type 0 where
   pub line : List ℕ
   pub more : List (List ℕ)
 
-abbrev pub lines_of : Folded → List (List ℕ)
+abbrev pub lines_of : FoldedLine → List (List ℕ)
 lines_of f = f.line ∷ f.more
 
 -- lines that go on with the line before
@@ -43,11 +43,11 @@ abbrev pub GoOn : List (List ℕ) → Type 0
 GoOn more = All (λ line. IsTrue (begins_with_blank line)) more
 
 -- the line goes on with none, and the others with it
-abbrev pub IsFolded : Folded → Type 0
+abbrev pub IsFolded : FoldedLine → Type 0
 IsFolded f = IsTrue (not (begins_with_blank f.line)) × GoOn f.more
 
 -- these are the fields among those lines, in order
-abbrev pub HoldsFields : List Folded → List FieldText → Type 0
+abbrev pub HoldsFields : List FoldedLine → List FieldText → Type 0
 HoldsFields [] fields = fields ≡ []
 HoldsFields (f ∷ rest) fields =
     ((field : FieldText) × (others : List FieldText) × (fields ≡ field ∷ others) × IsField (concat (lines_of f)) field × HoldsFields rest others)
@@ -57,7 +57,7 @@ HoldsFields (f ∷ rest) fields =
 -- lines, each with those that go on with it; and these are the fields among them.
 pub record HasFields (text : List ℕ) (fields : List FieldText) : Type 0 where
   pub loose : List (List ℕ)
-  pub groups : List Folded
+  pub groups : List FoldedLine
   pub whole : lines text ≡ loose ++ flat_map lines_of groups
   pub loose_go_on : GoOn loose
   pub each : All IsFolded groups
@@ -80,7 +80,7 @@ is_field_name name = nat_lt 0 (length name) && list_all is_field_name_byte name
 
 -- the field of that name and that text behind its colon, where the name may be one
 abbrev pub field_with : List ℕ → List ℕ → Option FieldText
-field_with name raw = if is_field_name name then Some (name, trimmed raw) else None
+field_with name raw = if is_field_name name then Some (name, trimmed_text raw) else None
 
 -- the field of a line that has its first colon at that place
 abbrev pub field_cut : Option ℕ → List ℕ → Option FieldText
@@ -98,8 +98,8 @@ fields text = filter_map folded_field (folded_lines text)
 -- ---- the fields of a name
 
 -- the fields of that name, whatever the case of its letters
-abbrev pub named : List ℕ → List FieldText → List FieldText
-named name fields = filter (λ field. str_eq_ignore_ascii_case field.0 name) fields
+abbrev pub fields_named : List ℕ → List FieldText → List FieldText
+fields_named name fields = filter (λ field. str_eq_ignore_ascii_case field.0 name) fields
 
 -- the bytes of a field
 abbrev pub field_text : Field → FieldText

@@ -81,8 +81,8 @@ behind_preamble boundary (mark ∷ rest) =
     else Err NotClosed
 
 -- the two parts of a body, or its first fault
-abbrev pub reading : List ℕ → List ℕ → Result (PartText × PartText) PartFault
-reading boundary body = behind_preamble boundary (from_mark boundary (lines body))
+abbrev pub parts_reading : List ℕ → List ℕ → Result (PartText × PartText) PartFault
+parts_reading boundary body = behind_preamble boundary (from_mark boundary (lines body))
 
 -- how many delimiters stand before the first closing line
 abbrev pub delimiters : List ℕ → List (List ℕ) → ℕ
@@ -93,8 +93,8 @@ delimiters boundary (line ∷ rest) =
     else delimiters boundary rest
 
 -- the fault of a body that has so many, and has a closing line or has none
-abbrev pub fault_of : ℕ → Bool → Option PartFault
-fault_of count closed =
+abbrev pub parts_fault : ℕ → Bool → Option PartFault
+parts_fault count closed =
     if count == 0 then Some NoDelimiter
     else if not closed then Some NotClosed
     else if count == 1 then Some OnePart
@@ -102,7 +102,7 @@ fault_of count closed =
 
 -- why a body hasn't two parts, if it hasn't
 abbrev pub part_fault : List ℕ → List ℕ → Option PartFault
-part_fault boundary body = fault_of (delimiters boundary (lines body)) (list_any (is_closing boundary) (lines body))
+part_fault boundary body = parts_fault (delimiters boundary (lines body)) (list_any (is_closing boundary) (lines body))
 
 -- ---- what the code hands out
 
@@ -111,5 +111,5 @@ abbrev pub part_text : Part → PartText
 part_text part = (part.head.now, part.content.now)
 
 -- the bytes of an answer
-abbrev pub shown : Result (Part × Part) PartFault → Result (PartText × PartText) PartFault
-shown result = result_map_both (λ parts. (part_text parts.0, part_text parts.1)) (λ fault. fault) result
+abbrev pub parts_result : Result (Part × Part) PartFault → Result (PartText × PartText) PartFault
+parts_result result = result_map_both (λ parts. (part_text parts.0, part_text parts.1)) (λ fault. fault) result

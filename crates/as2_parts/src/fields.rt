@@ -1,6 +1,6 @@
 ghost use Rattle.std.specs.Prelude.{◌≡◌, ◌<◌, ◌∷◌, length, IfSome, option_map, position, List};
 ghost use Rattle.std.specs.List.{list_all};
-ghost use Rattle.as2_parts.specs.Fields.{HasFields, FieldText, is_field_name_byte, is_field_name, is_colon, begins_with_blank, folded_lines, folded_field, fields, named, field_text, TellsField};
+ghost use Rattle.as2_parts.specs.Fields.{HasFields, FieldText, is_field_name_byte, is_field_name, is_colon, begins_with_blank, folded_lines, folded_field, fields, fields_named, field_text, TellsField};
 
 use as2_names::{is_blank, without_blanks_and_line_ends};
 use std::marker::Model;
@@ -141,7 +141,7 @@ impl<'a> Iterator for Fields<'a> {
 
 /// The only field of that name, in whichever case it is written: nothing where no field has it.
 pub fn find_once<'a>(text: &'a [u8], name: &[u8]) -> Result<Option<Field<'a>>, Twice>
-    ensures tells { TellsField result (named name.now (fields text.now)) }
+    ensures tells { TellsField result (fields_named name.now (fields text.now)) }
 {
     let mut found = None;
     for field in Fields::of(text) {

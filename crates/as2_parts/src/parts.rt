@@ -1,7 +1,7 @@
 ghost use Rattle.std.specs.Prelude.{◌≡◌, IfOk, Ok};
 ghost use Rattle.as2_parts.specs.Lines.{without_line_end};
 ghost use Rattle.std.specs.Result.{result_err};
-ghost use Rattle.as2_parts.specs.Parts.{IsTwoParts, PartText, part_in, reading, part_fault, part_text, shown};
+ghost use Rattle.as2_parts.specs.Parts.{IsTwoParts, PartText, part_in, parts_reading, part_fault, part_text, parts_result};
 
 use crate::lines::{first_line, is_empty_line, without_line_end};
 use crate::marks::{has_closing, is_closing, next_mark};
@@ -51,7 +51,7 @@ pub fn part_in(text: &[u8]) -> Part<'_>
 
 /// The first two parts of a body, or its first fault.
 fn read_parts<'a>(body: &'a [u8], boundary: &[u8]) -> Result<(Part<'a>, Part<'a>), PartFault>
-    ensures { shown result ≡ reading boundary.now body.now }
+    ensures { parts_result result ≡ parts_reading boundary.now body.now }
 {
     let Some(opening) = next_mark(body, boundary) else {
         return Err(PartFault::NoDelimiter);
@@ -83,11 +83,11 @@ pub fn two_parts<'a>(body: &'a [u8], boundary: &[u8]) -> Result<(Part<'a>, Part<
     // What is found are the parts of the body.
     ensures found { IfOk result (λ parts. IsTwoParts boundary.now body.now (part_text parts.0) (part_text parts.1)) }
     // Where the body has two parts, they are found.
-    ensures only { (first second : PartText) → IsTwoParts boundary.now body.now first second → shown result ≡ Ok (first, second) }
+    ensures only { (first second : PartText) → IsTwoParts boundary.now body.now first second → parts_result result ≡ Ok (first, second) }
     // The fault is the first in the order NoDelimiter, NotClosed, OnePart.
     ensures fault { result_err result ≡ part_fault boundary.now body.now }
     // The answer is the one that the function gives.
-    ensures exact { shown result ≡ reading boundary.now body.now }
+    ensures exact { parts_result result ≡ parts_reading boundary.now body.now }
 {
     read_parts(body, boundary)
 }

@@ -1,7 +1,7 @@
 -- The address that a head asks its receipt to be sent to.
 use Rattle.std.proofs.Common.{◌≡◌, ◌∙◌, ◌⊎◌, inl, inr, ℕ, List, [], ◌∷◌, Some, Ok, is_some, IsTrue, true, false, refl, sym, ap, subst}
 use Rattle.as2_text.specs.Addresses.{url_of}
-use Rattle.as2_text.specs.ReceiptRequests.{AsksFor, Fields, Request, SaysHow, asked_by, delivery_option, is_given_twice, nothing_asked, reading, text_of}
+use Rattle.as2_text.specs.ReceiptRequests.{AsksFor, Fields, Request, SaysHow, asked_by, delivery_option, is_given_twice, nothing_asked, request_reading, text_of}
 use Rattle.as2_text.specs.declared.receipt_ask.How.{How}
 use Rattle.as2_text.specs.declared.receipt_ask.How.TheVariants as how
 use Rattle.as2_text.proofs.Addresses.{url_again}
@@ -13,7 +13,7 @@ says_once vs delivery url (inr says) is =
     (ap is_given_twice says.2, subst (λ l. IsTrue (is_some (url_of (text_of l)))) (sym says.2) (subst (λ o. IsTrue (is_some o)) (sym (url_again says.0 says.1 says.3)) refl))
 
 -- it is given once, and is one
-pub asked_address : (head : Fields) (request : Request) (url : List ℕ × List ℕ) → reading head ≡ Ok request → request.how ≡ how.Async url
+pub asked_address : (head : Fields) (request : Request) (url : List ℕ × List ℕ) → request_reading head ≡ Ok request → request.how ≡ how.Async url
     → (is_given_twice (delivery_option head) ≡ false) × IsTrue (is_some (url_of (text_of (delivery_option head))))
 asked_address head request url is later = elim (asks_found head request is) [
   | inl none ↦ absurd (let none_asked : nothing_asked.how ≡ how.Async url = sym (ap (λ r. r.how) none.1) ∙ later in cc)

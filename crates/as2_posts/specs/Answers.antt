@@ -6,7 +6,7 @@ use Rattle.as2_mdn.specs.declared.report.ReportMic.{ReportMic}
 use Rattle.as2_exchange.specs.declared.answer.Line.TheVariants.{NotProcessed}
 use Rattle.as2_mdn.specs.declared.report.ReportOut.{ReportOut}
 use Rattle.as2_mdn.specs.declared.outcome.Outcome.{Outcome}
-use Rattle.as2_exchange.specs.Readings.{is_async, is_processed, report_text}
+use Rattle.as2_exchange.specs.Readings.{is_async, is_processed, receipt_bytes}
 use Rattle.as2_exchange.specs.declared.inbox.InEntry.{InEntry}
 use Rattle.as2_exchange.specs.declared.inbox.Posted.{Posted}
 use Rattle.as2_exchange.specs.declared.answer.HttpAnswer.{HttpAnswer}
@@ -16,7 +16,7 @@ use Rattle.as2_exchange.specs.Lines.{refusal}
 
 -- the answer that carries a receipt
 abbrev pub receipt_answer : ReportOut → HttpAnswer
-receipt_answer out = record { status = 200; body = Report out (report_text out) }
+receipt_answer out = record { status = 200; body = Report out (receipt_bytes out) }
 
 -- the answer where no receipt is asked for
 abbrev pub untold : Outcome → HttpAnswer

@@ -9,7 +9,7 @@ use Rattle.as2_exchange.specs.Posts.{Reading, Refuses, IsDocument}
 
 -- the head asks that
 abbrev pub is_asked : Head → Request → Type 0
-is_asked head request = requests.reading head ≡ Ok request
+is_asked head request = requests.request_reading head ≡ Ok request
 
 -- a post that is this document, or is refused by this line
 abbrev pub read_as : Result Posted Line → Reading

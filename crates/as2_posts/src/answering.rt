@@ -41,7 +41,7 @@ pub fn report(
 }
 
 /// The answer that carries a receipt.
-#[tactic(auto, unfolding(as2_exchange::specs::Readings::report_text))]
+#[tactic(auto, unfolding(as2_exchange::specs::Readings::receipt_bytes))]
 fn carrying(alloc: Global, out: ReportOut) -> Result<HttpAnswer, Memory>
     ensures { IfOk result (λ a. a ≡ receipt_answer out) }
 {

@@ -6,7 +6,7 @@ ghost use Rattle.as2_text.specs.ReceiptRequests.{delivery_option, is_given_twice
 ghost use Rattle.as2_mdn.specs.Outcomes.{report_mic};
 ghost use Rattle.as2_exchange.specs.Readings.{asked_how};
 ghost use Rattle.as2_exchange.specs.Versions.{AllDigests};
-ghost use Rattle.as2_exchange.specs.Posts.{posted};
+ghost use Rattle.as2_exchange.specs.Posts.{posted_document};
 ghost use Rattle.as2_posts.specs.Documents.{is_asked, read_as};
 ghost use Rattle.as2_posts.specs.Openings.{document_by, names_in, opened_type};
 
@@ -60,7 +60,7 @@ fn mic_for(outcome: Outcome, ask: &ReceiptAsk<'_>, content: &Pieces) -> Option<R
 }
 
 /// The document, with what is made of it.
-#[tactic(auto, unfolding(as2_exchange::specs::Readings::outcome_of, as2_exchange::specs::Readings::how_of, as2_exchange::specs::Readings::mic_for))]
+#[tactic(auto, unfolding(as2_exchange::specs::Readings::document_outcome, as2_exchange::specs::Readings::how_of, as2_exchange::specs::Readings::mic_for))]
 fn posted(
     alloc: Global,
     opened: Opened<'_>,
@@ -70,7 +70,7 @@ fn posted(
     content: Pieces,
 ) -> Result<Posted, Memory>
     requires { is_asked head.now (request_of ask.now) }
-    ensures { IfOk result (λ p. p ≡ posted AllDigests (names_in opened.entry) id (opened_type opened.entry) head.now content (request_of ask.now)) }
+    ensures { IfOk result (λ p. p ≡ posted_document AllDigests (names_in opened.entry) id (opened_type opened.entry) head.now content (request_of ask.now)) }
 {
     let outcome = outcome_of(opened.media.kind(), encoding_refused(head), ask);
     let how = how_of(alloc, head, ask)?;

@@ -2,7 +2,7 @@
 ghost use Rattle.std.specs.Prelude.{◌≡◌, IfOk, codes, option_map};
 ghost use Rattle.std.specs.Str.{str_to_ascii_lowercase};
 ghost use Rattle.as2_names.specs.Heads.{values};
-ghost use Rattle.as2_exchange.specs.Readings.{are_known, id_of, is_version, name_in, type_in, typed};
+ghost use Rattle.as2_exchange.specs.Readings.{are_known, id_of, is_version, name_in, type_in, media_type_of};
 
 use as2_text::{AsName, Head, IdFault, MediaType, Memory, MessageId, Once};
 use std::alloc::Global;
@@ -40,7 +40,7 @@ pub(crate) fn version_fits(head: &Head) -> bool
 
 /// A content type, and its text.
 fn typed(text: &[u8]) -> Option<(MediaType<'_>, &[u8])>
-    ensures { option_map (λ t. (t.0, t.1.now)) result ≡ typed text.now }
+    ensures { option_map (λ t. (t.0, t.1.now)) result ≡ media_type_of text.now }
 {
     match MediaType::parse(text) {
         Ok(media) => Some((media, text)),

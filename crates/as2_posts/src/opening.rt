@@ -2,7 +2,7 @@
 ghost use Rattle.std.specs.Prelude.{◌≡◌, IfOk, IfErr};
 ghost use Rattle.as2_exchange.specs.Agreement.{Text};
 ghost use Rattle.as2_exchange.specs.Versions.{Digests};
-ghost use Rattle.as2_exchange.specs.Posts.{Refuses, reading};
+ghost use Rattle.as2_exchange.specs.Posts.{Refuses, post_reading};
 ghost use Rattle.as2_exchange.specs.Readings.{is_report};
 ghost use Rattle.as2_posts.specs.Openings.{reading_by};
 
@@ -36,12 +36,12 @@ impl Opened<'_> {
 
 /// Reads the head of a post: the first of the lines that refuse it by names, version or content type, or what it says.
 /// It takes no memory.
-#[tactic(auto, unfolding(as2_exchange::specs::Posts::reading, as2_exchange::specs::Readings::names_of, as2_exchange::specs::Readings::version_fits, as2_exchange::specs::Readings::type_of))]
+#[tactic(auto, unfolding(as2_exchange::specs::Posts::post_reading, as2_exchange::specs::Readings::names_of, as2_exchange::specs::Readings::version_fits, as2_exchange::specs::Readings::type_of))]
 pub fn open<'a>(agreements: &Agreements, head: &'a Head) -> Result<Opened<'a>, Line>
     ensures refused { IfErr result (λ line. (known : Digests) (body : Text)
-        → reading agreements.now known head.now body ≡ Refuses line) }
+        → post_reading agreements.now known head.now body ≡ Refuses line) }
     ensures opened { IfOk result (λ o. (known : Digests) (body : Text)
-        → reading agreements.now known head.now body ≡ reading_by known o head.now body) }
+        → post_reading agreements.now known head.now body ≡ reading_by known o head.now body) }
 {
     let Some(from) = name_in(head, b"as2-from") else {
         return Err(Line::BadNames);

@@ -2,7 +2,7 @@
 //! 5.3 and 6; RFC 9112, section 3).
 ghost use Rattle.std.specs.Prelude.{◌≡◌, ◌⊎◌, ◌++◌, List, ℕ, codes, option_map, IfOk, IfErr, OnOk};
 ghost use Rattle.as2_text.specs.Addresses.{IsAuthority};
-ghost use Rattle.as2_exchange.specs.Jobs.{asking_fields, bracketed, document_request, identifier_value, opening, request_fields, return_field};
+ghost use Rattle.as2_exchange.specs.Jobs.{asking_fields, identifier_in_brackets, document_request, identifier_value, request_opening, request_fields, return_field};
 ghost use Rattle.as2_exchange.specs.declared.fault.StoreFault.TheVariants as fault;
 ghost use Rattle.as2_posts.specs.Sending.{content_fields, name_fields, request_to};
 
@@ -19,7 +19,7 @@ pub const HEAD: usize = 4_096;
 
 /// The text of the identifier of the document of this number.
 fn identifier_text(alloc: Global, agreements: &Agreements, number: u64) -> Result<Vec<u8>, Memory>
-    ensures { IfOk result (λ text. text.items ≡ bracketed (identifier_value agreements.now number)) }
+    ensures { IfOk result (λ text. text.items ≡ identifier_in_brackets (identifier_value agreements.now number)) }
 {
     let mut text = Vec::from_slice(alloc, b"<out-")?;
     text.extend_from_slice(Buffer::new().format(number).as_bytes())?;
@@ -31,7 +31,7 @@ fn identifier_text(alloc: Global, agreements: &Agreements, number: u64) -> Resul
 
 /// The identifier of the document of this number: `<out-N@domain>`.
 pub fn out_id(alloc: Global, agreements: &Agreements, number: u64) -> Result<MessageId, StoreFault>
-    ensures id { IfOk result (λ id. id ≡ bracketed (identifier_value agreements.now number)) }
+    ensures id { IfOk result (λ id. id ≡ identifier_in_brackets (identifier_value agreements.now number)) }
     ensures fault { IfErr result (λ f. (f ≡ fault.Memory) ⊎ (f ≡ fault.Refused)) }
 {
     let text = identifier_text(alloc, agreements, number)?;
@@ -52,7 +52,7 @@ pub fn add_text(text: &mut Vec<u8>, more: &[u8]) -> Result<(), AllocError>
 
 /// Appends what a request to that address begins with: its line, and the fields of the connection.
 pub fn add_opening(text: &mut Vec<u8>, url: &Url<'_>) -> Result<(), AllocError>
-    ensures { OnOk result (text.new.items ≡ text.old.items ++ opening url.now) }
+    ensures { OnOk result (text.new.items ≡ text.old.items ++ request_opening url.now) }
 {
     add_text(text, b"POST ")?;
     add_line(text, url.target(), b" HTTP/1.1")?;

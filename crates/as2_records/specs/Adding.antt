@@ -9,8 +9,8 @@ abbrev pub with_received : State → InEntry → State
 with_received s e = record s { inbox = s.inbox ++ e ∷ []; next_in = s.next_in + 1 }
 
 -- the state once the entry is added, if it has the next number
-abbrev pub added : InEntry → State → Option State
-added e s = if e.number == s.next_in then Some (with_received s e) else None
+abbrev pub state_with : InEntry → State → Option State
+state_with e s = if e.number == s.next_in then Some (with_received s e) else None
 
 -- the state with a document more in its outbox, under the next number
 abbrev pub with_document : State → OutEntry → State

@@ -10,5 +10,5 @@ abbrev pub ticked_in : ℕ → State → Option State
 ticked_in m s = Some (tick m s).1
 
 -- it is how many documents Tick tells
-abbrev pub AreTicked : {M : Medium} → ℕ → Standing M → ℕ → Type 0
-AreTicked m old count = (s : State) → old.Rests s → Ticked count ≡ (tick m s).0
+abbrev pub TicksAs : {M : Medium} → ℕ → Standing M → ℕ → Type 0
+TicksAs m old count = (s : State) → old.Rests s → Ticked count ≡ (tick m s).0

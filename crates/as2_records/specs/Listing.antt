@@ -7,8 +7,8 @@ use Rattle.as2_records.specs.Summaries.{out_summary}
 use Rattle.as2_records.specs.declared.summaries.OutRow.{OutRow}
 
 -- the documents of this state, or all, each as its row has it
-abbrev pub listed : Option StateOf → State → List OutRow
-listed wanted s = map out_summary (filter (is_in wanted) s.outbox)
+abbrev pub listed_rows : Option StateOf → State → List OutRow
+listed_rows wanted s = map out_summary (filter (is_in wanted) s.outbox)
 
 -- the numbers of those that a receipt has settled
 abbrev pub settled_numbers : State → List ℕ

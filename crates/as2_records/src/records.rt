@@ -1,17 +1,17 @@
 //! What a station asks of its records.
 
 ghost use Rattle.std.specs.Prelude.{◌≡◌, ◌⊎◌, ◌≤◌, map, None, true, false, Err, IfOk, IfErr, IsTrue};
-ghost use Rattle.as2_exchange.specs.State.{State as MachineState, document, document_named, end_of_numbers, origin_of, received};
+ghost use Rattle.as2_exchange.specs.State.{State as MachineState, document, document_named, end_of_numbers, origin_of, received_entry};
 ghost use Rattle.as2_exchange.specs.Invariants.{is_by_receipt};
 ghost use Rattle.as2_exchange.specs.Due.{due_documents, due_receipts, least};
 ghost use Rattle.as2_exchange.specs.declared.fault.StoreFault.TheVariants.{Full};
 ghost use Rattle.as2_records.specs.Summaries.{in_summary};
 ghost use Rattle.as2_records.specs.Counting.{counts_of};
-ghost use Rattle.as2_records.specs.Adding.{added, added_document};
+ghost use Rattle.as2_records.specs.Adding.{state_with, added_document};
 ghost use Rattle.as2_records.specs.Calls.{Lasts, Reads, Writes};
-ghost use Rattle.as2_records.specs.Expiring.{AreTicked, ticked_in};
+ghost use Rattle.as2_records.specs.Expiring.{TicksAs, ticked_in};
 ghost use Rattle.as2_records.specs.Finding.{AreNext, IsPostedAs};
-ghost use Rattle.as2_records.specs.Listing.{listed, settled_numbers};
+ghost use Rattle.as2_records.specs.Listing.{listed_rows, settled_numbers};
 ghost use Rattle.as2_records.specs.Owing.{set_mdn_in};
 ghost use Rattle.as2_records.specs.Progressing.{set_out_in};
 ghost use Rattle.as2_records.specs.Requeuing.{requeued_in};
@@ -50,7 +50,7 @@ pub trait Records {
     /// Adds an entry to the inbox under the next number of a receipt, as `next_numbers` gives it. Answers Full exactly where the
     /// number is past 999,999,999,999, and then touches nothing; Refused where it isn't the next; Memory, Disk or Refused. A fault leaves the state.
     fn add_in(&mut self, entry: &InEntry) -> Result<(), StoreFault>
-        ensures added { Writes (added entry.now) (shows self.old) (shows self.new) result }
+        ensures added { Writes (state_with entry.now) (shows self.old) (shows self.new) result }
         ensures full { IfErr result (λ f. f ≡ Full → end_of_numbers ≤ entry.now.number) }
         ensures full_alone { end_of_numbers ≤ entry.now.number → result ≡ Err Full }
         ensures full_same { end_of_numbers ≤ entry.now.number → self.new ≡ self.old }
@@ -84,7 +84,7 @@ pub trait Records {
     /// `TriesUsed`. Answers how many there are; Memory, Disk or Refused, and then the state stays.
     fn expire(&mut self, moment: Moment) -> Result<u64, StoreFault>
         ensures passed { Writes (ticked_in moment) (shows self.old) (shows self.new) result }
-        ensures counted { (shows self.new).IsClean → IfOk result (AreTicked moment (shows self.old)) }
+        ensures counted { (shows self.new).IsClean → IfOk result (TicksAs moment (shows self.old)) }
         ensures fault { IfErr result (λ f. may_come f ≡ true) };
 
     /// Sets how far the document of this number has come, by a detail that no receipt gives. Answers Refused where no document
@@ -121,7 +121,7 @@ pub trait Records {
 
     /// The entry of the inbox of this number, if there is one.
     fn find_in_number(&mut self, alloc: Global, number: u64) -> Result<Option<InEntry>, StoreFault>
-        ensures found { Reads (λ s found. found ≡ received s number) (shows self.old) (shows self.new) result }
+        ensures found { Reads (λ s found. found ≡ received_entry s number) (shows self.old) (shows self.new) result }
         ensures fault { IfErr result (λ f. may_come f ≡ true) };
 
     /// The document of this number, if there is one, with its content and its evidence. Answers Memory, Disk or Refused.
@@ -158,7 +158,7 @@ pub trait Records {
     /// and without its evidence. Answers Memory, Disk or Refused.
     fn list_out(&mut self, alloc: Global, wanted: Option<State>) -> Result<Vec<OutRow>, StoreFault>
         ensures documents { Reads (λ s documents. documents.items
-            ≡ listed wanted s) (shows self.old) (shows self.new) result }
+            ≡ listed_rows wanted s) (shows self.old) (shows self.new) result }
         ensures fault { IfErr result (λ f. may_come f ≡ true) };
 
     /// The entries of the inbox in order of number, each with the length of its content in place of the content. Answers

@@ -7,8 +7,8 @@ use Rattle.as2_exchange.specs.Agreement.{Agreements}
 use Rattle.as2_exchange.specs.declared.answer.Answer.{Answer}
 use Rattle.as2_exchange.specs.declared.event.Event.{Event}
 use Rattle.as2_exchange.specs.declared.fault.StoreFault.{StoreFault}
-use Rattle.as2_kept.specs.Instance.{standing}
-use Rattle.as2_station.specs.Traces.{Taken}
+use Rattle.as2_kept.specs.Instance.{tables_standing}
+use Rattle.as2_station.specs.Traces.{TakesEvents}
 
 -- what was closed, if anything was
 pub of_closed : {X E : Type 0} {P Q R T : X → Type 0} → ((x : X) → P x → Q x → R x → T x) → (r : Result X E) → IfOk r P → IfOk r Q → IfOk r R
@@ -18,7 +18,7 @@ of_closed f (Err e) p q r = tt
 
 -- each event keeps the shield
 pub taken_shield : {S : Type 0} (g : Ghosts S) (A : Agreements) (es : List Event) (rs : List (Result Answer StoreFault)) (old new : Held S)
-    → Taken (λ (h : Held S). standing (state g h)) A es rs old new → (state g old).IsShielded → (state g new).IsShielded
+    → TakesEvents (λ (h : Held S). tables_standing (state g h)) A es rs old new → (state g old).IsShielded → (state g new).IsShielded
 taken_shield {S} g A [] [] old new same shielded = subst (λ (h : Held S). (state g h).IsShielded) (sym same) shielded
 taken_shield {S} g A [] (r ∷ rs) old new none shielded = absurd none
 taken_shield {S} g A (e ∷ es) [] old new none shielded = absurd none

@@ -1,7 +1,7 @@
 -- What was done before a stop, and after it.
 use Rattle.std.proofs.Common.{◌≡◌, ◌∙◌, ℕ, true, List, [], ◌∷◌, Option, Some, None, refl, sym, ap, subst}
 use Rattle.std.specs.Prelude.{IsSomeAnd}
-use Rattle.as2_mdn.specs.Details.{state_of}
+use Rattle.as2_mdn.specs.Details.{class_of}
 use Rattle.as2_mdn.specs.declared.detail.State.TheVariants.{S}
 use Rattle.as2_exchange.specs.Agreement.{Agreements}
 use Rattle.as2_exchange.specs.Invariants.{IsCounter, IsEntry, IsWellFormed, is_by_receipt}
@@ -23,19 +23,19 @@ pub one_by_history : (A : Agreements) (lists : List Trace) (events : Trace) (s t
 one_by_history A lists events s t it = ends_by_history A s events t (one A lists events s t it)
 
 -- a receipt settled what is successful
-settled : (A : Agreements) (s : State) (k : ℕ) (d : OutEntry) → IsWellFormed A s → document s k ≡ Some d → state_of d.detail ≡ S → is_settled d ≡ true
+settled : (A : Agreements) (s : State) (k : ℕ) (d : OutEntry) → IsWellFormed A s → document s k ≡ Some d → class_of d.detail ≡ S → is_settled d ≡ true
 settled A s k d formed is successful =
     let entry : IsEntry d = all_found IsEntry (λ (e : OutEntry). e) _ s.outbox d (all_map IsEntry (λ (e : OutEntry). e) (λ e it. it) s.outbox formed.sent.entries) is in
     entry.evidence ∙ ap is_by_receipt ((state_of_success d.detail).0 successful)
 
-as_it_stood : (d : OutEntry) (o : Option OutEntry) → state_of d.detail ≡ S → IsSomeAnd o (λ (e : OutEntry). (e.detail ≡ d.detail) × (e.evidence ≡ d.evidence))
-    → IsSomeAnd o (λ (e : OutEntry). state_of e.detail ≡ S)
+as_it_stood : (d : OutEntry) (o : Option OutEntry) → class_of d.detail ≡ S → IsSomeAnd o (λ (e : OutEntry). (e.detail ≡ d.detail) × (e.evidence ≡ d.evidence))
+    → IsSomeAnd o (λ (e : OutEntry). class_of e.detail ≡ S)
 as_it_stood d None successful same = absurd same
-as_it_stood d (Some e) successful same = ap state_of same.0 ∙ successful
+as_it_stood d (Some e) successful same = ap class_of same.0 ∙ successful
 
 stays : (A : Agreements) (v : Version) (first : ℕ) (before more : Trace) (s t : State) (k : ℕ) (o : Option OutEntry) → document s k ≡ o → IsCounter first
     → Run A (empty v first) before s → Run A s more t
-    → IsSomeAnd o (λ (d : OutEntry). state_of d.detail ≡ S) → IsSuccessful t k
+    → IsSomeAnd o (λ (d : OutEntry). class_of d.detail ≡ S) → IsSuccessful t k
 stays A v first before more s t k None is counter run on successful = absurd successful
 stays A v first before more s t k (Some d) is counter run on successful =
     let stood = stands_by_history A v first before s counter run in

@@ -7,15 +7,15 @@ use Rattle.sqlite.specs.Effect.{Database}
 use Rattle.sqlite.specs.Files.{HoldsDatabase}
 use Rattle.sqlite.specs.State.{State as Connected, HasCleanDisk}
 use Rattle.as2_exchange.specs.Agreement.{Agreements}
-use Rattle.as2_exchange.specs.Run.{AMigration, Trace, Run, migrated}
+use Rattle.as2_exchange.specs.Run.{AMigration, Trace, Run, migrated_state}
 use Rattle.as2_exchange.specs.State.{State}
-use Rattle.as2_store.specs.Calls.{KeepsNext, Reaches}
+use Rattle.as2_store.specs.Calls.{KeepsNextTables, ReachesTables}
 use Rattle.as2_store.specs.Migrating.{CommitsMigrated, RestsAs, migrated_from}
 use Rattle.as2_store.specs.Stands.{Stands}
 use Rattle.as2_store.specs.Tables.{Layout, VersionOne, VersionTwo, VersionThree, schema_of}
 use Rattle.as2_station.proofs.ByHistory.{ends_by_history}
-use Rattle.as2_restart.specs.Migrations.{AreEither, MayMigrate, marked}
-use Rattle.as2_restart.specs.Restarts.{Comes, ComesTo, Counts, a_migration}
+use Rattle.as2_restart.specs.Migrations.{AreEither, MayMigrate, migration_trace}
+use Rattle.as2_restart.specs.Restarts.{LeadsToHeld, ComesTo, Counts, a_migration}
 
 some_is : (s t : State) → Some s ≡ Some t → s ≡ t
 some_is s t e = cc
@@ -28,19 +28,19 @@ comes_by A told events s t counts run = record { events = events; counts = count
 
 -- the mark alone leads to the state that is next
 told_so : (A : Agreements) (layout : Layout) (d : Database) (s t : State) → Stands layout d s → migrated_from layout s ≡ Some t
-    → ComesTo A (marked layout s) s t
-told_so A VersionOne d s t it is = comes_by A (AMigration s.next_in ∷ []) (AMigration s.next_in ∷ []) s t (inl refl) (it.version, refl, sym (some_is (migrated s) t is))
+    → ComesTo A (migration_trace layout s) s t
+told_so A VersionOne d s t it is = comes_by A (AMigration s.next_in ∷ []) (AMigration s.next_in ∷ []) s t (inl refl) (it.version, refl, sym (some_is (migrated_state s) t is))
 told_so A (VersionTwo way) d s t it is = comes_by A [] [] s t (inl refl) (sym (some_is s t is))
 told_so A (VersionThree way) d s t it is = absurd cc
 
 -- so it does where nothing was told
 untold : (A : Agreements) (layout : Layout) (d : Database) (s t : State) → Stands layout d s → migrated_from layout s ≡ Some t → ComesTo A [] s t
-untold A VersionOne d s t it is = comes_by A [] (AMigration s.next_in ∷ []) s t (inr (a_migration s.next_in)) (it.version, refl, sym (some_is (migrated s) t is))
+untold A VersionOne d s t it is = comes_by A [] (AMigration s.next_in ∷ []) s t (inr (a_migration s.next_in)) (it.version, refl, sym (some_is (migrated_state s) t is))
 untold A (VersionTwo way) d s t it is = comes_by A [] [] s t (inl refl) (sym (some_is s t is))
 untold A (VersionThree way) d s t it is = absurd cc
 
 pub leads : (A : Agreements) (layout : Layout) (old new : Connected) (s : State) → IsTrue old.is_open → RestsAs layout old s
-    → Reaches new (migrated_from layout s) → Comes A (marked layout s) s new
+    → ReachesTables new (migrated_from layout s) → LeadsToHeld A (migration_trace layout s) s new
 leads A layout old new s opened rests it = (it.state, told_so A layout old.now s it.state (rests.stands opened) it.is, record { rests = it.rests; lasts = it.lasts })
 
 -- ---- what it leaves
@@ -63,7 +63,7 @@ as_before A layout old s opened rests image db held same =
 as_committed : (A : Agreements) (layout : Layout) (old : Connected) (s : State) → IsTrue old.is_open → RestsAs layout old s → (image : Image) (db : Trees)
     → HoldsDatabase image db → CommitsMigrated old db → AreEither A false layout s image
 as_committed A layout old s opened rests image db held it =
-    let next : KeepsNext db (migrated_from layout s) = it.stands layout s rests in
+    let next : KeepsNextTables db (migrated_from layout s) = it.stands layout s rests in
     record { state = next.state; comes = untold A layout old.now s next.state (rests.stands opened) next.is; held = inl (db, ∣ held ∣₁, next.keeps) }
 
 -- what a crash leaves of it

@@ -13,7 +13,7 @@ use Rattle.sqlite.specs.Held.{AreDatabases}
 use Rattle.sqlite.specs.Files.{HoldsDatabase}
 use Rattle.sqlite.proofs.Theorems.{opens_again}
 use Rattle.as2_exchange.specs.State.{State}
-use Rattle.as2_store.specs.Calls.{Reaches}
+use Rattle.as2_store.specs.Calls.{ReachesTables}
 use Rattle.as2_restart.specs.Restarts.{IsHeld}
 
 -- ---- a crash
@@ -32,7 +32,7 @@ found_after {g} last log db same clean numbered sound left may =
 some_is : (s t : State) → Some s ≡ Some t → s ≡ t
 some_is s t e = cc
 
-pub holds : (c : Connected) (s : State) → Reaches c (Some s) → IsHeld c s
+pub holds : (c : Connected) (s : State) → ReachesTables c (Some s) → IsHeld c s
 holds c s it = subst (IsHeld c) (sym (some_is s it.state it.is)) (record { rests = it.rests; lasts = it.lasts })
 
 -- ---- what is found, if anything is

@@ -6,9 +6,9 @@ use Rattle.sqlite.specs.Store.{Ghosts}
 use Rattle.sqlite.specs.Held.{Held, state}
 use Rattle.sqlite.specs.State.{State as Connected, HasCleanDisk}
 use Rattle.as2_exchange.specs.Agreement.{Agreements, Text}
-use Rattle.as2_exchange.specs.Posts.{Reading, Refuses, IsReceipt, IsDocument, reading}
-use Rattle.as2_exchange.specs.Run.{Said, Answered, Failed, AnEvent, Trace, Run, MayFail}
-use Rattle.as2_exchange.specs.State.{State, Digests, AllDigests, known, known_digests}
+use Rattle.as2_exchange.specs.Posts.{Reading, Refuses, IsReceipt, IsDocument, post_reading}
+use Rattle.as2_exchange.specs.Run.{EventResult, Answered, Failed, AnEvent, Trace, Run, MayFail}
+use Rattle.as2_exchange.specs.State.{State, Digests, AllDigests, digests_of, known_digests}
 use Rattle.as2_exchange.specs.Step.{post, step}
 use Rattle.as2_exchange.specs.Documents.{submit}
 use Rattle.as2_exchange.specs.Lines.{refusal}
@@ -18,17 +18,17 @@ use Rattle.as2_exchange.specs.declared.answer.Refusal.{Refusal}
 use Rattle.as2_exchange.specs.declared.event.Event.{Event}
 use Rattle.as2_exchange.specs.declared.event.Event.TheVariants.{Post, Submit, Begin, Outcome, Resend, BeginMdn, OutcomeMdn, Tick}
 use Rattle.as2_exchange.specs.declared.fault.StoreFault.{StoreFault}
-use Rattle.as2_store.specs.Calls.{Keeps, Lasts}
+use Rattle.as2_store.specs.Calls.{Keeps, TablesLast}
 use Rattle.as2_store.specs.Stands.{Rests}
-use Rattle.as2_kept.specs.Instance.{standing}
+use Rattle.as2_kept.specs.Instance.{tables_standing}
 use Rattle.as2_station.specs.Heads.{asks_store, submit_refusal, takes_store}
-use Rattle.as2_station.specs.Steps.{Left, TakesEvent}
-use Rattle.as2_station.specs.Traces.{Taken, said, trace}
+use Rattle.as2_station.specs.Steps.{LeavesAnswered, TakesEvent}
+use Rattle.as2_station.specs.Traces.{TakesEvents, event_result, trace}
 use Rattle.as2_exchange.proofs.Steady.{step_steady}
 use Rattle.as2_station.proofs.ByHistory.{ends_by_history}
 use Rattle.as2_station.proofs.HandedIn.{refuses}
 use Rattle.as2_station.proofs.Playing.{taken_clean}
-use Rattle.as2_restart.specs.Restarts.{Counts, IsUnanswered, IsHeld, MayLeave, this_one, later_one}
+use Rattle.as2_restart.specs.Restarts.{Counts, IsUnanswered, IsHeld, LeadsToFound, this_one, later_one}
 
 -- ---- what isn't asked of the store leaves the state
 
@@ -49,8 +49,8 @@ not_handed_in : (A : Agreements) (s t : State) (organization partner content : T
 not_handed_in A s t organization partner content m a None refused none is = absurd (let two : true ≡ false = ap is_none (sym refused) ∙ none in cc)
 not_handed_in A s t organization partner content m a (Some reason) refused none is = left_of (Refused reason, s) (a, t) (sym (refuses A s organization partner content m reason refused) ∙ is)
 
-unasked : (A : Agreements) (s t : State) (e : Event) (a : Answer) → known s ≡ AllDigests → asks_store A e ≡ false → step A s e ≡ Some (a, t) → t ≡ s
-unasked A s t (Post head body m) a knows none is = unread_post A s t m a (reading A AllDigests head body) none (subst (λ (k : Digests). post A s m (reading A k head body) ≡ Some (a, t)) knows is)
+unasked : (A : Agreements) (s t : State) (e : Event) (a : Answer) → digests_of s ≡ AllDigests → asks_store A e ≡ false → step A s e ≡ Some (a, t) → t ≡ s
+unasked A s t (Post head body m) a knows none is = unread_post A s t m a (post_reading A AllDigests head body) none (subst (λ (k : Digests). post A s m (post_reading A k head body) ≡ Some (a, t)) knows is)
 unasked A s t (Submit organization partner content m) a knows none is = not_handed_in A s t organization partner content m a (submit_refusal A organization partner content) refl none is
 unasked A s t (Begin n m) a knows none is = absurd cc
 unasked A s t (Outcome n got m) a knows none is = absurd cc
@@ -66,11 +66,11 @@ next_is o a t u is next = let same : Some t ≡ Some u = sym (ap (option_map (λ
 
 module _ (A : Agreements) (e : Event) (old new : Connected) (clean : HasCleanDisk new) where
   -- an answer is left by every crash
-  pub answered_lasts : (a : Answer) → TakesEvent A e (λ a. a) (standing old) (standing new) (Ok a) → (s t : State) → Rests old s → Lasts old s
-      → step A s e ≡ Some (a, t) → Rests new t → Lasts new t
+  pub answered_lasts : (a : Answer) → TakesEvent A e (λ a. a) (tables_standing old) (tables_standing new) (Ok a) → (s t : State) → Rests old s → TablesLast old s
+      → step A s e ≡ Some (a, t) → Rests new t → TablesLast new t
   answered_lasts a it s t rests lasts is rested = by new.is_open refl (asks_store A e) refl
     where
-      by : (opened : Bool) → new.is_open ≡ opened → (asks : Bool) → asks_store A e ≡ asks → Lasts new t
+      by : (opened : Bool) → new.is_open ≡ opened → (asks : Bool) → asks_store A e ≡ asks → TablesLast new t
       by true opened asks asked = record { each = (it.lasts opened t rested).each }
       by false opened true asked = absurd (let two : true ≡ false = sym (it.does.is_open clean asked) ∙ opened in cc)
       by false opened false asked = record {
@@ -96,7 +96,7 @@ Goes A told s (Some u) db = ((t : State) × Fits A told s t × Keeps db t) ⊎ (
 
 -- the connection holds s; or it was shut as u was being committed
 abbrev At : State → Option State → Connected → Type 0
-At s None c = Rests c s × Lasts c s
+At s None c = Rests c s × TablesLast c s
 At s (Some u) c = (c.is_open ≡ false) × Rests c s × Rests c u × ((db : Trees) → c.may_leave db → Keeps db s ⊎ Keeps db u)
 
 at_rest : (s : State) (o : Option State) (c : Connected) → At s o c → Rests c s
@@ -104,7 +104,7 @@ at_rest s None c it = it.0
 at_rest s (Some u) c it = it.1
 
 -- with one event before
-counts_too : (A : Agreements) (e : Event) (said : Said) (told events : Trace) → Counts A told events
+counts_too : (A : Agreements) (e : Event) (said : EventResult) (told events : Trace) → Counts A told events
     → Counts A (AnEvent e said ∷ told) (AnEvent e said ∷ events)
 counts_too A e said told events (inl same) = inl (ap (λ (l : Trace). AnEvent e said ∷ l) same)
 counts_too A e said told events (inr one) = inr (later_one (AnEvent e said) told events one)
@@ -123,7 +123,7 @@ done_first A e f a told s u t is run out = (AnEvent e (Answered a) ∷ told, inr
 
 -- where a fault shut the connection, the state that was being committed may stand
 shut_at : (A : Agreements) (e : Event) (f : StoreFault) (old new : Connected) (s : State) (came : Option (Answer × State)) → step A s e ≡ came
-    → HasCleanDisk new → TakesEvent A e (λ a. a) (standing old) (standing new) (Err f) → Rests old s → Lasts old s
+    → HasCleanDisk new → TakesEvent A e (λ a. a) (tables_standing old) (tables_standing new) (Err f) → Rests old s → TablesLast old s
     → (db : Trees) → new.may_leave db → Keeps db s ⊎ ((u : State) × (a : Answer) × (came ≡ Some (a, u)) × Keeps db u)
 shut_at A e f old new s came is clean it rests lasts db may = elim (it.does.crash.crash clean db may) [
   | inl before ↦ inl (lasts.each db before)
@@ -140,14 +140,14 @@ shut_at A e f old new s came is clean it rests lasts db may = elim (it.does.cras
 
 module _ (A : Agreements) (x : Event) (told : Trace) (old mid : Connected) (clean : HasCleanDisk mid) (db : Trees) where
   -- after a fault, over a connection that held s
-  failed_goes : (f : StoreFault) → TakesEvent A x (λ a. a) (standing old) (standing mid) (Err f) → (s : State) → Rests old s → Lasts old s
+  failed_goes : (f : StoreFault) → TakesEvent A x (λ a. a) (tables_standing old) (tables_standing mid) (Err f) → (s : State) → Rests old s → TablesLast old s
       → ((o : Option State) → At s o mid → Goes A told s o db) → Goes A (AnEvent x (Failed f) ∷ told) s None db
   failed_goes f it s rests lasts go = by mid.is_open refl (step A s x) refl
     where
       now : Rests mid s × MayFail A s x f
       now = it.does.failed clean s rests tt
 
-      whole : Lasts mid s → Goes A (AnEvent x (Failed f) ∷ told) s None db
+      whole : TablesLast mid s → Goes A (AnEvent x (Failed f) ∷ told) s None db
       whole held = let later = go None (now.0, held) in (later.0, failed_first A x f told s later.0 now.1 later.1, later.2)
 
       by : (opened : Bool) → mid.is_open ≡ opened → (came : Option (Answer × State)) → step A s x ≡ came → Goes A (AnEvent x (Failed f) ∷ told) s None db
@@ -167,14 +167,14 @@ module _ (A : Agreements) (x : Event) (told : Trace) (old mid : Connected) (clea
           ]
 
   -- after an answer, over a connection that was shut as u was being committed
-  answered_shut : (a : Answer) → TakesEvent A x (λ a. a) (standing old) (standing mid) (Ok a) → (s u : State) → At s (Some u) old
+  answered_shut : (a : Answer) → TakesEvent A x (λ a. a) (tables_standing old) (tables_standing mid) (Ok a) → (s u : State) → At s (Some u) old
       → ((t : State) (o : Option State) → At t o mid → Goes A told t o db) → Goes A (AnEvent x (Answered a) ∷ told) s (Some u) db
   answered_shut a it s u at go = by mid.is_open refl (asks_store A x) refl
     where
-      now : Left (standing mid) (step A s x) a
+      now : LeavesAnswered (tables_standing mid) (step A s x) a
       now = it.does.answered clean s at.1 tt
 
-      other : Left (standing mid) (step A u x) a
+      other : LeavesAnswered (tables_standing mid) (step A u x) a
       other = it.does.answered clean u at.2 tt
 
       by : (opened : Bool) → mid.is_open ≡ opened → (asks : Bool) → asks_store A x ≡ asks → Goes A (AnEvent x (Answered a) ∷ told) s (Some u) db
@@ -198,7 +198,7 @@ module _ (A : Agreements) (x : Event) (told : Trace) (old mid : Connected) (clea
           ]
 
   -- after a fault, over such a connection
-  failed_shut : (f : StoreFault) → TakesEvent A x (λ a. a) (standing old) (standing mid) (Err f) → (s u : State) → At s (Some u) old
+  failed_shut : (f : StoreFault) → TakesEvent A x (λ a. a) (tables_standing old) (tables_standing mid) (Err f) → (s u : State) → At s (Some u) old
       → ((o : Option State) → At s o mid → Goes A told s o db) → Goes A (AnEvent x (Failed f) ∷ told) s (Some u) db
   failed_shut f it s u at go = by mid.is_open refl
     where
@@ -215,7 +215,7 @@ module _ (A : Agreements) (x : Event) (told : Trace) (old mid : Connected) (clea
           elim (go (Some u) next) [ inl k ↦ inl (k.0, failed_first A x f told s k.0 now.1 k.1, k.2) | inr k ↦ inr (k.0, (other.1, k.1), k.2, k.3) ]
 
 module _ {S : Type 0} (g : Ghosts S) (A : Agreements) where
-  goes_on : (es : List Event) (rs : List (Result Answer StoreFault)) (old new : Held S) → Taken (λ (h : Held S). standing (state g h)) A es rs old new
+  goes_on : (es : List Event) (rs : List (Result Answer StoreFault)) (old new : Held S) → TakesEvents (λ (h : Held S). tables_standing (state g h)) A es rs old new
       → HasCleanDisk (state g new) → (s : State) (o : Option State) → At s o (state g old)
       → (db : Trees) → (state g new).may_leave db → Goes A (trace es rs) s o db
   goes_on [] [] old new same clean s None at db may = (s, ([], inl refl, refl), at.1.each db (subst (λ (h : Held S). (state g h).may_leave db) same may))
@@ -223,21 +223,21 @@ module _ {S : Type 0} (g : Ghosts S) (A : Agreements) where
   goes_on [] (q ∷ rs) old new none clean s o at db may = absurd none
   goes_on (x ∷ es) [] old new none clean s o at db may = absurd none
   goes_on (x ∷ es) (Ok a ∷ rs) old new it clean s None at db may =
-      let mid = taken_clean (λ (h : Held S). standing (state g h)) A es rs it.0 new it.4 clean in
+      let mid = taken_clean (λ (h : Held S). tables_standing (state g h)) A es rs it.0 new it.4 clean in
       let now = it.1.does.answered mid s at.0 tt in
       let held = answered_lasts A x (state g old) (state g it.0) mid a it.1 s now.next at.0 at.1 now.step now.rests in
       let later = goes_on es rs it.0 new it.4 clean now.next None (now.rests, held) db may in
       (later.0, answered_first A x a (trace es rs) s now.next later.0 now.step later.1, later.2)
   goes_on (x ∷ es) (Ok a ∷ rs) old new it clean s (Some u) at db may =
-      answered_shut A x (trace es rs) (state g old) (state g it.0) (taken_clean (λ (h : Held S). standing (state g h)) A es rs it.0 new it.4 clean) db a it.1 s u at (λ t o there. goes_on es rs it.0 new it.4 clean t o there db may)
+      answered_shut A x (trace es rs) (state g old) (state g it.0) (taken_clean (λ (h : Held S). tables_standing (state g h)) A es rs it.0 new it.4 clean) db a it.1 s u at (λ t o there. goes_on es rs it.0 new it.4 clean t o there db may)
   goes_on (x ∷ es) (Err f ∷ rs) old new it clean s None at db may =
-      failed_goes A x (trace es rs) (state g old) (state g it.0) (taken_clean (λ (h : Held S). standing (state g h)) A es rs it.0 new it.4 clean) db f it.1 s at.0 at.1 (λ o there. goes_on es rs it.0 new it.4 clean s o there db may)
+      failed_goes A x (trace es rs) (state g old) (state g it.0) (taken_clean (λ (h : Held S). tables_standing (state g h)) A es rs it.0 new it.4 clean) db f it.1 s at.0 at.1 (λ o there. goes_on es rs it.0 new it.4 clean s o there db may)
   goes_on (x ∷ es) (Err f ∷ rs) old new it clean s (Some u) at db may =
-      failed_shut A x (trace es rs) (state g old) (state g it.0) (taken_clean (λ (h : Held S). standing (state g h)) A es rs it.0 new it.4 clean) db f it.1 s u at (λ o there. goes_on es rs it.0 new it.4 clean s o there db may)
+      failed_shut A x (trace es rs) (state g old) (state g it.0) (taken_clean (λ (h : Held S). tables_standing (state g h)) A es rs it.0 new it.4 clean) db f it.1 s u at (λ o there. goes_on es rs it.0 new it.4 clean s o there db may)
 
   -- whatever stops the computer after these events, they lead to what is found, perhaps with one more done
-  pub leaves : (es : List Event) (rs : List (Result Answer StoreFault)) (old new : Held S) → Taken (λ (h : Held S). standing (state g h)) A es rs old new
-      → HasCleanDisk (state g new) → (s : State) → IsHeld (state g old) s → MayLeave A (trace es rs) s (state g new)
+  pub leaves : (es : List Event) (rs : List (Result Answer StoreFault)) (old new : Held S) → TakesEvents (λ (h : Held S). tables_standing (state g h)) A es rs old new
+      → HasCleanDisk (state g new) → (s : State) → IsHeld (state g old) s → LeadsToFound A (trace es rs) s (state g new)
   leaves es rs old new taken clean s held db may =
       let it = goes_on es rs old new taken clean s None (held.rests, held.lasts) db may in
       (it.0, record { events = it.1.0; counts = it.1.1; run = it.1.2; by_history = ends_by_history A s it.1.0 it.0 it.1.2 }, it.2)

@@ -5,7 +5,7 @@ use Rattle.sqlite_wal.specs.Recovery.{Image}
 use Rattle.as2_exchange.specs.Agreement.{Agreements}
 use Rattle.as2_exchange.specs.Run.{AMigration, Trace}
 use Rattle.as2_exchange.specs.State.{State}
-use Rattle.as2_store.specs.Calls.{Reaches}
+use Rattle.as2_store.specs.Calls.{ReachesTables}
 use Rattle.as2_store.specs.Files.{HoldsState}
 use Rattle.as2_store.specs.Migrating.{CommitsMigrated, RestsAs, migrated_from}
 use Rattle.as2_store.specs.Tables.{Layout, VersionOne, VersionTwo, VersionThree}
@@ -14,24 +14,24 @@ use Rattle.as2_restart.specs.Restarts.{ComesTo}
 
 -- what the migration of tables of this version tells, which stood for that state: of the first a mark; of later ones nothing, since the
 -- state is the same
-abbrev pub marked : Layout → State → Trace
-marked VersionOne s = AMigration s.next_in ∷ []
-marked (VersionTwo way) s = []
-marked (VersionThree way) s = []
+abbrev pub migration_trace : Layout → State → Trace
+migration_trace VersionOne s = AMigration s.next_in ∷ []
+migration_trace (VersionTwo way) s = []
+migration_trace (VersionThree way) s = []
 
 -- what was told, where it was answered or not
-abbrev pub told_of : Bool → Layout → State → Trace
-told_of is_answered layout s = if is_answered then marked layout s else []
+abbrev pub told_migration : Bool → Layout → State → Trace
+told_migration is_answered layout s = if is_answered then migration_trace layout s else []
 
 -- a migration was answered, and done, or it wasn't, and may be done once what it commits is found
 pub record MayMigrate (is_answered : Bool) (old new : Connected) : Type 0 where
   pub clean : HasCleanDisk new → HasCleanDisk old
-  pub done : IsTrue is_answered → HasCleanDisk new → (layout : Layout) (s : State) → RestsAs layout old s → Reaches new (migrated_from layout s)
+  pub done : IsTrue is_answered → HasCleanDisk new → (layout : Layout) (s : State) → RestsAs layout old s → ReachesTables new (migrated_from layout s)
   pub crash : Survives old new (CommitsMigrated old)
 
 -- What was told leads to the state that the files hold, and they are whole: of the version that is read or, where no answer came, as
 -- they were.
 pub record AreEither (A : Agreements) (is_answered : Bool) (layout : Layout) (s : State) (image : Image) : Type 0 where
   pub state : State
-  pub comes : ComesTo A (told_of is_answered layout s) s state
+  pub comes : ComesTo A (told_migration is_answered layout s) s state
   pub held : HoldsState image state ⊎ ((is_answered ≡ false) × HoldsAs layout image state)

@@ -7,22 +7,22 @@ use Rattle.sqlite.specs.Files.{over_files}
 use Rattle.sqlite.specs.Held.{Held, state}
 use Rattle.sqlite.specs.State.{State as Connected}
 use Rattle.as2_exchange.specs.Agreement.{Agreements}
-use Rattle.as2_exchange.specs.Run.{Answered, Failed, Happening, AnEvent, AMigration, Trace, Run}
+use Rattle.as2_exchange.specs.Run.{Answered, Failed, TraceEntry, AnEvent, AMigration, Trace, Run}
 use Rattle.as2_exchange.specs.State.{State}
 use Rattle.as2_exchange.specs.declared.answer.Answer.{Answer}
 use Rattle.as2_exchange.specs.declared.event.Event.{Event}
 use Rattle.as2_exchange.specs.declared.fault.StoreFault.{StoreFault}
-use Rattle.as2_store.specs.Calls.{Keeps, Lasts}
+use Rattle.as2_store.specs.Calls.{Keeps, TablesLast}
 use Rattle.as2_store.specs.Stands.{Rests}
-use Rattle.as2_kept.specs.Instance.{standing}
+use Rattle.as2_kept.specs.Instance.{tables_standing}
 use Rattle.as2_station.specs.Heads.{asks_store}
 use Rattle.as2_station.specs.Theorem.{EndsByHistory}
-use Rattle.as2_station.specs.Traces.{Taken}
+use Rattle.as2_station.specs.Traces.{TakesEvents}
 
 -- the tables stand for this state, and so they do for whoever opens the files next, whatever stops the computer
 pub record IsHeld (c : Connected) (s : State) : Type 0 where
   pub rests : Rests c s
-  pub lasts : Lasts c s
+  pub lasts : TablesLast c s
 
 -- nothing that asks the store was answered, a migration neither
 abbrev pub IsUnanswered : Agreements → Trace → Type 0
@@ -36,7 +36,7 @@ IsUnanswered A (AMigration number ∷ rest) = ⊥
 pub data HasOneDone (A : Agreements) : Trace → Trace → Type 0 where
   this_one : (event : Event) (fault : StoreFault) (answer : Answer) (rest : Trace) → IsUnanswered A rest → HasOneDone A (AnEvent event (Failed fault) ∷ rest) (AnEvent event (Answered answer) ∷ rest)
   a_migration : (number : ℕ) → HasOneDone A [] (AMigration number ∷ [])
-  later_one : (first : Happening) (rest events : Trace) → HasOneDone A rest events → HasOneDone A (first ∷ rest) (first ∷ events)
+  later_one : (first : TraceEntry) (rest events : Trace) → HasOneDone A rest events → HasOneDone A (first ∷ rest) (first ∷ events)
 
 -- the events count as they were answered, but for one such at most, which may count as done
 abbrev pub Counts : Agreements → Trace → Trace → Type 0
@@ -51,12 +51,12 @@ pub record ComesTo (A : Agreements) (told : Trace) (s t : State) : Type 0 where
   pub by_history : EndsByHistory A s events t
 
 -- whatever stops the computer now, what was told leads to what the tables stand for that are found
-abbrev pub MayLeave : Agreements → Trace → State → Connected → Type 0
-MayLeave A told s c = (db : Trees) → c.may_leave db → (t : State) × ComesTo A told s t × Keeps db t
+abbrev pub LeadsToFound : Agreements → Trace → State → Connected → Type 0
+LeadsToFound A told s c = (db : Trees) → c.may_leave db → (t : State) × ComesTo A told s t × Keeps db t
 
 -- what was told leads to the state that is held
-abbrev pub Comes : Agreements → Trace → State → Connected → Type 0
-Comes A told s c = (t : State) × ComesTo A told s t × IsHeld c t
+abbrev pub LeadsToHeld : Agreements → Trace → State → Connected → Type 0
+LeadsToHeld A told s c = (t : State) × ComesTo A told s t × IsHeld c t
 
 -- one list after the other, each from the state that the one before it came to: what was told of each, and the events that count
 abbrev pub ComesInTurn : Agreements → List Trace → Trace → State → State → Type 0
@@ -65,4 +65,4 @@ ComesInTurn A (told ∷ rest) events s u = (t : State) × (it : ComesTo A told s
 
 -- each event was taken in turn by the station, and nothing was done between
 abbrev pub WasPlayed : {D : Type 0} {g : disk.Ghosts D} → Agreements → List Event → List (Result Answer StoreFault) → Held (FileStore D g) → Type 0
-WasPlayed {D} {g} A events answers station = (left : Held (FileStore D g)) × Taken (λ (h : Held (FileStore D g)). standing (state over_files h)) A events answers station left
+WasPlayed {D} {g} A events answers station = (left : Held (FileStore D g)) × TakesEvents (λ (h : Held (FileStore D g)). tables_standing (state over_files h)) A events answers station left

@@ -12,7 +12,7 @@ ghost use Rattle.as2_store.specs.Files.{HoldsState};
 ghost use Rattle.as2_store.specs.Stands.{Rests};
 ghost use Rattle.as2_storage.specs.Files.{AreClosed, AreShielded};
 ghost use Rattle.as2_restart.specs.Files.{AreLeft};
-ghost use Rattle.as2_restart.specs.Restarts.{MayLeave};
+ghost use Rattle.as2_restart.specs.Restarts.{LeadsToFound};
 
 use as2_kept::Kept;
 use as2_station::Station;
@@ -37,7 +37,7 @@ pub(crate) fn shut<D: Disk + Drop>(
 pub fn leave<D: Disk + Drop>(station: Station<Kept<FileStore<D>>>) -> Files<D>
     ensures clean { AreClean D.Disk result.log result.db → HasCleanDisk (file_state station) }
     ensures left { AreClean D.Disk result.log result.db → (A : Agreements) (told : Trace) (s : State)
-        → MayLeave A told s (file_state station) → AreLeft D.Disk result A told s }
+        → LeadsToFound A told s (file_state station) → AreLeft D.Disk result A told s }
     ensures kept { AreClean D.Disk result.log result.db → (s : State) → Rests (file_state station) s
         → IsTrue (file_state station).is_open
         → (image : Image) → outcomes D.Disk result.log result.db image → ∥ HoldsState image s ∥₁ }

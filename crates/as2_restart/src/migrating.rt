@@ -8,8 +8,8 @@ ghost use Rattle.as2_exchange.specs.State.{State};
 ghost use Rattle.as2_store.specs.Migrating.{RestsAs};
 ghost use Rattle.as2_store.specs.Tables.{Layout};
 ghost use Rattle.as2_storage.specs.Files.{HoldsAs};
-ghost use Rattle.as2_restart.specs.Migrations.{AreEither, MayMigrate, marked};
-ghost use Rattle.as2_restart.specs.Restarts.{Comes};
+ghost use Rattle.as2_restart.specs.Migrations.{AreEither, MayMigrate, migration_trace};
+ghost use Rattle.as2_restart.specs.Restarts.{LeadsToHeld};
 
 use as2_kept::Kept;
 use as2_station::Station;
@@ -59,7 +59,7 @@ pub fn open_and_migrate<D: Disk + Drop>(
     ensures clean { IfSome result (λ again. HasCleanDisk (file_state again) → AreClean D.Disk files.log files.db) }
     ensures migrated { IfSome result (λ again. HasCleanDisk (file_state again)
         → (A : Agreements) (layout : Layout) (s : State) → HoldsAs layout (image_of D.Disk files) s
-        → Comes A (marked layout s) s (file_state again)) }
+        → LeadsToHeld A (migration_trace layout s) s (file_state again)) }
 {
     let Ok(found) = Connection::open_files(alloc, files, options) else {
         return None;

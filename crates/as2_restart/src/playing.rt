@@ -7,7 +7,7 @@ ghost use Rattle.as2_exchange.specs.State.{State};
 ghost use Rattle.as2_store.specs.Stands.{Rests};
 ghost use Rattle.as2_station.specs.Traces.{trace};
 ghost use Rattle.as2_restart.specs.Files.{EndsInFiles, HasCollided};
-ghost use Rattle.as2_restart.specs.Restarts.{Comes, IsHeld, WasPlayed};
+ghost use Rattle.as2_restart.specs.Restarts.{LeadsToHeld, IsHeld, WasPlayed};
 
 use crate::files::shut;
 use crate::reopening::stop_and_open;
@@ -50,7 +50,7 @@ pub fn play_then_stop<D: Crash + Drop>(
     ensures played { IfOk result (λ r. WasPlayed agreements.now events.items r.said.items station) }
     ensures comes { IfOk result (λ r. IfSome r.again (λ again. HasCleanDisk (file_state again) → (s : State)
         → IsHeld (file_state station) s
-        → ∥ Comes agreements.now (trace events.items r.said.items) s (file_state again) ∥₁)) }
+        → ∥ LeadsToHeld agreements.now (trace events.items r.said.items) s (file_state again) ∥₁)) }
 {
     let said = station.play(alloc, agreements, events)?;
     let again = stop_and_open(alloc, station, options);

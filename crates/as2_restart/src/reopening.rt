@@ -8,7 +8,7 @@ ghost use Rattle.as2_exchange.specs.Run.{Trace};
 ghost use Rattle.as2_exchange.specs.State.{State};
 ghost use Rattle.as2_store.specs.Files.{HoldsState};
 ghost use Rattle.as2_store.specs.Stands.{Rests};
-ghost use Rattle.as2_restart.specs.Restarts.{Comes, IsHeld, MayLeave};
+ghost use Rattle.as2_restart.specs.Restarts.{LeadsToHeld, IsHeld, LeadsToFound};
 
 use crate::files::{leave, shut};
 use as2_kept::Kept;
@@ -63,8 +63,8 @@ pub fn stop_and_open<D: Crash + Drop>(
 ) -> Option<Station<Kept<FileStore<D>>>>
     ensures clean { IfSome result (λ again. HasCleanDisk (file_state again) → HasCleanDisk (file_state station)) }
     ensures found { IfSome result (λ again. HasCleanDisk (file_state again)
-        → (A : Agreements) (told : Trace) (s : State) → MayLeave A told s (file_state station)
-        → ∥ Comes A told s (file_state again) ∥₁) }
+        → (A : Agreements) (told : Trace) (s : State) → LeadsToFound A told s (file_state station)
+        → ∥ LeadsToHeld A told s (file_state again) ∥₁) }
 {
     let mut files = leave(station);
     files.log.crash();

@@ -4,7 +4,7 @@ use Rattle.std.specs.Prelude.{ℕ, [], ◌∷◌, Option, Some, None, pos, codes
 use Rattle.sqlite_value.specs.declared.value.Value.{Value}
 use Rattle.sqlite_value.specs.declared.value.Value.TheVariants.{Null, Int, Text, Blob}
 use Rattle.sqlite_value.specs.Order.{Row}
-use Rattle.as2_names.specs.Identifiers.{value_of}
+use Rattle.as2_names.specs.Identifiers.{without_brackets}
 use Rattle.as2_mic.specs.Algs.{alg_name}
 use Rattle.as2_mdn.specs.declared.report.ReportMic.{ReportMic}
 use Rattle.as2_exchange.specs.declared.inbox.ReceiptDelivery.{ReceiptDelivery}
@@ -52,7 +52,7 @@ abbrev pub in_columns : InRow → Row
 in_columns r =
     Blob r.sender
     ∷ Blob r.receiver
-    ∷ Blob (value_of r.id)
+    ∷ Blob (without_brackets r.id)
     ∷ Blob r.id
     ∷ Blob r.content_type
     ∷ whole r.length
@@ -87,7 +87,7 @@ abbrev pub out_columns : OutRow → Row
 out_columns r =
     Blob r.organization
     ∷ Blob r.partner
-    ∷ Blob (value_of r.id)
+    ∷ Blob (without_brackets r.id)
     ∷ Blob r.id
     ∷ whole r.length
     ∷ whole r.moment

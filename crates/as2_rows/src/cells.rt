@@ -5,7 +5,7 @@ ghost use Rattle.sqlite_value.specs.declared.value.Value.TheVariants.{Int, Blob}
 ghost use Rattle.sqlite_value.specs.Order.{column};
 ghost use Rattle.sqlite_value.specs.Value.{owned};
 ghost use Rattle.as2_names.specs.Names.{IsName};
-ghost use Rattle.as2_names.specs.Identifiers.{IsIdentifier, value_of};
+ghost use Rattle.as2_names.specs.Identifiers.{IsIdentifier, without_brackets};
 ghost use Rattle.as2_names.specs.Moments.{last_moment};
 ghost use Rattle.as2_text.specs.Addresses.{url_of};
 ghost use Rattle.as2_mic.specs.Algs.{alg_name};
@@ -123,8 +123,8 @@ pub fn identifier_of(
     value: ValueRef<'_>,
 ) -> Result<MessageId, RowFault>
     ensures read { IfOk result (λ t. owned value.entry ≡ Blob t) }
-    ensures key { IfOk result (λ t. owned key.entry ≡ Blob (value_of t)) }
-    ensures taken { IfErr result (λ f. (t : List ℕ) → IsIdentifier t → owned key.entry ≡ Blob (value_of t)
+    ensures key { IfOk result (λ t. owned key.entry ≡ Blob (without_brackets t)) }
+    ensures taken { IfErr result (λ f. (t : List ℕ) → IsIdentifier t → owned key.entry ≡ Blob (without_brackets t)
         → owned value.entry ≡ Blob t → f ≡ fault.Memory) }
 {
     if blob(key)? != without_brackets(blob(value)?) {

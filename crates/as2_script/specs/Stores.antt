@@ -7,9 +7,9 @@ use Rattle.as2_exchange.specs.State.{State}
 use Rattle.as2_store.specs.Stands.{Rests}
 
 -- the tables of the store that is kept stand for that state
-abbrev pub Keeps : Option (Held MemStore) → State → Type 0
-Keeps None s = ⊥
-Keeps (Some c) s = Rests (state over_memory c) s
+abbrev pub MemoryKeeps : Option (Held MemStore) → State → Type 0
+MemoryKeeps None s = ⊥
+MemoryKeeps (Some c) s = Rests (state over_memory c) s
 
 -- how many stores were opened
 abbrev pub opens_by : Bool → ℕ

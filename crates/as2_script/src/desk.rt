@@ -2,7 +2,7 @@
 //!
 //! A file is the text whose name is its path. `stores` says what stands under each path (`stores.rt`), `connections` how the connections
 //! end that come, `connection-posts` what each brings, `partner-reply` what each partner answers, and `link-fault` why none does (`network.rt`); `script_player` has the clock and the streams.
-ghost use Rattle.as2_http.specs.Devices.{Opens};
+ghost use Rattle.as2_http.specs.Devices.{OpensLedger};
 
 mod connections;
 mod files;
@@ -64,12 +64,12 @@ fn run_counted<S: OpenStores, A: Ledger, B: Ledger, C: Ledger, D: Ledger, E: Led
     writes: Counts,
     says: Counts,
 ) -> (Ended, (usize, usize))
-    requires reads { Opens reads.calls.name reads.calls.parts A.name A.parts }
-    requires failed_reads { Opens reads.failed.name reads.failed.parts B.name B.parts }
-    requires writes { Opens writes.calls.name writes.calls.parts C.name C.parts }
-    requires failed_writes { Opens writes.failed.name writes.failed.parts D.name D.parts }
-    requires says { Opens says.calls.name says.calls.parts E.name E.parts }
-    requires failed_says { Opens says.failed.name says.failed.parts F.name F.parts }
+    requires reads { OpensLedger reads.calls.name reads.calls.parts A.name A.parts }
+    requires failed_reads { OpensLedger reads.failed.name reads.failed.parts B.name B.parts }
+    requires writes { OpensLedger writes.calls.name writes.calls.parts C.name C.parts }
+    requires failed_writes { OpensLedger writes.failed.name writes.failed.parts D.name D.parts }
+    requires says { OpensLedger says.calls.name says.calls.parts E.name E.parts }
+    requires failed_says { OpensLedger says.failed.name says.failed.parts F.name F.parts }
 {
     let input = Input::new(given.parts.as_slice(), given.calls.reads);
     let output = Paper::new(alloc, given.calls.writes);

@@ -1,6 +1,6 @@
 -- What goes over links: a job, and what is answered to it.
 use Rattle.std.specs.Prelude.{◌≡◌, List, [], ◌∷◌, ◌++◌}
-use Rattle.as2_exchange.specs.Run.{Trace, Happening, AnEvent, Said, Answered}
+use Rattle.as2_exchange.specs.Run.{Trace, TraceEntry, AnEvent, EventResult, Answered}
 use Rattle.as2_exchange.specs.declared.answer.Answer.TheVariants.{Job as Handed}
 use Rattle.as2_exchange.specs.declared.answer.Job.{Job}
 use Rattle.as2_exchange.specs.declared.event.Event.{Event}
@@ -13,13 +13,13 @@ pub record Exchange : Type 0 where
   pub got : TryAnswer
 
 -- the exchange that stands between a begin, by what was said to it, and the event behind it
-abbrev pub exchange_of : Said → Event → List Exchange
+abbrev pub exchange_of : EventResult → Event → List Exchange
 exchange_of (Answered (Handed job)) (Outcome n got m) = record { job = job; got = got } ∷ []
 exchange_of (Answered (Handed job)) (OutcomeMdn n got m) = record { job = job; got = got } ∷ []
 exchange_of said e = []
 
 -- the same of two that stand so in a trace
-abbrev pub exchange_between : Happening → Happening → List Exchange
+abbrev pub exchange_between : TraceEntry → TraceEntry → List Exchange
 exchange_between (AnEvent begun said) (AnEvent ended told) = exchange_of said ended
 exchange_between one other = []
 

@@ -2,7 +2,7 @@
 use Rattle.std.specs.Prelude.{ℕ, List, [], ◌∷◌, ◌++◌, codes, decimal, Option, Some, None, Result, Ok, Err, if◌then◌else◌}
 use Rattle.as2_names.specs.Heads.{values}
 use Rattle.as2_media.specs.Kinds.{kind_of}
-use Rattle.as2_media.specs.MediaTypes.{Media, reading}
+use Rattle.as2_media.specs.MediaTypes.{Media, media_type_reading}
 use Rattle.as2_media.specs.declared.fault.TypeFault.{TypeFault}
 use Rattle.as2_media.specs.declared.kind.Kind.{Kind}
 use Rattle.as2_media.specs.declared.kind.Kind.TheVariants as kind
@@ -25,7 +25,7 @@ kind_if (Ok media) = Some (kind_of media)
 kind_if (Err fault) = None
 
 abbrev pub kind_read : List ℕ → Option Kind
-kind_read text = kind_if (reading text)
+kind_read text = kind_if (media_type_reading text)
 
 -- .. of the types that a head gives: bytes of no known type where it gives none (RFC 2046, section 4.5.1)
 abbrev pub kind_among : List (List ℕ) → Option Kind

@@ -1,6 +1,6 @@
 -- What is written of a try: one line, once its outcome is taken.
 use Rattle.std.specs.Prelude.{[], ◌∷◌, ◌++◌, codes, decimal, Option, Some, None}
-use Rattle.as2_mdn.specs.Details.{state_of, name_of}
+use Rattle.as2_mdn.specs.Details.{class_of, name_of}
 use Rattle.as2_exchange.specs.Agreement.{Text}
 use Rattle.as2_exchange.specs.declared.event.Event.{Event}
 use Rattle.as2_exchange.specs.declared.event.Event.TheVariants.{Outcome, OutcomeMdn}
@@ -23,7 +23,7 @@ became_by other = None
 
 -- in words; a receipt that settles a document says how it stands now
 abbrev pub words : Became → Text
-words (became.Settled detail) = codes "settled " ++ state_text (state_of detail) ++ codes " " ++ name_of detail
+words (became.Settled detail) = codes "settled " ++ state_text (class_of detail) ++ codes " " ++ name_of detail
 words became.Delivered = codes "delivered"
 words became.TryFailed = codes "try failed"
 words became.AlreadySettled = codes "already settled"
@@ -33,13 +33,13 @@ abbrev pub subject : Next → Text
 subject (Receipt n) = codes "receipt " ++ decimal n
 subject (Document n) = codes "document " ++ decimal n
 
-abbrev pub line : Next → Became → Text
-line what b = subject what ++ codes ": " ++ words b ++ codes "\n"
+abbrev pub turn_line : Next → Became → Text
+turn_line what b = subject what ++ codes ": " ++ words b ++ codes "\n"
 
 -- nothing, where nothing became of it
 abbrev pub line_if : Next → Option Became → Text
 line_if what None = []
-line_if what (Some b) = line what b
+line_if what (Some b) = turn_line what b
 
 -- the line of an event with its answer: an outcome has one that wasn't refused
 abbrev pub line_of : Event → Answer → Text
@@ -48,8 +48,8 @@ line_of (OutcomeMdn n got m) a = line_if (Receipt n) (became_by a)
 line_of other a = []
 
 -- the lines of a trace, in order; a fault has none, nor has a migration
-abbrev pub lines : Trace → Text
-lines [] = []
-lines (AnEvent e (Answered a) ∷ more) = line_of e a ++ lines more
-lines (AnEvent e (Failed fault) ∷ more) = lines more
-lines (AMigration n ∷ more) = lines more
+abbrev pub trace_lines : Trace → Text
+trace_lines [] = []
+trace_lines (AnEvent e (Answered a) ∷ more) = line_of e a ++ trace_lines more
+trace_lines (AnEvent e (Failed fault) ∷ more) = trace_lines more
+trace_lines (AMigration n ∷ more) = trace_lines more

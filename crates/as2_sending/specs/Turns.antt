@@ -15,12 +15,12 @@ use Rattle.as2_exchange.specs.declared.event.TryAnswer.{TryAnswer}
 use Rattle.as2_exchange.specs.declared.fault.StoreFault.{StoreFault}
 use Rattle.as2_exchange.specs.declared.next.Next.{Next}
 use Rattle.as2_records.specs.Standing.{may_come}
-use Rattle.as2_station.specs.Said.{answer_of, begin_of, outcome_of}
+use Rattle.as2_station.specs.Said.{answer_of, begin_event, outcome_event}
 use Rattle.as2_station.specs.Theorem.{EndsByHistory}
 use Rattle.as2_http.specs.Responses.{IsSafe}
 use Rattle.as2_sending.specs.Exchanges.{Exchange, exchanges}
 use Rattle.as2_sending.specs.Hints.{hint_if, why_of}
-use Rattle.as2_sending.specs.Lines.{line, lines}
+use Rattle.as2_sending.specs.Lines.{turn_line, trace_lines}
 use Rattle.as2_sending.specs.declared.links.LinkFault.{LinkFault}
 use Rattle.as2_sending.specs.declared.sent.Sent.{Sent}
 use Rattle.as2_sending.specs.declared.sent.Sent.TheVariants as sent
@@ -49,56 +49,56 @@ abbrev pub hints : List Turn → Text
 hints turns = flat_map hint_of turns
 
 -- what is next in the state s begins at this moment, and this request is to be sent; mid is left
-pub record Begins (A : Agreements) (m : ℕ) (s : State) (what : Next) (job : Job) (mid : State) : Type 0 where
+pub record BeginsTry (A : Agreements) (m : ℕ) (s : State) (what : Next) (job : Job) (mid : State) : Type 0 where
   pub is_next : next s m ≡ Some what
-  pub begun : step A s (begin_of what m) ≡ Some (Handed job, mid)
+  pub begun : step A s (begin_event what m) ≡ Some (Handed job, mid)
 
 -- what is next begins, and the outcome of that same try, which is what the link answered, is taken; t is left
-pub record Takes (A : Agreements) (m : ℕ) (s : State) (x : Turn) (t : State) : Type 0 where
+pub record TakesTurn (A : Agreements) (m : ℕ) (s : State) (x : Turn) (t : State) : Type 0 where
   pub mid : State
-  pub begins : Begins A m s x.what x.job mid
-  pub closes : step A mid (outcome_of x.what x.got m) ≡ Some (answer_of x.became, t)
+  pub begins : BeginsTry A m s x.what x.job mid
+  pub closes : step A mid (outcome_event x.what x.got m) ≡ Some (answer_of x.became, t)
 
 -- these turns, one after the other
-abbrev pub TakesAll : Agreements → ℕ → State → List Turn → State → Type 0
-TakesAll A m s [] t = t ≡ s
-TakesAll A m s (x ∷ more) t = (mid : State) × Takes A m s x mid × TakesAll A m mid more t
+abbrev pub TakesTurns : Agreements → ℕ → State → List Turn → State → Type 0
+TakesTurns A m s [] t = t ≡ s
+TakesTurns A m s (x ∷ more) t = (mid : State) × TakesTurn A m s x mid × TakesTurns A m mid more t
 
 -- the events of turns, with their answers
-abbrev pub events : ℕ → List Turn → Trace
-events m [] = []
-events m (x ∷ more) = AnEvent (begin_of x.what m) (Answered (Handed x.job)) ∷ AnEvent (outcome_of x.what x.got m) (Answered (answer_of x.became)) ∷ events m more
+abbrev pub turn_events : ℕ → List Turn → Trace
+turn_events m [] = []
+turn_events m (x ∷ more) = AnEvent (begin_event x.what m) (Answered (Handed x.job)) ∷ AnEvent (outcome_event x.what x.got m) (Answered (answer_of x.became)) ∷ turn_events m more
 
 -- ---- the end
 
 -- in the state s these last events came, of which the last one was refused for this reason; t is left
-pub data IsRefused (A : Agreements) (m : ℕ) (s : State) (last : Trace) (t : State) (reason : Refusal) : Type 0 where
-  at_begin_refused : (what : Next) (is_next : next s m ≡ Some what) (refused : step A s (begin_of what m) ≡ Some (Refused reason, t))
-      (are : last ≡ AnEvent (begin_of what m) (Answered (Refused reason)) ∷ []) → IsRefused A m s last t reason
-  at_outcome_refused : (what : Next) (job : Job) (got : TryAnswer) (mid : State) (begins : Begins A m s what job mid) (refused : step A mid (outcome_of what got m) ≡ Some (Refused reason, t))
-      (are : last ≡ AnEvent (begin_of what m) (Answered (Handed job)) ∷ AnEvent (outcome_of what got m) (Answered (Refused reason)) ∷ []) → IsRefused A m s last t reason
+pub data SendingIsRefused (A : Agreements) (m : ℕ) (s : State) (last : Trace) (t : State) (reason : Refusal) : Type 0 where
+  at_begin_refused : (what : Next) (is_next : next s m ≡ Some what) (refused : step A s (begin_event what m) ≡ Some (Refused reason, t))
+      (are : last ≡ AnEvent (begin_event what m) (Answered (Refused reason)) ∷ []) → SendingIsRefused A m s last t reason
+  at_outcome_refused : (what : Next) (job : Job) (got : TryAnswer) (mid : State) (begins : BeginsTry A m s what job mid) (refused : step A mid (outcome_event what got m) ≡ Some (Refused reason, t))
+      (are : last ≡ AnEvent (begin_event what m) (Answered (Handed job)) ∷ AnEvent (outcome_event what got m) (Answered (Refused reason)) ∷ []) → SendingIsRefused A m s last t reason
 
 -- .. of which the last one got this fault of the store; or what is next couldn't be told, and no more events came
-pub data HasFailed (A : Agreements) (m : ℕ) (s : State) (last : Trace) (t : State) (why : StoreFault) : Type 0 where
-  at_next_failed : (same : t ≡ s) (none : last ≡ []) → HasFailed A m s last t why
-  at_begin_failed : (what : Next) (is_next : next s m ≡ Some what) (same : t ≡ s) (are : last ≡ AnEvent (begin_of what m) (Failed why) ∷ []) → HasFailed A m s last t why
-  at_outcome_failed : (what : Next) (job : Job) (got : TryAnswer) (begins : Begins A m s what job t)
-      (are : last ≡ AnEvent (begin_of what m) (Answered (Handed job)) ∷ AnEvent (outcome_of what got m) (Failed why) ∷ []) → HasFailed A m s last t why
+pub data SendingFails (A : Agreements) (m : ℕ) (s : State) (last : Trace) (t : State) (why : StoreFault) : Type 0 where
+  at_next_failed : (same : t ≡ s) (none : last ≡ []) → SendingFails A m s last t why
+  at_begin_failed : (what : Next) (is_next : next s m ≡ Some what) (same : t ≡ s) (are : last ≡ AnEvent (begin_event what m) (Failed why) ∷ []) → SendingFails A m s last t why
+  at_outcome_failed : (what : Next) (job : Job) (got : TryAnswer) (begins : BeginsTry A m s what job t)
+      (are : last ≡ AnEvent (begin_event what m) (Answered (Handed job)) ∷ AnEvent (outcome_event what got m) (Failed why) ∷ []) → SendingFails A m s last t why
 
 -- a whole turn, of whose line a part may be missing
 pub record IsUntold (A : Agreements) (m : ℕ) (s : State) (last : Trace) (t : State) (text : Text) : Type 0 where
   pub turn : Turn
-  pub takes : Takes A m s turn t
-  pub are : last ≡ events m (turn ∷ [])
+  pub takes : TakesTurn A m s turn t
+  pub are : last ≡ turn_events m (turn ∷ [])
   pub missing : Text
-  pub cut : line turn.what turn.became ≡ text ++ missing
+  pub cut : turn_line turn.what turn.became ≡ text ++ missing
 
 -- how sending ends in the state s: with which last events, which state is left, and what is still written
-abbrev pub Ends : Agreements → ℕ → State → Trace → State → Text → Sent → Type 0
-Ends A m s last t text sent.Done = (next s m ≡ None) × (t ≡ s) × (last ≡ []) × (text ≡ [])
-Ends A m s last t text (sent.Refused reason) = IsRefused A m s last t reason × (text ≡ [])
-Ends A m s last t text (sent.Failed why) = HasFailed A m s last t why × (may_come why ≡ true) × (text ≡ [])
-Ends A m s last t text sent.Unwritten = IsUntold A m s last t text
+abbrev pub SendingEnds : Agreements → ℕ → State → Trace → State → Text → Sent → Type 0
+SendingEnds A m s last t text sent.Done = (next s m ≡ None) × (t ≡ s) × (last ≡ []) × (text ≡ [])
+SendingEnds A m s last t text (sent.Refused reason) = SendingIsRefused A m s last t reason × (text ≡ [])
+SendingEnds A m s last t text (sent.Failed why) = SendingFails A m s last t why × (may_come why ≡ true) × (text ≡ [])
+SendingEnds A m s last t text sent.Unwritten = IsUntold A m s last t text
 
 -- ---- all of it
 
@@ -109,33 +109,33 @@ pub record Sends (A : Agreements) (m : ℕ) (s t : State) (before after : Option
     (Seen : Text → List Exchange → Type 0) (end : Sent) : Type 0 where
   pub done : List Turn
   pub mid : State
-  pub all : TakesAll A m s done mid
+  pub all : TakesTurns A m s done mid
   pub last : Trace
   pub rest : Text
-  pub ends : Ends A m mid last t rest end
-  pub run : Run A s (events m done ++ last) t
-  pub by_history : EndsByHistory A s (events m done ++ last) t
-  pub written : Appends before after (lines (events m done) ++ rest)
-  pub seen : Seen (hints done) (exchanges (events m done ++ last))
+  pub ends : SendingEnds A m mid last t rest end
+  pub run : Run A s (turn_events m done ++ last) t
+  pub by_history : EndsByHistory A s (turn_events m done ++ last) t
+  pub written : Appends before after (trace_lines (turn_events m done) ++ rest)
+  pub seen : Seen (hints done) (exchanges (turn_events m done ++ last))
 
 -- ---- one turn
 
 -- what is next begins, and the records rest on the state that it leaves, which lasts before its request goes over a link; or sending
 -- ends with it, and nothing goes over a link
 abbrev pub BeginsTo : {M : Medium} → Agreements → ℕ → State → Next → Standing M → Result Job Sent → Type 0
-BeginsTo A m s what c (Ok job) = (mid : State) × Begins A m s what job mid × c.Rests mid × IsSafe c mid
-BeginsTo A m s what c (Err end) = (last : Trace) × (t : State) × Ends A m s last t [] end × c.Rests t × (exchanges last ≡ [])
+BeginsTo A m s what c (Ok job) = (mid : State) × BeginsTry A m s what job mid × c.Rests mid × IsSafe c mid
+BeginsTo A m s what c (Err end) = (last : Trace) × (t : State) × SendingEnds A m s last t [] end × c.Rests t × (exchanges last ≡ [])
 
 -- the outcome of what has begun is taken, which leaves mid behind, and what this leaves lasts before its line is written; or
 -- sending ends with it
 abbrev pub ClosesTo : {M : Medium} → Agreements → ℕ → State → Next → Exchange → State → Standing M → Result Became Sent → Type 0
-ClosesTo A m s what x mid c (Ok became) = (t : State) × (step A mid (outcome_of what x.got m) ≡ Some (answer_of became, t)) × c.Rests t × IsSafe c t
-ClosesTo A m s what x mid c (Err end) = (last : Trace) × (t : State) × Ends A m s last t [] end × c.Rests t × (exchanges last ≡ x ∷ [])
+ClosesTo A m s what x mid c (Ok became) = (t : State) × (step A mid (outcome_event what x.got m) ≡ Some (answer_of became, t)) × c.Rests t × IsSafe c t
+ClosesTo A m s what x mid c (Err end) = (last : Trace) × (t : State) × SendingEnds A m s last t [] end × c.Rests t × (exchanges last ≡ x ∷ [])
 
 -- a turn is taken whole, with its line, its hint and its exchange; or sending ends with it, and nothing is hinted
 abbrev pub TurnsTo : {M : Medium} {U : Type 0} → Agreements → ℕ → State → Standing M → Option (List ℕ) → Option (List ℕ)
     → (Text → List Exchange → Type 0) → Result U Sent → Type 0
 TurnsTo A m s c before after Seen (Ok done) =
-    (x : Turn) × (t : State) × Takes A m s x t × c.Rests t × Appends before after (line x.what x.became) × Seen (hint_of x) (exchanged_by x ∷ [])
+    (x : Turn) × (t : State) × TakesTurn A m s x t × c.Rests t × Appends before after (turn_line x.what x.became) × Seen (hint_of x) (exchanged_by x ∷ [])
 TurnsTo A m s c before after Seen (Err end) =
-    (last : Trace) × (t : State) × (text : Text) × Ends A m s last t text end × c.Rests t × Appends before after text × Seen [] (exchanges last)
+    (last : Trace) × (t : State) × (text : Text) × SendingEnds A m s last t text end × c.Rests t × Appends before after text × Seen [] (exchanges last)

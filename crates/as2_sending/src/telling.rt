@@ -2,7 +2,7 @@
 ghost use Rattle.std.specs.Prelude.{◌≡◌, ◌+◌, ◌≤◌, ◌++◌, length};
 ghost use Rattle.as2_views.specs.Layout.{state_text};
 ghost use Rattle.as2_mdn.specs.Details.{name_of};
-ghost use Rattle.as2_sending.specs.Lines.{line, subject, words};
+ghost use Rattle.as2_sending.specs.Lines.{turn_line, subject, words};
 
 use arrayvec::ArrayString;
 use as2_exchange::Next;
@@ -44,9 +44,9 @@ pub(crate) fn subject(what: Next) -> Line
 
 /// Appends what became of it.
 fn add_words(line: &mut Line, became: Became)
-    requires { length line.old.bytes ≤ 51 }
-    ensures text { line.new.bytes ≡ line.old.bytes ++ words became }
-    ensures short { length line.new.bytes ≤ length line.old.bytes + 26 }
+    requires { length turn_line.old.bytes ≤ 51 }
+    ensures text { turn_line.new.bytes ≡ turn_line.old.bytes ++ words became }
+    ensures short { length turn_line.new.bytes ≤ length turn_line.old.bytes + 26 }
 {
     match became {
         Became::Settled(detail) => {
@@ -63,7 +63,7 @@ fn add_words(line: &mut Line, became: Became)
 
 /// The line of a try.
 pub fn line(what: Next, became: Became) -> Line
-    ensures { result.bytes ≡ line what became }
+    ensures { result.bytes ≡ turn_line what became }
 {
     let mut line = subject(what);
     line.push_str(": ");

@@ -5,7 +5,7 @@ ghost use Rattle.as2_exchange.specs.declared.answer.Job.{Job as HandedJob};
 ghost use Rattle.as2_exchange.specs.State.{State};
 ghost use Rattle.as2_exchange.specs.Due.{next};
 ghost use Rattle.as2_sending.specs.Exchanges.{Exchanges};
-ghost use Rattle.as2_sending.specs.Turns.{Begins, BeginsTo, ClosesTo, TurnsTo};
+ghost use Rattle.as2_sending.specs.Turns.{BeginsTry, BeginsTo, ClosesTo, TurnsTo};
 ghost use Rattle.as2_sending.specs.declared.sent.Sent.TheVariants.{Unwritten};
 
 use crate::hints::{is_hinted, why_of};
@@ -53,7 +53,7 @@ fn close<K: Records>(
 ) -> Result<Became, Sent>
     ensures clean { (K.shows station.new).IsClean → (K.shows station.old).IsClean }
     ensures closed { (K.shows station.new).IsClean → (s mid : State) (job : HandedJob)
-        → Begins agreements.now moment s what job mid → (K.shows station.old).Rests mid
+        → BeginsTry agreements.now moment s what job mid → (K.shows station.old).Rests mid
         → ClosesTo agreements.now moment s what (record { job = job; got = got }) mid (K.shows station.new) result }
     ensures written { IfErr result (λ end. end ≢ Unwritten) }
 {

@@ -3,8 +3,8 @@ use Rattle.std.specs.Prelude.{◌≡◌, ℕ, ◌<◌, ◌^◌, List, ◌∷◌,
 use Rattle.std.specs.Str.Parse.{IsNumeral, digits_value, without_leading_plus}
 
 -- `:`
-abbrev pub colon : ℕ
-colon = 58
+abbrev pub port_mark : ℕ
+port_mark = 58
 
 -- digits of a number below 2^16, which may have a plus before them
 abbrev pub IsPort : List ℕ → Type 0
@@ -13,7 +13,7 @@ IsPort digits = IsNumeral 10 (without_leading_plus digits) × (digits_value 10 (
 -- the host, a colon and the port in digits
 pub record SpellsPort (authority host : List ℕ) (port : ℕ) : Type 0 where
   pub digits : List ℕ
-  pub whole : authority ≡ host ++ colon ∷ digits
+  pub whole : authority ≡ host ++ port_mark ∷ digits
   pub is_port : IsPort digits
   pub value : port ≡ digits_value 10 (without_leading_plus digits)
 
@@ -25,5 +25,5 @@ SpellsNoPort authority host port = (authority ≡ host) × (port ≡ 80)
 pub record SpellsNeither (authority : List ℕ) : Type 0 where
   pub host : List ℕ
   pub digits : List ℕ
-  pub whole : authority ≡ host ++ colon ∷ digits
+  pub whole : authority ≡ host ++ port_mark ∷ digits
   pub other : ¬ IsPort digits

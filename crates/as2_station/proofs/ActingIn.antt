@@ -1,6 +1,6 @@
 -- An act on a received entry that is found.
 use Rattle.std.proofs.Common.{◌≡◌, ◌∙◌, List, Some, ap, ap₂}
-use Rattle.as2_exchange.specs.State.{State, received, change_received}
+use Rattle.as2_exchange.specs.State.{State, received_entry, change_received}
 use Rattle.as2_exchange.specs.Step.{acted_in, on_received}
 use Rattle.as2_exchange.specs.declared.answer.Answer.{Answer}
 use Rattle.as2_exchange.specs.declared.inbox.InEntry.{InEntry}
@@ -8,7 +8,7 @@ use Rattle.as2_exchange.proofs.Refusing.{left_as_is}
 use Rattle.as2_records.specs.Standing.{IsCounted}
 use Rattle.as2_station.proofs.Numbers.{changes_alike}
 
-module _ (s : State) (e : InEntry) (stands : IsCounted s) (found : received s e.number ≡ Some e) (act : InEntry → Answer × InEntry) (a : Answer) where
+module _ (s : State) (e : InEntry) (stands : IsCounted s) (found : received_entry s e.number ≡ Some e) (act : InEntry → Answer × InEntry) (a : Answer) where
   -- it leaves it
   pub leaves_in : act e ≡ (a, e) → on_received s e.number act ≡ (a, s)
   leaves_in is =

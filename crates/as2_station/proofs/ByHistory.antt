@@ -2,15 +2,15 @@
 use Rattle.std.proofs.Common.{◌≡◌, ◌↔◌, ◌∙◌, ℕ, true, List, [], ◌∷◌, ◌++◌, Option, Some, None, Result, Ok, Err, refl, sym, ap, subst}
 use Rattle.std.specs.Prelude.{IsSomeAnd, option_map, option_and_then}
 use Rattle.as2_records.specs.Standing.{Medium, Standing}
-use Rattle.as2_mdn.specs.Details.{state_of}
+use Rattle.as2_mdn.specs.Details.{class_of}
 use Rattle.as2_mdn.specs.Verdicts.{Confirms}
 use Rattle.as2_mdn.specs.declared.detail.State.TheVariants.{S}
 use Rattle.as2_exchange.specs.Agreement.{Agreements, partner_of}
 use Rattle.as2_exchange.specs.Invariants.{IsCounter, IsWellFormed}
 use Rattle.as2_exchange.specs.Events.{Done}
-use Rattle.as2_exchange.specs.History.{Fact, Found, Submission, concerns, first_of, first_receipt, submitted, submission, told, told_by}
+use Rattle.as2_exchange.specs.History.{Fact, FoundAt, Submission, concerns, first_of, first_receipt, submission_of, submission, history_of, history_by}
 use Rattle.as2_exchange.specs.Posts.{ReceivedReceipt}
-use Rattle.as2_exchange.specs.Run.{Answered, Failed, AnEvent, AMigration, Trace, Run, migrated, accepted}
+use Rattle.as2_exchange.specs.Run.{Answered, Failed, AnEvent, AMigration, Trace, Run, migrated_state, accepted_events}
 use Rattle.as2_exchange.specs.State.{AllDigests, State, Version, document, empty}
 use Rattle.as2_exchange.specs.declared.outbox.OutEntry.{OutEntry}
 use Rattle.as2_exchange.specs.Step.{step}
@@ -31,7 +31,7 @@ use Rattle.as2_exchange.proofs.Ticking.{ticked_counts}
 use Rattle.as2_records.specs.Calls.{Lasts}
 use Rattle.std.specs.Prelude.{IsTrue}
 use Rattle.as2_exchange.specs.Readings.{Head}
-use Rattle.as2_exchange.specs.Posts.{reading}
+use Rattle.as2_exchange.specs.Posts.{post_reading}
 use Rattle.as2_exchange.specs.declared.event.Event.TheVariants.{Post}
 use Rattle.as2_station.specs.Heads.{asks_store}
 use Rattle.as2_station.specs.Steps.{ClashesWhole, Does, TakesEvent, always}
@@ -42,25 +42,25 @@ pub run_then : (A : Agreements) (s mid t : State) (one two : Trace) → Run A s 
 run_then A s mid t [] two a b = subst (λ (x : State). Run A x two t) a b
 run_then A s mid t (AnEvent e (Answered answer) ∷ one) two a b = (a.0, a.1, run_then A a.0 mid t one two a.2 b)
 run_then A s mid t (AnEvent e (Failed fault) ∷ one) two a b = (a.0, run_then A s mid t one two a.1 b)
-run_then A s mid t (AMigration n ∷ one) two a b = (a.0, a.1, run_then A (migrated s) mid t one two a.2 b)
+run_then A s mid t (AMigration n ∷ one) two a b = (a.0, a.1, run_then A (migrated_state s) mid t one two a.2 b)
 
 -- ---- success
 
 -- a submission is found by both, or by neither
-found_by_both : {X : Type 0} (o : Option (Found Submission Done)) (f : Found Submission Done → X) (x : X) → option_map f o ≡ Some x
-    → option_map (λ (g : Found Submission Done). g.it) o ≡ None → ⊥
+found_by_both : {X : Type 0} (o : Option (FoundAt Submission Done)) (f : FoundAt Submission Done → X) (x : X) → option_map f o ≡ Some x
+    → option_map (λ (g : FoundAt Submission Done). g.it) o ≡ None → ⊥
 found_by_both None f x is none = absurd cc
 found_by_both (Some g) f x is none = absurd cc
 
 success_by : (A : Agreements) (v : Version) (first : ℕ) (trace : Trace) (s : State) → Run A (empty v first) trace s
-    → (k : ℕ) (o : Option OutEntry) (c : Option (Submission × List Fact)) → document s k ≡ o → concerns A (accepted v trace) k ≡ c
-    → IsSomeAnd o (λ d. state_of d.detail ≡ S) ↔ IsSomeAnd c (λ it. IsSomeAnd (first_receipt A k it.0 it.1) (λ (r : ℕ
+    → (k : ℕ) (o : Option OutEntry) (c : Option (Submission × List Fact)) → document s k ≡ o → concerns A (accepted_events v trace) k ≡ c
+    → IsSomeAnd o (λ d. class_of d.detail ≡ S) ↔ IsSomeAnd c (λ it. IsSomeAnd (first_receipt A k it.0 it.1) (λ (r : ℕ
     × ReceivedReceipt). Confirms r.1.known r.1.receipt it.0.content))
 unfolding concerns
 success_by A v first trace s run k None None is known = (λ h. absurd h, λ h. absurd h)
-success_by A v first trace s run k (Some d) None is known = absurd (let none : Some (told d) ≡ None = sym (ap (option_map told) is) ∙ law A v first trace s run k ∙ ap (λ (c : Option (Submission × List Fact)). option_and_then (λ (x : Submission × List Fact). option_map (told_by A k x.0 x.1) (partner_of A x.0.partner)) c) known in cc)
+success_by A v first trace s run k (Some d) None is known = absurd (let none : Some (history_of d) ≡ None = sym (ap (option_map history_of) is) ∙ law A v first trace s run k ∙ ap (λ (c : Option (Submission × List Fact)). option_and_then (λ (x : Submission × List Fact). option_map (history_by A k x.0 x.1) (partner_of A x.0.partner)) c) known in cc)
 success_by A v first trace s run k None (Some it) is known =
-    absurd (found_by_both (first_of (submission k) (accepted v trace)) _ it known (sym (as_submitted A v first trace s run k) ∙ ap (option_map submitted) is))
+    absurd (found_by_both (first_of (submission k) (accepted_events v trace)) _ it known (sym (as_submitted A v first trace s run k) ∙ ap (option_map submission_of) is))
 success_by A v first trace s run k (Some d) (Some it) is known =
     let state = state_of_success d.detail in
     let by = success_confirmed A v first trace s run k d is it.0 it.1 known in
@@ -88,7 +88,7 @@ stands_by_history A v first trace s counter run = record {
   version = run_version A (empty v first) trace s run;
   documents = as_submitted A v first trace s run;
   stands = law A v first trace s run;
-  success = λ k. success_by A v first trace s run k (document s k) (concerns A (accepted v trace) k) refl refl;
+  success = λ k. success_by A v first trace s run k (document s k) (concerns A (accepted_events v trace) k) refl refl;
   names = bears_exactly;
   settled = λ k d is settled more t on. stays d t k (settled_stays_law A v first trace more s t run on k d is settled);
   alone = λ k other w two t on same. same_facts A v w first other trace two s t k run on same;
@@ -116,7 +116,7 @@ takes_by_history A event asks told old new (Err f) does clean s rests =
 pub takes_event : {M : Medium} {X : Type 0} (A : Agreements) (event : Event) (told : X → Answer) (old new : Standing M) (r : Result X StoreFault)
     → Does (λ s. step A s event) always (asks_store A event ≡ true) told old new r
     → (IsTrue new.is_open → (s : State) → new.Rests s → Lasts new s)
-    → ((head : Head) (body : List ℕ) (moment : ℕ) → event ≡ Post head body moment → ClashesWhole told (reading A AllDigests head body) old new r)
+    → ((head : Head) (body : List ℕ) (moment : ℕ) → event ≡ Post head body moment → ClashesWhole told (post_reading A AllDigests head body) old new r)
     → TakesEvent A event told old new r
 takes_event A event told old new r does lasts whole =
     record { does = does; by_history = takes_by_history A event (asks_store A event ≡ true) told old new r does; lasts = lasts; whole = whole }

@@ -3,12 +3,12 @@ use Rattle.std.proofs.Common.{◌≡◌, ◌∙◌, ℕ, ◌+◌, ◌||◌, not,
 use Rattle.std.specs.Prelude.{if◌then◌else◌, ⊤}
 use Rattle.std.specs.Option.{option_map_or}
 use Rattle.as2_exchange.specs.Agreement.{Agreements, Partner, Asked, NoReceipt, Sync, Async}
-use Rattle.as2_exchange.specs.Documents.{closed, closed_by, delivered, failed_try, if_for, settled_as}
+use Rattle.as2_exchange.specs.Documents.{closed_document, closed_by, delivered_document, failed_try, if_for, settled_as}
 use Rattle.as2_exchange.specs.Invariants.{is_by_receipt}
 use Rattle.as2_exchange.specs.Posts.{ReceivedReceipt}
 use Rattle.as2_exchange.specs.Receipts.{is_delivery, receipt_in_answer}
 use Rattle.as2_exchange.specs.State.{Digests, State, document, change_document, is_settled}
-use Rattle.as2_exchange.specs.Step.{acted, on_document}
+use Rattle.as2_exchange.specs.Step.{act_on, on_document}
 use Rattle.as2_exchange.specs.Tries.{is_idle, is_last}
 use Rattle.as2_exchange.specs.declared.answer.Answer.{Answer}
 use Rattle.as2_exchange.specs.declared.answer.Answer.TheVariants.{AlreadySettled, Refused, Settled, TryFailed}
@@ -24,7 +24,7 @@ use Rattle.as2_records.specs.Progressing.{come_to, set_out_in}
 use Rattle.as2_records.specs.Standing.{IsCounted}
 use Rattle.as2_records.specs.Settling.{settled_in}
 use Rattle.as2_records.specs.declared.progress.Progress.{Progress}
-use Rattle.as2_station.specs.Closing.{LeavesUnsettled, after_failure, ended, further, settled_by, without_receipt}
+use Rattle.as2_station.specs.Closing.{LeavesUnsettled, progress_after_failure, ended_document, further, settled_by, without_receipt}
 use Rattle.as2_station.specs.Trying.{agreed_partner}
 use Rattle.as2_station.specs.declared.closing.End.{End}
 use Rattle.as2_station.specs.declared.closing.End.TheVariants as ending
@@ -39,7 +39,7 @@ IsUnsettled other d = is_by_receipt d.detail ≡ false
 
 module _ (p : Partner) (m : ℕ) (d : OutEntry) where
   -- a try that failed
-  pub fails : ended (ending.Failed (after_failure p m d)) d ≡ failed_try p m d
+  pub fails : ended_document (ending.Failed (progress_after_failure p m d)) d ≡ failed_try p m d
   fails = by (is_last d.attempt)
     where
       by : (last : Bool)
@@ -50,10 +50,10 @@ module _ (p : Partner) (m : ℕ) (d : OutEntry) where
       by false = refl
 
   -- an answer of success without its receipt
-  pub delivers : ended (without_receipt p.receipt p m d) d ≡ delivered p.receipt p m d
+  pub delivers : ended_document (without_receipt p.receipt p m d) d ≡ delivered_document p.receipt p m d
   delivers = by p.receipt
     where
-      by : (asked : Asked) → ended (without_receipt asked p m d) d ≡ delivered asked p m d
+      by : (asked : Asked) → ended_document (without_receipt asked p m d) d ≡ delivered_document asked p m d
       by Async = refl
       by NoReceipt = refl
       by Sync = fails
@@ -72,19 +72,19 @@ module _ (p : Partner) (m : ℕ) (d : OutEntry) where
   closes_unsettled got (Some r) = tt
   closes_unsettled got None = by (is_delivery got)
     where
-      by_terms : (asked : Asked) → IsUnsettled (delivered asked p m d).0 (delivered asked p m d).1
+      by_terms : (asked : Asked) → IsUnsettled (delivered_document asked p m d).0 (delivered_document asked p m d).1
       by_terms Async = refl
       by_terms NoReceipt = refl
       by_terms Sync = fails_unsettled
 
       left : Bool → Answer × OutEntry
-      left success = if success then delivered p.receipt p m d else failed_try p m d
+      left success = if success then delivered_document p.receipt p m d else failed_try p m d
 
       by : (success : Bool) → IsUnsettled (left success).0 (left success).1
       by true = by_terms p.receipt
       by false = fails_unsettled
 
-  pub leaves_unsettled : (got : TryAnswer) (o : Option ReceivedReceipt) (end : End) → ended end d ≡ closed_by p got m d o → LeavesUnsettled end
+  pub leaves_unsettled : (got : TryAnswer) (o : Option ReceivedReceipt) (end : End) → ended_document end d ≡ closed_by p got m d o → LeavesUnsettled end
   leaves_unsettled got o (ending.ByReceipt detail evidence) is = tt
   leaves_unsettled got o (ending.Delivered progress) is = subst (λ (x : Answer × OutEntry). IsUnsettled x.0 x.1) (sym is) (closes_unsettled got o)
   leaves_unsettled got o (ending.Failed progress) is = subst (λ (x : Answer × OutEntry). IsUnsettled x.0 x.1) (sym is) (closes_unsettled got o)
@@ -96,29 +96,29 @@ module _ (p : Partner) (m : ℕ) (d : OutEntry) where
   closes_by_receipt got (Some r) x is = cc
 
   pub closes_without : (got : TryAnswer) (o : Option ReceivedReceipt) → option_map (settled_by m d) o ≡ None → is_delivery got ≡ true
-      → closed_by p got m d o ≡ ended (without_receipt p.receipt p m d) d
+      → closed_by p got m d o ≡ ended_document (without_receipt p.receipt p m d) d
   closes_without got None is success = rw success (sym delivers)
   closes_without got (Some r) is success = absurd cc
 
 -- ---- the outcome
 
 module _ (A : Agreements) (digests : Digests) (got : TryAnswer) (m : ℕ) (d : OutEntry) where
-  pub not_agreed : (reason : Refusal) → agreed_partner A d.organization d.partner ≡ Err reason → closed A digests got m d ≡ (Refused reason, d)
-  unfolding closed
+  pub not_agreed : (reason : Refusal) → agreed_partner A d.organization d.partner ≡ Err reason → closed_document A digests got m d ≡ (Refused reason, d)
+  unfolding closed_document
   not_agreed reason is = refused_agreed A d.organization d.partner d _ reason is
 
-  pub settled_before : (p : Partner) → agreed_partner A d.organization d.partner ≡ Ok p → is_settled d ≡ true → closed A digests got m d ≡ (AlreadySettled, d)
-  unfolding closed
+  pub settled_before : (p : Partner) → agreed_partner A d.organization d.partner ≡ Ok p → is_settled d ≡ true → closed_document A digests got m d ≡ (AlreadySettled, d)
+  unfolding closed_document
   settled_before p known settled = acts_agreed A d.organization d.partner d _ p known ∙ rw settled refl
 
   pub no_open_try : (p : Partner) → agreed_partner A d.organization d.partner ≡ Ok p → is_settled d ≡ false → is_idle d.attempt ≡ true
-      → closed A digests got m d ≡ (Refused NoOpenTry, d)
-  unfolding closed
+      → closed_document A digests got m d ≡ (Refused NoOpenTry, d)
+  unfolding closed_document
   no_open_try p known unsettled idle = acts_agreed A d.organization d.partner d _ p known ∙ rw (unsettled, idle) refl
 
   pub closes : (p : Partner) → agreed_partner A d.organization d.partner ≡ Ok p → is_settled d ≡ false → is_idle d.attempt ≡ false
-      → closed A digests got m d ≡ closed_by p got m d (option_and_then (if_for d) (receipt_in_answer digests got))
-  unfolding closed
+      → closed_document A digests got m d ≡ closed_by p got m d (option_and_then (if_for d) (receipt_in_answer digests got))
+  unfolding closed_document
   closes p known unsettled under_way = acts_agreed A d.organization d.partner d _ p known ∙ rw (unsettled, under_way) refl
 
 -- ---- what is written
@@ -127,11 +127,11 @@ module _ (s t : State) (d : OutEntry) (found : document s d.number ≡ Some d) w
   acts_on : (act : OutEntry → Answer × OutEntry) (a : Answer) (change : OutEntry → OutEntry) → ((e : OutEntry) → act e ≡ (a, change e))
       → change_document s d.number change ≡ t → on_document s d.number act ≡ (a, t)
   acts_on act a change is left =
-      ap (acted s d.number act) found ∙ ap (λ (f : OutEntry → Answer × OutEntry). ((f d).0, change_document s d.number (λ e. (f e).1))) (λ i e. is e i) ∙ ap (λ (x : State). (a, x)) left
+      ap (act_on s d.number act) found ∙ ap (λ (f : OutEntry → Answer × OutEntry). ((f d).0, change_document s d.number (λ e. (f e).1))) (λ i e. is e i) ∙ ap (λ (x : State). (a, x)) left
 
   -- the receipt settles it
   pub ends_by_receipt : (detail : Detail) (evidence : Evidence) → settled_in d.number detail evidence s ≡ Some t
-      → Some (on_document s d.number (ended (ending.ByReceipt detail evidence))) ≡ Some (Settled detail, t)
+      → Some (on_document s d.number (ended_document (ending.ByReceipt detail evidence))) ≡ Some (Settled detail, t)
   ends_by_receipt detail evidence is = ap Some (acts_on _ (Settled detail) (settled_as detail evidence) (λ e. refl) (by (option_map_or is_settled (document s d.number) true || not (is_by_receipt detail)) is))
     where
       by : (refused : Bool) → (if refused then None else Some (change_document s d.number (settled_as detail evidence))) ≡ Some t

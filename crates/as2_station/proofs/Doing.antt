@@ -12,7 +12,7 @@ use Rattle.as2_exchange.specs.declared.fault.StoreFault.TheVariants.{Full}
 use Rattle.as2_records.specs.Standing.{IsCounted, may_come}
 use Rattle.as2_records.specs.Calls.{Commits, KeepsNext, Reads, Writes}
 use Rattle.as2_records.proofs.Following.{survives_same}
-use Rattle.as2_station.specs.Steps.{Does, Left, Machine, MayLeave}
+use Rattle.as2_station.specs.Steps.{Does, LeavesAnswered, Machine, MayLeave}
 
 next_kept : (M : Medium) (left : M.Remains) (s : State) → KeepsNext M left (Some s) → M.keeps left s
 next_kept M left s it = subst (M.keeps left) (let same : it.state ≡ s = (let i = it.is in cc) in same) it.keeps
@@ -27,7 +27,7 @@ pub as_machine : {M : Medium} {A : Type 0} (machine other : Machine) (given know
 as_machine {M = M} machine other given known asks told old new r opened same it = record {
   clean = it.clean;
   is_open = it.is_open;
-  answered = λ clean. IfOk-weaker r _ _ (λ a left s rests is. let to = same s (old.counted (opened (it.clean clean)) s rests) is in subst (λ came. Left new came (told a)) to.1 (left s rests to.0)) (it.answered clean);
+  answered = λ clean. IfOk-weaker r _ _ (λ a left s rests is. let to = same s (old.counted (opened (it.clean clean)) s rests) is in subst (λ came. LeavesAnswered new came (told a)) to.1 (left s rests to.0)) (it.answered clean);
   failed = λ clean. IfErr-weaker r _ _ (λ f left s rests is. let to = same s (old.counted (opened (it.clean clean)) s rests) is in subst (λ came. new.Rests s × (f ≡ Full → came ≡ None)) to.1 (left s rests to.0)) (it.failed clean);
   fault = it.fault;
   crash = survives_weaker old new (MayLeave other known old) (MayLeave machine given old) (λ clean left may. record {
@@ -43,7 +43,7 @@ pub by_state : {M : Medium} {A : Type 0} (machine : Digests → Machine) (given 
 by_state {M = M} machine given asks told old new r it = record {
   clean = it.clean;
   is_open = it.is_open;
-  answered = λ clean. IfOk-weaker r _ _ (λ a left s rests is. subst (λ k. Left new (machine k s) (told a)) (sym (old.knows s rests)) (left s rests is)) (it.answered clean);
+  answered = λ clean. IfOk-weaker r _ _ (λ a left s rests is. subst (λ k. LeavesAnswered new (machine k s) (told a)) (sym (old.knows s rests)) (left s rests is)) (it.answered clean);
   failed = λ clean. IfErr-weaker r _ _ (λ f left s rests is. subst (λ k. new.Rests s × (f ≡ Full → machine k s ≡ None)) (sym (old.knows s rests)) (left s rests is)) (it.failed clean);
   fault = it.fault;
   crash = survives_weaker old new (MayLeave (machine AllDigests) given old) (MayLeave (λ s. machine (known_digests s.version) s) given old) (λ clean left may. record {

@@ -3,13 +3,13 @@ use Rattle.std.proofs.Common.{◌≡◌, ℕ, ◌==◌, Bool, true, false, cond,
 use Rattle.std.specs.Prelude.{if◌then◌else◌}
 use Rattle.std.specs.List.{find, AllByRecursion, IsDistinct}
 use Rattle.std.proofs.lemmas.Bool.Decides.{nat_tests}
-use Rattle.as2_exchange.specs.State.{State, received, change_received}
+use Rattle.as2_exchange.specs.State.{State, received_entry, change_received}
 use Rattle.as2_exchange.specs.declared.inbox.InEntry.{InEntry}
 use Rattle.as2_exchange.specs.Recording.{requeued_by_repeat}
 use Rattle.as2_exchange.proofs.Finds.{all_found}
 use Rattle.as2_exchange.proofs.Decisions.{number_is}
 use Rattle.as2_exchange.proofs.Refusing.{left_as_is, untouched}
-use Rattle.as2_exchange.specs.Recording.{requeued}
+use Rattle.as2_exchange.specs.Recording.{requeued_receipt}
 use Rattle.as2_posts.specs.Answers.{is_requeued}
 
 same_number : (n : ℕ) → (n == n) ≡ true
@@ -58,19 +58,19 @@ unfolding IsDistinct
 changes_alike number f g n d [] apart found same = refl
 changes_alike number f g n d (x ∷ xs) apart found same = alike_step number f g n d x xs (number x == n) refl apart.0 (λ there. changes_alike number f g n d xs apart.1 there same) found same
 
-again : (m : ℕ) (e : InEntry) → is_requeued e ≡ true → requeued m e ≡ requeued_by_repeat m e
+again : (m : ℕ) (e : InEntry) → is_requeued e ≡ true → requeued_receipt m e ≡ requeued_by_repeat m e
 again m e h = rw h refl
 
 not_again : (m : ℕ) (e : InEntry) → is_requeued e ≡ false → requeued_by_repeat m e ≡ e
 not_again m e h = rw h refl
 
 -- a receipt that a repeat queues again
-pub sent_anew : (s : State) (m : ℕ) (e : InEntry) → IsDistinct (λ a b. a == b) (map (λ (x : InEntry). x.number) s.inbox) → received s e.number ≡ Some e
+pub sent_anew : (s : State) (m : ℕ) (e : InEntry) → IsDistinct (λ a b. a == b) (map (λ (x : InEntry). x.number) s.inbox) → received_entry s e.number ≡ Some e
     → is_requeued e ≡ true
-    → change_received s e.number (requeued m) ≡ change_received s e.number (requeued_by_repeat m)
-sent_anew s m e apart found is = ap (λ (es : List InEntry). record s { inbox = es }) (changes_alike (λ (x : InEntry). x.number) (requeued m) (requeued_by_repeat m) e.number e s.inbox apart found (again m e is))
+    → change_received s e.number (requeued_receipt m) ≡ change_received s e.number (requeued_by_repeat m)
+sent_anew s m e apart found is = ap (λ (es : List InEntry). record s { inbox = es }) (changes_alike (λ (x : InEntry). x.number) (requeued_receipt m) (requeued_by_repeat m) e.number e s.inbox apart found (again m e is))
 
 -- a receipt that it leaves
-pub left_alone : (s : State) (m : ℕ) (e : InEntry) → IsDistinct (λ a b. a == b) (map (λ (x : InEntry). x.number) s.inbox) → received s e.number ≡ Some e
+pub left_alone : (s : State) (m : ℕ) (e : InEntry) → IsDistinct (λ a b. a == b) (map (λ (x : InEntry). x.number) s.inbox) → received_entry s e.number ≡ Some e
     → is_requeued e ≡ false → change_received s e.number (requeued_by_repeat m) ≡ s
 left_alone s m e apart found not = ap (λ (es : List InEntry). record s { inbox = es }) (left_as_is (λ (x : InEntry). x.number) (requeued_by_repeat m) e.number e s.inbox apart found (not_again m e not))

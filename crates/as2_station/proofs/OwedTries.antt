@@ -6,7 +6,7 @@ use Rattle.as2_exchange.specs.OwedReceipts.{is_pending, is_shut, mdn_begun, mdn_
 use Rattle.as2_exchange.specs.Readings.{receipt_job}
 use Rattle.as2_exchange.specs.Receipts.{is_delivery}
 use Rattle.as2_exchange.specs.Recording.{report}
-use Rattle.as2_exchange.specs.State.{State, received, change_received}
+use Rattle.as2_exchange.specs.State.{State, received_entry, change_received}
 use Rattle.as2_exchange.specs.Step.{on_received}
 use Rattle.as2_exchange.specs.Tries.{is_early, is_last}
 use Rattle.as2_exchange.specs.declared.answer.Answer.{Answer}
@@ -62,7 +62,7 @@ mdn_tries_left p e m is = by (not (is_pending e.mdn)) (nat_le p.max_tries e.trie
     by false false c is = refl
 
 -- what is written is what the machine leaves
-pub begins_mdn : (A : Agreements) (m : ℕ) (s t : State) (e : InEntry) (p : Partner) → IsCounted s → received s e.number ≡ Some e
+pub begins_mdn : (A : Agreements) (m : ℕ) (s t : State) (e : InEntry) (p : Partner) → IsCounted s → received_entry s e.number ≡ Some e
     → agreed_partner A e.posted.receiver e.posted.sender ≡ Ok p → mdn_try_refusal p e m ≡ None
     → set_mdn_in e.number (mdn_tried p e m) s ≡ Some t
     → Some (on_received s e.number (mdn_begun A m)) ≡ Some (AJob (receipt_job e.posted.how (report A e.number e.posted)), t)
@@ -107,7 +107,7 @@ module _ (A : Agreements) (got : TryAnswer) (m : ℕ) (e : InEntry) where
       by true = refl
       by false = failed (is_last e.attempt)
 
-pub ends_mdn : (A : Agreements) (got : TryAnswer) (m : ℕ) (s t : State) (e : InEntry) (p : Partner) → IsCounted s → received s e.number ≡ Some e
+pub ends_mdn : (A : Agreements) (got : TryAnswer) (m : ℕ) (s t : State) (e : InEntry) (p : Partner) → IsCounted s → received_entry s e.number ≡ Some e
     → agreed_partner A e.posted.receiver e.posted.sender ≡ Ok p
     → is_pending e.mdn ≡ true → is_shut e.attempt ≡ false → set_mdn_in e.number (mdn_ended (is_delivery got) p e m) s ≡ Some t
     → Some (on_received s e.number (mdn_closed A got m)) ≡ Some (end_answer (is_delivery got), t)

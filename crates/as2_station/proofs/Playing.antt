@@ -9,27 +9,27 @@ use Rattle.as2_exchange.specs.declared.answer.Refusal.{Refusal}
 use Rattle.as2_exchange.specs.declared.fault.StoreFault.{StoreFault}
 use Rattle.as2_station.specs.Said.{said_to_submit}
 use Rattle.as2_station.specs.Steps.{RefusesSubmit, TakesEvent, TakesHead}
-use Rattle.as2_station.specs.Traces.{Plays, Taken, trace}
+use Rattle.as2_station.specs.Traces.{Plays, TakesEvents, trace}
 use Rattle.as2_exchange.specs.Run.{Run}
 use Rattle.as2_station.proofs.ByHistory.{ends_by_history}
 
 module _ {H : Type 0} {M : Medium} (shows : H → Standing M) (A : Agreements) where
   pub taken_more : (es : List Event) (rs : List (Result Answer StoreFault)) (e : Event) (r : Result Answer StoreFault) (old mid new : H)
-      → Taken shows A es rs old mid → TakesEvent A e (λ a. a) (shows mid) (shows new) r
-      → TakesHead A e Http mid new r → RefusesSubmit A e Refused mid new r → Taken shows A (es ++ e ∷ []) (rs ++ r ∷ []) old new
-  taken_more [] [] e r old mid new same one head refuses = subst (λ h. Taken shows A (e ∷ []) (r ∷ []) h new) same (new, one, head, refuses, refl)
+      → TakesEvents shows A es rs old mid → TakesEvent A e (λ a. a) (shows mid) (shows new) r
+      → TakesHead A e Http mid new r → RefusesSubmit A e Refused mid new r → TakesEvents shows A (es ++ e ∷ []) (rs ++ r ∷ []) old new
+  taken_more [] [] e r old mid new same one head refuses = subst (λ h. TakesEvents shows A (e ∷ []) (r ∷ []) h new) same (new, one, head, refuses, refl)
   taken_more [] (q ∷ rs) e r old mid new none one head refuses = absurd none
   taken_more (x ∷ es) [] e r old mid new none one head refuses = absurd none
   taken_more (x ∷ es) (q ∷ rs) e r old mid new before one head refuses = (before.0, before.1, before.2, before.3, taken_more es rs e r before.0 mid new before.4 one head refuses)
 
-  pub taken_clean : (es : List Event) (rs : List (Result Answer StoreFault)) (old new : H) → Taken shows A es rs old new → (shows new).IsClean
+  pub taken_clean : (es : List Event) (rs : List (Result Answer StoreFault)) (old new : H) → TakesEvents shows A es rs old new → (shows new).IsClean
       → (shows old).IsClean
   taken_clean [] [] old new same clean = subst (λ h. (shows h).IsClean) same clean
   taken_clean [] (q ∷ rs) old new none clean = absurd none
   taken_clean (x ∷ es) [] old new none clean = absurd none
   taken_clean (x ∷ es) (q ∷ rs) old new it clean = it.1.does.clean (taken_clean es rs it.0 new it.4 clean)
 
-  pub taken_plays : (es : List Event) (rs : List (Result Answer StoreFault)) (old new : H) → Taken shows A es rs old new → Plays shows A es rs old new
+  pub taken_plays : (es : List Event) (rs : List (Result Answer StoreFault)) (old new : H) → TakesEvents shows A es rs old new → Plays shows A es rs old new
   taken_plays [] [] old new same clean s rests = record { end = s; run = refl; by_history = ends_by_history A s [] s refl; rests = subst (λ h. (shows h).Rests s) (sym same) rests }
   taken_plays [] (q ∷ rs) old new none clean s rests = absurd none
   taken_plays (x ∷ es) [] old new none clean s rests = absurd none

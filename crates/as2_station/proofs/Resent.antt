@@ -2,7 +2,7 @@
 use Rattle.std.proofs.Common.{◌≡◌, ◌∙◌, ℕ, not, Bool, true, false, Option, option_map, Some, None, is_some, refl, sym, ap}
 use Rattle.std.specs.Prelude.{if◌then◌else◌}
 use Rattle.std.specs.Option.{option_map_or}
-use Rattle.as2_mdn.specs.Details.{state_of}
+use Rattle.as2_mdn.specs.Details.{class_of}
 use Rattle.as2_exchange.specs.Agreement.{Agreements, Partner, is_organization, partner_of}
 use Rattle.as2_exchange.specs.Documents.{is_error, resent}
 use Rattle.as2_exchange.specs.State.{State, document, change_document, is_settled}
@@ -55,11 +55,11 @@ made_by d made true (Some p) false true is = refl
 module _ (A : Agreements) (m : ℕ) (d : OutEntry) where
   pub not_resent : (reason : Refusal) → resend_refusal A d ≡ Some reason → resent A m d ≡ (Refused reason, d)
   unfolding resent
-  not_resent reason is = refused_by d (Resent, queued_anew m d) (is_organization A d.organization) (partner_of A d.partner) (is_settled d) (is_error (state_of d.detail)) reason is
+  not_resent reason is = refused_by d (Resent, queued_anew m d) (is_organization A d.organization) (partner_of A d.partner) (is_settled d) (is_error (class_of d.detail)) reason is
 
   pub is_resent : resend_refusal A d ≡ None → resent A m d ≡ (Resent, queued_anew m d)
   unfolding resent
-  is_resent is = made_by d (Resent, queued_anew m d) (is_organization A d.organization) (partner_of A d.partner) (is_settled d) (is_error (state_of d.detail)) is
+  is_resent is = made_by d (Resent, queued_anew m d) (is_organization A d.organization) (partner_of A d.partner) (is_settled d) (is_error (class_of d.detail)) is
 
 -- what is written is what the machine leaves
 pub resends : (A : Agreements) (m : ℕ) (s t : State) (d : OutEntry) → IsCounted s → document s d.number ≡ Some d → resend_refusal A d ≡ None

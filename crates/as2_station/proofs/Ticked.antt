@@ -9,7 +9,7 @@ use Rattle.as2_exchange.specs.declared.answer.Answer.{Answer}
 use Rattle.as2_exchange.specs.declared.answer.Answer.TheVariants.{Ticked}
 use Rattle.as2_exchange.specs.declared.fault.StoreFault.{StoreFault}
 use Rattle.as2_records.specs.Calls.{Commits, Writes}
-use Rattle.as2_records.specs.Expiring.{AreTicked, ticked_in}
+use Rattle.as2_records.specs.Expiring.{TicksAs, ticked_in}
 use Rattle.as2_records.specs.Standing.{may_come}
 use Rattle.as2_station.specs.Steps.{Does, MayLeave, always}
 use Rattle.as2_station.proofs.Doing.{never_full}
@@ -21,7 +21,7 @@ module _ {M : Medium} (m : ℕ) (old new : Standing M) where
     stands = λ s rests known. inr (may.stands s rests);
   }) it
 
-  pub ticks : (count : ℕ) → Writes {A = ℕ} {E = StoreFault} (ticked_in m) old new (Ok count) → (new.IsClean → AreTicked m old count)
+  pub ticks : (count : ℕ) → Writes {A = ℕ} {E = StoreFault} (ticked_in m) old new (Ok count) → (new.IsClean → TicksAs m old count)
       → Does (λ s. Some (tick m s)) always (true ≡ true) Ticked old new (Ok count)
   ticks count it counted = record {
     clean = it.clean;
@@ -46,7 +46,7 @@ module _ {M : Medium} (m : ℕ) (old new : Standing M) where
     crash = leaves it.crash;
   }
 
-  pub ticked : (r : Result ℕ StoreFault) → Writes (ticked_in m) old new r → IfErr r (λ f. may_come f ≡ true) → (new.IsClean → IfOk r (AreTicked m old))
+  pub ticked : (r : Result ℕ StoreFault) → Writes (ticked_in m) old new r → IfErr r (λ f. may_come f ≡ true) → (new.IsClean → IfOk r (TicksAs m old))
       → Does (λ s. Some (tick m s)) always (true ≡ true) Ticked old new r
   ticked (Ok count) it may counted = ticks count it counted
   ticked (Err f) it may counted = fails_to_tick f may it

@@ -4,13 +4,13 @@ use Rattle.std.specs.List.{filter, flat_map}
 use Rattle.as2_records.specs.Standing.{Medium, Standing}
 use Rattle.as2_mdn.specs.declared.detail.State.{State as StateOf}
 use Rattle.as2_exchange.specs.State.{State}
-use Rattle.as2_views.specs.Texts.{list_in, list_out, outstanding}
+use Rattle.as2_views.specs.Texts.{list_in, list_out, outstanding_text}
 use Rattle.as2_exchange.specs.declared.fault.StoreFault.{StoreFault}
 use Rattle.as2_records.specs.Summaries.{in_summary, out_summary}
 use Rattle.as2_records.specs.declared.summaries.InRow.{InRow}
 use Rattle.as2_records.specs.declared.summaries.OutRow.{OutRow}
 use Rattle.as2_records.specs.Calls.{Reads}
-use Rattle.as2_records.specs.Listing.{listed, settled_numbers}
+use Rattle.as2_records.specs.Listing.{listed_rows, settled_numbers}
 use Rattle.as2_records.proofs.Following.{read_if, read_then, reads_standing}
 use Rattle.as2_records.specs.declared.counts.Counts.{Counts}
 use Rattle.as2_records.specs.Counting.{counts_of}
@@ -35,7 +35,7 @@ received_lines old new rows shown r same lines it =
 
 -- what is known of rows with the numbers of the settled documents
 abbrev Known : Option StateOf → State → Marked → Type 0
-Known wanted s m = (m.rows.items ≡ listed wanted s) × (m.settled.items ≡ settled_numbers s)
+Known wanted s m = (m.rows.items ≡ listed_rows wanted s) × (m.settled.items ≡ settled_numbers s)
 
 -- the same, and that numbers rise
 abbrev Rising : Option StateOf → State → Marked → Type 0
@@ -63,9 +63,9 @@ module _ {M : Medium} (old new : Standing M) (m : Marked) (rows : List OutRow) (
   -- with the counts, where these were read before
   outstanding_known : (moment : ℕ) (counts : Counts)
       → (Rise settled → IfOk r (λ t. string_bytes t ≡ counts_text counts ++ flat_map (marked_line settled) (filter (is_outstanding moment) rows)))
-      → Reads {A = Marked} {E = StoreFault} (Known None) old new (Ok m) → Reads (λ s t. counts ≡ counts_of s → string_bytes t ≡ outstanding s moment) old new r
+      → Reads {A = Marked} {E = StoreFault} (Known None) old new (Ok m) → Reads (λ s t. counts ≡ counts_of s → string_bytes t ≡ outstanding_text s moment) old new r
   outstanding_known moment counts lines it =
-      read_if (Rising None) (λ s t. counts ≡ counts_of s → string_bytes t ≡ outstanding s moment) old new m r (λ t. Rise settled → string_bytes t ≡ counts_text counts ++ flat_map (marked_line settled) (filter (is_outstanding moment) rows)) (under _ r lines)
+      read_if (Rising None) (λ s t. counts ≡ counts_of s → string_bytes t ≡ outstanding_text s moment) old new m r (λ t. Rise settled → string_bytes t ≡ counts_text counts ++ flat_map (marked_line settled) (filter (is_outstanding moment) rows)) (under _ r lines)
       (λ s t told known counted.
       let numbers = same_settled ∙ known.0.1 in
       let all = same_rows ∙ known.0.0 ∙ ap (map out_summary) (all_listed s.outbox) in
@@ -78,7 +78,7 @@ module _ {M : Medium} (old new : Standing M) (m : Marked) (rows : List OutRow) (
   pub outstanding_shown : (first : Standing M) (moment : ℕ) (counts : Counts)
       → (Rise settled → IfOk r (λ t. string_bytes t ≡ counts_text counts ++ flat_map (marked_line settled) (filter (is_outstanding moment) rows)))
       → Reads {A = Counts} {E = StoreFault} (λ s c. c ≡ counts_of s) first old (Ok counts) → Reads {A = Marked} {E = StoreFault} (Known None) old new (Ok m)
-      → Reads (λ s t. string_bytes t ≡ outstanding s moment) first new r
+      → Reads (λ s t. string_bytes t ≡ outstanding_text s moment) first new r
   outstanding_shown first moment counts lines one two =
-      read_then (λ s c. c ≡ counts_of s) (λ s t. counts ≡ counts_of s → string_bytes t ≡ outstanding s moment) (λ s t. string_bytes t ≡ outstanding s moment) first old new counts r (λ s t rests known more. more known) one
+      read_then (λ s c. c ≡ counts_of s) (λ s t. counts ≡ counts_of s → string_bytes t ≡ outstanding_text s moment) (λ s t. string_bytes t ≡ outstanding_text s moment) first old new counts r (λ s t rests known more. more known) one
       (outstanding_known moment counts lines two)

@@ -6,7 +6,7 @@ use Rattle.as2_exchange.specs.declared.answer.Refusal.{Refusal}
 use Rattle.as2_exchange.specs.declared.answer.Refusal.TheVariants.{UnknownOrganization, UnknownPartner, TooLarge}
 use Rattle.as2_exchange.specs.declared.event.Event.{Event}
 use Rattle.as2_exchange.specs.declared.event.Event.TheVariants.{Post, Submit}
-use Rattle.as2_exchange.specs.Posts.{reading, Reading, Refuses, IsReceipt, IsDocument}
+use Rattle.as2_exchange.specs.Posts.{post_reading, Reading, Refuses, IsReceipt, IsDocument}
 use Rattle.as2_exchange.specs.Versions.{AllDigests}
 use Rattle.as2_exchange.specs.declared.answer.Line.{Line}
 use Rattle.as2_exchange.specs.declared.answer.Line.TheVariants.{BadNames, BadVersion, UnknownNames, BadType}
@@ -35,6 +35,6 @@ submit_refusal A organization partner content =
 
 -- a post that can be read, a document that isn't refused, and every other event
 abbrev pub asks_store : Agreements → Event → Bool
-asks_store A (Post head body moment) = takes_store (reading A AllDigests head body)
+asks_store A (Post head body moment) = takes_store (post_reading A AllDigests head body)
 asks_store A (Submit organization partner content moment) = is_none (submit_refusal A organization partner content)
 asks_store A other = true

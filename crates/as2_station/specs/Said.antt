@@ -40,11 +40,11 @@ said_to_resend (Ok done) = Resent
 said_to_resend (Err reason) = Refused reason
 
 -- a try of it begins at this moment
-abbrev pub begin_of : Next → ℕ → Event
-begin_of (Receipt n) m = BeginMdn n m
-begin_of (Document n) m = Begin n m
+abbrev pub begin_event : Next → ℕ → Event
+begin_event (Receipt n) m = BeginMdn n m
+begin_event (Document n) m = Begin n m
 
 -- the try of it got that
-abbrev pub outcome_of : Next → TryAnswer → ℕ → Event
-outcome_of (Receipt n) got m = OutcomeMdn n got m
-outcome_of (Document n) got m = Outcome n got m
+abbrev pub outcome_event : Next → TryAnswer → ℕ → Event
+outcome_event (Receipt n) got m = OutcomeMdn n got m
+outcome_event (Document n) got m = Outcome n got m

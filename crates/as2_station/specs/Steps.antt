@@ -4,7 +4,7 @@ use Rattle.as2_records.specs.Standing.{Medium, Standing}
 use Rattle.as2_records.specs.Calls.{Survives}
 use Rattle.as2_exchange.specs.Agreement.{Agreements, Text}
 use Rattle.as2_exchange.specs.Readings.{Head}
-use Rattle.as2_exchange.specs.Posts.{Reading, Refuses, IsDocument, reading}
+use Rattle.as2_exchange.specs.Posts.{Reading, Refuses, IsDocument, post_reading}
 use Rattle.as2_exchange.specs.Step.{post, step}
 use Rattle.as2_exchange.specs.declared.event.Event.{Event}
 use Rattle.as2_exchange.specs.declared.event.Event.TheVariants.{Post, Submit}
@@ -31,7 +31,7 @@ abbrev pub Machine : Type 0
 Machine = State → Option (Answer × State)
 
 -- the state that the machine leaves with this answer, which the records rest on
-pub record Left {M : Medium} (c : Standing M) (came : Option (Answer × State)) (a : Answer) : Type 0 where
+pub record LeavesAnswered {M : Medium} (c : Standing M) (came : Option (Answer × State)) (a : Answer) : Type 0 where
   pub next : State
   pub step : came ≡ Some (a, next)
   pub rests : c.Rests next
@@ -51,7 +51,7 @@ pub record MayLeave {M : Medium} (machine : Machine) (given : State → Type 0) 
 pub record Does {M : Medium} {A : Type 0} (machine : Machine) (given : State → Type 0) (asks : Type 0) (told : A → Answer) (old new : Standing M) (r : Result A StoreFault) : Type 0 where
   pub clean : new.IsClean → old.IsClean
   pub is_open : new.IsClean → OnOk r (asks → IsTrue new.is_open)
-  pub answered : new.IsClean → IfOk r (λ a. (s : State) → old.Rests s → given s → Left new (machine s) (told a))
+  pub answered : new.IsClean → IfOk r (λ a. (s : State) → old.Rests s → given s → LeavesAnswered new (machine s) (told a))
   pub failed : new.IsClean → IfErr r (λ f. (s : State) → old.Rests s → given s → new.Rests s × (f ≡ Full → machine s ≡ None))
   pub fault : IfErr r (λ f. (f ≡ Full) ⊎ (may_come f ≡ true))
   pub crash : Survives old new (MayLeave machine given old)
@@ -75,7 +75,7 @@ pub record TakesEvent {M : Medium} {A : Type 0} (agreed : Agreements) (event : E
   pub does : Does (λ s. step agreed s event) always (asks_store agreed event ≡ true) told old new r
   pub by_history : TakesByHistory agreed event told old new r
   pub lasts : IsTrue new.is_open → (s : State) → new.Rests s → Lasts new s
-  pub whole : (head : Head) (body : List ℕ) (moment : ℕ) → event ≡ Post head body moment → ClashesWhole told (reading agreed AllDigests head body) old new r
+  pub whole : (head : Head) (body : List ℕ) (moment : ℕ) → event ≡ Post head body moment → ClashesWhole told (post_reading agreed AllDigests head body) old new r
 
 -- a call that takes a post that is read so, in each state of which this is given
 abbrev pub TakesPost : {H : Type 0} {M : Medium} → (H → Standing M) → Agreements → ℕ → Reading → (State → Type 0) → H → H → Result HttpAnswer StoreFault → Type 0
@@ -83,8 +83,8 @@ TakesPost shows agreed moment reads given old new r = Does (λ s. post agreed s 
 
 -- a post that its head alone refuses is answered by that line, and nothing else happens
 pub record TakesHead {A H : Type 0} (agreed : Agreements) (event : Event) (told : HttpAnswer → A) (old new : H) (r : Result A StoreFault) : Type 0 where
-  pub answer : (head : Head) (body : List ℕ) (moment : ℕ) (line : Line) → event ≡ Post head body moment → reading agreed AllDigests head body ≡ Refuses line → is_of_head line ≡ true → r ≡ Ok (told (refusal line))
-  pub same : (head : Head) (body : List ℕ) (moment : ℕ) (line : Line) → event ≡ Post head body moment → reading agreed AllDigests head body ≡ Refuses line → is_of_head line ≡ true → new ≡ old
+  pub answer : (head : Head) (body : List ℕ) (moment : ℕ) (line : Line) → event ≡ Post head body moment → post_reading agreed AllDigests head body ≡ Refuses line → is_of_head line ≡ true → r ≡ Ok (told (refusal line))
+  pub same : (head : Head) (body : List ℕ) (moment : ℕ) (line : Line) → event ≡ Post head body moment → post_reading agreed AllDigests head body ≡ Refuses line → is_of_head line ≡ true → new ≡ old
 
 -- a document that is refused gets its refusal, whatever memory and the records do, and nothing else happens
 pub record RefusesSubmit {A H : Type 0} (agreed : Agreements) (event : Event) (told : Refusal → A) (old new : H) (r : Result A StoreFault) : Type 0 where

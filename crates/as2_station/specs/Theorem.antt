@@ -24,25 +24,25 @@
 --     and carries the integrity check of the content sent
 use Rattle.std.specs.Prelude.{◌≡◌, ◌↔◌, ℕ, ◌+◌, ◌<◌, true, false, List, [], ◌∷◌, ◌++◌, Some, None, Result, Ok, Err, IsSomeAnd, IsTrue, map, option_map}
 use Rattle.as2_records.specs.Standing.{Medium, Standing}
-use Rattle.as2_mdn.specs.Details.{state_of}
+use Rattle.as2_mdn.specs.Details.{class_of}
 use Rattle.as2_mdn.specs.Verdicts.{Confirms}
 use Rattle.as2_mdn.specs.declared.detail.State.TheVariants.{S, E}
 use Rattle.as2_exchange.specs.Agreement.{Agreements, Text, partner_of}
 use Rattle.as2_exchange.specs.Events.{Done}
-use Rattle.as2_exchange.specs.History.{concerns, first_receipt, history, submitted, submitted_as, told}
+use Rattle.as2_exchange.specs.History.{concerns, first_receipt, history, submission_of, submitted_as, history_of}
 use Rattle.as2_exchange.specs.Invariants.{IsCounter, IsWellFormed}
 use Rattle.as2_exchange.specs.Posts.{ReceivedReceipt}
 use Rattle.as2_exchange.specs.Receipts.{bears}
 use Rattle.as2_exchange.specs.ReceiptHistory.{receipt_history, receipt_told}
 use Rattle.as2_exchange.specs.Readings.{Head, named_by, value_of}
-use Rattle.as2_exchange.specs.Run.{Said, Answered, Failed, AnEvent, IsOutOfNumbers, Trace, Run, accepted, version_after}
-use Rattle.as2_exchange.specs.State.{State, Version, document, empty, is_settled, lasting, received}
+use Rattle.as2_exchange.specs.Run.{EventResult, Answered, Failed, AnEvent, IsOutOfNumbers, Trace, Run, accepted_events, version_after}
+use Rattle.as2_exchange.specs.State.{State, Version, document, empty, is_settled, lasting_part, received_entry}
 use Rattle.as2_exchange.specs.Step.{is_refusal, step}
 use Rattle.as2_exchange.specs.Progress.{given_up}
 use Rattle.as2_exchange.specs.declared.inbox.InEntry.{InEntry}
 use Rattle.as2_exchange.specs.declared.inbox.MdnState.TheVariants.{Pending}
 use Rattle.as2_exchange.specs.declared.outbox.OutEntry.{OutEntry}
-use Rattle.as2_exchange.specs.Waiting.{waiting, waiting_history}
+use Rattle.as2_exchange.specs.Waiting.{schedule_of, waiting_history}
 use Rattle.as2_exchange.specs.declared.answer.Answer.{Answer}
 use Rattle.as2_exchange.specs.declared.answer.Answer.TheVariants.{Job as AJob, Resent, Ticked}
 use Rattle.as2_exchange.specs.declared.answer.Job.{Job}
@@ -52,7 +52,7 @@ use Rattle.as2_exchange.specs.declared.fault.StoreFault.{StoreFault}
 
 -- the document stands as successful
 abbrev pub IsSuccessful : State → ℕ → Type 0
-IsSuccessful s k = IsSomeAnd (document s k) (λ d. state_of d.detail ≡ S)
+IsSuccessful s k = IsSomeAnd (document s k) (λ d. class_of d.detail ≡ S)
 
 -- the first receipt for it after its first try says processed without modifier and carries the integrity check of the content sent,
 -- under a digest that was known when it came
@@ -68,15 +68,15 @@ pub record StepsOn (A : Agreements) (s : State) : Type 0 where
   -- a post that was recorded before and comes again gets the same answer, without a new entry or number
   pub repeats : (old recorded : State) (head : Head) (body : Text) (m n : ℕ) (first : Answer) (between : Trace)
       → step A old (Post head body m) ≡ Some (first, recorded) → old.next_in < recorded.next_in → Run A recorded between s
-      → (t : State) × (step A s (Post head body n) ≡ Some (first, t)) × (map lasting t.inbox ≡ map lasting s.inbox) × (t.next_in ≡ s.next_in) × (t.outbox ≡ s.outbox)
+      → (t : State) × (step A s (Post head body n) ≡ Some (first, t)) × (map lasting_part t.inbox ≡ map lasting_part s.inbox) × (t.next_in ≡ s.next_in) × (t.outbox ≡ s.outbox)
   -- a request is handed out for a document that no receipt has settled, and not more often than is agreed since it was last to be sent anew
   pub sends : (n m : ℕ) (job : Job) (t : State) → step A s (Begin n m) ≡ Some (AJob job, t)
       → (d : OutEntry) × (document s n ≡ Some d) × (is_settled d ≡ false) × IsSomeAnd (partner_of A d.partner) (λ p. d.tries < p.max_tries)
   -- and for a receipt that is still owed, not more often than is agreed since it was queued last
   pub sends_receipts : (n m : ℕ) (job : Job) (t : State) → step A s (BeginMdn n m) ≡ Some (AJob job, t)
-      → (e : InEntry) × (received s n ≡ Some e) × (e.mdn ≡ Pending) × IsSomeAnd (partner_of A e.posted.sender) (λ p. e.tries < p.max_tries)
+      → (e : InEntry) × (received_entry s n ≡ Some e) × (e.mdn ≡ Pending) × IsSomeAnd (partner_of A e.posted.sender) (λ p. e.tries < p.max_tries)
   -- a document is sent anew only where it is in error and no receipt has settled it
-  pub resends : (n m : ℕ) (t : State) → step A s (Resend n m) ≡ Some (Resent, t) → (d : OutEntry) × (document s n ≡ Some d) × (is_settled d ≡ false) × (state_of d.detail ≡ E)
+  pub resends : (n m : ℕ) (t : State) → step A s (Resend n m) ≡ Some (Resent, t) → (d : OutEntry) × (document s n ≡ Some d) × (is_settled d ≡ false) × (class_of d.detail ≡ E)
   -- a refusal changes nothing, nor does the outcome of a document that is settled
   pub refuses : (e : Event) (a : Answer) (t : State) → step A s e ≡ Some (a, t) → is_refusal a ≡ true → t ≡ s
   -- a moment is answered by the number of documents that it gives up
@@ -89,22 +89,22 @@ pub record StandsByHistory (A : Agreements) (v : Version) (trace : Trace) (s : S
   -- the store is of that version, until the trace migrates it
   pub version : s.version ≡ version_after v trace
   -- each document is one that was submitted, with the names, the content and the moment of its submission
-  pub documents : (k : ℕ) → option_map submitted (document s k) ≡ submitted_as (accepted v trace) k
+  pub documents : (k : ℕ) → option_map submission_of (document s k) ≡ submitted_as (accepted_events v trace) k
   -- its detail, its evidence and the number of its tries since it was last to be sent anew are its history's
-  pub stands : (k : ℕ) → option_map told (document s k) ≡ history A (accepted v trace) k
+  pub stands : (k : ℕ) → option_map history_of (document s k) ≡ history A (accepted_events v trace) k
   -- it stands as successful exactly where the first receipt confirms it
-  pub success : (k : ℕ) → IsSuccessful s k ↔ IsConfirmed A (accepted v trace) k
+  pub success : (k : ℕ) → IsSuccessful s k ↔ IsConfirmed A (accepted_events v trace) k
   -- a receipt is for a document exactly where it came from its partner to its organization and names its identifier
   pub names : (r : ReceivedReceipt) (organization partner id : Text) → IsTrue (bears r organization partner id) ↔ ((organization ≡ r.to) × (partner ≡ r.from) × (value_of id ≡ named_by r.receipt))
   -- what is settled stays so under every further list
   pub settled : (k : ℕ) (d : OutEntry) → document s k ≡ Some d → is_settled d ≡ true → (more : Trace) (t : State) → Run A s more t → StandsAs d t k
   -- its own events tell: another list that has them in the same order gives it the same, whatever else it has
-  pub alone : (k first : ℕ) (w : Version) (other : Trace) (t : State) → Run A (empty w first) other t → concerns A (accepted v trace) k ≡ concerns A (accepted w other) k
-      → option_map told (document s k) ≡ option_map told (document t k)
+  pub alone : (k first : ℕ) (w : Version) (other : Trace) (t : State) → Run A (empty w first) other t → concerns A (accepted_events v trace) k ≡ concerns A (accepted_events w other) k
+      → option_map history_of (document s k) ≡ option_map history_of (document t k)
   -- whether a try of it ever began, whether one is open, and what is due when, are its history's too
-  pub waits : (k : ℕ) → option_map waiting (document s k) ≡ waiting_history A (accepted v trace) k
+  pub waits : (k : ℕ) → option_map schedule_of (document s k) ≡ waiting_history A (accepted_events v trace) k
   -- and so is what stands of the receipt that is owed for a document that came
-  pub owed : (n : ℕ) (e : InEntry) → received s n ≡ Some e → receipt_history A (accepted v trace) n e.posted ≡ Some (receipt_told e)
+  pub owed : (n : ℕ) (e : InEntry) → received_entry s n ≡ Some e → receipt_history A (accepted_events v trace) n e.posted ≡ Some (receipt_told e)
   -- numbers, keys and identifiers are distinct, and evidence stands exactly by what a receipt settled
   pub formed : IsWellFormed A s
   -- and a further event does what StepsOn says
@@ -115,7 +115,7 @@ abbrev pub EndsByHistory : Agreements → State → Trace → State → Type 0
 EndsByHistory A s trace t = (v : Version) (first : ℕ) (before : Trace) → IsCounter first → Run A (empty v first) before s → StandsByHistory A v (before ++ trace) t
 
 -- what is said to an event, where a call tells so much of it
-abbrev pub said_as : {A : Type 0} → (A → Answer) → Result A StoreFault → Said
+abbrev pub said_as : {A : Type 0} → (A → Answer) → Result A StoreFault → EventResult
 said_as told (Ok a) = Answered (told a)
 said_as told (Err fault) = Failed fault
 

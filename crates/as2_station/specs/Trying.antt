@@ -12,13 +12,13 @@ use Rattle.as2_mdn.specs.declared.detail.Detail.TheVariants.{Sending}
 use Rattle.as2_records.specs.declared.progress.Progress.{Progress}
 
 -- the partner, where there is one
-abbrev pub known : Option Partner → Result Partner Refusal
-known (Some p) = Ok p
-known None = Err UnknownPartner
+abbrev pub known_partner : Option Partner → Result Partner Refusal
+known_partner (Some p) = Ok p
+known_partner None = Err UnknownPartner
 
 -- the partner of that name, where the organization is one of ours
 abbrev pub agreed_partner : Agreements → Text → Text → Result Partner Refusal
-agreed_partner A organization partner = if not (is_organization A organization) then Err UnknownOrganization else known (partner_of A partner)
+agreed_partner A organization partner = if not (is_organization A organization) then Err UnknownOrganization else known_partner (partner_of A partner)
 
 -- a receipt has settled it; its tries are used up; it waits for something else, or its moment hasn't come
 abbrev pub try_refusal : Partner → OutEntry → ℕ → Option Refusal
@@ -29,8 +29,8 @@ try_refusal p d m =
     else None
 
 -- how far it has come once a try has begun
-abbrev pub tried : Partner → OutEntry → ℕ → Progress
-tried p d m = record {
+abbrev pub progress_after_try : Partner → OutEntry → ℕ → Progress
+progress_after_try p d m = record {
   tries = d.tries + 1;
   attempt = if nat_le p.max_tries (d.tries + 1) then Last else Running;
   due = Some (m + p.retry_seconds);

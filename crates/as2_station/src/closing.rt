@@ -1,14 +1,14 @@
 //! Outcomes of tries: the receipt for the document settles it, or the answer says how the try ended.
 ghost use Rattle.std.specs.Prelude.{◌≡◌, IfOk, Some, IsTrue, true, option_map, option_and_then};
 ghost use Rattle.as2_agreement.specs.Partners.{IsPartner};
-ghost use Rattle.as2_exchange.specs.Documents.{closed, closed_by, if_for};
+ghost use Rattle.as2_exchange.specs.Documents.{closed_document, closed_by, if_for};
 ghost use Rattle.as2_exchange.specs.Readings.{report_in, verdict};
 ghost use Rattle.as2_exchange.specs.Receipts.{is_success, receipt_in_answer};
 ghost use Rattle.as2_exchange.specs.State.{AllDigests, document};
 ghost use Rattle.as2_exchange.specs.declared.event.TryAnswer.TheVariants.{Reply};
 ghost use Rattle.as2_exchange.specs.Step.{on_document};
 ghost use Rattle.as2_posts.specs.Openings.{receipt_as};
-ghost use Rattle.as2_station.specs.Closing.{LeavesUnsettled, after_failure, ended, settled_by, without_receipt};
+ghost use Rattle.as2_station.specs.Closing.{LeavesUnsettled, progress_after_failure, ended_document, settled_by, without_receipt};
 ghost use Rattle.as2_station.specs.Said.{said_to_outcome};
 ghost use Rattle.as2_station.specs.Steps.{Does, always};
 
@@ -50,7 +50,7 @@ pub fn is_success(status: u16) -> bool
 /// How far the document has come once its try has failed.
 fn after_failure(partner: &Partner, document: &OutEntry, moment: Moment) -> Progress
     requires terms { IsPartner partner.now }
-    ensures { result ≡ after_failure partner.now moment document.now }
+    ensures { result ≡ progress_after_failure partner.now moment document.now }
 {
     if matches!(document.attempt, Attempt::Last) {
         return Progress {
@@ -97,7 +97,7 @@ fn by_receipt(
     document: &OutEntry,
     moment: Moment,
 ) -> Result<Option<End>, Memory>
-    ensures { IfOk result (λ end. option_map (λ e. ended e document.now) end
+    ensures { IfOk result (λ end. option_map (λ e. ended_document e document.now) end
         ≡ option_map (settled_by moment document.now)
         (option_and_then (if_for document.now) (receipt_as AllDigests opened.now body))) }
 {
@@ -124,7 +124,7 @@ fn by_reply(
     moment: Moment,
 ) -> Result<End, Memory>
     requires terms { IsPartner partner.now }
-    ensures { IfOk result (λ end. ended end document.now
+    ensures { IfOk result (λ end. ended_document end document.now
         ≡ closed_by partner.now (Reply status head.now body) moment document.now
         (option_and_then (if_for document.now) (receipt_in_answer AllDigests (Reply status head.now body)))) }
 {
@@ -149,7 +149,7 @@ fn end_of(
     moment: Moment,
 ) -> Result<End, Memory>
     requires terms { IsPartner partner.now }
-    ensures { IfOk result (λ end. ended end document.now
+    ensures { IfOk result (λ end. ended_document end document.now
         ≡ closed_by partner.now answer moment document.now
         (option_and_then (if_for document.now) (receipt_in_answer AllDigests answer))) }
 {
@@ -166,7 +166,7 @@ fn end_of(
 fn end_try<R: Records>(records: &mut R, entry: &OutEntry, end: End) -> Result<Ended, StoreFault>
     requires unsettled { LeavesUnsettled end }
     requires open { (R.shows records.old).IsClean → IsTrue (R.shows records.old).is_open }
-    ensures taken { Does (λ s. Some (on_document s entry.now.number (ended end))) (λ s. document s entry.now.number
+    ensures taken { Does (λ s. Some (on_document s entry.now.number (ended_document end))) (λ s. document s entry.now.number
         ≡ Some entry.now) (true ≡ true) said_to_outcome (R.shows records.old) (R.shows records.new) result }
 {
     if !entry.begun {
@@ -198,7 +198,7 @@ fn close_found<R: Records>(
     moment: Moment,
 ) -> Result<Ended, StoreFault>
     requires open { (R.shows records.old).IsClean → IsTrue (R.shows records.old).is_open }
-    ensures taken { Does (λ s. Some (on_document s entry.now.number (closed agreements.now AllDigests answer moment)))
+    ensures taken { Does (λ s. Some (on_document s entry.now.number (closed_document agreements.now AllDigests answer moment)))
         (λ s. document s entry.now.number ≡ Some entry.now) (true
         ≡ true) said_to_outcome (R.shows records.old) (R.shows records.new) result }
 {
@@ -225,7 +225,7 @@ pub fn close<R: Records>(
     answer: TryAnswer,
     moment: Moment,
 ) -> Result<Ended, StoreFault>
-    ensures taken { Does (λ s. Some (on_document s number (closed agreements.now AllDigests answer moment))) always
+    ensures taken { Does (λ s. Some (on_document s number (closed_document agreements.now AllDigests answer moment))) always
         (true ≡ true) said_to_outcome (R.shows records.old) (R.shows records.new) result }
 {
     match records.find_out(alloc, number)? {

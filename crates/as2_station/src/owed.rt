@@ -3,7 +3,7 @@ ghost use Rattle.std.specs.Prelude.{◌≡◌, ◌<◌, Some, IsTrue, true};
 ghost use Rattle.as2_agreement.specs.Partners.{IsPartner};
 ghost use Rattle.as2_exchange.specs.OwedReceipts.{is_pending, is_shut, mdn_begun, mdn_closed};
 ghost use Rattle.as2_exchange.specs.Receipts.{is_delivery};
-ghost use Rattle.as2_exchange.specs.State.{received};
+ghost use Rattle.as2_exchange.specs.State.{received_entry};
 ghost use Rattle.as2_exchange.specs.Step.{on_received};
 ghost use Rattle.as2_station.specs.OwedTries.{end_answer, mdn_ended, mdn_tried, mdn_try_refusal};
 ghost use Rattle.as2_station.specs.Said.{answer_of, said_to_begin, said_to_outcome};
@@ -76,7 +76,7 @@ fn begin_found<R: Records>(
 ) -> Result<Begun, StoreFault>
     requires open { (R.shows records.old).IsClean → IsTrue (R.shows records.old).is_open }
     ensures taken { Does (λ s. Some (on_received s entry.now.number (mdn_begun agreements.now moment)))
-        (λ s. received s entry.now.number ≡ Some entry.now) (true
+        (λ s. received_entry s entry.now.number ≡ Some entry.now) (true
         ≡ true) said_to_begin (R.shows records.old) (R.shows records.new) result }
 {
     let partner = match agreed_partner(agreements, &entry.posted.receiver, &entry.posted.sender) {
@@ -171,7 +171,7 @@ fn close_found<R: Records>(
 ) -> Result<Ended, StoreFault>
     requires open { (R.shows records.old).IsClean → IsTrue (R.shows records.old).is_open }
     ensures taken { Does (λ s. Some (on_received s entry.now.number (mdn_closed agreements.now answer.now moment)))
-        (λ s. received s entry.now.number ≡ Some entry.now) (true
+        (λ s. received_entry s entry.now.number ≡ Some entry.now) (true
         ≡ true) said_to_outcome (R.shows records.old) (R.shows records.new) result }
 {
     let partner = match agreed_partner(agreements, &entry.posted.receiver, &entry.posted.sender) {

@@ -4,16 +4,16 @@ ghost use Rattle.as2_exchange.specs.State.{AllDigests};
 ghost use Rattle.as2_exchange.specs.declared.event.Event.TheVariants.{Post, Resend, Submit, Tick};
 ghost use Rattle.as2_exchange.specs.declared.answer.Answer.TheVariants.{Http, Refused, Ticked};
 ghost use Rattle.as2_exchange.specs.Due.{IsNext, next};
-ghost use Rattle.as2_views.specs.Texts.{fetch, outstanding, show};
-ghost use Rattle.as2_views.specs.Filtering.{listing};
-ghost use Rattle.as2_json.specs.Lines.{line, lines};
+ghost use Rattle.as2_views.specs.Texts.{fetch, outstanding_text, show_text};
+ghost use Rattle.as2_views.specs.Filtering.{listing_text};
+ghost use Rattle.as2_json.specs.Lines.{object_line, object_lines};
 ghost use Rattle.as2_json.specs.Listings.{listing_objects, outstanding_objects, shown_object};
 ghost use Rattle.as2_records.specs.Calls.{Reads};
 ghost use Rattle.as2_records.specs.Standing.{may_come};
 ghost use Rattle.as2_posts.specs.Openings.{reading_by};
-ghost use Rattle.as2_station.specs.Said.{begin_of, outcome_of, said_to_begin, said_to_outcome, said_to_resend, said_to_submit};
+ghost use Rattle.as2_station.specs.Said.{begin_event, outcome_event, said_to_begin, said_to_outcome, said_to_resend, said_to_submit};
 ghost use Rattle.as2_station.specs.Steps.{ClashesWhole, RefusesSubmit, TakesEvent, TakesHead, TakesPost, always};
-ghost use Rattle.as2_station.specs.Traces.{Plays, Taken};
+ghost use Rattle.as2_station.specs.Traces.{Plays, TakesEvents};
 
 use crate::closing::close;
 use crate::owed::{begin_mdn, close_mdn};
@@ -140,7 +140,7 @@ impl<R: Records> Station<R> {
         what: Next,
         moment: Moment,
     ) -> Result<Begun, StoreFault>
-        ensures taken { TakesEvent agreements.now (begin_of what moment) said_to_begin (R.shows self.old)
+        ensures taken { TakesEvent agreements.now (begin_event what moment) said_to_begin (R.shows self.old)
             (R.shows self.new) result }
     {
         match what {
@@ -161,7 +161,7 @@ impl<R: Records> Station<R> {
         answer: TryAnswer,
         moment: Moment,
     ) -> Result<Ended, StoreFault>
-        ensures taken { TakesEvent agreements.now (outcome_of what answer moment) said_to_outcome (R.shows self.old)
+        ensures taken { TakesEvent agreements.now (outcome_event what answer moment) said_to_outcome (R.shows self.old)
             (R.shows self.new) result }
     {
         match what {
@@ -285,7 +285,7 @@ impl<R: Records> Station<R> {
     /// The listing that is asked for, a line each, in order of number. Answers Memory, Disk or Refused.
     pub fn listing(&mut self, alloc: Global, filter: Filter) -> Result<String, StoreFault>
         ensures listing { Reads (λ s text. string_bytes text
-            ≡ listing filter s) (R.shows self.old) (R.shows self.new) result }
+            ≡ listing_text filter s) (R.shows self.old) (R.shows self.new) result }
         ensures fault { IfErr result (λ f. may_come f ≡ true) }
     {
         match filter {
@@ -298,7 +298,7 @@ impl<R: Records> Station<R> {
     /// moment. Answers Memory, Disk or Refused.
     pub fn outstanding(&mut self, alloc: Global, moment: Moment) -> Result<String, StoreFault>
         ensures outstanding { Reads (λ s text. string_bytes text
-            ≡ outstanding s moment) (R.shows self.old) (R.shows self.new) result }
+            ≡ outstanding_text s moment) (R.shows self.old) (R.shows self.new) result }
         ensures fault { IfErr result (λ f. may_come f ≡ true) }
     {
         viewing::outstanding(&mut self.records, alloc, moment)
@@ -308,7 +308,7 @@ impl<R: Records> Station<R> {
     /// or Refused.
     pub fn show(&mut self, alloc: Global, number: u64) -> Result<Option<String>, StoreFault>
         ensures shown { Reads (λ s text. option_map string_bytes text
-            ≡ show s number) (R.shows self.old) (R.shows self.new) result }
+            ≡ show_text s number) (R.shows self.old) (R.shows self.new) result }
         ensures fault { IfErr result (λ f. may_come f ≡ true) }
     {
         viewing::show(&mut self.records, alloc, number)
@@ -321,7 +321,7 @@ impl<R: Records> Station<R> {
         filter: Filter,
     ) -> Result<Vec<u8>, StoreFault>
         ensures listing { Reads (λ s text. text.items
-            ≡ lines (listing_objects filter s)) (R.shows self.old) (R.shows self.new) result }
+            ≡ object_lines (listing_objects filter s)) (R.shows self.old) (R.shows self.new) result }
         ensures fault { IfErr result (λ f. may_come f ≡ true) }
     {
         as2_json::listing_in_objects(&mut self.records, alloc, filter)
@@ -335,7 +335,7 @@ impl<R: Records> Station<R> {
         moment: Moment,
     ) -> Result<Vec<u8>, StoreFault>
         ensures outstanding { Reads (λ s text. text.items
-            ≡ lines (outstanding_objects s moment)) (R.shows self.old) (R.shows self.new) result }
+            ≡ object_lines (outstanding_objects s moment)) (R.shows self.old) (R.shows self.new) result }
         ensures fault { IfErr result (λ f. may_come f ≡ true) }
     {
         as2_json::outstanding_in_objects(&mut self.records, alloc, moment)
@@ -349,7 +349,7 @@ impl<R: Records> Station<R> {
         number: u64,
     ) -> Result<Option<Vec<u8>>, StoreFault>
         ensures shown { Reads (λ s text. option_map (λ t. t.items) text
-            ≡ option_map line (shown_object s number)) (R.shows self.old) (R.shows self.new) result }
+            ≡ option_map object_line (shown_object s number)) (R.shows self.old) (R.shows self.new) result }
         ensures fault { IfErr result (λ f. may_come f ≡ true) }
     {
         as2_json::shown_in_objects(&mut self.records, alloc, number)
@@ -372,7 +372,7 @@ impl<R: Records> Station<R> {
         agreements: &Agreements,
         events: Vec<Event>,
     ) -> Result<Vec<Result<Answer, StoreFault>>, Memory>
-        ensures each { IfOk result (λ said. Taken R.shows agreements.now events.items said.items self.old self.new) }
+        ensures each { IfOk result (λ said. TakesEvents R.shows agreements.now events.items said.items self.old self.new) }
         ensures played { IfOk result (λ said. Plays R.shows agreements.now events.items said.items self.old self.new) }
         ensures nothing { OnErr result (self.new ≡ self.old) }
     {

@@ -7,7 +7,7 @@ ghost use Rattle.as2_exchange.specs.Step.{on_document};
 ghost use Rattle.as2_exchange.specs.Tries.{is_early};
 ghost use Rattle.as2_station.specs.Said.{said_to_begin};
 ghost use Rattle.as2_station.specs.Steps.{Does, always};
-ghost use Rattle.as2_station.specs.Trying.{tried, try_refusal};
+ghost use Rattle.as2_station.specs.Trying.{progress_after_try, try_refusal};
 
 use crate::agreed::agreed_partner;
 use crate::said::Begun;
@@ -59,7 +59,7 @@ fn try_refusal(partner: &Partner, document: &OutEntry, moment: Moment) -> Option
 fn tried(partner: &Partner, document: &OutEntry, moment: Moment) -> Progress
     requires terms { IsPartner partner.now }
     requires left { document.now.tries < partner.now.max_tries }
-    ensures { result ≡ tried partner.now document.now moment }
+    ensures { result ≡ progress_after_try partner.now document.now moment }
 {
     let tries = document.tries + 1;
     let attempt = if tries >= partner.max_tries {

@@ -1,8 +1,8 @@
 //! What is seen of the records: listings, what is outstanding, one document in full, the content of a received one.
 ghost use Rattle.std.specs.Prelude.{◌≡◌, IfErr, option_map, string_bytes, true};
-ghost use Rattle.as2_views.specs.Texts.{fetch, list_in, list_out, outstanding, show};
+ghost use Rattle.as2_views.specs.Texts.{fetch, list_in, list_out, outstanding_text, show_text};
 ghost use Rattle.as2_records.specs.Calls.{Reads};
-ghost use Rattle.as2_records.specs.Listing.{listed, settled_numbers};
+ghost use Rattle.as2_records.specs.Listing.{listed_rows, settled_numbers};
 ghost use Rattle.as2_records.specs.Standing.{may_come};
 
 use crate::texts::{document_text, in_text, out_text, outstanding_text};
@@ -25,7 +25,7 @@ fn documents<R: Records>(
     alloc: Global,
     wanted: Option<State>,
 ) -> Result<Marked, StoreFault>
-    ensures marked { Reads (λ s m. (m.rows.items ≡ listed wanted s)
+    ensures marked { Reads (λ s m. (m.rows.items ≡ listed_rows wanted s)
         × (m.settled.items ≡ settled_numbers s)) (R.shows records.old) (R.shows records.new) result }
     ensures fault { IfErr result (λ f. may_come f ≡ true) }
 {
@@ -69,7 +69,7 @@ pub fn outstanding<R: Records>(
     moment: Moment,
 ) -> Result<String, StoreFault>
     ensures outstanding { Reads (λ s text. string_bytes text
-        ≡ outstanding s moment) (R.shows records.old) (R.shows records.new) result }
+        ≡ outstanding_text s moment) (R.shows records.old) (R.shows records.new) result }
     ensures fault { IfErr result (λ f. may_come f ≡ true) }
 {
     let counts = records.counts(alloc)?;
@@ -90,7 +90,7 @@ pub fn show<R: Records>(
     number: u64,
 ) -> Result<Option<String>, StoreFault>
     ensures shown { Reads (λ s text. option_map string_bytes text
-        ≡ show s number) (R.shows records.old) (R.shows records.new) result }
+        ≡ show_text s number) (R.shows records.old) (R.shows records.new) result }
     ensures fault { IfErr result (λ f. may_come f ≡ true) }
 {
     match records.find_out(alloc, number)? {

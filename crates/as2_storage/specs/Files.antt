@@ -15,14 +15,14 @@ use Rattle.as2_store.specs.Stands.{Stands}
 use Rattle.as2_store.specs.Tables.{Layout, schema_of}
 
 -- the files hold this state, and the database file does without its log
-pub record Holds (image : Image) (s : State) : Type 0 where
+pub record HoldsEitherWay (image : Image) (s : State) : Type 0 where
   pub both : HoldsState image s
   pub alone : HoldsState (record image { log = [] }) s
 
 -- so they do as they read now, and after a crash
 pub record AreClosed {D : Type 0} (g : Ghosts D) (files : Files D) (s : State) : Type 0 where
-  pub seen : Holds (image_of g files) s
-  pub left : (image : Image) → outcomes g files.log files.db image → Holds image s
+  pub seen : HoldsEitherWay (image_of g files) s
+  pub left : (image : Image) → outcomes g files.log files.db image → HoldsEitherWay image s
 
 -- they are those of a store under the kit's shield: they returned what was written, or a digest has collided
 abbrev pub AreShielded : {D : Type 0} → Ghosts D → Files D → Type 0

@@ -8,7 +8,7 @@ use Rattle.sqlite.specs.Store.{Ghosts}
 use Rattle.sqlite.specs.Held.{Held, state}
 use Rattle.sqlite.specs.Tree.{put_row}
 use Rattle.sqlite.specs.State.{State as Connected, HasCleanDisk, Executes}
-use Rattle.sql_tables.specs.Changes.{Changed, HasRows}
+use Rattle.sql_tables.specs.Changes.{ChangesTable, HasRows}
 use Rattle.sql_tables.proofs.Sorting.{unchanged}
 use Rattle.sql_tables.proofs.Writes.{cast_int, cast_null, IsOneRow, inserts_given}
 use Rattle.as2_exchange.specs.State.{State, end_of_numbers}
@@ -22,7 +22,7 @@ use Rattle.as2_rows.specs.Contents.{pieces, piece_shown}
 use Rattle.as2_rows.specs.Waiting.{out_waiting}
 use Rattle.as2_store.specs.Tables.{Way, VersionThree, current_number, store_schema, meta_tree, outbox_table, outbox_tree, outbox_piece_tree}
 use Rattle.as2_store.specs.Stands.{IsWhole, Stands, HasCounters, waiting_row, all_waiting, evidence_rows, outbox_pieces, meta_row}
-use Rattle.as2_store.specs.Adding.{Appended, Noted, noted_rows, IsEntered}
+use Rattle.as2_store.specs.Adding.{AppendsPieces, NotesWaiting, noted_rows, IsEntered}
 use Rattle.as2_records.specs.Adding.{with_document, added_document}
 use Rattle.as2_store.proofs.Statements.{out_put_text}
 use Rattle.as2_store.proofs.Texts.{out_put_terms, out_put_is, out_put_plain}
@@ -41,7 +41,7 @@ one_out d = record { source = out_row d; made = refl; cast_is = simp (cast_int, 
 
 pub puts_out : (way : Way) (old new : Connected) (d : OutEntry) (count : ℕ) → old.now.schema ≡ store_schema way
     → Executes out_put_text (out_shown d) old new (Ok count)
-    → Changed old new (store_schema way) outbox_tree (put_row (out_row d) (old.now.trees outbox_tree))
+    → ChangesTable old new (store_schema way) outbox_tree (put_row (out_row d) (old.now.trees outbox_tree))
 puts_out way old new d count has h =
     inserts_given out_put_text (out_shown d) old new (store_schema way) has 3 outbox_table refl refl out_put_terms 12 (out_row d) (one_out d) refl (out_put_is way) (out_put_plain way) count h
 
@@ -69,8 +69,8 @@ no_more_evidence ds x none = sym (
 -- the row, the pieces and what waits
 pub entered_document : (way : Way) (a b c d : Connected) (s : State) (x : OutEntry) → Stands (VersionThree way) a.now s → x.number < end_of_numbers
     → x.evidence ≡ None → x.begun ≡ nat_le 1 x.tries
-    → Changed a b (store_schema way) outbox_tree (put_row (out_row x) (a.now.trees outbox_tree))
-    → Appended way b c outbox_piece_tree (pieces x.number x.content) → Noted way c d (out_waiting x)
+    → ChangesTable a b (store_schema way) outbox_tree (put_row (out_row x) (a.now.trees outbox_tree))
+    → AppendsPieces way b c outbox_piece_tree (pieces x.number x.content) → NotesWaiting way c d (out_waiting x)
     → IsEntered way d.now s x.number s.next_out (with_document s x)
 entered_document way a b c d s x it small unsettled tried one two three =
     let has = it.entries in
@@ -100,7 +100,7 @@ entered_document way a b c d s x it small unsettled tried one two three =
 -- and then the counter
 stands_submitted : (way : Way) (a d e : Connected) (s : State) (x : OutEntry) → Stands (VersionThree way) a.now s → x.number ≡ s.next_out
     → x.number < end_of_numbers → IsEntered way d.now s x.number s.next_out (with_document s x)
-    → Changed d e (store_schema way) meta_tree (meta_row current_number s.next_in (x.number + 1) ∷ []) → Stands (VersionThree way) e.now (with_document s x)
+    → ChangesTable d e (store_schema way) meta_tree (meta_row current_number s.next_in (x.number + 1) ∷ []) → Stands (VersionThree way) e.now (with_document s x)
 unfolding IsWhole
 stands_submitted way a d e s x it is small mid four =
     let k4 = keeping way AtMeta d.now.trees e.now.trees four.others in
@@ -133,7 +133,7 @@ pub adds_document : {S : Type 0} (g : Ghosts S) (old : Held S) (mid last : Conne
     → (HasCleanDisk mid → (way : Way) (s : State) → Stands (VersionThree way) (state g old).now s
     → IsEntered way mid.now s x.number s.next_out (with_document s x))
     → (HasCleanDisk last → (way : Way) (n m : ℕ) → HasCounters way mid.now n m → (x.number ≡ m)
-    × Changed mid last (store_schema way) meta_tree (meta_row current_number n (x.number + 1) ∷ [])) → HasCleanDisk last
+    × ChangesTable mid last (store_schema way) meta_tree (meta_row current_number n (x.number + 1) ∷ [])) → HasCleanDisk last
     → FollowsEach g old last (added_document x)
 adds_document g old mid last x small was opened put raised clean = record {
   was_open = opened (was clean);

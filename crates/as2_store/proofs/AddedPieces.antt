@@ -18,7 +18,7 @@ use Rattle.as2_store.specs.Tables.{Way, store_schema, inbox_piece_table, inbox_p
 use Rattle.as2_store.specs.declared.contents.Mailbox.{Mailbox}
 use Rattle.as2_store.specs.declared.contents.Mailbox.TheVariants.{Inbox, Outbox}
 use Rattle.as2_store.proofs.Statements.{piece_put_text}
-use Rattle.as2_store.specs.Adding.{Appended, piece_tree}
+use Rattle.as2_store.specs.Adding.{AppendsPieces, piece_tree}
 use Rattle.as2_store.proofs.Texts.{inbox_piece_place, inbox_piece_there, piece_put_terms, in_piece_put_is, in_piece_put_plain, out_piece_put_is, out_piece_put_plain}
 
 -- ---- one more
@@ -35,8 +35,8 @@ pub others_then : (a b c : Trees) (tree : ℕ) (tables : List Table) → AllByRe
 others_then a b c tree [] one two = tt
 others_then a b c tree (t ∷ tables) one two = (λ other. two.0 other ∙ one.0 other, others_then a b c tree tables one.1 two.1)
 
-pub appended_then : (way : Way) (a b c : Connected) (tree : ℕ) (ps qs : List Piece) → Appended way a b tree ps → Appended way b c tree qs
-    → Appended way a c tree (ps ++ qs)
+pub appended_then : (way : Way) (a b c : Connected) (tree : ℕ) (ps qs : List Piece) → AppendsPieces way a b tree ps → AppendsPieces way b c tree qs
+    → AppendsPieces way a c tree (ps ++ qs)
 appended_then way a b c tree ps qs one two = record {
   schema_is = two.schema_is;
   pieces_are = λ before are. subst (λ all. HasRows (c.now.trees tree) (map piece_shown all)) (append_assoc before ps qs) (two.pieces_are (before ++ ps) (one.pieces_are before are));
@@ -52,7 +52,7 @@ out_piece : (p : Piece) → IsOneRow outbox_piece_table (piece_shown p) piece_pu
 out_piece p = record { source = Null ∷ piece_shown p; made = refl; cast_is = simp (cast_null, cast_int) }
 
 pub puts_piece_in : (way : Way) (mailbox : Mailbox) (old new : Connected) (p : Piece) (count : ℕ) → old.now.schema ≡ store_schema way
-    → Executes (piece_put_text mailbox) (piece_shown p) old new (Ok count) → Appended way old new (piece_tree way mailbox) (p ∷ [])
+    → Executes (piece_put_text mailbox) (piece_shown p) old new (Ok count) → AppendsPieces way old new (piece_tree way mailbox) (p ∷ [])
 puts_piece_in way Inbox old new p count has h =
     let it = inserts_chosen (piece_put_text Inbox) (piece_shown p) old new (store_schema way) has (inbox_piece_place way) (inbox_piece_table way) (inbox_piece_there way) refl piece_put_terms 4 (Null ∷ piece_shown p) (in_piece way p) (piece_shown p) refl (in_piece_put_is way) (in_piece_put_plain way) count h in
     record {

@@ -9,7 +9,7 @@ use Rattle.sqlite.specs.Table.{Table}
 use Rattle.sqlite.specs.Tree.{Trees, put_row}
 use Rattle.sqlite.specs.State.{State as Connected, HasCleanDisk}
 use Rattle.std.proofs.lemmas.List.Concat.{flat_map-append}
-use Rattle.sql_tables.specs.Changes.{Changed, HasRows}
+use Rattle.sql_tables.specs.Changes.{ChangesTable, HasRows}
 use Rattle.sql_tables.proofs.Sorting.{unchanged}
 use Rattle.as2_exchange.specs.State.{State, end_of_numbers}
 use Rattle.as2_exchange.specs.Invariants.{AreNumbers}
@@ -22,8 +22,8 @@ use Rattle.as2_rows.specs.Contents.{pieces, piece_shown}
 use Rattle.as2_rows.specs.Waiting.{WaitingRow, in_waiting}
 use Rattle.as2_store.specs.Tables.{Way, VersionThree, current_number, store_schema, meta_tree, inbox_tree, inbox_piece_tree, waiting_tree}
 use Rattle.as2_store.specs.Stands.{IsWhole, Stands, HasCounters, inbox_pieces, meta_row}
-use Rattle.as2_store.specs.Adding.{Appended, Noted, noted_rows, IsEntered}
-use Rattle.as2_records.specs.Adding.{with_received, added}
+use Rattle.as2_store.specs.Adding.{AppendsPieces, NotesWaiting, noted_rows, IsEntered}
+use Rattle.as2_records.specs.Adding.{with_received, state_with}
 use Rattle.as2_store.proofs.Committing.{FollowsEach}
 use Rattle.as2_store.proofs.NumberedRows.{puts_between}
 use Rattle.as2_store.proofs.WaitingRows.{noted}
@@ -39,7 +39,7 @@ all_same : (old new : Trees) (tree : ℕ) → new ≡ old → (tables : List Tab
 all_same old new tree same [] = tt
 all_same old new tree same (t ∷ tables) = (λ _. ap (λ (f : Trees). f t.tree) same, all_same old new tree same tables)
 
-pub wrote : (way : Way) (old new : Connected) (o : Option WaitingRow) → old.now.schema ≡ store_schema way → Noted way old new o
+pub wrote : (way : Way) (old new : Connected) (o : Option WaitingRow) → old.now.schema ≡ store_schema way → NotesWaiting way old new o
     → Wrote way old new waiting_tree (noted_rows o (old.now.trees waiting_tree))
 wrote way old new None has same = record {
   schema_is = ap (λ d. d.schema) same ∙ has;
@@ -60,8 +60,8 @@ below_all {E} number next n es h is = subst (λ n. AllByRecursion (λ q. number 
 
 -- the row, the pieces and what waits
 pub entered : (way : Way) (a b c d : Connected) (s : State) (x : InEntry) → Stands (VersionThree way) a.now s → x.number < end_of_numbers
-    → Changed a b (store_schema way) (inbox_tree way) (put_row (in_row x) (a.now.trees (inbox_tree way)))
-    → Appended way b c (inbox_piece_tree way) (pieces x.number x.posted.content) → Noted way c d (in_waiting x)
+    → ChangesTable a b (store_schema way) (inbox_tree way) (put_row (in_row x) (a.now.trees (inbox_tree way)))
+    → AppendsPieces way b c (inbox_piece_tree way) (pieces x.number x.posted.content) → NotesWaiting way c d (in_waiting x)
     → IsEntered way d.now s x.number s.next_in (with_received s x)
 entered way a b c d s x it small one two three =
     let has = it.entries in
@@ -90,7 +90,7 @@ entered way a b c d s x it small one two three =
 -- and then the counter
 pub stands_received : (way : Way) (a d e : Connected) (s : State) (x : InEntry) → Stands (VersionThree way) a.now s → x.number ≡ s.next_in
     → x.number < end_of_numbers → IsEntered way d.now s x.number s.next_in (with_received s x)
-    → Changed d e (store_schema way) meta_tree (meta_row current_number (x.number + 1) s.next_out ∷ []) → Stands (VersionThree way) e.now (with_received s x)
+    → ChangesTable d e (store_schema way) meta_tree (meta_row current_number (x.number + 1) s.next_out ∷ []) → Stands (VersionThree way) e.now (with_received s x)
 unfolding IsWhole
 stands_received way a d e s x it is small mid four =
     let k4 = keeping way AtMeta d.now.trees e.now.trees four.others in
@@ -122,7 +122,7 @@ pub adds : {S : Type 0} (g : Ghosts S) (old : Held S) (mid last : Connected) (x 
     → (HasCleanDisk mid → (way : Way) (s : State) → Stands (VersionThree way) (state g old).now s
     → IsEntered way mid.now s x.number s.next_in (with_received s x))
     → (HasCleanDisk last → (way : Way) (n m : ℕ) → HasCounters way mid.now n m → (x.number ≡ n)
-    × Changed mid last (store_schema way) meta_tree (meta_row current_number (x.number + 1) m ∷ [])) → HasCleanDisk last → FollowsEach g old last (added x)
+    × ChangesTable mid last (store_schema way) meta_tree (meta_row current_number (x.number + 1) m ∷ [])) → HasCleanDisk last → FollowsEach g old last (state_with x)
 adds g old mid last x small was opened put raised clean = record {
   was_open = opened (was clean);
   reaches = λ s r.

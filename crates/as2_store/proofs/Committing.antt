@@ -13,7 +13,7 @@ use Rattle.sqlite.proofs.Callers.{survives_begin}
 use Rattle.as2_exchange.specs.State.{State}
 use Rattle.as2_store.specs.Tables.{VersionThree, store_schema}
 use Rattle.as2_store.specs.Stands.{Stands, Holds, Rests}
-use Rattle.as2_store.specs.Calls.{IsInside, Keeps, Commits, Writes}
+use Rattle.as2_store.specs.Calls.{IsInside, Keeps, CommitsTables, WritesTables}
 use Rattle.as2_store.proofs.TransactionEnds.{rests_committed, rests_after, keeps_then}
 use Rattle.sqlite_schema.specs.declared.schema.Schema.{Schema}
 
@@ -53,7 +53,7 @@ module _ {S : Type 0} (g : Ghosts S) (old : Held S) (last : Connected) (end : He
   at_begin = state g (record old { in_transaction = true })
 
   pub gives_up : {A E : Type 0} (r : Result A E) → IsErr r → IsInside at_begin last → Survives last (state g end) (λ _. ⊥)
-      → (HasCleanDisk (state g end) → IsRolledBack last (state g end)) → Writes {A = A} {E = E} next (state g old) (state g end) r
+      → (HasCleanDisk (state g end) → IsRolledBack last (state g end)) → WritesTables {A = A} {E = E} next (state g old) (state g end) r
   gives_up (Ok a) err inside late back = absurd cc
   gives_up (Err e) err inside late back =
       let was : HasCleanDisk (state g end) → HasCleanDisk last = λ clean. omega (arith, late.clean, clean) in
@@ -63,14 +63,14 @@ module _ {S : Type 0} (g : Ghosts S) (old : Held S) (last : Connected) (end : He
         is_open = λ clean. tt;
         done = λ clean. tt;
         failed = λ clean s r. rests_after (state g old) last (state g end) s r (record { was_open = λ o. (inside.kept (was clean)).was_open o; committed = λ o. (inside.kept (was clean)).committed o }) (back clean);
-        crash = survives_then (state g old) last (state g end) (λ _. ⊥) (λ _. ⊥) (Commits next (state g old)) (λ _ db none. absurd none) (λ _ db none. absurd none)
+        crash = survives_then (state g old) last (state g end) (λ _. ⊥) (λ _. ⊥) (CommitsTables next (state g old)) (λ _ db none. absurd none) (λ _ db none. absurd none)
             (survives_begin g old last (λ _. ⊥) inside.survives) late;
       }
 
   committed_crash : IsInside at_begin last → Survives last (state g end) (λ db. db ≡ last.now.trees) → (HasCleanDisk last → FollowsEach g old last next)
-      → Survives (state g old) (state g end) (Commits next (state g old))
+      → Survives (state g old) (state g end) (CommitsTables next (state g old))
   committed_crash inside late done =
-      survives_then (state g old) last (state g end) (λ _. ⊥) (λ db. db ≡ last.now.trees) (Commits next (state g old)) (λ _ db none. absurd none)
+      survives_then (state g old) last (state g end) (λ _. ⊥) (λ db. db ≡ last.now.trees) (CommitsTables next (state g old)) (λ _ db none. absurd none)
       (λ clean db is.
       let it = done (omega (arith, late.clean, clean)) in
       record {
@@ -81,7 +81,7 @@ module _ {S : Type 0} (g : Ghosts S) (old : Held S) (last : Connected) (end : He
 
   pub fails_to_commit : {A E : Type 0} (r : Result A E) → IsErr r → IsInside at_begin last → Survives last (state g end) (λ db. db ≡ last.now.trees)
       → (HasCleanDisk last → FollowsEach g old last next) → (HasCleanDisk (state g end) → IsRolledBack last (state g end))
-      → Writes {A = A} {E = E} next (state g old) (state g end) r
+      → WritesTables {A = A} {E = E} next (state g old) (state g end) r
   fails_to_commit (Ok a) err inside late done back = absurd cc
   fails_to_commit (Err e) err inside late done back =
       let was : HasCleanDisk (state g end) → HasCleanDisk last = λ clean. omega (arith, late.clean, clean) in
@@ -98,7 +98,7 @@ module _ {S : Type 0} (g : Ghosts S) (old : Held S) (last : Connected) (end : He
       → (HasCleanDisk last → FollowsEach g old last next)
       → (HasCleanDisk (state g end) → Shows last (state g end) last.now last.now false)
       → (settled : (db : Trees) → IsTrue (state g end).is_open → (state g end).may_leave db → db ≡ (state g end).committed.trees)
-      → Writes {A = A} {E = E} next (state g old) (state g end) (Ok a)
+      → WritesTables {A = A} {E = E} next (state g old) (state g end) (Ok a)
   commits a inside late done shows settled =
       let was : HasCleanDisk (state g end) → HasCleanDisk last = λ clean. omega (arith, late.clean, clean) in
       record {
@@ -122,21 +122,21 @@ module _ {S : Type 0} (g : Ghosts S) (old : Held S) (last : Connected) (end : He
 
 -- its failure is told otherwise
 pub write_told : {A E F : Type 0} (next : State → Option State) (old new : Connected) (r : Result A E) (told : Result A F) (Q : E → F → Type 0)
-    → MatchResult r (λ x. told ≡ Ok x) (λ e. IsErrAnd told (Q e)) → Writes next old new r → Writes next old new told
+    → MatchResult r (λ x. told ≡ Ok x) (λ e. IsErrAnd told (Q e)) → WritesTables next old new r → WritesTables next old new told
 write_told {A} {E} {F} next old new (Ok x) told Q is it =
-    let same : Writes {A = A} {E = F} next old new (Ok x) = record { clean = it.clean; was_open = it.was_open; is_open = it.is_open; done = it.done; failed = it.failed; crash = it.crash } in
-    subst (Writes next old new) (sym is) same
+    let same : WritesTables {A = A} {E = F} next old new (Ok x) = record { clean = it.clean; was_open = it.was_open; is_open = it.is_open; done = it.done; failed = it.failed; crash = it.crash } in
+    subst (WritesTables next old new) (sym is) same
 write_told next old new (Err e) (Ok x) Q is it = absurd is
 write_told next old new (Err e) (Err f) Q is it = record { clean = it.clean; was_open = it.was_open; is_open = it.is_open; done = it.done; failed = it.failed; crash = it.crash }
 
 -- seen from where the store is
-pub write_of : {A E : Type 0} (next : State → Option State) (inside outside new : Connected) (r : Result A E) → inside ≡ outside → Writes next inside new r
-    → Writes next outside new r
-write_of next inside outside new r same it = subst (λ c. Writes next c new r) same it
+pub write_of : {A E : Type 0} (next : State → Option State) (inside outside new : Connected) (r : Result A E) → inside ≡ outside → WritesTables next inside new r
+    → WritesTables next outside new r
+write_of next inside outside new r same it = subst (λ c. WritesTables next c new r) same it
 
 -- a commit of what was done commits the next state
 pub committed_next : {S : Type 0} (g : Ghosts S) (old : Held S) (last : Connected) (next : State → Option State) → FollowsEach g old last next → (db : Trees)
-    → db ≡ last.now.trees → Commits next (state g old) db
+    → db ≡ last.now.trees → CommitsTables next (state g old) db
 committed_next g old last next it db is = record {
   was_open = it.was_open;
   stands = λ s r. let to = it.reaches s r in record { state = to.0; is = to.1; keeps = subst (λ (t : Trees). Keeps t to.0) (sym is) (keeps_of last.now to.0 to.2) };

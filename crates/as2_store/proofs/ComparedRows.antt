@@ -16,7 +16,7 @@ use Rattle.as2_exchange.specs.declared.inbox.MdnState.{MdnState}
 use Rattle.as2_exchange.specs.declared.inbox.MdnState.TheVariants.{Unasked, Pending, Sent}
 use Rattle.as2_exchange.specs.declared.outbox.OutEntry.{OutEntry}
 use Rattle.as2_records.specs.Finding.{AreNext}
-use Rattle.as2_records.specs.Listing.{listed}
+use Rattle.as2_records.specs.Listing.{listed_rows}
 use Rattle.as2_records.specs.Summaries.{in_summary, out_summary}
 use Rattle.as2_records.specs.declared.discrepancy.Discrepancy.{Discrepancy}
 use Rattle.as2_records.specs.declared.discrepancy.Discrepancy.TheVariants.{ReceivedNumber, SentNumber}
@@ -156,7 +156,7 @@ none_of None wanted kept found it none same = it.2 ∙ ap (option_map wait_told)
 none_of (Some told) wanted kept found it none same = absurd cc
 
 pub none_first : (next : NextNumbers) (received : List InRow) (sent : List OutRow) (kept : List WaitRow) (found : Option Discrepancy) (s : State)
-    → IsFirst next received sent kept found → AreBelow s → AreNext next s → received ≡ map in_summary s.inbox → sent ≡ listed None s
+    → IsFirst next received sent kept found → AreBelow s → AreNext next s → received ≡ map in_summary s.inbox → sent ≡ listed_rows None s
     → kept ≡ rows_of (all_waiting s) → found ≡ None
 none_first next received sent kept found s it all are ins outs rows =
     let sent_is = outs ∙ all_listed s.outbox in

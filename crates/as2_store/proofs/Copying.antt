@@ -27,7 +27,7 @@ use Rattle.sqlite_schema.specs.Rules.{Fits}
 use Rattle.sqlite_sql.specs.Ops.{is_null}
 use Rattle.sqlite_value.specs.declared.keys.Key.{Key}
 use Rattle.sqlite_trees.proofs.ListLemmas.{all-append, map-map, pull_back}
-use Rattle.sql_tables.specs.Changes.{Changed, HasRows, chosen, numbered_row, over_table, shown_of}
+use Rattle.sql_tables.specs.Changes.{ChangesTable, HasRows, chosen_rows, numbered_row, over_table, shown_of}
 use Rattle.sql_tables.proofs.Queries.{map_same}
 use Rattle.sql_tables.proofs.Sorting.{no_rows, one_more_row}
 use Rattle.sql_tables.proofs.Writes.{no_works, ran_insert, same_value, unless, went}
@@ -60,7 +60,7 @@ module _ (sql : List ℕ) (params : Row) (old new : Connected) (schema : Schema)
     pub answers : Answers (record { schema = schema; trees = old.now.trees }) q params sources
     pub changed : (rows : List Row)
         → put_all (old.now.trees table.tree) (numbered Chosen (old.now.trees table.tree) (map (λ s. cast_row table (drop 0 s)) sources)) ≡ rows
-        → Changed old new schema table.tree rows
+        → ChangesTable old new schema table.tree rows
 
   pub copies : command_of (understood schema sql) ≡ Insert at (Query q) → IsPlain (understood schema sql) → (count : ℕ)
       → Executes sql params old new (Ok count) → Copied

@@ -15,7 +15,7 @@ use Rattle.sqlite.proofs.StateLemmas.{survives_then}
 use Rattle.sqlite.proofs.Callers.{survives_begin}
 use Rattle.sqlite.specs.State.{State as Connected, HasCleanDisk, Survives, Shows, Executes}
 use Rattle.sqlite_trees.proofs.ListLemmas.{all-append}
-use Rattle.sql_tables.specs.Changes.{Changed, Made, Indexed}
+use Rattle.sql_tables.specs.Changes.{ChangesTable, AddsTable, AddsIndex}
 use Rattle.sql_tables.proofs.Sorting.{unchanged, no_rows}
 use Rattle.sql_tables.proofs.Writes.{cast_null, cast_int, IsOneRow, inserts_chosen}
 use Rattle.sql_tables.proofs.Creating.{makes_table}
@@ -37,7 +37,7 @@ still_empty old new [] none kept = tt
 still_empty old new (t ∷ tables) none kept = (kept.0 ∙ none.0, still_empty old new tables none.1 kept.1)
 
 -- a table more, and still no row
-pub one_more : (old new : Connected) (schema : Schema) (made : Table) → HasNoRow old.now schema → Made old new schema (created schema made)
+pub one_more : (old new : Connected) (schema : Schema) (made : Table) → HasNoRow old.now schema → AddsTable old new schema (created schema made)
     → HasNoRow new.now (created schema made)
 one_more old new schema made bare it = record {
   schema_is = it.schema_is;
@@ -64,7 +64,7 @@ pub makes_waiting : (a b c : Connected) (i j : ℕ) → Executes waiting_text []
     → HasNoRow a.now outbox_schema → HasNoRow c.now waiting_schema
 makes_waiting a b c i j one two bare =
     let first = one_more a b outbox_schema waiting_made bare (makes_table waiting_text a b outbox_schema bare.schema_is waiting_made waiting_is waiting_plain refl waiting_create.0 waiting_create.1 i one) in
-    let second : Indexed b c with_waiting waiting_schema = makes_index waiting_due_text b c with_waiting first.schema_is 6 waiting_table refl waiting_due_made waiting_due_is waiting_due_plain waiting_due_create.0 waiting_due_create.1 j two in
+    let second : AddsIndex b c with_waiting waiting_schema = makes_index waiting_due_text b c with_waiting first.schema_is 6 waiting_table refl waiting_due_made waiting_due_is waiting_due_plain waiting_due_create.0 waiting_due_create.1 j two in
     record { schema_is = second.schema_is; empty = still_empty b.now.trees c.now.trees with_waiting.tables first.empty second.others }
 
 pub makes_later : (a b c : Connected) (i j : ℕ) → Executes origin_text [] a b (Ok i) → Executes resent_text [] b c (Ok j) → HasNoRow a.now waiting_schema
@@ -83,10 +83,10 @@ first_row : (first : ℕ)
 first_row first = record { source = Null ∷ Text (codes "as2-station") ∷ Int (pos 3) ∷ Int (pos first) ∷ Int (pos first) ∷ []; made = refl; cast_is = simp (cast_null, cast_int) }
 
 pub puts_meta : (old new : Connected) (first count : ℕ) → HasNoRow old.now (store_schema Fresh) → Executes meta_put_text (first_params first) old new (Ok count)
-    → Changed old new (store_schema Fresh) meta_tree (meta_row current_number first first ∷ [])
+    → ChangesTable old new (store_schema Fresh) meta_tree (meta_row current_number first first ∷ [])
 puts_meta old new first count bare h =
     let it = inserts_chosen meta_put_text (first_params first) old new (store_schema Fresh) bare.schema_is 0 meta_table refl refl meta_put_terms 5 _ (first_row first) _ refl (meta_put_is Fresh) (meta_put_plain Fresh) count h in
-    subst (λ rows. Changed old new (store_schema Fresh) meta_tree (put_row (Int (next_rowid rows) ∷ Text (codes "as2-station") ∷ Int (pos 3) ∷ Int (pos first) ∷ Int (pos first) ∷ []) rows)) bare.empty.0 it
+    subst (λ rows. ChangesTable old new (store_schema Fresh) meta_tree (put_row (Int (next_rowid rows) ∷ Text (codes "as2-station") ∷ Int (pos 3) ∷ Int (pos first) ∷ Int (pos first) ∷ []) rows)) bare.empty.0 it
 
 origin_one : (way : Way) (number : ℕ) → IsOneRow (origin_table way) (first_params number) origin_put_terms 2 (Null ∷ Int (pos number) ∷ [])
 origin_one way number = record { source = Null ∷ Int (pos number) ∷ []; made = refl; cast_is = simp (cast_null, cast_int) }
@@ -94,18 +94,18 @@ origin_one way number = record { source = Null ∷ Int (pos number) ∷ []; made
 -- the origin goes into a table without rows
 pub puts_origin : (way : Way) (old new : Connected) (number count : ℕ) → old.now.schema ≡ store_schema way → old.now.trees (origin_tree way) ≡ []
     → Executes origin_put_text (first_params number) old new (Ok count)
-    → Changed old new (store_schema way) (origin_tree way) (origin_row number ∷ [])
+    → ChangesTable old new (store_schema way) (origin_tree way) (origin_row number ∷ [])
 puts_origin way old new number count has none h =
     let it = inserts_chosen origin_put_text (first_params number) old new (store_schema way) has (origin_place way) (origin_table way) (origin_there way) refl origin_put_terms 2 _ (origin_one way number) _ refl (origin_put_is way) (origin_put_plain way) count h in
-    subst (λ rows. Changed old new (store_schema way) (origin_tree way) (put_row (Int (next_rowid rows) ∷ Int (pos number) ∷ []) rows)) none it
+    subst (λ rows. ChangesTable old new (store_schema way) (origin_tree way) (put_row (Int (next_rowid rows) ∷ Int (pos number) ∷ []) rows)) none it
 
 pub none_yet : (a b : Connected) (first : ℕ) → HasNoRow a.now (store_schema Fresh)
-    → Changed a b (store_schema Fresh) meta_tree (meta_row current_number first first ∷ []) → b.now.trees (origin_tree Fresh) ≡ []
+    → ChangesTable a b (store_schema Fresh) meta_tree (meta_row current_number first first ∷ []) → b.now.trees (origin_tree Fresh) ≡ []
 none_yet a b first bare one = keeping Fresh AtMeta a.now.trees b.now.trees one.others AtOrigin (λ e. omega arith) ∙ bare.empty.1.1.1.1.1.1.1.0
 
 pub stands_empty : (a b c : Connected) (first : ℕ) → 1 ≤ first → first < end_of_numbers → HasNoRow a.now (store_schema Fresh)
-    → Changed a b (store_schema Fresh) meta_tree (meta_row current_number first first ∷ [])
-    → Changed b c (store_schema Fresh) (origin_tree Fresh) (origin_row 0 ∷ []) → Stands (VersionThree Fresh) c.now (empty_store first)
+    → ChangesTable a b (store_schema Fresh) meta_tree (meta_row current_number first first ∷ [])
+    → ChangesTable b c (store_schema Fresh) (origin_tree Fresh) (origin_row 0 ∷ []) → Stands (VersionThree Fresh) c.now (empty_store first)
 unfolding IsDistinct IsWhole
 stands_empty a b c first least most bare one two =
     let k1 = keeping Fresh AtMeta a.now.trees b.now.trees one.others in

@@ -18,7 +18,7 @@ use Rattle.as2_store.proofs.Statements.{meta_read_text}
 use Rattle.as2_store.specs.Tables.{current_number}
 use Rattle.as2_store.specs.Stands.{Holds, MetaSays, adoption_fault}
 use Rattle.as2_records.specs.Standing.{may_come}
-use Rattle.as2_store.specs.Calls.{IsInside, IsGivenBack, IsReason, Writes, Adopts}
+use Rattle.as2_store.specs.Calls.{IsInside, IsGivenBack, IsReason, WritesTables, Adopts}
 use Rattle.as2_store.proofs.MetaRow.{said_fails, reads_said, says_held, meta_cells}
 
 -- ---- a transaction that is given up
@@ -118,7 +118,7 @@ said_by g old mid rows f shown says tables =
 -- ---- what is adopted
 
 pub adopts : {S : Type 0} (g : Ghosts S) (old : Held S) (mid : Connected) (end : Held S) (rows : List Row) {A E : Type 0} (a : A)
-    → Writes {A = A} {E = E} Some (state g old) (state g end) (Ok a) → (HasCleanDisk (state g end) → HasCleanDisk mid)
+    → WritesTables {A = A} {E = E} Some (state g old) (state g end) (Ok a) → (HasCleanDisk (state g end) → HasCleanDisk mid)
     → (HasCleanDisk mid → Shown meta_read_text [] (state g (record old { in_transaction = true })) mid rows)
     → ((kind : List ℕ) (version n m : ℕ) → rows ≡ meta_cells kind version n m ∷ [] → None ≡ adoption_fault kind version)
     → ((state g old).now.schema.tables ≡ [] → ⊥)

@@ -5,7 +5,7 @@ use Rattle.sqlite.specs.Kind.TheVariants.{Text, Blob}
 use Rattle.sqlite.specs.Cast.{cast}
 use Rattle.sqlite.specs.Tree.{put_row}
 use Rattle.sqlite.specs.State.{State as Connected, Executes}
-use Rattle.sql_tables.specs.Changes.{Changed}
+use Rattle.sql_tables.specs.Changes.{ChangesTable}
 use Rattle.sql_tables.proofs.Writes.{cast_int, cast_null, IsOneRow, inserts_given}
 use Rattle.as2_mdn.specs.declared.report.ReportMic.{ReportMic}
 use Rattle.as2_exchange.specs.declared.inbox.InEntry.{InEntry}
@@ -97,6 +97,6 @@ one_in way e = record { source = in_row e; made = refl; cast_is = simp (cast_int
 
 pub puts_in : (way : Way) (old new : Connected) (e : InEntry) (count : ℕ) → old.now.schema ≡ store_schema way
     → Executes in_put_text (in_shown e) old new (Ok count)
-    → Changed old new (store_schema way) (inbox_tree way) (put_row (in_row e) (old.now.trees (inbox_tree way)))
+    → ChangesTable old new (store_schema way) (inbox_tree way) (put_row (in_row e) (old.now.trees (inbox_tree way)))
 puts_in way old new e count has h =
     inserts_given in_put_text (in_shown e) old new (store_schema way) has (inbox_place way) (inbox_table way) (inbox_there way) refl in_put_terms 18 (in_row e) (one_in way e) refl (in_put_is way) (in_put_plain way) count h

@@ -11,7 +11,7 @@ use Rattle.sqlite.proofs.Callers.{IsPlain, begun_plain, never_commits, unchanged
 use Rattle.sqlite.proofs.StateLemmas.{survives_then, survives_weaker}
 use Rattle.as2_exchange.specs.State.{State}
 use Rattle.as2_exchange.specs.declared.fault.StoreFault.{StoreFault}
-use Rattle.as2_store.specs.Calls.{Commits, Reads}
+use Rattle.as2_store.specs.Calls.{CommitsTables, ReadsTables}
 use Rattle.as2_store.specs.Stands.{Rests, Holds}
 use Rattle.as2_store.specs.Tables.{Way, store_schema}
 use Rattle.as2_store.proofs.TransactionEnds.{rests_after}
@@ -30,8 +30,8 @@ rests_still old new s r (inr back) = rests_after old old new s r (record { was_o
 
 -- a query of the store's tables leaves nothing to a crash that wasn't there
 pub leaves_nothing : (sql : List ℕ) (params : Row) (old new : Connected) → ((way : Way) → IsPlain (understood (store_schema way) sql))
-    → (HasCleanDisk old → IsTrue old.is_open) → Survives old new (CommitsShowing sql params old) → Survives old new (Commits Some old)
-leaves_nothing sql params old new plain opened survives = survives_weaker old new (CommitsShowing sql params old) (Commits Some old) (λ clean db shows.
+    → (HasCleanDisk old → IsTrue old.is_open) → Survives old new (CommitsShowing sql params old) → Survives old new (CommitsTables Some old)
+leaves_nothing sql params old new plain opened survives = survives_weaker old new (CommitsShowing sql params old) (CommitsTables Some old) (λ clean db shows.
     let was = opened (omega (arith, survives.clean, clean)) in
     record { was_open = was; stands = λ s r. absurd (never_commits sql params old db (subst (λ k. IsPlain (understood k sql)) (sym (r.stands was).stands.schema) (plain (r.stands was).way)) shows) }) survives
 
@@ -87,8 +87,8 @@ module _ {S X Y : Type 0} (g : Ghosts S) (sql : List ℕ) (params : Row) (shown 
 -- ---- as reads
 
 pub lists : {A : Type 0} (fits : State → A → Type 0) (old new : Connected) (a : A) → (HasCleanDisk old → IsTrue old.is_open)
-    → (HasCleanDisk new → IsTrue new.is_open) → Survives old new (Commits Some old)
-    → (HasCleanDisk new → (s : State) → Rests old s → Rests new s × fits s a) → Reads {A = A} {E = StoreFault} fits old new (Ok a)
+    → (HasCleanDisk new → IsTrue new.is_open) → Survives old new (CommitsTables Some old)
+    → (HasCleanDisk new → (s : State) → Rests old s → Rests new s × fits s a) → ReadsTables {A = A} {E = StoreFault} fits old new (Ok a)
 lists fits old new a opened is_open survives each = record {
   clean = λ clean. omega (arith, survives.clean, clean);
   was_open = λ clean. opened (omega (arith, survives.clean, clean));
@@ -98,8 +98,8 @@ lists fits old new a opened is_open survives each = record {
   crash = survives;
 }
 
-pub lists_none : {A : Type 0} (fits : State → A → Type 0) (old new : Connected) (f : StoreFault) → Survives old new (Commits Some old)
-    → (HasCleanDisk new → (s : State) → Rests old s → Rests new s) → Reads {A = A} {E = StoreFault} fits old new (Err f)
+pub lists_none : {A : Type 0} (fits : State → A → Type 0) (old new : Connected) (f : StoreFault) → Survives old new (CommitsTables Some old)
+    → (HasCleanDisk new → (s : State) → Rests old s → Rests new s) → ReadsTables {A = A} {E = StoreFault} fits old new (Err f)
 lists_none fits old new f survives same = record {
   clean = λ clean. omega (arith, survives.clean, clean);
   was_open = λ clean. tt;
@@ -110,5 +110,5 @@ lists_none fits old new f survives same = record {
 }
 
 -- a step that leaves nothing more to a crash
-pub still_nothing : (old mid new : Connected) → Survives old mid (Commits Some old) → Survives mid new (λ _. ⊥) → Survives old new (Commits Some old)
-still_nothing old mid new one two = survives_then old mid new (Commits Some old) (λ _. ⊥) (Commits Some old) (λ _ db is. is) (λ _ db none. absurd none) one two
+pub still_nothing : (old mid new : Connected) → Survives old mid (CommitsTables Some old) → Survives mid new (λ _. ⊥) → Survives old new (CommitsTables Some old)
+still_nothing old mid new one two = survives_then old mid new (CommitsTables Some old) (λ _. ⊥) (CommitsTables Some old) (λ _ db is. is) (λ _ db none. absurd none) one two

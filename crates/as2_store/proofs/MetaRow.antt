@@ -20,7 +20,7 @@ use Rattle.sqlite.proofs.Callers.{IsPlain, command_of, reads_as, one_permutation
 use Rattle.sqlite_typing.specs.Types.{accepts_program}
 use Rattle.sqlite_sql.proofs.QueryLemmas.{no_fold_overflows}
 use Rattle.sqlite_tied.specs.Compute.{everything}
-use Rattle.sql_tables.specs.Changes.{Changed, over_table, shown_of, chosen, passes, IsOutside}
+use Rattle.sql_tables.specs.Changes.{ChangesTable, over_table, shown_of, chosen_rows, passes, IsOutside}
 use Rattle.sql_tables.proofs.Writes.{cast_int}
 use Rattle.sql_tables.proofs.Changing.{updates}
 use Rattle.sql_tables.proofs.Inside.{shown_open}
@@ -76,7 +76,7 @@ pub reads_said : (old new : Connected) (rows : List Row) → Shown meta_read_tex
 reads_said old new rows h kind version it =
     let read = reads_as meta_read_text [] old new (with_meta_first it.tables it.indexes) it.schema meta_command (meta_read_is it.tables it.indexes) (meta_read_plain it.tables it.indexes) (meta_read_unlisted it.tables it.indexes) rows h in
     let all = in_any_order meta_tree [] meta_columns old.now.trees [] rows read.answer in
-    one_permutation (meta_cells kind version it.next_receipt it.next_document) rows (subst (λ l. IsPermutation (map (shown_of meta_columns []) (chosen [] [] l)) rows) it.meta all)
+    one_permutation (meta_cells kind version it.next_receipt it.next_document) rows (subst (λ l. IsPermutation (map (shown_of meta_columns []) (chosen_rows [] [] l)) rows) it.meta all)
 
 -- the tables of a store say its kind and its version
 unfoldable pub says_of : (layout : Layout) (c : Connected) (s : State) → Stands layout c.now s → MetaSays c (codes "as2-station") (number_of layout)
@@ -108,28 +108,28 @@ raise_params n = Int (pos n) ∷ Int (pos (n + 1)) ∷ []
 -- where a row was changed, it had this number
 pub counts_receipts : (way : Way) (old new : Connected) (number count n m : ℕ) → Executes receipt_text (raise_params number) old new (Ok count)
     → HasCounters way old.now n m → count ≢ 0
-    → (number ≡ n) × Changed old new (store_schema way) meta_tree (meta_row current_number (number + 1) m ∷ [])
+    → (number ≡ n) × ChangesTable old new (store_schema way) meta_tree (meta_row current_number (number + 1) m ∷ [])
 counts_receipts way old new number count n m h has some =
     let done = updates receipt_text (raise_params number) old new (store_schema way) has.schema 0 meta_table refl receipt_terms receipt_project (λ _. pos 1) (λ k. meta_row current_number k m) (λ _. refl) (λ _. meta_row current_number (number + 1) m) (λ _. refl) (λ _. simp cast_int)
     (n ∷ []) has.meta (tt, tt) (quiet way meta_tree) (receipt_is way) (receipt_plain way) count h in
     go (passes receipt_terms (raise_params number) (meta_row current_number n m)) (ap (λ b. b && true) (numbers_equal n number) ∙ and_true _) done.0 done.1
   where
     go : (t : Bool) → t ≡ (n == number)
-        → Changed old new (store_schema way) meta_tree (cond t (meta_row current_number (number + 1) m) (meta_row current_number n m) ∷ [])
-        → count ≡ length (cond t (n ∷ []) []) → (number ≡ n) × Changed old new (store_schema way) meta_tree (meta_row current_number (number + 1) m ∷ [])
+        → ChangesTable old new (store_schema way) meta_tree (cond t (meta_row current_number (number + 1) m) (meta_row current_number n m) ∷ [])
+        → count ≡ length (cond t (n ∷ []) []) → (number ≡ n) × ChangesTable old new (store_schema way) meta_tree (meta_row current_number (number + 1) m ∷ [])
     go true is changed counted = (grind (arith, nat_tests, is), changed)
     go false is changed counted = absurd (some counted)
 
 pub counts_documents : (way : Way) (old new : Connected) (number count n m : ℕ) → Executes document_text (raise_params number) old new (Ok count)
     → HasCounters way old.now n m → count ≢ 0
-    → (number ≡ m) × Changed old new (store_schema way) meta_tree (meta_row current_number n (number + 1) ∷ [])
+    → (number ≡ m) × ChangesTable old new (store_schema way) meta_tree (meta_row current_number n (number + 1) ∷ [])
 counts_documents way old new number count n m h has some =
     let done = updates document_text (raise_params number) old new (store_schema way) has.schema 0 meta_table refl document_terms document_project (λ _. pos 1) (λ k. meta_row current_number n k) (λ _. refl) (λ _. meta_row current_number n (number + 1)) (λ _. refl) (λ _. simp cast_int)
     (m ∷ []) has.meta (tt, tt) (quiet way meta_tree) (document_is way) (document_plain way) count h in
     go (passes document_terms (raise_params number) (meta_row current_number n m)) (ap (λ b. b && true) (numbers_equal m number) ∙ and_true _) done.0 done.1
   where
     go : (t : Bool) → t ≡ (m == number)
-        → Changed old new (store_schema way) meta_tree (cond t (meta_row current_number n (number + 1)) (meta_row current_number n m) ∷ [])
-        → count ≡ length (cond t (m ∷ []) []) → (number ≡ m) × Changed old new (store_schema way) meta_tree (meta_row current_number n (number + 1) ∷ [])
+        → ChangesTable old new (store_schema way) meta_tree (cond t (meta_row current_number n (number + 1)) (meta_row current_number n m) ∷ [])
+        → count ≡ length (cond t (m ∷ []) []) → (number ≡ m) × ChangesTable old new (store_schema way) meta_tree (meta_row current_number n (number + 1) ∷ [])
     go true is changed counted = (grind (arith, nat_tests, is), changed)
     go false is changed counted = absurd (some counted)

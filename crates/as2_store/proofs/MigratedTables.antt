@@ -10,14 +10,14 @@ use Rattle.sqlite.specs.Rowids.TheVariants.{Chosen}
 use Rattle.sqlite.specs.Term.{lit}
 use Rattle.sqlite.specs.Order.{Row}
 use Rattle.sqlite.specs.State.{State as Connected, Executes}
-use Rattle.sql_tables.specs.Changes.{Changed}
+use Rattle.sql_tables.specs.Changes.{ChangesTable}
 use Rattle.sql_tables.proofs.Changing.{updates}
 use Rattle.sql_tables.proofs.Creating.{makes_table}
 use Rattle.sql_tables.proofs.Deleting.{deletes}
 use Rattle.sql_tables.proofs.Queries.{by_number, shows_entries}
 use Rattle.sql_tables.proofs.Sorting.{no_rows, unchanged}
 use Rattle.sql_tables.proofs.Writes.{cast_int, cast_null}
-use Rattle.as2_exchange.specs.Run.{migrated}
+use Rattle.as2_exchange.specs.Run.{migrated_state}
 use Rattle.as2_exchange.specs.State.{State, LaterVersion}
 use Rattle.as2_exchange.specs.declared.inbox.InEntry.{InEntry}
 use Rattle.as2_exchange.specs.declared.outbox.OutEntry.{OutEntry}
@@ -117,7 +117,7 @@ cast_entries (e ∷ es) = ap₂ ◌∷◌ (one e) (cast_entries es)
 
 module _ (s : State) (from : IsCounted s) where
   pub copies_inbox : (b c : Connected) (count : ℕ) → IsBeside b.now s → Executes copy_inbox_text [] b c (Ok count)
-      → Changed b c (store_schema Migrated) (inbox_tree Migrated) (map in_row s.inbox)
+      → ChangesTable b c (store_schema Migrated) (inbox_tree Migrated) (map in_row s.inbox)
   copies_inbox b c count it h =
       let copied = copies copy_inbox_text [] b c (store_schema Migrated) it.schema 7 (inbox_table Migrated) refl refl refl _ copy_inbox_is copy_inbox_plain count h in
       let table = entries_rise in_row (λ (e : InEntry). e.number) (λ _. refl) s.next_in s.inbox from.receipts.1 in
@@ -130,11 +130,11 @@ module _ (s : State) (from : IsCounted s) where
       ∙ puts_in_order in_row (λ (e : InEntry). e.number) (λ _. refl) rows s.inbox it.no_inbox (numbers_rise (λ (e : InEntry). e.number) s.next_in s.inbox from.receipts.1))
 
   clears_inbox : (b c : Connected) (count : ℕ) → b.now.schema ≡ store_schema Migrated → b.now.trees first_inbox_tree ≡ map in_row s.inbox
-      → Executes clear_inbox_text [] b c (Ok count) → Changed b c (store_schema Migrated) first_inbox_tree []
+      → Executes clear_inbox_text [] b c (Ok count) → ChangesTable b c (store_schema Migrated) first_inbox_tree []
   clears_inbox b c count has there h =
       let table = entries_rise in_row (λ (e : InEntry). e.number) (λ _. refl) s.next_in s.inbox from.receipts.1 in
       let done = deletes clear_inbox_text [] b c (store_schema Migrated) has 1 first_inbox_table refl [] (λ (e : InEntry). pos e.number) in_row (λ _. refl) s.inbox there table (quiet Migrated first_inbox_tree) clear_inbox_is clear_inbox_plain count h in
-      subst (Changed b c (store_schema Migrated) first_inbox_tree) (ap (map in_row) (none_left s.inbox)) done.0
+      subst (ChangesTable b c (store_schema Migrated) first_inbox_tree) (ap (map in_row) (none_left s.inbox)) done.0
 
   pub copied_inbox : (a b : Connected) (i : ℕ) → Executes copy_inbox_text [] a b (Ok i) → IsBeside a.now s → AreShared b.now s
   copied_inbox a b i one it =
@@ -183,7 +183,7 @@ module _ (s : State) (from : IsCounted s) where
 
 -- and the origin is told
 pub originated : (a b c : Connected) (s : State) (next : ℕ) → Stands VersionOne a.now s → next ≡ s.next_in → IsMoved b.now s
-    → Changed b c (store_schema Migrated) (origin_tree Migrated) (origin_row next ∷ []) → StandsBut 1 Migrated c.now (migrated s)
+    → ChangesTable b c (store_schema Migrated) (origin_tree Migrated) (origin_row next ∷ []) → StandsBut 1 Migrated c.now (migrated_state s)
 originated a b c s next from is it one =
     let has = it.entries in
     let k1 = keeping Migrated AtOrigin b.now.trees c.now.trees one.others in
@@ -256,13 +256,13 @@ makes_third Migrated a b count s it h =
 
 pub raises_version : (way : Way) (a b : Connected) (number next_in next_out count : ℕ) → a.now.schema ≡ store_schema way
     → a.now.trees meta_tree ≡ meta_row number next_in next_out ∷ [] → Executes version_text [] a b (Ok count)
-    → Changed a b (store_schema way) meta_tree (meta_row current_number next_in next_out ∷ [])
+    → ChangesTable a b (store_schema way) meta_tree (meta_row current_number next_in next_out ∷ [])
 raises_version way a b number next_in next_out count has there h =
     (updates version_text [] a b (store_schema way) has 0 meta_table refl [] version_project (λ _. pos 1) (λ (k : ℕ). meta_row k next_in next_out) (λ _. refl) (λ _. meta_row current_number next_in next_out) (λ _. refl) (λ _. simp cast_int)
     (number ∷ []) there (tt, tt) (quiet way meta_tree) (version_is way) (version_plain way) count h).0
 
 pub stands_raised : (number : ℕ) (way : Way) (a b : Connected) (s : State) → StandsBut number way a.now s
-    → Changed a b (store_schema way) meta_tree (meta_row current_number s.next_in s.next_out ∷ []) → Stands (VersionThree way) b.now s
+    → ChangesTable a b (store_schema way) meta_tree (meta_row current_number s.next_in s.next_out ∷ []) → Stands (VersionThree way) b.now s
 unfolding IsWhole
 stands_raised number way a b s it one =
     let has = it.entries in
@@ -289,8 +289,8 @@ stands_raised number way a b s it one =
 -- ---- each version
 
 pub nearly_first : (layout : Layout) (a b : Connected) (s : State) (next : ℕ) → number_of layout ≡ 1 → next ≡ s.next_in → Stands layout a.now s
-    → ((s : State) → Stands VersionOne a.now s → next ≡ s.next_in → StandsBut 1 Migrated b.now (migrated s)) → IsNearly layout b.now s
-nearly_first VersionOne a b s next which is it moved = record { state = migrated s; is = refl; number = 1; way = Migrated; stands = moved s it is }
+    → ((s : State) → Stands VersionOne a.now s → next ≡ s.next_in → StandsBut 1 Migrated b.now (migrated_state s)) → IsNearly layout b.now s
+nearly_first VersionOne a b s next which is it moved = record { state = migrated_state s; is = refl; number = 1; way = Migrated; stands = moved s it is }
 nearly_first (VersionTwo way) a b s next which is it moved = absurd (omega (arith, which))
 nearly_first (VersionThree way) a b s next which is it moved = absurd (omega (arith, which))
 

@@ -13,7 +13,7 @@ use Rattle.sqlite.specs.State.{State as Connected, Executes}
 use Rattle.sqlite.specs.Term.{Term}
 use Rattle.sqlite.specs.Tree.{IsTable}
 use Rattle.sqlite.proofs.Callers.{IsPlain, command_of}
-use Rattle.sql_tables.specs.Changes.{Changed, HasRows, numbered_row, passes}
+use Rattle.sql_tables.specs.Changes.{ChangesTable, HasRows, numbered_row, passes}
 use Rattle.sql_tables.proofs.Deleting.{delete_program, deletes}
 use Rattle.sql_tables.proofs.Queries.{in_any_order, numbers_below}
 use Rattle.sql_tables.proofs.Sorting.{unchanged}
@@ -48,7 +48,7 @@ module _ (copying clearing : List ℕ) (terms : List Term) (params : Row) (p : P
   -- the rows of a table, of these pieces
   record ArePut (b c : Connected) (all : List Piece) : Type 0 where
     rows : List Row
-    changed : Changed b c (store_schema Migrated) (inbox_piece_tree Migrated) rows
+    changed : ChangesTable b c (store_schema Migrated) (inbox_piece_tree Migrated) rows
     are : HasRows rows (map piece_shown all)
 
   puts_pieces : (b c : Connected) (count : ℕ) (moved left : List Piece) → b.now.schema ≡ store_schema Migrated
@@ -65,7 +65,7 @@ module _ (copying clearing : List ℕ) (terms : List Term) (params : Row) (p : P
 
   record AreLeft (b c : Connected) (all : List Piece) : Type 0 where
     rows : List Row
-    changed : Changed b c (store_schema Migrated) first_piece_tree rows
+    changed : ChangesTable b c (store_schema Migrated) first_piece_tree rows
     are : HasRows rows (map piece_shown all)
 
   takes_pieces : (b c : Connected) (count : ℕ) (left : List Piece) → b.now.schema ≡ store_schema Migrated

@@ -17,8 +17,8 @@ use Rattle.as2_exchange.specs.State.{State}
 use Rattle.as2_exchange.specs.declared.fault.StoreFault.{StoreFault}
 use Rattle.as2_exchange.specs.declared.fault.StoreFault.TheVariants.{Memory, Disk, Refused, Full, NotAStore, OtherVersion}
 use Rattle.as2_records.specs.Standing.{may_come}
-use Rattle.as2_store.specs.Calls.{IsInside, Keeps, KeepsNext}
-use Rattle.as2_store.specs.Migrating.{CommitsMigrated, IsMigrationReason, IsNext, Migrates, RestsAs, is_full, migrated_from, migration_fault}
+use Rattle.as2_store.specs.Calls.{IsInside, Keeps, KeepsNextTables}
+use Rattle.as2_store.specs.Migrating.{CommitsMigrated, IsMigrationReason, StandsForMigrated, Migrates, RestsAs, is_full, migrated_from, migration_fault}
 use Rattle.as2_store.specs.Stands.{MetaSays, Stands}
 use Rattle.as2_store.specs.Tables.{Layout, VersionOne, VersionTwo, VersionThree, behind_meta, indexes_of, number_of}
 use Rattle.as2_store.proofs.Committing.{keeps_of}
@@ -31,7 +31,7 @@ use Rattle.as2_store.proofs.TransactionEnds.{rests_committed}
 -- the statements took each state that tables of any version stood for to the next one
 pub record MovesEach {S : Type 0} (g : Ghosts S) (old : Held S) (last : Connected) : Type 0 where
   pub was_open : IsTrue (state g old).is_open
-  pub reaches : (layout : Layout) (s : State) → RestsAs layout (state g old) s → IsNext layout last.now s
+  pub reaches : (layout : Layout) (s : State) → RestsAs layout (state g old) s → StandsForMigrated layout last.now s
 
 -- what the row says of an earlier version
 abbrev pub Tells : List Row → ℕ → ℕ → Type 0
@@ -40,7 +40,7 @@ Tells rows version next = (kind : List ℕ) (said n m : ℕ) → rows ≡ meta_c
 pub moves_each : {S : Type 0} (g : Ghosts S) (old : Held S) (mid last : Connected) (rows : List Row) (version next : ℕ)
     → (HasCleanDisk last → HasCleanDisk mid) → (HasCleanDisk mid → Shown meta_read_text [] (state g (record old { in_transaction = true })) mid rows)
     → Tells rows version next
-    → (HasCleanDisk last → (layout : Layout) (s : State) → Stands layout mid.now s → number_of layout ≡ version → next ≡ s.next_in → IsNext layout last.now s)
+    → (HasCleanDisk last → (layout : Layout) (s : State) → Stands layout mid.now s → number_of layout ≡ version → next ≡ s.next_in → StandsForMigrated layout last.now s)
     → HasCleanDisk last → MovesEach g old last
 unfolding says_of
 moves_each g old mid last rows version next was shows told moved clean =
@@ -56,7 +56,7 @@ moves_each g old mid last rows version next was shows told moved clean =
           moved clean layout s (subst (λ (d : Database). Stands layout d s) (sym same.0.now_is) stood) says.1 says.2;
     }
 
-next_kept : (layout : Layout) (d : Database) (s : State) (db : Trees) → db ≡ d.trees → IsNext layout d s → KeepsNext db (migrated_from layout s)
+next_kept : (layout : Layout) (d : Database) (s : State) (db : Trees) → db ≡ d.trees → StandsForMigrated layout d s → KeepsNextTables db (migrated_from layout s)
 next_kept layout d s db is it = record { state = it.state; is = it.is; keeps = subst (λ (t : Trees). Keeps t it.state) (sym is) (keeps_of d it.state it.holds) }
 
 pub moved_commits : {S : Type 0} (g : Ghosts S) (old : Held S) (last : Connected) → MovesEach g old last → (db : Trees) → db ≡ last.now.trees

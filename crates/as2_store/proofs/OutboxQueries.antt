@@ -7,7 +7,7 @@ use Rattle.sqlite.specs.Order.{Row}
 use Rattle.sqlite.specs.State.{State as Connected, Shown}
 use Rattle.sql_tables.proofs.Inside.{shown_open}
 use Rattle.sql_tables.proofs.Queries.{blobs_equal, numbers_equal}
-use Rattle.as2_names.specs.Identifiers.{value_of}
+use Rattle.as2_names.specs.Identifiers.{without_brackets}
 use Rattle.as2_exchange.specs.State.{State, end_of_numbers}
 use Rattle.as2_exchange.proofs.Decisions.{number_is}
 use Rattle.as2_exchange.proofs.Lists.{all_weaken}
@@ -39,7 +39,7 @@ finds_id value old new rows h s r =
     let way = here.way in
     let it = here.stands in
     reads_rows way out_by_id_text (out_by_id_plain way) (out_by_id_unlisted way) outbox_tree id_terms out_column_terms out_names (out_by_id_is way) (id_params value) out_row out_shown (λ _. refl) (has_id value)
-    (λ d. ap (λ b. b && true) (blobs_equal (value_of d.id) value) ∙ and_true _) old new rows h it.schema s.outbox it.entries.outbox
+    (λ d. ap (λ b. b && true) (blobs_equal (without_brackets d.id) value) ∙ and_true _) old new rows h it.schema s.outbox it.entries.outbox
     (entries_rise out_row (λ (d : OutEntry). d.number) (λ _. refl) s.next_out s.outbox it.documents.1)
 
 pub finds_document : (n w : ℕ) → (end_of_numbers ≤ n → w ≡ end_of_numbers) → (n < end_of_numbers → w ≡ n) → (old new : Connected) (rows : List Row)

@@ -10,7 +10,7 @@ use Rattle.sqlite.specs.Effect.{Database}
 use Rattle.sqlite.specs.Tree.{IsTable}
 use Rattle.sqlite.specs.State.{State as Connected, HasCleanDisk, Executes}
 use Rattle.sqlite_trees.proofs.ListLemmas.{filter_same, all-map, all_from_map}
-use Rattle.sql_tables.specs.Changes.{Changed, HasRows, passes}
+use Rattle.sql_tables.specs.Changes.{ChangesTable, HasRows, passes}
 use Rattle.sql_tables.proofs.Sorting.{unchanged}
 use Rattle.sql_tables.proofs.Changing.{updates}
 use Rattle.sql_tables.proofs.Queries.{numbers_equal}
@@ -30,7 +30,7 @@ use Rattle.as2_store.specs.Stands.{IsWhole, Stands, waiting_row, documents_waiti
 use Rattle.as2_store.specs.Adding.{noted_rows}
 use Rattle.as2_store.specs.Owing.{answers_at}
 use Rattle.as2_records.specs.Owing.{owed_as, set_mdn_in}
-use Rattle.as2_store.specs.Requeuing.{not_at, HoldsWaiting, Renewed}
+use Rattle.as2_store.specs.Requeuing.{not_at, HoldsWaiting, RenewsWaiting}
 use Rattle.as2_store.specs.Settling.{place_of}
 use Rattle.as2_records.specs.declared.progress.MdnProgress.{MdnProgress}
 use Rattle.as2_store.proofs.NumberedRows.{numbers_rise, entries_rise}
@@ -62,14 +62,14 @@ as_rows n w p (e ∷ es) same =
 
 pub sets_owed : {way : Way} (n w count : ℕ) (p : MdnProgress) → (end_of_numbers ≤ n → w ≡ end_of_numbers) → (n < end_of_numbers → w ≡ n)
     → (old new : Connected) (s : State) → Stands (VersionThree way) old.now s → Executes in_set_text (owed_params w p) old new (Ok count)
-    → Changed old new (store_schema way) (inbox_tree way) (map in_row (change_received s n (owed_as p)).inbox)
+    → ChangesTable old new (store_schema way) (inbox_tree way) (map in_row (change_received s n (owed_as p)).inbox)
     × (count ≡ length (filter (λ (e : InEntry). e.number == n) s.inbox))
 sets_owed {way} n w count p beyond within old new s it h =
     let low = all_weaken (λ k. k < s.next_in) (λ k. k < end_of_numbers) (λ k less. omega (arith, less, it.receipts.0.most)) (map (λ (e : InEntry). e.number) s.inbox) it.receipts.1.below in
     let same = same_tests (λ (e : InEntry). e.number) n w beyond within s.inbox low in
     let done = updates in_set_text (owed_params w p) old new (store_schema way) it.schema (inbox_place way) (inbox_table way) (inbox_there way) number_terms owed_project (λ (e : InEntry). pos e.number) in_row (λ _. refl) (λ (e : InEntry). in_row (owed_as p e)) (λ _. refl)
     (λ e. simp (cast_int, cast_null, cast_optional, cast_url, cast_digest, cast_mic)) s.inbox it.entries.inbox (entries_rise in_row (λ (e : InEntry). e.number) (λ _. refl) s.next_in s.inbox it.receipts.1) (quiet way (inbox_tree way)) (in_set_is way) (in_set_plain way) count h in (
-      subst (Changed old new (store_schema way) (inbox_tree way)) (as_rows n w p s.inbox same) done.0,
+      subst (ChangesTable old new (store_schema way) (inbox_tree way)) (as_rows n w p s.inbox same) done.0,
       done.1 ∙ ap length (filter_same (λ (e : InEntry). passes number_terms (owed_params w p) (in_row e)) (λ (e : InEntry). e.number == w) s.inbox (of_number w p s.inbox) ∙ filter_same (λ (e : InEntry). e.number == w) (λ (e : InEntry). e.number == n) s.inbox same),
     )
   where
@@ -94,7 +94,7 @@ places_in_order d s it =
     (documents_rise to_send s.outbox ds) (receipts_rise s.inbox es) (documents_rise to_hear s.outbox ds) (documents_rise to_end s.outbox ds)
 
 pub holds : (way : Way) (a b : Connected) (s : State) → Stands (VersionThree way) a.now s → (rows : List Row)
-    → Changed a b (store_schema way) (inbox_tree way) rows → HoldsWaiting way b.now (all_waiting s)
+    → ChangesTable a b (store_schema way) (inbox_tree way) rows → HoldsWaiting way b.now (all_waiting s)
 holds way a b s it rows one = record {
   schema = one.schema_is;
   rows = keeping way AtInbox a.now.trees b.now.trees one.others AtWaiting (λ e. omega arith) ∙ it.entries.waits;
@@ -148,8 +148,8 @@ same_numbers n p es = map_kept (λ (e : InEntry). e.number) (λ (e : InEntry). c
 -- the tables stand for the state with the receipt further on, where an entry has the number
 pub stands_owed : (way : Way) (a b c : Connected) (s : State) (n w : ℕ) (p : MdnProgress) → (n < end_of_numbers → w ≡ n) → Stands (VersionThree way) a.now s
     → length (filter (λ (e : InEntry). e.number == n) s.inbox) ≢ 0
-    → Changed a b (store_schema way) (inbox_tree way) (map in_row (change_received s n (owed_as p)).inbox)
-    → Renewed way b c (noted_rows (answers_at w p) (map waiting_row (not_at (place_of to_answer w) (all_waiting s))))
+    → ChangesTable a b (store_schema way) (inbox_tree way) (map in_row (change_received s n (owed_as p)).inbox)
+    → RenewsWaiting way b c (noted_rows (answers_at w p) (map waiting_row (not_at (place_of to_answer w) (all_waiting s))))
     → Stands (VersionThree way) c.now (change_received s n (owed_as p))
 unfolding IsWhole
 stands_owed way a b c s n w p within it some one two =
@@ -187,7 +187,7 @@ nothing_owed s n p none = ap (λ es. record s { inbox = es }) (changed_none in_n
 -- the tables then stand for what they stood for
 pub stands_unnumbered : (way : Way) (a b : Connected) (s : State) (n : ℕ) (p : MdnProgress) → Stands (VersionThree way) a.now s
     → length (filter (λ (e : InEntry). e.number == n) s.inbox) ≡ 0
-    → Changed a b (store_schema way) (inbox_tree way) (map in_row (change_received s n (owed_as p)).inbox)
+    → ChangesTable a b (store_schema way) (inbox_tree way) (map in_row (change_received s n (owed_as p)).inbox)
     → Stands (VersionThree way) b.now (change_received s n (owed_as p))
 unfolding IsWhole
 stands_unnumbered way a b s n p it none one =
@@ -217,7 +217,7 @@ stands_unnumbered way a b s n p it none one =
 
 module _ {S : Type 0} (g : Ghosts S) (old : Held S) (mid : Connected) (n : ℕ) where
   abbrev Set : MdnProgress → ℕ → Type 0
-  Set p count = (way : Way) (s : State) → Stands (VersionThree way) (state g old).now s → Changed (state g (record old { in_transaction = true })) mid (store_schema way) (inbox_tree way) (map in_row (change_received s n (owed_as p)).inbox) × (count ≡ length (filter (λ (e : InEntry). e.number == n) s.inbox))
+  Set p count = (way : Way) (s : State) → Stands (VersionThree way) (state g old).now s → ChangesTable (state g (record old { in_transaction = true })) mid (store_schema way) (inbox_tree way) (map in_row (change_received s n (owed_as p)).inbox) × (count ≡ length (filter (λ (e : InEntry). e.number == n) s.inbox))
 
   pub owes_none : (p : MdnProgress) (count : ℕ) → count ≡ 0 → (HasCleanDisk mid → IsTrue (state g old).is_open) → (HasCleanDisk mid → Set p count)
       → HasCleanDisk mid → FollowsEach g old mid (set_mdn_in n p)
@@ -232,7 +232,7 @@ module _ {S : Type 0} (g : Ghosts S) (old : Held S) (mid : Connected) (n : ℕ) 
   pub owes_some : (last : Connected) (w : ℕ) (p : MdnProgress) → (n < end_of_numbers → w ≡ n) → (count : ℕ) → count ≢ 0
       → (HasCleanDisk last → HasCleanDisk mid) → (HasCleanDisk mid → IsTrue (state g old).is_open) → (HasCleanDisk mid → Set p count)
       → (HasCleanDisk last → (way : Way) (ws : List WaitingRow) → HoldsWaiting way mid.now ws
-      → Renewed way mid last (noted_rows (answers_at w p) (map waiting_row (not_at (place_of to_answer w) ws)))) → HasCleanDisk last
+      → RenewsWaiting way mid last (noted_rows (answers_at w p) (map waiting_row (not_at (place_of to_answer w) ws)))) → HasCleanDisk last
       → FollowsEach g old last (set_mdn_in n p)
   owes_some last w p within count some was opened put renewed clean = record {
     was_open = opened (was clean);

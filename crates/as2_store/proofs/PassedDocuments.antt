@@ -9,7 +9,7 @@ use Rattle.sqlite.specs.Tree.{IsAscending}
 use Rattle.sqlite_trees.proofs.ListLemmas.{all_both, all_weaker, filter_all}
 use Rattle.as2_mdn.specs.declared.detail.Detail.{Detail}
 use Rattle.as2_mdn.specs.declared.detail.Detail.TheVariants.{New, Sending, Awaiting, Retry, Processed, NoReceiptAsked, Warning, NoMic, UnknownMic, NotProcessed, ErrorModifier, MicDiffers, TriesUsed, Overdue}
-use Rattle.as2_exchange.specs.Documents.{passed, passes_at, tick}
+use Rattle.as2_exchange.specs.Documents.{passed_document, passes_at, tick}
 use Rattle.as2_exchange.specs.State.{State}
 use Rattle.as2_exchange.specs.Tries.{is_due}
 use Rattle.as2_exchange.specs.declared.answer.Answer.TheVariants.{Ticked}
@@ -22,7 +22,7 @@ use Rattle.as2_rows.specs.Rows.{evidence_row}
 use Rattle.as2_rows.specs.Waiting.{WaitingRow, out_kind, out_waiting, waiting_in, waiting_out, to_send, to_answer, to_hear, to_end}
 use Rattle.as2_store.specs.Stands.{all_waiting, documents_waiting, evidence_rows, outbox_pieces}
 use Rattle.as2_store.specs.Due.{due_numbers}
-use Rattle.as2_store.specs.Expiring.{PassesInto, over, passing, passing_in, passing_one, waits_for, without_due}
+use Rattle.as2_store.specs.Expiring.{PassesInto, over, passed_documents, passing_in, passing_one, waits_for, without_due}
 use Rattle.as2_store.proofs.DueEntries.{answers, due_are_ended, due_are_heard}
 
 -- ---- by their numbers
@@ -32,21 +32,21 @@ number_of d = d.number
 
 -- one more of them
 pub one_more_passed : (detail : Detail) (ns : List ℕ) (i none : ℕ) → i < length ns → (ds : List OutEntry)
-    → passing_one detail (get_or ns i none) (passing detail (take i ns) ds) ≡ passing detail (take (i + 1) ns) ds
+    → passing_one detail (get_or ns i none) (passed_documents detail (take i ns) ds) ≡ passed_documents detail (take (i + 1) ns) ds
 one_more_passed detail ns i none within [] = refl
 one_more_passed detail ns i none within (d ∷ ds) =
-    ap₂ ◌∷◌ (by (list_any (λ k. d.number == k) (take i ns)) ∙ ap (λ t. cond t (passed d (Some detail)) d) (sym (list_any_more (λ k. d.number == k) ns i none within))) (one_more_passed detail ns i none within ds)
+    ap₂ ◌∷◌ (by (list_any (λ k. d.number == k) (take i ns)) ∙ ap (λ t. cond t (passed_document d (Some detail)) d) (sym (list_any_more (λ k. d.number == k) ns i none within))) (one_more_passed detail ns i none within ds)
   where
-    twice : (t : Bool) → cond t (passed (passed d (Some detail)) (Some detail)) (passed d (Some detail)) ≡ passed d (Some detail)
+    twice : (t : Bool) → cond t (passed_document (passed_document d (Some detail)) (Some detail)) (passed_document d (Some detail)) ≡ passed_document d (Some detail)
     twice true = refl
     twice false = refl
 
     by : (t : Bool)
-        → cond ((cond t (passed d (Some detail)) d).number == get_or ns i none) (passed (cond t (passed d (Some detail)) d) (Some detail)) (cond t (passed d (Some detail)) d) ≡ cond (t || (d.number == get_or ns i none)) (passed d (Some detail)) d
+        → cond ((cond t (passed_document d (Some detail)) d).number == get_or ns i none) (passed_document (cond t (passed_document d (Some detail)) d) (Some detail)) (cond t (passed_document d (Some detail)) d) ≡ cond (t || (d.number == get_or ns i none)) (passed_document d (Some detail)) d
     by true = twice (d.number == get_or ns i none)
     by false = refl
 
-pub none_passed : (detail : Detail) (ds : List OutEntry) → passing detail [] ds ≡ ds
+pub none_passed : (detail : Detail) (ds : List OutEntry) → passed_documents detail [] ds ≡ ds
 none_passed detail [] = refl
 none_passed detail (d ∷ ds) = ap (λ l. d ∷ l) (none_passed detail ds)
 
@@ -88,21 +88,21 @@ module _ (q : OutEntry → Bool) where
 
 module _ (detail : Detail) (q : OutEntry → Bool) where
   abbrev pub moved : List OutEntry → List OutEntry
-  moved ds = map (λ (d : OutEntry). cond (q d) (passed d (Some detail)) d) ds
+  moved ds = map (λ (d : OutEntry). cond (q d) (passed_document d (Some detail)) d) ds
 
-  told : (ns : List ℕ) (ds : List OutEntry) → AllByRecursion (λ d. list_any (λ k. d.number == k) ns ≡ q d) ds → passing detail ns ds ≡ moved ds
+  told : (ns : List ℕ) (ds : List OutEntry) → AllByRecursion (λ d. list_any (λ k. d.number == k) ns ≡ q d) ds → passed_documents detail ns ds ≡ moved ds
   told ns [] all = refl
-  told ns (d ∷ ds) all = ap₂ ◌∷◌ (ap (λ t. cond t (passed d (Some detail)) d) all.0) (told ns ds all.1)
+  told ns (d ∷ ds) all = ap₂ ◌∷◌ (ap (λ t. cond t (passed_document d (Some detail)) d) all.0) (told ns ds all.1)
 
-  pub by_number : (ds : List OutEntry) → IsAscending (λ x y. x.number < y.number) ds → passing detail (numbers q ds) ds ≡ moved ds
+  pub by_number : (ds : List OutEntry) → IsAscending (λ x y. x.number < y.number) ds → passed_documents detail (numbers q ds) ds ≡ moved ds
   by_number ds up = told (numbers q ds) ds (among q ds up)
 
   -- ---- what is kept
 
   pub same_numbers : (ds : List OutEntry) → map number_of (moved ds) ≡ map number_of ds
-  same_numbers ds = map_kept number_of (λ (d : OutEntry). cond (q d) (passed d (Some detail)) d) (λ d. by d (q d)) ds
+  same_numbers ds = map_kept number_of (λ (d : OutEntry). cond (q d) (passed_document d (Some detail)) d) (λ d. by d (q d)) ds
     where
-      by : (d : OutEntry) (t : Bool) → (cond t (passed d (Some detail)) d).number ≡ d.number
+      by : (d : OutEntry) (t : Bool) → (cond t (passed_document d (Some detail)) d).number ≡ d.number
       by d true = refl
       by d false = refl
 
@@ -110,7 +110,7 @@ module _ (detail : Detail) (q : OutEntry → Bool) where
   same_pieces [] = refl
   same_pieces (d ∷ ds) = ap₂ ◌++◌ (by (q d)) (same_pieces ds)
     where
-      by : (t : Bool) → pieces (cond t (passed d (Some detail)) d).number (cond t (passed d (Some detail)) d).content ≡ pieces d.number d.content
+      by : (t : Bool) → pieces (cond t (passed_document d (Some detail)) d).number (cond t (passed_document d (Some detail)) d).content ≡ pieces d.number d.content
       by true = refl
       by false = refl
 
@@ -119,7 +119,7 @@ module _ (detail : Detail) (q : OutEntry → Bool) where
   same_evidence (d ∷ ds) = ap₂ cons_option (by (q d)) (same_evidence ds)
     where
       by : (t : Bool)
-          → option_map (evidence_row (cond t (passed d (Some detail)) d).number) (cond t (passed d (Some detail)) d).evidence ≡ option_map (evidence_row d.number) d.evidence
+          → option_map (evidence_row (cond t (passed_document d (Some detail)) d).number) (cond t (passed_document d (Some detail)) d).evidence ≡ option_map (evidence_row d.number) d.evidence
       by true = refl
       by false = refl
 
@@ -158,13 +158,13 @@ module _ (kind m : ℕ) (detail : Detail) (into : PassesInto kind detail) where
   left (d ∷ ds) = go (out_kind d.detail d.attempt) refl (left ds)
     where
       go : (o : Option ℕ) → out_kind d.detail d.attempt ≡ o → waiting_out (moved detail (over kind m) ds) ≡ without_due kind m (waiting_out ds)
-          → cons_option (out_waiting (cond (waits_for kind o && is_due m d.due) (passed d (Some detail)) d)) (waiting_out (moved detail (over kind m) ds)) ≡ without_due kind m (cons_option (row_at d o) (waiting_out ds))
+          → cons_option (out_waiting (cond (waits_for kind o && is_due m d.due) (passed_document d (Some detail)) d)) (waiting_out (moved detail (over kind m) ds)) ≡ without_due kind m (cons_option (row_at d o) (waiting_out ds))
       go None is same = ap (λ o. cons_option (row_at d o) (waiting_out (moved detail (over kind m) ds))) is ∙ same
       go (Some k) is same = by (k == kind && is_due m d.due)
         where
-          by : (t : Bool) → cons_option (out_waiting (cond t (passed d (Some detail)) d)) (waiting_out (moved detail (over kind m) ds))
+          by : (t : Bool) → cons_option (out_waiting (cond t (passed_document d (Some detail)) d)) (waiting_out (moved detail (over kind m) ds))
               ≡ cond (not t) (record { kind = k; number = d.number; due = d.due } ∷ without_due kind m (waiting_out ds)) (without_due kind m (waiting_out ds))
-          by true = ap (λ o. cons_option (row_at (passed d (Some detail)) o) (waiting_out (moved detail (over kind m) ds))) (ended kind detail into d.attempt) ∙ same
+          by true = ap (λ o. cons_option (row_at (passed_document d (Some detail)) o) (waiting_out (moved detail (over kind m) ds))) (ended kind detail into d.attempt) ∙ same
           by false = ap (λ o. cons_option (row_at d o) (waiting_out (moved detail (over kind m) ds))) is ∙ ap (λ l. record { kind = k; number = d.number; due = d.due } ∷ l) same
 
   left_of : (k : ℕ) (ds : List OutEntry) → documents_waiting k (moved detail (over kind m) ds) ≡ without_due kind m (documents_waiting k ds)
@@ -191,16 +191,16 @@ module _ (kind m : ℕ) (detail : Detail) (into : PassesInto kind detail) where
 
 module _ (m : ℕ) where
   abbrev heard : OutEntry → OutEntry
-  heard d = cond (over to_hear m d) (passed d (Some Overdue)) d
+  heard d = cond (over to_hear m d) (passed_document d (Some Overdue)) d
 
   abbrev finished : OutEntry → OutEntry
-  finished d = cond (over to_end m d) (passed d (Some TriesUsed)) d
+  finished d = cond (over to_end m d) (passed_document d (Some TriesUsed)) d
 
   -- each document passes once, and is counted once
   abbrev IsTicked : OutEntry → Type 0
-  IsTicked d = (finished (heard d) ≡ passed d (passes_at m d)) × (cond (over to_hear m d) 1 0 + cond (over to_end m (heard d)) 1 0 ≡ cond (is_some (passes_at m d)) 1 0)
+  IsTicked d = (finished (heard d) ≡ passed_document d (passes_at m d)) × (cond (over to_hear m d) 1 0 + cond (over to_end m (heard d)) 1 0 ≡ cond (is_some (passes_at m d)) 1 0)
 
-  stayed : (d : OutEntry) (t : Bool) → (d ≡ passed d (cond t None None)) × (0 + 0 ≡ cond (is_some (cond {A = Option Detail} t None None)) 1 0)
+  stayed : (d : OutEntry) (t : Bool) → (d ≡ passed_document d (cond t None None)) × (0 + 0 ≡ cond (is_some (cond {A = Option Detail} t None None)) 1 0)
   stayed d true = (refl, refl)
   stayed d false = (refl, refl)
 
@@ -213,15 +213,15 @@ module _ (m : ℕ) where
   ticked d Sending Last u = by (is_due m u)
     where
       by : (t : Bool)
-          → (cond t (passed (record d { attempt = Last; due = u; detail = Sending }) (Some TriesUsed)) (record d { attempt = Last; due = u; detail = Sending }) ≡ passed (record d { attempt = Last; due = u; detail = Sending }) (cond t (Some TriesUsed) None))
+          → (cond t (passed_document (record d { attempt = Last; due = u; detail = Sending }) (Some TriesUsed)) (record d { attempt = Last; due = u; detail = Sending }) ≡ passed_document (record d { attempt = Last; due = u; detail = Sending }) (cond t (Some TriesUsed) None))
           × (0 + cond t 1 0 ≡ cond (is_some (cond t (Some TriesUsed) None)) 1 0)
       by true = (refl, refl)
       by false = (refl, refl)
   ticked d Awaiting a u = by (is_due m u)
     where
       by : (t : Bool)
-          → (finished (cond t (passed (record d { attempt = a; due = u; detail = Awaiting }) (Some Overdue)) (record d { attempt = a; due = u; detail = Awaiting })) ≡ passed (record d { attempt = a; due = u; detail = Awaiting }) (cond t (Some Overdue) None))
-          × (cond t 1 0 + cond (over to_end m (cond t (passed (record d { attempt = a; due = u; detail = Awaiting }) (Some Overdue)) (record d { attempt = a; due = u; detail = Awaiting }))) 1 0 ≡ cond (is_some (cond t (Some Overdue) None)) 1 0)
+          → (finished (cond t (passed_document (record d { attempt = a; due = u; detail = Awaiting }) (Some Overdue)) (record d { attempt = a; due = u; detail = Awaiting })) ≡ passed_document (record d { attempt = a; due = u; detail = Awaiting }) (cond t (Some Overdue) None))
+          × (cond t 1 0 + cond (over to_end m (cond t (passed_document (record d { attempt = a; due = u; detail = Awaiting }) (Some Overdue)) (record d { attempt = a; due = u; detail = Awaiting }))) 1 0 ≡ cond (is_some (cond t (Some Overdue) None)) 1 0)
       by true = (refl, refl)
       by false = (refl, refl)
   ticked d Processed a u = stayed (record d { attempt = a; due = u; detail = Processed }) (is_due m u)
@@ -235,7 +235,7 @@ module _ (m : ℕ) where
   ticked d TriesUsed a u = stayed (record d { attempt = a; due = u; detail = TriesUsed }) (is_due m u)
   ticked d Overdue a u = stayed (record d { attempt = a; due = u; detail = Overdue }) (is_due m u)
 
-  both : (ds : List OutEntry) → map finished (map heard ds) ≡ map (λ (d : OutEntry). passed d (passes_at m d)) ds
+  both : (ds : List OutEntry) → map finished (map heard ds) ≡ map (λ (d : OutEntry). passed_document d (passes_at m d)) ds
   both [] = refl
   both (d ∷ ds) = ap₂ ◌∷◌ (ticked d d.detail d.attempt d.due).0 (both ds)
 

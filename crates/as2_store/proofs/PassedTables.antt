@@ -17,7 +17,7 @@ use Rattle.sqlite.specs.Tree.{Trees, IsAscending}
 use Rattle.sqlite.specs.Listing.{understood}
 use Rattle.sqlite.proofs.Callers.{IsPlain, reads_as}
 use Rattle.sqlite_trees.proofs.ListLemmas.{ascending-map, ascending_weaker, map-map}
-use Rattle.sql_tables.specs.Changes.{Changed, HasRows, over_table, passes}
+use Rattle.sql_tables.specs.Changes.{ChangesTable, HasRows, over_table, passes}
 use Rattle.sql_tables.proofs.Changing.{updates}
 use Rattle.sql_tables.proofs.Deleting.{deletes}
 use Rattle.sql_tables.proofs.Inside.{shown_same}
@@ -26,7 +26,7 @@ use Rattle.sql_tables.proofs.Sorting.{unchanged}
 use Rattle.sql_tables.proofs.Writes.{cast_int, cast_null}
 use Rattle.as2_mdn.specs.declared.detail.Detail.{Detail}
 use Rattle.as2_mdn.specs.declared.detail.Detail.TheVariants.{Overdue, TriesUsed}
-use Rattle.as2_exchange.specs.Documents.{passed, tick}
+use Rattle.as2_exchange.specs.Documents.{passed_document, tick}
 use Rattle.as2_exchange.specs.Invariants.{AreNumbers}
 use Rattle.as2_exchange.specs.State.{State, end_of_numbers}
 use Rattle.as2_exchange.specs.Tries.{is_due}
@@ -38,7 +38,7 @@ use Rattle.as2_rows.specs.Waiting.{WaitingRow, to_hear, to_end}
 use Rattle.as2_store.specs.Tables.{Way, Layout, VersionThree, store_schema, outbox_table, outbox_tree, outbox_piece_tree, waiting_table, waiting_tree}
 use Rattle.as2_store.specs.Stands.{IsWhole, Stands, place, waiting_row, all_waiting}
 use Rattle.as2_store.specs.Due.{due_numbers, due_waiting, number_row}
-use Rattle.as2_store.specs.Expiring.{HoldsDocuments, PassesInto, Rewritten, over, passing, passing_in, passing_one, without_due}
+use Rattle.as2_store.specs.Expiring.{HoldsDocuments, PassesInto, RewritesDocuments, over, passed_documents, passing_in, passing_one, without_due}
 use Rattle.as2_records.specs.Expiring.{ticked_in}
 use Rattle.as2_store.specs.Requeuing.{HoldsWaiting}
 use Rattle.as2_store.proofs.Statements.{all_due_text, out_pass_text, waiting_take_due_text}
@@ -102,11 +102,11 @@ pass_params n detail = Int (pos n) ∷ Int (pos (detail_code detail)) ∷ []
 
 pub passes_one : {way : Way} (n count : ℕ) (detail : Detail) (old new : Connected) (ds : List OutEntry) → HoldsDocuments way old.now ds
     → Executes out_pass_text (pass_params n detail) old new (Ok count)
-    → Changed old new (store_schema way) outbox_tree (map out_row (passing_one detail n ds))
+    → ChangesTable old new (store_schema way) outbox_tree (map out_row (passing_one detail n ds))
 passes_one {way} n count detail old new ds it h =
-    let done = updates out_pass_text (pass_params n detail) old new (store_schema way) it.schema 3 outbox_table refl number_terms pass_project (λ (d : OutEntry). pos d.number) out_row (λ _. refl) (λ (d : OutEntry). out_row (passed d (Some detail))) (λ _. refl)
+    let done = updates out_pass_text (pass_params n detail) old new (store_schema way) it.schema 3 outbox_table refl number_terms pass_project (λ (d : OutEntry). pos d.number) out_row (λ _. refl) (λ (d : OutEntry). out_row (passed_document d (Some detail))) (λ _. refl)
     (λ d. simp (cast_int, cast_null)) ds it.rows (ordered_rise out_row (λ (d : OutEntry). d.number) (λ _. refl) ds it.in_order) (quiet way outbox_tree) (out_pass_is way) (out_pass_plain way) count h in
-    subst (Changed old new (store_schema way) outbox_tree) (changed_rows (λ (d : OutEntry). passed d (Some detail)) n (Int (pos (detail_code detail)) ∷ []) ds) done.0
+    subst (ChangesTable old new (store_schema way) outbox_tree) (changed_rows (λ (d : OutEntry). passed_document d (Some detail)) n (Int (pos (detail_code detail)) ∷ []) ds) done.0
 
 -- the number that the row at place i shows
 pub number_here : (rows : List Row) (ns : List ℕ) (i : ℕ) (d : Row) (number : ℕ) → rows ≡ map number_row ns → i < length rows
@@ -121,10 +121,10 @@ number_here rows ns i d number all within is =
 rise_still : (detail : Detail) (n : ℕ) (ds : List OutEntry) → IsAscending (λ (x y : OutEntry). x.number < y.number) ds
     → IsAscending (λ (x y : OutEntry). x.number < y.number) (passing_one detail n ds)
 rise_still detail n ds up =
-    ascending-map (λ (x y : OutEntry). x.number < y.number) (λ (d : OutEntry). cond (d.number == n) (passed d (Some detail)) d) ds
+    ascending-map (λ (x y : OutEntry). x.number < y.number) (λ (d : OutEntry). cond (d.number == n) (passed_document d (Some detail)) d) ds
     (ascending_weaker (λ (x y : OutEntry). x.number < y.number) _ (λ x y less. omega (arith, less, kept x (x.number == n), kept y (y.number == n))) ds up)
   where
-    kept : (d : OutEntry) (t : Bool) → (cond t (passed d (Some detail)) d).number ≡ d.number
+    kept : (d : OutEntry) (t : Bool) → (cond t (passed_document d (Some detail)) d).number ≡ d.number
     kept d true = refl
     kept d false = refl
 
@@ -132,11 +132,11 @@ none_changed : (trees : Trees) (tree : ℕ) (tables : List Table) → AllByRecur
 none_changed trees tree [] = tt
 none_changed trees tree (t ∷ tables) = (λ _. refl, none_changed trees tree tables)
 
-pub none_rewritten : (way : Way) (old : Connected) (ds : List OutEntry) → HoldsDocuments way old.now ds → Rewritten way old old ds
+pub none_rewritten : (way : Way) (old : Connected) (ds : List OutEntry) → HoldsDocuments way old.now ds → RewritesDocuments way old old ds
 none_rewritten way old ds it = record { holds = it; others = none_changed old.now.trees outbox_tree (store_schema way).tables }
 
-pub rewritten_more : (way : Way) (old mid new : Connected) (detail : Detail) (n : ℕ) (ds : List OutEntry) → Rewritten way old mid ds
-    → Changed mid new (store_schema way) outbox_tree (map out_row (passing_one detail n ds)) → Rewritten way old new (passing_one detail n ds)
+pub rewritten_more : (way : Way) (old mid new : Connected) (detail : Detail) (n : ℕ) (ds : List OutEntry) → RewritesDocuments way old mid ds
+    → ChangesTable mid new (store_schema way) outbox_tree (map out_row (passing_one detail n ds)) → RewritesDocuments way old new (passing_one detail n ds)
 rewritten_more way old mid new detail n ds it one = record {
   holds = record { sound = one.sound; schema = one.schema_is; rows = one.rows_are; in_order = rise_still detail n ds it.holds.in_order };
   others = others_then old.now.trees mid.now.trees new.now.trees outbox_tree (store_schema way).tables it.others one.others;
@@ -146,10 +146,10 @@ rewritten_more way old mid new detail n ds it one = record {
 
 pub takes_due : {way : Way} (kind m count : ℕ) (old new : Connected) (ws : List WaitingRow) → HoldsWaiting way old.now ws
     → Executes waiting_take_due_text (any_params kind m) old new (Ok count)
-    → Changed old new (store_schema way) waiting_tree (map waiting_row (without_due kind m ws))
+    → ChangesTable old new (store_schema way) waiting_tree (map waiting_row (without_due kind m ws))
 takes_due {way} kind m count old new ws it h =
     let done = deletes waiting_take_due_text (any_params kind m) old new (store_schema way) it.schema 6 waiting_table refl any_due_terms (λ (w : WaitingRow). pos (place w)) waiting_row (λ _. refl) ws it.rows it.in_order (quiet way waiting_tree) (waiting_take_due_is way) (waiting_take_due_plain way) count h in
-    subst (λ l. Changed old new (store_schema way) waiting_tree (map waiting_row l))
+    subst (λ l. ChangesTable old new (store_schema way) waiting_tree (map waiting_row l))
     (filter_agree (λ (w : WaitingRow). not (passes any_due_terms (any_params kind m) (waiting_row w))) (λ (w : WaitingRow). not (w.kind == kind && is_due m w.due)) (λ w. ap not (any_passes kind m w)) ws) done.0
 
 -- ---- the state
@@ -158,14 +158,14 @@ pub documents_of : {way : Way} (d : Database) (s : State) → Stands (VersionThr
 unfolding IsWhole
 documents_of d s it = record { sound = it.sound; schema = it.schema; rows = it.entries.outbox; in_order = numbers_rise (λ (x : OutEntry). x.number) s.next_out s.outbox it.documents.1 }
 
-pub waits_of : {way : Way} (a b : Connected) (s : State) (ds : List OutEntry) → Stands (VersionThree way) a.now s → Rewritten way a b ds
+pub waits_of : {way : Way} (a b : Connected) (s : State) (ds : List OutEntry) → Stands (VersionThree way) a.now s → RewritesDocuments way a b ds
     → HoldsWaiting way b.now (all_waiting s)
 waits_of a b s ds it one = record { schema = one.holds.schema; rows = one.others.1.1.1.1.1.1.0 (λ e. omega arith) ∙ it.entries.waits; in_order = places_in_order a.now s it }
 
 -- the documents of one kind have passed
 pub stands_passed : (way : Way) (kind m : ℕ) (detail : Detail) → PassesInto kind detail → (a b c : Connected) (s : State) → Stands (VersionThree way) a.now s
-    → Rewritten way a b (passing detail (due_numbers kind m s) s.outbox)
-    → Changed b c (store_schema way) waiting_tree (map waiting_row (without_due kind m (all_waiting s)))
+    → RewritesDocuments way a b (passed_documents detail (due_numbers kind m s) s.outbox)
+    → ChangesTable b c (store_schema way) waiting_tree (map waiting_row (without_due kind m (all_waiting s)))
     → Stands (VersionThree way) c.now (passing_in kind detail m s)
 unfolding IsWhole
 stands_passed way kind m detail into a b c s it one two =
@@ -173,7 +173,7 @@ stands_passed way kind m detail into a b c s it one two =
     let k1 = keeping way AtOutbox a.now.trees b.now.trees one.others in
     let k2 = keeping way AtWaiting b.now.trees c.now.trees two.others in
     let up = numbers_rise (λ (x : OutEntry). x.number) s.next_out s.outbox it.documents.1 in
-    let told : passing detail (due_numbers kind m s) s.outbox ≡ moved detail (over kind m) s.outbox = ap (λ ns. passing detail ns s.outbox) (due_are_over kind detail into m s) ∙ moved_by_number detail (over kind m) s.outbox up in
+    let told : passed_documents detail (due_numbers kind m s) s.outbox ≡ moved detail (over kind m) s.outbox = ap (λ ns. passed_documents detail ns s.outbox) (due_are_over kind detail into m s) ∙ moved_by_number detail (over kind m) s.outbox up in
     record {
       sound = two.sound;
       schema = two.schema_is;
@@ -189,21 +189,21 @@ stands_passed way kind m detail into a b c s it one two =
       };
       version = still_origin (k2 AtOrigin (λ e. omega arith) ∙ k1 AtOrigin (λ e. omega arith)) it.version;
       begun = still_resent (k2 AtResent (λ e. omega arith) ∙ k1 AtResent (λ e. omega arith))
-          (resent_map (λ d. cond (over kind m d) (passed d (Some detail)) d) (λ d. same_number d (over kind m d)) (λ d. same_begun d (over kind m d)) (λ d. same_tries d (over kind m d)) _ s.outbox it.begun);
+          (resent_map (λ d. cond (over kind m d) (passed_document d (Some detail)) d) (λ d. same_number d (over kind m d)) (λ d. same_begun d (over kind m d)) (λ d. same_tries d (over kind m d)) _ s.outbox it.begun);
       left = still_emptied way AtWaiting b.now c.now two.others (still_emptied way AtOutbox a.now b.now one.others it.left);
       receipts = it.receipts;
       documents = (it.documents.0, subst (AreNumbers s.next_out) (sym (same_numbers detail (over kind m) s.outbox)) it.documents.1);
     }
   where
-    same_number : (d : OutEntry) (t : Bool) → (cond t (passed d (Some detail)) d).number ≡ d.number
+    same_number : (d : OutEntry) (t : Bool) → (cond t (passed_document d (Some detail)) d).number ≡ d.number
     same_number d true = refl
     same_number d false = refl
 
-    same_begun : (d : OutEntry) (t : Bool) → (cond t (passed d (Some detail)) d).begun ≡ d.begun
+    same_begun : (d : OutEntry) (t : Bool) → (cond t (passed_document d (Some detail)) d).begun ≡ d.begun
     same_begun d true = refl
     same_begun d false = refl
 
-    same_tries : (d : OutEntry) (t : Bool) → (cond t (passed d (Some detail)) d).tries ≡ d.tries
+    same_tries : (d : OutEntry) (t : Bool) → (cond t (passed_document d (Some detail)) d).tries ≡ d.tries
     same_tries d true = refl
     same_tries d false = refl
 
@@ -216,13 +216,13 @@ pub none_over : {layout : Layout} (kind m : ℕ) (detail : Detail) → PassesInt
 none_over kind m detail into a s it none =
     let up = numbers_rise (λ (x : OutEntry). x.number) s.next_out s.outbox it.documents.1 in
     let numbers = sym (due_are_over kind detail into m s) ∙ none in (
-      ap (λ ds. record s { outbox = ds }) (sym (moved_by_number detail (over kind m) s.outbox up) ∙ ap (λ ns. passing detail ns s.outbox) numbers ∙ none_passed detail s.outbox),
+      ap (λ ds. record s { outbox = ds }) (sym (moved_by_number detail (over kind m) s.outbox up) ∙ ap (λ ns. passed_documents detail ns s.outbox) numbers ∙ none_passed detail s.outbox),
       sym (due_count kind m detail into s) ∙ ap length none,
     )
 
 pub all_passed : (detail : Detail) (rows : List Row) (ns : List ℕ) (i : ℕ) (ds : List OutEntry) → rows ≡ map number_row ns → length rows ≤ i
-    → passing detail (take i ns) ds ≡ passing detail ns ds
-all_passed detail rows ns i ds all past = ap (λ k. passing detail k ds) (take_all i ns (omega (arith, past, ap length all, length-map ns number_row)))
+    → passed_documents detail (take i ns) ds ≡ passed_documents detail ns ds
+all_passed detail rows ns i ds all past = ap (λ k. passed_documents detail k ds) (take_all i ns (omega (arith, past, ap length all, length-map ns number_row)))
 
 pub no_number : (ns : List ℕ) → map number_row ns ≡ [] → ns ≡ []
 no_number [] is = refl

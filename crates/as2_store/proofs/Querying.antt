@@ -15,7 +15,7 @@ use Rattle.sql_tables.proofs.Asking.{shown_keeps, failed_keeps, shown_alike}
 use Rattle.as2_exchange.specs.State.{State}
 use Rattle.as2_store.specs.Tables.{Way, store_schema}
 use Rattle.as2_store.specs.Stands.{Holds, Rests}
-use Rattle.as2_store.specs.Calls.{IsInside, Reads, Writes, Commits}
+use Rattle.as2_store.specs.Calls.{IsInside, ReadsTables, WritesTables, CommitsTables}
 use Rattle.as2_store.proofs.Committing.{FollowsEach}
 use Rattle.sqlite.proofs.StateLemmas.{survives_then}
 
@@ -65,8 +65,8 @@ answers g old mid sql params rows plain shown s r =
 -- ---- reads
 
 -- a read is a write of the same state
-pub as_read : {A E : Type 0} (fits : State → A → Type 0) (old new : Connected) (r : Result A E) → Writes Some old new r
-    → (HasCleanDisk new → IfOk r (λ a. (s : State) → Rests old s → fits s a)) → Reads fits old new r
+pub as_read : {A E : Type 0} (fits : State → A → Type 0) (old new : Connected) (r : Result A E) → WritesTables Some old new r
+    → (HasCleanDisk new → IfOk r (λ a. (s : State) → Rests old s → fits s a)) → ReadsTables fits old new r
 as_read fits old new (Ok a) w answer = record {
   clean = w.clean;
   was_open = w.was_open;
@@ -79,7 +79,7 @@ as_read fits old new (Err e) w answer = record { clean = w.clean; was_open = w.w
 
 -- what fits less than was shown
 pub reads_less : {A E : Type 0} (fits more : State → A → Type 0) (old new : Connected) (r : Result A E)
-    → ((s : State) (a : A) → Rests old s → more s a → fits s a) → Reads more old new r → Reads fits old new r
+    → ((s : State) (a : A) → Rests old s → more s a → fits s a) → ReadsTables more old new r → ReadsTables fits old new r
 reads_less fits more old new r less it = record {
   clean = it.clean;
   was_open = it.was_open;
@@ -91,7 +91,7 @@ reads_less fits more old new r less it = record {
 
 -- what fits where the tables stand so
 pub reads_standing : {A E : Type 0} (fits more : State → A → Type 0) (old new : Connected) (r : Result A E)
-    → ((s : State) (a : A) → Holds old.now s → fits s a → more s a) → Reads fits old new r → Reads more old new r
+    → ((s : State) (a : A) → Holds old.now s → fits s a → more s a) → ReadsTables fits old new r → ReadsTables more old new r
 reads_standing fits more old new (Ok a) then it = record {
   clean = it.clean;
   was_open = it.was_open;
@@ -106,7 +106,7 @@ reads_standing fits more old new (Err e) then it = record { clean = it.clean; wa
 
 -- what is made of an answer
 pub read_ok : {A B E F : Type 0} (fits : State → A → Type 0) (more : State → B → Type 0) (old new : Connected) (a : A) (b : B)
-    → ((s : State) → Rests old s → fits s a → more s b) → Reads {A = A} {E = E} fits old new (Ok a) → Reads {A = B} {E = F} more old new (Ok b)
+    → ((s : State) → Rests old s → fits s a → more s b) → ReadsTables {A = A} {E = E} fits old new (Ok a) → ReadsTables {A = B} {E = F} more old new (Ok b)
 read_ok fits more old new a b then it = record {
   clean = it.clean;
   was_open = it.was_open;
@@ -118,7 +118,7 @@ read_ok fits more old new a b then it = record {
 
 -- a read that fails, or whose answer is no answer
 pub read_err : {A B E F : Type 0} (fits : State → A → Type 0) (more : State → B → Type 0) (old new : Connected) (r : Result A E) (f : F)
-    → Reads fits old new r → Reads {A = B} {E = F} more old new (Err f)
+    → ReadsTables fits old new r → ReadsTables {A = B} {E = F} more old new (Err f)
 read_err fits more old new r f it = record { clean = it.clean; was_open = λ clean. tt; is_open = λ clean. tt; answer = λ clean. tt; same = it.same; crash = it.crash }
 
 -- an answer whose failure was told otherwise
@@ -130,20 +130,20 @@ told_ok (Err e) told Q a cases is = absurd (subst (λ t. IsErrAnd t (Q e)) is ca
 -- what a read answered whose failure was told otherwise
 pub mapped : {A E F : Type 0} (fits : State → A → Type 0) (old new : Connected) (r : Result A E) (told : Result A F) (Q : E → F → Type 0) (a : A)
     → MatchResult r (λ x. told ≡ Ok x) (λ e. IsErrAnd told (Q e)) → told ≡ Ok a
-    → Reads fits old new r → Reads {A = A} {E = F} fits old new (Ok a)
-mapped fits old new r told Q a cases is it = read_ok fits fits old new a a (λ s r found. found) (subst (λ r. Reads fits old new r) (told_ok r told Q a cases is) it)
+    → ReadsTables fits old new r → ReadsTables {A = A} {E = F} fits old new (Ok a)
+mapped fits old new r told Q a cases is it = read_ok fits fits old new a a (λ s r found. found) (subst (λ r. ReadsTables fits old new r) (told_ok r told Q a cases is) it)
 
 -- an answer whose error is told in other words
 pub reads_told : {A E F : Type 0} (fits more : State → A → Type 0) (old new : Connected) (r : Result A E) (told : Result A F) (Q : E → F → Type 0)
-    → MatchResult r (λ x. told ≡ Ok x) (λ e. IsErrAnd told (Q e)) → ((s : State) (a : A) → Rests old s → fits s a → more s a) → Reads fits old new r
-    → Reads more old new told
-reads_told {A = A} {F = F} fits more old new (Ok a) told Q cases less it = subst (λ (t : Result A F). Reads more old new t) (sym cases) (read_ok fits more old new a a (λ s r found. less s a r found) it)
+    → MatchResult r (λ x. told ≡ Ok x) (λ e. IsErrAnd told (Q e)) → ((s : State) (a : A) → Rests old s → fits s a → more s a) → ReadsTables fits old new r
+    → ReadsTables more old new told
+reads_told {A = A} {F = F} fits more old new (Ok a) told Q cases less it = subst (λ (t : Result A F). ReadsTables more old new t) (sym cases) (read_ok fits more old new a a (λ s r found. less s a r found) it)
 reads_told fits more old new (Err e) (Ok b) Q cases less it = absurd cases
 reads_told fits more old new (Err e) (Err f) Q cases less it = read_err fits more old new (Err e) f it
 
 -- what is read of an answer
 pub read_if : {A B D F : Type 0} (fits : State → A → Type 0) (more : State → B → Type 0) (old new : Connected) (a : A) (r : Result B F) (P : B → Type 0)
-    → IfOk r P → ((s : State) (b : B) → P b → fits s a → more s b) → Reads {A = A} {E = D} fits old new (Ok a) → Reads more old new r
+    → IfOk r P → ((s : State) (b : B) → P b → fits s a → more s b) → ReadsTables {A = A} {E = D} fits old new (Ok a) → ReadsTables more old new r
 read_if fits more old new a (Ok b) P is then it = read_ok fits more old new a b (λ s r found. then s b is found) it
 read_if fits more old new a (Err e) P is then it = read_err fits more old new (Ok a) e it
 
@@ -151,9 +151,9 @@ read_if fits more old new a (Err e) P is then it = read_err fits more old new (O
 pub read_told : {A B D E F : Type 0} (fits : State → A → Type 0) (more : State → B
     → Type 0) (old new : Connected) (a : A) (r : Result B E) (told : Result B F) (Q : E → F → Type 0) (P : B → Type 0)
     → MatchResult r (λ x. told ≡ Ok x) (λ e. IsErrAnd told (Q e)) → IfOk r P → ((s : State) (b : B) → P b → fits s a → more s b)
-    → Reads {A = A} {E = D} fits old new (Ok a) → Reads more old new told
+    → ReadsTables {A = A} {E = D} fits old new (Ok a) → ReadsTables more old new told
 read_told {B = B} {F = F} fits more old new a (Ok b) told Q P cases is then it =
-    subst (λ (t : Result B F). Reads more old new t) (sym cases) (read_ok fits more old new a b (λ s r found. then s b is found) it)
+    subst (λ (t : Result B F). ReadsTables more old new t) (sym cases) (read_ok fits more old new a b (λ s r found. then s b is found) it)
 read_told fits more old new a (Err e) (Ok b) Q P cases is then it = absurd cases
 read_told fits more old new a (Err e) (Err f) Q P cases is then it = read_err fits more old new (Ok a) f it
 
@@ -166,20 +166,20 @@ nothing_inside c = record { clean = λ clean. clean; kept = λ clean. record { w
 
 -- nothing is read, over an open connection
 pub unread : {A E : Type 0} (fits : State → A → Type 0) (old : Connected) (a : A) → (HasCleanDisk old → IsTrue old.is_open) → ((s : State) → fits s a)
-    → Reads {A = A} {E = E} fits old old (Ok a)
+    → ReadsTables {A = A} {E = E} fits old old (Ok a)
 unread fits old a opened known = record {
   clean = λ clean. clean;
   was_open = opened;
   is_open = opened;
   answer = λ clean s r. known s;
   same = λ clean s r. r;
-  crash = survives_same old (Commits Some old);
+  crash = survives_same old (CommitsTables Some old);
 }
 
 two_reads : (old mid new : Connected) → (HasCleanDisk mid → IsTrue old.is_open) → (HasCleanDisk mid → (s : State) → Rests old s → Rests mid s)
-    → Survives old mid (Commits Some old) → Survives mid new (Commits Some mid) → Survives old new (Commits Some old)
+    → Survives old mid (CommitsTables Some old) → Survives mid new (CommitsTables Some mid) → Survives old new (CommitsTables Some old)
 two_reads old mid new opened same one two =
-    survives_then old mid new (Commits Some old) (Commits Some mid) (Commits Some old) (λ _ db is. is)
+    survives_then old mid new (CommitsTables Some old) (CommitsTables Some mid) (CommitsTables Some old) (λ _ db is. is)
     (λ clean db is.
     let was : HasCleanDisk mid = omega (arith, two.clean, clean) in
     record { was_open = opened was; stands = λ s r. is.stands s (same was s r) })
@@ -199,8 +199,8 @@ later fits more both old mid (Err f) then first same told = tt
 -- a read, and then another, whatever that answers
 pub read_then : {A B E F : Type 0} (fits : State → A → Type 0) (more : State → B → Type 0) (both : State → B
     → Type 0) (old mid new : Connected) (a : A) (r : Result B F)
-    → ((s : State) (b : B) → Rests old s → fits s a → more s b → both s b) → Reads {A = A} {E = E} fits old mid (Ok a) → Reads more mid new r
-    → Reads both old new r
+    → ((s : State) (b : B) → Rests old s → fits s a → more s b → both s b) → ReadsTables {A = A} {E = E} fits old mid (Ok a) → ReadsTables more mid new r
+    → ReadsTables both old new r
 read_then fits more both old mid new a r then one two = record {
   clean = λ clean. one.clean (two.clean clean);
   was_open = λ clean. any_ok r (one.was_open (two.clean clean));
@@ -211,12 +211,12 @@ read_then fits more both old mid new a r then one two = record {
 }
 
 -- seen from where the store is
-pub read_of : {A E : Type 0} (fits : State → A → Type 0) (inside outside new : Connected) (r : Result A E) → inside ≡ outside → Reads fits inside new r
-    → Reads fits outside new r
-read_of fits inside outside new r same it = subst (λ c. Reads fits c new r) same it
+pub read_of : {A E : Type 0} (fits : State → A → Type 0) (inside outside new : Connected) (r : Result A E) → inside ≡ outside → ReadsTables fits inside new r
+    → ReadsTables fits outside new r
+read_of fits inside outside new r same it = subst (λ c. ReadsTables fits c new r) same it
 
 -- a read that failed, by whatever result tells so
 pub read_bad : {A B E F : Type 0} (fits : State → A → Type 0) (more : State → B → Type 0) (old new : Connected) (r : Result A E) (f : Result B F) → IsErr f
-    → Reads fits old new r → Reads more old new f
+    → ReadsTables fits old new r → ReadsTables more old new f
 read_bad fits more old new r (Ok b) err it = absurd cc
 read_bad fits more old new r (Err f) err it = read_err fits more old new r f it

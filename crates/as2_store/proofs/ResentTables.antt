@@ -13,7 +13,7 @@ use Rattle.sqlite.specs.Term.{lit}
 use Rattle.sqlite.specs.Tree.{put_row}
 use Rattle.sqlite.proofs.Callers.{IsPlain, reads_as}
 use Rattle.sqlite_trees.proofs.ListLemmas.{all-append, all-map, filter_none, map-map}
-use Rattle.sql_tables.specs.Changes.{Changed, over_table, passes}
+use Rattle.sql_tables.specs.Changes.{ChangesTable, over_table, passes}
 use Rattle.sql_tables.proofs.Deleting.{deletes}
 use Rattle.sql_tables.proofs.Inside.{shown_open, shown_same}
 use Rattle.sql_tables.proofs.Queries.{by_number, numbers_at_least, numbers_equal, shows_entries}
@@ -23,7 +23,7 @@ use Rattle.as2_exchange.proofs.Lists.{all_weaken}
 use Rattle.as2_exchange.specs.State.{State}
 use Rattle.as2_exchange.specs.declared.outbox.OutEntry.{OutEntry}
 use Rattle.as2_rows.specs.Rows.{out_row}
-use Rattle.as2_store.specs.Calls.{Reads}
+use Rattle.as2_store.specs.Calls.{ReadsTables}
 use Rattle.as2_store.specs.Due.{number_row}
 use Rattle.as2_store.specs.Resending.{HoldsResent, IsReady, has_row, is_tried, tried_numbers}
 use Rattle.as2_store.specs.Stands.{IsWhole, Stands, Rests, numbers_of, resent_row}
@@ -46,10 +46,10 @@ has_number n k = ap (λ b. b && true) (numbers_equal k n) ∙ and_true _
 
 pub takes_resent : {way : Way} (n count : ℕ) (old new : Connected) (ns : List ℕ) → HoldsResent way old.now ns
     → Executes resent_take_text (one_param n) old new (Ok count)
-    → Changed old new (store_schema way) (resent_tree way) (map resent_row (filter (λ k. not (k == n)) ns))
+    → ChangesTable old new (store_schema way) (resent_tree way) (map resent_row (filter (λ k. not (k == n)) ns))
 takes_resent {way} n count old new ns it h =
     let done = deletes resent_take_text (one_param n) old new (store_schema way) it.schema (resent_place way) (resent_table way) (resent_there way) number_terms (λ (k : ℕ). pos k) resent_row (λ _. refl) ns it.rows it.in_order (quiet way (resent_tree way)) (resent_take_is way) (resent_take_plain way) count h in
-    subst (λ l. Changed old new (store_schema way) (resent_tree way) (map resent_row l))
+    subst (λ l. ChangesTable old new (store_schema way) (resent_tree way) (map resent_row l))
     (filter_agree (λ (k : ℕ). not (passes number_terms (one_param n) (resent_row k))) (λ (k : ℕ). not (k == n)) (λ k. ap not (has_number n k)) ns) done.0
 
 one_resent : (way : Way) (n : ℕ) → IsOneRow (resent_table way) (one_param n) resent_put_terms 2 (resent_row n)
@@ -57,7 +57,7 @@ one_resent way n = record { source = resent_row n; made = refl; cast_is = simp (
 
 pub puts_resent : (way : Way) (old new : Connected) (n count : ℕ) → old.now.schema ≡ store_schema way
     → Executes resent_put_text (one_param n) old new (Ok count)
-    → Changed old new (store_schema way) (resent_tree way) (put_row (resent_row n) (old.now.trees (resent_tree way)))
+    → ChangesTable old new (store_schema way) (resent_tree way) (put_row (resent_row n) (old.now.trees (resent_tree way)))
 puts_resent way old new n count has h =
     inserts_given resent_put_text (one_param n) old new (store_schema way) has (resent_place way) (resent_table way) (resent_there way) refl resent_put_terms 2 (resent_row n) (one_resent way n) refl (resent_put_is way) (resent_put_plain way) count h
 
@@ -171,8 +171,8 @@ ready_untried way a b s n it same none =
 
 -- one was tried: it has a row now
 pub ready_tried : (way : Way) (a b c d : Connected) (s : State) (n : ℕ) → (it : Stands (VersionThree way) a.now s) → b.now ≡ a.now → tried_numbers n s ≢ []
-    → Changed b c (store_schema way) (resent_tree way) (map resent_row (filter (λ k. not (k == n)) (filter it.begun.was (numbers_of s.outbox))))
-    → Changed c d (store_schema way) (resent_tree way) (put_row (resent_row n) (c.now.trees (resent_tree way))) → IsReady way d.now s n 0
+    → ChangesTable b c (store_schema way) (resent_tree way) (map resent_row (filter (λ k. not (k == n)) (filter it.begun.was (numbers_of s.outbox))))
+    → ChangesTable c d (store_schema way) (resent_tree way) (put_row (resent_row n) (c.now.trees (resent_tree way))) → IsReady way d.now s n 0
 unfolding IsWhole
 ready_tried way a b c d s n it same some one two =
     let k1 = keeping way AtResent b.now.trees c.now.trees one.others in
@@ -304,7 +304,7 @@ module _ (number tries : ℕ) where
   tells s b = (p : OutEntry → Bool) (d : OutEntry) → find p s.outbox ≡ Some d → number ≡ d.number → tries ≡ d.tries → b ≡ d.begun
 
   -- its tries tell
-  pub tells_by_tries : {E : Type 0} (old : Connected) → (HasCleanDisk old → IsTrue old.is_open) → nat_le 1 tries ≡ true → Reads {E = E} tells old old (Ok true)
+  pub tells_by_tries : {E : Type 0} (old : Connected) → (HasCleanDisk old → IsTrue old.is_open) → nat_le 1 tries ≡ true → ReadsTables {E = E} tells old old (Ok true)
   tells_by_tries old opened some =
       reads_standing (λ s b. b ≡ true) tells old old (Ok true)
       (λ s b here is p d found one two. is ∙ tried_is_begun old s here.stands p d found (subst (λ t. nat_le 1 t ≡ true) two some))
@@ -312,8 +312,8 @@ module _ (number tries : ℕ) where
 
   -- its row tells
   pub tells_by_row : {E F : Type 0} (old new : Connected) (rows : Vec Row Global) (b : Bool) → nat_le 1 tries ≡ false → b ≡ has_row rows.items
-      → Reads {E = E} (λ s rows. (p : OutEntry → Bool) (d : OutEntry) → find p s.outbox ≡ Some d → number ≡ d.number
-      → d.begun ≡ (nat_le 1 d.tries || has_row rows.items)) old new (Ok rows) → Reads {E = F} tells old new (Ok b)
+      → ReadsTables {E = E} (λ s rows. (p : OutEntry → Bool) (d : OutEntry) → find p s.outbox ≡ Some d → number ≡ d.number
+      → d.begun ≡ (nat_le 1 d.tries || has_row rows.items)) old new (Ok rows) → ReadsTables {E = F} tells old new (Ok b)
   tells_by_row old new rows b none is it =
       read_ok _ tells old new rows b
       (λ s r told p d found one two. is ∙ sym (told p d found one ∙ ap (λ t. t || has_row rows.items) (subst (λ t. nat_le 1 t ≡ false) two none))) it

@@ -8,7 +8,7 @@ use Rattle.sqlite.specs.Order.{Row}
 use Rattle.sqlite.specs.Store.{Ghosts}
 use Rattle.sqlite.specs.Held.{Held, state}
 use Rattle.sqlite.specs.State.{State as Connected, HasCleanDisk, Executes, KeepsCommit}
-use Rattle.sql_tables.specs.Changes.{Changed, HasRows}
+use Rattle.sql_tables.specs.Changes.{ChangesTable, HasRows}
 use Rattle.sql_tables.proofs.Sorting.{unchanged}
 use Rattle.sql_tables.proofs.Changing.{updates}
 use Rattle.sql_tables.proofs.Writes.{cast_int, cast_null}
@@ -20,11 +20,11 @@ use Rattle.as2_rows.specs.Codes.{attempt_code, detail_code}
 use Rattle.as2_rows.specs.Contents.{piece_shown}
 use Rattle.as2_rows.specs.Waiting.{WaitingRow}
 use Rattle.as2_records.specs.declared.progress.Progress.{Progress}
-use Rattle.as2_store.specs.Calls.{Writes}
+use Rattle.as2_store.specs.Calls.{WritesTables}
 use Rattle.as2_store.specs.Tables.{Way, VersionThree, store_schema, outbox_table, outbox_tree, outbox_piece_tree, resent_tree}
 use Rattle.as2_store.specs.Stands.{IsWhole, Stands, Holds, HasResent, resent_row, waiting_row, all_waiting}
 use Rattle.as2_store.specs.Adding.{noted_rows}
-use Rattle.as2_store.specs.Requeuing.{HoldsWaiting, Renewed}
+use Rattle.as2_store.specs.Requeuing.{HoldsWaiting, RenewsWaiting}
 use Rattle.as2_store.specs.Settling.{without_document}
 use Rattle.as2_store.specs.Progressing.{waits_at}
 use Rattle.as2_store.specs.Resending.{IsMarked, IsReady}
@@ -55,12 +55,12 @@ set_params n p = Int (pos n) ∷ set_more p
 
 pub sets : {way : Way} (n count : ℕ) (p : Progress) (old new : Connected) (s : State) → Stands (VersionThree way) old.now s
     → Executes out_set_text (set_params n p) old new (Ok count)
-    → Changed old new (store_schema way) outbox_tree (map out_row (change_document s n (come_to p)).outbox)
+    → ChangesTable old new (store_schema way) outbox_tree (map out_row (change_document s n (come_to p)).outbox)
     × (count ≡ length (filter (λ (d : OutEntry). d.number == n) s.outbox))
 sets {way} n count p old new s it h =
     let done = updates out_set_text (set_params n p) old new (store_schema way) it.schema 3 outbox_table refl number_terms set_project (λ (d : OutEntry). pos d.number) out_row (λ _. refl) (λ (d : OutEntry). out_row (come_to p d)) (λ _. refl)
     (λ d. simp (cast_int, cast_null, cast_optional)) s.outbox it.entries.outbox (entries_rise out_row (λ (d : OutEntry). d.number) (λ _. refl) s.next_out s.outbox it.documents.1) (quiet way outbox_tree) (out_set_is way) (out_set_plain way) count h in
-    (subst (Changed old new (store_schema way) outbox_tree) (changed_rows (come_to p) n (set_more p) s.outbox) done.0, done.1 ∙ ap length (numbered n (set_more p) s.outbox))
+    (subst (ChangesTable old new (store_schema way) outbox_tree) (changed_rows (come_to p) n (set_more p) s.outbox) done.0, done.1 ∙ ap length (numbered n (set_more p) s.outbox))
 
 -- ---- which documents are begun
 
@@ -109,8 +109,8 @@ module _ (p : Progress) (n : ℕ) (rows : List Row) where
 
 stands_set : (way : Way) (a b c : Connected) (s : State) (n : ℕ) (p : Progress) → Stands (VersionThree way) a.now s
     → (nat_le 1 p.tries ≡ false → IsMarked (a.now.trees (resent_tree way)) s.outbox n) → Split out_number n s.outbox
-    → Changed a b (store_schema way) outbox_tree (map out_row (change_document s n (come_to p)).outbox)
-    → Renewed way b c (noted_rows (waits_at n p) (map waiting_row (without_document n (all_waiting s))))
+    → ChangesTable a b (store_schema way) outbox_tree (map out_row (change_document s n (come_to p)).outbox)
+    → RenewsWaiting way b c (noted_rows (waits_at n p) (map waiting_row (without_document n (all_waiting s))))
     → Stands (VersionThree way) c.now (change_document s n (come_to p))
 unfolding IsWhole
 stands_set way a b c s n p it marked place one two =
@@ -146,10 +146,10 @@ pub comes_further : {S : Type 0} (g : Ghosts S) (old : Held S) (mid one last : C
     → (HasCleanDisk mid → KeepsCommit (state g (record old { in_transaction = true })) mid) → (HasCleanDisk one → IsTrue mid.is_open)
     → (HasCleanDisk mid → (way : Way) (s : State) → Stands (VersionThree way) (state g old).now s → IsReady way mid.now s w p.tries)
     → (HasCleanDisk one → (way : Way) (s : State) → Stands (VersionThree way) mid.now s
-    → Changed mid one (store_schema way) outbox_tree (map out_row (change_document s w (come_to p)).outbox)
+    → ChangesTable mid one (store_schema way) outbox_tree (map out_row (change_document s w (come_to p)).outbox)
     × (count ≡ length (filter (λ (d : OutEntry). d.number == w) s.outbox)))
     → (HasCleanDisk last → (way : Way) (ws : List WaitingRow) → HoldsWaiting way one.now ws
-    → Renewed way one last (noted_rows (waits_at w p) (map waiting_row (without_document w ws))))
+    → RenewsWaiting way one last (noted_rows (waits_at w p) (map waiting_row (without_document w ws))))
     → HasCleanDisk last → FollowsEach g old last (set_out_in n p)
 comes_further g old mid one last n w p beyond within count some was was_mid kept open_then readied set renewed clean =
     let opened = (kept (was_mid (was clean))).was_open (open_then (was clean)) in
@@ -202,5 +202,5 @@ queues_one n m s = ap (λ ds. record s { outbox = ds }) (each s.outbox)
 pub queues : (n m : ℕ) → set_out_in n (anew m) ≡ resent_in n m
 queues n m = λ i s. option_map (λ _. queues_one n m s i) (document s n)
 
-pub queued : {A E : Type 0} (n m : ℕ) (old new : Connected) (r : Result A E) → Writes (set_out_in n (anew m)) old new r → Writes (resent_in n m) old new r
-queued n m old new r it = subst (λ next. Writes next old new r) (queues n m) it
+pub queued : {A E : Type 0} (n m : ℕ) (old new : Connected) (r : Result A E) → WritesTables (set_out_in n (anew m)) old new r → WritesTables (resent_in n m) old new r
+queued n m old new r it = subst (λ next. WritesTables next old new r) (queues n m) it

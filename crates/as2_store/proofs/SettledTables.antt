@@ -12,7 +12,7 @@ use Rattle.sqlite.specs.Edit.{are_fresh}
 use Rattle.sqlite.specs.Store.{Ghosts}
 use Rattle.sqlite.specs.Held.{Held, state}
 use Rattle.sqlite.specs.State.{State as Connected, HasCleanDisk, Executes}
-use Rattle.sql_tables.specs.Changes.{Changed, HasRows}
+use Rattle.sql_tables.specs.Changes.{ChangesTable, HasRows}
 use Rattle.sql_tables.proofs.Sorting.{unchanged}
 use Rattle.sql_tables.proofs.Changing.{updates}
 use Rattle.sql_tables.proofs.Writes.{cast_int, cast_null, IsOneRow, inserts_given, inserts_fresh}
@@ -31,7 +31,7 @@ use Rattle.as2_store.specs.Tables.{Way, Layout, VersionThree, store_schema, outb
 use Rattle.as2_store.proofs.Statements.{out_settle_text, evidence_put_text}
 use Rattle.as2_store.specs.Stands.{IsWhole, Stands, Holds, place, waiting_row, all_waiting, evidence_rows}
 use Rattle.as2_store.specs.Adding.{noted_rows}
-use Rattle.as2_store.specs.Requeuing.{HoldsWaiting, Renewed}
+use Rattle.as2_store.specs.Requeuing.{HoldsWaiting, RenewsWaiting}
 use Rattle.as2_exchange.specs.Documents.{settled_as}
 use Rattle.as2_store.specs.Settling.{without_document}
 use Rattle.as2_records.specs.Settling.{settled_in}
@@ -77,13 +77,13 @@ passed_detail detail = fits_i64 (detail_code detail) (small detail)
 
 pub settles : {way : Way} (n count : ℕ) (detail : Detail) (e : Evidence) (old new : Connected) (s : State) → Stands (VersionThree way) old.now s
     → Executes out_settle_text (settle_params n detail) old new (Ok count)
-    → Changed old new (store_schema way) outbox_tree (map out_row (change_document s n (settled_as detail e)).outbox)
+    → ChangesTable old new (store_schema way) outbox_tree (map out_row (change_document s n (settled_as detail e)).outbox)
     × (count ≡ length (filter (λ (d : OutEntry). d.number == n) s.outbox))
 settles {way} n count detail e old new s it h =
     let done = updates out_settle_text (settle_params n detail) old new (store_schema way) it.schema 3 outbox_table refl number_terms settle_project (λ (d : OutEntry). pos d.number) out_row (λ _. refl) (λ (d : OutEntry). out_row (settled_as detail e d)) (λ _. refl)
     (λ d. simp (cast_int, cast_null)) s.outbox it.entries.outbox (entries_rise out_row (λ (d : OutEntry). d.number) (λ _. refl) s.next_out s.outbox it.documents.1) (quiet way outbox_tree) (out_settle_is way) (out_settle_plain way) count h in
     let more = Int (pos (detail_code detail)) ∷ [] in
-    (subst (Changed old new (store_schema way) outbox_tree) (changed_rows (settled_as detail e) n more s.outbox) done.0, done.1 ∙ ap length (numbered n more s.outbox))
+    (subst (ChangesTable old new (store_schema way) outbox_tree) (changed_rows (settled_as detail e) n more s.outbox) done.0, done.1 ∙ ap length (numbered n more s.outbox))
 
 -- ---- its evidence
 
@@ -95,7 +95,7 @@ one_receipt n e = record { source = evidence_row n e; made = refl; cast_is = sim
 
 pub puts_evidence : (way : Way) (old new : Connected) (n : ℕ) (e : Evidence) (count : ℕ) → old.now.schema ≡ (store_schema way)
     → Executes evidence_put_text (receipt_params n e) old new (Ok count)
-    → Changed old new (store_schema way) evidence_tree (put_row (evidence_row n e) (old.now.trees evidence_tree))
+    → ChangesTable old new (store_schema way) evidence_tree (put_row (evidence_row n e) (old.now.trees evidence_tree))
 puts_evidence way old new n e count has h =
     inserts_given evidence_put_text (receipt_params n e) old new (store_schema way) has 5 evidence_table refl refl evidence_put_terms 5 (evidence_row n e) (one_receipt n e) refl (evidence_put_is way) (evidence_put_plain way) count h
 
@@ -201,7 +201,7 @@ given a s n d it found =
 
 -- what waits is untouched by the first two statements
 pub still_holds : (way : Way) (a b c : Connected) (s : State) → Stands (VersionThree way) a.now s → (documents receipts : List Row)
-    → Changed a b (store_schema way) outbox_tree documents → Changed b c (store_schema way) evidence_tree receipts → HoldsWaiting way c.now (all_waiting s)
+    → ChangesTable a b (store_schema way) outbox_tree documents → ChangesTable b c (store_schema way) evidence_tree receipts → HoldsWaiting way c.now (all_waiting s)
 still_holds way a b c s it documents receipts one two = record {
   schema = two.schema_is;
   rows = two.others.1.1.1.1.1.1.0 (λ e. omega arith) ∙ one.others.1.1.1.1.1.1.0 (λ e. omega arith) ∙ it.entries.waits;
@@ -215,9 +215,9 @@ no_evidence_yet (Some e) is = absurd cc
 -- the tables stand for the state with the document settled, where no receipt had settled it
 pub stands_settled : (way : Way) (a b c d : Connected) (s : State) (n : ℕ) (detail : Detail) (e : Evidence) (x : OutEntry) → is_by_receipt detail ≡ true
     → Stands (VersionThree way) a.now s → document s n ≡ Some x → is_settled x ≡ false → Split out_number n s.outbox
-    → Changed a b (store_schema way) outbox_tree (map out_row (change_document s n (settled_as detail e)).outbox)
-    → Changed b c (store_schema way) evidence_tree (put_row (evidence_row n e) (b.now.trees evidence_tree))
-    → Renewed way c d (map waiting_row (without_document n (all_waiting s))) → Stands (VersionThree way) d.now (change_document s n (settled_as detail e))
+    → ChangesTable a b (store_schema way) outbox_tree (map out_row (change_document s n (settled_as detail e)).outbox)
+    → ChangesTable b c (store_schema way) evidence_tree (put_row (evidence_row n e) (b.now.trees evidence_tree))
+    → RenewsWaiting way c d (map waiting_row (without_document n (all_waiting s))) → Stands (VersionThree way) d.now (change_document s n (settled_as detail e))
 unfolding IsWhole
 stands_settled way a b c d s n detail e x by it found fresh_unsettled place one two three =
     let has = it.entries in
@@ -258,11 +258,11 @@ pub ends : {S : Type 0} (g : Ghosts S) (old : Held S) (one two last : Connected)
     → (count : ℕ) → count ≢ 0 → (HasCleanDisk two → HasCleanDisk one) → (HasCleanDisk last → HasCleanDisk two)
     → (HasCleanDisk one → IsTrue (state g old).is_open)
     → (HasCleanDisk one → (way : Way) (s : State) → Stands (VersionThree way) (state g old).now s → (e : Evidence)
-    → Changed (state g (record old { in_transaction = true })) one (store_schema way) outbox_tree (map out_row (change_document s w (settled_as detail e)).outbox) × (count ≡ length (filter (λ (d : OutEntry). d.number == w) s.outbox)))
+    → ChangesTable (state g (record old { in_transaction = true })) one (store_schema way) outbox_tree (map out_row (change_document s w (settled_as detail e)).outbox) × (count ≡ length (filter (λ (d : OutEntry). d.number == w) s.outbox)))
     → (HasCleanDisk two → (way : Way) → one.now.schema ≡ store_schema way
-    → Changed one two (store_schema way) evidence_tree (put_row (evidence_row w e) (one.now.trees evidence_tree))
+    → ChangesTable one two (store_schema way) evidence_tree (put_row (evidence_row w e) (one.now.trees evidence_tree))
     × (are_fresh (one.now.trees evidence_tree) (evidence_row w e ∷ []) ≡ true))
-    → (HasCleanDisk last → (way : Way) (ws : List WaitingRow) → HoldsWaiting way two.now ws → Renewed way two last (map waiting_row (without_document w ws)))
+    → (HasCleanDisk last → (way : Way) (ws : List WaitingRow) → HoldsWaiting way two.now ws → RenewsWaiting way two last (map waiting_row (without_document w ws)))
     → HasCleanDisk last → FollowsEach g old last (settled_in n detail e)
 ends g old one two last n w detail e by beyond within count some was_one was_two opened set put taken clean =
     let begun = state g (record old { in_transaction = true }) in

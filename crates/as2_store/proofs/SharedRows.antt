@@ -13,7 +13,7 @@ use Rattle.sqlite.specs.Term.{Term}
 use Rattle.sqlite.specs.Tree.{Trees, put_row, IsTable}
 use Rattle.sqlite_keyed.proofs.ListLemmas.{IsPermutation-filter}
 use Rattle.sqlite_trees.proofs.ListLemmas.{ascending-filter, ascending-map, ascending_from_map, filter-map, map-map, pull_back}
-use Rattle.sql_tables.specs.Changes.{HasRows, chosen, numbered_row, passes, shown_of}
+use Rattle.sql_tables.specs.Changes.{HasRows, chosen_rows, numbered_row, passes, shown_of}
 use Rattle.sql_tables.proofs.Queries.{map_same}
 use Rattle.sql_tables.proofs.Sorting.{one_more_row}
 
@@ -95,16 +95,16 @@ module _ {X : Type 0} (row : X → Row) where
     -- a table has the rows of the picked ones too, once what a query shows of them was put in
     pub puts_picked : (table : Table) (tree : ℕ) (project : List Term) (db : Trees) (sources : List Row) (xs : List X) → HasRows (db tree) (map row xs)
         → ((n : ℤ) (x : X) → shown_of project params (Int n ∷ row x) ≡ Null ∷ row x) → ((x : X) → cast_row table (Null ∷ row x) ≡ Null ∷ row x)
-        → IsPermutation (map (shown_of project params) (chosen terms params (db tree))) sources → (rows : List Row) (there : List X)
+        → IsPermutation (map (shown_of project params) (chosen_rows terms params (db tree))) sources → (rows : List Row) (there : List X)
         → HasRows rows (map row there)
         → HasRows (put_all rows (numbered Chosen rows (map (λ s. cast_row table (drop 0 s)) sources))) (map row (there ++ filter p xs))
     puts_picked table tree project db sources xs has shows casts same rows there held =
         let it = are_under (db tree) xs has in
         let f = λ (x : X). Null ∷ row x in
         let picked = filter hits it.entries in
-        let picks : chosen terms params (db tree) ≡ map under picked =
-        ap (chosen terms params) it.rows_are ∙ filter-map (passes terms params) under it.entries ∙ ap (map under) (filter_agree (λ (y : ℤ × X). passes terms params (under y)) hits (λ y. tests y.0 y.1) it.entries) in
-        let shown : map (shown_of project params) (chosen terms params (db tree)) ≡ map f (filter p (map (λ y. y.1) it.entries)) =
+        let picks : chosen_rows terms params (db tree) ≡ map under picked =
+        ap (chosen_rows terms params) it.rows_are ∙ filter-map (passes terms params) under it.entries ∙ ap (map under) (filter_agree (λ (y : ℤ × X). passes terms params (under y)) hits (λ y. tests y.0 y.1) it.entries) in
+        let shown : map (shown_of project params) (chosen_rows terms params (db tree)) ≡ map f (filter p (map (λ y. y.1) it.entries)) =
         ap (map (shown_of project params)) picks
         ∙ map-map (shown_of project params) under picked
         ∙ map_same (λ (y : ℤ × X). shown_of project params (under y)) (λ y. f y.1) (λ y. shows y.0 y.1) picked

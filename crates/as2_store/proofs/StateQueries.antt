@@ -7,7 +7,7 @@ use Rattle.sqlite.specs.Order.{Row}
 use Rattle.sqlite.specs.State.{State as Connected, Shown}
 use Rattle.sql_tables.proofs.Inside.{shown_open}
 use Rattle.sql_tables.proofs.Queries.{numbers_at_least, numbers_at_most}
-use Rattle.as2_mdn.specs.Details.{state_of}
+use Rattle.as2_mdn.specs.Details.{class_of}
 use Rattle.as2_mdn.specs.declared.detail.Detail.{Detail}
 use Rattle.as2_mdn.specs.declared.detail.Detail.TheVariants.{New, Sending, Awaiting, Retry, Processed, NoReceiptAsked, Warning, NoMic, UnknownMic, NotProcessed, ErrorModifier, MicDiffers, TriesUsed, Overdue}
 use Rattle.as2_mdn.specs.declared.detail.State.{State as StateOf}
@@ -34,7 +34,7 @@ is_between wanted detail = nat_le (detail_code (first_detail wanted)) (detail_co
 -- of each state, the codes between its first and its last are all of its own
 module _ (x : Detail) where
   abbrev Covers : StateOf → Type 0
-  Covers state = (is_between (Some state) x && same_state state (state_of x)) ≡ same_state state (state_of x)
+  Covers state = (is_between (Some state) x && same_state state (class_of x)) ≡ same_state state (class_of x)
 
 covers : (x : Detail) → is_between None x ≡ true × Covers x P × Covers x R × Covers x S × Covers x W × Covers x E
 covers New = (refl, refl, refl, refl, refl, refl)

@@ -6,7 +6,7 @@ use Rattle.sqlite.specs.Effect.{Database}
 use Rattle.sqlite.specs.Order.{Row}
 use Rattle.as2_exchange.specs.State.{Version}
 use Rattle.as2_exchange.specs.declared.outbox.OutEntry.{OutEntry}
-use Rattle.as2_store.specs.Tables.{Way, Fresh, Migrated, store_schema, meta_tree, inbox_tree, inbox_piece_tree, outbox_tree, outbox_piece_tree, evidence_tree, waiting_tree, origin_tree, resent_tree, emptied, first_inbox_tree, first_piece_tree}
+use Rattle.as2_store.specs.Tables.{Way, Fresh, Migrated, store_schema, meta_tree, inbox_tree, inbox_piece_tree, outbox_tree, outbox_piece_tree, evidence_tree, waiting_tree, origin_tree, resent_tree, emptied_tables, first_inbox_tree, first_piece_tree}
 use Rattle.as2_store.specs.Stands.{HasOrigin, HasResent, AreEmptied}
 
 -- ---- the tables by name
@@ -118,14 +118,14 @@ keeping Migrated p old new all AtOrigin other = all.1.1.1.1.1.1.1.1.1.0 (other_t
 keeping Migrated p old new all AtResent other = all.1.1.1.1.1.1.1.1.1.1.0 (other_tree Migrated p AtResent other)
 
 -- emptied tables stay so
-pub still_emptied : (way : Way) (p : Part) (old new : Database) → Others way (tree_of way p) old.trees new.trees → AreEmptied (emptied way) old
-    → AreEmptied (emptied way) new
+pub still_emptied : (way : Way) (p : Part) (old new : Database) → Others way (tree_of way p) old.trees new.trees → AreEmptied (emptied_tables way) old
+    → AreEmptied (emptied_tables way) new
 still_emptied Fresh p old new all left = tt
 still_emptied Migrated p old new all left =
     let apart : (tree : ℕ) → is_emptied tree ≡ true → tree ≢ tree_of Migrated p = λ tree was same. true≢false (sym was ∙ ap is_emptied same ∙ not_emptied p) in
     (all.1.0 (apart first_inbox_tree refl) ∙ left.0, (all.1.1.0 (apart first_piece_tree refl) ∙ left.1.0, tt))
 
-pub same_emptied : (way : Way) (old new : Database) → new ≡ old → AreEmptied (emptied way) old → AreEmptied (emptied way) new
+pub same_emptied : (way : Way) (old new : Database) → new ≡ old → AreEmptied (emptied_tables way) old → AreEmptied (emptied_tables way) new
 same_emptied Fresh old new same left = tt
 same_emptied Migrated old new same left = (ap (λ (d : Database). d.trees first_inbox_tree) same ∙ left.0, (ap (λ (d : Database). d.trees first_piece_tree) same ∙ left.1.0, tt))
 

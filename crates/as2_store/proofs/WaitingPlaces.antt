@@ -8,7 +8,7 @@ use Rattle.sqlite.specs.Order.{Row}
 use Rattle.sqlite.specs.Tree.{IsTable, IsAscending, put_row}
 use Rattle.sqlite.specs.State.{State as Connected, Executes}
 use Rattle.sqlite_trees.proofs.ListLemmas.{all-append, all_weaker, all_both, filter_all, ascending-append, ascending-filter, ascending-map, ascending_from_map}
-use Rattle.sql_tables.specs.Changes.{Changed, passes}
+use Rattle.sql_tables.specs.Changes.{ChangesTable, passes}
 use Rattle.sql_tables.proofs.Queries.{numbers_equal}
 use Rattle.sql_tables.proofs.Deleting.{deletes}
 use Rattle.as2_exchange.specs.State.{end_of_numbers}
@@ -18,8 +18,8 @@ use Rattle.as2_rows.specs.Waiting.{WaitingRow, out_kind, in_kind, in_waiting, ou
 use Rattle.as2_store.specs.Tables.{Way, store_schema, waiting_table, waiting_tree}
 use Rattle.as2_store.proofs.Statements.{waiting_take_text}
 use Rattle.as2_store.specs.Stands.{place, waiting_row, documents_waiting}
-use Rattle.as2_store.specs.Adding.{Noted, noted_rows}
-use Rattle.as2_store.specs.Requeuing.{HoldsWaiting, Renewed, not_at}
+use Rattle.as2_store.specs.Adding.{NotesWaiting, noted_rows}
+use Rattle.as2_store.specs.Requeuing.{HoldsWaiting, RenewsWaiting, not_at}
 use Rattle.as2_store.specs.Settling.{place_of}
 use Rattle.as2_store.proofs.MetaRow.{one_param}
 use Rattle.as2_store.proofs.NumberedRows.{given_rise, ordered_rise, puts_between}
@@ -32,15 +32,15 @@ use Rattle.as2_store.proofs.Texts.{number_terms, waiting_take_is, waiting_take_p
 -- ---- the statement
 
 pub takes_waiting : {way : Way} (p count : ℕ) (old new : Connected) (ws : List WaitingRow) → HoldsWaiting way old.now ws
-    → Executes waiting_take_text (one_param p) old new (Ok count) → Changed old new (store_schema way) waiting_tree (map waiting_row (not_at p ws))
+    → Executes waiting_take_text (one_param p) old new (Ok count) → ChangesTable old new (store_schema way) waiting_tree (map waiting_row (not_at p ws))
 takes_waiting {way} p count old new ws it h =
     let done = deletes waiting_take_text (one_param p) old new (store_schema way) it.schema 6 waiting_table refl number_terms (λ (w : WaitingRow). pos (place w)) waiting_row (λ _. refl) ws it.rows it.in_order (quiet way waiting_tree) (waiting_take_is way) (waiting_take_plain way) count h in
-    subst (λ l. Changed old new (store_schema way) waiting_tree (map waiting_row l))
+    subst (λ l. ChangesTable old new (store_schema way) waiting_tree (map waiting_row l))
     (filter_agree (λ (w : WaitingRow). not (passes number_terms (one_param p) (waiting_row w))) (λ (w : WaitingRow). not (place w == p)) (λ w. ap not (ap (λ b. b && true) (numbers_equal (place w) p) ∙ and_true _)) ws) done.0
 
 -- what waits is in order once some of it is taken out
 pub still_held : {way : Way} (old new : Connected) (p : ℕ) (ws : List WaitingRow) → HoldsWaiting way old.now ws
-    → Changed old new (store_schema way) waiting_tree (map waiting_row (not_at p ws)) → HoldsWaiting way new.now (not_at p ws)
+    → ChangesTable old new (store_schema way) waiting_tree (map waiting_row (not_at p ws)) → HoldsWaiting way new.now (not_at p ws)
 still_held old new p ws it done = record {
   schema = done.schema_is;
   rows = done.rows_are;
@@ -48,8 +48,8 @@ still_held old new p ws it done = record {
 }
 
 -- three statements, one after another
-pub taken_then : (way : Way) (a b c d : Connected) (first second third : List Row) → Changed a b (store_schema way) waiting_tree first
-    → Changed b c (store_schema way) waiting_tree second → Changed c d (store_schema way) waiting_tree third → Renewed way a d third
+pub taken_then : (way : Way) (a b c d : Connected) (first second third : List Row) → ChangesTable a b (store_schema way) waiting_tree first
+    → ChangesTable b c (store_schema way) waiting_tree second → ChangesTable c d (store_schema way) waiting_tree third → RenewsWaiting way a d third
 taken_then way a b c d first second third one two three = record {
   sound = three.sound;
   schema_is = three.schema_is;
@@ -58,8 +58,8 @@ taken_then way a b c d first second third one two three = record {
 }
 
 -- some of it is taken out, and what is noted then is put in
-pub noted_then : (way : Way) (a b c : Connected) (rows : List Row) (o : Option WaitingRow) → Renewed way a b rows → Noted way b c o
-    → Renewed way a c (noted_rows o rows)
+pub noted_then : (way : Way) (a b c : Connected) (rows : List Row) (o : Option WaitingRow) → RenewsWaiting way a b rows → NotesWaiting way b c o
+    → RenewsWaiting way a c (noted_rows o rows)
 noted_then way a b c rows None one two = record {
   sound = subst IsDatabase (sym two) one.sound;
   schema_is = ap (λ (d : Database). d.schema) two ∙ one.schema_is;
@@ -73,14 +73,14 @@ noted_then way a b c rows (Some w) one two = record {
   others = others_then a.now.trees b.now.trees c.now.trees waiting_tree (store_schema way).tables one.others two.others;
 }
 
-pub changed_renewed : (way : Way) (a b : Connected) (rows : List Row) → Changed a b (store_schema way) waiting_tree rows → Renewed way a b rows
+pub changed_renewed : (way : Way) (a b : Connected) (rows : List Row) → ChangesTable a b (store_schema way) waiting_tree rows → RenewsWaiting way a b rows
 changed_renewed way a b rows one = record { sound = one.sound; schema_is = one.schema_is; rows_are = one.rows_are; others = one.others }
 
 -- whatever the last statement answers
 pub ok_noted : {V E : Type 0} (r : Result V E) (a b c : Connected) (o : Option WaitingRow) {X : Type 0} (rows : X → List Row) (P : Way → X → Type 0)
-    → ((way : Way) (x : X) → P way x → Renewed way a b (rows x))
-    → OnOk r ((way : Way) → b.now.schema ≡ store_schema way → Noted way b c o)
-    → OnOk r ((way : Way) (x : X) → P way x → Renewed way a c (noted_rows o (rows x)))
+    → ((way : Way) (x : X) → P way x → RenewsWaiting way a b (rows x))
+    → OnOk r ((way : Way) → b.now.schema ≡ store_schema way → NotesWaiting way b c o)
+    → OnOk r ((way : Way) (x : X) → P way x → RenewsWaiting way a c (noted_rows o (rows x)))
 ok_noted (Ok v) a b c o rows P one two = λ way x p. let first = one way x p in noted_then way a b c (rows x) o first (two way first.schema_is)
 ok_noted (Err e) a b c o rows P one two = tt
 

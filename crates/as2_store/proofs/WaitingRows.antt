@@ -24,7 +24,7 @@ use Rattle.as2_rows.specs.Waiting.{WaitingRow, out_kind, in_kind, in_waiting, wa
 use Rattle.as2_store.specs.Tables.{Way, store_schema, waiting_table}
 use Rattle.as2_store.proofs.Statements.{waiting_put_text}
 use Rattle.as2_store.specs.Stands.{place, waiting_row, documents_waiting, all_waiting}
-use Rattle.as2_store.specs.Adding.{Noted, noted_rows}
+use Rattle.as2_store.specs.Adding.{NotesWaiting, noted_rows}
 use Rattle.as2_records.specs.Adding.{with_received}
 use Rattle.as2_store.proofs.NumberedRows.{puts_between}
 use Rattle.as2_store.proofs.Texts.{waiting_put_terms, waiting_put_is, waiting_put_plain}
@@ -46,7 +46,7 @@ one_waiting : (w : WaitingRow) → IsOneRow waiting_table (waiting_params w) wai
 one_waiting w = record { source = waiting_row w; made = refl; cast_is = simp (cast_int, cast_null, cast_optional) }
 
 pub puts_waiting : (way : Way) (old new : Connected) (w : WaitingRow) (count : ℕ) → old.now.schema ≡ store_schema way
-    → Executes waiting_put_text (waiting_params w) old new (Ok count) → Noted way old new (Some w)
+    → Executes waiting_put_text (waiting_params w) old new (Ok count) → NotesWaiting way old new (Some w)
 puts_waiting way old new w count has h =
     inserts_given waiting_put_text (waiting_params w) old new (store_schema way) has 6 waiting_table refl refl waiting_put_terms 5 (waiting_row w) (one_waiting w) refl (waiting_put_is way) (waiting_put_plain way) count h
 

@@ -27,46 +27,46 @@ abbrev pub empty_store : ℕ → State
 empty_store first = empty (LaterVersion 0) first
 
 -- whatever stops the computer now, what an open finds stands for this state
-pub record Lasts (c : Connected) (s : State) : Type 0 where
+pub record TablesLast (c : Connected) (s : State) : Type 0 where
   pub each : (db : Trees) → c.may_leave db → Keeps db s
 
 -- these trees stand for the next state
-pub record KeepsNext (db : Trees) (next : Option State) : Type 0 where
+pub record KeepsNextTables (db : Trees) (next : Option State) : Type 0 where
   pub state : State
   pub is : next ≡ Some state
   pub keeps : Keeps db state
 
 -- what a call commits, over an open connection: the state that is next to each that the tables stood for
-pub record Commits (next : State → Option State) (old : Connected) (db : Trees) : Type 0 where
+pub record CommitsTables (next : State → Option State) (old : Connected) (db : Trees) : Type 0 where
   pub was_open : IsTrue old.is_open
-  pub stands : (s : State) → Rests old s → KeepsNext db (next s)
+  pub stands : (s : State) → Rests old s → KeepsNextTables db (next s)
 
 -- ---- calls
 
 -- the tables stand for the next state, and so does what a crash leaves
-pub record Reaches (c : Connected) (next : Option State) : Type 0 where
+pub record ReachesTables (c : Connected) (next : Option State) : Type 0 where
   pub state : State
   pub is : next ≡ Some state
   pub rests : Rests c state
-  pub lasts : Lasts c state
+  pub lasts : TablesLast c state
 
 -- a read: nothing changes, and the answer fits each state that the tables stand for
-pub record Reads {A E : Type 0} (fits : State → A → Type 0) (old new : Connected) (r : Result A E) : Type 0 where
+pub record ReadsTables {A E : Type 0} (fits : State → A → Type 0) (old new : Connected) (r : Result A E) : Type 0 where
   pub clean : HasCleanDisk new → HasCleanDisk old
   pub was_open : HasCleanDisk new → OnOk r (IsTrue old.is_open)
   pub is_open : HasCleanDisk new → OnOk r (IsTrue new.is_open)
   pub answer : HasCleanDisk new → IfOk r (λ a. (s : State) → Rests old s → fits s a)
   pub same : HasCleanDisk new → (s : State) → Rests old s → Rests new s
-  pub crash : Survives old new (Commits Some old)
+  pub crash : Survives old new (CommitsTables Some old)
 
 -- a write: it commits the next state, or fails and leaves the state
-pub record Writes {A E : Type 0} (next : State → Option State) (old new : Connected) (r : Result A E) : Type 0 where
+pub record WritesTables {A E : Type 0} (next : State → Option State) (old new : Connected) (r : Result A E) : Type 0 where
   pub clean : HasCleanDisk new → HasCleanDisk old
   pub was_open : HasCleanDisk new → OnOk r (IsTrue old.is_open)
   pub is_open : HasCleanDisk new → OnOk r (IsTrue new.is_open)
-  pub done : HasCleanDisk new → OnOk r ((s : State) → Rests old s → Reaches new (next s))
+  pub done : HasCleanDisk new → OnOk r ((s : State) → Rests old s → ReachesTables new (next s))
   pub failed : HasCleanDisk new → OnErr r ((s : State) → Rests old s → Rests new s)
-  pub crash : Survives old new (Commits next old)
+  pub crash : Survives old new (CommitsTables next old)
 
 -- ---- a store is made, or found
 
@@ -79,17 +79,17 @@ pub record CommitsFirst (first : ℕ) (old : Connected) (db : Trees) : Type 0 wh
 pub record Creates (first : ℕ) (old new : Connected) : Type 0 where
   pub clean : HasCleanDisk new → HasCleanDisk old
   pub is_open : HasCleanDisk new → IsTrue new.is_open
-  pub done : HasCleanDisk new → IsBlank old → Reaches new (Some (empty_store first))
+  pub done : HasCleanDisk new → IsBlank old → ReachesTables new (Some (empty_store first))
   pub crash : Survives old new (CommitsFirst first old)
 
 -- the tables are those of a store of this version, and of no other kind; there are some
 pub record Adopts (old new : Connected) : Type 0 where
   pub clean : HasCleanDisk new → HasCleanDisk old
   pub is_open : HasCleanDisk new → IsTrue new.is_open
-  pub done : HasCleanDisk new → (s : State) → Rests old s → Reaches new (Some s)
+  pub done : HasCleanDisk new → (s : State) → Rests old s → ReachesTables new (Some s)
   pub adoption_fault : HasCleanDisk new → (kind : List ℕ) (version : ℕ) → MetaSays old kind version → adoption_fault kind version ≡ None
   pub no_blank : HasCleanDisk new → ¬ IsBlank old
-  pub crash : Survives old new (Commits Some old)
+  pub crash : Survives old new (CommitsTables Some old)
 
 -- why tables aren't adopted: a fault that may come from any call; else what the row of `meta` says, where it can be read; and
 -- a database without tables is no store

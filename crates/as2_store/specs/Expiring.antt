@@ -6,7 +6,7 @@ use Rattle.sqlite.specs.State.{State as Connected}
 use Rattle.sqlite.specs.Tree.{IsAscending}
 use Rattle.as2_mdn.specs.declared.detail.Detail.{Detail}
 use Rattle.as2_mdn.specs.declared.detail.Detail.TheVariants.{Overdue, TriesUsed}
-use Rattle.as2_exchange.specs.Documents.{passed, tick}
+use Rattle.as2_exchange.specs.Documents.{passed_document, tick}
 use Rattle.as2_exchange.specs.State.{State}
 use Rattle.as2_exchange.specs.Tries.{is_due}
 use Rattle.as2_exchange.specs.declared.answer.Answer.TheVariants.{Ticked}
@@ -17,8 +17,8 @@ use Rattle.as2_store.specs.Stands.{Rests}
 use Rattle.as2_store.specs.Tables.{Way, store_schema, outbox_tree}
 
 -- it is how many documents Tick tells
-abbrev pub AreTicked : ℕ → Connected → ℕ → Type 0
-AreTicked m old count = (s : State) → Rests old s → Ticked count ≡ (tick m s).0
+abbrev pub TicksTablesAs : ℕ → Connected → ℕ → Type 0
+TicksTablesAs m old count = (s : State) → Rests old s → Ticked count ≡ (tick m s).0
 
 -- ---- the documents of one kind
 
@@ -37,17 +37,17 @@ PassesInto kind detail = ((kind ≡ to_hear) × (detail ≡ Overdue)) ⊎ ((kind
 
 -- the state once each document that waits so, and is due at this moment, has passed into this detail
 abbrev pub passing_in : ℕ → Detail → ℕ → State → State
-passing_in kind detail m s = record s { outbox = map (λ d. if over kind m d then passed d (Some detail) else d) s.outbox }
+passing_in kind detail m s = record s { outbox = map (λ d. if over kind m d then passed_document d (Some detail) else d) s.outbox }
 
 -- ---- what the statements leave
 
 -- the documents once the one of this number has passed into this detail
 abbrev pub passing_one : Detail → ℕ → List OutEntry → List OutEntry
-passing_one detail n ds = map (λ d. if d.number == n then passed d (Some detail) else d) ds
+passing_one detail n ds = map (λ d. if d.number == n then passed_document d (Some detail) else d) ds
 
 -- the documents once those of these numbers have
-abbrev pub passing : Detail → List ℕ → List OutEntry → List OutEntry
-passing detail ns ds = map (λ d. if list_any (λ n. d.number == n) ns then passed d (Some detail) else d) ds
+abbrev pub passed_documents : Detail → List ℕ → List OutEntry → List OutEntry
+passed_documents detail ns ds = map (λ d. if list_any (λ n. d.number == n) ns then passed_document d (Some detail) else d) ds
 
 -- what waits otherwise, or isn't due at this moment
 abbrev pub without_due : ℕ → ℕ → List WaitingRow → List WaitingRow
@@ -61,6 +61,6 @@ pub record HoldsDocuments (way : Way) (d : Database) (ds : List OutEntry) : Type
   pub in_order : IsAscending (λ x y. x.number < y.number) ds
 
 -- the documents are these, and the other tables are as they were
-pub record Rewritten (way : Way) (old new : Connected) (ds : List OutEntry) : Type 0 where
+pub record RewritesDocuments (way : Way) (old new : Connected) (ds : List OutEntry) : Type 0 where
   pub holds : HoldsDocuments way new.now ds
   pub others : AllByRecursion (λ t. t.tree ≢ outbox_tree → new.now.trees t.tree ≡ old.now.trees t.tree) (store_schema way).tables

@@ -1,7 +1,7 @@
 -- Documents of a state, by the codes of their details.
 use Rattle.std.specs.Prelude.{[], ◌∷◌, Bool, true, Option, Some, None}
 use Rattle.sqlite.specs.Order.{Row}
-use Rattle.as2_mdn.specs.Details.{state_of}
+use Rattle.as2_mdn.specs.Details.{class_of}
 use Rattle.as2_mdn.specs.declared.detail.Detail.{Detail}
 use Rattle.as2_mdn.specs.declared.detail.Detail.TheVariants.{New, Sending, Awaiting, Retry, Processed, NoReceiptAsked, UnknownMic, NotProcessed, Overdue}
 use Rattle.as2_mdn.specs.declared.detail.State.{State as StateOf}
@@ -13,7 +13,7 @@ use Rattle.as2_rows.specs.Rows.{whole}
 -- the detail is one of this state, where one is asked for
 abbrev pub detail_in : Option StateOf → Detail → Bool
 detail_in None detail = true
-detail_in (Some state) detail = same_state state (state_of detail)
+detail_in (Some state) detail = same_state state (class_of detail)
 
 -- the details of the least and of the greatest code among them
 abbrev pub first_detail : Option StateOf → Detail

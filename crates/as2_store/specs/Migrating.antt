@@ -5,7 +5,7 @@ use Rattle.sqlite.specs.Schema.{Schema}
 use Rattle.sqlite.specs.Effect.{Database}
 use Rattle.sqlite.specs.State.{State as Connected, HasCleanDisk, Survives}
 use Rattle.as2_exchange.specs.Invariants.{IsCounter, AreNumbers}
-use Rattle.as2_exchange.specs.Run.{migrated}
+use Rattle.as2_exchange.specs.Run.{migrated_state}
 use Rattle.as2_exchange.specs.State.{State}
 use Rattle.as2_exchange.specs.declared.fault.StoreFault.{StoreFault}
 use Rattle.as2_exchange.specs.declared.fault.StoreFault.TheVariants.{Full, NotAStore, OtherVersion}
@@ -13,9 +13,9 @@ use Rattle.as2_records.specs.Standing.{may_come}
 use Rattle.as2_rows.specs.Contents.{Piece, piece_shown}
 use Rattle.as2_rows.specs.Rows.{in_row, out_row}
 use Rattle.sql_tables.specs.Changes.{HasRows}
-use Rattle.as2_store.specs.Calls.{KeepsNext, Reaches}
+use Rattle.as2_store.specs.Calls.{KeepsNextTables, ReachesTables}
 use Rattle.as2_store.specs.Stands.{Stands, Holds, HasEntries, HasOrigin, HasResent, AreEmptied, IsBlank, MetaSays, all_waiting, evidence_rows, inbox_pieces, meta_row, numbers_of, outbox_pieces, waiting_row}
-use Rattle.as2_store.specs.Tables.{Way, Migrated, Layout, VersionOne, VersionTwo, VersionThree, store_schema, behind_meta, meta_table, inbox_table, inbox_piece_table, first_inbox_indexes, inbox_indexes, outbox_indexes, waiting_indexes, meta_tree, inbox_tree, inbox_piece_tree, first_inbox_tree, first_piece_tree, outbox_tree, outbox_piece_tree, evidence_tree, waiting_tree, origin_tree, resent_tree, emptied}
+use Rattle.as2_store.specs.Tables.{Way, Migrated, Layout, VersionOne, VersionTwo, VersionThree, store_schema, behind_meta, meta_table, inbox_table, inbox_piece_table, first_inbox_indexes, inbox_indexes, outbox_indexes, waiting_indexes, meta_tree, inbox_tree, inbox_piece_tree, first_inbox_tree, first_piece_tree, outbox_tree, outbox_piece_tree, evidence_tree, waiting_tree, origin_tree, resent_tree, emptied_tables}
 
 -- ---- the call
 
@@ -27,7 +27,7 @@ pub record RestsAs (layout : Layout) (c : Connected) (s : State) : Type 0 where
 
 -- the state once tables of this version are migrated; those of the version that is read are not
 abbrev pub migrated_from : Layout → State → Option State
-migrated_from VersionOne s = Some (migrated s)
+migrated_from VersionOne s = Some (migrated_state s)
 migrated_from (VersionTwo way) s = Some s
 migrated_from (VersionThree way) s = None
 
@@ -38,13 +38,13 @@ migration_fault kind version = if bytes_eq kind (codes "as2-station") then (if v
 -- what it commits, over an open connection: the state that is next to each that tables of any version stood for
 pub record CommitsMigrated (old : Connected) (db : Trees) : Type 0 where
   pub was_open : IsTrue old.is_open
-  pub stands : (layout : Layout) (s : State) → RestsAs layout old s → KeepsNext db (migrated_from layout s)
+  pub stands : (layout : Layout) (s : State) → RestsAs layout old s → KeepsNextTables db (migrated_from layout s)
 
 -- the tables were of an earlier version, and are of the one that is read
 pub record Migrates (old new : Connected) : Type 0 where
   pub clean : HasCleanDisk new → HasCleanDisk old
   pub is_open : HasCleanDisk new → IsTrue new.is_open
-  pub done : HasCleanDisk new → (layout : Layout) (s : State) → RestsAs layout old s → Reaches new (migrated_from layout s)
+  pub done : HasCleanDisk new → (layout : Layout) (s : State) → RestsAs layout old s → ReachesTables new (migrated_from layout s)
   pub migration_fault : HasCleanDisk new → (kind : List ℕ) (version : ℕ) → MetaSays old kind version → migration_fault kind version ≡ None
   pub no_blank : HasCleanDisk new → ¬ IsBlank old
   pub crash : Survives old new (CommitsMigrated old)
@@ -122,7 +122,7 @@ pub record IsMoved (d : Database) (s : State) : Type 0 where
   pub schema : d.schema ≡ store_schema Migrated
   pub meta : d.trees meta_tree ≡ meta_row 1 s.next_in s.next_out ∷ []
   pub entries : HasEntries (VersionThree Migrated) d s
-  pub left : AreEmptied (emptied Migrated) d
+  pub left : AreEmptied (emptied_tables Migrated) d
   pub no_origin : d.trees (origin_tree Migrated) ≡ []
   pub no_resent : d.trees (resent_tree Migrated) ≡ []
 
@@ -133,7 +133,7 @@ pub record StandsBut (number : ℕ) (way : Way) (d : Database) (s : State) : Typ
   pub entries : HasEntries (VersionThree way) d s
   pub version : HasOrigin (d.trees (origin_tree way)) s.version
   pub begun : HasResent (d.trees (resent_tree way)) s.outbox
-  pub left : AreEmptied (emptied way) d
+  pub left : AreEmptied (emptied_tables way) d
   pub receipts : IsCounter s.next_in × AreNumbers s.next_in (map (λ e. e.number) s.inbox)
   pub documents : IsCounter s.next_out × AreNumbers s.next_out (numbers_of s.outbox)
 
@@ -146,7 +146,7 @@ pub record IsNearly (layout : Layout) (d : Database) (s : State) : Type 0 where
   pub stands : StandsBut number way d state
 
 -- and with it
-pub record IsNext (layout : Layout) (d : Database) (s : State) : Type 0 where
+pub record StandsForMigrated (layout : Layout) (d : Database) (s : State) : Type 0 where
   pub state : State
   pub is : migrated_from layout s ≡ Some state
   pub holds : Holds d state

@@ -20,7 +20,7 @@ abbrev pub not_at : ℕ → List WaitingRow → List WaitingRow
 not_at p ws = filter (λ w. not (place w == p)) ws
 
 -- the rows of what waits are these, and the other tables are as they were
-pub record Renewed (way : Way) (old new : Connected) (rows : List Row) : Type 0 where
+pub record RenewsWaiting (way : Way) (old new : Connected) (rows : List Row) : Type 0 where
   pub sound : IsDatabase new.now
   pub schema_is : new.now.schema ≡ store_schema way
   pub rows_are : new.now.trees waiting_tree ≡ rows

@@ -17,8 +17,8 @@ use Rattle.sqlite_sql.specs.declared.ops.CompareOp.TheVariants.{Eq, Le, Ge}
 
 -- ---- columns and tables
 
-abbrev pub needed : List ℕ → Kind → Column
-needed name kind = record { name = name; kind = kind; is_strict = true; not_null = true; default = Null; collation = Binary }
+abbrev pub needed_column : List ℕ → Kind → Column
+needed_column name kind = record { name = name; kind = kind; is_strict = true; not_null = true; default = Null; collation = Binary }
 
 abbrev pub optional : List ℕ → Kind → Column
 optional name kind = record { name = name; kind = kind; is_strict = true; not_null = false; default = Null; collation = Binary }
@@ -50,7 +50,7 @@ table name columns key primary uniques checks references = record {
 
 abbrev pub meta_made : Table
 meta_made = table (codes "meta")
-    (needed (codes "kind") Text ∷ needed (codes "version") Integer ∷ needed (codes "next_receipt") Integer ∷ needed (codes "next_document") Integer ∷ [])
+    (needed_column (codes "kind") Text ∷ needed_column (codes "version") Integer ∷ needed_column (codes "next_receipt") Integer ∷ needed_column (codes "next_document") Integer ∷ [])
     None [] [] [] []
 
 -- it is the name of this digest
@@ -59,10 +59,10 @@ is_digest name = op2 (Compare Eq Binary) (col 1 12) (lit (Words name))
 
 abbrev pub inbox_columns : List Column
 inbox_columns =
-    optional (codes "number") Integer ∷ needed (codes "sender") Blob ∷ needed (codes "receiver") Blob ∷ needed (codes "identifier_value") Blob ∷ needed (codes "identifier") Blob
-    ∷ needed (codes "content_type") Blob ∷ needed (codes "length") Integer ∷ needed (codes "moment") Integer ∷ needed (codes "outcome") Integer ∷ needed (codes "how") Integer
-    ∷ optional (codes "url") Blob ∷ optional (codes "digest") Text ∷ optional (codes "mic") Blob ∷ needed (codes "mdn") Integer ∷ needed (codes "tries") Integer
-    ∷ needed (codes "attempt") Integer ∷ optional (codes "due") Integer ∷ []
+    optional (codes "number") Integer ∷ needed_column (codes "sender") Blob ∷ needed_column (codes "receiver") Blob ∷ needed_column (codes "identifier_value") Blob ∷ needed_column (codes "identifier") Blob
+    ∷ needed_column (codes "content_type") Blob ∷ needed_column (codes "length") Integer ∷ needed_column (codes "moment") Integer ∷ needed_column (codes "outcome") Integer ∷ needed_column (codes "how") Integer
+    ∷ optional (codes "url") Blob ∷ optional (codes "digest") Text ∷ optional (codes "mic") Blob ∷ needed_column (codes "mdn") Integer ∷ needed_column (codes "tries") Integer
+    ∷ needed_column (codes "attempt") Integer ∷ optional (codes "due") Integer ∷ []
 
 -- the inbox of the first version
 abbrev pub inbox_made : Table
@@ -74,7 +74,7 @@ inbox2_made = table (codes "inbox2") inbox_columns (Some 0) (0 ∷ []) ((2 ∷ 3
     (within 9 1 6 ∷ op2 Or (op2 Or (is_digest (codes "sha1")) (is_digest (codes "md5"))) (is_digest (codes "sha-256")) ∷ []) []
 
 abbrev pub piece_columns : List Column
-piece_columns = needed (codes "number") Integer ∷ needed (codes "position") Integer ∷ needed (codes "bytes") Blob ∷ []
+piece_columns = needed_column (codes "number") Integer ∷ needed_column (codes "position") Integer ∷ needed_column (codes "bytes") Blob ∷ []
 
 abbrev pub inbox_piece_made : Table
 inbox_piece_made = table (codes "inbox_piece") piece_columns None (1 ∷ 2 ∷ []) ((1 ∷ 2 ∷ []) ∷ []) [] (refers 1 (codes "inbox") ∷ [])
@@ -84,8 +84,8 @@ inbox2_piece_made = table (codes "inbox2_piece") piece_columns None (1 ∷ 2 ∷
 
 abbrev pub outbox_made : Table
 outbox_made = table (codes "outbox")
-    (optional (codes "number") Integer ∷ needed (codes "organization") Blob ∷ needed (codes "partner") Blob ∷ needed (codes "identifier_value") Blob ∷ needed (codes "identifier") Blob ∷ needed (codes "length") Integer
-    ∷ needed (codes "moment") Integer ∷ needed (codes "tries") Integer ∷ needed (codes "attempt") Integer ∷ optional (codes "due") Integer ∷ needed (codes "detail") Integer ∷ [])
+    (optional (codes "number") Integer ∷ needed_column (codes "organization") Blob ∷ needed_column (codes "partner") Blob ∷ needed_column (codes "identifier_value") Blob ∷ needed_column (codes "identifier") Blob ∷ needed_column (codes "length") Integer
+    ∷ needed_column (codes "moment") Integer ∷ needed_column (codes "tries") Integer ∷ needed_column (codes "attempt") Integer ∷ optional (codes "due") Integer ∷ needed_column (codes "detail") Integer ∷ [])
     (Some 0) (0 ∷ []) ((4 ∷ []) ∷ []) (within 11 1 14 ∷ []) []
 
 abbrev pub outbox_piece_made : Table
@@ -93,16 +93,16 @@ outbox_piece_made = table (codes "outbox_piece") piece_columns None (1 ∷ 2 ∷
 
 abbrev pub evidence_made : Table
 evidence_made = table (codes "evidence")
-    (optional (codes "number") Integer ∷ needed (codes "moment") Integer ∷ needed (codes "content_type") Blob ∷ needed (codes "body") Blob ∷ [])
+    (optional (codes "number") Integer ∷ needed_column (codes "moment") Integer ∷ needed_column (codes "content_type") Blob ∷ needed_column (codes "body") Blob ∷ [])
     (Some 0) (0 ∷ []) [] [] (refers 0 (codes "outbox") ∷ [])
 
 abbrev pub waiting_made : Table
 waiting_made = table (codes "waiting")
-    (optional (codes "place") Integer ∷ needed (codes "kind") Integer ∷ needed (codes "number") Integer ∷ optional (codes "due") Integer ∷ [])
+    (optional (codes "place") Integer ∷ needed_column (codes "kind") Integer ∷ needed_column (codes "number") Integer ∷ optional (codes "due") Integer ∷ [])
     (Some 0) (0 ∷ []) ((2 ∷ 3 ∷ []) ∷ []) [] []
 
 abbrev pub origin_made : Table
-origin_made = table (codes "origin") (needed (codes "number") Integer ∷ []) None [] [] [] []
+origin_made = table (codes "origin") (needed_column (codes "number") Integer ∷ []) None [] [] [] []
 
 abbrev pub resent_made : Table
 resent_made = table (codes "resent") (optional (codes "number") Integer ∷ []) (Some 0) (0 ∷ []) [] [] (refers 0 (codes "outbox") ∷ [])
@@ -183,14 +183,14 @@ inbox_piece_at (VersionTwo way) = inbox_piece_tree way
 inbox_piece_at (VersionThree way) = inbox_piece_tree way
 
 -- the tables of the first version that a migration has emptied
-abbrev pub emptied : Way → List ℕ
-emptied Fresh = []
-emptied Migrated = first_inbox_tree ∷ first_piece_tree ∷ []
+abbrev pub emptied_tables : Way → List ℕ
+emptied_tables Fresh = []
+emptied_tables Migrated = first_inbox_tree ∷ first_piece_tree ∷ []
 
 abbrev pub emptied_at : Layout → List ℕ
 emptied_at VersionOne = []
-emptied_at (VersionTwo way) = emptied way
-emptied_at (VersionThree way) = emptied way
+emptied_at (VersionTwo way) = emptied_tables way
+emptied_at (VersionThree way) = emptied_tables way
 
 -- ---- the tables with their trees
 

@@ -3,12 +3,12 @@
 ghost use Rattle.std.specs.Prelude.{◌≡◌, ◌<◌, false, IsTrue, OnOk};
 ghost use Rattle.sqlite.specs.Held.{state};
 ghost use Rattle.sqlite.specs.State.{HasCleanDisk};
-ghost use Rattle.as2_store.specs.Calls.{IsInside, Writes};
+ghost use Rattle.as2_store.specs.Calls.{IsInside, WritesTables};
 ghost use Rattle.as2_exchange.specs.State.{State, end_of_numbers};
 ghost use Rattle.as2_store.specs.Stands.{Stands};
 ghost use Rattle.as2_store.specs.Tables.{Way, VersionThree};
-ghost use Rattle.as2_store.specs.Adding.{Fits, IsEntered};
-ghost use Rattle.as2_records.specs.Adding.{added, with_received};
+ghost use Rattle.as2_store.specs.Adding.{EntryFits, IsEntered};
+ghost use Rattle.as2_records.specs.Adding.{state_with, with_received};
 
 use crate::contents::{Mailbox, put_pieces};
 use crate::counters::raise_next_receipt;
@@ -20,7 +20,7 @@ use sqlite::{Alter, Connection, Error, Transaction};
 /// Puts in the row, the content and the wait of an entry of the inbox.
 fn put_received<S: Alter>(tx: &mut Transaction<'_, S>, entry: &InEntry) -> Result<(), Error>
     requires number { entry.now.number < end_of_numbers }
-    requires fits { Fits entry.now.posted.content entry.now.tries entry.now.due }
+    requires fits { EntryFits entry.now.posted.content entry.now.tries entry.now.due }
     ensures same_reference { tx.new.conn.ghost_name ≡ tx.old.conn.ghost_name }
     ensures within { IsInside (state S.Store tx.old.conn.now) (state S.Store tx.new.conn.now) }
     ensures open { HasCleanDisk (state S.Store tx.new.conn.now)
@@ -39,9 +39,9 @@ fn put_received<S: Alter>(tx: &mut Transaction<'_, S>, entry: &InEntry) -> Resul
 pub fn add<S: Alter>(conn: &mut Connection<S>, entry: &InEntry) -> Result<(), Error>
     requires autocommit { conn.old.in_transaction ≡ false }
     requires number { entry.now.number < end_of_numbers }
-    requires fits { Fits entry.now.posted.content entry.now.tries entry.now.due }
+    requires fits { EntryFits entry.now.posted.content entry.now.tries entry.now.due }
     ensures autocommit { conn.new.in_transaction ≡ false }
-    ensures added { Writes (added entry.now) (state S.Store conn.old) (state S.Store conn.new) result }
+    ensures added { WritesTables (state_with entry.now) (state S.Store conn.old) (state S.Store conn.new) result }
 {
     let mut tx = conn.transaction();
     put_received(&mut tx, entry)?;

@@ -9,7 +9,7 @@ ghost use Rattle.as2_exchange.specs.declared.fault.StoreFault.TheVariants.{NotAS
 ghost use Rattle.as2_rows.specs.Rows.{whole};
 ghost use Rattle.as2_store.specs.Stands.{adoption_fault};
 ghost use Rattle.as2_records.specs.Standing.{may_come};
-ghost use Rattle.as2_store.specs.Calls.{Adopts, Commits, IsGivenBack, IsReason};
+ghost use Rattle.as2_store.specs.Calls.{Adopts, CommitsTables, IsGivenBack, IsReason};
 
 use crate::fault::fault_of;
 use as2_exchange::StoreFault;
@@ -56,7 +56,7 @@ pub fn check<S: Alter>(conn: &mut Connection<S>) -> Result<(), StoreFault>
     ensures autocommit { conn.new.in_transaction ≡ false }
     ensures adopted { OnOk result (Adopts (state S.Store conn.old) (state S.Store conn.new)) }
     ensures given_back { OnErr result
-        (IsGivenBack (Commits Some (state S.Store conn.old)) (state S.Store conn.old) (state S.Store conn.new)) }
+        (IsGivenBack (CommitsTables Some (state S.Store conn.old)) (state S.Store conn.old) (state S.Store conn.new)) }
     ensures reason { HasCleanDisk (state S.Store conn.new) → IfErr result (IsReason (state S.Store conn.old)) }
 {
     let is_bare = conn.schema().tables.is_empty();

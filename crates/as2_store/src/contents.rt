@@ -3,13 +3,13 @@
 ghost use Rattle.std.specs.Prelude.{◌≡◌, [], ◌∷◌, ◌<◌, ◌^◌, false, Bool, Some, find, map, length, IsTrue, IfOk, OnOk};
 ghost use Rattle.sqlite.specs.Held.{state};
 ghost use Rattle.sqlite.specs.State.{HasCleanDisk};
-ghost use Rattle.as2_store.specs.Calls.{IsInside, Reads};
+ghost use Rattle.as2_store.specs.Calls.{IsInside, ReadsTables};
 ghost use Rattle.as2_rows.specs.Contents.{pieces, piece_shown};
 ghost use Rattle.as2_exchange.specs.State.{State};
 ghost use Rattle.as2_exchange.specs.declared.inbox.InEntry.{InEntry as Entry};
 ghost use Rattle.as2_exchange.specs.declared.outbox.OutEntry.{OutEntry as Document};
 ghost use Rattle.as2_store.specs.Tables.{Way, store_schema};
-ghost use Rattle.as2_store.specs.Adding.{Appended, piece_tree};
+ghost use Rattle.as2_store.specs.Adding.{AppendsPieces, piece_tree};
 ghost use Rattle.as2_store.specs.Stands.{Rests};
 
 use crate::numbers::whole;
@@ -38,7 +38,7 @@ fn put_piece<S: Alter>(
     ensures within { IsInside (state S.Store tx.old.conn.now) (state S.Store tx.new.conn.now) }
     ensures put { HasCleanDisk (state S.Store tx.new.conn.now)
         → OnOk result ((way : Way) → (state S.Store tx.old.conn.now).now.schema ≡ store_schema way
-        → Appended way (state S.Store tx.old.conn.now) (state S.Store tx.new.conn.now) (piece_tree way mailbox)
+        → AppendsPieces way (state S.Store tx.old.conn.now) (state S.Store tx.new.conn.now) (piece_tree way mailbox)
         (record { number = number; position = position; bytes = bytes.now } ∷ [])) }
 {
     let number = whole(number);
@@ -69,7 +69,7 @@ pub fn put_pieces<S: Alter>(
     ensures within { IsInside (state S.Store tx.old.conn.now) (state S.Store tx.new.conn.now) }
     ensures put { HasCleanDisk (state S.Store tx.new.conn.now)
         → OnOk result ((way : Way) → (state S.Store tx.old.conn.now).now.schema ≡ store_schema way
-        → Appended way (state S.Store tx.old.conn.now) (state S.Store tx.new.conn.now) (piece_tree way mailbox)
+        → AppendsPieces way (state S.Store tx.old.conn.now) (state S.Store tx.new.conn.now) (piece_tree way mailbox)
         (pieces number content.now)) }
 {
     let mut i = 0;
@@ -85,7 +85,7 @@ pub fn in_piece_rows<S: Alter>(conn: &mut Connection<S>, number: u64) -> Result<
     requires autocommit { conn.old.in_transaction ≡ false }
     requires number { number < 2 ^ 63 }
     ensures autocommit { conn.new.in_transaction ≡ false }
-    ensures rows { Reads (λ s rows. (p : Entry → Bool) (e : Entry) → find p s.inbox ≡ Some e → number ≡ e.number
+    ensures rows { ReadsTables (λ s rows. (p : Entry → Bool) (e : Entry) → find p s.inbox ≡ Some e → number ≡ e.number
         → rows.items
         ≡ map piece_shown (pieces e.number e.posted.content)) (state S.Store conn.old) (state S.Store conn.new) result }
 {
@@ -102,7 +102,7 @@ pub fn out_piece_rows<S: Alter>(conn: &mut Connection<S>, number: u64) -> Result
     requires autocommit { conn.old.in_transaction ≡ false }
     requires number { number < 2 ^ 63 }
     ensures autocommit { conn.new.in_transaction ≡ false }
-    ensures rows { Reads (λ s rows. (p : Document → Bool) (d : Document) → find p s.outbox ≡ Some d → number ≡ d.number
+    ensures rows { ReadsTables (λ s rows. (p : Document → Bool) (d : Document) → find p s.outbox ≡ Some d → number ≡ d.number
         → rows.items
         ≡ map piece_shown (pieces d.number d.content)) (state S.Store conn.old) (state S.Store conn.new) result }
 {

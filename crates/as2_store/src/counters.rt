@@ -3,9 +3,9 @@
 ghost use Rattle.std.specs.Prelude.{◌≡◌, ◌≢◌, true, ℕ, ◌+◌, [], ◌∷◌, List, false, ◌<◌, ◌^◌, IsTrue, IfOk, IfErr, OnOk};
 ghost use Rattle.sqlite.specs.Held.{state};
 ghost use Rattle.sqlite.specs.State.{HasCleanDisk};
-ghost use Rattle.as2_store.specs.Calls.{IsInside, Reads};
+ghost use Rattle.as2_store.specs.Calls.{IsInside, ReadsTables};
 ghost use Rattle.sqlite.specs.declared.types.Value.TheVariants.{Text};
-ghost use Rattle.sql_tables.specs.Changes.{Changed, IsOutside};
+ghost use Rattle.sql_tables.specs.Changes.{ChangesTable, IsOutside};
 ghost use Rattle.as2_exchange.specs.State.{State};
 ghost use Rattle.as2_records.specs.Finding.{AreNext};
 ghost use Rattle.as2_records.specs.Standing.{may_come};
@@ -31,7 +31,7 @@ pub fn put_meta<S: Alter>(tx: &mut Transaction<'_, S>, first: u64) -> Result<(),
         → OnOk result (IsTrue (state S.Store tx.new.conn.now).in_transaction) }
     ensures put { HasCleanDisk (state S.Store tx.new.conn.now)
         → OnOk result (HasNoRow (state S.Store tx.old.conn.now).now (store_schema Fresh)
-        → Changed (state S.Store tx.old.conn.now) (state S.Store tx.new.conn.now) (store_schema Fresh) meta_tree
+        → ChangesTable (state S.Store tx.old.conn.now) (state S.Store tx.new.conn.now) (store_schema Fresh) meta_tree
         (meta_row current_number first first ∷ [])) }
 {
     let first = whole(first);
@@ -58,7 +58,7 @@ pub fn raise_next_receipt<S: Alter>(
         → IfOk result (λ count. (way : Way) (n m : ℕ) → HasCounters way (state S.Store tx.old.conn.now).now n m
         → count ≢ 0
         → (number ≡ n)
-        × Changed (state S.Store tx.old.conn.now) (state S.Store tx.new.conn.now) (store_schema way) meta_tree
+        × ChangesTable (state S.Store tx.old.conn.now) (state S.Store tx.new.conn.now) (store_schema way) meta_tree
         (meta_row current_number (number + 1) m ∷ [])) }
 {
     let next = whole(number + 1);
@@ -85,7 +85,7 @@ pub fn raise_next_document<S: Alter>(
         → IfOk result (λ count. (way : Way) (n m : ℕ) → HasCounters way (state S.Store tx.old.conn.now).now n m
         → count ≢ 0
         → (number ≡ m)
-        × Changed (state S.Store tx.old.conn.now) (state S.Store tx.new.conn.now) (store_schema way) meta_tree
+        × ChangesTable (state S.Store tx.old.conn.now) (state S.Store tx.new.conn.now) (store_schema way) meta_tree
         (meta_row current_number n (number + 1) ∷ [])) }
 {
     let next = whole(number + 1);
@@ -100,7 +100,7 @@ pub fn raise_next_document<S: Alter>(
 pub fn meta_rows<S: Alter>(conn: &mut Connection<S>) -> Result<Vec<Row>, Error>
     requires autocommit { conn.old.in_transaction ≡ false }
     ensures autocommit { conn.new.in_transaction ≡ false }
-    ensures rows { Reads (λ s rows. rows.items
+    ensures rows { ReadsTables (λ s rows. rows.items
         ≡ meta_shown current_number s.next_in s.next_out ∷ []) (state S.Store conn.old) (state S.Store conn.new)
         result }
 {
@@ -129,7 +129,7 @@ fn next_of(rows: &[Row]) -> Result<NextNumbers, Error>
 pub fn next_numbers<S: Alter>(conn: &mut Connection<S>) -> Result<NextNumbers, StoreFault>
     requires autocommit { conn.old.in_transaction ≡ false }
     ensures autocommit { conn.new.in_transaction ≡ false }
-    ensures numbers { Reads (λ s next. AreNext next s) (state S.Store conn.old) (state S.Store conn.new) result }
+    ensures numbers { ReadsTables (λ s next. AreNext next s) (state S.Store conn.old) (state S.Store conn.new) result }
     ensures fault { IfErr result (λ f. may_come f ≡ true) }
 {
     let rows = meta_rows(conn).map_err(fault_of)?;

@@ -5,10 +5,10 @@ ghost use Rattle.sqlite.specs.Held.{state};
 ghost use Rattle.as2_exchange.specs.OwedReceipts.{is_pending};
 ghost use Rattle.as2_exchange.specs.State.{State};
 ghost use Rattle.as2_exchange.specs.Progress.{same_state};
-ghost use Rattle.as2_mdn.specs.Details.{state_of};
+ghost use Rattle.as2_mdn.specs.Details.{class_of};
 ghost use Rattle.as2_mdn.specs.declared.detail.Detail.{Detail as DetailOf};
 ghost use Rattle.as2_exchange.specs.declared.inbox.MdnState.{MdnState as MdnStateOf};
-ghost use Rattle.as2_store.specs.Calls.{Reads};
+ghost use Rattle.as2_store.specs.Calls.{ReadsTables};
 ghost use Rattle.as2_store.specs.Counting.{detail_row, details_of, is_awaiting, is_unsent, mdn_row, mdns_of};
 ghost use Rattle.as2_records.specs.Standing.{may_come};
 ghost use Rattle.as2_records.specs.Counting.{counts_of};
@@ -26,7 +26,7 @@ use std::alloc::Global;
 fn detail_rows<S: Alter>(conn: &mut Connection<S>) -> Result<Vec<Row>, Error>
     requires autocommit { conn.old.in_transaction ≡ false }
     ensures autocommit { conn.new.in_transaction ≡ false }
-    ensures rows { Reads (λ s rows. rows.items
+    ensures rows { ReadsTables (λ s rows. rows.items
         ≡ map detail_row (details_of s)) (state S.Store conn.old) (state S.Store conn.new) result }
 {
     query_all(conn, "SELECT detail FROM outbox ORDER BY number", &[])
@@ -36,7 +36,7 @@ fn detail_rows<S: Alter>(conn: &mut Connection<S>) -> Result<Vec<Row>, Error>
 fn mdn_rows<S: Alter>(conn: &mut Connection<S>) -> Result<Vec<Row>, Error>
     requires autocommit { conn.old.in_transaction ≡ false }
     ensures autocommit { conn.new.in_transaction ≡ false }
-    ensures rows { Reads (λ s rows. rows.items
+    ensures rows { ReadsTables (λ s rows. rows.items
         ≡ map mdn_row (mdns_of s)) (state S.Store conn.old) (state S.Store conn.new) result }
 {
     query_all(conn, "SELECT mdn FROM inbox2 ORDER BY number", &[])
@@ -96,7 +96,7 @@ fn mdns_in(alloc: Global, rows: &[Row]) -> Result<Vec<MdnState>, StoreFault>
 pub fn details<S: Alter>(conn: &mut Connection<S>, alloc: Global) -> Result<Vec<Detail>, StoreFault>
     requires autocommit { conn.old.in_transaction ≡ false }
     ensures autocommit { conn.new.in_transaction ≡ false }
-    ensures details { Reads (λ s details. details.items
+    ensures details { ReadsTables (λ s details. details.items
         ≡ details_of s) (state S.Store conn.old) (state S.Store conn.new) result }
     ensures fault { IfErr result (λ f. may_come f ≡ true) }
 {
@@ -108,7 +108,7 @@ pub fn details<S: Alter>(conn: &mut Connection<S>, alloc: Global) -> Result<Vec<
 pub fn mdns<S: Alter>(conn: &mut Connection<S>, alloc: Global) -> Result<Vec<MdnState>, StoreFault>
     requires autocommit { conn.old.in_transaction ≡ false }
     ensures autocommit { conn.new.in_transaction ≡ false }
-    ensures mdns { Reads (λ s mdns. mdns.items ≡ mdns_of s) (state S.Store conn.old) (state S.Store conn.new) result }
+    ensures mdns { ReadsTables (λ s mdns. mdns.items ≡ mdns_of s) (state S.Store conn.old) (state S.Store conn.new) result }
     ensures fault { IfErr result (λ f. may_come f ≡ true) }
 {
     let rows = mdn_rows(conn).map_err(fault_of)?;
@@ -131,7 +131,7 @@ fn awaiting(details: &[Detail]) -> u64
 
 /// How many of the documents are in this state.
 fn in_state(details: &[Detail], wanted: StateOf) -> u64
-    ensures { result ≡ count_by (λ d. same_state wanted (state_of d)) details.now }
+    ensures { result ≡ count_by (λ d. same_state wanted (class_of d)) details.now }
 {
     details.iter().filter(|it| it.state() == wanted).count() as u64
 }

@@ -5,7 +5,7 @@ ghost use Rattle.std.specs.List.{slice_get};
 ghost use Rattle.sqlite.specs.Held.{state};
 ghost use Rattle.as2_rows.specs.Waiting.{kind_code};
 ghost use Rattle.as2_records.specs.Standing.{may_come};
-ghost use Rattle.as2_store.specs.Calls.{Reads};
+ghost use Rattle.as2_store.specs.Calls.{ReadsTables};
 ghost use Rattle.as2_store.specs.Discrepancies.{Compares, IsFirst, all_wanted, documents_wanted, is_owed, lower, number_told, receipts_wanted, rows_of, row_shown, wait_row, wait_told, is_waiting};
 ghost use Rattle.as2_store.specs.Stands.{all_waiting};
 ghost use Rattle.as2_store.specs.declared.discrepancies.WaitRow.{WaitRow as RowOf};
@@ -38,7 +38,7 @@ pub struct WaitRow {
 fn shown_rows<S: Alter>(conn: &mut Connection<S>) -> Result<Vec<Row>, Error>
     requires autocommit { conn.old.in_transaction ≡ false }
     ensures autocommit { conn.new.in_transaction ≡ false }
-    ensures rows { Reads (λ s rows. rows.items
+    ensures rows { ReadsTables (λ s rows. rows.items
         ≡ map row_shown (rows_of (all_waiting s))) (state S.Store conn.old) (state S.Store conn.new) result }
 {
     query_all(
@@ -80,7 +80,7 @@ fn read_rows(alloc: Global, rows: &[Row]) -> Result<Vec<WaitRow>, Error>
 fn kept_rows<S: Alter>(conn: &mut Connection<S>, alloc: Global) -> Result<Vec<WaitRow>, StoreFault>
     requires autocommit { conn.old.in_transaction ≡ false }
     ensures autocommit { conn.new.in_transaction ≡ false }
-    ensures kept { Reads (λ s kept. kept.items
+    ensures kept { ReadsTables (λ s kept. kept.items
         ≡ rows_of (all_waiting s)) (state S.Store conn.old) (state S.Store conn.new) result }
     ensures fault { IfErr result (λ f. may_come f ≡ true) }
 {
@@ -278,7 +278,7 @@ pub fn discrepancy<S: Alter>(
 ) -> Result<Option<Discrepancy>, StoreFault>
     requires autocommit { conn.old.in_transaction ≡ false }
     ensures autocommit { conn.new.in_transaction ≡ false }
-    ensures none { Reads (λ s found. found ≡ None) (state S.Store conn.old) (state S.Store conn.new) result }
+    ensures none { ReadsTables (λ s found. found ≡ None) (state S.Store conn.old) (state S.Store conn.new) result }
     ensures fault { IfErr result (λ f. may_come f ≡ true) }
 {
     let next = next_numbers(conn)?;

@@ -6,7 +6,7 @@ ghost use Rattle.sqlite.specs.State.{HasCleanDisk};
 ghost use Rattle.as2_exchange.specs.State.{State};
 ghost use Rattle.as2_exchange.specs.declared.outbox.OutEntry.{OutEntry as Document};
 ghost use Rattle.as2_rows.specs.Rows.{out_shown};
-ghost use Rattle.as2_store.specs.Calls.{Reads};
+ghost use Rattle.as2_store.specs.Calls.{ReadsTables};
 ghost use Rattle.as2_store.specs.Finding.{evidence_at};
 ghost use Rattle.as2_store.specs.Stands.{Rests};
 ghost use Rattle.as2_records.specs.Standing.{may_come};
@@ -31,7 +31,7 @@ fn out_content<S: Alter>(
     requires autocommit { conn.old.in_transaction ≡ false }
     requires number { row.now.number < 2 ^ 63 }
     ensures autocommit { conn.new.in_transaction ≡ false }
-    ensures content { Reads (λ s content. (p : Document → Bool) (d : Document) → find p s.outbox ≡ Some d
+    ensures content { ReadsTables (λ s content. (p : Document → Bool) (d : Document) → find p s.outbox ≡ Some d
         → row.now.number ≡ d.number → content ≡ d.content) (state S.Store conn.old) (state S.Store conn.new) result }
     ensures fault { IfErr result (λ f. may_come f ≡ true) }
 {
@@ -47,7 +47,7 @@ pub fn evidence_in<S: Alter>(
 ) -> Result<Option<Evidence>, StoreFault>
     requires autocommit { conn.old.in_transaction ≡ false }
     ensures autocommit { conn.new.in_transaction ≡ false }
-    ensures evidence { Reads (λ s evidence. evidence
+    ensures evidence { ReadsTables (λ s evidence. evidence
         ≡ evidence_at s number) (state S.Store conn.old) (state S.Store conn.new) result }
     ensures fault { IfErr result (λ f. may_come f ≡ true) }
 {
@@ -68,7 +68,7 @@ pub fn shown_document<S: Alter>(
     requires autocommit { conn.old.in_transaction ≡ false }
     requires open { HasCleanDisk (state S.Store conn.old) → IsTrue (state S.Store conn.old).is_open }
     ensures autocommit { conn.new.in_transaction ≡ false }
-    ensures found { Reads (λ s found. (p : Document → Bool) → rows.now ≡ map out_shown (filter p s.outbox)
+    ensures found { ReadsTables (λ s found. (p : Document → Bool) → rows.now ≡ map out_shown (filter p s.outbox)
         → found ≡ find p s.outbox) (state S.Store conn.old) (state S.Store conn.new) result }
     ensures fault { IfErr result (λ f. may_come f ≡ true) }
 {

@@ -4,7 +4,7 @@ ghost use Rattle.std.specs.Prelude.{◌≡◌, [], false, Option, ℕ, IfOk};
 ghost use Rattle.sqlite.specs.Held.{state};
 ghost use Rattle.as2_exchange.specs.Due.{least};
 ghost use Rattle.as2_rows.specs.Waiting.{kind_code};
-ghost use Rattle.as2_store.specs.Calls.{Reads};
+ghost use Rattle.as2_store.specs.Calls.{ReadsTables};
 ghost use Rattle.as2_store.specs.Due.{due_numbers, number_rows};
 
 use crate::numbers::whole;
@@ -22,7 +22,7 @@ fn any_due_rows<S: Alter>(
 ) -> Result<Vec<Row>, Error>
     requires autocommit { conn.old.in_transaction ≡ false }
     ensures autocommit { conn.new.in_transaction ≡ false }
-    ensures rows { Reads (λ s rows. rows.items ≡ []
+    ensures rows { ReadsTables (λ s rows. rows.items ≡ []
         → due_numbers (kind_code wait) moment s ≡ []) (state S.Store conn.old) (state S.Store conn.new) result }
 {
     let kind = whole(wait.code());
@@ -42,7 +42,7 @@ fn least_due_rows<S: Alter>(
 ) -> Result<Vec<Row>, Error>
     requires autocommit { conn.old.in_transaction ≡ false }
     ensures autocommit { conn.new.in_transaction ≡ false }
-    ensures rows { Reads (λ s rows. rows.items
+    ensures rows { ReadsTables (λ s rows. rows.items
         ≡ number_rows (least (due_numbers (kind_code wait) moment s))) (state S.Store conn.old) (state S.Store conn.new)
         result }
 {
@@ -75,7 +75,7 @@ pub fn least_due<S: Alter>(
 ) -> Result<Option<u64>, Error>
     requires autocommit { conn.old.in_transaction ≡ false }
     ensures autocommit { conn.new.in_transaction ≡ false }
-    ensures due { Reads (λ s number. number
+    ensures due { ReadsTables (λ s number. number
         ≡ least (due_numbers (kind_code wait) moment s)) (state S.Store conn.old) (state S.Store conn.new) result }
 {
     if any_due_rows(conn, wait, moment)?.is_empty() {

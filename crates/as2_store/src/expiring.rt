@@ -4,14 +4,14 @@ ghost use Rattle.std.specs.Prelude.{◌≡◌, ◌<◌, ◌≤◌, ℕ, List, ma
 ghost use Rattle.std.specs.List.{AllByRecursion};
 ghost use Rattle.sqlite.specs.Held.{state};
 ghost use Rattle.sqlite.specs.State.{HasCleanDisk};
-ghost use Rattle.sql_tables.specs.Changes.{Changed};
+ghost use Rattle.sql_tables.specs.Changes.{ChangesTable};
 ghost use Rattle.as2_exchange.specs.State.{State, end_of_numbers};
 ghost use Rattle.as2_exchange.specs.declared.outbox.OutEntry.{OutEntry as Document};
 ghost use Rattle.as2_rows.specs.Rows.{out_row};
 ghost use Rattle.as2_rows.specs.Waiting.{WaitingRow, kind_code};
-ghost use Rattle.as2_store.specs.Calls.{IsInside, Writes};
+ghost use Rattle.as2_store.specs.Calls.{IsInside, WritesTables};
 ghost use Rattle.as2_store.specs.Due.{due_numbers, number_row};
-ghost use Rattle.as2_store.specs.Expiring.{AreTicked, HoldsDocuments, PassesInto, Rewritten, over, passing, passing_in, passing_one, without_due};
+ghost use Rattle.as2_store.specs.Expiring.{TicksTablesAs, HoldsDocuments, PassesInto, RewritesDocuments, over, passed_documents, passing_in, passing_one, without_due};
 ghost use Rattle.as2_records.specs.Expiring.{ticked_in};
 ghost use Rattle.as2_store.specs.Requeuing.{HoldsWaiting};
 ghost use Rattle.as2_store.specs.Stands.{Stands, waiting_row};
@@ -59,7 +59,7 @@ fn pass<S: Alter>(tx: &mut Transaction<'_, S>, number: u64, detail: Detail) -> R
         → OnOk result (IsTrue (state S.Store tx.new.conn.now).in_transaction) }
     ensures put { HasCleanDisk (state S.Store tx.new.conn.now)
         → OnOk result ((way : Way) (ds : List Document) → HoldsDocuments way (state S.Store tx.old.conn.now).now ds
-        → Changed (state S.Store tx.old.conn.now) (state S.Store tx.new.conn.now) (store_schema way) outbox_tree
+        → ChangesTable (state S.Store tx.old.conn.now) (state S.Store tx.new.conn.now) (store_schema way) outbox_tree
         (map out_row (passing_one detail number ds))) }
 {
     let number = whole(number);
@@ -81,7 +81,7 @@ fn pass_each<S: Alter>(
     ensures put { HasCleanDisk (state S.Store tx.new.conn.now)
         → OnOk result ((way : Way) (ns : List ℕ) (ds : List Document) → AllByRecursion (λ n. n < end_of_numbers) ns
         → rows.now ≡ map number_row ns → HoldsDocuments way (state S.Store tx.old.conn.now).now ds
-        → Rewritten way (state S.Store tx.old.conn.now) (state S.Store tx.new.conn.now) (passing detail ns ds)) }
+        → RewritesDocuments way (state S.Store tx.old.conn.now) (state S.Store tx.new.conn.now) (passed_documents detail ns ds)) }
 {
     'rows: for row in rows {
         let number: u64 = row.get(0)?;
@@ -98,7 +98,7 @@ fn take_due<S: Alter>(tx: &mut Transaction<'_, S>, wait: Wait, moment: Moment) -
         → OnOk result (IsTrue (state S.Store tx.new.conn.now).in_transaction) }
     ensures put { HasCleanDisk (state S.Store tx.new.conn.now)
         → OnOk result ((way : Way) (ws : List WaitingRow) → HoldsWaiting way (state S.Store tx.old.conn.now).now ws
-        → Changed (state S.Store tx.old.conn.now) (state S.Store tx.new.conn.now) (store_schema way) waiting_tree
+        → ChangesTable (state S.Store tx.old.conn.now) (state S.Store tx.new.conn.now) (store_schema way) waiting_tree
         (map waiting_row (without_due (kind_code wait) moment ws))) }
 {
     let kind = whole(wait.code());
@@ -148,8 +148,8 @@ fn pass_due<S: Alter>(
 pub fn expire<S: Alter>(conn: &mut Connection<S>, moment: Moment) -> Result<u64, Error>
     requires autocommit { conn.old.in_transaction ≡ false }
     ensures autocommit { conn.new.in_transaction ≡ false }
-    ensures passed { Writes (ticked_in moment) (state S.Store conn.old) (state S.Store conn.new) result }
-    ensures counted { HasCleanDisk (state S.Store conn.new) → IfOk result (AreTicked moment (state S.Store conn.old)) }
+    ensures passed { WritesTables (ticked_in moment) (state S.Store conn.old) (state S.Store conn.new) result }
+    ensures counted { HasCleanDisk (state S.Store conn.new) → IfOk result (TicksTablesAs moment (state S.Store conn.old)) }
 {
     let mut tx = conn.transaction();
     let overdue = pass_due(&mut tx, Wait::ToHear, Detail::Overdue, moment)?;

@@ -3,13 +3,13 @@
 ghost use Rattle.std.specs.Prelude.{◌≡◌, ◌<◌, ◌^◌, ◌==◌, false, map, filter, IsTrue, IfOk, OnOk};
 ghost use Rattle.sqlite.specs.Held.{state};
 ghost use Rattle.sqlite.specs.State.{HasCleanDisk};
-ghost use Rattle.as2_store.specs.Calls.{IsInside, Reads};
+ghost use Rattle.as2_store.specs.Calls.{IsInside, ReadsTables};
 ghost use Rattle.sqlite.specs.Tree.{put_row};
-ghost use Rattle.sql_tables.specs.Changes.{Changed};
+ghost use Rattle.sql_tables.specs.Changes.{ChangesTable};
 ghost use Rattle.as2_rows.specs.Rows.{in_row, in_shown};
 ghost use Rattle.as2_exchange.specs.State.{State};
 ghost use Rattle.as2_store.specs.Tables.{Way, store_schema, inbox_tree};
-ghost use Rattle.as2_store.specs.Adding.{Fits};
+ghost use Rattle.as2_store.specs.Adding.{EntryFits};
 ghost use Rattle.as2_store.specs.Stands.{Rests};
 ghost use Rattle.as2_exchange.specs.State.{has_key};
 
@@ -22,14 +22,14 @@ use sqlite::{Alter, Connection, Error, Row, Transaction, params};
 /// Puts in the row of an entry.
 pub fn put_in<S: Alter>(tx: &mut Transaction<'_, S>, entry: &InEntry) -> Result<(), Error>
     requires number { entry.now.number < 2 ^ 63 }
-    requires fits { Fits entry.now.posted.content entry.now.tries entry.now.due }
+    requires fits { EntryFits entry.now.posted.content entry.now.tries entry.now.due }
     ensures same_reference { tx.new.conn.ghost_name ≡ tx.old.conn.ghost_name }
     ensures within { IsInside (state S.Store tx.old.conn.now) (state S.Store tx.new.conn.now) }
     ensures open { HasCleanDisk (state S.Store tx.new.conn.now)
         → OnOk result (IsTrue (state S.Store tx.old.conn.now).is_open) }
     ensures put { HasCleanDisk (state S.Store tx.new.conn.now)
         → OnOk result ((way : Way) → (state S.Store tx.old.conn.now).now.schema ≡ store_schema way
-        → Changed (state S.Store tx.old.conn.now) (state S.Store tx.new.conn.now) (store_schema way) (inbox_tree way)
+        → ChangesTable (state S.Store tx.old.conn.now) (state S.Store tx.new.conn.now) (store_schema way) (inbox_tree way)
         (put_row (in_row entry.now) ((state S.Store tx.old.conn.now).now.trees (inbox_tree way)))) }
 {
     let posted = &entry.posted;
@@ -72,7 +72,7 @@ pub fn rows_by_key<S: Alter>(
 ) -> Result<Vec<Row>, Error>
     requires autocommit { conn.old.in_transaction ≡ false }
     ensures autocommit { conn.new.in_transaction ≡ false }
-    ensures rows { Reads (λ s rows. rows.items
+    ensures rows { ReadsTables (λ s rows. rows.items
         ≡ map in_shown (filter (λ e. has_key sender.now receiver.now value.now e.posted) s.inbox))
         (state S.Store conn.old) (state S.Store conn.new) result }
 {
@@ -87,7 +87,7 @@ pub fn rows_by_key<S: Alter>(
 pub fn rows_by_number<S: Alter>(conn: &mut Connection<S>, number: u64) -> Result<Vec<Row>, Error>
     requires autocommit { conn.old.in_transaction ≡ false }
     ensures autocommit { conn.new.in_transaction ≡ false }
-    ensures rows { Reads (λ s rows. rows.items
+    ensures rows { ReadsTables (λ s rows. rows.items
         ≡ map in_shown (filter (λ e. e.number == number) s.inbox)) (state S.Store conn.old) (state S.Store conn.new)
         result }
 {

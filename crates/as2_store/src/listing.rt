@@ -5,9 +5,9 @@ ghost use Rattle.sqlite.specs.Held.{state};
 ghost use Rattle.sqlite.specs.State.{HasCleanDisk};
 ghost use Rattle.sqlite.specs.Values.{bound};
 ghost use Rattle.as2_records.specs.Summaries.{in_summary};
-ghost use Rattle.as2_store.specs.Calls.{Reads};
+ghost use Rattle.as2_store.specs.Calls.{ReadsTables};
 ghost use Rattle.as2_store.specs.Listing.{detail_in, first_detail, last_detail, state_codes};
-ghost use Rattle.as2_records.specs.Listing.{listed};
+ghost use Rattle.as2_records.specs.Listing.{listed_rows};
 ghost use Rattle.as2_records.specs.Standing.{may_come};
 
 use crate::fault::{fault_of, unread_row};
@@ -24,7 +24,7 @@ pub fn entries<S: Alter>(conn: &mut Connection<S>, alloc: Global) -> Result<Vec<
     requires autocommit { conn.old.in_transaction ≡ false }
     requires open { HasCleanDisk (state S.Store conn.old) → IsTrue (state S.Store conn.old).is_open }
     ensures autocommit { conn.new.in_transaction ≡ false }
-    ensures entries { Reads (λ s entries. entries.items
+    ensures entries { ReadsTables (λ s entries. entries.items
         ≡ map in_summary s.inbox) (state S.Store conn.old) (state S.Store conn.new) result }
     ensures fault { IfErr result (λ f. may_come f ≡ true) }
 {
@@ -107,8 +107,8 @@ fn documents_between<S: Alter>(
     requires open { HasCleanDisk (state S.Store conn.old) → IsTrue (state S.Store conn.old).is_open }
     requires codes { bound codes.now ≡ state_codes wanted }
     ensures autocommit { conn.new.in_transaction ≡ false }
-    ensures documents { Reads (λ s documents. documents.items
-        ≡ listed wanted s) (state S.Store conn.old) (state S.Store conn.new) result }
+    ensures documents { ReadsTables (λ s documents. documents.items
+        ≡ listed_rows wanted s) (state S.Store conn.old) (state S.Store conn.new) result }
     ensures fault { IfErr result (λ f. may_come f ≡ true) }
 {
     let mut documents = Vec::new(alloc);
@@ -143,8 +143,8 @@ pub fn documents<S: Alter>(
     requires autocommit { conn.old.in_transaction ≡ false }
     requires open { HasCleanDisk (state S.Store conn.old) → IsTrue (state S.Store conn.old).is_open }
     ensures autocommit { conn.new.in_transaction ≡ false }
-    ensures documents { Reads (λ s documents. documents.items
-        ≡ listed wanted s) (state S.Store conn.old) (state S.Store conn.new) result }
+    ensures documents { ReadsTables (λ s documents. documents.items
+        ≡ listed_rows wanted s) (state S.Store conn.old) (state S.Store conn.new) result }
     ensures fault { IfErr result (λ f. may_come f ≡ true) }
 {
     let (first, last) = details_of(wanted);

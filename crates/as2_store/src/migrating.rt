@@ -4,12 +4,12 @@ ghost use Rattle.std.specs.Prelude.{◌≡◌, ◌⊎◌, ◌<◌, ◌^◌, if�
 ghost use Rattle.sqlite.specs.Held.{state};
 ghost use Rattle.sqlite.specs.State.{Executes, HasCleanDisk};
 ghost use Rattle.sqlite.specs.declared.types.Value.TheVariants.{Text};
-ghost use Rattle.as2_exchange.specs.Run.{migrated};
+ghost use Rattle.as2_exchange.specs.Run.{migrated_state};
 ghost use Rattle.as2_exchange.specs.State.{State};
 ghost use Rattle.as2_records.specs.Standing.{IsCounted, may_come};
 ghost use Rattle.as2_rows.specs.Rows.{whole};
 ghost use Rattle.as2_store.specs.Calls.{IsGivenBack, IsInside};
-ghost use Rattle.as2_store.specs.Migrating.{AreShared, CommitsMigrated, IsBeside, IsCopied, IsInboxBeside, IsMigrationReason, IsMoved, IsNearly, IsNext, Migrates, StandsBut, is_full, migration_fault};
+ghost use Rattle.as2_store.specs.Migrating.{AreShared, CommitsMigrated, IsBeside, IsCopied, IsInboxBeside, IsMigrationReason, IsMoved, IsNearly, StandsForMigrated, Migrates, StandsBut, is_full, migration_fault};
 ghost use Rattle.as2_store.specs.Stands.{Stands};
 ghost use Rattle.as2_store.specs.Tables.{Layout, Migrated, VersionOne, VersionThree, VersionTwo, Way, number_of};
 
@@ -157,7 +157,7 @@ fn move_first<S: Alter>(tx: &mut Transaction<'_, S>, next: u64) -> Result<(), Er
     ensures within { IsInside (state S.Store tx.old.conn.now) (state S.Store tx.new.conn.now) }
     ensures moved { HasCleanDisk (state S.Store tx.new.conn.now)
         → OnOk result ((s : State) → Stands VersionOne (state S.Store tx.old.conn.now).now s → next ≡ s.next_in
-        → StandsBut 1 Migrated (state S.Store tx.new.conn.now).now (migrated s)) }
+        → StandsBut 1 Migrated (state S.Store tx.new.conn.now).now (migrated_state s)) }
 {
     make_beside(tx)?;
     copy_inbox(tx)?;
@@ -269,7 +269,7 @@ fn move_tables<S: Alter>(tx: &mut Transaction<'_, S>, earlier: Earlier) -> Resul
     ensures moved { HasCleanDisk (state S.Store tx.new.conn.now)
         → OnOk result ((layout : Layout) (s : State) → Stands layout (state S.Store tx.old.conn.now).now s
         → number_of layout ≡ (if earlier.is_first then 1 else 2) → earlier.next ≡ s.next_in
-        → IsNext layout (state S.Store tx.new.conn.now).now s) }
+        → StandsForMigrated layout (state S.Store tx.new.conn.now).now s) }
 {
     move_to(tx, earlier)?;
     raise_version(tx)?;

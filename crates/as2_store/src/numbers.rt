@@ -2,7 +2,7 @@
 
 ghost use Rattle.std.specs.Prelude.{◌≡◌, ◌<◌, ◌≤◌, ◌^◌, pos, IfSome, IsTrue, option_map};
 ghost use Rattle.as2_exchange.specs.State.{end_of_numbers};
-ghost use Rattle.as2_store.specs.Adding.{Fits};
+ghost use Rattle.as2_store.specs.Adding.{EntryFits};
 ghost use Rattle.as2_store.specs.Owing.{FitsMdn};
 ghost use Rattle.as2_store.specs.Progressing.{FitsProgress};
 
@@ -45,7 +45,7 @@ fn may_stand(n: Option<u64>) -> bool
 
 /// Whether the numbers of an entry fit into its columns.
 pub fn fits(content: &Pieces, tries: u64, due: Option<u64>) -> bool
-    ensures { IsTrue result → Fits content.now tries due }
+    ensures { IsTrue result → EntryFits content.now tries due }
 {
     content.len() as u64 <= MOST && tries <= MOST && may_stand(due)
 }

@@ -3,9 +3,9 @@
 ghost use Rattle.std.specs.Prelude.{◌≡◌, ◌<◌, ◌^◌, [], ◌∷◌, ℕ, false, IsTrue, IfOk, OnOk};
 ghost use Rattle.sqlite.specs.Held.{state};
 ghost use Rattle.sqlite.specs.State.{HasCleanDisk};
-ghost use Rattle.sql_tables.specs.Changes.{Changed};
+ghost use Rattle.sql_tables.specs.Changes.{ChangesTable};
 ghost use Rattle.as2_exchange.specs.State.{State, origin_of};
-ghost use Rattle.as2_store.specs.Calls.{IsInside, Reads};
+ghost use Rattle.as2_store.specs.Calls.{IsInside, ReadsTables};
 ghost use Rattle.as2_store.specs.Due.{number_row};
 ghost use Rattle.as2_store.specs.Stands.{origin_row};
 ghost use Rattle.as2_store.specs.Tables.{Way, store_schema, origin_tree};
@@ -24,7 +24,7 @@ pub fn put_origin<S: Alter>(tx: &mut Transaction<'_, S>, number: u64) -> Result<
     ensures put { HasCleanDisk (state S.Store tx.new.conn.now)
         → OnOk result ((way : Way) → (state S.Store tx.old.conn.now).now.schema ≡ store_schema way
         → (state S.Store tx.old.conn.now).now.trees (origin_tree way) ≡ []
-        → Changed (state S.Store tx.old.conn.now) (state S.Store tx.new.conn.now) (store_schema way) (origin_tree way)
+        → ChangesTable (state S.Store tx.old.conn.now) (state S.Store tx.new.conn.now) (store_schema way) (origin_tree way)
         (origin_row number ∷ [])) }
 {
     let number = whole(number);
@@ -36,7 +36,7 @@ pub fn put_origin<S: Alter>(tx: &mut Transaction<'_, S>, number: u64) -> Result<
 pub fn origin_rows<S: Alter>(conn: &mut Connection<S>) -> Result<Vec<Row>, Error>
     requires autocommit { conn.old.in_transaction ≡ false }
     ensures autocommit { conn.new.in_transaction ≡ false }
-    ensures rows { Reads (λ s rows. rows.items
+    ensures rows { ReadsTables (λ s rows. rows.items
         ≡ number_row (origin_of s.version) ∷ []) (state S.Store conn.old) (state S.Store conn.new) result }
 {
     query_all(conn, "SELECT number FROM origin", &[])

@@ -4,12 +4,12 @@ ghost use Rattle.std.specs.Prelude.{◌≡◌, ◌==◌, ◌<◌, ◌^◌, [], �
 ghost use Rattle.sqlite.specs.Held.{state};
 ghost use Rattle.sqlite.specs.Edit.{are_fresh};
 ghost use Rattle.sqlite.specs.State.{HasCleanDisk};
-ghost use Rattle.as2_store.specs.Calls.{IsInside, Reads};
+ghost use Rattle.as2_store.specs.Calls.{IsInside, ReadsTables};
 ghost use Rattle.sqlite.specs.Tree.{put_row};
-ghost use Rattle.sql_tables.specs.Changes.{Changed};
+ghost use Rattle.sql_tables.specs.Changes.{ChangesTable};
 ghost use Rattle.as2_exchange.specs.State.{State};
 ghost use Rattle.as2_rows.specs.Rows.{out_row, out_shown, evidence_row};
-ghost use Rattle.as2_store.specs.Adding.{Fits};
+ghost use Rattle.as2_store.specs.Adding.{EntryFits};
 ghost use Rattle.as2_store.specs.Finding.{evidence_at, has_id, shown_evidence};
 ghost use Rattle.as2_store.specs.Stands.{Rests};
 ghost use Rattle.as2_store.specs.Tables.{Way, store_schema, evidence_tree, outbox_tree};
@@ -23,14 +23,14 @@ use sqlite::{Alter, Connection, Error, Row, Transaction, params};
 /// Puts in the row of a document.
 pub fn put_out<S: Alter>(tx: &mut Transaction<'_, S>, entry: &OutEntry) -> Result<(), Error>
     requires number { entry.now.number < 2 ^ 63 }
-    requires fits { Fits entry.now.content entry.now.tries entry.now.due }
+    requires fits { EntryFits entry.now.content entry.now.tries entry.now.due }
     ensures same_reference { tx.new.conn.ghost_name ≡ tx.old.conn.ghost_name }
     ensures within { IsInside (state S.Store tx.old.conn.now) (state S.Store tx.new.conn.now) }
     ensures open { HasCleanDisk (state S.Store tx.new.conn.now)
         → OnOk result (IsTrue (state S.Store tx.old.conn.now).is_open) }
     ensures put { HasCleanDisk (state S.Store tx.new.conn.now)
         → OnOk result ((way : Way) → (state S.Store tx.old.conn.now).now.schema ≡ store_schema way
-        → Changed (state S.Store tx.old.conn.now) (state S.Store tx.new.conn.now) (store_schema way) outbox_tree
+        → ChangesTable (state S.Store tx.old.conn.now) (state S.Store tx.new.conn.now) (store_schema way) outbox_tree
         (put_row (out_row entry.now) ((state S.Store tx.old.conn.now).now.trees outbox_tree))) }
 {
     let number = whole(entry.number);
@@ -61,7 +61,7 @@ pub fn put_out<S: Alter>(tx: &mut Transaction<'_, S>, entry: &OutEntry) -> Resul
 pub fn rows_by_id<S: Alter>(conn: &mut Connection<S>, value: &[u8]) -> Result<Vec<Row>, Error>
     requires autocommit { conn.old.in_transaction ≡ false }
     ensures autocommit { conn.new.in_transaction ≡ false }
-    ensures rows { Reads (λ s rows. rows.items
+    ensures rows { ReadsTables (λ s rows. rows.items
         ≡ map out_shown (filter (has_id value.now) s.outbox)) (state S.Store conn.old) (state S.Store conn.new) result }
 {
     query_all(
@@ -75,7 +75,7 @@ pub fn rows_by_id<S: Alter>(conn: &mut Connection<S>, value: &[u8]) -> Result<Ve
 pub fn rows_by_number<S: Alter>(conn: &mut Connection<S>, number: u64) -> Result<Vec<Row>, Error>
     requires autocommit { conn.old.in_transaction ≡ false }
     ensures autocommit { conn.new.in_transaction ≡ false }
-    ensures rows { Reads (λ s rows. rows.items
+    ensures rows { ReadsTables (λ s rows. rows.items
         ≡ map out_shown (filter (λ d. d.number == number) s.outbox)) (state S.Store conn.old) (state S.Store conn.new)
         result }
 {
@@ -92,7 +92,7 @@ pub fn rows_by_number<S: Alter>(conn: &mut Connection<S>, number: u64) -> Result
 pub fn evidence_rows<S: Alter>(conn: &mut Connection<S>, number: u64) -> Result<Vec<Row>, Error>
     requires autocommit { conn.old.in_transaction ≡ false }
     ensures autocommit { conn.new.in_transaction ≡ false }
-    ensures rows { Reads (λ s rows. rows.items
+    ensures rows { ReadsTables (λ s rows. rows.items
         ≡ shown_evidence number (evidence_at s number)) (state S.Store conn.old) (state S.Store conn.new) result }
 {
     let wanted = asked(number);
@@ -117,7 +117,7 @@ pub fn put_evidence<S: Alter>(
     ensures within { IsInside (state S.Store tx.old.conn.now) (state S.Store tx.new.conn.now) }
     ensures put { HasCleanDisk (state S.Store tx.new.conn.now)
         → OnOk result ((way : Way) → (state S.Store tx.old.conn.now).now.schema ≡ store_schema way
-        → Changed (state S.Store tx.old.conn.now) (state S.Store tx.new.conn.now) (store_schema way) evidence_tree
+        → ChangesTable (state S.Store tx.old.conn.now) (state S.Store tx.new.conn.now) (store_schema way) evidence_tree
         (put_row (evidence_row number evidence.now) ((state S.Store tx.old.conn.now).now.trees evidence_tree))
         × (are_fresh ((state S.Store tx.old.conn.now).now.trees evidence_tree) (evidence_row number evidence.now ∷ [])
         ≡ true)) }

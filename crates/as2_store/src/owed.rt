@@ -3,8 +3,8 @@
 ghost use Rattle.std.specs.Prelude.{◌≡◌, ◌==◌, ◌≤◌, ◌<◌, ◌^◌, false, map, filter, length, IsTrue, IfOk, OnOk};
 ghost use Rattle.sqlite.specs.Held.{state};
 ghost use Rattle.sqlite.specs.State.{HasCleanDisk};
-ghost use Rattle.as2_store.specs.Calls.{IsInside, Writes};
-ghost use Rattle.sql_tables.specs.Changes.{Changed};
+ghost use Rattle.as2_store.specs.Calls.{IsInside, WritesTables};
+ghost use Rattle.sql_tables.specs.Changes.{ChangesTable};
 ghost use Rattle.as2_exchange.specs.State.{State, change_received};
 ghost use Rattle.as2_rows.specs.Rows.{in_row};
 ghost use Rattle.as2_store.specs.Tables.{Way, VersionThree, store_schema, inbox_tree};
@@ -34,7 +34,7 @@ fn set_owed<S: Alter>(
     ensures put { HasCleanDisk (state S.Store tx.new.conn.now)
         → IfOk result (λ count. (way : Way) (s : State)
         → Stands (VersionThree way) (state S.Store tx.old.conn.now).now s
-        → Changed (state S.Store tx.old.conn.now) (state S.Store tx.new.conn.now) (store_schema way) (inbox_tree way)
+        → ChangesTable (state S.Store tx.old.conn.now) (state S.Store tx.new.conn.now) (store_schema way) (inbox_tree way)
         (map in_row (change_received s number (owed_as progress)).inbox)
         × (count ≡ length (filter (λ e. e.number == number) s.inbox))) }
 {
@@ -63,7 +63,7 @@ pub fn set<S: Alter>(
     requires autocommit { conn.old.in_transaction ≡ false }
     requires fits { FitsMdn progress }
     ensures autocommit { conn.new.in_transaction ≡ false }
-    ensures set { Writes (set_mdn_in number progress) (state S.Store conn.old) (state S.Store conn.new) result }
+    ensures set { WritesTables (set_mdn_in number progress) (state S.Store conn.old) (state S.Store conn.new) result }
 {
     let mut tx = conn.transaction();
     if set_owed(&mut tx, number, progress)? == 0 {

@@ -3,8 +3,8 @@
 ghost use Rattle.std.specs.Prelude.{◌≡◌, ◌==◌, ◌≤◌, ◌<◌, ◌^◌, false, map, filter, length, IsTrue, IfOk, OnOk};
 ghost use Rattle.sqlite.specs.Held.{state};
 ghost use Rattle.sqlite.specs.State.{HasCleanDisk};
-ghost use Rattle.as2_store.specs.Calls.{IsInside, Writes};
-ghost use Rattle.sql_tables.specs.Changes.{Changed};
+ghost use Rattle.as2_store.specs.Calls.{IsInside, WritesTables};
+ghost use Rattle.sql_tables.specs.Changes.{ChangesTable};
 ghost use Rattle.as2_exchange.specs.State.{State, change_document};
 ghost use Rattle.as2_rows.specs.Rows.{out_row};
 ghost use Rattle.as2_store.specs.Tables.{Way, VersionThree, store_schema, outbox_tree};
@@ -34,7 +34,7 @@ fn set_progress<S: Alter>(
     ensures put { HasCleanDisk (state S.Store tx.new.conn.now)
         → IfOk result (λ count. (way : Way) (s : State)
         → Stands (VersionThree way) (state S.Store tx.old.conn.now).now s
-        → Changed (state S.Store tx.old.conn.now) (state S.Store tx.new.conn.now) (store_schema way) outbox_tree
+        → ChangesTable (state S.Store tx.old.conn.now) (state S.Store tx.new.conn.now) (store_schema way) outbox_tree
         (map out_row (change_document s number (come_to progress)).outbox)
         × (count ≡ length (filter (λ d. d.number == number) s.outbox))) }
 {
@@ -58,7 +58,7 @@ pub fn set<S: Alter>(conn: &mut Connection<S>, number: u64, progress: Progress) 
     requires autocommit { conn.old.in_transaction ≡ false }
     requires fits { FitsProgress progress }
     ensures autocommit { conn.new.in_transaction ≡ false }
-    ensures set { Writes (set_out_in number progress) (state S.Store conn.old) (state S.Store conn.new) result }
+    ensures set { WritesTables (set_out_in number progress) (state S.Store conn.old) (state S.Store conn.new) result }
 {
     let wanted = asked(number);
     let mut tx = conn.transaction();

@@ -7,7 +7,7 @@ ghost use Rattle.sqlite.specs.State.{Shown};
 ghost use Rattle.sqlite.specs.Values.{bound};
 ghost use Rattle.sqlite.proofs.Callers.{IsPlain};
 ghost use Rattle.as2_store.specs.Tables.{Way, store_schema};
-ghost use Rattle.as2_store.specs.Calls.{Reads};
+ghost use Rattle.as2_store.specs.Calls.{ReadsTables};
 
 use sqlite::types::ValueRef;
 use sqlite::{Alter, Connection, Error, Row};
@@ -21,7 +21,7 @@ pub fn query_all<S: Alter>(
     requires autocommit { conn.old.in_transaction ≡ false }
     requires plain { (way : Way) → IsPlain (understood (store_schema way) sql.now) }
     ensures autocommit { conn.new.in_transaction ≡ false }
-    ensures shown { Reads
+    ensures shown { ReadsTables
         (λ s rows. Shown sql.now (bound params.now) (state S.Store conn.old) (state S.Store conn.old) rows.items)
         (state S.Store conn.old) (state S.Store conn.new) result }
 {

@@ -4,10 +4,10 @@ ghost use Rattle.std.specs.Prelude.{◌≡◌, ◌==◌, ◌<◌, ◌^◌, ◌||
 ghost use Rattle.sqlite.specs.Held.{state};
 ghost use Rattle.sqlite.specs.State.{HasCleanDisk};
 ghost use Rattle.sqlite.specs.Tree.{put_row};
-ghost use Rattle.sql_tables.specs.Changes.{Changed};
+ghost use Rattle.sql_tables.specs.Changes.{ChangesTable};
 ghost use Rattle.as2_exchange.specs.State.{State};
 ghost use Rattle.as2_exchange.specs.declared.outbox.OutEntry.{OutEntry as Document};
-ghost use Rattle.as2_store.specs.Calls.{IsInside, Reads};
+ghost use Rattle.as2_store.specs.Calls.{IsInside, ReadsTables};
 ghost use Rattle.as2_store.specs.Due.{number_row};
 ghost use Rattle.as2_store.specs.Resending.{HoldsResent, IsReady, has_row, tried_numbers};
 ghost use Rattle.as2_store.specs.Stands.{Stands, resent_row};
@@ -47,7 +47,7 @@ fn take_resent<S: Alter>(tx: &mut Transaction<'_, S>, number: u64) -> Result<(),
     ensures within { IsInside (state S.Store tx.old.conn.now) (state S.Store tx.new.conn.now) }
     ensures put { HasCleanDisk (state S.Store tx.new.conn.now)
         → OnOk result ((way : Way) (ns : List ℕ) → HoldsResent way (state S.Store tx.old.conn.now).now ns
-        → Changed (state S.Store tx.old.conn.now) (state S.Store tx.new.conn.now) (store_schema way) (resent_tree way)
+        → ChangesTable (state S.Store tx.old.conn.now) (state S.Store tx.new.conn.now) (store_schema way) (resent_tree way)
         (map resent_row (filter (λ n. not (n == number)) ns))) }
 {
     let number = whole(number);
@@ -62,7 +62,7 @@ fn put_resent<S: Alter>(tx: &mut Transaction<'_, S>, number: u64) -> Result<(), 
     ensures within { IsInside (state S.Store tx.old.conn.now) (state S.Store tx.new.conn.now) }
     ensures put { HasCleanDisk (state S.Store tx.new.conn.now)
         → OnOk result ((way : Way) → (state S.Store tx.old.conn.now).now.schema ≡ store_schema way
-        → Changed (state S.Store tx.old.conn.now) (state S.Store tx.new.conn.now) (store_schema way) (resent_tree way)
+        → ChangesTable (state S.Store tx.old.conn.now) (state S.Store tx.new.conn.now) (store_schema way) (resent_tree way)
         (put_row (resent_row number) ((state S.Store tx.old.conn.now).now.trees (resent_tree way)))) }
 {
     let number = whole(number);
@@ -112,7 +112,7 @@ fn resent_rows<S: Alter>(conn: &mut Connection<S>, number: u64) -> Result<Vec<Ro
     requires autocommit { conn.old.in_transaction ≡ false }
     requires number { number < 2 ^ 63 }
     ensures autocommit { conn.new.in_transaction ≡ false }
-    ensures rows { Reads (λ s rows. (p : Document → Bool) (d : Document) → find p s.outbox ≡ Some d → number ≡ d.number
+    ensures rows { ReadsTables (λ s rows. (p : Document → Bool) (d : Document) → find p s.outbox ≡ Some d → number ≡ d.number
         → d.begun ≡ (nat_le 1 d.tries || has_row rows.items)) (state S.Store conn.old) (state S.Store conn.new) result }
 {
     let number = whole(number);
@@ -129,7 +129,7 @@ pub fn begun_in<S: Alter>(conn: &mut Connection<S>, row: &OutRow) -> Result<bool
     requires open { HasCleanDisk (state S.Store conn.old) → IsTrue (state S.Store conn.old).is_open }
     requires number { row.now.number < 2 ^ 63 }
     ensures autocommit { conn.new.in_transaction ≡ false }
-    ensures begun { Reads (λ s begun. (p : Document → Bool) (d : Document) → find p s.outbox ≡ Some d
+    ensures begun { ReadsTables (λ s begun. (p : Document → Bool) (d : Document) → find p s.outbox ≡ Some d
         → row.now.number ≡ d.number → row.now.tries ≡ d.tries
         → begun ≡ d.begun) (state S.Store conn.old) (state S.Store conn.new) result }
     ensures fault { IfErr result (λ f. may_come f ≡ true) }

@@ -2,7 +2,7 @@
 
 ghost use Rattle.std.specs.Prelude.{◌≡◌, false, ℕ, List, map, IfOk};
 ghost use Rattle.sqlite.specs.Held.{state};
-ghost use Rattle.as2_store.specs.Calls.{Reads};
+ghost use Rattle.as2_store.specs.Calls.{ReadsTables};
 ghost use Rattle.as2_store.specs.Due.{number_row};
 ghost use Rattle.as2_records.specs.Listing.{settled_numbers};
 
@@ -14,7 +14,7 @@ use std::alloc::Global;
 pub fn settled_rows<S: Alter>(conn: &mut Connection<S>) -> Result<Vec<Row>, Error>
     requires autocommit { conn.old.in_transaction ≡ false }
     ensures autocommit { conn.new.in_transaction ≡ false }
-    ensures rows { Reads (λ s rows. rows.items
+    ensures rows { ReadsTables (λ s rows. rows.items
         ≡ map number_row (settled_numbers s)) (state S.Store conn.old) (state S.Store conn.new) result }
 {
     query_all(conn, "SELECT number FROM evidence ORDER BY number", &[])

@@ -3,8 +3,8 @@
 ghost use Rattle.std.specs.Prelude.{◌≡◌, ◌==◌, ◌<◌, ◌^◌, true, false, map, filter, length, IsTrue, IfOk, OnOk};
 ghost use Rattle.sqlite.specs.Held.{state};
 ghost use Rattle.sqlite.specs.State.{HasCleanDisk};
-ghost use Rattle.as2_store.specs.Calls.{IsInside, Writes};
-ghost use Rattle.sql_tables.specs.Changes.{Changed};
+ghost use Rattle.as2_store.specs.Calls.{IsInside, WritesTables};
+ghost use Rattle.sql_tables.specs.Changes.{ChangesTable};
 ghost use Rattle.as2_exchange.specs.State.{State, change_document};
 ghost use Rattle.as2_exchange.specs.Invariants.{is_by_receipt};
 ghost use Rattle.as2_exchange.specs.declared.outbox.Evidence.{Evidence as Receipt};
@@ -37,7 +37,7 @@ fn set_settled<S: Alter>(
     ensures put { HasCleanDisk (state S.Store tx.new.conn.now)
         → IfOk result (λ count. (way : Way) (s : State)
         → Stands (VersionThree way) (state S.Store tx.old.conn.now).now s → (e : Receipt)
-        → Changed (state S.Store tx.old.conn.now) (state S.Store tx.new.conn.now) (store_schema way) outbox_tree
+        → ChangesTable (state S.Store tx.old.conn.now) (state S.Store tx.new.conn.now) (store_schema way) outbox_tree
         (map out_row (change_document s number (settled_as detail e)).outbox)
         × (count ≡ length (filter (λ d. d.number == number) s.outbox))) }
 {
@@ -62,7 +62,7 @@ pub fn settle<S: Alter>(
     requires by_receipt { is_by_receipt detail ≡ true }
     requires body { body.now ≡ evidence.now.body }
     ensures autocommit { conn.new.in_transaction ≡ false }
-    ensures settled { Writes (settled_in number detail evidence.now) (state S.Store conn.old) (state S.Store conn.new)
+    ensures settled { WritesTables (settled_in number detail evidence.now) (state S.Store conn.old) (state S.Store conn.new)
         result }
 {
     let wanted = asked(number);

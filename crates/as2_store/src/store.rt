@@ -3,15 +3,15 @@
 ghost use Rattle.std.specs.Prelude.{◌≡◌, ◌⊎◌, ◌<◌, ◌≤◌, ℕ, List, map, find, None, Some, true, false, Err, IsTrue, IfOk, IfErr, OnOk, OnErr};
 ghost use Rattle.sqlite.specs.Held.{state};
 ghost use Rattle.sqlite.specs.State.{HasCleanDisk};
-ghost use Rattle.as2_exchange.specs.State.{State, end_of_numbers, document, document_named, origin_of, received};
+ghost use Rattle.as2_exchange.specs.State.{State, end_of_numbers, document, document_named, origin_of, received_entry};
 ghost use Rattle.as2_exchange.specs.Due.{due_documents, due_receipts, least};
 ghost use Rattle.as2_exchange.specs.declared.fault.StoreFault.TheVariants.{Full};
 ghost use Rattle.as2_records.specs.Summaries.{in_summary};
 ghost use Rattle.as2_records.specs.Counting.{counts_of};
-ghost use Rattle.as2_records.specs.Listing.{settled_numbers, listed};
-ghost use Rattle.as2_records.specs.Adding.{added, added_document};
-ghost use Rattle.as2_store.specs.Calls.{Adopts, Commits, CommitsFirst, Creates, IsGivenBack, IsReason, Reads, Writes};
-ghost use Rattle.as2_store.specs.Expiring.{AreTicked};
+ghost use Rattle.as2_records.specs.Listing.{settled_numbers, listed_rows};
+ghost use Rattle.as2_records.specs.Adding.{state_with, added_document};
+ghost use Rattle.as2_store.specs.Calls.{Adopts, CommitsTables, CommitsFirst, Creates, IsGivenBack, IsReason, ReadsTables, WritesTables};
+ghost use Rattle.as2_store.specs.Expiring.{TicksTablesAs};
 ghost use Rattle.as2_records.specs.Expiring.{ticked_in};
 ghost use Rattle.as2_store.specs.Finding.{evidence_at};
 ghost use Rattle.as2_store.specs.Migrating.{CommitsMigrated, IsMigrationReason, Migrates};
@@ -101,7 +101,7 @@ impl<S: Alter> Store<S> {
         requires autocommit { conn.in_transaction ≡ false }
         ensures adopted { IfOk result (λ store. Adopts (state S.Store conn) (state S.Store store)) }
         ensures given_back { IfErr result
-            (λ e. IsGivenBack (Commits Some (state S.Store conn)) (state S.Store conn) (state S.Store e.0)) }
+            (λ e. IsGivenBack (CommitsTables Some (state S.Store conn)) (state S.Store conn) (state S.Store e.0)) }
         ensures reason { IfErr result (λ e. HasCleanDisk (state S.Store e.0) → IsReason (state S.Store conn) e.1) }
     {
         match check(&mut conn) {
@@ -137,7 +137,7 @@ impl<S: Alter> Store<S> {
 
     /// The numbers that the next entries get.
     pub fn next_numbers(&mut self) -> Result<NextNumbers, StoreFault>
-        ensures numbers { Reads (λ s next. AreNext next s) (state S.Store self.old) (state S.Store self.new) result }
+        ensures numbers { ReadsTables (λ s next. AreNext next s) (state S.Store self.old) (state S.Store self.new) result }
         ensures fault { IfErr result (λ f. may_come f ≡ true) }
     {
         next_numbers(&mut self.conn)
@@ -146,7 +146,7 @@ impl<S: Alter> Store<S> {
     /// The number below which receipts were recorded by the first version of the tables, 0 where none was. Answers Memory, Disk or
     /// Refused.
     pub fn origin(&mut self) -> Result<u64, StoreFault>
-        ensures origin { Reads (λ s number. number
+        ensures origin { ReadsTables (λ s number. number
             ≡ origin_of s.version) (state S.Store self.old) (state S.Store self.new) result }
         ensures fault { IfErr result (λ f. may_come f ≡ true) }
     {
@@ -157,7 +157,7 @@ impl<S: Alter> Store<S> {
     /// Adds an entry to the inbox under the next number of a receipt, as `next_numbers` gives it. Answers Full exactly where the
     /// number is past 999,999,999,999, and then touches nothing; Refused where it isn't the next; Memory, Disk or Refused. A fault leaves the state.
     pub fn add_in(&mut self, entry: &InEntry) -> Result<(), StoreFault>
-        ensures added { Writes (added entry.now) (state S.Store self.old) (state S.Store self.new) result }
+        ensures added { WritesTables (state_with entry.now) (state S.Store self.old) (state S.Store self.new) result }
         ensures full { IfErr result (λ f. f ≡ Full → end_of_numbers ≤ entry.now.number) }
         ensures full_alone { end_of_numbers ≤ entry.now.number → result ≡ Err Full }
         ensures full_same { end_of_numbers ≤ entry.now.number → self.new ≡ self.old }
@@ -178,7 +178,7 @@ impl<S: Alter> Store<S> {
     /// Refused. A fault leaves the state.
     pub fn add_out(&mut self, entry: &OutEntry) -> Result<(), StoreFault>
         requires unsettled { entry.now.evidence ≡ None }
-        ensures added { Writes (added_document entry.now) (state S.Store self.old) (state S.Store self.new) result }
+        ensures added { WritesTables (added_document entry.now) (state S.Store self.old) (state S.Store self.new) result }
         ensures full { IfErr result (λ f. f ≡ Full → end_of_numbers ≤ entry.now.number) }
         ensures full_alone { end_of_numbers ≤ entry.now.number → result ≡ Err Full }
         ensures full_same { end_of_numbers ≤ entry.now.number → self.new ≡ self.old }
@@ -199,7 +199,7 @@ impl<S: Alter> Store<S> {
     /// Sets the receipt of the entry of the inbox of this number, if there is one, to be sent from this moment on, with all
     /// tries left. Answers Memory, Disk or Refused, and then the state stays.
     pub fn requeue_mdn(&mut self, number: u64, moment: Moment) -> Result<(), StoreFault>
-        ensures requeued { Writes (requeued_in number moment) (state S.Store self.old) (state S.Store self.new) result }
+        ensures requeued { WritesTables (requeued_in number moment) (state S.Store self.old) (state S.Store self.new) result }
         ensures fault { IfErr result (λ f. may_come f ≡ true) }
     {
         let anew = MdnProgress {
@@ -214,7 +214,7 @@ impl<S: Alter> Store<S> {
     /// Sets how far the receipt of the entry of the inbox of this number, if there is one, has come. Answers Memory, Disk or
     /// Refused, and then the state stays.
     pub fn set_mdn(&mut self, number: u64, progress: MdnProgress) -> Result<(), StoreFault>
-        ensures set { Writes (set_mdn_in number progress) (state S.Store self.old) (state S.Store self.new) result }
+        ensures set { WritesTables (set_mdn_in number progress) (state S.Store self.old) (state S.Store self.new) result }
         ensures fault { IfErr result (λ f. may_come f ≡ true) }
     {
         if !fits_mdn(progress) {
@@ -226,9 +226,9 @@ impl<S: Alter> Store<S> {
     /// Time passes: each document whose receipt is overdue at this moment passes into `Overdue`, and each whose last try is into
     /// `TriesUsed`. Answers how many there are; Memory, Disk or Refused, and then the state stays.
     pub fn expire(&mut self, moment: Moment) -> Result<u64, StoreFault>
-        ensures passed { Writes (ticked_in moment) (state S.Store self.old) (state S.Store self.new) result }
+        ensures passed { WritesTables (ticked_in moment) (state S.Store self.old) (state S.Store self.new) result }
         ensures counted { HasCleanDisk (state S.Store self.new)
-            → IfOk result (AreTicked moment (state S.Store self.old)) }
+            → IfOk result (TicksTablesAs moment (state S.Store self.old)) }
         ensures fault { IfErr result (λ f. may_come f ≡ true) }
     {
         expire(&mut self.conn, moment).map_err(fault_of)
@@ -237,7 +237,7 @@ impl<S: Alter> Store<S> {
     /// Sets how far the document of this number has come. Answers Refused where no document has the number; Memory, Disk or
     /// Refused; and then the state stays.
     pub fn set_out(&mut self, number: u64, progress: Progress) -> Result<(), StoreFault>
-        ensures set { Writes (set_out_in number progress) (state S.Store self.old) (state S.Store self.new) result }
+        ensures set { WritesTables (set_out_in number progress) (state S.Store self.old) (state S.Store self.new) result }
         ensures fault { IfErr result (λ f. may_come f ≡ true) }
     {
         if !fits_progress(progress) {
@@ -249,7 +249,7 @@ impl<S: Alter> Store<S> {
     /// Queues the document of this number to be sent anew from this moment on, with all tries left. Answers Refused where no document
     /// has the number; Memory, Disk or Refused; and then the state stays.
     pub fn resend(&mut self, number: u64, moment: Moment) -> Result<(), StoreFault>
-        ensures resent { Writes (resent_in number moment) (state S.Store self.old) (state S.Store self.new) result }
+        ensures resent { WritesTables (resent_in number moment) (state S.Store self.old) (state S.Store self.new) result }
         ensures fault { IfErr result (λ f. may_come f ≡ true) }
     {
         let anew = Progress {
@@ -270,7 +270,7 @@ impl<S: Alter> Store<S> {
         detail: Detail,
         evidence: &Evidence,
     ) -> Result<(), StoreFault>
-        ensures settled { Writes (settled_in number detail evidence.now) (state S.Store self.old)
+        ensures settled { WritesTables (settled_in number detail evidence.now) (state S.Store self.old)
             (state S.Store self.new) result }
         ensures fault { IfErr result (λ f. may_come f ≡ true) }
     {
@@ -291,7 +291,7 @@ impl<S: Alter> Store<S> {
         receiver: &AsName,
         id_value: &str,
     ) -> Result<Option<InEntry>, StoreFault>
-        ensures found { Reads (IsPostedAs sender.now receiver.now id_value.now) (state S.Store self.old)
+        ensures found { ReadsTables (IsPostedAs sender.now receiver.now id_value.now) (state S.Store self.old)
             (state S.Store self.new) result }
         ensures fault { IfErr result (λ f. may_come f ≡ true) }
     {
@@ -311,8 +311,8 @@ impl<S: Alter> Store<S> {
         alloc: Global,
         number: u64,
     ) -> Result<Option<InEntry>, StoreFault>
-        ensures found { Reads (λ s found. found
-            ≡ received s number) (state S.Store self.old) (state S.Store self.new) result }
+        ensures found { ReadsTables (λ s found. found
+            ≡ received_entry s number) (state S.Store self.old) (state S.Store self.new) result }
         ensures fault { IfErr result (λ f. may_come f ≡ true) }
     {
         let rows = inbox::rows_by_number(&mut self.conn, number).map_err(fault_of)?;
@@ -321,7 +321,7 @@ impl<S: Alter> Store<S> {
 
     /// The document of this number, if there is one, with its content and its evidence. Answers Memory, Disk or Refused.
     pub fn find_out(&mut self, alloc: Global, number: u64) -> Result<Option<OutEntry>, StoreFault>
-        ensures found { Reads (λ s found. found
+        ensures found { ReadsTables (λ s found. found
             ≡ document s number) (state S.Store self.old) (state S.Store self.new) result }
         ensures fault { IfErr result (λ f. may_come f ≡ true) }
     {
@@ -336,7 +336,7 @@ impl<S: Alter> Store<S> {
         alloc: Global,
         id_value: &[u8],
     ) -> Result<Option<OutEntry>, StoreFault>
-        ensures found { Reads (λ s found. found
+        ensures found { ReadsTables (λ s found. found
             ≡ document_named s id_value.now) (state S.Store self.old) (state S.Store self.new) result }
         ensures fault { IfErr result (λ f. may_come f ≡ true) }
     {
@@ -347,7 +347,7 @@ impl<S: Alter> Store<S> {
     /// The receipt that settled the document of this number; None where none has, or where there is no such document. Answers
     /// Memory, Disk or Refused.
     pub fn evidence(&mut self, alloc: Global, number: u64) -> Result<Option<Evidence>, StoreFault>
-        ensures found { Reads (λ s found. found
+        ensures found { ReadsTables (λ s found. found
             ≡ evidence_at s number) (state S.Store self.old) (state S.Store self.new) result }
         ensures fault { IfErr result (λ f. may_come f ≡ true) }
     {
@@ -357,7 +357,7 @@ impl<S: Alter> Store<S> {
     /// The least number of the documents of which a try may begin at this moment, if there is one. Answers Memory, Disk or
     /// Refused.
     pub fn due_out(&mut self, moment: Moment) -> Result<Option<u64>, StoreFault>
-        ensures due { Reads (λ s number. number
+        ensures due { ReadsTables (λ s number. number
             ≡ least (due_documents s moment)) (state S.Store self.old) (state S.Store self.new) result }
         ensures fault { IfErr result (λ f. may_come f ≡ true) }
     {
@@ -367,7 +367,7 @@ impl<S: Alter> Store<S> {
     /// The least number of the receipts of which a try may begin at this moment, if there is one. Answers Memory, Disk or
     /// Refused.
     pub fn due_mdn(&mut self, moment: Moment) -> Result<Option<u64>, StoreFault>
-        ensures due { Reads (λ s number. number
+        ensures due { ReadsTables (λ s number. number
             ≡ least (due_receipts s moment)) (state S.Store self.old) (state S.Store self.new) result }
         ensures fault { IfErr result (λ f. may_come f ≡ true) }
     {
@@ -381,8 +381,8 @@ impl<S: Alter> Store<S> {
         alloc: Global,
         wanted: Option<State>,
     ) -> Result<Vec<OutRow>, StoreFault>
-        ensures documents { Reads (λ s documents. documents.items
-            ≡ listed wanted s) (state S.Store self.old) (state S.Store self.new) result }
+        ensures documents { ReadsTables (λ s documents. documents.items
+            ≡ listed_rows wanted s) (state S.Store self.old) (state S.Store self.new) result }
         ensures fault { IfErr result (λ f. may_come f ≡ true) }
     {
         meta_rows(&mut self.conn).map_err(fault_of)?;
@@ -392,7 +392,7 @@ impl<S: Alter> Store<S> {
     /// The entries of the inbox in order of number, each with the length of its content in place of the content. Answers
     /// Memory, Disk or Refused.
     pub fn list_in(&mut self, alloc: Global) -> Result<Vec<InRow>, StoreFault>
-        ensures entries { Reads (λ s entries. entries.items
+        ensures entries { ReadsTables (λ s entries. entries.items
             ≡ map in_summary s.inbox) (state S.Store self.old) (state S.Store self.new) result }
         ensures fault { IfErr result (λ f. may_come f ≡ true) }
     {
@@ -402,7 +402,7 @@ impl<S: Alter> Store<S> {
 
     /// The numbers of the documents that a receipt has settled, in order. Answers Memory, Disk or Refused.
     pub fn settled(&mut self, alloc: Global) -> Result<Vec<u64>, StoreFault>
-        ensures numbers { Reads (λ s numbers. numbers.items
+        ensures numbers { ReadsTables (λ s numbers. numbers.items
             ≡ settled_numbers s) (state S.Store self.old) (state S.Store self.new) result }
         ensures fault { IfErr result (λ f. may_come f ≡ true) }
     {
@@ -412,7 +412,7 @@ impl<S: Alter> Store<S> {
 
     /// How much is outstanding. Answers Memory, Disk or Refused.
     pub fn counts(&mut self, alloc: Global) -> Result<Counts, StoreFault>
-        ensures counts { Reads (λ s counts. counts
+        ensures counts { ReadsTables (λ s counts. counts
             ≡ counts_of s) (state S.Store self.old) (state S.Store self.new) result }
         ensures fault { IfErr result (λ f. may_come f ≡ true) }
     {
@@ -424,7 +424,7 @@ impl<S: Alter> Store<S> {
     /// The first discrepancy between the entries and what is kept beside them, the counters and what waits. Tables that stand for a
     /// state have none. Answers Memory, Disk or Refused.
     pub fn discrepancy(&mut self, alloc: Global) -> Result<Option<Discrepancy>, StoreFault>
-        ensures none { Reads (λ s found. found ≡ None) (state S.Store self.old) (state S.Store self.new) result }
+        ensures none { ReadsTables (λ s found. found ≡ None) (state S.Store self.old) (state S.Store self.new) result }
         ensures fault { IfErr result (λ f. may_come f ≡ true) }
     {
         discrepancy(&mut self.conn, alloc)

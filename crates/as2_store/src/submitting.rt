@@ -3,11 +3,11 @@
 ghost use Rattle.std.specs.Prelude.{◌≡◌, ◌<◌, nat_le, None, false, IsTrue, OnOk};
 ghost use Rattle.sqlite.specs.Held.{state};
 ghost use Rattle.sqlite.specs.State.{HasCleanDisk};
-ghost use Rattle.as2_store.specs.Calls.{IsInside, Writes};
+ghost use Rattle.as2_store.specs.Calls.{IsInside, WritesTables};
 ghost use Rattle.as2_exchange.specs.State.{State, end_of_numbers};
 ghost use Rattle.as2_store.specs.Stands.{Stands};
 ghost use Rattle.as2_store.specs.Tables.{Way, VersionThree};
-ghost use Rattle.as2_store.specs.Adding.{Fits, IsEntered};
+ghost use Rattle.as2_store.specs.Adding.{EntryFits, IsEntered};
 ghost use Rattle.as2_records.specs.Adding.{added_document, with_document};
 
 use crate::contents::{Mailbox, put_pieces};
@@ -46,7 +46,7 @@ fn progress_of(entry: &OutEntry) -> Progress
 /// Puts in the row, the content and the wait of a document.
 fn put_submitted<S: Alter>(tx: &mut Transaction<'_, S>, entry: &OutEntry) -> Result<(), Error>
     requires number { entry.now.number < end_of_numbers }
-    requires fits { Fits entry.now.content entry.now.tries entry.now.due }
+    requires fits { EntryFits entry.now.content entry.now.tries entry.now.due }
     requires unsettled { entry.now.evidence ≡ None }
     requires begun { entry.now.begun ≡ nat_le 1 entry.now.tries }
     ensures same_reference { tx.new.conn.ghost_name ≡ tx.old.conn.ghost_name }
@@ -67,11 +67,11 @@ fn put_submitted<S: Alter>(tx: &mut Transaction<'_, S>, entry: &OutEntry) -> Res
 pub fn add_document<S: Alter>(conn: &mut Connection<S>, entry: &OutEntry) -> Result<(), Error>
     requires autocommit { conn.old.in_transaction ≡ false }
     requires number { entry.now.number < end_of_numbers }
-    requires fits { Fits entry.now.content entry.now.tries entry.now.due }
+    requires fits { EntryFits entry.now.content entry.now.tries entry.now.due }
     requires unsettled { entry.now.evidence ≡ None }
     requires begun { entry.now.begun ≡ nat_le 1 entry.now.tries }
     ensures autocommit { conn.new.in_transaction ≡ false }
-    ensures added { Writes (added_document entry.now) (state S.Store conn.old) (state S.Store conn.new) result }
+    ensures added { WritesTables (added_document entry.now) (state S.Store conn.old) (state S.Store conn.new) result }
 {
     let mut tx = conn.transaction();
     put_submitted(&mut tx, entry)?;

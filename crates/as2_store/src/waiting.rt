@@ -4,14 +4,14 @@ ghost use Rattle.std.specs.Prelude.{◌≡◌, ◌≤◌, ◌<◌, ◌^◌, Some
 ghost use Rattle.sqlite.specs.Held.{state};
 ghost use Rattle.sqlite.specs.State.{HasCleanDisk};
 ghost use Rattle.as2_store.specs.Calls.{IsInside};
-ghost use Rattle.sql_tables.specs.Changes.{Changed};
+ghost use Rattle.sql_tables.specs.Changes.{ChangesTable};
 ghost use Rattle.as2_exchange.specs.State.{end_of_numbers};
 ghost use Rattle.as2_rows.specs.Waiting.{WaitingRow, in_kind, in_waiting, kind_code, out_kind, to_answer};
 ghost use Rattle.as2_store.specs.Tables.{Way, store_schema, waiting_tree};
 ghost use Rattle.as2_store.specs.Stands.{waiting_row};
-ghost use Rattle.as2_store.specs.Adding.{Noted, noted_rows};
+ghost use Rattle.as2_store.specs.Adding.{NotesWaiting, noted_rows};
 ghost use Rattle.as2_store.specs.Owing.{answers_at};
-ghost use Rattle.as2_store.specs.Requeuing.{HoldsWaiting, Renewed, not_at};
+ghost use Rattle.as2_store.specs.Requeuing.{HoldsWaiting, RenewsWaiting, not_at};
 ghost use Rattle.as2_store.specs.Progressing.{waits_at};
 ghost use Rattle.as2_store.specs.Settling.{place_of, without_document};
 
@@ -37,7 +37,7 @@ fn put_waiting<S: Alter>(
         → OnOk result (IsTrue (state S.Store tx.new.conn.now).in_transaction) }
     ensures put { HasCleanDisk (state S.Store tx.new.conn.now)
         → OnOk result ((way : Way) → (state S.Store tx.old.conn.now).now.schema ≡ store_schema way
-        → Noted way (state S.Store tx.old.conn.now) (state S.Store tx.new.conn.now)
+        → NotesWaiting way (state S.Store tx.old.conn.now) (state S.Store tx.new.conn.now)
         (Some (record { kind = kind_code wait; number = number; due = due }))) }
 {
     let kind = wait.code();
@@ -70,7 +70,7 @@ fn take_waiting<S: Alter>(tx: &mut Transaction<'_, S>, place: u64) -> Result<(),
         → OnOk result (IsTrue (state S.Store tx.new.conn.now).in_transaction) }
     ensures put { HasCleanDisk (state S.Store tx.new.conn.now)
         → OnOk result ((way : Way) (ws : List WaitingRow) → HoldsWaiting way (state S.Store tx.old.conn.now).now ws
-        → Changed (state S.Store tx.old.conn.now) (state S.Store tx.new.conn.now) (store_schema way) waiting_tree
+        → ChangesTable (state S.Store tx.old.conn.now) (state S.Store tx.new.conn.now) (store_schema way) waiting_tree
         (map waiting_row (not_at place ws))) }
 {
     let place = whole(place);
@@ -104,7 +104,7 @@ fn put_owed_waiting<S: Alter>(
         → OnOk result (IsTrue (state S.Store tx.new.conn.now).in_transaction) }
     ensures put { HasCleanDisk (state S.Store tx.new.conn.now)
         → OnOk result ((way : Way) → (state S.Store tx.old.conn.now).now.schema ≡ store_schema way
-        → Noted way (state S.Store tx.old.conn.now) (state S.Store tx.new.conn.now) (answers_at number progress)) }
+        → NotesWaiting way (state S.Store tx.old.conn.now) (state S.Store tx.new.conn.now) (answers_at number progress)) }
 {
     if is_to_answer(progress.mdn, progress.attempt) {
         put_waiting(tx, Wait::ToAnswer, number, progress.due)?;
@@ -120,7 +120,7 @@ pub fn put_in_waiting<S: Alter>(tx: &mut Transaction<'_, S>, entry: &InEntry) ->
     ensures within { IsInside (state S.Store tx.old.conn.now) (state S.Store tx.new.conn.now) }
     ensures put { HasCleanDisk (state S.Store tx.new.conn.now)
         → OnOk result ((way : Way) → (state S.Store tx.old.conn.now).now.schema ≡ store_schema way
-        → Noted way (state S.Store tx.old.conn.now) (state S.Store tx.new.conn.now) (in_waiting entry.now)) }
+        → NotesWaiting way (state S.Store tx.old.conn.now) (state S.Store tx.new.conn.now) (in_waiting entry.now)) }
 {
     if is_to_answer(entry.mdn, entry.attempt) {
         put_waiting(tx, Wait::ToAnswer, entry.number, entry.due)?;
@@ -159,7 +159,7 @@ pub fn put_out_waiting<S: Alter>(
         → OnOk result (IsTrue (state S.Store tx.new.conn.now).in_transaction) }
     ensures put { HasCleanDisk (state S.Store tx.new.conn.now)
         → OnOk result ((way : Way) → (state S.Store tx.old.conn.now).now.schema ≡ store_schema way
-        → Noted way (state S.Store tx.old.conn.now) (state S.Store tx.new.conn.now) (waits_at number progress)) }
+        → NotesWaiting way (state S.Store tx.old.conn.now) (state S.Store tx.new.conn.now) (waits_at number progress)) }
 {
     if let Some(wait) = wait_of(progress.detail, progress.attempt) {
         put_waiting(tx, wait, number, progress.due)?;
@@ -181,7 +181,7 @@ pub fn wait_for<S: Alter>(
         → OnOk result (IsTrue (state S.Store tx.new.conn.now).in_transaction) }
     ensures put { HasCleanDisk (state S.Store tx.new.conn.now)
         → OnOk result ((way : Way) (ws : List WaitingRow) → HoldsWaiting way (state S.Store tx.old.conn.now).now ws
-        → Renewed way (state S.Store tx.old.conn.now) (state S.Store tx.new.conn.now)
+        → RenewsWaiting way (state S.Store tx.old.conn.now) (state S.Store tx.new.conn.now)
         (noted_rows (waits_at number progress) (map waiting_row (without_document number ws)))) }
 {
     take_document(tx, number)?;
@@ -202,7 +202,7 @@ pub fn answer_for<S: Alter>(
         → OnOk result (IsTrue (state S.Store tx.new.conn.now).in_transaction) }
     ensures put { HasCleanDisk (state S.Store tx.new.conn.now)
         → OnOk result ((way : Way) (ws : List WaitingRow) → HoldsWaiting way (state S.Store tx.old.conn.now).now ws
-        → Renewed way (state S.Store tx.old.conn.now) (state S.Store tx.new.conn.now)
+        → RenewsWaiting way (state S.Store tx.old.conn.now) (state S.Store tx.new.conn.now)
         (noted_rows (answers_at number progress) (map waiting_row (not_at (place_of to_answer number) ws)))) }
 {
     take_waiting(tx, place_of(Wait::ToAnswer, number))?;
@@ -218,7 +218,7 @@ pub fn take_document<S: Alter>(tx: &mut Transaction<'_, S>, number: u64) -> Resu
         → OnOk result (IsTrue (state S.Store tx.new.conn.now).in_transaction) }
     ensures put { HasCleanDisk (state S.Store tx.new.conn.now)
         → OnOk result ((way : Way) (ws : List WaitingRow) → HoldsWaiting way (state S.Store tx.old.conn.now).now ws
-        → Renewed way (state S.Store tx.old.conn.now) (state S.Store tx.new.conn.now)
+        → RenewsWaiting way (state S.Store tx.old.conn.now) (state S.Store tx.new.conn.now)
         (map waiting_row (without_document number ws))) }
 {
     take_waiting(tx, place_of(Wait::ToSend, number))?;

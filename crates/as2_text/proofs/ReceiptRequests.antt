@@ -2,7 +2,7 @@
 use Rattle.std.proofs.Common.{◌≡◌, ℕ, Bool, true, false, cond, List, [], ◌∷◌, Option, Some, None, Result, Ok, Err, Bor, refl, sym, ap, subst, ◌∙◌, inl, inr}
 use Rattle.std.specs.Prelude.{IfOk, ◌||◌, ◌⊎◌}
 use Rattle.std.proofs.lemmas.Bool.{or_parts, or_from, true≢false}
-use Rattle.as2_names.specs.Heads.{Tells}
+use Rattle.as2_names.specs.Heads.{IsOnceOf}
 use Rattle.as2_names.specs.declared.head.Once.{Once}
 use Rattle.as2_names.specs.declared.head.Once.TheVariants as once
 use Rattle.as2_text.specs.Addresses.{IsUrl, url_of}
@@ -14,19 +14,19 @@ use Rattle.as2_text.specs.declared.receipt_ask.AskFault.TheVariants as fault
 use Rattle.as2_text.specs.declared.receipt_ask.How.{How}
 use Rattle.as2_text.specs.declared.receipt_ask.How.TheVariants as how
 use Rattle.as2_text.specs.declared.receipt_ask.ReceiptAsk.{ReceiptAsk}
-use Rattle.as2_text.specs.ReceiptRequests.{Fields, Request, IsGiven, SaysHow, AsksFor, Asks, asked, asked_by, asked_where, request_to, delivery_option, has_twice, is_given_twice, notification_options, notification_to, reading, request_of, shown, text_of, with_address}
+use Rattle.as2_text.specs.ReceiptRequests.{Fields, Request, IsGiven, SaysHow, AsksFor, Asks, request_in_head, asked_by, asked_where, request_to_addresses, delivery_option, has_twice, is_given_twice, notification_options, notification_to, request_reading, request_of, request_result, text_of, with_address}
 
 -- ---- the delivery option
 
-pub delivered_one : (told : Once) (text : Bor (List ℕ)) (vs : List (List ℕ)) (options : List ReceiptOption) → told ≡ once.One text → Tells told vs → with_address (url_of text.now) options ≡ request_to vs options
-delivered_one told text vs options e t = ap (λ (x : List (List ℕ)). request_to x options) (sym (subst (λ (o : Once). Tells o vs) e t))
+pub delivered_one : (told : Once) (text : Bor (List ℕ)) (vs : List (List ℕ)) (options : List ReceiptOption) → told ≡ once.One text → IsOnceOf told vs → with_address (url_of text.now) options ≡ request_to_addresses vs options
+delivered_one told text vs options e t = ap (λ (x : List (List ℕ)). request_to_addresses x options) (sym (subst (λ (o : Once). IsOnceOf o vs) e t))
 
 -- ---- a field that stands there
 
-pub asked_told : (told : Once) (vs : List (List ℕ)) (head : Fields) → Tells told vs → ((x : Bor (List ℕ)) × (told ≡ once.One x)) ⊎ (told ≡ once.Twice) → asked head ≡ asked_where vs head
-asked_told told vs head t (inl e) = ap (λ (x : List (List ℕ)). asked_where x head) (sym (subst (λ (o : Once). Tells o vs) e.1 t))
+pub asked_told : (told : Once) (vs : List (List ℕ)) (head : Fields) → IsOnceOf told vs → ((x : Bor (List ℕ)) × (told ≡ once.One x)) ⊎ (told ≡ once.Twice) → request_in_head head ≡ asked_where vs head
+asked_told told vs head t (inl e) = ap (λ (x : List (List ℕ)). asked_where x head) (sym (subst (λ (o : Once). IsOnceOf o vs) e.1 t))
 asked_told told vs head t (inr e) =
-    let more = subst (λ (o : Once). Tells o vs) e t in
+    let more = subst (λ (o : Once). IsOnceOf o vs) e t in
     ap (λ (x : List (List ℕ)). asked_where x head) (sym more.3)
 
 -- ---- no field stands there twice
@@ -55,7 +55,7 @@ record IsRequestOf (vs : List (List ℕ)) (options : List ReceiptOption) (reques
   pub says : SaysHow vs delivery
   pub request_is : request ≡ asked_by delivery options
 
-delivered_found : (vs : List (List ℕ)) (options : List ReceiptOption) (request : Request) → is_given_twice vs ≡ false → request_to vs options ≡ Ok request → IsRequestOf vs options request
+delivered_found : (vs : List (List ℕ)) (options : List ReceiptOption) (request : Request) → is_given_twice vs ≡ false → request_to_addresses vs options ≡ Ok request → IsRequestOf vs options request
 delivered_found [] options request one e = record { delivery = how.Sync; says = inl (refl, refl); request_is = cc }
 delivered_found (text ∷ []) options request one e =
     let f = with_found text (url_of text) options request refl e in
@@ -75,11 +75,11 @@ unless : (t : Bool) (e : AskFault) (r : Result Request AskFault) (request : Requ
 unless true e r request h = absurd cc
 unless false e r request h = (refl, h)
 
-asked_found : (head : Fields) (address : List ℕ) (request : Request) → notification_to head ≡ address ∷ [] → asked head ≡ Ok request → AsksFor head request
+asked_found : (head : Fields) (address : List ℕ) (request : Request) → notification_to head ≡ address ∷ [] → request_in_head head ≡ Ok request → AsksFor head request
 asked_found head address request to e =
     let text : List ℕ = text_of (notification_options head) in
     let outer = unless (has_twice head) fault.Twice _ request e in
-    let inner = guarded (are_options text) fault.OptionsUnreadable (request_to (delivery_option head) (options_in text)) request outer.1 in
+    let inner = guarded (are_options text) fault.OptionsUnreadable (request_to_addresses (delivery_option head) (options_in text)) request outer.1 in
     let single = are_once head outer.0 in
     let comes = delivered_found (delivery_option head) (options_in text) request single.delivery inner.1 in
     record {
@@ -101,7 +101,7 @@ where_found head (address ∷ second ∷ rest) request to e =
     let outer = unless (has_twice head) fault.Twice _ request e in
     absurd (true≢false (ap is_given_twice (sym to) ∙ (are_once head outer.0).to))
 
-pub asks_found : (head : Fields) (request : Request) → reading head ≡ Ok request → Asks head request
+pub asks_found : (head : Fields) (request : Request) → request_reading head ≡ Ok request → Asks head request
 asks_found head request e = where_found head (notification_to head) request refl e
 
 -- ---- what is asked is read
@@ -110,30 +110,30 @@ given_again : (vs : List (List ℕ)) (text : List ℕ) → IsGiven vs text → (
 given_again vs text (inl g) = (ap is_given_twice g.0, ap text_of g.0 ∙ sym g.1)
 given_again vs text (inr g) = (ap is_given_twice g, ap text_of g)
 
-delivered_again : (vs : List (List ℕ)) (delivery : How) (options : List ReceiptOption) → SaysHow vs delivery → (is_given_twice vs ≡ false) × (request_to vs options ≡ Ok (asked_by delivery options))
-delivered_again vs delivery options (inl s) = (ap is_given_twice s.0, ap (λ (x : List (List ℕ)). request_to x options) s.0 ∙ ap (λ (h : How). Ok (asked_by h options)) (sym s.1))
+delivered_again : (vs : List (List ℕ)) (delivery : How) (options : List ReceiptOption) → SaysHow vs delivery → (is_given_twice vs ≡ false) × (request_to_addresses vs options ≡ Ok (asked_by delivery options))
+delivered_again vs delivery options (inl s) = (ap is_given_twice s.0, ap (λ (x : List (List ℕ)). request_to_addresses x options) s.0 ∙ ap (λ (h : How). Ok (asked_by h options)) (sym s.1))
 delivered_again vs delivery options (inr s) = (
   ap is_given_twice s.2,
-  ap (λ (x : List (List ℕ)). request_to x options) s.2
+  ap (λ (x : List (List ℕ)). request_to_addresses x options) s.2
       ∙ ap (λ (r : Option (List ℕ × List ℕ)). with_address r options) (url_again s.0 s.1 s.3)
       ∙ ap (λ (h : How). Ok (asked_by h options)) (sym s.4),
 )
 
-asked_again : (head : Fields) (request : Request) → AsksFor head request → reading head ≡ Ok request
+asked_again : (head : Fields) (request : Request) → AsksFor head request → request_reading head ≡ Ok request
 asked_again head request a =
     let given = given_again (notification_options head) a.options_text a.given in
     let comes = delivered_again (delivery_option head) a.delivery a.options a.how in
     let read = options_again a.options_text a.options a.says in
     let single : has_twice head ≡ false = or_from (is_given_twice (notification_to head) || is_given_twice (notification_options head)) (is_given_twice (delivery_option head)) (or_from (is_given_twice (notification_to head)) (is_given_twice (notification_options head)) (ap is_given_twice a.asked) given.0) comes.0 in
-    let right : asked head ≡ Ok request = rw (single, given.1, read.readable, read.gives, comes.1) (ap (λ (r : Request). Ok r) (sym a.request_is)) in
+    let right : request_in_head head ≡ Ok request = rw (single, given.1, read.readable, read.gives, comes.1) (ap (λ (r : Request). Ok r) (sym a.request_is)) in
     ap (λ (vs : List (List ℕ)). asked_where vs head) a.asked ∙ right
 
-pub asks_again : (head : Fields) (request : Request) → Asks head request → reading head ≡ Ok request
+pub asks_again : (head : Fields) (request : Request) → Asks head request → request_reading head ≡ Ok request
 asks_again head request (inl n) = ap (λ (vs : List (List ℕ)). asked_where vs head) n.0 ∙ ap (λ (r : Request). Ok r) (sym n.1)
 asks_again head request (inr a) = asked_again head request a
 
 -- ---- the same of what the code hands out
 
-pub shown_found : (head : Fields) (result : Result ReceiptAsk AskFault) → shown result ≡ reading head → IfOk result (λ ask. Asks head (request_of ask))
+pub shown_found : (head : Fields) (result : Result ReceiptAsk AskFault) → request_result result ≡ request_reading head → IfOk result (λ ask. Asks head (request_of ask))
 shown_found head (Ok ask) e = asks_found head (request_of ask) (sym e)
 shown_found head (Err f) e = tt

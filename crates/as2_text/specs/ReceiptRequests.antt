@@ -95,24 +95,24 @@ with_address None options = Err fault.UrlUnreadable
 with_address (Some url) options = Ok (asked_by (how.Async url) options)
 
 -- the request of these options and these addresses
-abbrev pub request_to : List (List ℕ) → List ReceiptOption → Result Request AskFault
-request_to [] options = Ok (asked_by how.Sync options)
-request_to (text ∷ rest) options = with_address (url_of text) options
+abbrev pub request_to_addresses : List (List ℕ) → List ReceiptOption → Result Request AskFault
+request_to_addresses [] options = Ok (asked_by how.Sync options)
+request_to_addresses (text ∷ rest) options = with_address (url_of text) options
 
 -- the request of a head with one `Disposition-Notification-To`, or its first fault
-abbrev pub asked : Fields → Result Request AskFault
-asked head =
+abbrev pub request_in_head : Fields → Result Request AskFault
+request_in_head head =
     if has_twice head then Err fault.Twice
-    else if are_options (text_of (notification_options head)) then request_to (delivery_option head) (options_in (text_of (notification_options head)))
+    else if are_options (text_of (notification_options head)) then request_to_addresses (delivery_option head) (options_in (text_of (notification_options head)))
     else Err fault.OptionsUnreadable
 
 abbrev pub asked_where : List (List ℕ) → Fields → Result Request AskFault
 asked_where [] head = Ok nothing_asked
-asked_where (address ∷ rest) head = asked head
+asked_where (address ∷ rest) head = request_in_head head
 
 -- the request of a head, or its first fault
-abbrev pub reading : Fields → Result Request AskFault
-reading head = asked_where (notification_to head) head
+abbrev pub request_reading : Fields → Result Request AskFault
+request_reading head = asked_where (notification_to head) head
 
 -- ---- what the code hands out
 
@@ -126,6 +126,6 @@ request_of ask =
       other_required = ask.other_required;
     }
 
-abbrev pub shown : Result ReceiptAsk AskFault → Result Request AskFault
-shown (Ok ask) = Ok (request_of ask)
-shown (Err e) = Err e
+abbrev pub request_result : Result ReceiptAsk AskFault → Result Request AskFault
+request_result (Ok ask) = Ok (request_of ask)
+request_result (Err e) = Err e

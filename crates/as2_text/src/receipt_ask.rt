@@ -1,7 +1,7 @@
 ghost use Rattle.std.specs.Prelude.{◌≡◌, List, ℕ, false, IfOk, Ok};
-ghost use Rattle.as2_names.specs.Heads.{Tells};
+ghost use Rattle.as2_names.specs.Heads.{IsOnceOf};
 ghost use Rattle.as2_text.specs.ReceiptOptions.{are_options, options_in};
-ghost use Rattle.as2_text.specs.ReceiptRequests.{Asks, Request, asked, asked_by, request_to, is_given_twice, reading, request_of, shown, text_of};
+ghost use Rattle.as2_text.specs.ReceiptRequests.{Asks, Request, request_in_head, asked_by, request_to_addresses, is_given_twice, request_reading, request_of, request_result, text_of};
 
 use crate::receipt_option::MICALG;
 use crate::receipt_options::{are_options, first_named, other_required};
@@ -46,7 +46,7 @@ pub struct ReceiptAsk<'a> {
 
 /// The value that stands there, nothing where none does.
 fn text_of<'a>(once: &Once<'a>) -> &'a [u8]
-    ensures { (vs : List (List ℕ)) → Tells once.now vs → is_given_twice vs ≡ false → result.now ≡ text_of vs }
+    ensures { (vs : List (List ℕ)) → IsOnceOf once.now vs → is_given_twice vs ≡ false → result.now ≡ text_of vs }
 {
     match once {
         Once::One(text) => *text,
@@ -78,14 +78,14 @@ fn asked_by<'a>(how: How<'a>, options: &'a [u8]) -> ReceiptAsk<'a>
 
 /// Whether two fields or more have the name.
 fn is_twice(once: &Once<'_>) -> bool
-    ensures { (vs : List (List ℕ)) → Tells once.now vs → result ≡ is_given_twice vs }
+    ensures { (vs : List (List ℕ)) → IsOnceOf once.now vs → result ≡ is_given_twice vs }
 {
     *once == Once::Twice
 }
 
 /// What the options ask of a receipt that comes as the delivery option says.
 fn delivered<'a>(delivery: &Once<'a>, options: &'a [u8]) -> Result<ReceiptAsk<'a>, AskFault>
-    ensures { (vs : List (List ℕ)) → Tells delivery.now vs → is_given_twice vs ≡ false → shown result ≡ request_to vs (options_in options.now) }
+    ensures { (vs : List (List ℕ)) → IsOnceOf delivery.now vs → is_given_twice vs ≡ false → request_result result ≡ request_to_addresses vs (options_in options.now) }
 {
     match delivery {
         Once::One(text) => match Url::parse(text) {
@@ -98,7 +98,7 @@ fn delivered<'a>(delivery: &Once<'a>, options: &'a [u8]) -> Result<ReceiptAsk<'a
 
 /// What a head asks that has a `Disposition-Notification-To`.
 fn asked(head: &Head) -> Result<ReceiptAsk<'_>, AskFault>
-    ensures { shown result ≡ asked head.now }
+    ensures { request_result result ≡ request_in_head head.now }
 {
     let to = head.value(b"disposition-notification-to");
     let options = head.value(b"disposition-notification-options");
@@ -115,7 +115,7 @@ fn asked(head: &Head) -> Result<ReceiptAsk<'_>, AskFault>
 
 /// What a head asks.
 fn read(head: &Head) -> Result<ReceiptAsk<'_>, AskFault>
-    ensures { shown result ≡ reading head.now }
+    ensures { request_result result ≡ request_reading head.now }
 {
     match head.value(b"disposition-notification-to") {
         Once::Absent => Ok(ReceiptAsk {
@@ -135,9 +135,9 @@ impl<'a> ReceiptAsk<'a> {
         // What is read is asked.
         ensures found { IfOk result (λ ask. Asks head.now (request_of ask)) }
         // What is asked is read.
-        ensures only { (request : Request) → Asks head.now request → shown result ≡ Ok request }
+        ensures only { (request : Request) → Asks head.now request → request_result result ≡ Ok request }
         // Which fault it is.
-        ensures exact { shown result ≡ reading head.now }
+        ensures exact { request_result result ≡ request_reading head.now }
     {
         read(head)
     }

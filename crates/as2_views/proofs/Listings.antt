@@ -9,7 +9,7 @@ use Rattle.as2_exchange.specs.Invariants.{AreNumbers}
 use Rattle.as2_exchange.specs.State.{State, is_settled}
 use Rattle.as2_exchange.specs.Tries.{is_due}
 use Rattle.as2_exchange.specs.Progress.{is_in, is_under_way}
-use Rattle.as2_views.specs.Texts.{list_in, list_out, outstanding}
+use Rattle.as2_views.specs.Texts.{list_in, list_out, outstanding_text}
 use Rattle.as2_records.specs.Summaries.{in_summary, out_summary}
 use Rattle.as2_records.specs.Counting.{counts_of}
 use Rattle.as2_views.specs.Counting.{counts_text}
@@ -50,7 +50,7 @@ pub outbox_lines : (s : State) (wanted : Option StateOf) → Rise (document_numb
 outbox_lines s wanted up = lines (settled_numbers s) (is_in wanted) s.outbox (marks s.outbox up)
 
 pub outstanding_lines : (s : State) (m : ℕ) → Rise (document_numbers s)
-    → counts_text (counts_of s) ++ flat_map (marked_line (settled_numbers s)) (filter (is_outstanding m) (map out_summary s.outbox)) ≡ outstanding s m
+    → counts_text (counts_of s) ++ flat_map (marked_line (settled_numbers s)) (filter (is_outstanding m) (map out_summary s.outbox)) ≡ outstanding_text s m
 outstanding_lines s m up =
     ap (λ l. counts_text (counts_of s) ++ l)
     (ap (flat_map (marked_line (settled_numbers s))) (kept_rows (is_outstanding m) s.outbox)

@@ -15,7 +15,7 @@ use Rattle.as2_exchange.specs.declared.inbox.MdnState.TheVariants.{Pending}
 use Rattle.as2_exchange.specs.declared.inbox.ReceiptDelivery.TheVariants.{Async}
 use Rattle.as2_exchange.specs.declared.outbox.Evidence.{Evidence}
 use Rattle.as2_exchange.specs.declared.outbox.OutEntry.{OutEntry}
-use Rattle.as2_views.specs.Texts.{list_out, list_in, outstanding, show, fetch}
+use Rattle.as2_views.specs.Texts.{list_out, list_in, outstanding_text, show_text, fetch}
 
 -- a document as it stands
 abbrev standing : ℕ → ℕ → Attempt → Option ℕ → Detail → Option Evidence → OutEntry
@@ -32,12 +32,12 @@ after_settling = record {
 }
 
 list_and_show : (list_out after_settling None ≡ codes "           1 S  1 R processed        Supplier -> Depot\n")
-    × (show after_settling 1 ≡ Some (codes "number: 1\nstate: S processed\ntries: 1\ndue: -\nfrom: Supplier\nto: Depot\nidentifier: <out-1@station.example>\ncontent: 3 bytes\nreceipt: R at 1000, 406 bytes\n"))
-    × (show after_settling 2 ≡ None)
+    × (show_text after_settling 1 ≡ Some (codes "number: 1\nstate: S processed\ntries: 1\ndue: -\nfrom: Supplier\nto: Depot\nidentifier: <out-1@station.example>\ncontent: 3 bytes\nreceipt: R at 1000, 406 bytes\n"))
+    × (show_text after_settling 2 ≡ None)
 unfolding after_settling digits
 list_and_show = (refl, refl, refl)
 
-nothing_outstanding : outstanding (empty (LaterVersion 0) 1) 1000 ≡ codes "documents not sent: 0\ndocuments in retry: 0\nreceipts awaited: 0\ndocuments in error: 0\nreceipts to send: 0\n"
+nothing_outstanding : outstanding_text (empty (LaterVersion 0) 1) 1000 ≡ codes "documents not sent: 0\ndocuments in retry: 0\nreceipts awaited: 0\ndocuments in error: 0\nreceipts to send: 0\n"
 unfolding digits
 nothing_outstanding = refl
 
@@ -52,14 +52,14 @@ under_way = record {
 }
 
 -- at 1030 the third isn't due yet, and the fourth and fifth wait for nothing or for later
-outstanding_at_1030 : outstanding under_way 1030 ≡ codes "documents not sent: 1\ndocuments in retry: 2\nreceipts awaited: 1\ndocuments in error: 1\nreceipts to send: 0\n           1 P  0 - new              Supplier -> Depot\n           2 R  1 - retry            Supplier -> Depot\n"
+outstanding_at_1030 : outstanding_text under_way 1030 ≡ codes "documents not sent: 1\ndocuments in retry: 2\nreceipts awaited: 1\ndocuments in error: 1\nreceipts to send: 0\n           1 P  0 - new              Supplier -> Depot\n           2 R  1 - retry            Supplier -> Depot\n"
 unfolding under_way digits
 outstanding_at_1030 = refl
 
 -- the documents of one state, in order of number; and one document that is due
 listed_by_state : (list_out under_way (Some R) ≡ codes "           2 R  1 - retry            Supplier -> Depot\n           5 R  1 - sending          Supplier -> Depot\n")
     × (list_out under_way (Some S) ≡ [])
-    × (show under_way 3 ≡ Some (codes "number: 3\nstate: P awaiting\ntries: 1\ndue: 1060\nfrom: Supplier\nto: Depot\nidentifier: <out-1@station.example>\ncontent: 3 bytes\nreceipt: -\n"))
+    × (show_text under_way 3 ≡ Some (codes "number: 3\nstate: P awaiting\ntries: 1\ndue: 1060\nfrom: Supplier\nto: Depot\nidentifier: <out-1@station.example>\ncontent: 3 bytes\nreceipt: -\n"))
 unfolding under_way digits
 listed_by_state = (refl, refl, refl)
 

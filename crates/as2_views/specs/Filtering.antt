@@ -6,6 +6,6 @@ use Rattle.as2_views.specs.declared.filter.Filter.{Filter}
 use Rattle.as2_views.specs.declared.filter.Filter.TheVariants.{Inbox, Outbox}
 
 -- of the documents that are sent, those of a state or all; or of those that were received
-abbrev pub listing : Filter → State → Text
-listing (Outbox wanted) s = list_out s wanted
-listing Inbox s = list_in s
+abbrev pub listing_text : Filter → State → Text
+listing_text (Outbox wanted) s = list_out s wanted
+listing_text Inbox s = list_in s

@@ -1,7 +1,7 @@
 -- The pieces of lines: places, marks and spellings.
 use Rattle.std.specs.Prelude.{ℕ, ◌-◌, Bool, true, false, ◌++◌, length, replicate, codes, decimal, Option, Some, None}
 use Rattle.as2_names.specs.Ascii.{space}
-use Rattle.as2_names.specs.Names.{spelling}
+use Rattle.as2_names.specs.Names.{name_spelling}
 use Rattle.as2_mdn.specs.declared.detail.State.{State as StateOf}
 use Rattle.as2_mdn.specs.declared.detail.State.TheVariants.{P, R, S, W, E}
 use Rattle.as2_exchange.specs.Agreement.{Text}
@@ -41,7 +41,7 @@ mdn_mark Sent = codes "S"
 
 -- both names as they are spelled
 abbrev pub from_to : Text → Text → Text
-from_to from to = spelling from ++ codes " -> " ++ spelling to
+from_to from to = name_spelling from ++ codes " -> " ++ name_spelling to
 
 abbrev pub count_line : Text → ℕ → Text
 count_line words n = words ++ codes " " ++ decimal n ++ codes "\n"

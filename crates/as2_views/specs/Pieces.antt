@@ -1,7 +1,7 @@
 -- The pieces that the text of a document is put together from.
 use Rattle.std.specs.Prelude.{ℕ, Option, ◌++◌, length, codes, decimal}
-use Rattle.as2_names.specs.Names.{spelling}
-use Rattle.as2_mdn.specs.Details.{state_of, name_of}
+use Rattle.as2_names.specs.Names.{name_spelling}
+use Rattle.as2_mdn.specs.Details.{class_of, name_of}
 use Rattle.as2_mdn.specs.declared.detail.Detail.{Detail}
 use Rattle.as2_exchange.specs.Agreement.{Text}
 use Rattle.as2_exchange.specs.declared.outbox.OutEntry.{OutEntry}
@@ -14,7 +14,7 @@ label name = name ++ codes ": "
 
 -- the state and the detail of a document
 abbrev pub standing_text : Detail → Text
-standing_text detail = state_text (state_of detail) ++ codes " " ++ name_of detail
+standing_text detail = state_text (class_of detail) ++ codes " " ++ name_of detail
 
 -- how many bytes there are
 abbrev pub size_text : ℕ → Text
@@ -31,8 +31,8 @@ tries_text d =
 -- from whom and to whom it is, which, and how long
 abbrev pub names_text : OutEntry → Text
 names_text d =
-    named_line (codes "from") (spelling d.organization)
-    ++ named_line (codes "to") (spelling d.partner)
+    named_line (codes "from") (name_spelling d.organization)
+    ++ named_line (codes "to") (name_spelling d.partner)
     ++ named_line (codes "identifier") d.id
     ++ named_line (codes "content") (size_text (length d.content))
 

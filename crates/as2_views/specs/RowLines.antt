@@ -1,6 +1,6 @@
 -- The lines of listings, told by rows without contents.
 use Rattle.std.specs.Prelude.{Bool, ◌++◌, codes, decimal}
-use Rattle.as2_mdn.specs.Details.{state_of, name_of}
+use Rattle.as2_mdn.specs.Details.{class_of, name_of}
 use Rattle.as2_exchange.specs.Agreement.{Text}
 use Rattle.as2_exchange.specs.Readings.{is_processed}
 use Rattle.as2_views.specs.Layout.{from_to, kept_mark, left_in, mdn_mark, processed_mark, right_in, state_text}
@@ -21,7 +21,7 @@ in_row_line r =
 abbrev pub out_row_line : Bool → OutRow → Text
 out_row_line is_settled r =
     right_in 12 (decimal r.number)
-    ++ codes " " ++ state_text (state_of r.detail)
+    ++ codes " " ++ state_text (class_of r.detail)
     ++ codes " " ++ right_in 2 (decimal r.tries)
     ++ codes " " ++ kept_mark is_settled
     ++ codes " " ++ left_in 16 (name_of r.detail)

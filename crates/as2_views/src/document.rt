@@ -1,6 +1,6 @@
 //! One document, in full.
 ghost use Rattle.std.specs.Prelude.{◌≡◌, ◌++◌, codes, decimal, option_map, Some, OnOk};
-ghost use Rattle.as2_names.specs.Names.{spelling};
+ghost use Rattle.as2_names.specs.Names.{name_spelling};
 ghost use Rattle.as2_views.specs.Layout.{due_text, evidence_text, named_line};
 ghost use Rattle.as2_views.specs.Texts.{shown_words};
 ghost use Rattle.as2_views.specs.Pieces.{label, names_text, receipt_line, size_text, standing_text, tries_text};
@@ -41,7 +41,7 @@ pub fn add_number_line(text: &mut Vec<u8>, name: &[u8], number: u64) -> Result<(
 
 /// Appends a line of a name and the name of an organization or a partner, as it is spelled.
 pub fn add_name_line(text: &mut Vec<u8>, name: &[u8], value: &AsName) -> Result<(), AllocError>
-    ensures { OnOk result (text.new.items ≡ text.old.items ++ named_line name.now (spelling value.now)) }
+    ensures { OnOk result (text.new.items ≡ text.old.items ++ named_line name.now (name_spelling value.now)) }
 {
     add_label(text, name)?;
     add_name(text, value)?;

@@ -7,7 +7,7 @@ ghost use Rattle.as2_exchange.specs.declared.inbox.InEntry.{InEntry};
 ghost use Rattle.as2_exchange.specs.declared.outbox.OutEntry.{OutEntry};
 ghost use Rattle.as2_exchange.specs.Tries.{is_due};
 ghost use Rattle.as2_exchange.specs.Progress.{is_in, is_under_way};
-ghost use Rattle.as2_views.specs.Texts.{in_line, list_in, list_out, out_line, outstanding};
+ghost use Rattle.as2_views.specs.Texts.{in_line, list_in, list_out, out_line, outstanding_text};
 ghost use Rattle.as2_records.specs.Summaries.{in_summary, out_summary};
 ghost use Rattle.as2_records.specs.Counting.{counts_of};
 ghost use Rattle.as2_views.specs.Counting.{counts_text};
@@ -32,7 +32,7 @@ pub fn lists_of_rows()
     ensures outstanding { (s : State) (m : ℕ) → Rise (document_numbers s) →
         counts_text (counts_of s)
         ++ flat_map (marked_line (settled_numbers s)) (filter (is_outstanding m) (map out_summary s.outbox))
-        ≡ outstanding s m }
+        ≡ outstanding_text s m }
 {}
 
 /// Where the numbers of documents rise, so do those of the documents that a receipt has settled.

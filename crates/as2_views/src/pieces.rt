@@ -1,7 +1,7 @@
 //! Pieces of lines.
 ghost use Rattle.std.specs.Prelude.{◌≡◌, ◌≤◌, ◌++◌, codes, decimal, replicate, OnOk};
 ghost use Rattle.as2_names.specs.Ascii.{space};
-ghost use Rattle.as2_names.specs.Names.{spelling};
+ghost use Rattle.as2_names.specs.Names.{name_spelling};
 ghost use Rattle.as2_views.specs.Layout.{from_to, left_in, right_in};
 
 use as2_text::AsName;
@@ -63,7 +63,7 @@ pub fn add_left(text: &mut Vec<u8>, places: usize, word: &[u8]) -> Result<(), Al
 
 /// Appends a name as it is spelled.
 pub fn add_name(text: &mut Vec<u8>, name: &AsName) -> Result<(), AllocError>
-    ensures { OnOk result (text.new.items ≡ text.old.items ++ spelling name.now) }
+    ensures { OnOk result (text.new.items ≡ text.old.items ++ name_spelling name.now) }
 {
     add_text(text, name.spelling().as_str().as_bytes())
 }

@@ -1,7 +1,7 @@
 //! The program `as2desk`: an AS2 station at the command line.
 #![tactic(auto)]
 
-ghost use Rattle.as2_http.specs.Devices.{Opens};
+ghost use Rattle.as2_http.specs.Devices.{OpensLedger};
 
 use as2_connections::{Progress, Sockets, clock};
 use as2_desk::{Console, Host, Outside};
@@ -42,12 +42,12 @@ fn run<O: OpenStores, A: Ledger, B: Ledger, C: Ledger, D: Ledger, E: Ledger, G: 
     writes: Counts,
     says: Counts,
 ) -> (u8, O)
-    requires reads { Opens reads.calls.name reads.calls.parts A.name A.parts }
-    requires failed_reads { Opens reads.failed.name reads.failed.parts B.name B.parts }
-    requires writes { Opens writes.calls.name writes.calls.parts C.name C.parts }
-    requires failed_writes { Opens writes.failed.name writes.failed.parts D.name D.parts }
-    requires says { Opens says.calls.name says.calls.parts E.name E.parts }
-    requires failed_says { Opens says.failed.name says.failed.parts G.name G.parts }
+    requires reads { OpensLedger reads.calls.name reads.calls.parts A.name A.parts }
+    requires failed_reads { OpensLedger reads.failed.name reads.failed.parts B.name B.parts }
+    requires writes { OpensLedger writes.calls.name writes.calls.parts C.name C.parts }
+    requires failed_writes { OpensLedger writes.failed.name writes.failed.parts D.name D.parts }
+    requires says { OpensLedger says.calls.name says.calls.parts E.name E.parts }
+    requires failed_says { OpensLedger says.failed.name says.failed.parts G.name G.parts }
 {
     let mut console: Console<
         Counted<Stdin, A, B>,

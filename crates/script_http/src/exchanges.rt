@@ -1,5 +1,5 @@
 //! A request is sent, and its answer is read (RFC 9112, sections 4 and 6).
-ghost use Rattle.as2_http.specs.Devices.{Opens};
+ghost use Rattle.as2_http.specs.Devices.{OpensLedger};
 
 use crate::devices::{Room, Steps};
 use as2_exchange::{Bytes, Job, TryAnswer};
@@ -20,10 +20,10 @@ fn exchange_counted<R: Read, W: Write, A: Ledger, B: Ledger, C: Ledger, D: Ledge
     writes: Blank,
     failed_writes: Blank,
 ) -> TryAnswer
-    requires reads { Opens reads.name reads.parts A.name A.parts }
-    requires failed_reads { Opens failed_reads.name failed_reads.parts B.name B.parts }
-    requires writes { Opens writes.name writes.parts C.name C.parts }
-    requires failed_writes { Opens failed_writes.name failed_writes.parts D.name D.parts }
+    requires reads { OpensLedger reads.name reads.parts A.name A.parts }
+    requires failed_reads { OpensLedger failed_reads.name failed_reads.parts B.name B.parts }
+    requires writes { OpensLedger writes.name writes.parts C.name C.parts }
+    requires failed_writes { OpensLedger failed_writes.name failed_writes.parts D.name D.parts }
 {
     let mut source: Counted<&mut R, A, B> = Counted::new(input, reads, failed_reads);
     let mut sink: Counted<&mut W, C, D> = Counted::new(output, writes, failed_writes);

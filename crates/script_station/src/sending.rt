@@ -1,5 +1,5 @@
 //! What is due is sent, turn by turn, to partners in memory that all answer alike.
-ghost use Rattle.as2_http.specs.Devices.{Opens};
+ghost use Rattle.as2_http.specs.Devices.{OpensLedger};
 
 use crate::events::try_answer;
 use crate::stage::Stage;
@@ -77,8 +77,8 @@ fn sent_counted<K: Records, L: Ledger, M: Ledger>(
     writes: Blank,
     failed_writes: Blank,
 ) -> Sent
-    requires writes { Opens writes.name writes.parts L.name L.parts }
-    requires failed_writes { Opens failed_writes.name failed_writes.parts M.name M.parts }
+    requires writes { OpensLedger writes.name writes.parts L.name L.parts }
+    requires failed_writes { OpensLedger failed_writes.name failed_writes.parts M.name M.parts }
 {
     let alloc = partners.asked.alloc();
     let mut output: Counted<&mut Paper, L, M> = Counted::new(paper, writes, failed_writes);

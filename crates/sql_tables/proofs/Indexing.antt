@@ -11,13 +11,13 @@ use Rattle.sqlite.specs.Listing.{understood}
 use Rattle.sqlite.specs.State.{State, Writes, Executes, mode_of}
 use Rattle.sqlite.proofs.Callers.{IsPlain, command_of, statement_of, runs_as}
 use Rattle.sqlite_schema.specs.declared.schema.Index.{Index}
-use Rattle.sql_tables.specs.Changes.{Indexed}
+use Rattle.sql_tables.specs.Changes.{AddsIndex}
 use Rattle.sql_tables.proofs.Writes.{went, same_value}
 
 module _ (text : List ℕ) (old new : State) (schema : Schema) (has : old.now.schema ≡ schema) (at : ℕ) (table : Table) (place : slice_get schema.tables at ≡ Some table)
     (index : Index) (defined : index_defined_by table text ≡ Ok index) (plain : IsPlain (understood schema text)) where
   pub makes_index : command_of (understood schema text) ≡ CreateIndex at → statement_of text (understood schema text) ≡ text → (count : ℕ) → Executes text [] old new (Ok count)
-      → Indexed old new schema (indexed schema table index)
+      → AddsIndex old new schema (indexed schema table index)
   makes_index is whole count h =
       let w = subst (λ t. Writes old new None (CreateIndex at) t [] count) whole (runs_as text [] old new schema has (CreateIndex at) is plain count h) in
       let P = λ (o : Option Table). AtPlace (λ t. Defines (mode_of old) (MakesIndex text old.now t)) o (Ok (w.tally, new.now)) in

@@ -18,7 +18,7 @@ use Rattle.sqlite_trees.proofs.ListLemmas.{map-map, ascending-filter, ascending-
 use Rattle.sqlite_trees.proofs.TreeLemmas.{IsTable-put_row}
 use Rattle.sqlite_sql.proofs.QueryLemmas.{output_cmp_total}
 use Rattle.sqlite_keyed.proofs.SortLemmas.{sorted_unique}
-use Rattle.sql_tables.specs.Changes.{HasRows, numbered_row, over_table, passes, chosen, shown_of}
+use Rattle.sql_tables.specs.Changes.{HasRows, numbered_row, over_table, passes, chosen_rows, shown_of}
 use Rattle.sql_tables.proofs.Queries.{answered, by_column, map_same}
 
 -- ---- what a table has
@@ -90,7 +90,7 @@ module _ {X : Type 0} (cmp : X → X → Ordering) (total : IsTotalOrder cmp) wh
 -- ---- what a query shows
 
 -- in the order of a column: the rows that are chosen, where their values there differ
-pub shows_sorted : (tree : ℕ) (terms project : List Term) (at : ℕ) (db : Trees) (params : Row) (rows ordered : List Row) → IsPermutation (chosen terms params (db tree)) ordered
+pub shows_sorted : (tree : ℕ) (terms project : List Term) (at : ℕ) (db : Trees) (params : Row) (rows ordered : List Row) → IsPermutation (chosen_rows terms params (db tree)) ordered
     → IsAscending (λ a b. value_cmp (column a at) (column b at) ≡ Less) ordered
     → IsSureAnswer (over_table tree terms project (by_column at) (lit (Int (negsuc 0)))) (overlay db []) params rows → rows ≡ map (shown_of project params) ordered
 shows_sorted tree terms project at db params rows ordered same up sure =
@@ -133,10 +133,10 @@ shows_sorted_entries tree terms project at db params rows {X} row p shown same s
     let hits = λ (y : ℤ × X). p y.1 in
     let kept = filter hits it.0 in
     let picked : filter p xs ≡ map (λ (y : ℤ × X). y.1) kept = ap (filter p) it.2 ∙ filter-map p (λ (y : ℤ × X). y.1) it.0 in
-    let which : chosen terms params (map (under row) it.0) ≡ map (under row) kept =
+    let which : chosen_rows terms params (map (under row) it.0) ≡ map (under row) kept =
     filter-map (passes terms params) (under row) it.0
     ∙ ap (map (under row)) (filter_same (λ y. passes terms params (under row y)) hits it.0 (all_of (λ y. passes terms params (under row y) ≡ hits y) (λ y. same y.0 y.1) it.0)) in
-    let reached : IsPermutation (chosen terms params (db tree)) (map (under row) kept) = subst (IsPermutation _) which (IsPermutation-filter (passes terms params) _ _ it.1) in
+    let reached : IsPermutation (chosen_rows terms params (db tree)) (map (under row) kept) = subst (IsPermutation _) which (IsPermutation-filter (passes terms params) _ _ it.1) in
     let rising = ascending-map (λ (a b : Row). value_cmp (column a (suc at)) (column b (suc at)) ≡ Less) (under row) kept
     (ascending_from_map (λ (a b : X). value_cmp (column (row a) at) (column (row b) at) ≡ Less) (λ (y : ℤ × X). y.1) kept (subst (IsAscending _) picked up)) in
     shows_sorted tree terms project (suc at) db params rows (map (under row) kept) reached rising sure

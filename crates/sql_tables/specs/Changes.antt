@@ -18,7 +18,7 @@ use Rattle.sqlite_schema.specs.Rules.{Fits}
 use Rattle.sqlite_value.specs.declared.keys.Key.{Key}
 
 -- The connection was open and is. The table has these rows, and the other tables are as they were. Outside a transaction that is committed.
-pub record Changed (old new : State) (schema : Schema) (tree : ℕ) (rows : List Row) : Type 0 where
+pub record ChangesTable (old new : State) (schema : Schema) (tree : ℕ) (rows : List Row) : Type 0 where
   pub schema_is : new.now.schema ≡ schema
   pub rows_are : new.now.trees tree ≡ rows
   pub others : AllByRecursion (λ t. t.tree ≢ tree → new.now.trees t.tree ≡ old.now.trees t.tree) schema.tables
@@ -56,15 +56,15 @@ over_table tree filter project order limit = record {
 abbrev pub passes : List Term → Row → Row → Bool
 passes terms params r = list_all (holds (params ∷ r ∷ [])) terms
 
-abbrev pub chosen : List Term → Row → List Row → List Row
-chosen terms params rows = filter (passes terms params) rows
+abbrev pub chosen_rows : List Term → Row → List Row → List Row
+chosen_rows terms params rows = filter (passes terms params) rows
 
 -- what is shown of a row
 abbrev pub shown_of : List Term → Row → Row → Row
 shown_of project params r = eval_all project (params ∷ r ∷ [])
 
 -- a table was made, with no row, and the others are as they were
-pub record Made (old new : State) (schema next : Schema) : Type 0 where
+pub record AddsTable (old new : State) (schema next : Schema) : Type 0 where
   pub schema_is : new.now.schema ≡ next
   pub empty : new.now.trees (next_tree schema) ≡ []
   pub others : KeepsRows schema.tables old.now.trees new.now.trees
@@ -72,7 +72,7 @@ pub record Made (old new : State) (schema next : Schema) : Type 0 where
   pub marks : new.marks ≡ old.marks
 
 -- an index was made, and the tables are as they were
-pub record Indexed (old new : State) (schema next : Schema) : Type 0 where
+pub record AddsIndex (old new : State) (schema next : Schema) : Type 0 where
   pub schema_is : new.now.schema ≡ next
   pub others : KeepsRows schema.tables old.now.trees new.now.trees
   pub shown : Shows old new new.now (if old.in_transaction then old.committed else new.now) old.in_transaction

@@ -1,6 +1,6 @@
 //! A connection whose requests are a text.
 ghost use Rattle.as2_exchange.specs.State.{State};
-ghost use Rattle.as2_http.specs.Devices.{Opens};
+ghost use Rattle.as2_http.specs.Devices.{OpensLedger};
 ghost use Rattle.as2_http.specs.StreamReads.{RunsPosts};
 
 use super::Counts;
@@ -25,10 +25,10 @@ fn serve_counted<K: Records, J: Journal, A: Ledger, B: Ledger, C: Ledger, D: Led
     reads: Counts,
     writes: Counts,
 ) -> Served
-    requires reads { Opens reads.calls.name reads.calls.parts A.name A.parts }
-    requires failed_reads { Opens reads.failed.name reads.failed.parts B.name B.parts }
-    requires writes { Opens writes.calls.name writes.calls.parts C.name C.parts }
-    requires failed_writes { Opens writes.failed.name writes.failed.parts D.name D.parts }
+    requires reads { OpensLedger reads.calls.name reads.calls.parts A.name A.parts }
+    requires failed_reads { OpensLedger reads.failed.name reads.failed.parts B.name B.parts }
+    requires writes { OpensLedger writes.calls.name writes.calls.parts C.name C.parts }
+    requires failed_writes { OpensLedger writes.failed.name writes.failed.parts D.name D.parts }
     ensures clean { (K.shows station.new).IsClean → (K.shows station.old).IsClean }
     ensures posts { (K.shows station.new).IsClean → (s : State) → (K.shows station.old).Rests s
         → (t : State) × (K.shows station.new).Rests t × RunsPosts agreements.now moment s t }

@@ -4,7 +4,7 @@ ghost use Rattle.sqlite.specs.Held.{state};
 ghost use Rattle.sqlite.specs.Steps.{over_memory};
 ghost use Rattle.as2_exchange.specs.State.{State};
 ghost use Rattle.as2_host.specs.Stores.{MayCome};
-ghost use Rattle.as2_script.specs.Stores.{Keeps, size_by};
+ghost use Rattle.as2_script.specs.Stores.{MemoryKeeps, size_by};
 ghost use Rattle.as2_store.specs.Calls.{empty_store};
 ghost use Rattle.as2_store.specs.Stands.{Rests};
 
@@ -115,8 +115,8 @@ fn opened(
     first: FirstNumber,
 ) -> Result<Kept<MemStore>, (Option<Kept<MemStore>>, OpenFault)>
     ensures found { IfOk result (λ records. IsTrue (state over_memory records).is_open
-        × ((s : State) → Keeps kept s → Rests (state over_memory records) s)) }
-    ensures given_back { IfErr result (λ e. (s : State) → Keeps kept s → Keeps e.0 s) }
+        × ((s : State) → MemoryKeeps kept s → Rests (state over_memory records) s)) }
+    ensures given_back { IfErr result (λ e. (s : State) → MemoryKeeps kept s → MemoryKeeps e.0 s) }
 {
     match kept {
         Some(records) => match opened_again(records) {
@@ -132,13 +132,13 @@ fn opened(
 
 impl OpenStores for Stores<'_> {
     ghost use Rattle.std.specs.Prelude.{⊤};
-    ghost use Rattle.as2_script.specs.Stores.{Keeps, opens_by, size_by};
+    ghost use Rattle.as2_script.specs.Stores.{MemoryKeeps, opens_by, size_by};
 
     type Opened = Kept<MemStore>;
 
     type InMemory = Kept<MemStore>;
 
-    ghost keeps = { λ it path number. Keeps it.kept };
+    ghost keeps = { λ it path number. MemoryKeeps it.kept };
 
     ghost fails = { λ it path fault. ⊤ };
 

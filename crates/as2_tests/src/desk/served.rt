@@ -1,5 +1,5 @@
 //! Streams that are served over one station, which has nothing recorded at first.
-ghost use Rattle.as2_http.specs.Devices.{Opens};
+ghost use Rattle.as2_http.specs.Devices.{OpensLedger};
 
 use crate::texts::stage;
 use as2_agreement::Agreements;
@@ -63,10 +63,10 @@ impl Fixture {
         writes: Blank,
         failed_writes: Blank,
     ) -> Result<(Served, W), Trouble>
-        requires reads { Opens reads.name reads.parts A.name A.parts }
-        requires failed_reads { Opens failed_reads.name failed_reads.parts B.name B.parts }
-        requires writes { Opens writes.name writes.parts C.name C.parts }
-        requires failed_writes { Opens failed_writes.name failed_writes.parts D.name D.parts }
+        requires reads { OpensLedger reads.name reads.parts A.name A.parts }
+        requires failed_reads { OpensLedger failed_reads.name failed_reads.parts B.name B.parts }
+        requires writes { OpensLedger writes.name writes.parts C.name C.parts }
+        requires failed_writes { OpensLedger failed_writes.name failed_writes.parts D.name D.parts }
     {
         let mut source: Counted<R, A, B> = Counted::new(input, reads, failed_reads);
         let mut sink: Counted<W, C, D> = Counted::new(output, writes, failed_writes);

@@ -5,7 +5,7 @@ use Rattle.std.proofs.lemmas.List.Folds.{flat_map-map}
 use Rattle.as2_records.specs.Summaries.{in_summary}
 use Rattle.as2_records.specs.declared.summaries.InRow.{InRow}
 use Rattle.as2_records.proofs.Following.{read_bad, read_then}
-use Rattle.as2_audit.specs.Audits.{found, received_at, received_findings}
+use Rattle.as2_audit.specs.Audits.{finding_at, received_at, received_findings}
 use Rattle.as2_audit.specs.declared.findings.Mailbox.TheVariants.{Inbox}
 use Rattle.as2_audit.specs.declared.fault.Fault.{Fault}
 use Rattle.as2_audit.specs.declared.findings.Finding.{Finding}
@@ -26,15 +26,15 @@ pub loop-at-preserved : goal.loop-at-preserved
 loop-at-preserved g c =
     one_more _ _ (λ s fault. fault ≡ received_at s c.row-item.result.number) _ _ _ _ _ _ c.loop-at.at _ c.row-item.result c.in_ok-fault.fault c.loop-at-test.true
     (λ s rows is. c.in_ok-add.ensures.found
-    ∙ ap (λ (f : Option Fault). c.loop-at.findings.items ++ found Inbox c.row-item.result.number f) is
-    ∙ ap (λ (r : InRow). c.loop-at.findings.items ++ found Inbox r.number (received_at s r.number)) c.row-item.is)
+    ∙ ap (λ (f : Option Fault). c.loop-at.findings.items ++ finding_at Inbox c.row-item.result.number f) is
+    ∙ ap (λ (r : InRow). c.loop-at.findings.items ++ finding_at Inbox r.number (received_at s r.number)) c.row-item.is)
     c.loop-at.invariant c.in_ok-fault.ensures.fault
 
 pub returns-clause-found : goal.returns-clause-found
 returns-clause-found g c =
     all _ _ (λ s count. (c.loop-at.findings.items ≡ c.args.findings.now.items ++ received_findings s) × (count ≡ length s.inbox)) _ _ c.args.findings.now.items c.loop-at.findings.items c.loop-at.at _ c.len-all.result (omega (arith, c.loop-at.auto.at-end, c.loop-at-test.false))
     (λ s rows is. (
-      is ∙ ap (λ (l : List InRow). c.args.findings.now.items ++ flat_map (λ r. found Inbox r.number (received_at s r.number)) l) rows
-          ∙ ap (λ (l : List Finding). c.args.findings.now.items ++ l) (flat_map-map (λ (r : InRow). found Inbox r.number (received_at s r.number)) in_summary s.inbox),
+      is ∙ ap (λ (l : List InRow). c.args.findings.now.items ++ flat_map (λ r. finding_at Inbox r.number (received_at s r.number)) l) rows
+          ∙ ap (λ (l : List Finding). c.args.findings.now.items ++ l) (flat_map-map (λ (r : InRow). finding_at Inbox r.number (received_at s r.number)) in_summary s.inbox),
       omega (arith, c.len-all.ensures, c.deref-row-items.ensures.len, ap (λ (l : List InRow). length l) rows, length-map s.inbox in_summary),
     )) c.loop-at.invariant

@@ -1,5 +1,5 @@
 use Rattle.std.proofs.Common.{◌≡◌, ◌≤◌, ◌+◌, ◌∙◌, ℕ, ap, arith, sym, subst}
-use Rattle.as2_http.specs.Notes.{spoken}
+use Rattle.as2_http.specs.Notes.{sink_and_journal}
 use Rattle.as2_http.specs.StreamReads.{Serves}
 use Rattle.as2_http.specs.declared.stream.Served.TheVariants.{TooLong}
 use Rattle.as2_connections.proofs.network.serve_counted.Goals as goal
@@ -21,8 +21,8 @@ returns-clause-serves g c = λ clean s rests input is.
         too_long = too_long;
         serves = rw (sym c.new-sink.ensures.inner, c.into_inner.ensures)
             (subst (λ (n : ℕ). Serves c.args.agreements.now c.args.moment s served.0 input unread
-            (spoken (g.W.Write.contents c.new-sink.result.inner) (g.J.Journal.noted c.args.journal.now))
-            (spoken (g.W.Write.contents c.serve_stream-end.new.sink.inner) (g.J.Journal.noted c.serve_stream-end.new.journal)) n reads c.serve_stream-end.result)
+            (sink_and_journal (g.W.Write.contents c.new-sink.result.inner) (g.J.Journal.noted c.args.journal.now))
+            (sink_and_journal (g.W.Write.contents c.serve_stream-end.new.sink.inner) (g.J.Journal.noted c.serve_stream-end.new.journal)) n reads c.serve_stream-end.result)
             c.new-source.ensures.calls served.2);
       },
     )

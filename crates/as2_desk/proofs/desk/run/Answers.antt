@@ -3,9 +3,9 @@ use Rattle.as2_host.specs.Networks.{ExchangedOver, listening_of}
 use Rattle.clap.specs.Walk.{Text, texts}
 use Rattle.as2_commands.proofs.Given.{given_one}
 use Rattle.as2_desk.proofs.Stopping.{stopped_by}
-use Rattle.as2_desk.specs.Observed.{errors_of, filing_of, input_of, outcome_of, output_of, stored_of}
+use Rattle.as2_desk.specs.Observed.{errors_of, filing_of, input_of, console_outcome, output_of, stored_of}
 use Rattle.as2_desk.specs.Runs.{Runs}
-use Rattle.as2_desk.specs.Statuses.{faulty, refused}
+use Rattle.as2_desk.specs.Statuses.{status_faulty, status_refused}
 use Rattle.as2_desk.specs.Stores.{Leaves}
 use Rattle.as2_commands.specs.declared.tasks.Task.{Task}
 use Rattle.as2_desk.proofs.desk.run.Goals as goal
@@ -25,7 +25,7 @@ returns-in-Ok-clause-runs g c = λ path store task gives.
     (λ (p b : Text) (t : Task). Runs (g.F.ReadFiles.content c.args.host.now.outside.files) p t
     (record {
       input = input_of g.R.Source c.args.console.now c.carry_out-done.new.console;
-      outcome = outcome_of g.W.Sink g.E.Sink c.args.console.now c.carry_out-done.new.console (Leaves b (g.O.OpenStores.keeps is b));
+      outcome = console_outcome g.W.Sink g.E.Sink c.args.console.now c.carry_out-done.new.console (Leaves b (g.O.OpenStores.keeps is b));
       filing = filing_of g.F.MakeFiles c.args.host.now.outside.files c.carry_out-done.new.host.outside.files;
       Unasked = c.carry_out-done.new.host.outside.network ≡ c.args.host.now.outside.network;
       Exchanged = ExchangedOver g.N.Network g.N.Links.Links c.args.host.now.outside.network c.carry_out-done.new.host.outside.network;
@@ -54,7 +54,7 @@ returns-in-Ok-clause-store g c = λ is_failed.
 -- here memory was wanting, since the words ask for something
 pub returns-in-Err-clause-given : goal.returns-in-Err-clause-given
 returns-in-Err-clause-given g c = λ path store task gives is_faulty. elim c.tell.ensures.memory [
-  | inl wanting ↦ let bad : refused ≡ faulty = sym wanting.1.ended ∙ is_faulty in omega arith
+  | inl wanting ↦ let bad : status_refused ≡ status_faulty = sym wanting.1.ended ∙ is_faulty in omega arith
   | inr other ↦ c.in-Err.ensures.none other path store task gives
 ]
 

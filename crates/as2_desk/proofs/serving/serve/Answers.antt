@@ -1,12 +1,12 @@
 use Rattle.std.proofs.Common.{◌∙◌, ◌++◌, inl, inr, refl, subst, sym}
-use Rattle.as2_commands.specs.Requests.{Serving}
+use Rattle.as2_commands.specs.Requests.{GivenServing}
 use Rattle.as2_host.specs.Networks.{EndsEach, ServesEach, listening_of}
 use Rattle.as2_desk.proofs.HandedBack.{each_known}
 use Rattle.as2_desk.proofs.Connecting.{all_told, cut_told, fails_behind}
 use Rattle.as2_desk.proofs.Saying.{ends_behind}
 use Rattle.as2_desk.specs.Connections.{listening_line}
 use Rattle.as2_desk.specs.Endings.{Ends}
-use Rattle.as2_desk.specs.Observed.{outcome_of}
+use Rattle.as2_desk.specs.Observed.{console_outcome}
 use Rattle.as2_desk.specs.Refusals.{error_line, refusal_status}
 use Rattle.as2_desk.specs.Written.{WritesIf, written_of}
 use Rattle.as2_desk.specs.declared.refusal.CommandFault.{CommandFault}
@@ -16,14 +16,14 @@ pub returns-in_default-clause-serves : goal.returns-in_default-clause-serves
 returns-in_default-clause-serves g c = λ known stood. inl (record {
   left = each_known _ _ known stood (λ s it. it.1);
   unwritten = refl;
-  told = inl (subst (λ (v : Serving). g.N.Network.refuses c.args.network.now v.address v.waits c.listen.new.self) c.serving.view_is c.in_default.ensures.none, c.refuse.ensures.told);
+  told = inl (subst (λ (v : GivenServing). g.N.Network.refuses c.args.network.now v.address v.waits c.listen.new.self) c.serving.view_is c.in_default.ensures.none, c.refuse.ensures.told);
 })
 
 pub returns-in_default-listening_line-clause-serves : goal.returns-in_default-listening_line-clause-serves
 returns-in_default-listening_line-clause-serves g c = λ known stood. inl (record {
   left = each_known _ _ known stood (λ s it. it.1);
   unwritten = refl;
-  told = inr ((c.in-Ok.listener, c.listen.new.self, subst (λ (v : Serving). g.N.Network.listens c.args.network.now v.address v.waits c.in-Ok.listener c.listen.new.self) c.serving.view_is c.in-Ok.ensures.listener, c.stop.ensures), c.refuse-in_default-listening_line.ensures.told);
+  told = inr ((c.in-Ok.listener, c.listen.new.self, subst (λ (v : GivenServing). g.N.Network.listens c.args.network.now v.address v.waits c.in-Ok.listener c.listen.new.self) c.serving.view_is c.in-Ok.ensures.listener, c.stop.ensures), c.refuse-in_default-listening_line.ensures.told);
 })
 
 pub returns-in-Ok-served-clause-serves : goal.returns-in-Ok-served-clause-serves
@@ -37,10 +37,10 @@ returns-in-Ok-served-clause-serves g c = λ known stood.
     let listening = c.listen.new.self in
     let address = g.N.Listener.Listens.bound first in
     let streams = c.serve_connections-served.ensures.streams in
-    let listened = subst (λ (v : Serving). g.N.Network.listens was v.address v.waits first listening) c.serving.view_is c.in-Ok.ensures.listener in
+    let listened = subst (λ (v : GivenServing). g.N.Network.listens was v.address v.waits first listening) c.serving.view_is c.in-Ok.ensures.listener in
     let said = subst (WritesIf c.is_said-told.result (written_of g.E.Sink c.args.console.now.errors c.is_said-told.new.errors)) (c.as_str.ensures.value ∙ c.in-Ok-listening_line.ensures) c.is_said-told.ensures.said in
     all_told c.args.serving.count known
-    (outcome_of g.W.Sink g.E.Sink c.args.console.now c.serve_connections-served.new.console (λ t. new.Rests t))
+    (console_outcome g.W.Sink g.E.Sink c.args.console.now c.serve_connections-served.new.console (λ t. new.Rests t))
     (g.K.Records.shows c.args.station.now) new
     (λ ends. EndsEach g.N.Listener.Listens.ended moment first ends last)
     (λ ends s t. ServesEach g.N.Listener.Listens.ended moment agreements ends first s last t)
@@ -65,14 +65,14 @@ returns-clause-serves g c = λ known stood.
     let listening = c.listen.new.self in
     let address = g.N.Listener.Listens.bound first in
     let streams = c.serve_connections-served.ensures.streams in
-    let listened = subst (λ (v : Serving). g.N.Network.listens was v.address v.waits first listening) c.serving.view_is c.in-Ok.ensures.listener in
+    let listened = subst (λ (v : GivenServing). g.N.Network.listens was v.address v.waits first listening) c.serving.view_is c.in-Ok.ensures.listener in
     let old = c.args.console.now.errors in
     let end = c.refuse_behind.new.errors in
     let said = subst (WritesIf c.is_said-told.result (written_of g.E.Sink old c.is_said-told.new.errors)) (c.as_str.ensures.value ∙ c.in-Ok-listening_line.ensures) c.is_said-told.ensures.said in
     let told = ends_behind g.E.Sink old c.is_said-told.new.errors c.serve_connections-served.new.console.errors end (listening_line address) c.stop_fault.result c.is_said-told.result c.refuse_behind.result
     said c.is_said-told.ensures.counted streams.1 c.refuse_behind.ensures.status c.refuse_behind.ensures.told c.refuse_behind.ensures.untold in
     cut_told c.args.serving.count known
-    (outcome_of g.W.Sink g.E.Sink c.args.console.now (record c.serve_connections-served.new.console { errors = end }) (λ t. new.Rests t))
+    (console_outcome g.W.Sink g.E.Sink c.args.console.now (record c.serve_connections-served.new.console { errors = end }) (λ t. new.Rests t))
     (g.K.Records.shows c.args.station.now) new
     (λ ends. EndsEach g.N.Listener.Listens.ended moment first ends last)
     (λ ends s t. ServesEach g.N.Listener.Listens.ended moment agreements ends first s last t)

@@ -1,5 +1,5 @@
 use Rattle.std.proofs.Common.{◌≡◌, ◌<◌, ◌≤◌, ◌∙◌, ℕ, Option, ap, arith, refl, subst}
-use Rattle.as2_commands.specs.Requests.{Serving}
+use Rattle.as2_commands.specs.Requests.{GivenServing}
 use Rattle.as2_desk.proofs.Connecting.{all_served, cut, none_served, one_more}
 use Rattle.as2_exchange.specs.Run.{Trace}
 use Rattle.as2_host.specs.Serving.{ServesOne}
@@ -18,7 +18,7 @@ loop-served-preserved g c =
     let now = g.K.Records.shows c.serve_next.new.station in
     let before = c.loop-served.invariant in
     let streams = c.serve_next.ensures.streams in
-    let given : c.serving.inside.moment ≡ c.args.serving.now.moment = ap (λ (v : Serving). v.moment) c.serving.view_is in (
+    let given : c.serving.inside.moment ≡ c.args.serving.now.moment = ap (λ (v : GivenServing). v.moment) c.serving.view_is in (
       streams.0 ∙ before.0,
       streams.1 ∙ before.1,
       one_more g.L.Listens.ended c.args.serving.now.moment c.args.terms.now.agreements.now g.W.Sink c.loop-served.served (g.K.Records.shows c.args.station.now) then now
@@ -36,8 +36,8 @@ returns-in-Err-clause-serves g c =
     let last = c.serve_next.new.listener in
     let then = g.K.Records.shows c.loop-served.station in
     let now = g.K.Records.shows c.serve_next.new.station in
-    let given : c.serving.inside.moment ≡ c.args.serving.now.moment = ap (λ (v : Serving). v.moment) c.serving.view_is in
-    let count : c.serving.inside.count ≡ c.args.serving.now.count = ap (λ (v : Serving). v.count) c.serving.view_is in
+    let given : c.serving.inside.moment ≡ c.args.serving.now.moment = ap (λ (v : GivenServing). v.moment) c.serving.view_is in
+    let count : c.serving.inside.count ≡ c.args.serving.now.count = ap (λ (v : GivenServing). v.count) c.serving.view_is in
     cut g.L.Listens.ended c.args.serving.now.moment c.args.terms.now.agreements.now g.W.Sink c.loop-served.served (g.K.Records.shows c.args.station.now) then now
     c.args.listener.now mid last c.args.console.now.output c.loop-served.console.output c.serve_next.new.console.output
     c.loop-served.invariant.2 c.serve_next.ensures.clean
@@ -56,7 +56,7 @@ returns-in-Err-clause-streams g c =
 
 pub returns-clause-serves : goal.returns-clause-serves
 returns-clause-serves g c =
-    let count : c.serving.inside.count ≡ c.args.serving.now.count = ap (λ (v : Serving). v.count) c.serving.view_is in
+    let count : c.serving.inside.count ≡ c.args.serving.now.count = ap (λ (v : GivenServing). v.count) c.serving.view_is in
     let below : c.loop-served.served ≤ c.serving.inside.count = c.loop-served.auto.served-end in
     let above : c.serving.inside.count ≤ c.loop-served.served = c.loop-served-test.false in
     all_served g.L.Listens.ended c.args.serving.now.moment c.args.terms.now.agreements.now g.W.Sink _ _ _ _ c.args.listener.now c.loop-served.listener _ _ (omega (arith, below, above, count)) c.loop-served.invariant.2

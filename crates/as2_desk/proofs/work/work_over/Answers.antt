@@ -6,7 +6,7 @@ use Rattle.as2_host.specs.declared.stores.OpenFault.{OpenFault}
 use Rattle.as2_host.specs.declared.stores.OpenStores.{Ghosts as Stores}
 use Rattle.as2_exchange.specs.State.{LaterVersion, State, empty}
 use Rattle.as2_desk.proofs.Opening.{each_left, goes_in_memory, goes_kept}
-use Rattle.as2_desk.specs.Observed.{filing_of, input_of, outcome_of, stored_of}
+use Rattle.as2_desk.specs.Observed.{filing_of, input_of, console_outcome, stored_of}
 use Rattle.as2_desk.specs.Stores.{ByPlace, Leaves, is_in_memory, opens_at}
 use Rattle.as2_desk.proofs.work.work_over.Goals as goal
 
@@ -21,7 +21,7 @@ returns-then-eq-clause-goes g c =
     goes_in_memory g.O.InMemory.Records.shows c.args.terms.now.agreements.now (record { first = c.args.store.first; moment = c.args.terms.now.moment; limit = c.args.store.limit }) c.args.work
     (record {
       input = input_of g.R.Source c.args.console.now c.do_over.new.console;
-      outcome = outcome_of g.W.Sink g.E.Sink c.args.console.now c.do_over.new.console (Leaves path (g.O.OpenStores.keeps stores path));
+      outcome = console_outcome g.W.Sink g.E.Sink c.args.console.now c.do_over.new.console (Leaves path (g.O.OpenStores.keeps stores path));
       filing = filing_of g.F.MakeFiles c.args.host.now.outside.files c.do_over.new.outside.files;
       Unasked = c.do_over.new.outside.network ≡ c.args.host.now.outside.network;
       Exchanged = ExchangedOver g.N.Network g.N.Links.Links c.args.host.now.outside.network c.do_over.new.outside.network;
@@ -59,7 +59,7 @@ returns-clause-goes g c =
     goes_kept (λ b. g.O.Opened.Records.shows b.records) c.args.terms.now.agreements.now (record { first = c.args.store.first; moment = c.args.terms.now.moment; limit = c.args.store.limit }) c.args.work
     (record {
       input = input_of g.R.Source c.args.console.now c.do_over-left.new.console;
-      outcome = outcome_of g.W.Sink g.E.Sink c.args.console.now c.do_over-left.new.console (Leaves path (g.O.OpenStores.keeps stores path));
+      outcome = console_outcome g.W.Sink g.E.Sink c.args.console.now c.do_over-left.new.console (Leaves path (g.O.OpenStores.keeps stores path));
       filing = filing_of g.F.MakeFiles c.args.host.now.outside.files c.do_over-left.new.outside.files;
       Unasked = c.do_over-left.new.outside.network ≡ c.args.host.now.outside.network;
       Exchanged = ExchangedOver g.N.Network g.N.Links.Links c.args.host.now.outside.network c.do_over-left.new.outside.network;

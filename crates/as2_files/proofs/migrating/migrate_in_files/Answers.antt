@@ -2,7 +2,7 @@ use Rattle.std.proofs.Common.{sym, subst}
 use Rattle.sqlite.specs.Files.{file_state}
 use Rattle.as2_store.specs.Migrating.{Migrates}
 use Rattle.as2_files.proofs.Earlier.{back_as, back_to, reaches_moved}
-use Rattle.as2_host.specs.Migrating.{moved}
+use Rattle.as2_host.specs.Migrating.{migrated_if_first}
 use Rattle.as2_files.proofs.migrating.migrate_in_files.Goals as goal
 
 -- what was found, counted, migrated and counted again was closed
@@ -21,4 +21,4 @@ returns-clause-moved g c = λ honest s held.
     let rests = c.in-Ok.ensures.earlier clean_opened layout s held.2 in
     let again = back_as layout opened asked s c.counted-before.ensures.given_back clean_asked rests in
     let next = reaches_moved layout (g.F.OpenFiles.image c.args.name.now) made s held.1 held.2 (migrates.done clean_made layout s again) in
-    c.closed.ensures.kept honest (moved s) (back_to made last (moved s) c.counted-after.ensures.given_back clean_last next)
+    c.closed.ensures.kept honest (migrated_if_first s) (back_to made last (migrated_if_first s) c.counted-after.ensures.given_back clean_last next)

@@ -1,6 +1,6 @@
 use Rattle.std.proofs.Common.{◌≡◌, ◌+◌, ℕ, List, Some, vec_len}
 use Rattle.as2_exchange.specs.State.{State}
-use Rattle.as2_http.specs.Notes.{spoken}
+use Rattle.as2_http.specs.Notes.{sink_and_journal}
 use Rattle.as2_messages.specs.Parsing.{HasTaken}
 use Rattle.as2_http.specs.InputReads.{read_limit}
 use Rattle.as2_http.specs.StreamReads.{BetweenReads}
@@ -16,5 +16,5 @@ invariant-loop g l =
     × (g.W.Sink.failed l.sink ≡ g.W.Sink.failed l.fn.sink)
     × ((held : List ℕ) × HasTaken l.parser held)
     × ((g.K.Records.shows l.station).IsClean → (s : State) → (g.K.Records.shows l.fn.station).Rests s → (input : List ℕ) → g.R.Source.left l.fn.source ≡ Some input
-    → BetweenReads l.agreements l.moment s input l.parser (g.K.Records.shows l.station) (g.R.Source.left l.source) (spoken (g.W.Sink.written l.fn.sink) (g.J.Journal.noted l.fn.journal)) (spoken (g.W.Sink.written l.sink) (g.J.Journal.noted l.journal)) (g.R.Source.calls l.fn.source) (g.R.Source.calls l.source))
+    → BetweenReads l.agreements l.moment s input l.parser (g.K.Records.shows l.station) (g.R.Source.left l.source) (sink_and_journal (g.W.Sink.written l.fn.sink) (g.J.Journal.noted l.fn.journal)) (sink_and_journal (g.W.Sink.written l.sink) (g.J.Journal.noted l.journal)) (g.R.Source.calls l.fn.source) (g.R.Source.calls l.source))
     × ((g.K.Records.shows l.station).IsClean → (s : State) → (g.K.Records.shows l.fn.station).Rests s → TakenSoFar l.agreements l.moment s (g.K.Records.shows l.station))

@@ -11,7 +11,7 @@ use Rattle.sqlite_store.specs.Laws.{settled_at}
 use Rattle.sqlite_trees.specs.Tree.{Trees}
 use Rattle.as2_store.specs.Calls.{Keeps}
 use Rattle.as2_store.specs.Stands.{Rests}
-use Rattle.as2_restart.specs.Restarts.{MayLeave}
+use Rattle.as2_restart.specs.Restarts.{LeadsToFound}
 use Rattle.as2_storage.proofs.Opening.{kept}
 use Rattle.as2_restart.proofs.Opening.{found_after}
 use Rattle.as2_restart.proofs.files.leave.Goals as goal
@@ -27,7 +27,7 @@ pub returns-clause-left : goal.returns-clause-left
 returns-clause-left g c honest A told s may image at =
     let last = c.into_store.result in
     let none : IsClean (view last) = no_doubt _ (clean_is last.pool ∙ subst (λ p. AreClean g.D.Disk p.0 p.1) c.close.ensures honest) in
-    let left : MayLeave A told s (file_state c.into_connection.result) = rw (c.into_connection.ensures, c.into_records.ensures) may in
+    let left : LeadsToFound A told s (file_state c.into_connection.result) = rw (c.into_connection.ensures, c.into_records.ensures) may in
     ∥∥₁_map (found_after last c.close.result.log c.close.result.db (sym c.close.ensures) honest (c.into_store.ensures.numbered none) (c.into_store.ensures.sound none) image at)
     (λ m. let it = left m.0 (c.into_store.ensures.quiet.outcomes m.0 m.1) in (it.0, it.1, (m.0, ∣ m.2 ∣₁, it.2)))
 

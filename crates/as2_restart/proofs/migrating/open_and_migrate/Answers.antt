@@ -2,8 +2,8 @@ use Rattle.std.proofs.Common.{◌∙◌, sym, subst}
 use Rattle.sqlite.specs.State.{HasCleanDisk}
 use Rattle.sqlite.specs.Files.{file_state, image_of}
 use Rattle.as2_storage.proofs.Opening.{rests_held_as}
-use Rattle.as2_restart.specs.Migrations.{marked}
-use Rattle.as2_restart.specs.Restarts.{Comes}
+use Rattle.as2_restart.specs.Migrations.{migration_trace}
+use Rattle.as2_restart.specs.Restarts.{LeadsToHeld}
 use Rattle.as2_restart.proofs.Migrations.{leads}
 use Rattle.as2_restart.proofs.migrating.open_and_migrate.Goals as goal
 
@@ -20,5 +20,5 @@ returns-in-Ok-migrate-clause-migrated g c clean A layout s held =
     let earlier = c.in-Ok.found in
     let opened = c.in-Ok.ensures.opened was in
     let rests = rests_held_as layout (file_state earlier) (image_of g.D.Disk c.args.files) s opened.0 opened.1 (c.in-Ok.ensures.found was).holds held in
-    subst (λ h. Comes A (marked layout s) s (file_state h)) (sym (c.new-in-Ok-migrate.ensures ∙ c.new.ensures))
+    subst (λ h. LeadsToHeld A (migration_trace layout s) s (file_state h)) (sym (c.new-in-Ok-migrate.ensures ∙ c.new.ensures))
     (leads A layout (file_state earlier) (file_state c.in-Ok-migrate.store) s opened.0.is_open rests (migrated.done at layout s rests))

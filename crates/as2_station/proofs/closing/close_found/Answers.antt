@@ -1,7 +1,7 @@
 use Rattle.std.proofs.Common.{◌∙◌, Some, sym, ap}
-use Rattle.as2_exchange.specs.Documents.{closed}
+use Rattle.as2_exchange.specs.Documents.{closed_document}
 use Rattle.as2_exchange.specs.State.{AllDigests}
-use Rattle.as2_station.specs.Closing.{ended}
+use Rattle.as2_station.specs.Closing.{ended_document}
 use Rattle.as2_station.proofs.Acting.{acts_alike, leaves}
 use Rattle.as2_station.proofs.Closed.{closes, leaves_unsettled, no_open_try, not_agreed, settled_before}
 use Rattle.as2_station.proofs.Doing.{as_machine, over_open}
@@ -40,5 +40,5 @@ returns g c = record {
       let d = c.args.entry.now in
       let same = c.in_ok-end.ensures ∙ sym (closes c.args.agreements.now AllDigests c.args.answer c.args.moment d c.in-Ok.partner.now c.in-Ok.ensures.agreed (sym c.if-is_some.ensures) (sym c.if-is_idle.ensures)) in
       as_machine _ _ _ _ _ _ _ _ _ c.requires.open
-      (λ s stands found. (found, ap Some (acts_alike s d stands found (ended c.in_ok-end.end) (closed c.args.agreements.now AllDigests c.args.answer c.args.moment) same))) c.end_try.ensures.taken;
+      (λ s stands found. (found, ap Some (acts_alike s d stands found (ended_document c.in_ok-end.end) (closed_document c.args.agreements.now AllDigests c.args.answer c.args.moment) same))) c.end_try.ensures.taken;
 }

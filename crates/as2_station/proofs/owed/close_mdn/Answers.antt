@@ -1,6 +1,6 @@
 use Rattle.std.proofs.Common.{◌≡◌, ◌∙◌, Some, sym, ap, subst}
 use Rattle.as2_exchange.specs.OwedReceipts.{mdn_closed}
-use Rattle.as2_exchange.specs.State.{received}
+use Rattle.as2_exchange.specs.State.{received_entry}
 use Rattle.as2_exchange.specs.Step.{on_received}
 use Rattle.as2_exchange.specs.declared.inbox.InEntry.{InEntry}
 use Rattle.as2_station.proofs.Acting.{numbered}
@@ -12,8 +12,8 @@ returns-in-Some g c = record {
   taken =
       let n = c.args.number in
       let e = c.in-Some.entry in
-      after_read _ _ _ _ _ (λ s. received s n ≡ Some e) _ _ _ _ _ (λ s known found. sym found ∙ c.in-Some.is) c.in_ok-entry.ensures.found
+      after_read _ _ _ _ _ (λ s. received_entry s n ≡ Some e) _ _ _ _ _ (λ s known found. sym found ∙ c.in-Some.is) c.in_ok-entry.ensures.found
       (as_machine _ _ _ _ _ _ _ _ _ c.in_ok-entry.ensures.found.is_open (λ s stands found.
       let own = numbered (λ (x : InEntry). x.number) n s.inbox e found in
-      (subst (λ k. received s k ≡ Some e) (sym own) found, ap (λ k. Some (on_received s k (mdn_closed c.args.agreements.now c.args.answer c.args.moment))) own)) c.close_found.ensures.taken);
+      (subst (λ k. received_entry s k ≡ Some e) (sym own) found, ap (λ k. Some (on_received s k (mdn_closed c.args.agreements.now c.args.answer c.args.moment))) own)) c.close_found.ensures.taken);
 }

@@ -1,6 +1,6 @@
 use Rattle.std.proofs.Common.{◌≡◌, inr, refl, sym}
 use Rattle.as2_exchange.specs.Readings.{verdict}
-use Rattle.as2_exchange.specs.Documents.{settle, settled}
+use Rattle.as2_exchange.specs.Documents.{settle, settled_document}
 use Rattle.as2_exchange.specs.Lines.{http}
 use Rattle.as2_exchange.specs.State.{AllDigests}
 use Rattle.as2_exchange.proofs.Standing.{verdict_range}
@@ -32,7 +32,7 @@ returns-in_err-settle g c = record {
       let d = c.args.document.now in
       let r = receipt_by AllDigests c.args.opened.now c.args.receipt.now c.args.body in
       let now = settled_as c.verdict_pieces-detail.result c.in_ok-evidence.evidence in
-      let same : now d ≡ settled c.args.moment r d = rw (c.verdict_pieces-detail.ensures, c.in_ok-evidence.ensures c.args.receipt.now) refl in
+      let same : now d ≡ settled_document c.args.moment r d = rw (c.verdict_pieces-detail.ensures, c.in_ok-evidence.ensures c.args.receipt.now) refl in
       passed_on _ _ _ _ _ _ _ _ c.from_residual-in_err-settle.ensures.0 c.from_residual-in_err-settle.ensures.1
       (unwritten _ _ _ _ _ _ _ _ (http 200 Nothing)
       (λ s t stands named is counter.
@@ -49,7 +49,7 @@ returns g c = record {
       let d = c.args.document.now in
       let r = receipt_by AllDigests c.args.opened.now c.args.receipt.now c.args.body in
       let now = settled_as c.verdict_pieces-detail.result c.in_ok-evidence.evidence in
-      let same : now d ≡ settled c.args.moment r d = rw (c.verdict_pieces-detail.ensures, c.in_ok-evidence.ensures c.args.receipt.now) refl in
+      let same : now d ≡ settled_document c.args.moment r d = rw (c.verdict_pieces-detail.ensures, c.in_ok-evidence.ensures c.args.receipt.now) refl in
       rw c.taken-2.ensures (written _ _ _ _ _ _ _ _ _
       (λ s t stands named is counter.
       settles s t c.args.moment r d _ _ stands named (sym (c.if-not-is_for.ensures c.args.body)) (sym c.if-is_some.ensures) (rw c.verdict_pieces-detail.ensures (verdict_range AllDigests c.args.receipt.now d.content)) same is)

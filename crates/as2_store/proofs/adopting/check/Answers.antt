@@ -6,7 +6,7 @@ use Rattle.sqlite.specs.declared.error.Error.{Error}
 use Rattle.sql_tables.proofs.Inside.{shown_open}
 use Rattle.sql_tables.proofs.Asking.{shown_stays}
 use Rattle.as2_store.proofs.Statements.{meta_read_text}
-use Rattle.as2_store.specs.Calls.{Adopts, Commits, IsGivenBack}
+use Rattle.as2_store.specs.Calls.{Adopts, CommitsTables, IsGivenBack}
 use Rattle.as2_store.proofs.TransactionEnds.{undone}
 use Rattle.as2_store.proofs.Committing.{commits, committed_next}
 use Rattle.as2_store.proofs.Querying.{queried_inside, query_keeps}
@@ -22,7 +22,7 @@ returns-in-Err-clause-given_back g c =
     let inside = queried_inside (λ rows. rows.items) meta_read_text [] begun mid c.query_all.result (λ clean. refl) (rw c.transaction-tx.ensures.begun at c.query_all.ensures.ok) (rw c.transaction-tx.ensures.begun at c.query_all.ensures.err) (rw c.transaction-tx.ensures.begun at c.query_all.ensures.survives) in
     let end = c.drop-tx.new.self.0 in
     let same : end ≡ c.conn-1.given.0 = search rules in
-    subst (λ h. IsGivenBack (Commits Some (state g.S.Store old)) (state g.S.Store old) (state g.S.Store h)) same
+    subst (λ h. IsGivenBack (CommitsTables Some (state g.S.Store old)) (state g.S.Store old) (state g.S.Store h)) same
     (gives_back g.S.Store old mid end (λ _. ⊥) _ inside c.drop-tx.ensures.survives (λ clean db none. absurd none) c.drop-tx.ensures.ended c.drop-tx.ensures.undone)
 
 pub returns-in-Err-clause-reason : goal.returns-in-Err-clause-reason
@@ -39,7 +39,7 @@ returns-then-is_bare-clause-given_back g c =
     let inside = queried_inside (λ rows. rows.items) meta_read_text [] begun mid c.query_all.result (λ clean. refl) (rw c.transaction-tx.ensures.begun at c.query_all.ensures.ok) (rw c.transaction-tx.ensures.begun at c.query_all.ensures.err) (rw c.transaction-tx.ensures.begun at c.query_all.ensures.survives) in
     let end = c.drop-tx-then-is_bare.new.self.0 in
     let same : end ≡ c.conn-then-is_bare-1.given.0 = search rules in
-    subst (λ h. IsGivenBack (Commits Some (state g.S.Store old)) (state g.S.Store old) (state g.S.Store h)) same
+    subst (λ h. IsGivenBack (CommitsTables Some (state g.S.Store old)) (state g.S.Store old) (state g.S.Store h)) same
     (gives_back g.S.Store old mid end (λ _. ⊥) _ inside c.drop-tx-then-is_bare.ensures.survives (λ clean db none. absurd none) c.drop-tx-then-is_bare.ensures.ended c.drop-tx-then-is_bare.ensures.undone)
 
 pub returns-in-Some-clause-given_back : goal.returns-in-Some-clause-given_back
@@ -50,7 +50,7 @@ returns-in-Some-clause-given_back g c =
     let inside = queried_inside (λ rows. rows.items) meta_read_text [] begun mid c.query_all.result (λ clean. refl) (rw c.transaction-tx.ensures.begun at c.query_all.ensures.ok) (rw c.transaction-tx.ensures.begun at c.query_all.ensures.err) (rw c.transaction-tx.ensures.begun at c.query_all.ensures.survives) in
     let end = c.drop-tx-in-Some.new.self.0 in
     let same : end ≡ c.conn-in-Some-1.given.0 = search rules in
-    subst (λ h. IsGivenBack (Commits Some (state g.S.Store old)) (state g.S.Store old) (state g.S.Store h)) same
+    subst (λ h. IsGivenBack (CommitsTables Some (state g.S.Store old)) (state g.S.Store old) (state g.S.Store h)) same
     (gives_back g.S.Store old mid end (λ _. ⊥) _ inside c.drop-tx-in-Some.ensures.survives (λ clean db none. absurd none) c.drop-tx-in-Some.ensures.ended c.drop-tx-in-Some.ensures.undone)
 
 pub returns-then-is_bare-clause-reason : goal.returns-then-is_bare-clause-reason
@@ -94,7 +94,7 @@ returns-clause-given_back g c =
     let shown : HasCleanDisk mid → Shown meta_read_text [] begun mid rows = rw c.transaction-tx.ensures.begun at c.in-Ok.ensures.ok in
     let was : HasCleanDisk (state g.S.Store end) → HasCleanDisk mid = λ late. omega (arith, c.commit.ensures.survives.clean, late) in
     let done = query_keeps g.S.Store old mid meta_read_text [] rows (λ way. meta_read_plain _ _) shown in
-    subst (λ h. IsGivenBack (Commits Some (state g.S.Store old)) (state g.S.Store old) (state g.S.Store h)) same
+    subst (λ h. IsGivenBack (CommitsTables Some (state g.S.Store old)) (state g.S.Store old) (state g.S.Store h)) same
     (gives_back g.S.Store old mid end (λ db. db ≡ mid.now.trees) _ inside c.commit.ensures.survives (λ clean. committed_next g.S.Store old mid Some (done clean)) c.commit.ensures.ended
     (λ late. undone mid (state g.S.Store end) _ (shown_stays meta_read_text [] begun mid rows refl (shown (was late))) (c.in-Err-commit.ensures.err late)))
 

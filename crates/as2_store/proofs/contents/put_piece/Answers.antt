@@ -3,7 +3,7 @@ use Rattle.sqlite.specs.Held.{state}
 use Rattle.sqlite.specs.State.{Executes}
 use Rattle.sql_tables.proofs.Inside.{made}
 use Rattle.as2_rows.specs.Contents.{Piece, piece_shown}
-use Rattle.as2_store.specs.Adding.{Appended, piece_tree}
+use Rattle.as2_store.specs.Adding.{AppendsPieces, piece_tree}
 use Rattle.as2_store.specs.declared.contents.Mailbox.TheVariants.{Inbox, Outbox}
 use Rattle.as2_store.proofs.Statements.{piece_put_text}
 use Rattle.as2_store.proofs.MetaRow.{fits_i64}
@@ -27,7 +27,7 @@ returns-in_ok-execute-in-Inbox-clause-put g c clean way has =
     let ran = (made g.S.Store _ _ c.args.tx.now.conn.now c.execute.new.self.conn.now c.execute.result _ c.execute.ensures.ended (c.execute.ensures.runs clean) c.in_ok-execute-in-Inbox.field-0 c.in_ok-execute-in-Inbox.was).2 in
     let went : Executes (piece_put_text Inbox) (piece_shown p) old new (Ok c.in_ok-execute-in-Inbox.field-0) =
     rw (c.params-to_sql.ensures, c.params-to_sql-in-Inbox.ensures, c.params-to_sql-in-Inbox-2.ensures, c.whole-number.ensures, c.whole-position.ensures, fits_i64 c.args.number c.requires.number, fits_i64 c.args.position c.requires.position) at ran in
-    subst (λ b. Appended way old new (piece_tree way b) (p ∷ [])) (sym c.in-Inbox.is) (puts_piece_in way Inbox old new p c.in_ok-execute-in-Inbox.field-0 has went)
+    subst (λ b. AppendsPieces way old new (piece_tree way b) (p ∷ [])) (sym c.in-Inbox.is) (puts_piece_in way Inbox old new p c.in_ok-execute-in-Inbox.field-0 has went)
 
 pub returns-in_ok-execute-in-Outbox-clause-put : goal.returns-in_ok-execute-in-Outbox-clause-put
 returns-in_ok-execute-in-Outbox-clause-put g c clean way has =
@@ -38,4 +38,4 @@ returns-in_ok-execute-in-Outbox-clause-put g c clean way has =
     let ran = (made g.S.Store _ _ c.args.tx.now.conn.now e.new.self.conn.now e.result _ e.ensures.ended (e.ensures.runs clean) c.in_ok-execute-in-Outbox.field-0 c.in_ok-execute-in-Outbox.was).2 in
     let went : Executes (piece_put_text Outbox) (piece_shown p) old new (Ok c.in_ok-execute-in-Outbox.field-0) =
     rw (c.params-to_sql-in-Outbox.ensures, c.params-to_sql-in-Outbox-2.ensures, c.params-to_sql-in-Outbox-3.ensures, c.whole-number.ensures, c.whole-position.ensures, fits_i64 c.args.number c.requires.number, fits_i64 c.args.position c.requires.position) at ran in
-    subst (λ b. Appended way old new (piece_tree way b) (p ∷ [])) (sym c.in-Outbox.is) (puts_piece_in way Outbox old new p c.in_ok-execute-in-Outbox.field-0 has went)
+    subst (λ b. AppendsPieces way old new (piece_tree way b) (p ∷ [])) (sym c.in-Outbox.is) (puts_piece_in way Outbox old new p c.in_ok-execute-in-Outbox.field-0 has went)

@@ -2,7 +2,7 @@ use Rattle.std.proofs.Common.{◌≡◌, ◌∙◌, sym, ap, subst, arith, Some,
 use Rattle.sqlite.specs.Held.{state}
 use Rattle.as2_mic.specs.Pieces.{piece_at}
 use Rattle.as2_rows.specs.Contents.{Piece}
-use Rattle.as2_store.specs.Adding.{Appended, piece_tree}
+use Rattle.as2_store.specs.Adding.{AppendsPieces, piece_tree}
 use Rattle.as2_store.proofs.Committing.{inside_then}
 use Rattle.as2_store.proofs.AddedPieces.{some_piece, pieces_before, appended_then, one_before}
 use Rattle.as2_store.proofs.contents.put_pieces.Goals as goal
@@ -23,6 +23,6 @@ pieces-preserved g c =
       inside_then old mid new so_far.2 c.put_piece.ensures.within,
       λ clean way has.
           let before = so_far.3 (c.put_piece.ensures.within.clean clean) way has in
-          subst (Appended way old new (piece_tree way c.args.mailbox)) (one_before c.args.number content i c.in-Some.piece.now it.1)
+          subst (AppendsPieces way old new (piece_tree way c.args.mailbox)) (one_before c.args.number content i c.in-Some.piece.now it.1)
           (appended_then way old mid new (piece_tree way c.args.mailbox) (pieces_before c.args.number content i) (p ∷ []) before (c.in_ok-put_piece.ensures.put clean way before.schema_is)),
     )

@@ -4,7 +4,7 @@ use Rattle.sqlite.specs.State.{HasCleanDisk}
 use Rattle.as2_store.specs.Calls.{IsInside}
 use Rattle.as2_mic.specs.Pieces.{piece_size}
 use Rattle.as2_store.specs.Tables.{Way, store_schema}
-use Rattle.as2_store.specs.Adding.{Appended, piece_tree}
+use Rattle.as2_store.specs.Adding.{AppendsPieces, piece_tree}
 use Rattle.as2_store.proofs.AddedPieces.{pieces_before}
 use Rattle.as2_store.proofs.contents.put_pieces.Given as goal
 
@@ -15,7 +15,7 @@ invariant-pieces g l =
     (l.tx.conn.ghost_name ≡ l.fn.tx.conn.ghost_name)
     × (l.i * piece_size < length l.content + piece_size)
     × IsInside old now
-    × (HasCleanDisk now → (way : Way) → old.now.schema ≡ store_schema way → Appended way old now (piece_tree way l.mailbox) (pieces_before l.number l.content l.i))
+    × (HasCleanDisk now → (way : Way) → old.now.schema ≡ store_schema way → AppendsPieces way old now (piece_tree way l.mailbox) (pieces_before l.number l.content l.i))
 
 abbrev pub decreases-pieces : goal.decreases-pieces
 decreases-pieces g l = length l.content + piece_size - l.i * piece_size

@@ -2,7 +2,7 @@ use Rattle.std.proofs.Common.{◌≡◌, ◌∙◌, map, Option, None}
 use Rattle.sqlite.specs.Held.{state}
 use Rattle.as2_exchange.specs.State.{State}
 use Rattle.as2_records.specs.Finding.{AreNext}
-use Rattle.as2_records.specs.Listing.{listed}
+use Rattle.as2_records.specs.Listing.{listed_rows}
 use Rattle.as2_records.specs.Summaries.{in_summary}
 use Rattle.as2_records.specs.declared.discrepancy.Discrepancy.{Discrepancy}
 use Rattle.as2_store.proofs.ComparedRows.{AreBelow, are_below, none_first}
@@ -35,7 +35,7 @@ returns-clause-none g c =
     let counted : State → Option Discrepancy → Type 0 = λ s found. AreBelow s → found ≡ None in
     let of_next : State → Option Discrepancy → Type 0 = λ s found. AreNext c.in_ok-next.next s → counted s found in
     let of_received : State → Option Discrepancy → Type 0 = λ s found. received ≡ map in_summary s.inbox → of_next s found in
-    let of_sent : State → Option Discrepancy → Type 0 = λ s found. sent ≡ listed None s → of_received s found in
+    let of_sent : State → Option Discrepancy → Type 0 = λ s found. sent ≡ listed_rows None s → of_received s found in
     reads_standing counted (λ s found. found ≡ None) _ _ c.first.result (λ s found here told. told (are_below (state g.S.Store c.args.conn.now) s here))
     (read_then _ of_next counted _ _ _ _ _ (λ s found rests next told. told next) c.in_ok-next.ensures.numbers
     (read_then _ of_received of_next _ _ _ _ _ (λ s found rests ins told. told ins) c.in_ok-received.ensures.entries

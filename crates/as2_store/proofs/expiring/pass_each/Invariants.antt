@@ -7,7 +7,7 @@ use Rattle.as2_exchange.specs.declared.outbox.OutEntry.{OutEntry}
 use Rattle.as2_store.specs.Calls.{IsInside}
 use Rattle.as2_store.specs.Due.{number_row}
 use Rattle.as2_store.specs.Tables.{Way}
-use Rattle.as2_store.specs.Expiring.{HoldsDocuments, Rewritten, passing}
+use Rattle.as2_store.specs.Expiring.{HoldsDocuments, RewritesDocuments, passed_documents}
 use Rattle.as2_store.proofs.expiring.pass_each.Given as goal
 
 -- the documents whose numbers the rows before this one show have passed
@@ -17,4 +17,4 @@ invariant-rows g l =
     let now = state g.S.Store l.tx.conn.now in
     (l.tx.conn.ghost_name ≡ l.fn.tx.conn.ghost_name)
     × IsInside old now
-    × (HasCleanDisk now → (way : Way) (ns : List ℕ) (ds : List OutEntry) → AllByRecursion (λ n. n < end_of_numbers) ns → l.rows ≡ map number_row ns → HoldsDocuments way old.now ds → Rewritten way old now (passing l.detail (take l.row-index ns) ds))
+    × (HasCleanDisk now → (way : Way) (ns : List ℕ) (ds : List OutEntry) → AllByRecursion (λ n. n < end_of_numbers) ns → l.rows ≡ map number_row ns → HoldsDocuments way old.now ds → RewritesDocuments way old now (passed_documents l.detail (take l.row-index ns) ds))

@@ -9,7 +9,7 @@ use Rattle.as2_exchange.specs.Progress.{is_in}
 use Rattle.as2_exchange.specs.declared.fault.StoreFault.TheVariants.{Memory}
 use Rattle.as2_records.specs.Summaries.{out_summary}
 use Rattle.as2_records.specs.declared.summaries.OutRow.{OutRow}
-use Rattle.as2_store.specs.Calls.{Reads}
+use Rattle.as2_store.specs.Calls.{ReadsTables}
 use Rattle.as2_store.proofs.ListedRows.{all_given, leaves_nothing, lists, lists_none, none_listed, one_more, rests_still, still_nothing}
 use Rattle.as2_store.proofs.Querying.{read_bad, told_ok}
 use Rattle.as2_store.proofs.StateQueries.{kept_all, lists_between, one_more_document}
@@ -39,7 +39,7 @@ returns-in-Err-advance-clause-documents g c =
     let mid = state g.S.Store c.rows.rows.conn.now in
     let now = c.advance.new.self.conn.now in
     let same : now ≡ c.conn-in-Err-advance-1.given.0 = search rules in
-    subst (λ h. Reads (λ s documents. documents.items ≡ map out_summary (filter (is_in c.args.wanted) s.outbox)) old (state g.S.Store h) (Err c.fault_of-in-Err-advance.result)) same
+    subst (λ h. ReadsTables (λ s documents. documents.items ≡ map out_summary (filter (is_in c.args.wanted) s.outbox)) old (state g.S.Store h) (Err c.fault_of-in-Err-advance.result)) same
     (lists_none _ old (state g.S.Store now) _ (still_nothing old mid (state g.S.Store now) c.rows.invariant.2 c.advance.ensures.survives)
     (λ clean s r.
     let it = c.rows.invariant.3 (omega (arith, c.advance.ensures.survives.clean, clean)) s r in
@@ -54,7 +54,7 @@ returns-in_default-clause-documents g c =
     let same : now ≡ c.conn-in_default-1.given.0 = search rules in
     let moved = c.in-Ok-advance.ensures in
     let none : row_if c.advance.new.self.has_row now ≡ None = rw c.in_default.is at (sym c.get.ensures) in
-    subst (λ h. Reads (λ s documents. documents.items ≡ map out_summary (filter (is_in c.args.wanted) s.outbox)) old (state g.S.Store h) (Ok c.rows.documents)) same
+    subst (λ h. ReadsTables (λ s documents. documents.items ≡ map out_summary (filter (is_in c.args.wanted) s.outbox)) old (state g.S.Store h) (Ok c.rows.documents)) same
     (lists _ old new _ c.requires.open (λ clean. (moved.same clean).0.is_open) (still_nothing old mid new c.rows.invariant.2 c.advance.ensures.survives)
     (λ clean s r.
     let it = c.rows.invariant.3 (omega (arith, c.advance.ensures.survives.clean, clean)) s r in
@@ -71,7 +71,7 @@ returns-in_err-document-clause-documents g c =
     let new = state g.S.Store now in
     let same : now ≡ c.conn-in_err-document-1.given.0 = search rules in
     let fits : State → Vec OutRow Global → Type 0 = λ s documents. documents.items ≡ map out_summary (filter (is_in c.args.wanted) s.outbox) in
-    subst (λ h. Reads fits old (state g.S.Store h) c.from_residual.result) same
+    subst (λ h. ReadsTables fits old (state g.S.Store h) c.from_residual.result) same
     (read_bad fits fits old new (Err Memory) c.from_residual.result c.from_residual.ensures.0
     (lists_none fits old new Memory (still_nothing old mid new c.rows.invariant.2 c.advance.ensures.survives)
     (λ clean s r.
@@ -86,7 +86,7 @@ returns-in_err-list_if-clause-documents g c =
     let new = state g.S.Store now in
     let same : now ≡ c.conn-in_err-list_if-1.given.0 = search rules in
     let fits : State → Vec OutRow Global → Type 0 = λ s documents. documents.items ≡ map out_summary (filter (is_in c.args.wanted) s.outbox) in
-    subst (λ h. Reads fits old (state g.S.Store h) c.from_residual-in_err-list_if.result) same
+    subst (λ h. ReadsTables fits old (state g.S.Store h) c.from_residual-in_err-list_if.result) same
     (read_bad fits fits old new (Err Memory) c.from_residual-in_err-list_if.result c.from_residual-in_err-list_if.ensures.0
     (lists_none fits old new Memory (still_nothing old mid new c.rows.invariant.2 c.advance.ensures.survives)
     (λ clean s r.

@@ -6,7 +6,7 @@ use Rattle.as2_exchange.specs.State.{State}
 use Rattle.as2_exchange.specs.Progress.{is_in}
 use Rattle.as2_rows.specs.Rows.{out_shown}
 use Rattle.as2_records.specs.Summaries.{out_summary}
-use Rattle.as2_store.specs.Calls.{Commits}
+use Rattle.as2_store.specs.Calls.{CommitsTables}
 use Rattle.as2_store.specs.Stands.{Rests}
 use Rattle.as2_store.proofs.ListedRows.{HasListed}
 use Rattle.as2_store.proofs.Statements.{out_by_details_text}
@@ -16,5 +16,5 @@ abbrev pub invariant-rows : goal.invariant-rows
 invariant-rows g l =
     let old = state g.S.Store l.fn.conn in
     let now = state g.S.Store l.rows.conn.now in
-    (l.rows.conn.ghost_name ≡ l.initial.rows.conn.ghost_name) × (l.rows.conn.now.in_transaction ≡ false) × Survives old now (Commits Some old)
+    (l.rows.conn.ghost_name ≡ l.initial.rows.conn.ghost_name) × (l.rows.conn.now.in_transaction ≡ false) × Survives old now (CommitsTables Some old)
     × (HasCleanDisk now → (s : State) → Rests old s → HasListed g.S.Store out_by_details_text (bound l.codes) out_shown (λ ds. map out_summary (filter (is_in l.wanted) ds)) l.fn.conn l.rows.conn.now l.documents.items)

@@ -7,7 +7,7 @@ use Rattle.as2_exchange.specs.State.{State}
 use Rattle.as2_exchange.specs.declared.fault.StoreFault.TheVariants.{Memory}
 use Rattle.as2_records.specs.Summaries.{in_summary}
 use Rattle.as2_records.specs.declared.summaries.InRow.{InRow}
-use Rattle.as2_store.specs.Calls.{Reads}
+use Rattle.as2_store.specs.Calls.{ReadsTables}
 use Rattle.as2_store.proofs.InboxQueries.{lists_all, one_more_entry}
 use Rattle.as2_store.proofs.ListedRows.{all_given, leaves_nothing, lists, lists_none, none_listed, one_more, rests_still, still_nothing}
 use Rattle.as2_store.proofs.Querying.{read_bad, told_ok}
@@ -37,7 +37,7 @@ returns-in-Err-advance-clause-entries g c =
     let mid = state g.S.Store c.rows.rows.conn.now in
     let now = c.advance.new.self.conn.now in
     let same : now ≡ c.conn-in-Err-advance-1.given.0 = search rules in
-    subst (λ h. Reads (λ s entries. entries.items ≡ map in_summary s.inbox) old (state g.S.Store h) (Err c.fault_of-in-Err-advance.result)) same
+    subst (λ h. ReadsTables (λ s entries. entries.items ≡ map in_summary s.inbox) old (state g.S.Store h) (Err c.fault_of-in-Err-advance.result)) same
     (lists_none _ old (state g.S.Store now) _ (still_nothing old mid (state g.S.Store now) c.rows.invariant.2 c.advance.ensures.survives)
     (λ clean s r.
     let it = c.rows.invariant.3 (omega (arith, c.advance.ensures.survives.clean, clean)) s r in
@@ -52,7 +52,7 @@ returns-in_default-clause-entries g c =
     let same : now ≡ c.conn-in_default-1.given.0 = search rules in
     let moved = c.in-Ok-advance.ensures in
     let none : row_if c.advance.new.self.has_row now ≡ None = rw c.in_default.is at (sym c.get.ensures) in
-    subst (λ h. Reads (λ s entries. entries.items ≡ map in_summary s.inbox) old (state g.S.Store h) (Ok c.rows.entries)) same
+    subst (λ h. ReadsTables (λ s entries. entries.items ≡ map in_summary s.inbox) old (state g.S.Store h) (Ok c.rows.entries)) same
     (lists _ old new _ c.requires.open (λ clean. (moved.same clean).0.is_open) (still_nothing old mid new c.rows.invariant.2 c.advance.ensures.survives)
     (λ clean s r.
     let it = c.rows.invariant.3 (omega (arith, c.advance.ensures.survives.clean, clean)) s r in
@@ -69,7 +69,7 @@ returns-in_err-entry-clause-entries g c =
     let new = state g.S.Store now in
     let same : now ≡ c.conn-in_err-entry-1.given.0 = search rules in
     let fits : State → Vec InRow Global → Type 0 = λ s entries. entries.items ≡ map in_summary s.inbox in
-    subst (λ h. Reads fits old (state g.S.Store h) c.from_residual.result) same
+    subst (λ h. ReadsTables fits old (state g.S.Store h) c.from_residual.result) same
     (read_bad fits fits old new (Err Memory) c.from_residual.result c.from_residual.ensures.0
     (lists_none fits old new Memory (still_nothing old mid new c.rows.invariant.2 c.advance.ensures.survives)
     (λ clean s r.
@@ -84,7 +84,7 @@ returns-in-Err-push-clause-entries g c =
     let new = state g.S.Store now in
     let same : now ≡ c.conn-in-Err-push-1.given.0 = search rules in
     let fits : State → Vec InRow Global → Type 0 = λ s entries. entries.items ≡ map in_summary s.inbox in
-    subst (λ h. Reads fits old (state g.S.Store h) (Err Memory)) same
+    subst (λ h. ReadsTables fits old (state g.S.Store h) (Err Memory)) same
     (lists_none fits old new Memory (still_nothing old mid new c.rows.invariant.2 c.advance.ensures.survives)
     (λ clean s r.
     let it = c.rows.invariant.3 (omega (arith, c.advance.ensures.survives.clean, clean)) s r in

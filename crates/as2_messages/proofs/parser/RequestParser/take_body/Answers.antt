@@ -1,5 +1,5 @@
 use Rattle.std.proofs.Common.{◌++◌, subst, sym}
-use Rattle.as2_messages.specs.Requests.{IsRefused}
+use Rattle.as2_messages.specs.Requests.{BeginsNoRequest}
 use Rattle.as2_messages.specs.declared.framing.Refused.{Refused}
 use Rattle.as2_messages.proofs.Parsing.{ends_request, fed_as}
 use Rattle.as2_messages.proofs.parser.RequestParser.take_body.Goals as goal
@@ -16,10 +16,10 @@ returns-in-Whole c = λ text framed.
 
 pub returns-in-Bad : goal.returns-in-Bad
 returns-in-Bad c = λ text framed.
-    subst (λ (r : Refused). IsRefused (text ++ c.args.bytes.now) r) (sym c.refused.ensures)
+    subst (λ (r : Refused). BeginsNoRequest (text ++ c.args.bytes.now) r) (sym c.refused.ensures)
     (fed_as c.args.awaited c.feed.new.self c.args.bytes.now c.args.from c.in_ok-feed.field-0 _ c.in-Bad.is c.in_ok-feed.ensures.fed (text ++ c.args.bytes.now) framed.awaits)
 
 pub returns-in-TooLarge : goal.returns-in-TooLarge
 returns-in-TooLarge c = λ text framed.
-    subst (λ (r : Refused). IsRefused (text ++ c.args.bytes.now) r) (sym c.refused-in-TooLarge.ensures)
+    subst (λ (r : Refused). BeginsNoRequest (text ++ c.args.bytes.now) r) (sym c.refused-in-TooLarge.ensures)
     (fed_as c.args.awaited c.feed.new.self c.args.bytes.now c.args.from c.in_ok-feed.field-0 _ c.in-TooLarge.is c.in_ok-feed.ensures.fed (text ++ c.args.bytes.now) framed.awaits)

@@ -6,7 +6,7 @@ use Rattle.as2_exchange.specs.Documents.{begun}
 use Rattle.as2_exchange.specs.OwedReceipts.{mdn_begun}
 use Rattle.as2_exchange.specs.Step.{on_document, on_received}
 use Rattle.as2_exchange.specs.declared.next.Next.{Next}
-use Rattle.as2_station.specs.Said.{begin_of, said_to_begin}
+use Rattle.as2_station.specs.Said.{begin_event, said_to_begin}
 use Rattle.as2_station.proofs.station.Station.begin.Goals as goal
 
 pub returns-in-Receipt : goal.returns-in-Receipt
@@ -16,7 +16,7 @@ returns-in-Receipt g c = record {
       let n = c.in-Receipt.number in
       let m = c.args.moment in
       let new = g.R.Records.shows c.begin_mdn.new.records in
-      subst (λ (w : Next). TakesEvent A (begin_of w m) said_to_begin (g.R.Records.shows c.args.self.now) new c.begin_mdn.result) (sym c.in-Receipt.is)
+      subst (λ (w : Next). TakesEvent A (begin_event w m) said_to_begin (g.R.Records.shows c.args.self.now) new c.begin_mdn.result) (sym c.in-Receipt.is)
       (takes_event A (event.BeginMdn n m) said_to_begin _ new c.begin_mdn.result
       (subst (λ (h : g.row.R.Denot). Does (λ s. Some (on_received s n (mdn_begun A m))) always (true ≡ true) said_to_begin (g.R.Records.shows h) new c.begin_mdn.result) c.self.view_is c.begin_mdn.ensures.taken)
       (g.met.R.Records.rests_last c.begin_mdn.new.records)
@@ -30,7 +30,7 @@ returns-in-Document g c = record {
       let n = c.in-Document.number in
       let m = c.args.moment in
       let new = g.R.Records.shows c.begin.new.records in
-      subst (λ (w : Next). TakesEvent A (begin_of w m) said_to_begin (g.R.Records.shows c.args.self.now) new c.begin.result) (sym c.in-Document.is)
+      subst (λ (w : Next). TakesEvent A (begin_event w m) said_to_begin (g.R.Records.shows c.args.self.now) new c.begin.result) (sym c.in-Document.is)
       (takes_event A (event.Begin n m) said_to_begin _ new c.begin.result
       (subst (λ (h : g.row.R.Denot). Does (λ s. Some (on_document s n (begun A m))) always (true ≡ true) said_to_begin (g.R.Records.shows h) new c.begin.result) c.self.view_is c.begin.ensures.taken)
       (g.met.R.Records.rests_last c.begin.new.records)

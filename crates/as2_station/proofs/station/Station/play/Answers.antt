@@ -1,6 +1,6 @@
 use Rattle.std.proofs.Common.{◌≡◌, ◌+◌, ◌++◌, [], ◌∷◌, ◌∙◌, length, sym, ap, subst, append_assoc, append-nil, arith}
 use Rattle.std.proofs.lemmas.List.{length-append}
-use Rattle.as2_station.specs.Traces.{Taken, Plays}
+use Rattle.as2_station.specs.Traces.{TakesEvents, Plays}
 use Rattle.as2_station.proofs.Playing.{taken_more, taken_plays, nothing_left}
 use Rattle.as2_station.proofs.station.Station.play.Goals as goal
 
@@ -17,7 +17,7 @@ events-preserved g c =
       was.1 ∙ more,
       longer ∙ ap (λ n. n + 1) was.2 ∙ sym (length-append c.events.yielded (c.in-Some.event ∷ [])),
       omega (arith),
-      subst (λ rs. Taken g.R.Records.shows c.args.agreements.now (c.events.yielded ++ c.in-Some.event ∷ []) rs c.args.self.now c.step.new.self) (sym pushed) taken,
+      subst (λ rs. TakesEvents g.R.Records.shows c.args.agreements.now (c.events.yielded ++ c.in-Some.event ∷ []) rs c.args.self.now c.step.new.self) (sym pushed) taken,
     )
 
 pub returns-clause-each : goal.returns-clause-each
@@ -25,7 +25,7 @@ returns-clause-each g c =
     let was = c.events.invariant in
     let rest : c.events.event-iterator.rest.items ≡ [] = nothing_left _ (omega (arith, c.in-None.ensures.steps.0, c.events.event-iterator.rest.ok)) in
     let whole : c.events.yielded ≡ c.args.events.items = sym (was.1 ∙ ap (λ l. c.events.yielded ++ l) rest ∙ append-nil c.events.yielded) in
-    subst (λ es. Taken g.R.Records.shows c.args.agreements.now es c.events.said.items c.args.self.now c.events.self) whole was.4
+    subst (λ es. TakesEvents g.R.Records.shows c.args.agreements.now es c.events.said.items c.args.self.now c.events.self) whole was.4
 
 pub returns-clause-played : goal.returns-clause-played
 returns-clause-played g c =

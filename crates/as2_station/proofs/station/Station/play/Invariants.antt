@@ -1,5 +1,5 @@
 use Rattle.std.proofs.Common.{◌≡◌, ◌+◌, ◌≤◌, ◌++◌, length, vec_len, vec_capacity}
-use Rattle.as2_station.specs.Traces.{Taken}
+use Rattle.as2_station.specs.Traces.{TakesEvents}
 use Rattle.as2_station.proofs.station.Station.play.Given as goal
 
 abbrev pub invariant-events : goal.invariant-events
@@ -8,4 +8,4 @@ invariant-events g l =
     × (l.fn.events.items ≡ l.yielded ++ l.event-iterator.rest.items)
     × (length l.said.items ≡ length l.yielded)
     × (vec_len l.said + length l.event-iterator.rest.items ≤ vec_capacity l.said)
-    × Taken g.R.Records.shows l.agreements l.yielded l.said.items l.fn.self l.self
+    × TakesEvents g.R.Records.shows l.agreements l.yielded l.said.items l.fn.self l.self
