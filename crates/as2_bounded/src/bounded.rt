@@ -8,9 +8,9 @@ ghost use Rattle.as2_records.specs.Standing.{may_come};
 ghost use Rattle.as2_bounded.specs.Rooms.{room_behind, room_of};
 
 use as2_exchange::{END_OF_NUMBERS, Evidence, InEntry, OutEntry, StoreFault};
-use as2_mdn::{Detail, State};
+use as2_mdn::{Detail, DetailClass};
 use as2_records::{
-    Counts, Discrepancy, InRow, MdnProgress, NextNumbers, OutRow, Progress, Records,
+    Counts, Discrepancy, InRow, ReceiptProgress, NextNumbers, OutRow, Progress, Records,
 };
 use as2_text::{AsName, Moment};
 use std::alloc::Global;
@@ -171,12 +171,12 @@ impl<R: Records> Records for Bounded<R> {
         self.admit_out(entry)
     }
 
-    fn requeue_mdn(&mut self, number: u64, moment: Moment) -> Result<(), StoreFault> {
-        self.records.requeue_mdn(number, moment)
+    fn requeue_receipt(&mut self, number: u64, moment: Moment) -> Result<(), StoreFault> {
+        self.records.requeue_receipt(number, moment)
     }
 
-    fn set_mdn(&mut self, number: u64, progress: MdnProgress) -> Result<(), StoreFault> {
-        self.records.set_mdn(number, progress)
+    fn set_receipt(&mut self, number: u64, progress: ReceiptProgress) -> Result<(), StoreFault> {
+        self.records.set_receipt(number, progress)
     }
 
     fn expire(&mut self, moment: Moment) -> Result<u64, StoreFault> {
@@ -234,14 +234,14 @@ impl<R: Records> Records for Bounded<R> {
         self.records.due_out(moment)
     }
 
-    fn due_mdn(&mut self, moment: Moment) -> Result<Option<u64>, StoreFault> {
-        self.records.due_mdn(moment)
+    fn due_receipt(&mut self, moment: Moment) -> Result<Option<u64>, StoreFault> {
+        self.records.due_receipt(moment)
     }
 
     fn list_out(
         &mut self,
         alloc: Global,
-        wanted: Option<State>,
+        wanted: Option<DetailClass>,
     ) -> Result<Vec<OutRow>, StoreFault> {
         self.records.list_out(alloc, wanted)
     }

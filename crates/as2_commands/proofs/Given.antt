@@ -4,8 +4,8 @@ use Rattle.clap.specs.Walk.{Row, Text}
 use Rattle.clap.specs.Words.{first_of}
 use Rattle.as2_names.specs.Names.{Spells}
 use Rattle.as2_names.proofs.Spelled.{again}
-use Rattle.as2_mdn.specs.declared.detail.State.{State}
-use Rattle.as2_mdn.specs.declared.detail.State.TheVariants as state
+use Rattle.as2_mdn.specs.declared.detail.DetailClass.{DetailClass}
+use Rattle.as2_mdn.specs.declared.detail.DetailClass.TheVariants as class
 use Rattle.as2_views.specs.Layout.{state_text}
 use Rattle.as2_views.specs.declared.filter.Filter.{Filter}
 use Rattle.as2_views.specs.declared.filter.Filter.TheVariants.{Outbox, Inbox}
@@ -74,20 +74,20 @@ serving_one values own a b x y =
     ∙ ap (λ (m : Option ℕ). record b { moment = m }) (told_one _ a.moment b.moment x.seconds.0 y.seconds.0)
 
 -- the state of a letter
-state_from : Text → State
-state_from [] = state.P
+state_from : Text → DetailClass
+state_from [] = class.P
 state_from (c ∷ rest) =
-    if c == 80 then state.P else if c == 82 then state.R else if c == 83 then state.S else if c == 87 then state.W else state.E
+    if c == 80 then class.P else if c == 82 then class.R else if c == 83 then class.S else if c == 87 then class.W else class.E
 
-from_letter : (s : State) → state_from (state_text s) ≡ s
+from_letter : (s : DetailClass) → state_from (state_text s) ≡ s
 unfolding state_from
-from_letter state.P = refl
-from_letter state.R = refl
-from_letter state.S = refl
-from_letter state.W = refl
-from_letter state.E = refl
+from_letter class.P = refl
+from_letter class.R = refl
+from_letter class.S = refl
+from_letter class.W = refl
+from_letter class.E = refl
 
-letters_one : (o p : Option State) → option_map state_text o ≡ option_map state_text p → o ≡ p
+letters_one : (o p : Option DetailClass) → option_map state_text o ≡ option_map state_text p → o ≡ p
 letters_one None None x = refl
 letters_one None (Some s) x = cc
 letters_one (Some s) None x = cc

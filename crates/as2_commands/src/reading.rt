@@ -3,7 +3,7 @@ ghost use Rattle.std.specs.Prelude.{◌≡◌, ◌↔◌, ◌<◌, ◌≤◌, �
 ghost use Rattle.as2_names.specs.Moments.{last_moment};
 ghost use Rattle.as2_exchange.specs.State.{end_of_numbers};
 ghost use Rattle.as2_views.specs.Layout.{state_text};
-ghost use Rattle.as2_mdn.specs.declared.detail.State.{State as TheState};
+ghost use Rattle.as2_mdn.specs.declared.detail.DetailClass.{DetailClass};
 ghost use Rattle.as2_views.specs.declared.filter.Filter.{Filter as TheFilter};
 ghost use Rattle.clap.specs.Words.{first_of, found_of, one_of, rows_of, subcommand_rows_of};
 ghost use Rattle.as2_commands.specs.Options.{AsksEvidence, AsksRun, AsksServe, AsksShow, AsksSubmit, Commands, Give, IsEntryNumber, IsFormat, IsTimeout, box_of, Lists, is_state_ignored, is_set, NameIs, NumberFrom, NumberIs, SecondsAre, Tasks, TellsMoment, TellsOption};
@@ -28,7 +28,7 @@ use crate::tasks::{
 };
 use as2_audit::Mailbox;
 use as2_exchange::END_OF_NUMBERS;
-use as2_mdn::State;
+use as2_mdn::DetailClass;
 use as2_text::{AsName, Moment};
 use as2_views::Filter;
 use clap::ArgMatches;
@@ -260,10 +260,10 @@ fn filter<'a>(own: &ArgMatches<'a>) -> Result<Filter, OptionFault<'a>>
 }
 
 /// The state that is asked for, where one is.
-fn state<'a>(own: &ArgMatches<'a>) -> Result<Option<State>, OptionFault<'a>>
+fn state<'a>(own: &ArgMatches<'a>) -> Result<Option<DetailClass>, OptionFault<'a>>
     ensures given { IfOk result (λ only. first_of (codes "state") (rows_of (found_of own.now))
         ≡ option_map state_text only) }
-    ensures none { IfErr result (λ _. (only : Option TheState)
+    ensures none { IfErr result (λ _. (only : Option DetailClass)
         → ¬ (first_of (codes "state") (rows_of (found_of own.now)) ≡ option_map state_text only)) }
 {
     let Some(letter) = text(own, STATE) else {
@@ -276,15 +276,15 @@ fn state<'a>(own: &ArgMatches<'a>) -> Result<Option<State>, OptionFault<'a>>
 }
 
 /// The state of that letter.
-fn state_of(letter: &str) -> Option<State>
-    ensures { (state : TheState) → (letter.now ≡ state_text state) ↔ (result ≡ Some state) }
+fn state_of(letter: &str) -> Option<DetailClass>
+    ensures { (state : DetailClass) → (letter.now ≡ state_text state) ↔ (result ≡ Some state) }
 {
     match letter {
-        "P" => Some(State::P),
-        "R" => Some(State::R),
-        "S" => Some(State::S),
-        "W" => Some(State::W),
-        "E" => Some(State::E),
+        "P" => Some(DetailClass::P),
+        "R" => Some(DetailClass::R),
+        "S" => Some(DetailClass::S),
+        "W" => Some(DetailClass::W),
+        "E" => Some(DetailClass::E),
         _ => None,
     }
 }

@@ -26,7 +26,7 @@ abbrev pub BytesGive : List ℕ → AgreementsResult → Type 0
 BytesGive bytes opened = BytesHave bytes opened ⊎ IsWant opened
 
 -- what the file that stands under a path comes to, as far as that is told
-abbrev pub ComesTo : Content → AgreementsResult → Type 0
-ComesTo untold opened = ⊤
-ComesTo unreadable opened = opened ≡ Err refusal.CannotRead
-ComesTo (file bytes) opened = BytesGive bytes opened
+abbrev pub FileComesTo : Content → AgreementsResult → Type 0
+FileComesTo untold opened = ⊤
+FileComesTo unreadable opened = opened ≡ Err refusal.CannotRead
+FileComesTo (file bytes) opened = BytesGive bytes opened

@@ -1,6 +1,6 @@
 //! The agreements of a file.
 ghost use Rattle.std.specs.Prelude.{◌≡◌};
-ghost use Rattle.as2_desk.specs.FileAgreements.{BytesGive, ComesTo};
+ghost use Rattle.as2_desk.specs.FileAgreements.{BytesGive, FileComesTo};
 
 use crate::refusal::CommandFault;
 use as2_agreement::{AgreementFault, Agreements, Place, Unknown};
@@ -73,7 +73,7 @@ pub(crate) fn agreements_in<F: ReadFiles>(
     path: &str,
     is_checked: bool,
 ) -> (Result<Agreements, CommandFault>, Noticed)
-    ensures { ComesTo (F.content files.now path.now) result.0 }
+    ensures { FileComesTo (F.content files.now path.now) result.0 }
 {
     let fault = match files.read_file(alloc, path) {
         Ok(bytes) => return agreed_in(alloc, &bytes, is_checked),

@@ -6,11 +6,11 @@ use Rattle.as2_audit.specs.declared.findings.Mailbox.{Mailbox}
 use Rattle.as2_audit.specs.declared.findings.Mailbox.TheVariants.{Inbox, Outbox}
 use Rattle.as2_exchange.specs.Agreement.{Text}
 use Rattle.as2_exchange.specs.Readings.{receipt_bytes}
-use Rattle.as2_exchange.specs.Recording.{report}
+use Rattle.as2_exchange.specs.Recording.{receipt_out}
 use Rattle.as2_exchange.specs.State.{State, document, received_entry}
 use Rattle.as2_exchange.specs.declared.inbox.InEntry.{InEntry}
-use Rattle.as2_exchange.specs.declared.inbox.MdnState.{MdnState}
-use Rattle.as2_exchange.specs.declared.inbox.MdnState.TheVariants.{Sent}
+use Rattle.as2_exchange.specs.declared.inbox.ReceiptStage.{ReceiptStage}
+use Rattle.as2_exchange.specs.declared.inbox.ReceiptStage.TheVariants.{Sent}
 use Rattle.as2_exchange.specs.declared.outbox.Evidence.{Evidence}
 use Rattle.as2_exchange.specs.declared.outbox.OutEntry.{OutEntry}
 use Rattle.as2_messages.specs.Replies.{IsDateOf}
@@ -54,14 +54,14 @@ pub record AreSentFiles (migrated : Bool) (d : OutEntry) (files : List File) : T
 -- ---- a document that was received
 
 -- the receipt that was given, as these agreements have it
-abbrev pub given_receipt : AgreedValues → InEntry → MdnState → Option Text
-given_receipt agreements e Sent = Some (receipt_bytes (report agreements e.number e.posted))
+abbrev pub given_receipt : AgreedValues → InEntry → ReceiptStage → Option Text
+given_receipt agreements e Sent = Some (receipt_bytes (receipt_out agreements e.number e.posted))
 given_receipt agreements e other = None
 
 -- its content, the receipt that was given and the page
 abbrev pub received_files : AgreedValues → InEntry → Text → List File
 received_files agreements e came =
-    files_named (stem Inbox e.number) e.posted.content (given_receipt agreements e e.mdn) (received_page e came)
+    files_named (stem Inbox e.number) e.posted.content (given_receipt agreements e e.receipt_stage) (received_page e came)
 
 -- the files are those, with the date of its moment
 pub record AreReceivedFiles (agreements : AgreedValues) (e : InEntry) (files : List File) : Type 0 where

@@ -19,7 +19,7 @@ use Rattle.as2_names.specs.Names.{name_spelling}
 use Rattle.as2_views.specs.Layout.{named_line}
 use Rattle.as2_views.specs.Pieces.{size_text}
 use Rattle.as2_views.specs.Texts.{shown_words}
-use Rattle.as2_evidence.specs.Words.{detail_words, disposition_words, given_words, kept_words, mdn_words, shown_text}
+use Rattle.as2_evidence.specs.Words.{detail_words, disposition_words, given_words, kept_words, receipt_stage_words, shown_text}
 
 -- ---- both
 
@@ -117,7 +117,7 @@ received_content e =
 -- what became of it, and how its receipt stands (RFC 4130, section 7.5; RFC 8098, section 3.2.6)
 unfoldable pub outcome_lines : InEntry → Text
 outcome_lines e =
-    named_line (codes "receipt") (mdn_words e.posted.how e.mdn)
+    named_line (codes "receipt") (receipt_stage_words e.posted.how e.receipt_stage)
     ++ named_line (codes "outcome") (outcome_text e.posted.outcome)
     ++ named_line (codes "MIC") (kept_words e.posted.mic)
 

@@ -1,8 +1,8 @@
 -- What the pages of evidence say in words.
 use Rattle.std.specs.Prelude.{ℕ, ◌&&◌, codes, map, nat_le, Option, Some, None, ◌++◌, if◌then◌else◌}
 use Rattle.as2_exchange.specs.Agreement.{Text}
-use Rattle.as2_exchange.specs.declared.inbox.MdnState.{MdnState}
-use Rattle.as2_exchange.specs.declared.inbox.MdnState.TheVariants.{Sent}
+use Rattle.as2_exchange.specs.declared.inbox.ReceiptStage.{ReceiptStage}
+use Rattle.as2_exchange.specs.declared.inbox.ReceiptStage.TheVariants.{Sent}
 use Rattle.as2_exchange.specs.declared.inbox.ReceiptDelivery.{ReceiptDelivery}
 use Rattle.as2_exchange.specs.declared.inbox.ReceiptDelivery.TheVariants.{NoReceipt, Sync, Async}
 use Rattle.as2_mdn.specs.Dispositions.{given_modifier}
@@ -10,7 +10,7 @@ use Rattle.as2_mdn.specs.Receipts.{Mic, Missing, Unreadable, Given}
 use Rattle.as2_mdn.specs.Reports.{mic_with_digest}
 use Rattle.as2_mdn.specs.declared.detail.Detail.{Detail}
 use Rattle.as2_mdn.specs.declared.detail.Detail.TheVariants.{New, Sending, Awaiting, Retry, Processed, NoReceiptAsked, Warning, NoMic, UnknownMic, NotProcessed, ErrorModifier, MicDiffers, TriesUsed, Overdue}
-use Rattle.as2_mdn.specs.declared.report.ReportMic.{ReportMic}
+use Rattle.as2_mdn.specs.declared.report.ReceiptMic.{ReceiptMic}
 
 -- a byte, where it prints, or a question mark
 abbrev pub shown_byte : ℕ → ℕ
@@ -57,17 +57,17 @@ given_words (Given field) = field.0 ++ codes ", " ++ field.1
 -- ---- documents that were received
 
 -- whether a receipt that is sent by a request of its own was taken
-abbrev pub taken_words : MdnState → Text
+abbrev pub taken_words : ReceiptStage → Text
 taken_words Sent = codes "by a request of its own, which was taken"
 taken_words other = codes "by a request of its own, which wasn't taken since it was last to be sent"
 
 -- how the receipt stands
-abbrev pub mdn_words : ReceiptDelivery → MdnState → Text
-mdn_words NoReceipt mdn = codes "none was asked for"
-mdn_words Sync mdn = codes "in the answer to the post; whether that arrived isn't known"
-mdn_words (Async url) mdn = taken_words mdn
+abbrev pub receipt_stage_words : ReceiptDelivery → ReceiptStage → Text
+receipt_stage_words NoReceipt receipt_stage = codes "none was asked for"
+receipt_stage_words Sync receipt_stage = codes "in the answer to the post; whether that arrived isn't known"
+receipt_stage_words (Async url) receipt_stage = taken_words receipt_stage
 
 -- the MIC that the receipt gives, where there is one
-abbrev pub kept_words : Option ReportMic → Text
+abbrev pub kept_words : Option ReceiptMic → Text
 kept_words None = codes "-"
 kept_words (Some mic) = mic_with_digest mic

@@ -4,18 +4,18 @@ ghost use Rattle.as2_evidence.specs.Evidence.{AreReceivedFiles, given_receipt};
 ghost use Rattle.as2_evidence.specs.Files.{files_of};
 ghost use Rattle.as2_evidence.specs.Pages.{outcome_lines, received_content, received_names, received_page, received_title};
 ghost use Rattle.as2_exchange.specs.Readings.{receipt_bytes};
-ghost use Rattle.as2_exchange.specs.Recording.{report};
+ghost use Rattle.as2_exchange.specs.Recording.{receipt_out};
 
 use crate::files::{NewFile, files_in, in_pieces};
 use crate::lines::{add_check_commands, add_checks, add_found, stem};
-use crate::words::{kept_words, mdn_words, shown_text};
+use crate::words::{kept_words, receipt_stage_words, shown_text};
 use as2_agreement::Agreements;
 use as2_audit::{Mailbox, received_fault};
-use as2_exchange::{InEntry, MdnState, Posted};
-use as2_mdn::write_report;
+use as2_exchange::{InEntry, ReceiptStage, Posted};
+use as2_mdn::write_receipt;
 use as2_messages::date_of;
 use as2_mic::Pieces;
-use as2_posts::report;
+use as2_posts::receipt_out;
 use as2_text::Memory;
 use as2_views::{add_name_line, add_number_line, add_size_line, add_text_line};
 use std::alloc::{AllocError, Global};
@@ -55,7 +55,7 @@ fn add_outcome(alloc: Global, text: &mut Vec<u8>, entry: &InEntry) -> Result<(),
     add_text_line(
         text,
         b"receipt",
-        mdn_words(&entry.posted.how, entry.mdn).as_bytes(),
+        receipt_stage_words(&entry.posted.how, entry.receipt_stage).as_bytes(),
     )?;
     add_text_line(text, b"outcome", entry.posted.outcome.text().as_bytes())?;
     add_text_line(text, b"MIC", &mic)
@@ -87,10 +87,10 @@ fn received_page(alloc: Global, entry: &InEntry, came: &[u8]) -> Result<Vec<u8>,
 /// The body of the receipt that the station gives for a document.
 #[tactic(auto, unfolding(as2_exchange::specs::Readings::receipt_bytes))]
 fn receipt_of(alloc: Global, agreements: &Agreements, entry: &InEntry) -> Result<Pieces, Memory>
-    ensures { IfOk result (λ bytes. bytes ≡ receipt_bytes (report agreements.now entry.now.number entry.now.posted)) }
+    ensures { IfOk result (λ bytes. bytes ≡ receipt_bytes (receipt_out agreements.now entry.now.number entry.now.posted)) }
 {
-    let out = report(agreements, entry.number, &entry.posted)?;
-    let text = write_report(alloc, &out)?;
+    let out = receipt_out(agreements, entry.number, &entry.posted)?;
+    let text = write_receipt(alloc, &out)?;
     in_pieces(alloc, &text)
 }
 
@@ -100,11 +100,11 @@ fn given_receipt(
     agreements: &Agreements,
     entry: &InEntry,
 ) -> Result<Option<Pieces>, Memory>
-    ensures { IfOk result (λ receipt. receipt ≡ given_receipt agreements.now entry.now entry.now.mdn) }
+    ensures { IfOk result (λ receipt. receipt ≡ given_receipt agreements.now entry.now entry.now.receipt_stage) }
 {
-    match entry.mdn {
-        MdnState::Sent => Ok(Some(receipt_of(alloc, agreements, entry)?)),
-        MdnState::Unasked | MdnState::Pending => Ok(None),
+    match entry.receipt_stage {
+        ReceiptStage::Sent => Ok(Some(receipt_of(alloc, agreements, entry)?)),
+        ReceiptStage::Unasked | ReceiptStage::Pending => Ok(None),
     }
 }
 

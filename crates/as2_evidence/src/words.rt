@@ -1,10 +1,10 @@
 //! What the pages say in words.
 ghost use Rattle.std.specs.Prelude.{◌≡◌, ◌++◌, IfOk, OnOk, option_map};
-ghost use Rattle.as2_evidence.specs.Words.{detail_words, disposition_words, given_words, kept_words, mdn_words, modifier_words, shown_byte, shown_text, taken_words};
+ghost use Rattle.as2_evidence.specs.Words.{detail_words, disposition_words, given_words, kept_words, receipt_stage_words, modifier_words, shown_byte, shown_text, taken_words};
 ghost use Rattle.as2_mdn.specs.Receipts.{mic_of};
 
-use as2_exchange::{MdnState, ReceiptDelivery};
-use as2_mdn::{Detail, Disposition, MicPart, ReportMic};
+use as2_exchange::{ReceiptStage, ReceiptDelivery};
+use as2_mdn::{Detail, Disposition, MicPart, ReceiptMic};
 use std::alloc::{AllocError, Global};
 
 /// What a detail says.
@@ -38,25 +38,25 @@ pub fn detail_words(detail: Detail) -> &'static str
 }
 
 /// Whether a receipt that is sent by a request of its own was taken.
-fn taken_words(mdn: MdnState) -> &'static str
-    ensures { result.now ≡ taken_words mdn }
+fn taken_words(receipt_stage: ReceiptStage) -> &'static str
+    ensures { result.now ≡ taken_words receipt_stage }
 {
-    match mdn {
-        MdnState::Sent => "by a request of its own, which was taken",
-        MdnState::Unasked | MdnState::Pending => {
+    match receipt_stage {
+        ReceiptStage::Sent => "by a request of its own, which was taken",
+        ReceiptStage::Unasked | ReceiptStage::Pending => {
             "by a request of its own, which wasn't taken since it was last to be sent"
         }
     }
 }
 
 /// How the receipt of a received document stands.
-pub fn mdn_words(how: &ReceiptDelivery, mdn: MdnState) -> &'static str
-    ensures { result.now ≡ mdn_words how.now mdn }
+pub fn receipt_stage_words(how: &ReceiptDelivery, receipt_stage: ReceiptStage) -> &'static str
+    ensures { result.now ≡ receipt_stage_words how.now receipt_stage }
 {
     match how {
         ReceiptDelivery::NoReceipt => "none was asked for",
         ReceiptDelivery::Sync => "in the answer to the post; whether that arrived isn't known",
-        ReceiptDelivery::Async(_) => taken_words(mdn),
+        ReceiptDelivery::Async(_) => taken_words(receipt_stage),
     }
 }
 
@@ -120,7 +120,7 @@ pub fn given_words(alloc: Global, mic: &MicPart<'_>) -> Result<Vec<u8>, AllocErr
 }
 
 /// The MIC that the receipt of a received document gives, where there is one.
-pub fn kept_words(alloc: Global, mic: Option<ReportMic>) -> Result<Vec<u8>, AllocError>
+pub fn kept_words(alloc: Global, mic: Option<ReceiptMic>) -> Result<Vec<u8>, AllocError>
     ensures { IfOk result (λ text. text.items ≡ kept_words mic) }
 {
     let Some(mic) = mic else {

@@ -11,13 +11,13 @@ use Rattle.as2_mic.specs.Mic.{mic, base64_text}
 use Rattle.as2_mdn.specs.Receipts.{Mic as MicRead, Given}
 use Rattle.as2_exchange.specs.Agreement.{Text, Alg, Sha1, Sha256}
 use Rattle.as2_exchange.specs.Detail.{New, Idle, Processed, UnknownMic}
-use Rattle.as2_exchange.specs.Readings.{Head, Sync as SyncReceipt, Processed as WasProcessed, ReportOut, receipt_bytes, names_of, version_fits, type_of, is_report, report_in, verdict, named_by, value_of, out_id, id_of, ask_of, how_of, document_outcome, encoding_refused, mic_for}
+use Rattle.as2_exchange.specs.Readings.{Head, Sync as SyncReceipt, Processed as WasProcessed, ReceiptOut, receipt_bytes, names_of, version_fits, type_of, is_report, report_in, verdict, named_by, value_of, out_id, id_of, ask_of, how_of, document_outcome, encoding_refused, mic_for}
 use Rattle.as2_exchange.specs.State.{State, Posted, FirstVersion, LaterVersion, EarlyDigests, AllDigests, empty}
 use Rattle.as2_exchange.specs.Events.{Post, Begin, Outcome, Answer, Settled, Words, Report, IdUsedBefore, Reply}
 use Rattle.as2_exchange.specs.Posts.{IsDocument, post_reading}
 use Rattle.as2_exchange.specs.Documents.{begun, closed_document}
 use Rattle.as2_exchange.specs.Lines.{http}
-use Rattle.as2_exchange.specs.Recording.{record_post, answer_to, report, first_entry}
+use Rattle.as2_exchange.specs.Recording.{record_post, answer_to, receipt_out, first_entry}
 use Rattle.as2_exchange.specs.Run.{migrated_state}
 use Rattle.as2_exchange.proofs.Fixture.{buyer, fixture, abc, receipt_head, receipt_body, q_names, q_typed, q_media, tells, first_id, m1, sha1_text, sha1_mic}
 use Rattle.as2_exchange.proofs.Rows.{play, job_1, detail_1}
@@ -75,8 +75,8 @@ unfolding asking_for post_reading names_of version_fits type_of is_report id_of 
 other_content = refl
 
 -- the report of such a document, under the first number
-abbrev report_of : Alg → Text → ReportOut
-report_of digest text = report fixture 1 (made_of abc digest text)
+abbrev report_of : Alg → Text → ReceiptOut
+report_of digest text = receipt_out fixture 1 (made_of abc digest text)
 
 abbrev answered_by : Alg → Text → Answer
 answered_by digest text = http 200 (Report (report_of digest text) (receipt_bytes (report_of digest text)))

@@ -5,10 +5,10 @@ use Rattle.as2_names.specs.Identifiers.{without_brackets as bare}
 use Rattle.as2_exchange.specs.Detail.{Detail, Sending, Awaiting, Attempt, Idle, Running, Last}
 use Rattle.as2_exchange.specs.Readings.{value_of}
 use Rattle.as2_exchange.specs.State.{LaterVersion, State, OutEntry, empty}
-use Rattle.as2_exchange.specs.Events.{Event, Post, Begin, Outcome, BeginMdn, OutcomeMdn, NoAnswer}
+use Rattle.as2_exchange.specs.Events.{Event, Post, Begin, Outcome, BeginReceipt, OutcomeReceipt, NoAnswer}
 use Rattle.as2_exchange.specs.Documents.{begun, closed_document, submit}
 use Rattle.as2_exchange.specs.Due.{next}
-use Rattle.as2_exchange.specs.OwedReceipts.{mdn_begun, mdn_closed}
+use Rattle.as2_exchange.specs.OwedReceipts.{begun_receipt, closed_receipt}
 use Rattle.as2_exchange.specs.Recording.{record_post, answer_to}
 use Rattle.as2_exchange.specs.declared.next.Next.{Next}
 use Rattle.as2_exchange.specs.declared.next.Next.TheVariants.{Receipt, Document}
@@ -57,6 +57,6 @@ unfolding seen play submit record_post answer_to value_of bare
 receipt_is_next = rw p1_from_depot refl
 
 -- a receipt that failed is due again after thirty seconds; sent, it is queued again by a repeat
-receipt_is_due_again : (seen (next_at 1029 1030) (empty (LaterVersion 0) 1) (Post (post_head (codes "Depot") m1 return_head) abc 1000 ∷ BeginMdn 1 1000 ∷ OutcomeMdn 1 NoAnswer 1000 ∷ []) ≡ Some (None, Some (Receipt 1)))
-unfolding seen play record_post answer_to mdn_begun mdn_closed value_of bare
+receipt_is_due_again : (seen (next_at 1029 1030) (empty (LaterVersion 0) 1) (Post (post_head (codes "Depot") m1 return_head) abc 1000 ∷ BeginReceipt 1 1000 ∷ OutcomeReceipt 1 NoAnswer 1000 ∷ []) ≡ Some (None, Some (Receipt 1)))
+unfolding seen play record_post answer_to begun_receipt closed_receipt value_of bare
 receipt_is_due_again = rw p1_from_depot refl

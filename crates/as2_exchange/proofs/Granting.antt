@@ -5,13 +5,13 @@ use Rattle.std.specs.Option.{option_map_or}
 use Rattle.std.proofs.lemmas.Bool.Decides.{nat_tests}
 use Rattle.std.proofs.lemmas.Option.{same_Some}
 use Rattle.as2_exchange.specs.Agreement.{Text, Agreements, Partner, is_organization, partner_of}
-use Rattle.as2_exchange.specs.Detail.{MdnState, Unasked, Pending, Sent}
+use Rattle.as2_exchange.specs.Detail.{ReceiptStage, Unasked, Pending, Sent}
 use Rattle.as2_exchange.specs.Readings.{Job, document_job, receipt_job}
 use Rattle.as2_exchange.specs.State.{State, InEntry, OutEntry, document, received_entry, is_settled}
-use Rattle.as2_exchange.specs.Events.{Answer, Job as AJob, Refused, NoSuchNumber, UnknownOrganization, UnknownPartner, AllSettled, TriesUsedUp, NotDue, Begin, BeginMdn}
+use Rattle.as2_exchange.specs.Events.{Answer, Job as AJob, Refused, NoSuchNumber, UnknownOrganization, UnknownPartner, AllSettled, TriesUsedUp, NotDue, Begin, BeginReceipt}
 use Rattle.as2_exchange.specs.Documents.{begun, waits}
-use Rattle.as2_exchange.specs.OwedReceipts.{is_pending, mdn_begun}
-use Rattle.as2_exchange.specs.Recording.{report}
+use Rattle.as2_exchange.specs.OwedReceipts.{is_pending, begun_receipt}
+use Rattle.as2_exchange.specs.Recording.{receipt_out}
 use Rattle.as2_exchange.specs.Step.{act_on, acted_in, step}
 use Rattle.as2_exchange.specs.Tries.{where_agreed, is_early}
 
@@ -68,28 +68,28 @@ document_granted A s t n m job h = by (document s n) refl (same_Some _ (AJob job
 -- ---- a receipt
 
 abbrev StillOwed : InEntry → Partner → Type 0
-StillOwed e p = (e.mdn ≡ Pending) × (e.tries < p.max_tries)
+StillOwed e p = (e.receipt_stage ≡ Pending) × (e.tries < p.max_tries)
 
-is_owed : (x : MdnState) → not (is_pending x) ≡ false → x ≡ Pending
-is_owed Pending h = refl
-is_owed Unasked h = absurd (cc)
-is_owed Sent h = absurd (cc)
+owes_receipt : (x : ReceiptStage) → not (is_pending x) ≡ false → x ≡ Pending
+owes_receipt Pending h = refl
+owes_receipt Unasked h = absurd (cc)
+owes_receipt Sent h = absurd (cc)
 
-mdn_begun_granted : (A : Agreements) (m : ℕ) (e : InEntry) (job : Job) → (mdn_begun A m e).0 ≡ AJob job → IsSomeAnd (partner_of A e.posted.sender) (StillOwed e)
-unfolding mdn_begun
-mdn_begun_granted A m e job h =
+receipt_begun_granted : (A : Agreements) (m : ℕ) (e : InEntry) (job : Job) → (begun_receipt A m e).0 ≡ AJob job → IsSomeAnd (partner_of A e.posted.sender) (StillOwed e)
+unfolding begun_receipt
+receipt_begun_granted A m e job h =
     granted_to A e.posted.receiver e.posted.sender e _ job (StillOwed e)
-    (λ p g. let is = granted_by e _ job (receipt_job e.posted.how (report A e.number e.posted)) (not (is_pending e.mdn)) (nat_le p.max_tries e.tries) (is_early m e.due) g in (is_owed e.mdn is.0, less p.max_tries e.tries is.1)) h
+    (λ p g. let is = granted_by e _ job (receipt_job e.posted.how (receipt_out A e.number e.posted)) (not (is_pending e.receipt_stage)) (nat_le p.max_tries e.tries) (is_early m e.due) g in (owes_receipt e.receipt_stage is.0, less p.max_tries e.tries is.1)) h
 
-parted_receipt : (e : InEntry) (o : Option Partner) → IsSomeAnd o (StillOwed e) → (e.mdn ≡ Pending) × IsSomeAnd o (λ p. e.tries < p.max_tries)
+parted_receipt : (e : InEntry) (o : Option Partner) → IsSomeAnd o (StillOwed e) → (e.receipt_stage ≡ Pending) × IsSomeAnd o (λ p. e.tries < p.max_tries)
 parted_receipt e None h = absurd h
 parted_receipt e (Some p) h = (h.0, h.1)
 
-pub receipt_granted : (A : Agreements) (s t : State) (n m : ℕ) (job : Job) → step A s (BeginMdn n m) ≡ Some (AJob job, t) → (e : InEntry) × (received_entry s n ≡ Some e) × (e.mdn ≡ Pending) × IsSomeAnd (partner_of A e.posted.sender) (λ p. e.tries < p.max_tries)
+pub receipt_granted : (A : Agreements) (s t : State) (n m : ℕ) (job : Job) → step A s (BeginReceipt n m) ≡ Some (AJob job, t) → (e : InEntry) × (received_entry s n ≡ Some e) × (e.receipt_stage ≡ Pending) × IsSomeAnd (partner_of A e.posted.sender) (λ p. e.tries < p.max_tries)
 receipt_granted A s t n m job h = by (received_entry s n) refl (same_Some _ (AJob job, t) h)
   where
-    by : (o : Option InEntry) → received_entry s n ≡ o → acted_in s n (mdn_begun A m) o ≡ (AJob job, t) → (e : InEntry) × (received_entry s n ≡ Some e) × (e.mdn ≡ Pending) × IsSomeAnd (partner_of A e.posted.sender) (λ p. e.tries < p.max_tries)
+    by : (o : Option InEntry) → received_entry s n ≡ o → acted_in s n (begun_receipt A m) o ≡ (AJob job, t) → (e : InEntry) × (received_entry s n ≡ Some e) × (e.receipt_stage ≡ Pending) × IsSomeAnd (partner_of A e.posted.sender) (λ p. e.tries < p.max_tries)
     by None at g = absurd (let first : Refused NoSuchNumber ≡ AJob job = ap (λ (y : Answer × State). y.0) g in cc)
     by (Some e) at g =
-        let is = parted_receipt e (partner_of A e.posted.sender) (mdn_begun_granted A m e job (ap (λ (y : Answer × State). y.0) g)) in
+        let is = parted_receipt e (partner_of A e.posted.sender) (receipt_begun_granted A m e job (ap (λ (y : Answer × State). y.0) g)) in
         (e, at, is.0, is.1)

@@ -4,7 +4,7 @@ use Rattle.std.specs.Prelude.{is_some, if◌then◌else◌, nat_le, nat_lt, leng
 use Rattle.std.proofs.lemmas.Bool.Decides.{nat_tests}
 use Rattle.as2_exchange.specs.Agreement.{Text, Agreements, is_organization, partner_of}
 use Rattle.as2_exchange.specs.State.{Posted, InEntry, State, known_digests, origin_of, end_of_numbers, content_limit, received_as}
-use Rattle.as2_exchange.specs.Events.{Event, Post, Submit, Begin, Outcome, Resend, BeginMdn, OutcomeMdn, Tick, Answer}
+use Rattle.as2_exchange.specs.Events.{Event, Post, Submit, Begin, Outcome, Resend, BeginReceipt, OutcomeReceipt, Tick, Answer}
 use Rattle.as2_exchange.specs.Posts.{Reading, Refuses, IsReceipt, IsDocument, post_reading, repeats}
 use Rattle.as2_exchange.specs.Documents.{submit}
 use Rattle.as2_exchange.specs.Recording.{record_given, record_post}
@@ -50,6 +50,6 @@ numbers_law A s (Submit organization partner content m) h = none_submitted A s o
 numbers_law A s (Begin n m) h = absurd (cc)
 numbers_law A s (Outcome n got m) h = absurd (cc)
 numbers_law A s (Resend n m) h = absurd (cc)
-numbers_law A s (BeginMdn n m) h = absurd (cc)
-numbers_law A s (OutcomeMdn n got m) h = absurd (cc)
+numbers_law A s (BeginReceipt n m) h = absurd (cc)
+numbers_law A s (OutcomeReceipt n got m) h = absurd (cc)
 numbers_law A s (Tick m) h = absurd (cc)

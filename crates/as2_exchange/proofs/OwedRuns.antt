@@ -12,10 +12,10 @@ use Rattle.as2_exchange.specs.Agreement.{Text, Agreements, Partner, is_organizat
 use Rattle.as2_exchange.specs.Detail.{Idle, Unasked, Sent}
 use Rattle.as2_exchange.specs.Readings.{Head, ReceiptDelivery, NoReceipt, Sync, Async, is_async, is_report, names_of, version_fits, type_of, id_of, ask_of, report_in}
 use Rattle.as2_exchange.specs.State.{Digests, Version, LaterVersion, known_digests, origin_of, Posted, InEntry, State, empty, lasting_part, same_key, document, received_entry, received_as, change_received}
-use Rattle.as2_exchange.specs.Events.{Event, Post, Submit, Begin, Outcome, Resend, BeginMdn, OutcomeMdn, Tick, Answer, Refused, NoSuchNumber, TryAnswer, Line, BadNames, BadVersion, UnknownNames, BadType, UnreadableReceipt, BadId, BadAsk, Done}
+use Rattle.as2_exchange.specs.Events.{Event, Post, Submit, Begin, Outcome, Resend, BeginReceipt, OutcomeReceipt, Tick, Answer, Refused, NoSuchNumber, TryAnswer, Line, BadNames, BadVersion, UnknownNames, BadType, UnreadableReceipt, BadId, BadAsk, Done}
 use Rattle.as2_exchange.specs.Posts.{Reading, Refuses, IsReceipt, IsDocument, needs, post_reading, repeats, ReceivedReceipt}
 use Rattle.as2_exchange.specs.Documents.{begun as begun_document, closed_document as closed_document, resent as resent_document}
-use Rattle.as2_exchange.specs.OwedReceipts.{is_pending, mdn_begun, mdn_closed}
+use Rattle.as2_exchange.specs.OwedReceipts.{is_pending, begun_receipt, closed_receipt}
 use Rattle.as2_exchange.specs.Recording.{record_post, requeued_by_repeat, first_entry}
 use Rattle.as2_exchange.specs.Step.{post, step, acted_in}
 use Rattle.as2_exchange.specs.Run.{Trace, Run, AnEvent, AMigration, Answered, Failed, migrated_state, accepted_events}
@@ -28,11 +28,11 @@ use Rattle.as2_exchange.proofs.Lists.{fold_last}
 use Rattle.as2_exchange.proofs.Places.{found_place}
 use Rattle.as2_exchange.proofs.Pushes.{answered_event, with_fact}
 use Rattle.as2_exchange.proofs.Acts.{AreAgreed}
-use Rattle.as2_exchange.proofs.Repeats.{RecordedOrSame, fresh, repeated, clash, left_is, recorded_posts, Grows, step_grows, find-lasting, key_same, repeats_itself, acted_inbox, settle_inbox, submit_inbox, tick_inbox, queued_lasting, mdn_begun_lasting, mdn_closed_lasting}
+use Rattle.as2_exchange.proofs.Repeats.{RecordedOrSame, fresh, repeated, clash, left_is, recorded_posts, Grows, step_grows, find-lasting, key_same, repeats_itself, acted_inbox, settle_inbox, submit_inbox, tick_inbox, queued_lasting, receipt_begun_lasting, receipt_closed_lasting}
 use Rattle.as2_exchange.proofs.Equal.{both, HaveOneKey, key_is, post_key, one_key, keys_joined, received_one}
 use Rattle.as2_exchange.proofs.States.{step_formed, empty_formed, migrated_formed}
 use Rattle.as2_exchange.proofs.Steady.{step_steady}
-use Rattle.as2_exchange.proofs.Owed.{Owed, more, queued_owed, reposted_owed, with_try, begun_owed, closed_owed, never_begun, never_closed}
+use Rattle.as2_exchange.proofs.IsOwed.{IsOwed, more, queued_owed, reposted_owed, with_try, begun_owed, closed_owed, never_begun, never_closed}
 
 -- ---- facts
 
@@ -55,9 +55,9 @@ since-push p facts f = fold_last (queued_by p) None facts f
 -- ---- how a receipt stands
 
 abbrev StandsAs : ReceiptDelivery → Partner → List ReceiptFact → InEntry → Type 0
-StandsAs NoReceipt p facts e = (e.mdn ≡ Unasked) × (e.tries ≡ 0) × (e.attempt ≡ Idle) × (e.due ≡ None)
-StandsAs Sync p facts e = (e.mdn ≡ Sent) × (e.tries ≡ 0) × (e.attempt ≡ Idle) × (e.due ≡ None)
-StandsAs (Async url) p facts e = (since : FoundAt ℕ Fact) × (since_queued p facts ≡ Some since) × Owed p since e
+StandsAs NoReceipt p facts e = (e.receipt_stage ≡ Unasked) × (e.tries ≡ 0) × (e.attempt ≡ Idle) × (e.due ≡ None)
+StandsAs Sync p facts e = (e.receipt_stage ≡ Sent) × (e.tries ≡ 0) × (e.attempt ≡ Idle) × (e.due ≡ None)
+StandsAs (Async url) p facts e = (since : FoundAt ℕ Fact) × (since_queued p facts ≡ Some since) × IsOwed p since e
 
 -- the entry of this number and document stands as the events tell
 record EntryStands (A : Agreements) (n : ℕ) (past : List Done) (q : Posted) (e : InEntry) : Type 0 where
@@ -104,18 +104,18 @@ since_begun p facts since m a is = by (is_job a)
     by true = since-push p facts (OfATry (ATry m)) ∙ ap (λ (o : Option (FoundAt ℕ Fact)). queued_by p o (OfATry (ATry m))) is
     by false = is
 
-try_begun : (A : Agreements) (how : ReceiptDelivery) (p : Partner) (facts : List ReceiptFact) (m : ℕ) (e : InEntry) → AreAgreed A e.posted.receiver e.posted.sender p → StandsAs how p facts e → StandsAs how p (with_more facts (begin_fact m (mdn_begun A m e).0)) (mdn_begun A m e).1
-try_begun A NoReceipt p facts m e agreed h = subst (StandsAs NoReceipt p (with_more facts (begin_fact m (mdn_begun A m e).0))) (sym (never_begun A p m e agreed (ap is_pending h.0))) h
-try_begun A Sync p facts m e agreed h = subst (StandsAs Sync p (with_more facts (begin_fact m (mdn_begun A m e).0))) (sym (never_begun A p m e agreed (ap is_pending h.0))) h
+try_begun : (A : Agreements) (how : ReceiptDelivery) (p : Partner) (facts : List ReceiptFact) (m : ℕ) (e : InEntry) → AreAgreed A e.posted.receiver e.posted.sender p → StandsAs how p facts e → StandsAs how p (with_more facts (begin_fact m (begun_receipt A m e).0)) (begun_receipt A m e).1
+try_begun A NoReceipt p facts m e agreed h = subst (StandsAs NoReceipt p (with_more facts (begin_fact m (begun_receipt A m e).0))) (sym (never_begun A p m e agreed (ap is_pending h.0))) h
+try_begun A Sync p facts m e agreed h = subst (StandsAs Sync p (with_more facts (begin_fact m (begun_receipt A m e).0))) (sym (never_begun A p m e agreed (ap is_pending h.0))) h
 try_begun A (Async url) p facts m e agreed h = (
-  with_try h.0 m (mdn_begun A m e).0,
-  since_begun p facts h.0 m (mdn_begun A m e).0 h.1,
+  with_try h.0 m (begun_receipt A m e).0,
+  since_begun p facts h.0 m (begun_receipt A m e).0 h.1,
   begun_owed A p h.0 m e agreed h.2,
 )
 
 -- ---- a try ends
 
-try_closed : (A : Agreements) (how : ReceiptDelivery) (p : Partner) (facts : List ReceiptFact) (known : Digests) (got : TryAnswer) (m : ℕ) (e : InEntry) → AreAgreed A e.posted.receiver e.posted.sender p → StandsAs how p facts e → StandsAs how p (facts ++ OfATry (AnOutcome m known got) ∷ []) (mdn_closed A got m e).1
+try_closed : (A : Agreements) (how : ReceiptDelivery) (p : Partner) (facts : List ReceiptFact) (known : Digests) (got : TryAnswer) (m : ℕ) (e : InEntry) → AreAgreed A e.posted.receiver e.posted.sender p → StandsAs how p facts e → StandsAs how p (facts ++ OfATry (AnOutcome m known got) ∷ []) (closed_receipt A got m e).1
 try_closed A NoReceipt p facts known got m e agreed h = subst (StandsAs NoReceipt p (facts ++ OfATry (AnOutcome m known got) ∷ [])) (sym (never_closed A p got m e agreed (ap is_pending h.0))) h
 try_closed A Sync p facts known got m e agreed h = subst (StandsAs Sync p (facts ++ OfATry (AnOutcome m known got) ∷ [])) (sym (never_closed A p got m e agreed (ap is_pending h.0))) h
 try_closed A (Async url) p facts known got m e agreed h = (
@@ -289,40 +289,40 @@ no_post : (b : Bool) (f : Fact) (j : ℕ) → (if b then Some (OfATry f) else No
 no_post true f j h = absurd (cc)
 no_post false f j h = absurd (cc)
 
-begin_silent : (v : Version) (A : Agreements) (k m n : ℕ) (q : Posted) (a : Answer) → (k == n) ≡ false → receipt_fact A n q (answered_event v (BeginMdn k m) a) ≡ None
+begin_silent : (v : Version) (A : Agreements) (k m n : ℕ) (q : Posted) (a : Answer) → (k == n) ≡ false → receipt_fact A n q (answered_event v (BeginReceipt k m) a) ≡ None
 unfolding receipt_fact
 begin_silent v A k m n q a apart = rw apart refl
 
-begin_never : (v : Version) (A : Agreements) (k m n : ℕ) (q : Posted) (a : Answer) (j : ℕ) → receipt_fact A n q (answered_event v (BeginMdn k m) a) ≡ Some (APost j) → ⊥
+begin_never : (v : Version) (A : Agreements) (k m n : ℕ) (q : Posted) (a : Answer) (j : ℕ) → receipt_fact A n q (answered_event v (BeginReceipt k m) a) ≡ Some (APost j) → ⊥
 unfolding receipt_fact
 begin_never v A k m n q a j h = no_post ((k == n) && is_job a) (ATry m) j h
 
-begin_fact_is : (v : Version) (A : Agreements) (k m : ℕ) (q : Posted) (a : Answer) → receipt_fact A k q (answered_event v (BeginMdn k m) a) ≡ begin_fact m a
+begin_fact_is : (v : Version) (A : Agreements) (k m : ℕ) (q : Posted) (a : Answer) → receipt_fact A k q (answered_event v (BeginReceipt k m) a) ≡ begin_fact m a
 unfolding receipt_fact
 begin_fact_is v A k m q a = ap (λ (b : Bool). if b && is_job a then Some (OfATry (ATry m)) else None) (same_number k)
 
-outcome_silent : (v : Version) (A : Agreements) (k : ℕ) (got : TryAnswer) (m n : ℕ) (q : Posted) (a : Answer) → (k == n) ≡ false → receipt_fact A n q (answered_event v (OutcomeMdn k got m) a) ≡ None
+outcome_silent : (v : Version) (A : Agreements) (k : ℕ) (got : TryAnswer) (m n : ℕ) (q : Posted) (a : Answer) → (k == n) ≡ false → receipt_fact A n q (answered_event v (OutcomeReceipt k got m) a) ≡ None
 unfolding receipt_fact
 outcome_silent v A k got m n q a apart = rw apart refl
 
-outcome_never : (v : Version) (A : Agreements) (k : ℕ) (got : TryAnswer) (m n : ℕ) (q : Posted) (a : Answer) (j : ℕ) → receipt_fact A n q (answered_event v (OutcomeMdn k got m) a) ≡ Some (APost j) → ⊥
+outcome_never : (v : Version) (A : Agreements) (k : ℕ) (got : TryAnswer) (m n : ℕ) (q : Posted) (a : Answer) (j : ℕ) → receipt_fact A n q (answered_event v (OutcomeReceipt k got m) a) ≡ Some (APost j) → ⊥
 unfolding receipt_fact
 outcome_never v A k got m n q a j h = no_post (k == n) (AnOutcome m (known_digests v) got) j h
 
-outcome_fact_is : (v : Version) (A : Agreements) (k : ℕ) (got : TryAnswer) (m : ℕ) (q : Posted) (a : Answer) → receipt_fact A k q (answered_event v (OutcomeMdn k got m) a) ≡ Some (OfATry (AnOutcome m (known_digests v) got))
+outcome_fact_is : (v : Version) (A : Agreements) (k : ℕ) (got : TryAnswer) (m : ℕ) (q : Posted) (a : Answer) → receipt_fact A k q (answered_event v (OutcomeReceipt k got m) a) ≡ Some (OfATry (AnOutcome m (known_digests v) got))
 unfolding receipt_fact
 outcome_fact_is v A k got m q a = ap (λ (b : Bool). if b then Some (OfATry (AnOutcome m (known_digests v) got)) else None) (same_number k)
 
-begin_receipts : (A : Agreements) (past : List Done) (s : State) (k m : ℕ) → KeepsReceipts A past s → let y = acted_in s k (mdn_begun A m) (received_entry s k) in IsWellFormed A y.1 → Grows s y.1 → KeepsReceipts A (past ++ answered_event s.version (BeginMdn k m) y.0 ∷ []) y.1
+begin_receipts : (A : Agreements) (past : List Done) (s : State) (k m : ℕ) → KeepsReceipts A past s → let y = acted_in s k (begun_receipt A m) (received_entry s k) in IsWellFormed A y.1 → Grows s y.1 → KeepsReceipts A (past ++ answered_event s.version (BeginReceipt k m) y.0 ∷ []) y.1
 begin_receipts A past s k m keeps formed grows =
-    acted_receipts A past s k (mdn_begun A m) (BeginMdn k m) keeps (mdn_begun_lasting A m) (begin_silent s.version A k m) (begin_never s.version A k m)
-    (λ z p facts agreed h. subst (λ (o : Option ReceiptFact). StandsAs z.posted.how p (with_more facts o) (mdn_begun A m z).1) (sym (begin_fact_is s.version A k m z.posted (mdn_begun A m z).0)) (try_begun A z.posted.how p facts m z agreed h))
+    acted_receipts A past s k (begun_receipt A m) (BeginReceipt k m) keeps (receipt_begun_lasting A m) (begin_silent s.version A k m) (begin_never s.version A k m)
+    (λ z p facts agreed h. subst (λ (o : Option ReceiptFact). StandsAs z.posted.how p (with_more facts o) (begun_receipt A m z).1) (sym (begin_fact_is s.version A k m z.posted (begun_receipt A m z).0)) (try_begun A z.posted.how p facts m z agreed h))
     (received_entry s k) refl formed grows
 
-outcome_receipts : (A : Agreements) (past : List Done) (s : State) (k : ℕ) (got : TryAnswer) (m : ℕ) → KeepsReceipts A past s → let y = acted_in s k (mdn_closed A got m) (received_entry s k) in IsWellFormed A y.1 → Grows s y.1 → KeepsReceipts A (past ++ answered_event s.version (OutcomeMdn k got m) y.0 ∷ []) y.1
+outcome_receipts : (A : Agreements) (past : List Done) (s : State) (k : ℕ) (got : TryAnswer) (m : ℕ) → KeepsReceipts A past s → let y = acted_in s k (closed_receipt A got m) (received_entry s k) in IsWellFormed A y.1 → Grows s y.1 → KeepsReceipts A (past ++ answered_event s.version (OutcomeReceipt k got m) y.0 ∷ []) y.1
 outcome_receipts A past s k got m keeps formed grows =
-    acted_receipts A past s k (mdn_closed A got m) (OutcomeMdn k got m) keeps (mdn_closed_lasting A got m) (outcome_silent s.version A k got m) (outcome_never s.version A k got m)
-    (λ z p facts agreed h. subst (λ (o : Option ReceiptFact). StandsAs z.posted.how p (with_more facts o) (mdn_closed A got m z).1) (sym (outcome_fact_is s.version A k got m z.posted (mdn_closed A got m z).0)) (try_closed A z.posted.how p facts (known_digests s.version) got m z agreed h))
+    acted_receipts A past s k (closed_receipt A got m) (OutcomeReceipt k got m) keeps (receipt_closed_lasting A got m) (outcome_silent s.version A k got m) (outcome_never s.version A k got m)
+    (λ z p facts agreed h. subst (λ (o : Option ReceiptFact). StandsAs z.posted.how p (with_more facts o) (closed_receipt A got m z).1) (sym (outcome_fact_is s.version A k got m z.posted (closed_receipt A got m z).0)) (try_closed A z.posted.how p facts (known_digests s.version) got m z agreed h))
     (received_entry s k) refl formed grows
 
 -- ---- a document is posted
@@ -485,13 +485,13 @@ step_receipts A past s (Begin k m) y keeps h formed grows = quiet A past s y.1 _
 step_receipts A past s (Outcome k got m) y keeps h formed grows = quiet A past s y.1 _ keeps formed grows (ap (λ (z : Answer × State). z.1.inbox) (sym (same_Some _ y h)) ∙ acted_inbox s k (closed_document A (known_digests s.version) got m) (document s k)) (λ n q. other_quiet s.version A (Outcome k got m) y.0 n q refl)
 step_receipts A past s (Resend k m) y keeps h formed grows = quiet A past s y.1 _ keeps formed grows (ap (λ (z : Answer × State). z.1.inbox) (sym (same_Some _ y h)) ∙ acted_inbox s k (resent_document A m) (document s k)) (λ n q. other_quiet s.version A (Resend k m) y.0 n q refl)
 step_receipts A past s (Tick m) y keeps h formed grows = quiet A past s y.1 _ keeps formed grows (ap (λ (z : Answer × State). z.1.inbox) (sym (same_Some _ y h)) ∙ tick_inbox m s) (λ n q. other_quiet s.version A (Tick m) y.0 n q refl)
-step_receipts A past s (BeginMdn k m) y keeps h formed grows =
+step_receipts A past s (BeginReceipt k m) y keeps h formed grows =
     let at = same_Some _ y h in
-    subst (λ (z : Answer × State). KeepsReceipts A (past ++ answered_event s.version (BeginMdn k m) z.0 ∷ []) z.1) at
+    subst (λ (z : Answer × State). KeepsReceipts A (past ++ answered_event s.version (BeginReceipt k m) z.0 ∷ []) z.1) at
     (begin_receipts A past s k m keeps (subst (λ (z : Answer × State). IsWellFormed A z.1) (sym at) formed) (subst (λ (z : Answer × State). Grows s z.1) (sym at) grows))
-step_receipts A past s (OutcomeMdn k got m) y keeps h formed grows =
+step_receipts A past s (OutcomeReceipt k got m) y keeps h formed grows =
     let at = same_Some _ y h in
-    subst (λ (z : Answer × State). KeepsReceipts A (past ++ answered_event s.version (OutcomeMdn k got m) z.0 ∷ []) z.1) at
+    subst (λ (z : Answer × State). KeepsReceipts A (past ++ answered_event s.version (OutcomeReceipt k got m) z.0 ∷ []) z.1) at
     (outcome_receipts A past s k got m keeps (subst (λ (z : Answer × State). IsWellFormed A z.1) (sym at) formed) (subst (λ (z : Answer × State). Grows s z.1) (sym at) grows))
 
 nothing_received : (A : Agreements) (v : Version) (first : ℕ) → IsCounter first → KeepsReceipts A [] (empty v first)
@@ -516,9 +516,9 @@ run_receipts A past old (AMigration n ∷ rest) new keeps run =
 -- ---- the law
 
 stands_told : (how : ReceiptDelivery) (p : Partner) (facts : List ReceiptFact) (e : InEntry) → StandsAs how p facts e → history_by_how how p (since_queued p facts) ≡ Some (receipt_told e)
-stands_told NoReceipt p facts e h = λ i. Some (record { mdn = sym h.0 i; tries = sym h.1 i; attempt = sym h.2 i; due = sym h.3 i })
-stands_told Sync p facts e h = λ i. Some (record { mdn = sym h.0 i; tries = sym h.1 i; attempt = sym h.2 i; due = sym h.3 i })
-stands_told (Async url) p facts e h = ap (option_map (sent_later p)) h.1 ∙ (λ i. Some (record { mdn = sym h.2.state i; tries = sym h.2.count i; attempt = sym h.2.try i; due = sym h.2.wait i }))
+stands_told NoReceipt p facts e h = λ i. Some (record { receipt_stage = sym h.0 i; tries = sym h.1 i; attempt = sym h.2 i; due = sym h.3 i })
+stands_told Sync p facts e h = λ i. Some (record { receipt_stage = sym h.0 i; tries = sym h.1 i; attempt = sym h.2 i; due = sym h.3 i })
+stands_told (Async url) p facts e h = ap (option_map (sent_later p)) h.1 ∙ (λ i. Some (record { receipt_stage = sym h.2.state i; tries = sym h.2.count i; attempt = sym h.2.try i; due = sym h.2.wait i }))
 
 pub receipts_law : (A : Agreements) (v : Version) (first : ℕ) (trace : Trace) (s : State) → IsCounter first → Run A (empty v first) trace s → (n : ℕ) (e : InEntry) → received_entry s n ≡ Some e → receipt_history A (accepted_events v trace) n e.posted ≡ Some (receipt_told e)
 receipts_law A v first trace s h run n e is =

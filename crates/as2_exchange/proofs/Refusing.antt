@@ -9,12 +9,12 @@ use Rattle.as2_mdn.specs.Details.{class_of}
 use Rattle.as2_exchange.specs.Agreement.{Text, Agreements, Partner, Asked, NoReceipt, Sync, Async, is_organization, partner_of}
 use Rattle.as2_exchange.specs.Readings.{ReceiptDelivery, NoReceipt as NoneAsked, Sync as SyncReceipt, Async as AsyncReceipt, Outcome as WhatBecame, is_processed, named_by}
 use Rattle.as2_exchange.specs.State.{Posted, InEntry, OutEntry, State, Digests, known_digests, origin_of, end_of_numbers, document, document_named, received_entry, received_as, change_document, change_received, is_settled}
-use Rattle.as2_exchange.specs.Events.{Event, Post, Submit, Begin, Outcome, Resend, BeginMdn, OutcomeMdn, Tick, Answer, Refused, Submitted, UnknownOrganization, UnknownPartner, TooLarge, TryAnswer, Nothing, Words, NotProcessed, IdUsedBefore, NoSuchMessage}
+use Rattle.as2_exchange.specs.Events.{Event, Post, Submit, Begin, Outcome, Resend, BeginReceipt, OutcomeReceipt, Tick, Answer, Refused, Submitted, UnknownOrganization, UnknownPartner, TooLarge, TryAnswer, Nothing, Words, NotProcessed, IdUsedBefore, NoSuchMessage}
 use Rattle.as2_exchange.specs.Posts.{ReceivedReceipt, Reading, Refuses, IsReceipt, IsDocument, post_reading, repeats}
 use Rattle.as2_exchange.specs.Receipts.{receipt_in_answer, is_delivery, bears}
 use Rattle.as2_exchange.specs.Documents.{begun, waits, resent, is_error, closed_document, closed_by, if_for, delivered_document, failed_try, submit, new_document, settle, settle_for, settled_document, tick}
 use Rattle.as2_exchange.specs.Lines.{http}
-use Rattle.as2_exchange.specs.OwedReceipts.{mdn_begun, mdn_closed, is_pending, is_shut}
+use Rattle.as2_exchange.specs.OwedReceipts.{begun_receipt, closed_receipt, is_pending, is_shut}
 use Rattle.as2_exchange.specs.Recording.{record_post, record_given, requeued_by_repeat, first_entry, answer_to}
 use Rattle.as2_exchange.specs.Step.{is_refusal, act_on, acted_in, post, step}
 use Rattle.as2_exchange.specs.Tries.{where_agreed, is_early, is_idle, is_last}
@@ -111,17 +111,17 @@ resent_leaves A m d = agreed_leaves A d.organization d.partner d _
     (λ p. test_leaves d (is_settled d) _ _
     (test_leaves d (not (is_error (class_of d.detail))) _ _ (acts d _ refl)))
 
-mdn_begun_leaves : (A : Agreements) (m : ℕ) (e : InEntry) → AnswersOnly e (mdn_begun A m e)
-unfolding mdn_begun
-mdn_begun_leaves A m e = agreed_leaves A e.posted.receiver e.posted.sender e _
-    (λ p. test_leaves e (not (is_pending e.mdn)) _ _
+receipt_begun_leaves : (A : Agreements) (m : ℕ) (e : InEntry) → AnswersOnly e (begun_receipt A m e)
+unfolding begun_receipt
+receipt_begun_leaves A m e = agreed_leaves A e.posted.receiver e.posted.sender e _
+    (λ p. test_leaves e (not (is_pending e.receipt_stage)) _ _
     (test_leaves e (nat_le p.max_tries e.tries) _ _
     (test_leaves e (is_early m e.due) _ _ (acts e _ refl))))
 
-mdn_closed_leaves : (A : Agreements) (got : TryAnswer) (m : ℕ) (e : InEntry) → AnswersOnly e (mdn_closed A got m e)
-unfolding mdn_closed
-mdn_closed_leaves A got m e = agreed_leaves A e.posted.receiver e.posted.sender e _
-    (λ p. test_leaves e (not (is_pending e.mdn)) _ _
+receipt_closed_leaves : (A : Agreements) (got : TryAnswer) (m : ℕ) (e : InEntry) → AnswersOnly e (closed_receipt A got m e)
+unfolding closed_receipt
+receipt_closed_leaves A got m e = agreed_leaves A e.posted.receiver e.posted.sender e _
+    (λ p. test_leaves e (not (is_pending e.receipt_stage)) _ _
     (test_leaves e (is_shut e.attempt) _ _
     (either_acts e (is_delivery got) _ _ (acts e _ refl)
     (either_acts e (is_last e.attempt) _ _ (acts e _ refl) (acts e _ refl)))))
@@ -200,8 +200,8 @@ step_leaves A s (Submit organization partner content m) y apart h = submit_leave
 step_leaves A s (Begin n m) y apart h = subst (AnswersOnly s) (same_Some _ y h) (acted_leaves A s n (begun A m) (document s n) refl (begun_leaves A m) apart)
 step_leaves A s (Resend n m) y apart h = subst (AnswersOnly s) (same_Some _ y h) (acted_leaves A s n (resent A m) (document s n) refl (resent_leaves A m) apart)
 step_leaves A s (Outcome n got m) y apart h = subst (AnswersOnly s) (same_Some _ y h) (acted_leaves A s n (closed_document A (known_digests s.version) got m) (document s n) refl (closed_leaves A (known_digests s.version) got m) apart)
-step_leaves A s (BeginMdn n m) y apart h = subst (AnswersOnly s) (same_Some _ y h) (acted_in_leaves A s n (mdn_begun A m) (received_entry s n) refl (mdn_begun_leaves A m) apart)
-step_leaves A s (OutcomeMdn n got m) y apart h = subst (AnswersOnly s) (same_Some _ y h) (acted_in_leaves A s n (mdn_closed A got m) (received_entry s n) refl (mdn_closed_leaves A got m) apart)
+step_leaves A s (BeginReceipt n m) y apart h = subst (AnswersOnly s) (same_Some _ y h) (acted_in_leaves A s n (begun_receipt A m) (received_entry s n) refl (receipt_begun_leaves A m) apart)
+step_leaves A s (OutcomeReceipt n got m) y apart h = subst (AnswersOnly s) (same_Some _ y h) (acted_in_leaves A s n (closed_receipt A got m) (received_entry s n) refl (receipt_closed_leaves A got m) apart)
 step_leaves A s (Tick m) y apart h = acts s y (ap (λ (z : Answer × State). is_refusal z.0) (sym (same_Some _ y h)) ∙ tick_acts m s)
 
 pub refused_leaves : (A : Agreements) (s t : State) (e : Event) (a : Answer) → HasDistinctNumbers s → step A s e ≡ Some (a, t) → is_refusal a ≡ true → t ≡ s

@@ -4,8 +4,8 @@ use Rattle.std.specs.Prelude.{if◌then◌else◌}
 use Rattle.std.specs.Option.{option_map_or}
 use Rattle.std.proofs.lemmas.Option.{same_Some}
 use Rattle.as2_mdn.specs.Details.{class_of}
-use Rattle.as2_mdn.specs.declared.detail.State.{State as StateOf}
-use Rattle.as2_mdn.specs.declared.detail.State.TheVariants.{P, R, S, W, E}
+use Rattle.as2_mdn.specs.declared.detail.DetailClass.{DetailClass}
+use Rattle.as2_mdn.specs.declared.detail.DetailClass.TheVariants.{P, R, S, W, E}
 use Rattle.as2_exchange.specs.Agreement.{Agreements, Partner, is_organization, partner_of}
 use Rattle.as2_exchange.specs.Detail.{New, Idle}
 use Rattle.as2_exchange.specs.State.{State, OutEntry, document, is_settled}
@@ -17,7 +17,7 @@ use Rattle.as2_exchange.specs.Step.{act_on, step}
 abbrev HasFailed : OutEntry → Type 0
 HasFailed d = (is_settled d ≡ false) × (class_of d.detail ≡ E)
 
-in_error : (x : StateOf) → not (is_error x) ≡ false → x ≡ E
+in_error : (x : DetailClass) → not (is_error x) ≡ false → x ≡ E
 in_error E h = refl
 in_error P h = absurd (cc)
 in_error R h = absurd (cc)

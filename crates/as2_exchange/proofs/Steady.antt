@@ -5,10 +5,10 @@ use Rattle.std.proofs.lemmas.Option.{same_Some}
 use Rattle.as2_exchange.specs.Agreement.{Text, Agreements, is_organization, partner_of}
 use Rattle.as2_exchange.specs.Readings.{named_by}
 use Rattle.as2_exchange.specs.State.{Posted, InEntry, OutEntry, State, Version, LaterVersion, known_digests, end_of_numbers, document, document_named, received_entry, received_as, change_document, is_settled}
-use Rattle.as2_exchange.specs.Events.{Event, Post, Submit, Begin, Outcome, Resend, BeginMdn, OutcomeMdn, Tick, Answer, Refused, Submitted, UnknownOrganization, UnknownPartner, TooLarge}
+use Rattle.as2_exchange.specs.Events.{Event, Post, Submit, Begin, Outcome, Resend, BeginReceipt, OutcomeReceipt, Tick, Answer, Refused, Submitted, UnknownOrganization, UnknownPartner, TooLarge}
 use Rattle.as2_exchange.specs.Posts.{ReceivedReceipt, Reading, Refuses, IsReceipt, IsDocument, post_reading}
 use Rattle.as2_exchange.specs.Documents.{settled_document, settle, settle_for, submit, new_document, begun, closed_document, resent, tick}
-use Rattle.as2_exchange.specs.OwedReceipts.{mdn_begun, mdn_closed}
+use Rattle.as2_exchange.specs.OwedReceipts.{begun_receipt, closed_receipt}
 use Rattle.as2_exchange.specs.Recording.{record_post}
 use Rattle.as2_exchange.specs.Step.{post, step, act_on, acted_in}
 use Rattle.as2_exchange.specs.Run.{Trace, Run, AnEvent, AMigration, Answered, Failed, migrated_state, version_after}
@@ -74,8 +74,8 @@ step_steady A s (Submit organization partner content m) y h = submit_steady A s 
 step_steady A s (Begin n m) y h = subst (λ (z : Answer × State). Steady s z.1) (same_Some _ y h) (acted_steady s n (begun A m) (document s n))
 step_steady A s (Outcome n got m) y h = subst (λ (z : Answer × State). Steady s z.1) (same_Some _ y h) (acted_steady s n (closed_document A (known_digests s.version) got m) (document s n))
 step_steady A s (Resend n m) y h = subst (λ (z : Answer × State). Steady s z.1) (same_Some _ y h) (acted_steady s n (resent A m) (document s n))
-step_steady A s (BeginMdn n m) y h = subst (λ (z : Answer × State). Steady s z.1) (same_Some _ y h) (acted_in_steady s n (mdn_begun A m) (received_entry s n))
-step_steady A s (OutcomeMdn n got m) y h = subst (λ (z : Answer × State). Steady s z.1) (same_Some _ y h) (acted_in_steady s n (mdn_closed A got m) (received_entry s n))
+step_steady A s (BeginReceipt n m) y h = subst (λ (z : Answer × State). Steady s z.1) (same_Some _ y h) (acted_in_steady s n (begun_receipt A m) (received_entry s n))
+step_steady A s (OutcomeReceipt n got m) y h = subst (λ (z : Answer × State). Steady s z.1) (same_Some _ y h) (acted_in_steady s n (closed_receipt A got m) (received_entry s n))
 step_steady A s (Tick m) y h = subst (λ (z : Answer × State). Steady s z.1) (same_Some _ y h) (tick_steady m s)
 
 -- a run leads to the version that its trace tells

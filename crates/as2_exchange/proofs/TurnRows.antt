@@ -5,15 +5,15 @@ use Rattle.as2_names.specs.Blanks.{without_blanks}
 use Rattle.as2_names.specs.Identifiers.{without_brackets as bare}
 use Rattle.as2_media.specs.Values.{between_quotes}
 use Rattle.as2_exchange.specs.Agreement.{Text, Agreements}
-use Rattle.as2_exchange.specs.Detail.{Detail, New, Sending, Awaiting, Retry, Processed, NoReceiptAsked, TriesUsed, Overdue, Attempt, Idle, Running, Last, Used, MdnState, Unasked, Pending, Sent}
+use Rattle.as2_exchange.specs.Detail.{Detail, New, Sending, Awaiting, Retry, Processed, NoReceiptAsked, TriesUsed, Overdue, Attempt, Idle, Running, Last, Used, ReceiptStage, Unasked, Pending, Sent}
 use Rattle.as2_exchange.specs.Readings.{ReceiptDelivery, NoReceipt, Sync, Async, document_job, receipt_job as receipt_sent, names_of, type_of, report_in, named_by, value_of}
 use Rattle.as2_exchange.specs.State.{AllDigests, LaterVersion, State, InEntry, OutEntry, Evidence, empty}
 use Rattle.as2_exchange.specs.Events.{Post, Begin, Outcome, Answer, Nothing, NoAnswer, Reply, Job, Settled, Delivered, TryFailed, AlreadySettled, Submitted, Ticked, Refused, UnknownOrganization, UnknownPartner, NoSuchNumber, NotDue, AllSettled, NoOpenTry, TriesUsedUp}
 use Rattle.as2_exchange.specs.Documents.{begun, closed_document, submit, tick}
 use Rattle.as2_exchange.specs.Lines.{http}
-use Rattle.as2_exchange.specs.OwedReceipts.{mdn_begun, mdn_closed}
+use Rattle.as2_exchange.specs.OwedReceipts.{begun_receipt, closed_receipt}
 use Rattle.as2_exchange.specs.Receipts.{is_success}
-use Rattle.as2_exchange.specs.Recording.{answer_to, record_post, requeued_by_repeat, first_entry, report}
+use Rattle.as2_exchange.specs.Recording.{answer_to, record_post, requeued_by_repeat, first_entry, receipt_out}
 use Rattle.as2_exchange.specs.Step.{step}
 use Rattle.as2_exchange.proofs.Fixture.{buyer, fixture, abc, receipt_head, receipt_body, q, q_for_2, q_type_text, q_names, q_typed, q_read, q_says, document_of, post_head, return_head, p1_from_depot, m1, sha1_text}
 use Rattle.as2_exchange.proofs.Rows.{play, submit_to, job_1, no_head, return_address, due_1}
@@ -169,8 +169,8 @@ both_expire = (refl, refl)
 -- ---- receipts that we send
 
 -- the entry of a post from Depot
-abbrev entry_asked : ReceiptDelivery → MdnState → ℕ → Attempt → Option ℕ → InEntry
-entry_asked how mdn tries attempt due = record { number = 1; posted = document_of (codes "Depot") m1 abc how sha1_text; moment = 1000; mdn = mdn; tries = tries; attempt = attempt; due = due }
+abbrev entry_asked : ReceiptDelivery → ReceiptStage → ℕ → Attempt → Option ℕ → InEntry
+entry_asked how receipt_stage tries attempt due = record { number = 1; posted = document_of (codes "Depot") m1 abc how sha1_text; moment = 1000; receipt_stage = receipt_stage; tries = tries; attempt = attempt; due = due }
 
 abbrev later : ReceiptDelivery
 later = Async return_address
@@ -200,46 +200,46 @@ left_by_repeat : (requeued_by_repeat 2000 (entry_asked later Pending 1 Idle (Som
 left_by_repeat = (refl, refl, refl, refl)
 
 -- what a BeginMdn at 1000 is answered
-abbrev begin_mdn_answer : Agreements → InEntry → Answer
-begin_mdn_answer A e = (mdn_begun A 1000 e).0
+abbrev begin_receipt_answer : Agreements → InEntry → Answer
+begin_receipt_answer A e = (begun_receipt A 1000 e).0
 
 -- one that is sent, whose tries are used, and which is due later
 abbrev sent_late : InEntry
 sent_late = entry_asked later Sent 2 Idle (Some 2000)
 
-begin_mdn_refusals : (begin_mdn_answer no_organization sent_late ≡ Refused UnknownOrganization)
-    × (begin_mdn_answer no_partner sent_late ≡ Refused UnknownPartner)
-    × (begin_mdn_answer fixture sent_late ≡ Refused AllSettled)
-    × (begin_mdn_answer fixture (entry_asked NoReceipt Unasked 0 Idle None) ≡ Refused AllSettled)
-    × (begin_mdn_answer fixture (entry_asked later Pending 2 Used (Some 2000)) ≡ Refused TriesUsedUp)
-    × (begin_mdn_answer fixture (entry_asked later Pending 2 Last None) ≡ Refused TriesUsedUp)
-    × (begin_mdn_answer fixture (entry_asked later Pending 1 Idle (Some 1001)) ≡ Refused NotDue)
-    × (begin_mdn_answer fixture (entry_asked later Pending 1 Running (Some 1000)) ≡ Job (receipt_sent later (report fixture 1 (document_of (codes "Depot") m1 abc later sha1_text))))
-unfolding mdn_begun
-begin_mdn_refusals = (refl, refl, refl, refl, refl, refl, refl, refl)
+begin_receipt_refusals : (begin_receipt_answer no_organization sent_late ≡ Refused UnknownOrganization)
+    × (begin_receipt_answer no_partner sent_late ≡ Refused UnknownPartner)
+    × (begin_receipt_answer fixture sent_late ≡ Refused AllSettled)
+    × (begin_receipt_answer fixture (entry_asked NoReceipt Unasked 0 Idle None) ≡ Refused AllSettled)
+    × (begin_receipt_answer fixture (entry_asked later Pending 2 Used (Some 2000)) ≡ Refused TriesUsedUp)
+    × (begin_receipt_answer fixture (entry_asked later Pending 2 Last None) ≡ Refused TriesUsedUp)
+    × (begin_receipt_answer fixture (entry_asked later Pending 1 Idle (Some 1001)) ≡ Refused NotDue)
+    × (begin_receipt_answer fixture (entry_asked later Pending 1 Running (Some 1000)) ≡ Job (receipt_sent later (receipt_out fixture 1 (document_of (codes "Depot") m1 abc later sha1_text))))
+unfolding begun_receipt
+begin_receipt_refusals = (refl, refl, refl, refl, refl, refl, refl, refl)
 
-begin_mdn_opens : ((mdn_begun fixture 1000 (entry_asked later Pending 0 Idle (Some 1000))).1 ≡ entry_asked later Pending 1 Running (Some 1030))
-    × ((mdn_begun fixture 1000 (entry_asked later Pending 1 Running (Some 1000))).1 ≡ entry_asked later Pending 2 Last None)
-unfolding mdn_begun
-begin_mdn_opens = (refl, refl)
+begin_receipt_opens : ((begun_receipt fixture 1000 (entry_asked later Pending 0 Idle (Some 1000))).1 ≡ entry_asked later Pending 1 Running (Some 1030))
+    × ((begun_receipt fixture 1000 (entry_asked later Pending 1 Running (Some 1000))).1 ≡ entry_asked later Pending 2 Last None)
+unfolding begun_receipt
+begin_receipt_opens = (refl, refl)
 
 -- what an OutcomeMdn without an answer is answered
-abbrev outcome_mdn_answer : Agreements → InEntry → Answer
-outcome_mdn_answer A e = (mdn_closed A NoAnswer 1000 e).0
+abbrev outcome_receipt_answer : Agreements → InEntry → Answer
+outcome_receipt_answer A e = (closed_receipt A NoAnswer 1000 e).0
 
-outcome_mdn_refusals : (outcome_mdn_answer no_organization sent_late ≡ Refused UnknownOrganization)
-    × (outcome_mdn_answer no_partner sent_late ≡ Refused UnknownPartner)
-    × (outcome_mdn_answer fixture sent_late ≡ AlreadySettled)
-    × (outcome_mdn_answer fixture (entry_asked NoReceipt Unasked 0 Idle None) ≡ AlreadySettled)
-    × (outcome_mdn_answer fixture (entry_asked later Pending 1 Idle (Some 1030)) ≡ Refused NoOpenTry)
-    × (outcome_mdn_answer fixture (entry_asked later Pending 2 Used None) ≡ Refused NoOpenTry)
-unfolding mdn_closed
-outcome_mdn_refusals = (refl, refl, refl, refl, refl, refl)
+outcome_receipt_refusals : (outcome_receipt_answer no_organization sent_late ≡ Refused UnknownOrganization)
+    × (outcome_receipt_answer no_partner sent_late ≡ Refused UnknownPartner)
+    × (outcome_receipt_answer fixture sent_late ≡ AlreadySettled)
+    × (outcome_receipt_answer fixture (entry_asked NoReceipt Unasked 0 Idle None) ≡ AlreadySettled)
+    × (outcome_receipt_answer fixture (entry_asked later Pending 1 Idle (Some 1030)) ≡ Refused NoOpenTry)
+    × (outcome_receipt_answer fixture (entry_asked later Pending 2 Used None) ≡ Refused NoOpenTry)
+unfolding closed_receipt
+outcome_receipt_refusals = (refl, refl, refl, refl, refl, refl)
 
 -- a receipt arrived, or its try failed, the last one too
-receipt_outcomes : (mdn_closed fixture (Reply 204 no_head []) 1001 (entry_asked later Pending 1 Running (Some 1030)) ≡ (Delivered, entry_asked later Sent 1 Idle None))
-    × (mdn_closed fixture (Reply 200 no_head []) 1001 (entry_asked later Pending 2 Last None) ≡ (Delivered, entry_asked later Sent 2 Idle None))
-    × (mdn_closed fixture (Reply 302 no_head []) 1001 (entry_asked later Pending 1 Running (Some 1030)) ≡ (TryFailed, entry_asked later Pending 1 Idle (Some 1031)))
-    × (mdn_closed fixture NoAnswer 1001 (entry_asked later Pending 2 Last None) ≡ (TryFailed, entry_asked later Pending 2 Used None))
-unfolding mdn_closed
+receipt_outcomes : (closed_receipt fixture (Reply 204 no_head []) 1001 (entry_asked later Pending 1 Running (Some 1030)) ≡ (Delivered, entry_asked later Sent 1 Idle None))
+    × (closed_receipt fixture (Reply 200 no_head []) 1001 (entry_asked later Pending 2 Last None) ≡ (Delivered, entry_asked later Sent 2 Idle None))
+    × (closed_receipt fixture (Reply 302 no_head []) 1001 (entry_asked later Pending 1 Running (Some 1030)) ≡ (TryFailed, entry_asked later Pending 1 Idle (Some 1031)))
+    × (closed_receipt fixture NoAnswer 1001 (entry_asked later Pending 2 Last None) ≡ (TryFailed, entry_asked later Pending 2 Used None))
+unfolding closed_receipt
 receipt_outcomes = (refl, refl, refl, refl)

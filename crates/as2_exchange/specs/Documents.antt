@@ -2,8 +2,8 @@
 -- tries and moments are this station's own rules).
 use Rattle.std.specs.Prelude.{ℕ, ◌+◌, Bool, true, false, ◌&&◌, ◌||◌, not, [], ◌∷◌, ◌++◌, map, length, Option, Some, None, option_and_then, is_some, nat_lt, nat_le, count_by, if◌then◌else◌}
 use Rattle.as2_mdn.specs.Details.{class_of}
-use Rattle.as2_mdn.specs.declared.detail.State.{State as StateOf}
-use Rattle.as2_mdn.specs.declared.detail.State.TheVariants.{E}
+use Rattle.as2_mdn.specs.declared.detail.DetailClass.{DetailClass}
+use Rattle.as2_mdn.specs.declared.detail.DetailClass.TheVariants.{E}
 use Rattle.as2_exchange.specs.Agreement.{Text, Agreements, Partner, Asked, NoReceipt, Sync, Async, is_organization, partner_of}
 use Rattle.as2_exchange.specs.Detail.{Detail, New, Sending, Awaiting, Retry, NoReceiptAsked, TriesUsed, Overdue, Attempt, Idle, Running, Last}
 use Rattle.as2_exchange.specs.Readings.{named_by, verdict, out_id, document_job}
@@ -78,7 +78,7 @@ closed_document A known answer m d =
     else closed_by p answer m d (option_and_then (if_for d) (receipt_in_answer known answer))
 
 -- the state is E
-abbrev pub is_error : StateOf → Bool
+abbrev pub is_error : DetailClass → Bool
 is_error E = true
 is_error other = false
 

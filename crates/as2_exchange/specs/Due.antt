@@ -1,7 +1,7 @@
 -- What is due, and what is to be sent next.
 use Rattle.std.specs.Prelude.{◌≡◌, ℕ, ◌≤◌, IsTrue, ◌==◌, Bool, true, false, ◌&&◌, List, [], ◌∷◌, map, nat_le, if◌then◌else◌, Option, Some, None}
 use Rattle.std.specs.List.{AllByRecursion, filter, list_any}
-use Rattle.as2_exchange.specs.Detail.{Detail, New, Sending, Retry, Attempt, Idle, Running, MdnState, Pending}
+use Rattle.as2_exchange.specs.Detail.{Detail, New, Sending, Retry, Attempt, Idle, Running, ReceiptStage, Pending}
 use Rattle.as2_exchange.specs.State.{State, InEntry, OutEntry}
 use Rattle.as2_exchange.specs.Tries.{is_due}
 use Rattle.as2_exchange.specs.declared.next.Next.{Next}
@@ -23,14 +23,14 @@ abbrev pub due_documents : State → ℕ → List ℕ
 due_documents s m = map (λ d. d.number) (filter (is_due_document m) s.outbox)
 
 -- a try of such a receipt may begin once its moment has come
-abbrev pub mdn_may_begin : MdnState → Attempt → Bool
-mdn_may_begin Pending Idle = true
-mdn_may_begin Pending Running = true
-mdn_may_begin mdn attempt = false
+abbrev pub receipt_may_begin : ReceiptStage → Attempt → Bool
+receipt_may_begin Pending Idle = true
+receipt_may_begin Pending Running = true
+receipt_may_begin receipt_stage attempt = false
 
 -- a try of the receipt may begin at this moment
 abbrev pub is_due_receipt : ℕ → InEntry → Bool
-is_due_receipt m e = mdn_may_begin e.mdn e.attempt && is_due m e.due
+is_due_receipt m e = receipt_may_begin e.receipt_stage e.attempt && is_due m e.due
 
 -- the numbers of the receipts that are to be sent at this moment
 abbrev pub due_receipts : State → ℕ → List ℕ

@@ -3,7 +3,7 @@ use Rattle.as2_exchange.specs.Versions.{Version}
 pub use Rattle.as2_exchange.specs.declared.event.TryAnswer.{TryAnswer}
 pub use Rattle.as2_exchange.specs.declared.event.TryAnswer.TheVariants.{NoAnswer, Reply}
 pub use Rattle.as2_exchange.specs.declared.event.Event.{Event}
-pub use Rattle.as2_exchange.specs.declared.event.Event.TheVariants.{Post, Submit, Begin, Outcome, Resend, BeginMdn, OutcomeMdn, Tick}
+pub use Rattle.as2_exchange.specs.declared.event.Event.TheVariants.{Post, Submit, Begin, Outcome, Resend, BeginReceipt, OutcomeReceipt, Tick}
 pub use Rattle.as2_exchange.specs.declared.answer.Refusal.{Refusal}
 pub use Rattle.as2_exchange.specs.declared.answer.Refusal.TheVariants.{UnknownOrganization, UnknownPartner, NoSuchNumber, NotDue, AllSettled, NoOpenTry, TriesUsed as TriesUsedUp, TooLarge}
 pub use Rattle.as2_exchange.specs.declared.answer.Line.{Line}

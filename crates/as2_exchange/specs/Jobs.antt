@@ -4,8 +4,8 @@ use Rattle.std.specs.Prelude.{ℕ, [], ◌++◌, length, Option, Some, None, cod
 use Rattle.as2_names.specs.Names.{name_spelling}
 use Rattle.as2_text.specs.Addresses.{authority_of, address_target, url_of}
 use Rattle.as2_mic.specs.Algs.{alg_name}
-use Rattle.as2_mdn.specs.Reports.{report_line, head_fields, receipt_text}
-use Rattle.as2_mdn.specs.declared.report.ReportOut.{ReportOut}
+use Rattle.as2_mdn.specs.Reports.{crlf_line, head_fields, receipt_text}
+use Rattle.as2_mdn.specs.declared.report.ReceiptOut.{ReceiptOut}
 use Rattle.as2_exchange.specs.declared.answer.Job.{Job}
 use Rattle.as2_exchange.specs.Agreement.{Text, Agreements, Partner, Asked, NoReceipt, Sync, Async}
 
@@ -32,8 +32,8 @@ address_of url = address_or_nothing (url_of url)
 -- the request line, and the fields of the connection, which is closed after the answer
 abbrev pub request_opening : Text × Text → Text
 request_opening address =
-    report_line (codes "POST ") (address_target address ++ codes " HTTP/1.1")
-    ++ report_line (codes "Host: ") (authority_of address)
+    crlf_line (codes "POST ") (address_target address ++ codes " HTTP/1.1")
+    ++ crlf_line (codes "Host: ") (authority_of address)
     ++ codes "Connection: close\r\n"
 
 -- ---- a document
@@ -41,13 +41,13 @@ request_opening address =
 -- the fields that ask for a receipt (RFC 8098, section 2; RFC 4130, section 7.3)
 abbrev pub request_fields : Agreements → Partner → Text
 request_fields A p =
-    report_line (codes "Disposition-Notification-To: as2@") A.domain
-    ++ report_line (codes "Disposition-Notification-Options: signed-receipt-micalg=optional, ") (alg_name p.digest)
+    crlf_line (codes "Disposition-Notification-To: as2@") A.domain
+    ++ crlf_line (codes "Disposition-Notification-Options: signed-receipt-micalg=optional, ") (alg_name p.digest)
 
 -- the field that says where the receipt is to be sent
 abbrev pub return_field : Option Text → Text
 return_field None = []
-return_field (Some url) = report_line (codes "Receipt-Delivery-Option: ") url
+return_field (Some url) = crlf_line (codes "Receipt-Delivery-Option: ") url
 
 -- the fields that ask a partner for a receipt in the agreed way
 abbrev pub asking_fields : Asked → Agreements → Partner → Text
@@ -59,13 +59,13 @@ asking_fields Async A p = request_fields A p ++ return_field A.return_url
 abbrev pub document_fields : Agreements → Partner → Text → Text → Text → Text
 document_fields A p organization id content =
     codes "AS2-Version: 1.0\r\n"
-    ++ report_line (codes "AS2-From: ") (name_spelling organization)
-    ++ report_line (codes "AS2-To: ") (name_spelling p.name)
-    ++ report_line (codes "Message-ID: ") id
-    ++ report_line (codes "Content-Type: ") p.content_type
+    ++ crlf_line (codes "AS2-From: ") (name_spelling organization)
+    ++ crlf_line (codes "AS2-To: ") (name_spelling p.name)
+    ++ crlf_line (codes "Message-ID: ") id
+    ++ crlf_line (codes "Content-Type: ") p.content_type
     ++ codes "Content-Transfer-Encoding: binary\r\n"
     ++ asking_fields p.receipt A p
-    ++ report_line (codes "Content-Length: ") (decimal (length content))
+    ++ crlf_line (codes "Content-Length: ") (decimal (length content))
 
 -- the request that carries a document to its partner
 abbrev pub document_request : Agreements → Partner → Text → Text → Text → Job
@@ -78,7 +78,7 @@ document_request A p organization id content =
 -- ---- a receipt
 
 -- the request that carries a receipt to an address
-abbrev pub receipt_request : Text → ReportOut → Job
+abbrev pub receipt_request : Text → ReceiptOut → Job
 receipt_request url out =
     record {
       authority = authority_of (address_of url);

@@ -1,12 +1,12 @@
 -- How far documents have come: in which state they are, and which are new, awaited, under way or given up.
 use Rattle.std.specs.Prelude.{ℕ, Bool, true, false, count_by, Option, Some, None}
 use Rattle.as2_mdn.specs.Details.{class_of}
-use Rattle.as2_mdn.specs.declared.detail.State.{State as StateOf}
-use Rattle.as2_mdn.specs.declared.detail.State.TheVariants.{P, R, S, W, E}
+use Rattle.as2_mdn.specs.declared.detail.DetailClass.{DetailClass}
+use Rattle.as2_mdn.specs.declared.detail.DetailClass.TheVariants.{P, R, S, W, E}
 use Rattle.as2_exchange.specs.Detail.{Detail, New, Sending, Awaiting, Retry, TriesUsed, Overdue}
 use Rattle.as2_exchange.specs.State.{State, OutEntry}
 
-abbrev pub same_state : StateOf → StateOf → Bool
+abbrev pub same_state : DetailClass → DetailClass → Bool
 same_state P P = true
 same_state R R = true
 same_state S S = true
@@ -15,7 +15,7 @@ same_state E E = true
 same_state a b = false
 
 -- in this state, where one is asked for
-abbrev pub is_in : Option StateOf → OutEntry → Bool
+abbrev pub is_in : Option DetailClass → OutEntry → Bool
 is_in None d = true
 is_in (Some state) d = same_state state (class_of d.detail)
 

@@ -2,10 +2,10 @@
 use Rattle.std.specs.Prelude.{ℕ, ◌+◌, Bool, true, false, ◌&&◌, ◌||◌, List, [], ◌∷◌, ◌++◌, fold, Option, Some, None, option_map, option_and_then, is_some, ◌==◌, nat_le, if◌then◌else◌}
 use Rattle.std.specs.List.{list_any, filter_map}
 use Rattle.as2_exchange.specs.Agreement.{Agreements, Partner, partner_of}
-use Rattle.as2_exchange.specs.Detail.{Attempt, Idle, Running, Last, Used, MdnState, Unasked, Pending, Sent}
+use Rattle.as2_exchange.specs.Detail.{Attempt, Idle, Running, Last, Used, ReceiptStage, Unasked, Pending, Sent}
 use Rattle.as2_exchange.specs.Readings.{ReceiptDelivery, NoReceipt, Sync, Async}
 use Rattle.as2_exchange.specs.State.{Posted, InEntry, Version, known_digests, origin_of}
-use Rattle.as2_exchange.specs.Events.{Event, Post, BeginMdn, OutcomeMdn, Answer, Done}
+use Rattle.as2_exchange.specs.Events.{Event, Post, BeginReceipt, OutcomeReceipt, Answer, Done}
 use Rattle.as2_exchange.specs.Posts.{Reading, IsDocument, post_reading, repeats}
 use Rattle.as2_exchange.specs.Receipts.{is_delivery}
 use Rattle.as2_exchange.specs.History.{FoundAt, Fact, ATry, AnOutcome, is_job, try_in, tries, is_open, last_of, with_past}
@@ -24,8 +24,8 @@ post_of v n p m other = None
 -- A try of receipt n is a BeginMdn of n that was answered by a Job.
 abbrev pub receipt_fact_of : Agreements → ℕ → Posted → Version → Answer → Event → Option ReceiptFact
 receipt_fact_of A n p v answer (Post head body m) = post_of v n p m (post_reading A (known_digests v) head body)
-receipt_fact_of A n p v answer (BeginMdn k m) = if k == n && is_job answer then Some (OfATry (ATry m)) else None
-receipt_fact_of A n p v answer (OutcomeMdn k got m) = if k == n then Some (OfATry (AnOutcome m (known_digests v) got)) else None
+receipt_fact_of A n p v answer (BeginReceipt k m) = if k == n && is_job answer then Some (OfATry (ATry m)) else None
+receipt_fact_of A n p v answer (OutcomeReceipt k got m) = if k == n then Some (OfATry (AnOutcome m (known_digests v) got)) else None
 receipt_fact_of A n p v answer other = None
 
 unfoldable pub receipt_fact : Agreements → ℕ → Posted → Done → Option ReceiptFact
@@ -61,36 +61,36 @@ since_queued p facts = fold (queued_by p) None facts
 -- ---- the history
 
 pub record ReceiptHistory : Type 0 where
-  pub mdn : MdnState
+  pub receipt_stage : ReceiptStage
   pub tries : ℕ
   pub attempt : Attempt
   pub due : Option ℕ
 
 -- what stands of a receipt
 abbrev pub receipt_told : InEntry → ReceiptHistory
-receipt_told e = record { mdn = e.mdn; tries = e.tries; attempt = e.attempt; due = e.due }
+receipt_told e = record { receipt_stage = e.receipt_stage; tries = e.tries; attempt = e.attempt; due = e.due }
 
 -- one that isn't sent later waits for nothing
-abbrev pub at_rest : MdnState → ReceiptHistory
-at_rest mdn = record { mdn = mdn; tries = 0; attempt = Idle; due = None }
+abbrev pub at_rest : ReceiptStage → ReceiptHistory
+at_rest receipt_stage = record { receipt_stage = receipt_stage; tries = 0; attempt = Idle; due = None }
 
 -- one that is sent later is sent once it was delivered
-abbrev pub mdn_after : Bool → MdnState
-mdn_after delivered = if delivered then Sent else Pending
+abbrev pub receipt_after : Bool → ReceiptStage
+receipt_after delivered = if delivered then Sent else Pending
 
 -- by whether it was delivered, whether the tries are as many as agreed, and the last try: open, or closed by its Outcome
-abbrev pub mdn_attempt : Bool → Bool → Option TryWithOutcome → Attempt
-mdn_attempt true used t = Idle
-mdn_attempt false used None = Idle
-mdn_attempt false used (Some (t, None)) = if used then Last else Running
-mdn_attempt false used (Some (t, Some o)) = if used then Used else Idle
+abbrev pub receipt_attempt : Bool → Bool → Option TryWithOutcome → Attempt
+receipt_attempt true used t = Idle
+receipt_attempt false used None = Idle
+receipt_attempt false used (Some (t, None)) = if used then Last else Running
+receipt_attempt false used (Some (t, Some o)) = if used then Used else Idle
 
 -- the first try is due when it is queued, each other one after the one before, or after the Outcome of that
-abbrev pub mdn_due : Partner → Bool → Bool → ℕ → Option TryWithOutcome → Option ℕ
-mdn_due p true used queued t = None
-mdn_due p false used queued None = Some queued
-mdn_due p false used queued (Some (t, None)) = if used then None else Some (t.it + p.retry_seconds)
-mdn_due p false used queued (Some (t, Some o)) = if used then None else Some (o.it.0 + p.retry_seconds)
+abbrev pub receipt_due : Partner → Bool → Bool → ℕ → Option TryWithOutcome → Option ℕ
+receipt_due p true used queued t = None
+receipt_due p false used queued None = Some queued
+receipt_due p false used queued (Some (t, None)) = if used then None else Some (t.it + p.retry_seconds)
+receipt_due p false used queued (Some (t, Some o)) = if used then None else Some (o.it.0 + p.retry_seconds)
 
 -- what stands of one that is sent later
 abbrev pub sent_later : Partner → FoundAt ℕ Fact → ReceiptHistory
@@ -98,10 +98,10 @@ sent_later p since =
     let delivered = is_delivered since.after in
     let used = nat_le p.max_tries (tries since.after) in
     record {
-      mdn = mdn_after delivered;
+      receipt_stage = receipt_after delivered;
       tries = tries since.after;
-      attempt = mdn_attempt delivered used (last_tried since.after);
-      due = mdn_due p delivered used since.it (last_tried since.after);
+      attempt = receipt_attempt delivered used (last_tried since.after);
+      due = receipt_due p delivered used since.it (last_tried since.after);
     }
 
 -- by how it was asked for: not at all, in the answer to the post, or later

@@ -2,7 +2,7 @@ ghost use Rattle.std.specs.Prelude.{◌≡◌};
 ghost use Rattle.as2_exchange.specs.Lines.{line_text, refusal, status_of};
 
 use crate::bytes::Bytes;
-use as2_mdn::{Detail, Outcome, ReportOut};
+use as2_mdn::{Detail, Outcome, ReceiptOut};
 
 /// Why an event is refused. A refusal changes nothing.
 #[derive(Clone, Copy, Debug, PartialEq, Eq)]
@@ -146,7 +146,7 @@ pub enum HttpBody {
     /// A report.
     Report {
         /// What it is made of.
-        out: ReportOut,
+        out: ReceiptOut,
         /// Its bytes.
         bytes: Bytes,
     },

@@ -57,14 +57,14 @@ pub enum Event {
         moment: Moment,
     },
     /// A try to send a receipt begins.
-    BeginMdn {
+    BeginReceipt {
         /// The receipt's number.
         number: u64,
         /// When the try begins, in seconds since 1970.
         moment: Moment,
     },
     /// A try to send a receipt has ended.
-    OutcomeMdn {
+    OutcomeReceipt {
         /// The receipt's number.
         number: u64,
         /// What came of it.

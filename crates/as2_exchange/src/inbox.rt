@@ -1,7 +1,7 @@
 use crate::address::Address;
 use crate::attempt::Attempt;
 use crate::bytes::Bytes;
-use as2_mdn::{Outcome, ReportMic};
+use as2_mdn::{Outcome, ReceiptMic};
 use as2_mic::Pieces;
 use as2_text::{AsName, MessageId, Moment};
 
@@ -18,7 +18,7 @@ pub enum ReceiptDelivery {
 
 /// How the receipt for a posted document stands.
 #[derive(Clone, Copy, Debug, PartialEq, Eq)]
-pub enum MdnState {
+pub enum ReceiptStage {
     /// None was asked for.
     Unasked,
     /// It is to be sent.
@@ -45,7 +45,7 @@ pub struct Posted {
     /// How a receipt was asked for.
     pub how: ReceiptDelivery,
     /// The digest and the MIC of a processed document; None for any other.
-    pub mic: Option<ReportMic>,
+    pub mic: Option<ReceiptMic>,
 }
 
 /// An entry of the inbox: a posted document and its receipt.
@@ -58,7 +58,7 @@ pub struct InEntry {
     /// When it was posted first.
     pub moment: Moment,
     /// How its receipt stands.
-    pub mdn: MdnState,
+    pub receipt_stage: ReceiptStage,
     /// How often a receipt that is sent later was tried.
     pub tries: u64,
     /// Whether such a try is open.

@@ -60,8 +60,3 @@ IfLeft P (Left files) = P files
 -- where all that is read is what had been written, the database file does without its log, as both read now and after a crash
 abbrev pub NeedsNoLog : {D : Type 0} → Ghosts D → Files D → Type 0
 NeedsNoLog g files = AreClean g files.log files.db → (db : Trees) × HoldsAlone (image_of g files) db × ((image : Image) → outcomes g files.log files.db image → HoldsAlone image db)
-
--- how many stores were opened
-abbrev pub opens_by : Bool → ℕ
-opens_by true = 1
-opens_by false = 0

@@ -60,7 +60,7 @@ impl<R: Records + Drop, K: KeepFiles<R> + Drop> OpenStores for StoreFiles<'_, R,
     ghost use Rattle.std.specs.Prelude.{⊤};
     ghost use Rattle.as2_files.specs.Earlier.{KeepsEarlier};
     ghost use Rattle.as2_files.specs.Names.{file_name};
-    ghost use Rattle.as2_files.specs.Stores.{opens_by};
+    ghost use Rattle.as2_host.specs.Stores.{opens_by};
 
     type Opened = R;
 

@@ -1,5 +1,5 @@
 -- What the opening of a store comes to.
-use Rattle.std.specs.Prelude.{◌≡◌, ℕ, Result, Ok, Err, IsTrue, true, ⊤}
+use Rattle.std.specs.Prelude.{◌≡◌, ℕ, Bool, Result, Ok, Err, IsTrue, true, false, ⊤}
 use Rattle.as2_exchange.specs.State.{LaterVersion, State, empty}
 use Rattle.as2_records.specs.Standing.{Medium, Standing, may_come}
 use Rattle.as2_host.specs.declared.stores.OpenFault.{OpenFault}
@@ -15,6 +15,11 @@ MayCome (open_fault.Store fault) = may_come fault ≡ true
 abbrev pub opens_of : {A E : Type 0} → Result A E → ℕ
 opens_of (Ok records) = 1
 opens_of (Err fault) = 0
+
+-- how many were, where one may have been opened
+abbrev pub opens_by : Bool → ℕ
+opens_by true = 1
+opens_by false = 0
 
 module _ {A : Type 0} {M : Medium} (shows : A → Standing M) where
   -- whatever happens to them, records return what was written

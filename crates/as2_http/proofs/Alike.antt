@@ -10,7 +10,7 @@ use Rattle.as2_framing.specs.HeadText.{unblank}
 use Rattle.as2_http.specs.Notes.{SinkAndJournal}
 use Rattle.as2_messages.specs.Replies.{IsReply}
 use Rattle.as2_messages.specs.Requests.{BeginsNoRequest, IsOpen}
-use Rattle.as2_http.specs.Responses.{RespondsTo, Responds, TakesPost, Unsaid, http_answer, post_event}
+use Rattle.as2_http.specs.Responses.{RespondsTo, Responds, RespondsToPost, Unsaid, http_answer, post_event}
 use Rattle.as2_http.specs.Sending.{form_of}
 use Rattle.as2_http.specs.StreamLaws.{AreSound, AtJudged, IsSoundResponse, ServesInOneWay}
 use Rattle.as2_http.specs.Streams.{RequestAndResponse, AnswersAll, EndsLast, StreamEnds, StayOpen}
@@ -39,8 +39,8 @@ steps_once : (came : Option (Answer × State)) (a b : HttpAnswer) (t u : State) 
     × (t ≡ u)
 steps_once came a b t u x y = let both = some_once (Http a, t) (Http b, u) (sym x ∙ y) in (answers_once a b (ap (λ p. p.0) both), ap (λ p. p.1) both)
 
-takes_once : (A : AgreedValues) (moment : ℕ) (s : State) (r : Request) (x y : Response) (t u : State) → TakesPost A moment s r x Unsaid t
-    → TakesPost A moment s r y Unsaid u → IsSoundResponse x → IsSoundResponse y → (x ≡ y) × (t ≡ u)
+takes_once : (A : AgreedValues) (moment : ℕ) (s : State) (r : Request) (x y : Response) (t u : State) → RespondsToPost A moment s r x Unsaid t
+    → RespondsToPost A moment s r y Unsaid u → IsSoundResponse x → IsSoundResponse y → (x ≡ y) × (t ≡ u)
 takes_once A moment s r (Answered a) (Answered b) t u x y _ _ = steps_once (step A s (post_event r moment)) a b t u x.0 y.0
 takes_once A moment s r (Answered a) (Failed f) t u x y _ failed = absurd failed
 takes_once A moment s r (Answered a) OnlyPost t u x y _ _ = absurd y

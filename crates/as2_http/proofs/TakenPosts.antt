@@ -13,13 +13,13 @@ use Rattle.as2_messages.specs.declared.framing.Target.{Target}
 use Rattle.as2_messages.specs.declared.framing.Target.TheVariants.{Station}
 use Rattle.as2_http.specs.declared.response.Response.{Response}
 use Rattle.as2_station.specs.Steps.{TakesEvent, TakesHead}
-use Rattle.as2_http.specs.Responses.{IsSafe, Responds, RespondsTo, TakesPost, post_event}
+use Rattle.as2_http.specs.Responses.{IsSafe, Responds, RespondsTo, RespondsToPost, post_event}
 use Rattle.as2_http.specs.declared.response.Response.TheVariants.{Answered, Failed}
 
 -- it is answered, and what is left is safe where the store was asked
 pub answered : {M : Medium} (A : AgreedValues) (moment : ℕ) (r : Request) (old new : Standing M) (a : HttpAnswer)
     → TakesEvent A (post_event r moment) Http old new (Ok a)
-    → new.IsClean → (s : State) → old.Rests s → (t : State) × new.Rests t × TakesPost A moment s r (Answered a) (IsSafe new) t
+    → new.IsClean → (s : State) → old.Rests s → (t : State) × new.Rests t × RespondsToPost A moment s r (Answered a) (IsSafe new) t
 answered A moment r old new a taken clean s rests =
     let left = taken.does.answered clean s rests tt in (
       left.next,
@@ -30,7 +30,7 @@ answered A moment r old new a taken clean s rests =
 -- the store failed, and its head didn't decide
 pub store_failed : {M : Medium} {H : Type 0} (A : AgreedValues) (moment : ℕ) (r : Request) (old new : Standing M) (before after : H) (f : StoreFault)
     → TakesEvent A (post_event r moment) Http old new (Err f) → TakesHead A (post_event r moment) (λ (a : HttpAnswer). a) before after (Err f)
-    → new.IsClean → (s : State) → old.Rests s → (t : State) × new.Rests t × TakesPost A moment s r (Failed f) (IsSafe new) t
+    → new.IsClean → (s : State) → old.Rests s → (t : State) × new.Rests t × RespondsToPost A moment s r (Failed f) (IsSafe new) t
 store_failed A moment r old new before after f taken head clean s rests =
     let fault = taken.does.failed clean s rests tt in (
       s,
@@ -40,7 +40,7 @@ store_failed A moment r old new before after f taken head clean s rests =
 
 -- a post to the station's path gets what the post takes
 pub posts : (A : AgreedValues) (moment : ℕ) (s : State) (r : Request) (x : Response) (Safe : State → Type 0) (t : State) → r.method ≡ Post → r.target ≡ Station
-    → TakesPost A moment s r x Safe t → Responds A moment s r x Safe t
+    → RespondsToPost A moment s r x Safe t → Responds A moment s r x Safe t
 posts A moment s r x Safe t is_post is_station takes =
     subst (λ (m : Method). RespondsTo m r.target A moment s r x Safe t) (sym is_post)
     (subst (λ (at : Target). RespondsTo Post at A moment s r x Safe t) (sym is_station) takes)

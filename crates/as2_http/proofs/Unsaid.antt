@@ -2,7 +2,7 @@
 use Rattle.std.proofs.Common.{ℕ}
 use Rattle.as2_agreement.specs.Agreements.{AgreedValues}
 use Rattle.as2_exchange.specs.State.{State}
-use Rattle.as2_http.specs.Responses.{RespondsTo, Responds, TakesPost, Unsaid}
+use Rattle.as2_http.specs.Responses.{RespondsTo, Responds, RespondsToPost, Unsaid}
 use Rattle.as2_messages.specs.declared.request.Request.{Request}
 use Rattle.as2_messages.specs.declared.framing.Method.{Method}
 use Rattle.as2_messages.specs.declared.framing.Method.TheVariants.{Post, Head, Other as OtherMethod}
@@ -11,8 +11,8 @@ use Rattle.as2_messages.specs.declared.framing.Target.TheVariants.{Station, Othe
 use Rattle.as2_http.specs.declared.response.Response.{Response}
 use Rattle.as2_http.specs.declared.response.Response.TheVariants.{Answered, Failed, OnlyPost, NoPath}
 
-takes_unsaid : (A : AgreedValues) (moment : ℕ) (s : State) (r : Request) (x : Response) (Safe : State → Type 0) (t : State) → TakesPost A moment s r x Safe t
-    → TakesPost A moment s r x Unsaid t
+takes_unsaid : (A : AgreedValues) (moment : ℕ) (s : State) (r : Request) (x : Response) (Safe : State → Type 0) (t : State) → RespondsToPost A moment s r x Safe t
+    → RespondsToPost A moment s r x Unsaid t
 takes_unsaid A moment s r (Answered a) Safe t p = (p.0, λ asks. tt)
 takes_unsaid A moment s r (Failed f) Safe t p = p
 takes_unsaid A moment s r OnlyPost Safe t p = p

@@ -59,16 +59,16 @@ Unsaid t = ⊤
 
 -- the post is a step of the machine, and where it asks the records, the state that it leaves is safe; or there is a fault, which
 -- changes nothing, and never stands in place of what the head decides
-abbrev pub TakesPost : AgreedValues → ℕ → State → Request → Response → (State → Type 0) → State → Type 0
-TakesPost A moment s r (Answered answer) Safe t =
+abbrev pub RespondsToPost : AgreedValues → ℕ → State → Request → Response → (State → Type 0) → State → Type 0
+RespondsToPost A moment s r (Answered answer) Safe t =
     (step A s (post_event r moment) ≡ Some (Http answer, t)) × (asks_store A (post_event r moment) ≡ true → Safe t)
-TakesPost A moment s r (Failed fault) Safe t = MayFail A s (post_event r moment) fault × (t ≡ s) × IsPastHead A r
-TakesPost A moment s r OnlyPost Safe t = ⊥
-TakesPost A moment s r NoPath Safe t = ⊥
+RespondsToPost A moment s r (Failed fault) Safe t = MayFail A s (post_event r moment) fault × (t ≡ s) × IsPastHead A r
+RespondsToPost A moment s r OnlyPost Safe t = ⊥
+RespondsToPost A moment s r NoPath Safe t = ⊥
 
 -- a post to the station's path is an event; any other request changes nothing
 abbrev pub RespondsTo : Method → Target → AgreedValues → ℕ → State → Request → Response → (State → Type 0) → State → Type 0
-RespondsTo Post Station A moment s r response Safe t = TakesPost A moment s r response Safe t
+RespondsTo Post Station A moment s r response Safe t = RespondsToPost A moment s r response Safe t
 RespondsTo Post OtherTarget A moment s r response Safe t = (response ≡ NoPath) × (t ≡ s)
 RespondsTo Head target A moment s r response Safe t = (response ≡ OnlyPost) × (t ≡ s)
 RespondsTo OtherMethod target A moment s r response Safe t = (response ≡ OnlyPost) × (t ≡ s)

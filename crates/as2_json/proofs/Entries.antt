@@ -3,7 +3,7 @@ use Rattle.std.proofs.Common.{◌≡◌, ◌∙◌, ◌&&◌, ℕ, Bool, true, f
 use Rattle.std.specs.Prelude.{if◌then◌else◌}
 use Rattle.std.specs.List.{AllByRecursion, filter}
 use Rattle.serde_json.specs.Data.{Data}
-use Rattle.as2_mdn.specs.declared.detail.State.{State as StateOf}
+use Rattle.as2_mdn.specs.declared.detail.DetailClass.{DetailClass}
 use Rattle.as2_exchange.specs.Progress.{is_in, is_under_way}
 use Rattle.as2_exchange.specs.State.{State, is_settled}
 use Rattle.as2_exchange.specs.Tries.{is_due}
@@ -44,7 +44,7 @@ pub same_objects : (settled : List ℕ) (p : OutEntry → Bool) (ds : List OutEn
 same_objects settled p [] m = refl
 same_objects settled p (d ∷ ds) m = kept_object (p d) settled d (filter p ds) m.0 (same_objects settled p ds m.1)
 
-pub outbox_objects : (s : State) (wanted : Option StateOf) → Rise (document_numbers s)
+pub outbox_objects : (s : State) (wanted : Option DetailClass) → Rise (document_numbers s)
     → map (marked_object (settled_numbers s)) (map out_summary (filter (is_in wanted) s.outbox)) ≡ list_out_objects s wanted
 outbox_objects s wanted up = same_objects (settled_numbers s) (is_in wanted) s.outbox (marks s.outbox up)
 

@@ -8,10 +8,10 @@ use Rattle.as2_names.proofs.Printable.{printable_text}
 use Rattle.as2_mdn.specs.Details.{name_of}
 use Rattle.as2_mdn.specs.declared.detail.Detail.{Detail}
 use Rattle.as2_mdn.specs.declared.detail.Detail.TheVariants as detail
-use Rattle.as2_mdn.specs.declared.detail.State.{State}
-use Rattle.as2_mdn.specs.declared.detail.State.TheVariants as state
-use Rattle.as2_exchange.specs.declared.inbox.MdnState.{MdnState}
-use Rattle.as2_exchange.specs.declared.inbox.MdnState.TheVariants as mdn
+use Rattle.as2_mdn.specs.declared.detail.DetailClass.{DetailClass}
+use Rattle.as2_mdn.specs.declared.detail.DetailClass.TheVariants as class
+use Rattle.as2_exchange.specs.declared.inbox.ReceiptStage.{ReceiptStage}
+use Rattle.as2_exchange.specs.declared.inbox.ReceiptStage.TheVariants as receipt_stage
 use Rattle.as2_audit.specs.Texts.{fault_text}
 use Rattle.as2_audit.specs.declared.fault.Fault.{Fault}
 use Rattle.as2_audit.specs.declared.fault.Fault.TheVariants as fault
@@ -42,17 +42,17 @@ detail_utf8 detail.MicDiffers = IsUtf8-are_ascii _ refl
 detail_utf8 detail.TriesUsed = IsUtf8-are_ascii _ refl
 detail_utf8 detail.Overdue = IsUtf8-are_ascii _ refl
 
-pub state_utf8 : (s : State) → IsUtf8 (state_text s)
-state_utf8 state.P = IsUtf8-are_ascii _ refl
-state_utf8 state.R = IsUtf8-are_ascii _ refl
-state_utf8 state.S = IsUtf8-are_ascii _ refl
-state_utf8 state.W = IsUtf8-are_ascii _ refl
-state_utf8 state.E = IsUtf8-are_ascii _ refl
+pub state_utf8 : (s : DetailClass) → IsUtf8 (state_text s)
+state_utf8 class.P = IsUtf8-are_ascii _ refl
+state_utf8 class.R = IsUtf8-are_ascii _ refl
+state_utf8 class.S = IsUtf8-are_ascii _ refl
+state_utf8 class.W = IsUtf8-are_ascii _ refl
+state_utf8 class.E = IsUtf8-are_ascii _ refl
 
-pub receipt_utf8 : (m : MdnState) → IsUtf8 (receipt_word m)
-receipt_utf8 mdn.Unasked = IsUtf8-are_ascii _ refl
-receipt_utf8 mdn.Pending = IsUtf8-are_ascii _ refl
-receipt_utf8 mdn.Sent = IsUtf8-are_ascii _ refl
+pub receipt_utf8 : (m : ReceiptStage) → IsUtf8 (receipt_word m)
+receipt_utf8 receipt_stage.Unasked = IsUtf8-are_ascii _ refl
+receipt_utf8 receipt_stage.Pending = IsUtf8-are_ascii _ refl
+receipt_utf8 receipt_stage.Sent = IsUtf8-are_ascii _ refl
 
 pub box_utf8 : (m : Mailbox) → IsUtf8 (box_word m)
 box_utf8 mailbox.Inbox = IsUtf8-are_ascii _ refl

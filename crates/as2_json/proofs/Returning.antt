@@ -113,7 +113,7 @@ in_back r h = back _ (record {
                       (
                         word _ refl,
                         (
-                          receipt_utf8 r.mdn,
+                          receipt_utf8 r.receipt_stage,
                           (
                             word _ refl,
                             (name_utf8 _ h.receiver, tt),

@@ -2,7 +2,7 @@
 use Rattle.std.specs.Prelude.{◌≡◌, ℕ, Bool, ◌&&◌, ◌++◌, List, [], ◌∷◌, length, Option, map, option_map}
 use Rattle.std.specs.List.{filter}
 use Rattle.serde_json.specs.Data.{Data}
-use Rattle.as2_mdn.specs.declared.detail.State.{State as StateOf}
+use Rattle.as2_mdn.specs.declared.detail.DetailClass.{DetailClass}
 use Rattle.as2_exchange.specs.Agreement.{Text}
 use Rattle.as2_exchange.specs.Progress.{is_in, is_under_way}
 use Rattle.as2_exchange.specs.State.{State, document, is_settled}
@@ -23,7 +23,7 @@ abbrev pub entry_object : OutEntry → Data
 entry_object d = out_object (is_settled d) (out_summary d)
 
 -- `list` of the documents that are sent: those of a state, or all
-abbrev pub list_out_objects : State → Option StateOf → List Data
+abbrev pub list_out_objects : State → Option DetailClass → List Data
 list_out_objects s wanted = map entry_object (filter (is_in wanted) s.outbox)
 
 -- `list` of the documents that were received

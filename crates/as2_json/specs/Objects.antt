@@ -52,7 +52,7 @@ in_object r = object_of (
     ∷ (codes "identifier", string r.id)
     ∷ (codes "number", whole_number r.number)
     ∷ (codes "processed", boolean (is_processed r.outcome))
-    ∷ (codes "receipt", string (receipt_word r.mdn))
+    ∷ (codes "receipt", string (receipt_word r.receipt_stage))
     ∷ (codes "to", string r.receiver)
     ∷ [])
 

@@ -5,7 +5,7 @@ ghost use Rattle.as2_json.specs.Lines.{object_line};
 ghost use Rattle.as2_json.specs.Objects.{document_object, due_value, receipt_value};
 
 use crate::lines::add_line;
-use crate::words::{name_text, state_letter};
+use crate::words::{name_text, class_letter};
 use as2_exchange::{Evidence, OutEntry};
 use as2_text::Memory;
 use serde_json::{Value, json};
@@ -48,7 +48,7 @@ fn document_value(alloc: Global, document: &OutEntry) -> Result<Value, AllocErro
         "length": document.content.len(),
         "number": document.number,
         "receipt": receipt,
-        "state": state_letter(document.detail.state()),
+        "state": class_letter(document.detail.class()),
         "to": name_text(&document.partner),
         "tries": document.tries
     })

@@ -5,7 +5,7 @@ ghost use Rattle.serde_json.specs.Data.{Data};
 ghost use Rattle.serde_json.specs.Written.{compact_text};
 ghost use Rattle.as2_names.specs.Ascii.{line_feed};
 ghost use Rattle.as2_names.specs.Cuts.{IsCutAt};
-ghost use Rattle.as2_mdn.specs.declared.detail.State.{State as StateOf};
+ghost use Rattle.as2_mdn.specs.declared.detail.DetailClass.{DetailClass};
 ghost use Rattle.as2_exchange.specs.Agreement.{Text};
 ghost use Rattle.as2_exchange.specs.Progress.{is_in};
 ghost use Rattle.as2_exchange.specs.State.{State};
@@ -49,7 +49,7 @@ pub fn verifications_read_back()
 /// The objects of a state's rows are its listings.
 pub fn listings_of_rows()
     ensures inbox { (s : State) → map in_object (map in_summary s.inbox) ≡ list_in_objects s }
-    ensures outbox { (s : State) (wanted : Option StateOf) → Rise (document_numbers s) →
+    ensures outbox { (s : State) (wanted : Option DetailClass) → Rise (document_numbers s) →
         map (marked_object (settled_numbers s)) (map out_summary (filter (is_in wanted) s.outbox))
         ≡ list_out_objects s wanted }
     ensures outstanding { (s : State) (m : ℕ) → Rise (document_numbers s) →

@@ -10,7 +10,7 @@ use crate::counts::add_counts_object;
 use crate::document::add_document_object;
 use crate::lists::{add_in_objects, add_out_objects};
 use as2_exchange::{OutEntry, StoreFault};
-use as2_mdn::State;
+use as2_mdn::DetailClass;
 use as2_records::{Counts, InRow, OutRow, Records};
 use as2_text::Moment;
 use as2_views::{Filter, keep_outstanding};
@@ -90,7 +90,7 @@ fn received_in_objects<R: Records>(records: &mut R, alloc: Global) -> Result<Vec
 fn sent_in_objects<R: Records>(
     records: &mut R,
     alloc: Global,
-    wanted: Option<State>,
+    wanted: Option<DetailClass>,
 ) -> Result<Vec<u8>, StoreFault>
     ensures listed { Reads (λ s text. text.items
         ≡ object_lines (list_out_objects s wanted)) (R.shows records.old) (R.shows records.new) result }

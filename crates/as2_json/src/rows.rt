@@ -5,7 +5,7 @@ ghost use Rattle.as2_json.specs.Lines.{object_line};
 ghost use Rattle.as2_json.specs.Objects.{in_object, out_object};
 
 use crate::lines::add_line;
-use crate::words::{is_processed, name_text, receipt_word, state_letter};
+use crate::words::{is_processed, name_text, receipt_word, class_letter};
 use as2_records::{InRow, OutRow};
 use as2_text::Memory;
 use serde_json::{Value, json};
@@ -22,7 +22,7 @@ fn out_value(alloc: Global, row: &OutRow, is_settled: bool) -> Result<Value, All
         "identifier": row.id.as_received(),
         "number": row.number,
         "settled": is_settled,
-        "state": state_letter(row.detail.state()),
+        "state": class_letter(row.detail.class()),
         "to": name_text(&row.partner),
         "tries": row.tries
     })
@@ -47,7 +47,7 @@ fn in_value(alloc: Global, row: &InRow) -> Result<Value, AllocError>
         "identifier": row.id.as_received(),
         "number": row.number,
         "processed": is_processed(row.outcome),
-        "receipt": receipt_word(row.mdn),
+        "receipt": receipt_word(row.receipt_stage),
         "to": name_text(&row.receiver)
     })
 }

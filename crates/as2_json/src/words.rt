@@ -5,8 +5,8 @@ ghost use Rattle.as2_views.specs.Layout.{state_text};
 ghost use Rattle.as2_json.specs.Words.{box_word, receipt_word};
 
 use as2_audit::Mailbox;
-use as2_exchange::MdnState;
-use as2_mdn::{Outcome, State};
+use as2_exchange::ReceiptStage;
+use as2_mdn::{Outcome, DetailClass};
 use as2_text::AsName;
 
 /// A name as a text: its bytes are printable ASCII.
@@ -17,15 +17,15 @@ pub fn name_text(name: &AsName) -> &str
 }
 
 /// The letter of a state.
-pub fn state_letter(state: State) -> &'static str
+pub fn class_letter(state: DetailClass) -> &'static str
     ensures { result.now ≡ state_text state }
 {
     match state {
-        State::P => "P",
-        State::R => "R",
-        State::S => "S",
-        State::W => "W",
-        State::E => "E",
+        DetailClass::P => "P",
+        DetailClass::R => "R",
+        DetailClass::S => "S",
+        DetailClass::W => "W",
+        DetailClass::E => "E",
     }
 }
 
@@ -37,13 +37,13 @@ pub fn is_processed(outcome: Outcome) -> bool
 }
 
 /// How the receipt of a received document stands.
-pub fn receipt_word(mdn: MdnState) -> &'static str
-    ensures { result.now ≡ receipt_word mdn }
+pub fn receipt_word(receipt_stage: ReceiptStage) -> &'static str
+    ensures { result.now ≡ receipt_word receipt_stage }
 {
-    match mdn {
-        MdnState::Unasked => "none",
-        MdnState::Pending => "pending",
-        MdnState::Sent => "sent",
+    match receipt_stage {
+        ReceiptStage::Unasked => "none",
+        ReceiptStage::Pending => "pending",
+        ReceiptStage::Sent => "sent",
     }
 }
 

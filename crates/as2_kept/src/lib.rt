@@ -6,9 +6,9 @@ mod opening;
 ghost use Rattle.std.specs.Prelude.{◌≡◌};
 
 use as2_exchange::{Evidence, InEntry, OutEntry, StoreFault};
-use as2_mdn::{Detail, State};
+use as2_mdn::{Detail, DetailClass};
 use as2_records::{
-    Counts, Discrepancy, InRow, MdnProgress, NextNumbers, OutRow, Progress, Records,
+    Counts, Discrepancy, InRow, ReceiptProgress, NextNumbers, OutRow, Progress, Records,
 };
 use as2_store::Store;
 use as2_text::{AsName, Moment};
@@ -81,12 +81,12 @@ impl<S: Alter> Records for Kept<S> {
         self.store.add_out(entry)
     }
 
-    fn requeue_mdn(&mut self, number: u64, moment: Moment) -> Result<(), StoreFault> {
-        self.store.requeue_mdn(number, moment)
+    fn requeue_receipt(&mut self, number: u64, moment: Moment) -> Result<(), StoreFault> {
+        self.store.requeue_receipt(number, moment)
     }
 
-    fn set_mdn(&mut self, number: u64, progress: MdnProgress) -> Result<(), StoreFault> {
-        self.store.set_mdn(number, progress)
+    fn set_receipt(&mut self, number: u64, progress: ReceiptProgress) -> Result<(), StoreFault> {
+        self.store.set_receipt(number, progress)
     }
 
     fn expire(&mut self, moment: Moment) -> Result<u64, StoreFault> {
@@ -144,14 +144,14 @@ impl<S: Alter> Records for Kept<S> {
         self.store.due_out(moment)
     }
 
-    fn due_mdn(&mut self, moment: Moment) -> Result<Option<u64>, StoreFault> {
-        self.store.due_mdn(moment)
+    fn due_receipt(&mut self, moment: Moment) -> Result<Option<u64>, StoreFault> {
+        self.store.due_receipt(moment)
     }
 
     fn list_out(
         &mut self,
         alloc: Global,
-        wanted: Option<State>,
+        wanted: Option<DetailClass>,
     ) -> Result<Vec<OutRow>, StoreFault> {
         self.store.list_out(alloc, wanted)
     }

@@ -1,6 +1,5 @@
 pub mod Calls
 pub mod Changed
-pub mod Copied
 pub mod Counted
 pub mod Leasts
 pub mod Passing

@@ -1,6 +1,6 @@
 -- Lists in memory, as records.
 use Rattle.std.specs.Prelude.{◌≡◌, true, false}
-use Rattle.as2_exchange.specs.State.{AllDigests, State, digests_of}
+use Rattle.as2_exchange.specs.State.{AllDigests, State, state_digests}
 use Rattle.as2_records.specs.Standing.{Medium, Standing, IsCounted}
 
 -- they lie in memory, of which a stop of the computer leaves nothing that an open could find
@@ -16,7 +16,7 @@ memory = record {
 -- lists of a state stand for it and for no other, and it is counted
 pub record StandsFor (s t : State) : Type 0 where
   pub same : t ≡ s
-  pub knows : digests_of t ≡ AllDigests
+  pub knows : state_digests t ≡ AllDigests
   pub counted : IsCounted t
 
 -- lists of a state, as records. Memory gives back what was put into it, so they are always clean, and they never fail: no fault

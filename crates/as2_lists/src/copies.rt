@@ -72,7 +72,7 @@ pub fn copy_entry(alloc: Global, entry: &InEntry) -> Result<InEntry, Memory>
         number: entry.number,
         posted,
         moment: entry.moment,
-        mdn: entry.mdn,
+        receipt_stage: entry.receipt_stage,
         tries: entry.tries,
         attempt: entry.attempt,
         due: entry.due,

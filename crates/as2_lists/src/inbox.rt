@@ -4,14 +4,14 @@ ghost use Rattle.std.specs.Prelude.{◌≡◌, ◌==◌, [], ◌∷◌, ◌++◌
 ghost use Rattle.as2_exchange.specs.OwedReceipts.{is_pending};
 ghost use Rattle.as2_exchange.specs.State.{has_key, same_key};
 ghost use Rattle.as2_exchange.specs.Due.{is_due_receipt};
-ghost use Rattle.as2_records.specs.Owing.{owed_as};
+ghost use Rattle.as2_records.specs.Owing.{with_receipt_progress};
 ghost use Rattle.as2_records.specs.Summaries.{in_summary};
 
 use crate::copies::copy_entry;
 use crate::due::is_due;
 use crate::rows::in_row;
-use as2_exchange::{Attempt, InEntry, MdnState, Posted};
-use as2_records::{InRow, MdnProgress};
+use as2_exchange::{Attempt, InEntry, ReceiptStage, Posted};
+use as2_records::{InRow, ReceiptProgress};
 use as2_text::{AsName, Memory, Moment};
 use std::alloc::Global;
 
@@ -66,18 +66,18 @@ pub fn add(alloc: Global, entries: &mut Vec<InEntry>, entry: &InEntry) -> Result
 }
 
 /// Sets how far the receipt for the entry has come.
-fn set(entry: &mut InEntry, progress: MdnProgress)
-    ensures { entry.new ≡ owed_as progress entry.old }
+fn set(entry: &mut InEntry, progress: ReceiptProgress)
+    ensures { entry.new ≡ with_receipt_progress progress entry.old }
 {
-    entry.mdn = progress.mdn;
+    entry.receipt_stage = progress.receipt_stage;
     entry.tries = progress.tries;
     entry.attempt = progress.attempt;
     entry.due = progress.due;
 }
 
 /// Sets how far the receipt for the entry of this number, if there is one, has come.
-pub fn set_numbered(entries: &mut Vec<InEntry>, number: u64, progress: MdnProgress)
-    ensures { entries.new.items ≡ map (λ e. if e.number == number then owed_as progress e else e) entries.old.items }
+pub fn set_numbered(entries: &mut Vec<InEntry>, number: u64, progress: ReceiptProgress)
+    ensures { entries.new.items ≡ map (λ e. if e.number == number then with_receipt_progress progress e else e) entries.old.items }
 {
     for entry in entries.iter_mut() {
         if entry.number == number {
@@ -90,7 +90,7 @@ pub fn set_numbered(entries: &mut Vec<InEntry>, number: u64, progress: MdnProgre
 fn is_due_receipt(moment: Moment, entry: &InEntry) -> bool
     ensures { result ≡ is_due_receipt moment entry.now }
 {
-    entry.mdn == MdnState::Pending
+    entry.receipt_stage == ReceiptStage::Pending
         && (entry.attempt == Attempt::Idle || entry.attempt == Attempt::Running)
         && is_due(moment, entry.due)
 }
@@ -120,10 +120,10 @@ pub fn rows(alloc: Global, entries: &[InEntry]) -> Result<Vec<InRow>, Memory>
 
 /// How many receipts are to be sent.
 pub fn pending(entries: &[InEntry]) -> u64
-    ensures { result ≡ count_by (λ e. is_pending e.mdn) entries.now }
+    ensures { result ≡ count_by (λ e. is_pending e.receipt_stage) entries.now }
 {
     entries
         .iter()
-        .filter(|entry| entry.mdn == MdnState::Pending)
+        .filter(|entry| entry.receipt_stage == ReceiptStage::Pending)
         .count() as u64
 }

@@ -5,11 +5,11 @@ ghost use Rattle.as2_lists.specs.Standing.{StandsFor};
 use crate::copies::{copy_evidence, copy_found_document, copy_found_entry};
 use crate::{inbox, outbox};
 use as2_exchange::{
-    Attempt, END_OF_NUMBERS, Evidence, InEntry, MdnState, OutEntry, StoreFault, is_by_receipt,
+    Attempt, END_OF_NUMBERS, Evidence, InEntry, ReceiptStage, OutEntry, StoreFault, is_by_receipt,
 };
-use as2_mdn::{Detail, State};
+use as2_mdn::{Detail, DetailClass};
 use as2_records::{
-    Counts, Discrepancy, InRow, MdnProgress, NextNumbers, OutRow, Progress, Records,
+    Counts, Discrepancy, InRow, ReceiptProgress, NextNumbers, OutRow, Progress, Records,
 };
 use as2_text::{AsName, Moment};
 use std::alloc::Global;
@@ -97,9 +97,9 @@ impl Records for Lists {
         Ok(())
     }
 
-    fn requeue_mdn(&mut self, number: u64, moment: Moment) -> Result<(), StoreFault> {
-        let anew = MdnProgress {
-            mdn: MdnState::Pending,
+    fn requeue_receipt(&mut self, number: u64, moment: Moment) -> Result<(), StoreFault> {
+        let anew = ReceiptProgress {
+            receipt_stage: ReceiptStage::Pending,
             tries: 0,
             attempt: Attempt::Idle,
             due: Some(moment.seconds()),
@@ -108,7 +108,7 @@ impl Records for Lists {
         Ok(())
     }
 
-    fn set_mdn(&mut self, number: u64, progress: MdnProgress) -> Result<(), StoreFault> {
+    fn set_receipt(&mut self, number: u64, progress: ReceiptProgress) -> Result<(), StoreFault> {
         inbox::set_numbered(&mut self.inbox, number, progress);
         Ok(())
     }
@@ -185,14 +185,14 @@ impl Records for Lists {
         Ok(outbox::first_due(&self.outbox, moment))
     }
 
-    fn due_mdn(&mut self, moment: Moment) -> Result<Option<u64>, StoreFault> {
+    fn due_receipt(&mut self, moment: Moment) -> Result<Option<u64>, StoreFault> {
         Ok(inbox::first_due(&self.inbox, moment))
     }
 
     fn list_out(
         &mut self,
         alloc: Global,
-        wanted: Option<State>,
+        wanted: Option<DetailClass>,
     ) -> Result<Vec<OutRow>, StoreFault> {
         Ok(outbox::rows(alloc, &self.outbox, wanted)?)
     }
@@ -208,9 +208,9 @@ impl Records for Lists {
     fn counts(&mut self, _alloc: Global) -> Result<Counts, StoreFault> {
         Ok(Counts {
             not_sent: outbox::not_sent(&self.outbox),
-            in_retry: outbox::in_state(&self.outbox, State::R),
+            in_retry: outbox::in_state(&self.outbox, DetailClass::R),
             awaited: outbox::awaited(&self.outbox),
-            in_error: outbox::in_state(&self.outbox, State::E),
+            in_error: outbox::in_state(&self.outbox, DetailClass::E),
             to_send: inbox::pending(&self.inbox),
         })
     }

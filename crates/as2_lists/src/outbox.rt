@@ -17,7 +17,7 @@ use crate::copies::copy_document;
 use crate::due::is_due;
 use crate::rows::out_row;
 use as2_exchange::{Attempt, Evidence, OutEntry};
-use as2_mdn::{Detail, State};
+use as2_mdn::{Detail, DetailClass};
 use as2_records::{OutRow, Progress};
 use as2_text::{Memory, Moment};
 use std::alloc::Global;
@@ -238,11 +238,11 @@ pub fn first_due(documents: &[OutEntry], moment: Moment) -> Option<u64>
 }
 
 /// Whether the document is in this state, where one is asked for.
-fn is_in(wanted: Option<State>, document: &OutEntry) -> bool
+fn is_in(wanted: Option<DetailClass>, document: &OutEntry) -> bool
     ensures { result ≡ is_in wanted document.now }
 {
     match wanted {
-        Some(state) => document.detail.state() == state,
+        Some(state) => document.detail.class() == state,
         None => true,
     }
 }
@@ -251,7 +251,7 @@ fn is_in(wanted: Option<State>, document: &OutEntry) -> bool
 pub fn rows(
     alloc: Global,
     documents: &[OutEntry],
-    wanted: Option<State>,
+    wanted: Option<DetailClass>,
 ) -> Result<Vec<OutRow>, Memory>
     ensures { IfOk result (λ rows. rows.items ≡ map out_summary (filter (is_in wanted) documents.now)) }
 {
@@ -299,11 +299,11 @@ pub fn awaited(documents: &[OutEntry]) -> u64
 }
 
 /// How many of the documents are in this state.
-pub fn in_state(documents: &[OutEntry], state: State) -> u64
+pub fn in_state(documents: &[OutEntry], state: DetailClass) -> u64
     ensures { result ≡ count_by (is_in (Some state)) documents.now }
 {
     documents
         .iter()
-        .filter(|document| document.detail.state() == state)
+        .filter(|document| document.detail.class() == state)
         .count() as u64
 }

@@ -29,7 +29,7 @@ pub fn in_row(alloc: Global, entry: &InEntry) -> Result<InRow, Memory>
         outcome: entry.posted.outcome,
         how,
         mic: entry.posted.mic,
-        mdn: entry.mdn,
+        receipt_stage: entry.receipt_stage,
         tries: entry.tries,
         attempt: entry.attempt,
         due: entry.due,

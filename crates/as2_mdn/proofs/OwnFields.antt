@@ -25,8 +25,8 @@ use Rattle.as2_mdn.specs.ReportReading.{field_values, IsMic, IsNotification, IsN
 use Rattle.as2_mdn.specs.Reports.{mic_with_digest}
 use Rattle.as2_mdn.specs.declared.outcome.Outcome.{Outcome}
 use Rattle.as2_mdn.specs.declared.outcome.Outcome.TheVariants.{DecryptionFailed, DecompressionFailed, AuthenticationFailed, UnsupportedFormat, UnsupportedMicAlgorithms, Processed}
-use Rattle.as2_mdn.specs.declared.report.ReportMic.{ReportMic}
-use Rattle.as2_mdn.specs.declared.report.ReportOut.{ReportOut}
+use Rattle.as2_mdn.specs.declared.report.ReceiptMic.{ReceiptMic}
+use Rattle.as2_mdn.specs.declared.report.ReceiptOut.{ReceiptOut}
 use Rattle.as2_mdn.proofs.OwnParts.{field_texts, mic_texts, type_line}
 use Rattle.as2_mdn.proofs.Reading as disposition_laws
 use Rattle.as2_mdn.proofs.Written.{crlf, joined, HaveNoFeed, Names, field_line}
@@ -60,11 +60,11 @@ notification_head = record {
 abbrev raw_value : List ℕ → List ℕ
 raw_value raw = trimmed_text (raw ++ 13 ∷ 10 ∷ [])
 
-abbrev mic_fields : Option ReportMic → List FieldText
+abbrev mic_fields : Option ReceiptMic → List FieldText
 mic_fields None = []
 mic_fields (Some mic) = (codes "Received-content-MIC", raw_value (32 ∷ mic_with_digest mic)) ∷ []
 
-abbrev fields_with : ReportOut → List FieldText → List FieldText
+abbrev fields_with : ReceiptOut → List FieldText → List FieldText
 fields_with out more =
     (codes "Reporting-UA", raw_value (codes " as2-station"))
     ∷ (codes "Final-Recipient", raw_value (codes " rfc822; " ++ name_spelling out.from))
@@ -75,22 +75,22 @@ fields_with out more =
 names_field : (name raw : List ℕ) → (name ≡ [] → ⊥) → list_all is_field_name_byte name ≡ true → HasNoFeed (name ++ 58 ∷ raw) → Names name raw
 names_field name raw some bytes whole = record { some = some; named = bytes; whole = whole }
 
-mic_fields_are : (mic : Option ReportMic) → HaveNoFeed (mic_texts mic) → fields (joined (mic_texts mic)) ≡ mic_fields mic
+mic_fields_are : (mic : Option ReceiptMic) → HaveNoFeed (mic_texts mic) → fields (joined (mic_texts mic)) ≡ mic_fields mic
 mic_fields_are None f = refl
 mic_fields_are (Some mic) f = field_line (codes "Received-content-MIC") (32 ∷ mic_with_digest mic) [] (names_field (codes "Received-content-MIC") (32 ∷ mic_with_digest mic) (λ e. absurd cc) refl f.0) refl
 
-mic_free : (mic : Option ReportMic) → begins_with_blank (joined (mic_texts mic)) ≡ false
+mic_free : (mic : Option ReceiptMic) → begins_with_blank (joined (mic_texts mic)) ≡ false
 mic_free None = refl
 mic_free (Some mic) = refl
 
 -- no value of a content has an LF
-pub record ContentFeedless (out : ReportOut) (mic : Option ReportMic) : Type 0 where
+pub record ContentFeedless (out : ReceiptOut) (mic : Option ReceiptMic) : Type 0 where
   pub outcome : HasNoFeed (outcome_text out.outcome)
   pub from : HasNoFeed (name_spelling out.from)
   pub id : HasNoFeed out.original_id
   pub mic_lines : HaveNoFeed (mic_texts mic)
 
-fields_are : (out : ReportOut) (mic : Option ReportMic) → ContentFeedless out mic → fields (joined (field_texts out (mic_texts mic))) ≡ fields_with out (mic_fields mic)
+fields_are : (out : ReceiptOut) (mic : Option ReceiptMic) → ContentFeedless out mic → fields (joined (field_texts out (mic_texts mic))) ≡ fields_with out (mic_fields mic)
 fields_are out mic f =
     let m = mic_texts mic in
     let d = codes " automatic-action/MDN-sent-automatically; " ++ outcome_text out.outcome in
@@ -141,13 +141,13 @@ text_some (b ∷ rest) some e = absurd cc
 solid_trimmed : (text : List ℕ) → IsSolid text → text ≡ trimmed_text text
 solid_trimmed text s = sym (padded_trimmed text text (record { front = []; back = []; whole = sym (append-nil text); blank_front = refl; blank_back = refl }) s)
 
-mic_read_back : (mic : ReportMic) → IsMicText mic.text → IsOfMicBytes mic.text → raw_value (32 ∷ mic_with_digest mic) ≡ mic.text ++ (codes ", " ++ alg_name mic.digest)
+mic_read_back : (mic : ReceiptMic) → IsMicText mic.text → IsOfMicBytes mic.text → raw_value (32 ∷ mic_with_digest mic) ≡ mic.text ++ (codes ", " ++ alg_name mic.digest)
 mic_read_back mic t b =
     let text = mic.text ++ (codes ", " ++ alg_name mic.digest) in
     ap (λ (x : List ℕ). raw_value (32 ∷ x)) (append_assoc mic.text (codes ", ") (alg_name mic.digest))
     ∙ value_trimmed text (mic_solid_front mic.text (codes ", " ++ alg_name mic.digest) b t.some (name_ends mic.digest))
 
-mic_is : (mic : ReportMic) → IsMicText mic.text → IsOfMicBytes mic.text → IsMicField (mic.text ++ (codes ", " ++ alg_name mic.digest)) (mic.text, alg_name mic.digest)
+mic_is : (mic : ReceiptMic) → IsMicText mic.text → IsOfMicBytes mic.text → IsMicField (mic.text ++ (codes ", " ++ alg_name mic.digest)) (mic.text, alg_name mic.digest)
 mic_is mic t b = record {
   before = mic.text;
   behind = 32 ∷ alg_name mic.digest;
@@ -158,22 +158,22 @@ mic_is mic t b = record {
   has_digest = name_some mic.digest;
 }
 
-mic_given : (out : ReportOut) (mic : Option ReportMic) → HasMicText mic → HasMicBytes mic → IsMic (field_values (codes "received-content-mic") (fields_with out (mic_fields mic))) (mic_in_report mic)
+mic_given : (out : ReceiptOut) (mic : Option ReceiptMic) → HasMicText mic → HasMicBytes mic → IsMic (field_values (codes "received-content-mic") (fields_with out (mic_fields mic))) (mic_in_report mic)
 mic_given out None h b = refl
 mic_given out (Some mic) h b =
     inl ((mic.text, alg_name mic.digest), subst (λ (x : List ℕ). IsMicField x (mic.text, alg_name mic.digest)) (sym (mic_read_back mic h b)) (mic_is mic h b), refl)
 
 -- ---- the content
 
-one_id : (out : ReportOut) (mic : Option ReportMic) → field_values (codes "original-message-id") (fields_with out (mic_fields mic)) ≡ raw_value (32 ∷ out.original_id) ∷ []
+one_id : (out : ReceiptOut) (mic : Option ReceiptMic) → field_values (codes "original-message-id") (fields_with out (mic_fields mic)) ≡ raw_value (32 ∷ out.original_id) ∷ []
 one_id out None = refl
 one_id out (Some mic) = refl
 
-one_disposition : (out : ReportOut) (mic : Option ReportMic) → field_values (codes "disposition") (fields_with out (mic_fields mic)) ≡ raw_value (codes " automatic-action/MDN-sent-automatically; " ++ outcome_text out.outcome) ∷ []
+one_disposition : (out : ReceiptOut) (mic : Option ReceiptMic) → field_values (codes "disposition") (fields_with out (mic_fields mic)) ≡ raw_value (codes " automatic-action/MDN-sent-automatically; " ++ outcome_text out.outcome) ∷ []
 one_disposition out None = refl
 one_disposition out (Some mic) = refl
 
-pub notification_content : (out : ReportOut) (mic : Option ReportMic) → IsIdentifier out.original_id → HasMicText mic → HasMicBytes mic → ContentFeedless out mic
+pub notification_content : (out : ReceiptOut) (mic : Option ReceiptMic) → IsIdentifier out.original_id → HasMicText mic → HasMicBytes mic → ContentFeedless out mic
     → IsNotification (joined (field_texts out (mic_texts mic))) (record { original_id = out.original_id; disposition = disposition_of out.outcome; mic = mic_in_report mic })
 notification_content out mic x h b f =
     let content = joined (field_texts out (mic_texts mic)) in

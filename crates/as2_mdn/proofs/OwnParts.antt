@@ -9,19 +9,19 @@ use Rattle.as2_mic.specs.Algs.{alg_name}
 use Rattle.as2_parts.specs.Lines.{lines, without_line_end, IsDelimiter, IsClosing}
 use Rattle.as2_parts.specs.Parts.{PartText, IsTwoParts, part_in, part_of, cut_at_empty_line}
 use Rattle.as2_parts.proofs.Laws.{HasNoFeed}
-use Rattle.as2_mdn.specs.declared.report.ReportMic.{ReportMic}
-use Rattle.as2_mdn.specs.declared.report.ReportOut.{ReportOut}
+use Rattle.as2_mdn.specs.declared.report.ReceiptMic.{ReceiptMic}
+use Rattle.as2_mdn.specs.declared.report.ReceiptOut.{ReceiptOut}
 use Rattle.as2_mdn.specs.Outcomes.{outcome_text}
 use Rattle.as2_mdn.specs.Reports.{boundary_text, mic_with_digest, mic_line, receipt_text}
 use Rattle.as2_mdn.proofs.Written.{Joint, leaf, both, bytes, same_bytes, crlf, joined, HaveNoFeed, no_feed_append, lines_of_joined, concat_crlf, joined_push, line_end_off, begins_with_hyphen, no_marks}
 
 -- ---- the lines, without their ends
 
-abbrev pub mic_texts : Option ReportMic → List (List ℕ)
+abbrev pub mic_texts : Option ReceiptMic → List (List ℕ)
 mic_texts None = []
 mic_texts (Some mic) = (codes "Received-content-MIC: " ++ mic_with_digest mic) ∷ []
 
-abbrev pub field_texts : ReportOut → List (List ℕ) → List (List ℕ)
+abbrev pub field_texts : ReceiptOut → List (List ℕ) → List (List ℕ)
 field_texts out more =
     codes "Reporting-UA: as2-station"
     ∷ (codes "Final-Recipient: rfc822; " ++ name_spelling out.from)
@@ -32,7 +32,7 @@ field_texts out more =
 abbrev pub type_line : List ℕ
 type_line = codes "Content-Type: message/disposition-notification"
 
-abbrev first_texts : ReportOut → List (List ℕ)
+abbrev first_texts : ReceiptOut → List (List ℕ)
 first_texts out =
     codes "Content-Type: text/plain"
     ∷ []
@@ -41,11 +41,11 @@ first_texts out =
     ∷ []
     ∷ []
 
-abbrev notification_texts : ReportOut → List (List ℕ) → List (List ℕ)
+abbrev notification_texts : ReceiptOut → List (List ℕ) → List (List ℕ)
 notification_texts out more = type_line ∷ [] ∷ field_texts out more
 
 -- with the line end that belongs to the closing line
-abbrev second_texts : ReportOut → List (List ℕ) → List (List ℕ)
+abbrev second_texts : ReceiptOut → List (List ℕ) → List (List ℕ)
 second_texts out more = notification_texts out more ++ [] ∷ []
 
 abbrev mark : ℕ → List ℕ
@@ -54,7 +54,7 @@ mark n = codes "--" ++ boundary_text n
 abbrev closing : ℕ → List ℕ
 closing n = codes "--" ++ boundary_text n ++ codes "--"
 
-abbrev texts_with : ReportOut → List (List ℕ) → List (List ℕ)
+abbrev texts_with : ReceiptOut → List (List ℕ) → List (List ℕ)
 texts_with out more = mark out.number ∷ (first_texts out ++ mark out.number ∷ (second_texts out more ++ closing out.number ∷ []))
 
 -- ---- the report is these lines
@@ -62,15 +62,15 @@ texts_with out more = mark out.number ∷ (first_texts out ++ mark out.number �
 abbrev line_joint : List ℕ → Joint → Joint
 line_joint start value = both (both (leaf start) value) (leaf (codes "\r\n"))
 
-abbrev boundary_joint : ReportOut → Joint
+abbrev boundary_joint : ReceiptOut → Joint
 boundary_joint out = both (leaf (codes "as2-mdn-")) (leaf (decimal out.number))
 
-abbrev explanation_joint : ReportOut → Joint
+abbrev explanation_joint : ReceiptOut → Joint
 explanation_joint out =
     both (both (both (both (both (leaf (codes "Content-Type: text/plain\r\n")) (leaf (codes "\r\n"))) (leaf (codes "Receipt "))) (leaf (decimal out.number))) (leaf (codes " for the message named below.\r\n")))
     (line_joint (codes "Outcome: ") (leaf (outcome_text out.outcome)))
 
-abbrev notification_joint : ReportOut → Joint → Joint
+abbrev notification_joint : ReceiptOut → Joint → Joint
 notification_joint out more =
     both (both (both (both (both (both (leaf (codes "Content-Type: message/disposition-notification\r\n")) (leaf (codes "\r\n")))
     (line_joint (codes "Reporting-UA: ") (leaf (codes "as2-station"))))
@@ -79,12 +79,12 @@ notification_joint out more =
     (line_joint (codes "Disposition: automatic-action/MDN-sent-automatically; ") (leaf (outcome_text out.outcome))))
     more
 
-abbrev report_joint : ReportOut → Joint → Joint
+abbrev report_joint : ReceiptOut → Joint → Joint
 report_joint out more =
     both (both (both (both (both (both (line_joint (codes "--") (boundary_joint out)) (explanation_joint out)) (line_joint (codes "\r\n--") (boundary_joint out)))
     (notification_joint out more)) (leaf (codes "\r\n--"))) (boundary_joint out)) (leaf (codes "--\r\n"))
 
-abbrev mic_joint : ReportMic → Joint
+abbrev mic_joint : ReceiptMic → Joint
 mic_joint mic = line_joint (codes "Received-content-MIC: ") (both (both (leaf mic.text) (leaf (codes ", "))) (leaf (alg_name mic.digest)))
 
 -- the lines, put together
@@ -92,7 +92,7 @@ abbrev of_lines : List Joint → Joint
 of_lines [] = leaf []
 of_lines (text ∷ texts) = both text (both (leaf (13 ∷ 10 ∷ [])) (of_lines texts))
 
-abbrev lines_joint : ReportOut → List Joint → Joint
+abbrev lines_joint : ReceiptOut → List Joint → Joint
 lines_joint out more =
     of_lines (both (leaf (codes "--")) (boundary_joint out)
     ∷ leaf (codes "Content-Type: text/plain")
@@ -109,23 +109,23 @@ lines_joint out more =
     ∷ both (leaf (codes "Disposition: automatic-action/MDN-sent-automatically; ")) (leaf (outcome_text out.outcome))
     ∷ (more ++ leaf [] ∷ both (both (leaf (codes "--")) (boundary_joint out)) (leaf (codes "--")) ∷ []))
 
-abbrev mic_line_joint : ReportMic → Joint
+abbrev mic_line_joint : ReceiptMic → Joint
 mic_line_joint mic = both (leaf (codes "Received-content-MIC: ")) (both (both (leaf mic.text) (leaf (codes ", "))) (leaf (alg_name mic.digest)))
 
-abbrev report_with : ReportOut → List ℕ → List ℕ
+abbrev report_with : ReceiptOut → List ℕ → List ℕ
 report_with out more = bytes (report_joint out (leaf more))
 
-with_is : (out : ReportOut) (mic : Option ReportMic) → report_with out (mic_line mic) ≡ joined (texts_with out (mic_texts mic))
+with_is : (out : ReceiptOut) (mic : Option ReceiptMic) → report_with out (mic_line mic) ≡ joined (texts_with out (mic_texts mic))
 with_is out None = same_bytes (report_joint out (leaf [])) (lines_joint out []) refl
 with_is out (Some mic) = same_bytes (report_joint out (mic_joint mic)) (lines_joint out (mic_line_joint mic ∷ [])) refl
 
-text_is : (out : ReportOut) → receipt_text out ≡ joined (texts_with out (mic_texts out.mic))
+text_is : (out : ReceiptOut) → receipt_text out ≡ joined (texts_with out (mic_texts out.mic))
 text_is out = with_is out out.mic
 
 -- ---- its lines
 
 -- no value has an LF
-pub record Feedless (out : ReportOut) : Type 0 where
+pub record Feedless (out : ReceiptOut) : Type 0 where
   pub digits : HasNoFeed (decimal out.number)
   pub outcome : HasNoFeed (outcome_text out.outcome)
   pub from : HasNoFeed (name_spelling out.from)
@@ -136,21 +136,21 @@ have_append : (front back : List (List ℕ)) → HaveNoFeed front → HaveNoFeed
 have_append [] back f b = b
 have_append (text ∷ front) back f b = (f.0, have_append front back f.1 b)
 
-first_feedless : (out : ReportOut) → Feedless out → HaveNoFeed (first_texts out)
+first_feedless : (out : ReceiptOut) → Feedless out → HaveNoFeed (first_texts out)
 first_feedless out f =
     (refl, (refl, (no_feed_append (decimal out.number) (codes " for the message named below.") f.digits refl, (f.outcome, (refl, tt)))))
 
-pub notification_feedless : (out : ReportOut) → Feedless out → HaveNoFeed (notification_texts out (mic_texts out.mic))
+pub notification_feedless : (out : ReceiptOut) → Feedless out → HaveNoFeed (notification_texts out (mic_texts out.mic))
 notification_feedless out f = (refl, (refl, (refl, (f.from, (f.id, (f.outcome, f.mic))))))
 
-texts_feedless : (out : ReportOut) → Feedless out → HaveNoFeed (texts_with out (mic_texts out.mic))
+texts_feedless : (out : ReceiptOut) → Feedless out → HaveNoFeed (texts_with out (mic_texts out.mic))
 texts_feedless out f =
     let end : HaveNoFeed (closing out.number ∷ []) = (no_feed_append (decimal out.number) (codes "--") f.digits refl, tt) in
     let second : HaveNoFeed (second_texts out (mic_texts out.mic)) = have_append (notification_texts out (mic_texts out.mic)) ([] ∷ []) (notification_feedless out f) (refl, tt) in
     let rest : HaveNoFeed (mark out.number ∷ (second_texts out (mic_texts out.mic) ++ closing out.number ∷ [])) = (f.digits, have_append (second_texts out (mic_texts out.mic)) (closing out.number ∷ []) second end) in
     (f.digits, have_append (first_texts out) (mark out.number ∷ (second_texts out (mic_texts out.mic) ++ closing out.number ∷ [])) (first_feedless out f) rest)
 
-lines_are : (out : ReportOut) → Feedless out → lines (receipt_text out)
+lines_are : (out : ReceiptOut) → Feedless out → lines (receipt_text out)
     ≡ [] ++ crlf (mark out.number) ∷ (map crlf (first_texts out) ++ crlf (mark out.number) ∷ (map crlf (second_texts out (mic_texts out.mic)) ++ crlf (closing out.number) ∷ []))
 lines_are out f =
     ap lines (text_is out)
@@ -160,7 +160,7 @@ lines_are out f =
 -- ---- its parts
 
 -- the head and the content of the second part
-abbrev pub notification_part : ReportOut → PartText
+abbrev pub notification_part : ReceiptOut → PartText
 notification_part out = (crlf type_line, joined (field_texts out (mic_texts out.mic)))
 
 opens : (n : ℕ) → IsDelimiter (boundary_text n) (crlf (mark n))
@@ -169,11 +169,11 @@ opens n = ([], refl, line_end_off (mark n) ∙ sym (append-nil (mark n)))
 closes : (n : ℕ) → IsClosing (boundary_text n) (crlf (closing n))
 closes n = ([], refl, line_end_off (closing n))
 
-no_hyphens : (out : ReportOut) (mic : Option ReportMic) → list_all (λ text. not (begins_with_hyphen text)) (second_texts out (mic_texts mic)) ≡ true
+no_hyphens : (out : ReceiptOut) (mic : Option ReceiptMic) → list_all (λ text. not (begins_with_hyphen text)) (second_texts out (mic_texts mic)) ≡ true
 no_hyphens out None = refl
 no_hyphens out (Some mic) = refl
 
-part_is : (out : ReportOut) → Feedless out → notification_part out ≡ part_of (map crlf (second_texts out (mic_texts out.mic)))
+part_is : (out : ReceiptOut) → Feedless out → notification_part out ≡ part_of (map crlf (second_texts out (mic_texts out.mic)))
 part_is out f =
     let texts = notification_texts out (mic_texts out.mic) in
     let section : without_line_end (concat (map crlf (texts ++ [] ∷ []))) ≡ joined texts
@@ -182,7 +182,7 @@ part_is out f =
     ∙ ap cut_at_empty_line (lines_of_joined texts (notification_feedless out f))
     ∙ (λ i. (crlf type_line, concat_crlf (field_texts out (mic_texts out.mic)) i)))
 
-pub two_parts : (out : ReportOut) → Feedless out → IsTwoParts (boundary_text out.number) (receipt_text out) (part_of (map crlf (first_texts out))) (notification_part out)
+pub two_parts : (out : ReceiptOut) → Feedless out → IsTwoParts (boundary_text out.number) (receipt_text out) (part_of (map crlf (first_texts out))) (notification_part out)
 two_parts out f = record {
   preamble = [];
   opening = crlf (mark out.number);

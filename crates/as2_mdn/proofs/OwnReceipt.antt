@@ -13,8 +13,8 @@ use Rattle.as2_mdn.specs.Reports.{content_type_text, receipt_text}
 use Rattle.as2_mdn.specs.ReportReading.{IsReport}
 use Rattle.as2_mdn.specs.declared.outcome.Outcome.{Outcome}
 use Rattle.as2_mdn.specs.declared.outcome.Outcome.TheVariants.{DecryptionFailed, DecompressionFailed, AuthenticationFailed, UnsupportedFormat, UnsupportedMicAlgorithms, Processed}
-use Rattle.as2_mdn.specs.declared.report.ReportMic.{ReportMic}
-use Rattle.as2_mdn.specs.declared.report.ReportOut.{ReportOut}
+use Rattle.as2_mdn.specs.declared.report.ReceiptMic.{ReceiptMic}
+use Rattle.as2_mdn.specs.declared.report.ReceiptOut.{ReceiptOut}
 use Rattle.as2_mdn.proofs.OwnFields.{notification_content, notification_head}
 use Rattle.as2_mdn.proofs.OwnParts.{Feedless, two_parts, notification_part, mic_texts}
 use Rattle.as2_mdn.proofs.OwnType.{spelled_media, typed_as, boundary_is, kind_is}
@@ -40,12 +40,12 @@ name_no_feed Md5 = refl
 name_no_feed Sha1 = refl
 name_no_feed Sha256 = refl
 
-mic_no_feed : (mic : Option ReportMic) → HasMicBytes mic → HaveNoFeed (mic_texts mic)
+mic_no_feed : (mic : Option ReceiptMic) → HasMicBytes mic → HaveNoFeed (mic_texts mic)
 mic_no_feed None h = tt
 mic_no_feed (Some mic) h =
     (no_feed_append (mic.text ++ 44 ∷ 32 ∷ []) (alg_name mic.digest) (no_feed_append mic.text (44 ∷ 32 ∷ []) (no_feed_of is_mic_byte mic.text refl h) refl) (name_no_feed mic.digest), tt)
 
-feedless : (out : ReportOut) → IsOut out → HasMicBytes out.mic → Feedless out
+feedless : (out : ReceiptOut) → IsOut out → HasMicBytes out.mic → Feedless out
 feedless out x b = record {
   digits = decimal_no_feed out.number x.number;
   outcome = outcome_no_feed out.outcome;
@@ -56,7 +56,7 @@ feedless out x b = record {
 
 -- ---- the report
 
-own : (out : ReportOut) → IsOut out → HasMicBytes out.mic → IsReport (spelled_media out.number) (receipt_text out) (receipt_of out)
+own : (out : ReceiptOut) → IsOut out → HasMicBytes out.mic → IsReport (spelled_media out.number) (receipt_text out) (receipt_of out)
 own out x b =
     let f = feedless out x b in
     record {
@@ -71,7 +71,7 @@ own out x b =
     }
 
 -- the media type that is spelled is that one
-media_is : (out : ReportOut) (media : Media) → IsOut out → IsMediaType (content_type_text out.number) media → spelled_media out.number ≡ media
+media_is : (out : ReceiptOut) (media : Media) → IsOut out → IsMediaType (content_type_text out.number) media → spelled_media out.number ≡ media
 media_is out media x m =
     let same : Ok (spelled_media out.number) ≡ Ok media = sym (media_types.again (content_type_text out.number) (spelled_media out.number) (typed_as out.number x.number)) ∙ media_types.again (content_type_text out.number) media m in
     cc same
@@ -79,7 +79,7 @@ media_is out media x m =
 pub read : ReportsAreRead
 read out x b media m = subst (λ (t : Media). IsReport t (receipt_text out) (receipt_of out)) (media_is out media x m) (own out x b)
 
-pub its_report : (out : ReportOut) (text : List ℕ) → text ≡ receipt_text out → IsOut out → IsItsReport out text
+pub its_report : (out : ReceiptOut) (text : List ℕ) → text ≡ receipt_text out → IsOut out → IsItsReport out text
 its_report out text same x = subst (IsItsReport out) (sym same) (read out x)
 
 pub of_one : ReportsAreOfOne

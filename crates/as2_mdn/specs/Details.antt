@@ -1,12 +1,12 @@
 -- The details of a document that was sent: the state of each, and its name.
 use Rattle.std.specs.Prelude.{ℕ, List, codes}
-use Rattle.as2_mdn.specs.declared.detail.State.{State}
-use Rattle.as2_mdn.specs.declared.detail.State.TheVariants.{P, R, S, W, E}
+use Rattle.as2_mdn.specs.declared.detail.DetailClass.{DetailClass}
+use Rattle.as2_mdn.specs.declared.detail.DetailClass.TheVariants.{P, R, S, W, E}
 use Rattle.as2_mdn.specs.declared.detail.Detail.{Detail}
 use Rattle.as2_mdn.specs.declared.detail.Detail.TheVariants.{New, Sending, Awaiting, Retry, Processed, NoReceiptAsked, Warning, NoMic, UnknownMic, NotProcessed, ErrorModifier, MicDiffers, TriesUsed, Overdue}
 
 -- pending P, retry R, success S, warning W or error E
-abbrev pub class_of : Detail → State
+abbrev pub class_of : Detail → DetailClass
 class_of New = P
 class_of Sending = R
 class_of Awaiting = P

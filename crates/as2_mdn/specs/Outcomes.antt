@@ -10,7 +10,7 @@ use Rattle.as2_mic.specs.Mic.{mic}
 use Rattle.as2_text.specs.ReceiptRequests.{Request}
 use Rattle.as2_mdn.specs.declared.outcome.Outcome.{Outcome}
 use Rattle.as2_mdn.specs.declared.outcome.Outcome.TheVariants.{DecryptionFailed, DecompressionFailed, AuthenticationFailed, UnsupportedFormat, UnsupportedMicAlgorithms, Processed}
-use Rattle.as2_mdn.specs.declared.report.ReportMic.{ReportMic}
+use Rattle.as2_mdn.specs.declared.report.ReceiptMic.{ReceiptMic}
 
 -- the disposition type, and the modifier where there is one (RFC 8098, section 3.2.6)
 abbrev pub outcome_text : Outcome → List ℕ
@@ -49,10 +49,10 @@ or_sha1 (Some digest) = digest
 or_sha1 None = Sha1
 
 -- the MIC of a content under that digest
-abbrev pub mic_under : Alg → List ℕ → ReportMic
+abbrev pub mic_under : Alg → List ℕ → ReceiptMic
 mic_under digest content = record { digest = digest; text = mic digest content }
 
 -- a processed document has a MIC, under the first digest that is listed and known
-abbrev pub report_mic : Digests → Outcome → Request → List ℕ → Option ReportMic
+abbrev pub report_mic : Digests → Outcome → Request → List ℕ → Option ReceiptMic
 report_mic known Processed request content = Some (mic_under (or_sha1 (first_known_of known request.digests)) content)
 report_mic known outcome request content = None

@@ -4,13 +4,13 @@ use Rattle.std.specs.Prelude.{ℕ, List, [], ◌++◌, length, Option, Some, Non
 use Rattle.as2_names.specs.Names.{name_spelling}
 use Rattle.as2_mic.specs.Algs.{alg_name}
 use Rattle.as2_mdn.specs.Outcomes.{outcome_text}
-use Rattle.as2_mdn.specs.declared.report.ReportOut.{ReportOut}
-use Rattle.as2_mdn.specs.declared.report.ReportMic.{ReportMic}
+use Rattle.as2_mdn.specs.declared.report.ReceiptOut.{ReceiptOut}
+use Rattle.as2_mdn.specs.declared.report.ReceiptMic.{ReceiptMic}
 use Rattle.as2_mdn.specs.declared.outcome.Outcome.{Outcome}
 
 -- a line: its start, its value and CRLF
-abbrev pub report_line : List ℕ → List ℕ → List ℕ
-report_line start value = start ++ value ++ codes "\r\n"
+abbrev pub crlf_line : List ℕ → List ℕ → List ℕ
+crlf_line start value = start ++ value ++ codes "\r\n"
 
 -- ---- what is made of the number
 
@@ -24,8 +24,8 @@ content_type_text number =
     codes "multipart/report; report-type=disposition-notification; boundary=\"" ++ boundary_text number ++ codes "\""
 
 -- the report's own message identifier
-abbrev pub report_id_text : ℕ → List ℕ → List ℕ
-report_id_text number domain = codes "<mdn-" ++ decimal number ++ codes "@" ++ domain ++ codes ">"
+abbrev pub receipt_id_text : ℕ → List ℕ → List ℕ
+receipt_id_text number domain = codes "<mdn-" ++ decimal number ++ codes "@" ++ domain ++ codes ">"
 
 -- ---- the parts
 
@@ -35,54 +35,54 @@ explanation_text number outcome =
     codes "Content-Type: text/plain\r\n"
     ++ codes "\r\n"
     ++ codes "Receipt " ++ decimal number ++ codes " for the message named below.\r\n"
-    ++ report_line (codes "Outcome: ") (outcome_text outcome)
+    ++ crlf_line (codes "Outcome: ") (outcome_text outcome)
 
 -- a MIC and the name of its digest
-abbrev pub mic_with_digest : ReportMic → List ℕ
+abbrev pub mic_with_digest : ReceiptMic → List ℕ
 mic_with_digest mic = mic.text ++ codes ", " ++ alg_name mic.digest
 
 -- the line of the MIC, where there is one (RFC 4130, section 7.4.3)
-abbrev pub mic_line : Option ReportMic → List ℕ
+abbrev pub mic_line : Option ReceiptMic → List ℕ
 mic_line None = []
-mic_line (Some mic) = report_line (codes "Received-content-MIC: ") (mic_with_digest mic)
+mic_line (Some mic) = crlf_line (codes "Received-content-MIC: ") (mic_with_digest mic)
 
 -- the second part, which programs read (RFC 8098, section 3.2)
-abbrev pub notification_text : ReportOut → List ℕ
+abbrev pub notification_text : ReceiptOut → List ℕ
 notification_text out =
     codes "Content-Type: message/disposition-notification\r\n"
     ++ codes "\r\n"
-    ++ report_line (codes "Reporting-UA: ") (codes "as2-station")
-    ++ report_line (codes "Final-Recipient: rfc822; ") (name_spelling out.from)
-    ++ report_line (codes "Original-Message-ID: ") out.original_id
-    ++ report_line (codes "Disposition: automatic-action/MDN-sent-automatically; ") (outcome_text out.outcome)
+    ++ crlf_line (codes "Reporting-UA: ") (codes "as2-station")
+    ++ crlf_line (codes "Final-Recipient: rfc822; ") (name_spelling out.from)
+    ++ crlf_line (codes "Original-Message-ID: ") out.original_id
+    ++ crlf_line (codes "Disposition: automatic-action/MDN-sent-automatically; ") (outcome_text out.outcome)
     ++ mic_line out.mic
 
 -- ---- the report
 
 -- The body. The line end before a delimiter belongs to the delimiter, and not to the part.
-abbrev pub receipt_text : ReportOut → List ℕ
+abbrev pub receipt_text : ReceiptOut → List ℕ
 receipt_text out =
-    report_line (codes "--") (boundary_text out.number)
+    crlf_line (codes "--") (boundary_text out.number)
     ++ explanation_text out.number out.outcome
-    ++ report_line (codes "\r\n--") (boundary_text out.number)
+    ++ crlf_line (codes "\r\n--") (boundary_text out.number)
     ++ notification_text out
     ++ codes "\r\n--" ++ boundary_text out.number ++ codes "--\r\n"
 
 -- the head fields of AS2 (RFC 4130, sections 6.1 and 6.2)
-abbrev pub as2_fields_text : ReportOut → List ℕ
+abbrev pub as2_fields_text : ReceiptOut → List ℕ
 as2_fields_text out =
     codes "AS2-Version: 1.0\r\n"
-    ++ report_line (codes "AS2-From: ") (name_spelling out.from)
-    ++ report_line (codes "AS2-To: ") (name_spelling out.to)
+    ++ crlf_line (codes "AS2-From: ") (name_spelling out.from)
+    ++ crlf_line (codes "AS2-To: ") (name_spelling out.to)
 
 -- the head fields of a body of n bytes (RFC 4130, section 7.3)
-abbrev pub head_fields_of : ReportOut → ℕ → List ℕ
+abbrev pub head_fields_of : ReceiptOut → ℕ → List ℕ
 head_fields_of out n =
     as2_fields_text out
-    ++ report_line (codes "Message-ID: ") (report_id_text out.number out.domain)
-    ++ report_line (codes "Content-Type: ") (content_type_text out.number)
-    ++ report_line (codes "Content-Length: ") (decimal n)
+    ++ crlf_line (codes "Message-ID: ") (receipt_id_text out.number out.domain)
+    ++ crlf_line (codes "Content-Type: ") (content_type_text out.number)
+    ++ crlf_line (codes "Content-Length: ") (decimal n)
 
 -- the head fields of the report
-abbrev pub head_fields : ReportOut → List ℕ
+abbrev pub head_fields : ReceiptOut → List ℕ
 head_fields out = head_fields_of out (length (receipt_text out))

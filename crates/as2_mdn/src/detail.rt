@@ -1,9 +1,9 @@
 ghost use Rattle.std.specs.Prelude.{◌≡◌};
 ghost use Rattle.as2_mdn.specs.Details.{class_of, name_of};
 
-/// The state of a document that was sent, as listings group the details.
+/// The class of a detail, as listings group documents that were sent: the letter that they print.
 #[derive(Clone, Copy, Debug, PartialEq, Eq)]
-pub enum State {
+pub enum DetailClass {
     /// Pending: not sent yet, or its receipt is awaited.
     P,
     /// Retry: a try is open, or another is due.
@@ -50,22 +50,22 @@ pub enum Detail {
 }
 
 impl Detail {
-    /// The state that the detail belongs to.
-    pub fn state(self) -> State
+    /// The class that the detail belongs to.
+    pub fn class(self) -> DetailClass
         ensures { result ≡ class_of self }
     {
         match self {
-            Detail::New | Detail::Awaiting => State::P,
-            Detail::Sending | Detail::Retry => State::R,
-            Detail::Processed => State::S,
+            Detail::New | Detail::Awaiting => DetailClass::P,
+            Detail::Sending | Detail::Retry => DetailClass::R,
+            Detail::Processed => DetailClass::S,
             Detail::NoReceiptAsked | Detail::Warning | Detail::NoMic | Detail::UnknownMic => {
-                State::W
+                DetailClass::W
             }
             Detail::NotProcessed
             | Detail::ErrorModifier
             | Detail::MicDiffers
             | Detail::TriesUsed
-            | Detail::Overdue => State::E,
+            | Detail::Overdue => DetailClass::E,
         }
     }
 

@@ -11,11 +11,11 @@ mod report;
 mod report_reader;
 mod verdicts;
 
-pub use detail::{Detail, State};
+pub use detail::{Detail, DetailClass};
 pub use disposition::{Disposition, DispositionFault};
 pub use laws::{own_receipt, success_confirms};
 pub use outcome::{Outcome, outcome_of};
 pub use receipt::{MicPart, Receipt};
-pub use report::{ReportMic, ReportOut, add_line, write_head_fields, write_report};
+pub use report::{ReceiptMic, ReceiptOut, add_line, write_head_fields, write_receipt};
 pub use report_reader::{ReportFault, is_plain_encoding, read_report};
 pub use verdicts::{verdict, verdict_pieces};

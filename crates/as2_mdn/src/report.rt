@@ -4,7 +4,7 @@ ghost use Rattle.as2_names.specs.Identifiers.{IsIdentifier};
 ghost use Rattle.as2_names.specs.Names.{IsName, name_spelling};
 ghost use Rattle.as2_mic.specs.Mic.{IsMicText};
 ghost use Rattle.as2_mdn.specs.Laws.{HasMicText, IsItsReport, IsOut};
-ghost use Rattle.as2_mdn.specs.Reports.{as2_fields_text, boundary_text, content_type_text, explanation_text, head_fields_of, report_line, mic_line, mic_with_digest, notification_text, report_id_text, receipt_text};
+ghost use Rattle.as2_mdn.specs.Reports.{as2_fields_text, boundary_text, content_type_text, explanation_text, head_fields_of, crlf_line, mic_line, mic_with_digest, notification_text, receipt_id_text, receipt_text};
 
 use crate::outcome::Outcome;
 use as2_mic::{Alg, MicText};
@@ -14,7 +14,7 @@ use std::alloc::{AllocError, Global};
 
 /// A message integrity check, and the digest that it was made with.
 #[derive(Clone, Copy)]
-pub struct ReportMic {
+pub struct ReceiptMic {
     /// The digest, whose name stands behind the text.
     pub digest: Alg,
     /// The base64 text of the digest's value (RFC 4130, section 7.3.1).
@@ -23,7 +23,7 @@ pub struct ReportMic {
 
 /// What a report tells of the document that it answers (RFC 8098, section 3.2).
 #[derive(Drop)]
-pub struct ReportOut {
+pub struct ReceiptOut {
     /// The number of the receipt.
     pub number: u64,
     /// The domain of the report's own message identifier.
@@ -37,12 +37,12 @@ pub struct ReportOut {
     /// What became of the document.
     pub outcome: Outcome,
     /// The MIC of the document's content; there is one where the document was processed.
-    pub mic: Option<ReportMic>,
+    pub mic: Option<ReceiptMic>,
 }
 
 /// Appends a line: its start, its value and CRLF. Where memory runs out, a part of it may be appended.
 pub fn add_line(text: &mut Vec<u8>, start: &[u8], value: &[u8]) -> Result<(), AllocError>
-    ensures { OnOk result (text.new.items ≡ text.old.items ++ report_line start.now value.now) }
+    ensures { OnOk result (text.new.items ≡ text.old.items ++ crlf_line start.now value.now) }
 {
     text.extend_from_slice(start)?;
     text.extend_from_slice(value)?;
@@ -52,7 +52,7 @@ pub fn add_line(text: &mut Vec<u8>, start: &[u8], value: &[u8]) -> Result<(), Al
 
 /// Appends a line whose value is a name as it is spelled.
 fn add_name(text: &mut Vec<u8>, start: &[u8], name: &AsName) -> Result<(), AllocError>
-    ensures added { OnOk result (text.new.items ≡ text.old.items ++ report_line start.now (name_spelling name.now)) }
+    ensures added { OnOk result (text.new.items ≡ text.old.items ++ crlf_line start.now (name_spelling name.now)) }
     ensures name { IsName name.now }
 {
     add_line(text, start, name.spelling().as_str().as_bytes())
@@ -80,7 +80,7 @@ fn content_type(alloc: Global, number: u64) -> Result<Vec<u8>, AllocError>
 }
 
 fn report_id(alloc: Global, number: u64, domain: &Domain) -> Result<Vec<u8>, AllocError>
-    ensures { IfOk result (λ text. text.items ≡ report_id_text number domain.now) }
+    ensures { IfOk result (λ text. text.items ≡ receipt_id_text number domain.now) }
 {
     let mut text = Vec::from_slice(alloc, b"<mdn-")?;
     text.extend_from_slice(Buffer::new().format(number).as_bytes())?;
@@ -102,7 +102,7 @@ fn explanation(alloc: Global, number: u64, outcome: Outcome) -> Result<Vec<u8>, 
 }
 
 /// A MIC and the name of its digest.
-fn mic_value(alloc: Global, mic: ReportMic) -> Result<Vec<u8>, AllocError>
+fn mic_value(alloc: Global, mic: ReceiptMic) -> Result<Vec<u8>, AllocError>
     ensures text { IfOk result (λ text. text.items ≡ mic_with_digest mic) }
     ensures mic { IfOk result (λ text. IsMicText mic.text) }
 {
@@ -113,7 +113,7 @@ fn mic_value(alloc: Global, mic: ReportMic) -> Result<Vec<u8>, AllocError>
 }
 
 /// Appends the line of a MIC, where there is one.
-fn add_mic_line(alloc: Global, text: &mut Vec<u8>, mic: Option<ReportMic>) -> Result<(), AllocError>
+fn add_mic_line(alloc: Global, text: &mut Vec<u8>, mic: Option<ReceiptMic>) -> Result<(), AllocError>
     ensures added { OnOk result (text.new.items ≡ text.old.items ++ mic_line mic) }
     ensures mic { OnOk result (HasMicText mic) }
 {
@@ -125,14 +125,14 @@ fn add_mic_line(alloc: Global, text: &mut Vec<u8>, mic: Option<ReportMic>) -> Re
 
 /// Appends the line of the document's identifier, with its angle brackets where it was received with them.
 fn add_identifier(text: &mut Vec<u8>, id: &MessageId) -> Result<(), AllocError>
-    ensures added { OnOk result (text.new.items ≡ text.old.items ++ report_line (codes "Original-Message-ID: ") id.now) }
+    ensures added { OnOk result (text.new.items ≡ text.old.items ++ crlf_line (codes "Original-Message-ID: ") id.now) }
     ensures identifier { IsIdentifier id.now }
 {
     add_line(text, b"Original-Message-ID: ", id.as_received().as_bytes())
 }
 
 /// The part that programs read.
-fn notification(alloc: Global, out: &ReportOut) -> Result<Vec<u8>, AllocError>
+fn notification(alloc: Global, out: &ReceiptOut) -> Result<Vec<u8>, AllocError>
     ensures text { IfOk result (λ text. text.items ≡ notification_text out.now) }
     ensures from { IfOk result (λ text. IsName out.now.from) }
     ensures identifier { IfOk result (λ text. IsIdentifier out.now.original_id) }
@@ -153,7 +153,7 @@ fn notification(alloc: Global, out: &ReportOut) -> Result<Vec<u8>, AllocError>
     Ok(text)
 }
 
-fn report_body(alloc: Global, out: &ReportOut) -> Result<Vec<u8>, AllocError>
+fn report_body(alloc: Global, out: &ReceiptOut) -> Result<Vec<u8>, AllocError>
     ensures text { IfOk result (λ text. text.items ≡ receipt_text out.now) }
     ensures out { IfOk result (λ text. IsOut out.now) }
 {
@@ -170,7 +170,7 @@ fn report_body(alloc: Global, out: &ReportOut) -> Result<Vec<u8>, AllocError>
 }
 
 /// The body of a report (RFC 6522, section 3), all its lines with their CRLF.
-pub fn write_report(alloc: Global, out: &ReportOut) -> Result<Vec<u8>, Memory>
+pub fn write_receipt(alloc: Global, out: &ReceiptOut) -> Result<Vec<u8>, Memory>
     // The text.
     ensures text { IfOk result (λ text. text.items ≡ receipt_text out.now) }
     // It is read as a receipt with the document's identifier, the disposition of the outcome, and the MIC.
@@ -180,7 +180,7 @@ pub fn write_report(alloc: Global, out: &ReportOut) -> Result<Vec<u8>, Memory>
 }
 
 /// The head fields of AS2 (RFC 4130, section 6).
-fn as2_fields(alloc: Global, out: &ReportOut) -> Result<Vec<u8>, AllocError>
+fn as2_fields(alloc: Global, out: &ReceiptOut) -> Result<Vec<u8>, AllocError>
     ensures { IfOk result (λ text. text.items ≡ as2_fields_text out.now) }
 {
     let mut text = Vec::from_slice(alloc, b"AS2-Version: 1.0\r\n")?;
@@ -189,7 +189,7 @@ fn as2_fields(alloc: Global, out: &ReportOut) -> Result<Vec<u8>, AllocError>
     Ok(text)
 }
 
-fn head_fields(alloc: Global, out: &ReportOut, length: usize) -> Result<Vec<u8>, AllocError>
+fn head_fields(alloc: Global, out: &ReceiptOut, length: usize) -> Result<Vec<u8>, AllocError>
     ensures { IfOk result (λ text. text.items ≡ head_fields_of out.now length) }
 {
     let mut text = as2_fields(alloc, out)?;
@@ -216,7 +216,7 @@ fn head_fields(alloc: Global, out: &ReportOut, length: usize) -> Result<Vec<u8>,
 pub fn write_head_fields(
     alloc: Global,
     text: &mut Vec<u8>,
-    out: &ReportOut,
+    out: &ReceiptOut,
     length: usize,
 ) -> Result<(), Memory>
     ensures added { OnOk result (text.new.items ≡ text.old.items ++ head_fields_of out.now length) }

@@ -3,7 +3,7 @@ use Rattle.std.specs.Prelude.{◌≡◌, ℕ, Bool, List, [], ◌++◌, length, 
 use Rattle.http.specs.StatusCode.{reason_phrase}
 use Rattle.httpdate.specs.Date.{unix_secs, date_text}
 use Rattle.httpdate.specs.declared.date.HttpDate.{HttpDate as Date}
-use Rattle.as2_mdn.specs.Reports.{report_line, head_fields_of}
+use Rattle.as2_mdn.specs.Reports.{crlf_line, head_fields_of}
 use Rattle.as2_exchange.specs.Lines.{line_text}
 use Rattle.as2_exchange.specs.declared.answer.HttpAnswer.{HttpAnswer}
 use Rattle.as2_exchange.specs.declared.answer.HttpBody.{HttpBody}
@@ -30,7 +30,7 @@ content (Report out bytes) = bytes
 
 -- the head fields of a line of n bytes
 abbrev pub line_fields : ℕ → List ℕ
-line_fields n = report_line (codes "Content-Type: text/plain\r\nContent-Length: ") (decimal n)
+line_fields n = crlf_line (codes "Content-Type: text/plain\r\nContent-Length: ") (decimal n)
 
 -- the head fields that a body has
 abbrev pub body_fields : HttpBody → List ℕ
@@ -45,7 +45,7 @@ status_line status = codes "HTTP/1.1 " ++ decimal status ++ codes " " ++ phrase 
 abbrev pub reply_start : List ℕ → Bool → ℕ → List ℕ
 reply_start date closes status =
     status_line status
-    ++ report_line (codes "Date: ") date
+    ++ crlf_line (codes "Date: ") date
     ++ (if closes then codes "Connection: close\r\n" else [])
     ++ (if status == 405 then codes "Allow: POST\r\n" else [])
 

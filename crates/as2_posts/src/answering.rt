@@ -2,12 +2,12 @@
 ghost use Rattle.std.specs.Prelude.{◌≡◌, IfOk};
 ghost use Rattle.as2_exchange.specs.declared.answer.Answer.TheVariants.{Http};
 ghost use Rattle.as2_exchange.specs.declared.answer.HttpBody.TheVariants.{Nothing};
-ghost use Rattle.as2_exchange.specs.Recording.{answer_to, report};
+ghost use Rattle.as2_exchange.specs.Recording.{answer_to, receipt_out};
 ghost use Rattle.as2_posts.specs.Answers.{receipt_answer, untold};
 
 use as2_agreement::Agreements;
 use as2_exchange::{Bytes, HttpAnswer, HttpBody, Line, Posted, ReceiptDelivery};
-use as2_mdn::{Outcome, ReportOut, write_report};
+use as2_mdn::{Outcome, ReceiptOut, write_receipt};
 use as2_text::Memory;
 use std::alloc::{AllocError, Global};
 
@@ -22,14 +22,14 @@ fn nothing(status: u16) -> HttpAnswer
 }
 
 /// The receipt of that number for a document.
-pub fn report(
+pub fn receipt_out(
     agreements: &Agreements,
     number: u64,
     posted: &Posted,
-) -> Result<ReportOut, AllocError>
-    ensures { IfOk result (λ out. out ≡ report agreements.now number posted.now) }
+) -> Result<ReceiptOut, AllocError>
+    ensures { IfOk result (λ out. out ≡ receipt_out agreements.now number posted.now) }
 {
-    Ok(ReportOut {
+    Ok(ReceiptOut {
         number,
         domain: agreements.domain().clone()?,
         from: posted.receiver.clone()?,
@@ -42,10 +42,10 @@ pub fn report(
 
 /// The answer that carries a receipt.
 #[tactic(auto, unfolding(as2_exchange::specs::Readings::receipt_bytes))]
-fn carrying(alloc: Global, out: ReportOut) -> Result<HttpAnswer, Memory>
+fn carrying(alloc: Global, out: ReceiptOut) -> Result<HttpAnswer, Memory>
     ensures { IfOk result (λ a. a ≡ receipt_answer out) }
 {
-    let bytes = Bytes::of(write_report(alloc, &out)?);
+    let bytes = Bytes::of(write_receipt(alloc, &out)?);
     Ok(HttpAnswer {
         status: 200,
         body: HttpBody::Report { out, bytes },
@@ -74,7 +74,7 @@ pub fn answer_to(
 {
     match posted.how {
         ReceiptDelivery::NoReceipt => Ok(untold(posted.outcome)),
-        ReceiptDelivery::Sync => carrying(alloc, report(agreements, number, posted)?),
+        ReceiptDelivery::Sync => carrying(alloc, receipt_out(agreements, number, posted)?),
         ReceiptDelivery::Async(_) => Ok(nothing(202)),
     }
 }

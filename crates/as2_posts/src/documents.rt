@@ -14,7 +14,7 @@ use crate::encodings::encoding_refused;
 use crate::fields::id_in;
 use crate::opening::Opened;
 use as2_exchange::{Address, Bytes, Line, Posted, ReceiptDelivery};
-use as2_mdn::{Outcome, ReportMic, outcome_of};
+use as2_mdn::{Outcome, ReceiptMic, outcome_of};
 use as2_mic::{Alg, Pieces, mic_of_pieces};
 use as2_text::{Head, How, Memory, MessageId, Once, ReceiptAsk};
 use std::alloc::Global;
@@ -43,7 +43,7 @@ fn how_of(alloc: Global, head: &Head, ask: &ReceiptAsk<'_>) -> Result<ReceiptDel
 
 /// The MIC of a content that has that outcome: under the first known digest of those that are asked for, or else under
 /// SHA-1. Only a processed document has one (RFC 4130, section 7.3.1).
-fn mic_for(outcome: Outcome, ask: &ReceiptAsk<'_>, content: &Pieces) -> Option<ReportMic>
+fn mic_for(outcome: Outcome, ask: &ReceiptAsk<'_>, content: &Pieces) -> Option<ReceiptMic>
     ensures { result ≡ report_mic AllDigests outcome (request_of ask.now) content.now }
 {
     if outcome != Outcome::Processed {
@@ -53,7 +53,7 @@ fn mic_for(outcome: Outcome, ask: &ReceiptAsk<'_>, content: &Pieces) -> Option<R
         Some(digest) => digest,
         None => Alg::Sha1,
     };
-    Some(ReportMic {
+    Some(ReceiptMic {
         digest,
         text: mic_of_pieces(digest, content),
     })

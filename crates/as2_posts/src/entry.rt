@@ -3,23 +3,23 @@ ghost use Rattle.std.specs.Prelude.{◌≡◌};
 ghost use Rattle.as2_exchange.specs.Recording.{first_entry};
 ghost use Rattle.as2_posts.specs.Answers.{is_requeued};
 
-use as2_exchange::{Attempt, InEntry, MdnState, Posted, ReceiptDelivery};
+use as2_exchange::{Attempt, InEntry, ReceiptStage, Posted, ReceiptDelivery};
 use as2_text::Moment;
 
 /// The entry of a document that is posted for the first time.
 pub fn first_entry(number: u64, moment: Moment, posted: Posted) -> InEntry
     ensures { result ≡ first_entry number moment posted }
 {
-    let (mdn, due) = match posted.how {
-        ReceiptDelivery::NoReceipt => (MdnState::Unasked, None),
-        ReceiptDelivery::Sync => (MdnState::Sent, None),
-        ReceiptDelivery::Async(_) => (MdnState::Pending, Some(moment.seconds())),
+    let (receipt_stage, due) = match posted.how {
+        ReceiptDelivery::NoReceipt => (ReceiptStage::Unasked, None),
+        ReceiptDelivery::Sync => (ReceiptStage::Sent, None),
+        ReceiptDelivery::Async(_) => (ReceiptStage::Pending, Some(moment.seconds())),
     };
     InEntry {
         number,
         posted,
         moment,
-        mdn,
+        receipt_stage,
         tries: 0,
         attempt: Attempt::Idle,
         due,
@@ -32,5 +32,5 @@ pub fn is_requeued(entry: &InEntry) -> bool
     ensures { result ≡ is_requeued entry.now }
 {
     matches!(entry.posted.how, ReceiptDelivery::Async(_))
-        && (entry.mdn == MdnState::Sent || matches!(entry.attempt, Attempt::Last | Attempt::Used))
+        && (entry.receipt_stage == ReceiptStage::Sent || matches!(entry.attempt, Attempt::Last | Attempt::Used))
 }

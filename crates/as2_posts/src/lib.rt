@@ -13,7 +13,7 @@ mod repeating;
 mod replies;
 mod sending;
 
-pub use answering::{answer_to, report};
+pub use answering::{answer_to, receipt_out};
 pub use documents::document;
 pub use entry::{first_entry, is_requeued};
 pub use opening::{Opened, open};

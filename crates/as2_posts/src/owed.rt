@@ -2,15 +2,15 @@
 ghost use Rattle.std.specs.Prelude.{◌≡◌, ◌⊎◌, IfOk, IfErr};
 ghost use Rattle.as2_text.specs.Addresses.{IsAuthority};
 ghost use Rattle.as2_exchange.specs.Readings.{receipt_job};
-ghost use Rattle.as2_exchange.specs.Recording.{report};
+ghost use Rattle.as2_exchange.specs.Recording.{receipt_out};
 ghost use Rattle.as2_exchange.specs.declared.fault.StoreFault.TheVariants as fault;
 ghost use Rattle.as2_posts.specs.Sending.{receipt_to};
 
-use crate::answering::report;
+use crate::answering::receipt_out;
 use crate::sending::{HEAD, add_opening, add_text};
 use as2_agreement::Agreements;
 use as2_exchange::{Bytes, Job, Posted, ReceiptDelivery, StoreFault};
-use as2_mdn::{write_head_fields, write_report};
+use as2_mdn::{write_head_fields, write_receipt};
 use as2_text::{Memory, Url};
 use std::alloc::Global;
 
@@ -22,10 +22,10 @@ fn job_to(
     number: u64,
     posted: &Posted,
 ) -> Result<Job, Memory>
-    ensures job { IfOk result (λ job. job ≡ receipt_to url.now (report agreements.now number posted.now)) }
+    ensures job { IfOk result (λ job. job ≡ receipt_to url.now (receipt_out agreements.now number posted.now)) }
 {
-    let out = report(agreements, number, posted)?;
-    let report = Bytes::of(write_report(alloc, &out)?);
+    let out = receipt_out(agreements, number, posted)?;
+    let report = Bytes::of(write_receipt(alloc, &out)?);
     let report = report.as_slice();
     let mut bytes = Vec::with_capacity(alloc, report.len().saturating_add(HEAD))?;
     add_opening(&mut bytes, url)?;
@@ -47,7 +47,7 @@ pub fn receipt_job(
     number: u64,
     posted: &Posted,
 ) -> Result<Job, StoreFault>
-    ensures job { IfOk result (λ job. job ≡ receipt_job posted.now.how (report agreements.now number posted.now)) }
+    ensures job { IfOk result (λ job. job ≡ receipt_job posted.now.how (receipt_out agreements.now number posted.now)) }
     ensures address { IfOk result (λ job. IsAuthority job.authority) }
     ensures fault { IfErr result (λ f. (f ≡ fault.Memory) ⊎ (f ≡ fault.Refused)) }
 {

@@ -4,7 +4,7 @@ ghost use Rattle.as2_exchange.specs.Posts.{how_eq, mic_eq, same_post, same_resul
 ghost use Rattle.as2_posts.specs.Answers.{has_kept_mic};
 
 use as2_exchange::{Posted, ReceiptDelivery};
-use as2_mdn::ReportMic;
+use as2_mdn::ReceiptMic;
 use as2_mic::mic_of_pieces;
 
 fn how_eq(one: &ReceiptDelivery, other: &ReceiptDelivery) -> bool
@@ -19,7 +19,7 @@ fn how_eq(one: &ReceiptDelivery, other: &ReceiptDelivery) -> bool
     }
 }
 
-fn mic_eq(one: &Option<ReportMic>, other: &Option<ReportMic>) -> bool
+fn mic_eq(one: &Option<ReceiptMic>, other: &Option<ReceiptMic>) -> bool
     ensures { result ≡ mic_eq one.now other.now }
 {
     match (one, other) {

@@ -1,6 +1,6 @@
 -- The five counts of what is outstanding.
 use Rattle.std.specs.Prelude.{Some, count_by}
-use Rattle.as2_mdn.specs.declared.detail.State.TheVariants.{R, E}
+use Rattle.as2_mdn.specs.declared.detail.DetailClass.TheVariants.{R, E}
 use Rattle.as2_exchange.specs.OwedReceipts.{is_pending}
 use Rattle.as2_exchange.specs.State.{State}
 use Rattle.as2_exchange.specs.Progress.{is_awaited, is_in, is_new}
@@ -13,5 +13,5 @@ counts_of s = record {
   in_retry = count_by (is_in (Some R)) s.outbox;
   awaited = count_by is_awaited s.outbox;
   in_error = count_by (is_in (Some E)) s.outbox;
-  to_send = count_by (λ e. is_pending e.mdn) s.inbox;
+  to_send = count_by (λ e. is_pending e.receipt_stage) s.inbox;
 }

@@ -1,6 +1,6 @@
 -- What records show of themselves, whatever they lie on.
 use Rattle.std.specs.Prelude.{◌≡◌, ℕ, ◌+◌, ◌-◌, ◌^◌, ◌≤◌, min, Bool, true, false, IsTrue, map}
-use Rattle.as2_exchange.specs.State.{AllDigests, State, digests_of}
+use Rattle.as2_exchange.specs.State.{AllDigests, State, state_digests}
 use Rattle.as2_exchange.specs.Invariants.{IsCounter, AreNumbers}
 use Rattle.as2_exchange.specs.declared.fault.StoreFault.{StoreFault}
 use Rattle.as2_exchange.specs.declared.fault.StoreFault.TheVariants.{Memory, Disk, Refused, Full, NotAStore, OtherVersion}
@@ -33,7 +33,7 @@ pub record Standing (M : Medium) : Type 1 where
   -- outside a call they stand for this state, unless a fault has shut them
   pub Rests : State → Type 0
   -- it is one of a version that knows each digest
-  pub knows : (s : State) → Rests s → digests_of s ≡ AllDigests
+  pub knows : (s : State) → Rests s → state_digests s ≡ AllDigests
   -- what an open after a stop at this moment may find
   pub may_leave : M.Remains → Type 0
   pub counted : IsTrue is_open → (s : State) → Rests s → IsCounted s

@@ -21,7 +21,7 @@ in_summary e = record {
   outcome = e.posted.outcome;
   how = e.posted.how;
   mic = e.posted.mic;
-  mdn = e.mdn;
+  receipt_stage = e.receipt_stage;
   tries = e.tries;
   attempt = e.attempt;
   due = e.due;
@@ -42,7 +42,7 @@ in_entry r content = record {
     mic = r.mic;
   };
   moment = r.moment;
-  mdn = r.mdn;
+  receipt_stage = r.receipt_stage;
   tries = r.tries;
   attempt = r.attempt;
   due = r.due;

@@ -1,6 +1,6 @@
 //! How far an entry has come.
 
-use as2_exchange::{Attempt, MdnState};
+use as2_exchange::{Attempt, ReceiptStage};
 use as2_mdn::Detail;
 
 /// How far a document has come.
@@ -18,9 +18,9 @@ pub struct Progress {
 
 /// How far the receipt for a posted document has come.
 #[derive(Clone, Copy, Debug, PartialEq, Eq)]
-pub struct MdnProgress {
+pub struct ReceiptProgress {
     /// How it stands.
-    pub mdn: MdnState,
+    pub receipt_stage: ReceiptStage,
     /// How often it was tried.
     pub tries: u64,
     /// Whether a try is open.

@@ -12,7 +12,7 @@ ghost use Rattle.as2_records.specs.Calls.{Lasts, Reads, Writes};
 ghost use Rattle.as2_records.specs.Expiring.{TicksAs, ticked_in};
 ghost use Rattle.as2_records.specs.Finding.{AreNext, IsPostedAs};
 ghost use Rattle.as2_records.specs.Listing.{listed_rows, settled_numbers};
-ghost use Rattle.as2_records.specs.Owing.{set_mdn_in};
+ghost use Rattle.as2_records.specs.Owing.{set_receipt_in};
 ghost use Rattle.as2_records.specs.Progressing.{set_out_in};
 ghost use Rattle.as2_records.specs.Requeuing.{requeued_in};
 ghost use Rattle.as2_records.specs.Resending.{resent_in};
@@ -22,10 +22,10 @@ ghost use Rattle.as2_records.specs.Standing.{Medium, Standing, may_come};
 use crate::counts::Counts;
 use crate::discrepancy::Discrepancy;
 use crate::numbers::NextNumbers;
-use crate::progress::{MdnProgress, Progress};
+use crate::progress::{ReceiptProgress, Progress};
 use crate::summaries::{InRow, OutRow};
 use as2_exchange::{Evidence, InEntry, OutEntry, StoreFault};
-use as2_mdn::{Detail, State};
+use as2_mdn::{Detail, DetailClass};
 use as2_text::{AsName, Moment};
 use std::alloc::Global;
 
@@ -70,14 +70,14 @@ pub trait Records {
 
     /// Sets the receipt of the entry of the inbox of this number, if there is one, to be sent from this moment on, with all
     /// tries left. Answers Memory, Disk or Refused, and then the state stays.
-    fn requeue_mdn(&mut self, number: u64, moment: Moment) -> Result<(), StoreFault>
+    fn requeue_receipt(&mut self, number: u64, moment: Moment) -> Result<(), StoreFault>
         ensures requeued { Writes (requeued_in number moment) (shows self.old) (shows self.new) result }
         ensures fault { IfErr result (λ f. may_come f ≡ true) };
 
     /// Sets how far the receipt of the entry of the inbox of this number, if there is one, has come. Answers Memory, Disk or
     /// Refused, and then the state stays.
-    fn set_mdn(&mut self, number: u64, progress: MdnProgress) -> Result<(), StoreFault>
-        ensures set { Writes (set_mdn_in number progress) (shows self.old) (shows self.new) result }
+    fn set_receipt(&mut self, number: u64, progress: ReceiptProgress) -> Result<(), StoreFault>
+        ensures set { Writes (set_receipt_in number progress) (shows self.old) (shows self.new) result }
         ensures fault { IfErr result (λ f. may_come f ≡ true) };
 
     /// Time passes: each document whose receipt is overdue at this moment passes into `Overdue`, and each whose last try is into
@@ -149,14 +149,14 @@ pub trait Records {
 
     /// The least number of the receipts of which a try may begin at this moment, if there is one. Answers Memory, Disk or
     /// Refused.
-    fn due_mdn(&mut self, moment: Moment) -> Result<Option<u64>, StoreFault>
+    fn due_receipt(&mut self, moment: Moment) -> Result<Option<u64>, StoreFault>
         ensures due { Reads (λ s number. number
             ≡ least (due_receipts s moment)) (shows self.old) (shows self.new) result }
         ensures fault { IfErr result (λ f. may_come f ≡ true) };
 
     /// The documents of that state, or all, in order of number, each with the length of its content in place of the content,
     /// and without its evidence. Answers Memory, Disk or Refused.
-    fn list_out(&mut self, alloc: Global, wanted: Option<State>) -> Result<Vec<OutRow>, StoreFault>
+    fn list_out(&mut self, alloc: Global, wanted: Option<DetailClass>) -> Result<Vec<OutRow>, StoreFault>
         ensures documents { Reads (λ s documents. documents.items
             ≡ listed_rows wanted s) (shows self.old) (shows self.new) result }
         ensures fault { IfErr result (λ f. may_come f ≡ true) };

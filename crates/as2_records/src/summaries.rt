@@ -4,9 +4,9 @@ ghost use Rattle.std.specs.Prelude.{◌≡◌};
 ghost use Rattle.as2_records.specs.Summaries.{in_entry, out_entry};
 
 use as2_exchange::{
-    Attempt, Bytes, Evidence, InEntry, MdnState, OutEntry, Posted, ReceiptDelivery,
+    Attempt, Bytes, Evidence, InEntry, ReceiptStage, OutEntry, Posted, ReceiptDelivery,
 };
-use as2_mdn::{Detail, Outcome, ReportMic};
+use as2_mdn::{Detail, Outcome, ReceiptMic};
 use as2_mic::Pieces;
 use as2_text::{AsName, MessageId, Moment};
 
@@ -32,9 +32,9 @@ pub struct InRow {
     /// How a receipt was asked for.
     pub how: ReceiptDelivery,
     /// The digest and the MIC of a processed document.
-    pub mic: Option<ReportMic>,
+    pub mic: Option<ReceiptMic>,
     /// How its receipt stands.
-    pub mdn: MdnState,
+    pub receipt_stage: ReceiptStage,
     /// How often a receipt that is sent later was tried.
     pub tries: u64,
     /// Whether such a try is open.
@@ -61,7 +61,7 @@ impl InRow {
                 mic: self.mic,
             },
             moment: self.moment,
-            mdn: self.mdn,
+            receipt_stage: self.receipt_stage,
             tries: self.tries,
             attempt: self.attempt,
             due: self.due,

@@ -2,7 +2,7 @@
 use Rattle.std.proofs.Common.{◌≡◌, ◌∙◌, ℕ, true, List, [], ◌∷◌, Option, Some, None, refl, sym, ap, subst}
 use Rattle.std.specs.Prelude.{IsSomeAnd}
 use Rattle.as2_mdn.specs.Details.{class_of}
-use Rattle.as2_mdn.specs.declared.detail.State.TheVariants.{S}
+use Rattle.as2_mdn.specs.declared.detail.DetailClass.TheVariants.{S}
 use Rattle.as2_exchange.specs.Agreement.{Agreements}
 use Rattle.as2_exchange.specs.Invariants.{IsCounter, IsEntry, IsWellFormed, is_by_receipt}
 use Rattle.as2_exchange.specs.Run.{Trace, Run}

@@ -8,7 +8,7 @@ use Rattle.sqlite.specs.State.{State as Connected, HasCleanDisk}
 use Rattle.as2_exchange.specs.Agreement.{Agreements, Text}
 use Rattle.as2_exchange.specs.Posts.{Reading, Refuses, IsReceipt, IsDocument, post_reading}
 use Rattle.as2_exchange.specs.Run.{EventResult, Answered, Failed, AnEvent, Trace, Run, MayFail}
-use Rattle.as2_exchange.specs.State.{State, Digests, AllDigests, digests_of, known_digests}
+use Rattle.as2_exchange.specs.State.{State, Digests, AllDigests, state_digests, known_digests}
 use Rattle.as2_exchange.specs.Step.{post, step}
 use Rattle.as2_exchange.specs.Documents.{submit}
 use Rattle.as2_exchange.specs.Lines.{refusal}
@@ -16,7 +16,7 @@ use Rattle.as2_exchange.specs.declared.answer.Answer.{Answer}
 use Rattle.as2_exchange.specs.declared.answer.Answer.TheVariants.{Http, Refused}
 use Rattle.as2_exchange.specs.declared.answer.Refusal.{Refusal}
 use Rattle.as2_exchange.specs.declared.event.Event.{Event}
-use Rattle.as2_exchange.specs.declared.event.Event.TheVariants.{Post, Submit, Begin, Outcome, Resend, BeginMdn, OutcomeMdn, Tick}
+use Rattle.as2_exchange.specs.declared.event.Event.TheVariants.{Post, Submit, Begin, Outcome, Resend, BeginReceipt, OutcomeReceipt, Tick}
 use Rattle.as2_exchange.specs.declared.fault.StoreFault.{StoreFault}
 use Rattle.as2_store.specs.Calls.{Keeps, TablesLast}
 use Rattle.as2_store.specs.Stands.{Rests}
@@ -49,14 +49,14 @@ not_handed_in : (A : Agreements) (s t : State) (organization partner content : T
 not_handed_in A s t organization partner content m a None refused none is = absurd (let two : true ≡ false = ap is_none (sym refused) ∙ none in cc)
 not_handed_in A s t organization partner content m a (Some reason) refused none is = left_of (Refused reason, s) (a, t) (sym (refuses A s organization partner content m reason refused) ∙ is)
 
-unasked : (A : Agreements) (s t : State) (e : Event) (a : Answer) → digests_of s ≡ AllDigests → asks_store A e ≡ false → step A s e ≡ Some (a, t) → t ≡ s
+unasked : (A : Agreements) (s t : State) (e : Event) (a : Answer) → state_digests s ≡ AllDigests → asks_store A e ≡ false → step A s e ≡ Some (a, t) → t ≡ s
 unasked A s t (Post head body m) a knows none is = unread_post A s t m a (post_reading A AllDigests head body) none (subst (λ (k : Digests). post A s m (post_reading A k head body) ≡ Some (a, t)) knows is)
 unasked A s t (Submit organization partner content m) a knows none is = not_handed_in A s t organization partner content m a (submit_refusal A organization partner content) refl none is
 unasked A s t (Begin n m) a knows none is = absurd cc
 unasked A s t (Outcome n got m) a knows none is = absurd cc
 unasked A s t (Resend n m) a knows none is = absurd cc
-unasked A s t (BeginMdn n m) a knows none is = absurd cc
-unasked A s t (OutcomeMdn n got m) a knows none is = absurd cc
+unasked A s t (BeginReceipt n m) a knows none is = absurd cc
+unasked A s t (OutcomeReceipt n got m) a knows none is = absurd cc
 unasked A s t (Tick m) a knows none is = absurd cc
 
 -- ---- one event

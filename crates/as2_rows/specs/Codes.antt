@@ -6,8 +6,8 @@ use Rattle.as2_mdn.specs.declared.detail.Detail.{Detail}
 use Rattle.as2_mdn.specs.declared.detail.Detail.TheVariants as detail
 use Rattle.as2_exchange.specs.declared.inbox.ReceiptDelivery.{ReceiptDelivery}
 use Rattle.as2_exchange.specs.declared.inbox.ReceiptDelivery.TheVariants as how
-use Rattle.as2_exchange.specs.declared.inbox.MdnState.{MdnState}
-use Rattle.as2_exchange.specs.declared.inbox.MdnState.TheVariants as mdn
+use Rattle.as2_exchange.specs.declared.inbox.ReceiptStage.{ReceiptStage}
+use Rattle.as2_exchange.specs.declared.inbox.ReceiptStage.TheVariants as receipt_stage
 use Rattle.as2_exchange.specs.declared.attempt.Attempt.{Attempt}
 use Rattle.as2_exchange.specs.declared.attempt.Attempt.TheVariants as attempt
 
@@ -27,10 +27,10 @@ how_code how.Sync = 2
 how_code (how.Async url) = 3
 
 -- how the receipt for a posted document stands
-abbrev pub mdn_code : MdnState → ℕ
-mdn_code mdn.Unasked = 1
-mdn_code mdn.Pending = 2
-mdn_code mdn.Sent = 3
+abbrev pub receipt_stage_code : ReceiptStage → ℕ
+receipt_stage_code receipt_stage.Unasked = 1
+receipt_stage_code receipt_stage.Pending = 2
+receipt_stage_code receipt_stage.Sent = 3
 
 -- whether a try is open
 abbrev pub attempt_code : Attempt → ℕ

@@ -1,12 +1,12 @@
 -- Entries as rows: as they are stored, with the row's number first and NULL in the column that repeats it; and as a query
 -- shows them, with all columns in order.
-use Rattle.std.specs.Prelude.{ℕ, [], ◌∷◌, Option, Some, None, pos, codes}
+use Rattle.std.specs.Prelude.{ℕ, [], ◌∷◌, Option, Some, None, pos}
 use Rattle.sqlite_value.specs.declared.value.Value.{Value}
 use Rattle.sqlite_value.specs.declared.value.Value.TheVariants.{Null, Int, Text, Blob}
 use Rattle.sqlite_value.specs.Order.{Row}
 use Rattle.as2_names.specs.Identifiers.{without_brackets}
 use Rattle.as2_mic.specs.Algs.{alg_name}
-use Rattle.as2_mdn.specs.declared.report.ReportMic.{ReportMic}
+use Rattle.as2_mdn.specs.declared.report.ReceiptMic.{ReceiptMic}
 use Rattle.as2_exchange.specs.declared.inbox.ReceiptDelivery.{ReceiptDelivery}
 use Rattle.as2_exchange.specs.declared.inbox.ReceiptDelivery.TheVariants.{NoReceipt, Sync, Async}
 use Rattle.as2_exchange.specs.declared.inbox.InEntry.{InEntry}
@@ -15,7 +15,7 @@ use Rattle.as2_exchange.specs.declared.outbox.Evidence.{Evidence}
 use Rattle.as2_records.specs.declared.summaries.InRow.{InRow}
 use Rattle.as2_records.specs.declared.summaries.OutRow.{OutRow}
 use Rattle.as2_records.specs.Summaries.{in_summary, out_summary}
-use Rattle.as2_rows.specs.Codes.{outcome_code, how_code, mdn_code, attempt_code, detail_code}
+use Rattle.as2_rows.specs.Codes.{outcome_code, how_code, receipt_stage_code, attempt_code, detail_code}
 
 -- ---- values
 
@@ -35,12 +35,12 @@ url_value Sync = Null
 url_value (Async url) = Blob url
 
 -- the digest of a MIC, by its name
-abbrev pub digest_value : Option ReportMic → Value
+abbrev pub digest_value : Option ReceiptMic → Value
 digest_value None = Null
 digest_value (Some mic) = Text (alg_name mic.digest)
 
 -- the text of a MIC
-abbrev pub mic_value : Option ReportMic → Value
+abbrev pub mic_value : Option ReceiptMic → Value
 mic_value None = Null
 mic_value (Some mic) = Blob mic.text
 
@@ -62,7 +62,7 @@ in_columns r =
     ∷ url_value r.how
     ∷ digest_value r.mic
     ∷ mic_value r.mic
-    ∷ whole (mdn_code r.mdn)
+    ∷ whole (receipt_stage_code r.receipt_stage)
     ∷ whole r.tries
     ∷ whole (attempt_code r.attempt)
     ∷ whole_or_null r.due
@@ -121,13 +121,3 @@ evidence_row number e = whole number ∷ Null ∷ evidence_columns e
 -- as a query shows it
 abbrev pub evidence_shown : ℕ → Evidence → Row
 evidence_shown number e = whole number ∷ evidence_columns e
-
--- ---- the counters
-
--- the columns: kind, version, the next numbers of a receipt and of a document
-abbrev pub meta_shown : ℕ → ℕ → Row
-meta_shown next_receipt next_document = Text (codes "as2-station") ∷ whole 1 ∷ whole next_receipt ∷ whole next_document ∷ []
-
--- as they are stored: the only row, whose number is 1
-abbrev pub meta_row : ℕ → ℕ → Row
-meta_row next_receipt next_document = whole 1 ∷ meta_shown next_receipt next_document

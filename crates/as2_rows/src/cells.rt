@@ -11,7 +11,7 @@ ghost use Rattle.as2_text.specs.Addresses.{url_of};
 ghost use Rattle.as2_mic.specs.Algs.{alg_name};
 ghost use Rattle.as2_mic.specs.Mic.{IsMicText};
 ghost use Rattle.as2_mic.specs.declared.alg.Alg.{Alg as Digest};
-ghost use Rattle.as2_mdn.specs.declared.report.ReportMic.{ReportMic as Mic};
+ghost use Rattle.as2_mdn.specs.declared.report.ReceiptMic.{ReceiptMic as Mic};
 ghost use Rattle.as2_exchange.specs.declared.inbox.ReceiptDelivery.{ReceiptDelivery as HowOf};
 ghost use Rattle.as2_rows.specs.Codes.{how_code};
 ghost use Rattle.as2_rows.specs.Texts.{IsAddressed};
@@ -20,7 +20,7 @@ ghost use Rattle.as2_rows.specs.declared.fault.RowFault.TheVariants as fault;
 
 use crate::RowFault;
 use as2_exchange::{Address, Bytes, ReceiptDelivery};
-use as2_mdn::ReportMic;
+use as2_mdn::ReceiptMic;
 use as2_mic::{Alg, MicText, Pieces};
 use as2_text::{AsName, IdFault, MessageId, Moment, Url, is_identifier, without_brackets};
 use sqlite::Row;
@@ -187,7 +187,7 @@ fn alg(name: &[u8]) -> Option<Alg>
 }
 
 /// The digest and the text of a MIC, where there is one.
-pub fn mic(digest: ValueRef<'_>, text: ValueRef<'_>) -> Result<Option<ReportMic>, RowFault>
+pub fn mic(digest: ValueRef<'_>, text: ValueRef<'_>) -> Result<Option<ReceiptMic>, RowFault>
     ensures digest { IfOk result (λ m. owned digest.entry ≡ digest_value m) }
     ensures text { IfOk result (λ m. owned text.entry ≡ mic_value m) }
     ensures read { IfOk result (λ m. (n : Option Mic) → owned digest.entry ≡ digest_value n
@@ -201,7 +201,7 @@ pub fn mic(digest: ValueRef<'_>, text: ValueRef<'_>) -> Result<Option<ReportMic>
         _ => return Err(RowFault::NotAnEntry),
     };
     match (alg(name), MicText::of(bytes)) {
-        (Some(digest), Some(text)) => Ok(Some(ReportMic { digest, text })),
+        (Some(digest), Some(text)) => Ok(Some(ReceiptMic { digest, text })),
         _ => Err(RowFault::NotAnEntry),
     }
 }

@@ -5,13 +5,13 @@ ghost use Rattle.sqlite_value.specs.Value.{owned};
 ghost use Rattle.as2_mdn.specs.declared.detail.Detail.{Detail as DetailOf};
 ghost use Rattle.as2_mdn.specs.declared.outcome.Outcome.{Outcome as OutcomeOf};
 ghost use Rattle.as2_exchange.specs.declared.attempt.Attempt.{Attempt as AttemptOf};
-ghost use Rattle.as2_exchange.specs.declared.inbox.MdnState.{MdnState as MdnStateOf};
-ghost use Rattle.as2_rows.specs.Codes.{outcome_code, how_code, mdn_code, attempt_code, detail_code};
+ghost use Rattle.as2_exchange.specs.declared.inbox.ReceiptStage.{ReceiptStage as ReceiptStage};
+ghost use Rattle.as2_rows.specs.Codes.{outcome_code, how_code, receipt_stage_code, attempt_code, detail_code};
 ghost use Rattle.as2_rows.specs.Rows.{whole};
 
 use crate::RowFault;
 use crate::cells::integer;
-use as2_exchange::{Attempt, MdnState, ReceiptDelivery};
+use as2_exchange::{Attempt, ReceiptStage, ReceiptDelivery};
 use as2_mdn::{Detail, Outcome};
 use sqlite::types::ValueRef;
 
@@ -57,25 +57,25 @@ pub fn outcome_of_code(code: i64) -> Option<Outcome>
 }
 
 /// The code of how a receipt stands: 1 to 3.
-pub fn mdn_code(mdn: MdnState) -> i64
-    ensures { result ≡ pos (mdn_code mdn) }
+pub fn receipt_stage_code(receipt_stage: ReceiptStage) -> i64
+    ensures { result ≡ pos (receipt_stage_code receipt_stage) }
 {
-    match mdn {
-        MdnState::Unasked => 1,
-        MdnState::Pending => 2,
-        MdnState::Sent => 3,
+    match receipt_stage {
+        ReceiptStage::Unasked => 1,
+        ReceiptStage::Pending => 2,
+        ReceiptStage::Sent => 3,
     }
 }
 
 /// What a code tells of how a receipt stands; None where it is no code.
-pub fn mdn_of_code(code: i64) -> Option<MdnState>
-    ensures found { IfSome result (λ x. code ≡ pos (mdn_code x)) }
-    ensures only { (x : MdnStateOf) → code ≡ pos (mdn_code x) → result ≡ Some x }
+pub fn receipt_stage_of_code(code: i64) -> Option<ReceiptStage>
+    ensures found { IfSome result (λ x. code ≡ pos (receipt_stage_code x)) }
+    ensures only { (x : ReceiptStage) → code ≡ pos (receipt_stage_code x) → result ≡ Some x }
 {
     match code {
-        1 => Some(MdnState::Unasked),
-        2 => Some(MdnState::Pending),
-        3 => Some(MdnState::Sent),
+        1 => Some(ReceiptStage::Unasked),
+        2 => Some(ReceiptStage::Pending),
+        3 => Some(ReceiptStage::Sent),
         _ => None,
     }
 }
@@ -161,11 +161,11 @@ pub fn outcome_in(value: ValueRef<'_>) -> Result<Outcome, RowFault>
 }
 
 /// How a receipt stands, of the value of its column.
-pub fn mdn_in(value: ValueRef<'_>) -> Result<MdnState, RowFault>
-    ensures read { IfOk result (λ x. owned value.entry ≡ whole (mdn_code x)) }
-    ensures taken { (x : MdnStateOf) → owned value.entry ≡ whole (mdn_code x) → result ≡ Ok x }
+pub fn receipt_stage_in(value: ValueRef<'_>) -> Result<ReceiptStage, RowFault>
+    ensures read { IfOk result (λ x. owned value.entry ≡ whole (receipt_stage_code x)) }
+    ensures taken { (x : ReceiptStage) → owned value.entry ≡ whole (receipt_stage_code x) → result ≡ Ok x }
 {
-    mdn_of_code(integer(value)?).ok_or(RowFault::NotAnEntry)
+    receipt_stage_of_code(integer(value)?).ok_or(RowFault::NotAnEntry)
 }
 
 /// Whether a try is open, of the value of its column.

@@ -7,7 +7,7 @@ ghost use Rattle.as2_rows.specs.declared.fault.RowFault.TheVariants as fault;
 
 use crate::RowFault;
 use crate::cells::{column, how, identifier_of, mic, moment, name, text, whole, whole_or_null};
-use crate::codes::{attempt_in, mdn_in, outcome_in};
+use crate::codes::{attempt_in, receipt_stage_in, outcome_in};
 use as2_records::InRow;
 use sqlite::Row;
 use std::alloc::Global;
@@ -35,7 +35,7 @@ pub fn read_in_row(alloc: Global, row: &Row) -> Result<InRow, RowFault>
         outcome: outcome_in(column(row, 8))?,
         how: how(alloc, column(row, 9), column(row, 10))?,
         mic: mic(column(row, 11), column(row, 12))?,
-        mdn: mdn_in(column(row, 13))?,
+        receipt_stage: receipt_stage_in(column(row, 13))?,
         tries: whole(column(row, 14))?,
         attempt: attempt_in(column(row, 15))?,
         due: whole_or_null(column(row, 16))?,

@@ -6,7 +6,7 @@ ghost use Rattle.sqlite.specs.Values.{or_null};
 ghost use Rattle.as2_rows.specs.Rows.{url_value, digest_value, mic_value};
 
 use as2_exchange::ReceiptDelivery;
-use as2_mdn::ReportMic;
+use as2_mdn::ReceiptMic;
 
 /// The address that a receipt is sent to, as it was spelled; None where it isn't sent by a request.
 pub fn url_of(how: &ReceiptDelivery) -> Option<&[u8]>
@@ -19,7 +19,7 @@ pub fn url_of(how: &ReceiptDelivery) -> Option<&[u8]>
 }
 
 /// The name of a MIC's digest; None where there is no MIC.
-pub fn digest_of(mic: &Option<ReportMic>) -> Option<&'static str>
+pub fn digest_of(mic: &Option<ReceiptMic>) -> Option<&'static str>
     ensures { or_null (λ name. Text name.now) result ≡ digest_value mic.now }
 {
     match mic {
@@ -29,7 +29,7 @@ pub fn digest_of(mic: &Option<ReportMic>) -> Option<&'static str>
 }
 
 /// The text of a MIC; None where there is no MIC.
-pub fn mic_of(mic: &Option<ReportMic>) -> Option<&[u8]>
+pub fn mic_of(mic: &Option<ReceiptMic>) -> Option<&[u8]>
     ensures { or_null (λ text. Blob text.now) result ≡ mic_value mic.now }
 {
     match mic {

@@ -9,7 +9,7 @@ pub enum Wait {
     /// A document is to be sent.
     ToSend,
     /// A receipt is to be sent.
-    ToAnswer,
+    ToSendReceipt,
     /// The receipt for a document is awaited.
     ToHear,
     /// The last try of a document is open.
@@ -24,7 +24,7 @@ impl Wait {
     {
         match self {
             Wait::ToSend => 1,
-            Wait::ToAnswer => 2,
+            Wait::ToSendReceipt => 2,
             Wait::ToHear => 3,
             Wait::ToEnd => 4,
         }

@@ -11,11 +11,6 @@ abbrev pub MemoryKeeps : Option (Held MemStore) → State → Type 0
 MemoryKeeps None s = ⊥
 MemoryKeeps (Some c) s = Rests (state over_memory c) s
 
--- how many stores were opened
-abbrev pub opens_by : Bool → ℕ
-opens_by true = 1
-opens_by false = 0
-
 -- how many bytes the files take by that word
 abbrev pub size_by : List ℕ → ℕ
 size_by word = if bytes_eq word (codes "large") then 1047476 else 0

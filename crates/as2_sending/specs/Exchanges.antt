@@ -4,7 +4,7 @@ use Rattle.as2_exchange.specs.Run.{Trace, TraceEntry, AnEvent, EventResult, Answ
 use Rattle.as2_exchange.specs.declared.answer.Answer.TheVariants.{Job as Handed}
 use Rattle.as2_exchange.specs.declared.answer.Job.{Job}
 use Rattle.as2_exchange.specs.declared.event.Event.{Event}
-use Rattle.as2_exchange.specs.declared.event.Event.TheVariants.{Outcome, OutcomeMdn}
+use Rattle.as2_exchange.specs.declared.event.Event.TheVariants.{Outcome, OutcomeReceipt}
 use Rattle.as2_exchange.specs.declared.event.TryAnswer.{TryAnswer}
 
 -- the job whose request went over a link, and what came back
@@ -15,7 +15,7 @@ pub record Exchange : Type 0 where
 -- the exchange that stands between a begin, by what was said to it, and the event behind it
 abbrev pub exchange_of : EventResult → Event → List Exchange
 exchange_of (Answered (Handed job)) (Outcome n got m) = record { job = job; got = got } ∷ []
-exchange_of (Answered (Handed job)) (OutcomeMdn n got m) = record { job = job; got = got } ∷ []
+exchange_of (Answered (Handed job)) (OutcomeReceipt n got m) = record { job = job; got = got } ∷ []
 exchange_of said e = []
 
 -- the same of two that stand so in a trace

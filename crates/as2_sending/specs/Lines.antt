@@ -3,7 +3,7 @@ use Rattle.std.specs.Prelude.{[], ◌∷◌, ◌++◌, codes, decimal, Option, S
 use Rattle.as2_mdn.specs.Details.{class_of, name_of}
 use Rattle.as2_exchange.specs.Agreement.{Text}
 use Rattle.as2_exchange.specs.declared.event.Event.{Event}
-use Rattle.as2_exchange.specs.declared.event.Event.TheVariants.{Outcome, OutcomeMdn}
+use Rattle.as2_exchange.specs.declared.event.Event.TheVariants.{Outcome, OutcomeReceipt}
 use Rattle.as2_exchange.specs.declared.answer.Answer.{Answer}
 use Rattle.as2_exchange.specs.declared.answer.Answer.TheVariants.{Settled, Delivered, TryFailed, AlreadySettled}
 use Rattle.as2_exchange.specs.Run.{Trace, AnEvent, AMigration, Answered, Failed}
@@ -44,7 +44,7 @@ line_if what (Some b) = turn_line what b
 -- the line of an event with its answer: an outcome has one that wasn't refused
 abbrev pub line_of : Event → Answer → Text
 line_of (Outcome n got m) a = line_if (Document n) (became_by a)
-line_of (OutcomeMdn n got m) a = line_if (Receipt n) (became_by a)
+line_of (OutcomeReceipt n got m) a = line_if (Receipt n) (became_by a)
 line_of other a = []
 
 -- the lines of a trace, in order; a fault has none, nor has a migration

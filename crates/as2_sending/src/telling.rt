@@ -6,7 +6,7 @@ ghost use Rattle.as2_sending.specs.Lines.{turn_line, subject, words};
 
 use arrayvec::ArrayString;
 use as2_exchange::Next;
-use as2_mdn::State;
+use as2_mdn::DetailClass;
 use as2_station::Became;
 use itoa::Buffer;
 
@@ -14,16 +14,16 @@ use itoa::Buffer;
 type Line = ArrayString<128>;
 
 /// The letter of a state.
-fn letter(state: State) -> &'static str
+fn letter(state: DetailClass) -> &'static str
     ensures text { result.now ≡ state_text state }
     ensures short { length result.now ≤ 1 }
 {
     match state {
-        State::P => "P",
-        State::R => "R",
-        State::S => "S",
-        State::W => "W",
-        State::E => "E",
+        DetailClass::P => "P",
+        DetailClass::R => "R",
+        DetailClass::S => "S",
+        DetailClass::W => "W",
+        DetailClass::E => "E",
     }
 }
 
@@ -51,7 +51,7 @@ fn add_words(line: &mut Line, became: Became)
     match became {
         Became::Settled(detail) => {
             line.push_str("settled ");
-            line.push_str(letter(detail.state()));
+            line.push_str(letter(detail.class()));
             line.push_str(" ");
             line.push_str(detail.name());
         }

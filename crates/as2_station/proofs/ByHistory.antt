@@ -4,7 +4,7 @@ use Rattle.std.specs.Prelude.{IsSomeAnd, option_map, option_and_then}
 use Rattle.as2_records.specs.Standing.{Medium, Standing}
 use Rattle.as2_mdn.specs.Details.{class_of}
 use Rattle.as2_mdn.specs.Verdicts.{Confirms}
-use Rattle.as2_mdn.specs.declared.detail.State.TheVariants.{S}
+use Rattle.as2_mdn.specs.declared.detail.DetailClass.TheVariants.{S}
 use Rattle.as2_exchange.specs.Agreement.{Agreements, partner_of}
 use Rattle.as2_exchange.specs.Invariants.{IsCounter, IsWellFormed}
 use Rattle.as2_exchange.specs.Events.{Done}

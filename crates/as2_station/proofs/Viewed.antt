@@ -2,7 +2,7 @@
 use Rattle.std.proofs.Common.{◌≡◌, ◌∙◌, ◌++◌, ℕ, List, map, Option, None, Result, Ok, Err, IfOk, String, Vec, Global, string_bytes, sym, ap, ap₂, subst}
 use Rattle.std.specs.List.{filter, flat_map}
 use Rattle.as2_records.specs.Standing.{Medium, Standing}
-use Rattle.as2_mdn.specs.declared.detail.State.{State as StateOf}
+use Rattle.as2_mdn.specs.declared.detail.DetailClass.{DetailClass}
 use Rattle.as2_exchange.specs.State.{State}
 use Rattle.as2_views.specs.Texts.{list_in, list_out, outstanding_text}
 use Rattle.as2_exchange.specs.declared.fault.StoreFault.{StoreFault}
@@ -34,14 +34,14 @@ received_lines old new rows shown r same lines it =
 -- ---- documents that are sent
 
 -- what is known of rows with the numbers of the settled documents
-abbrev Known : Option StateOf → State → Marked → Type 0
+abbrev Known : Option DetailClass → State → Marked → Type 0
 Known wanted s m = (m.rows.items ≡ listed_rows wanted s) × (m.settled.items ≡ settled_numbers s)
 
 -- the same, and that numbers rise
-abbrev Rising : Option StateOf → State → Marked → Type 0
+abbrev Rising : Option DetailClass → State → Marked → Type 0
 Rising wanted s m = Known wanted s m × Rise (document_numbers s)
 
-rising : {M : Medium} (wanted : Option StateOf) (old new : Standing M) (m : Marked) → Reads {A = Marked} {E = StoreFault} (Known wanted) old new (Ok m)
+rising : {M : Medium} (wanted : Option DetailClass) (old new : Standing M) (m : Marked) → Reads {A = Marked} {E = StoreFault} (Known wanted) old new (Ok m)
     → Reads {A = Marked} {E = StoreFault} (Rising wanted) old new (Ok m)
 rising wanted old new m it = reads_standing (Known wanted) (Rising wanted) old new (Ok m) (λ s m stands known. (known, given_rise s.next_out (document_numbers s) stands.documents.1)) it
 
@@ -51,7 +51,7 @@ under Q (Ok b) h = h
 under Q (Err e) h = tt
 
 module _ {M : Medium} (old new : Standing M) (m : Marked) (rows : List OutRow) (settled : List ℕ) (r : Result (String Global) StoreFault) (same_rows : rows ≡ m.rows.items) (same_settled : settled ≡ m.settled.items) where
-  pub sent_lines : (wanted : Option StateOf) → (Rise settled → IfOk r (λ t. string_bytes t ≡ flat_map (marked_line settled) rows))
+  pub sent_lines : (wanted : Option DetailClass) → (Rise settled → IfOk r (λ t. string_bytes t ≡ flat_map (marked_line settled) rows))
       → Reads {A = Marked} {E = StoreFault} (Known wanted) old new (Ok m) → Reads (λ s t. string_bytes t ≡ list_out s wanted) old new r
   sent_lines wanted lines it =
       read_if (Rising wanted) (λ s t. string_bytes t ≡ list_out s wanted) old new m r (λ t. Rise settled → string_bytes t ≡ flat_map (marked_line settled) rows) (under _ r lines)

@@ -9,31 +9,31 @@ use Rattle.as2_exchange.specs.declared.answer.Refusal.{Refusal}
 use Rattle.as2_exchange.specs.declared.answer.Refusal.TheVariants.{AllSettled, NotDue, TriesUsed}
 use Rattle.as2_exchange.specs.declared.attempt.Attempt.TheVariants.{Idle, Last, Running, Used}
 use Rattle.as2_exchange.specs.declared.inbox.InEntry.{InEntry}
-use Rattle.as2_exchange.specs.declared.inbox.MdnState.TheVariants.{Sent}
-use Rattle.as2_records.specs.declared.progress.MdnProgress.{MdnProgress}
+use Rattle.as2_exchange.specs.declared.inbox.ReceiptStage.TheVariants.{Sent}
+use Rattle.as2_records.specs.declared.progress.ReceiptProgress.{ReceiptProgress}
 
 -- none is to be sent; its tries are used up; or its moment hasn't come
-abbrev pub mdn_try_refusal : Partner → InEntry → ℕ → Option Refusal
-mdn_try_refusal p e m =
-    if not (is_pending e.mdn) then Some AllSettled
+abbrev pub receipt_try_refusal : Partner → InEntry → ℕ → Option Refusal
+receipt_try_refusal p e m =
+    if not (is_pending e.receipt_stage) then Some AllSettled
     else if nat_le p.max_tries e.tries then Some TriesUsed
     else if is_early m e.due then Some NotDue
     else None
 
 -- how far it has come once a try has begun
-abbrev pub mdn_tried : Partner → InEntry → ℕ → MdnProgress
-mdn_tried p e m =
+abbrev pub tried_receipt : Partner → InEntry → ℕ → ReceiptProgress
+tried_receipt p e m =
     if nat_le p.max_tries (e.tries + 1)
-    then record { mdn = e.mdn; tries = e.tries + 1; attempt = Last; due = None }
-    else record { mdn = e.mdn; tries = e.tries + 1; attempt = Running; due = Some (m + p.retry_seconds) }
+    then record { receipt_stage = e.receipt_stage; tries = e.tries + 1; attempt = Last; due = None }
+    else record { receipt_stage = e.receipt_stage; tries = e.tries + 1; attempt = Running; due = Some (m + p.retry_seconds) }
 
 -- how far it has come once a try has ended, by an answer of success or without one
-abbrev pub mdn_ended : Bool → Partner → InEntry → ℕ → MdnProgress
-mdn_ended true p e m = record { mdn = Sent; tries = e.tries; attempt = Idle; due = None }
-mdn_ended false p e m =
+abbrev pub ended_receipt : Bool → Partner → InEntry → ℕ → ReceiptProgress
+ended_receipt true p e m = record { receipt_stage = Sent; tries = e.tries; attempt = Idle; due = None }
+ended_receipt false p e m =
     if is_last e.attempt
-    then record { mdn = e.mdn; tries = e.tries; attempt = Used; due = None }
-    else record { mdn = e.mdn; tries = e.tries; attempt = Idle; due = Some (m + p.retry_seconds) }
+    then record { receipt_stage = e.receipt_stage; tries = e.tries; attempt = Used; due = None }
+    else record { receipt_stage = e.receipt_stage; tries = e.tries; attempt = Idle; due = Some (m + p.retry_seconds) }
 
 -- what is answered then
 abbrev pub end_answer : Bool → Answer

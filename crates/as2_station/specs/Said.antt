@@ -5,7 +5,7 @@ use Rattle.as2_exchange.specs.declared.answer.Answer.TheVariants.{Submitted, Job
 use Rattle.as2_exchange.specs.declared.answer.Job.{Job}
 use Rattle.as2_exchange.specs.declared.answer.Refusal.{Refusal}
 use Rattle.as2_exchange.specs.declared.event.Event.{Event}
-use Rattle.as2_exchange.specs.declared.event.Event.TheVariants.{Begin, BeginMdn, Outcome, OutcomeMdn}
+use Rattle.as2_exchange.specs.declared.event.Event.TheVariants.{Begin, BeginReceipt, Outcome, OutcomeReceipt}
 use Rattle.as2_exchange.specs.declared.event.TryAnswer.{TryAnswer}
 use Rattle.as2_exchange.specs.declared.next.Next.{Next}
 use Rattle.as2_exchange.specs.declared.next.Next.TheVariants.{Receipt, Document}
@@ -41,10 +41,10 @@ said_to_resend (Err reason) = Refused reason
 
 -- a try of it begins at this moment
 abbrev pub begin_event : Next → ℕ → Event
-begin_event (Receipt n) m = BeginMdn n m
+begin_event (Receipt n) m = BeginReceipt n m
 begin_event (Document n) m = Begin n m
 
 -- the try of it got that
 abbrev pub outcome_event : Next → TryAnswer → ℕ → Event
-outcome_event (Receipt n) got m = OutcomeMdn n got m
+outcome_event (Receipt n) got m = OutcomeReceipt n got m
 outcome_event (Document n) got m = Outcome n got m

@@ -26,7 +26,7 @@ use Rattle.std.specs.Prelude.{◌≡◌, ◌↔◌, ℕ, ◌+◌, ◌<◌, true,
 use Rattle.as2_records.specs.Standing.{Medium, Standing}
 use Rattle.as2_mdn.specs.Details.{class_of}
 use Rattle.as2_mdn.specs.Verdicts.{Confirms}
-use Rattle.as2_mdn.specs.declared.detail.State.TheVariants.{S, E}
+use Rattle.as2_mdn.specs.declared.detail.DetailClass.TheVariants.{S, E}
 use Rattle.as2_exchange.specs.Agreement.{Agreements, Text, partner_of}
 use Rattle.as2_exchange.specs.Events.{Done}
 use Rattle.as2_exchange.specs.History.{concerns, first_receipt, history, submission_of, submitted_as, history_of}
@@ -40,14 +40,14 @@ use Rattle.as2_exchange.specs.State.{State, Version, document, empty, is_settled
 use Rattle.as2_exchange.specs.Step.{is_refusal, step}
 use Rattle.as2_exchange.specs.Progress.{given_up}
 use Rattle.as2_exchange.specs.declared.inbox.InEntry.{InEntry}
-use Rattle.as2_exchange.specs.declared.inbox.MdnState.TheVariants.{Pending}
+use Rattle.as2_exchange.specs.declared.inbox.ReceiptStage.TheVariants.{Pending}
 use Rattle.as2_exchange.specs.declared.outbox.OutEntry.{OutEntry}
 use Rattle.as2_exchange.specs.Waiting.{schedule_of, waiting_history}
 use Rattle.as2_exchange.specs.declared.answer.Answer.{Answer}
 use Rattle.as2_exchange.specs.declared.answer.Answer.TheVariants.{Job as AJob, Resent, Ticked}
 use Rattle.as2_exchange.specs.declared.answer.Job.{Job}
 use Rattle.as2_exchange.specs.declared.event.Event.{Event}
-use Rattle.as2_exchange.specs.declared.event.Event.TheVariants.{Post, Begin, BeginMdn, Resend, Tick}
+use Rattle.as2_exchange.specs.declared.event.Event.TheVariants.{Post, Begin, BeginReceipt, Resend, Tick}
 use Rattle.as2_exchange.specs.declared.fault.StoreFault.{StoreFault}
 
 -- the document stands as successful
@@ -73,8 +73,8 @@ pub record StepsOn (A : Agreements) (s : State) : Type 0 where
   pub sends : (n m : ℕ) (job : Job) (t : State) → step A s (Begin n m) ≡ Some (AJob job, t)
       → (d : OutEntry) × (document s n ≡ Some d) × (is_settled d ≡ false) × IsSomeAnd (partner_of A d.partner) (λ p. d.tries < p.max_tries)
   -- and for a receipt that is still owed, not more often than is agreed since it was queued last
-  pub sends_receipts : (n m : ℕ) (job : Job) (t : State) → step A s (BeginMdn n m) ≡ Some (AJob job, t)
-      → (e : InEntry) × (received_entry s n ≡ Some e) × (e.mdn ≡ Pending) × IsSomeAnd (partner_of A e.posted.sender) (λ p. e.tries < p.max_tries)
+  pub sends_receipts : (n m : ℕ) (job : Job) (t : State) → step A s (BeginReceipt n m) ≡ Some (AJob job, t)
+      → (e : InEntry) × (received_entry s n ≡ Some e) × (e.receipt_stage ≡ Pending) × IsSomeAnd (partner_of A e.posted.sender) (λ p. e.tries < p.max_tries)
   -- a document is sent anew only where it is in error and no receipt has settled it
   pub resends : (n m : ℕ) (t : State) → step A s (Resend n m) ≡ Some (Resent, t) → (d : OutEntry) × (document s n ≡ Some d) × (is_settled d ≡ false) × (class_of d.detail ≡ E)
   -- a refusal changes nothing, nor does the outcome of a document that is settled

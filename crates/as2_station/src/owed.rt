@@ -1,11 +1,11 @@
 //! Tries of receipts that are sent by a request of their own: each is committed before its request is handed out.
 ghost use Rattle.std.specs.Prelude.{◌≡◌, ◌<◌, Some, IsTrue, true};
 ghost use Rattle.as2_agreement.specs.Partners.{IsPartner};
-ghost use Rattle.as2_exchange.specs.OwedReceipts.{is_pending, is_shut, mdn_begun, mdn_closed};
+ghost use Rattle.as2_exchange.specs.OwedReceipts.{is_pending, is_shut, begun_receipt, closed_receipt};
 ghost use Rattle.as2_exchange.specs.Receipts.{is_delivery};
 ghost use Rattle.as2_exchange.specs.State.{received_entry};
 ghost use Rattle.as2_exchange.specs.Step.{on_received};
-ghost use Rattle.as2_station.specs.OwedTries.{end_answer, mdn_ended, mdn_tried, mdn_try_refusal};
+ghost use Rattle.as2_station.specs.OwedTries.{end_answer, ended_receipt, tried_receipt, receipt_try_refusal};
 ghost use Rattle.as2_station.specs.Said.{answer_of, said_to_begin, said_to_outcome};
 ghost use Rattle.as2_station.specs.Steps.{Does, always};
 
@@ -14,22 +14,22 @@ use crate::closing::is_success;
 use crate::said::{Became, Begun, Ended};
 use crate::trying::is_early;
 use as2_agreement::{Agreements, Partner};
-use as2_exchange::{Attempt, InEntry, MdnState, Refusal, StoreFault, TryAnswer};
+use as2_exchange::{Attempt, InEntry, ReceiptStage, Refusal, StoreFault, TryAnswer};
 use as2_posts::receipt_job;
-use as2_records::{MdnProgress, Records};
+use as2_records::{ReceiptProgress, Records};
 use as2_text::Moment;
 use std::alloc::Global;
 
 /// Whether the receipt is still to be sent.
 fn is_pending(entry: &InEntry) -> bool
-    ensures { result ≡ is_pending entry.now.mdn }
+    ensures { result ≡ is_pending entry.now.receipt_stage }
 {
-    matches!(entry.mdn, MdnState::Pending)
+    matches!(entry.receipt_stage, ReceiptStage::Pending)
 }
 
 /// Why no try of the receipt may begin, if none may.
 fn try_refusal(partner: &Partner, entry: &InEntry, moment: Moment) -> Option<Refusal>
-    ensures { result ≡ mdn_try_refusal partner.now entry.now moment }
+    ensures { result ≡ receipt_try_refusal partner.now entry.now moment }
 {
     if !is_pending(entry) {
         return Some(Refusal::AllSettled);
@@ -44,22 +44,22 @@ fn try_refusal(partner: &Partner, entry: &InEntry, moment: Moment) -> Option<Ref
 }
 
 /// How far the receipt has come once a try has begun.
-fn tried(partner: &Partner, entry: &InEntry, moment: Moment) -> MdnProgress
+fn tried(partner: &Partner, entry: &InEntry, moment: Moment) -> ReceiptProgress
     requires terms { IsPartner partner.now }
     requires left { entry.now.tries < partner.now.max_tries }
-    ensures { result ≡ mdn_tried partner.now entry.now moment }
+    ensures { result ≡ tried_receipt partner.now entry.now moment }
 {
     let tries = entry.tries + 1;
     if tries >= partner.max_tries {
-        return MdnProgress {
-            mdn: entry.mdn,
+        return ReceiptProgress {
+            receipt_stage: entry.receipt_stage,
             tries,
             attempt: Attempt::Last,
             due: None,
         };
     }
-    MdnProgress {
-        mdn: entry.mdn,
+    ReceiptProgress {
+        receipt_stage: entry.receipt_stage,
         tries,
         attempt: Attempt::Running,
         due: Some(moment.seconds() + partner.retry_seconds),
@@ -75,7 +75,7 @@ fn begin_found<R: Records>(
     moment: Moment,
 ) -> Result<Begun, StoreFault>
     requires open { (R.shows records.old).IsClean → IsTrue (R.shows records.old).is_open }
-    ensures taken { Does (λ s. Some (on_received s entry.now.number (mdn_begun agreements.now moment)))
+    ensures taken { Does (λ s. Some (on_received s entry.now.number (begun_receipt agreements.now moment)))
         (λ s. received_entry s entry.now.number ≡ Some entry.now) (true
         ≡ true) said_to_begin (R.shows records.old) (R.shows records.new) result }
 {
@@ -88,19 +88,19 @@ fn begin_found<R: Records>(
     }
     let progress = tried(partner, entry, moment);
     let job = receipt_job(alloc, agreements, entry.number, &entry.posted)?;
-    records.set_mdn(entry.number, progress)?;
+    records.set_receipt(entry.number, progress)?;
     Ok(Ok(job))
 }
 
 /// Begins a try of the receipt of the entry of this number.
-pub fn begin_mdn<R: Records>(
+pub fn begin_receipt<R: Records>(
     records: &mut R,
     alloc: Global,
     agreements: &Agreements,
     number: u64,
     moment: Moment,
 ) -> Result<Begun, StoreFault>
-    ensures taken { Does (λ s. Some (on_received s number (mdn_begun agreements.now moment))) always (true
+    ensures taken { Does (λ s. Some (on_received s number (begun_receipt agreements.now moment))) always (true
         ≡ true) said_to_begin (R.shows records.old) (R.shows records.new) result }
 {
     match records.find_in_number(alloc, number)? {
@@ -127,23 +127,23 @@ fn is_shut(attempt: Attempt) -> bool
 }
 
 /// How far the receipt has come once its try has ended, by an answer of success or without one.
-fn after_try(partner: &Partner, entry: &InEntry, delivered: bool, moment: Moment) -> MdnProgress
+fn after_try(partner: &Partner, entry: &InEntry, delivered: bool, moment: Moment) -> ReceiptProgress
     requires terms { IsPartner partner.now }
-    ensures { result ≡ mdn_ended delivered partner.now entry.now moment }
+    ensures { result ≡ ended_receipt delivered partner.now entry.now moment }
 {
-    let (mdn, attempt, due) = if delivered {
-        (MdnState::Sent, Attempt::Idle, None)
+    let (receipt_stage, attempt, due) = if delivered {
+        (ReceiptStage::Sent, Attempt::Idle, None)
     } else if matches!(entry.attempt, Attempt::Last) {
-        (entry.mdn, Attempt::Used, None)
+        (entry.receipt_stage, Attempt::Used, None)
     } else {
         (
-            entry.mdn,
+            entry.receipt_stage,
             Attempt::Idle,
             Some(moment.seconds() + partner.retry_seconds),
         )
     };
-    MdnProgress {
-        mdn,
+    ReceiptProgress {
+        receipt_stage,
         tries: entry.tries,
         attempt,
         due,
@@ -170,7 +170,7 @@ fn close_found<R: Records>(
     moment: Moment,
 ) -> Result<Ended, StoreFault>
     requires open { (R.shows records.old).IsClean → IsTrue (R.shows records.old).is_open }
-    ensures taken { Does (λ s. Some (on_received s entry.now.number (mdn_closed agreements.now answer.now moment)))
+    ensures taken { Does (λ s. Some (on_received s entry.now.number (closed_receipt agreements.now answer.now moment)))
         (λ s. received_entry s entry.now.number ≡ Some entry.now) (true
         ≡ true) said_to_outcome (R.shows records.old) (R.shows records.new) result }
 {
@@ -185,12 +185,12 @@ fn close_found<R: Records>(
         return Ok(Err(Refusal::NoOpenTry));
     }
     let delivered = is_delivery(answer);
-    records.set_mdn(entry.number, after_try(partner, entry, delivered, moment))?;
+    records.set_receipt(entry.number, after_try(partner, entry, delivered, moment))?;
     Ok(Ok(end_became(delivered)))
 }
 
 /// Takes the outcome of a try of the receipt of the entry of this number.
-pub fn close_mdn<R: Records>(
+pub fn close_receipt<R: Records>(
     records: &mut R,
     alloc: Global,
     agreements: &Agreements,
@@ -198,7 +198,7 @@ pub fn close_mdn<R: Records>(
     answer: TryAnswer,
     moment: Moment,
 ) -> Result<Ended, StoreFault>
-    ensures taken { Does (λ s. Some (on_received s number (mdn_closed agreements.now answer moment))) always (true
+    ensures taken { Does (λ s. Some (on_received s number (closed_receipt agreements.now answer moment))) always (true
         ≡ true) said_to_outcome (R.shows records.old) (R.shows records.new) result }
 {
     match records.find_in_number(alloc, number)? {

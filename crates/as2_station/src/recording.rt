@@ -43,7 +43,7 @@ fn record_again<R: Records>(
     if !is_requeued(entry) {
         return Ok(answer);
     }
-    records.requeue_mdn(entry.number, moment)?;
+    records.requeue_receipt(entry.number, moment)?;
     Ok(answer)
 }
 

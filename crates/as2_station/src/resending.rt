@@ -10,7 +10,7 @@ ghost use Rattle.as2_station.specs.Steps.{Does, always};
 use crate::said::Resent;
 use as2_agreement::Agreements;
 use as2_exchange::{OutEntry, Refusal, StoreFault};
-use as2_mdn::State;
+use as2_mdn::DetailClass;
 use as2_records::Records;
 use as2_text::Moment;
 use std::alloc::Global;
@@ -29,8 +29,8 @@ fn refusal_of(agreements: &Agreements, document: &OutEntry) -> Option<Refusal>
     if document.evidence.is_some() {
         return Some(Refusal::AllSettled);
     }
-    match document.detail.state() {
-        State::E => None,
+    match document.detail.class() {
+        DetailClass::E => None,
         _ => Some(Refusal::NotDue),
     }
 }

@@ -16,7 +16,7 @@ ghost use Rattle.as2_station.specs.Steps.{ClashesWhole, RefusesSubmit, TakesEven
 ghost use Rattle.as2_station.specs.Traces.{Plays, TakesEvents};
 
 use crate::closing::close;
-use crate::owed::{begin_mdn, close_mdn};
+use crate::owed::{begin_receipt, close_receipt};
 use crate::receiving::receive;
 use crate::recording::record;
 use crate::resending::resend;
@@ -145,7 +145,7 @@ impl<R: Records> Station<R> {
     {
         match what {
             Next::Receipt(number) => {
-                begin_mdn(&mut self.records, alloc, agreements, number, moment)
+                begin_receipt(&mut self.records, alloc, agreements, number, moment)
             }
             Next::Document(number) => begin(&mut self.records, alloc, agreements, number, moment),
         }
@@ -165,7 +165,7 @@ impl<R: Records> Station<R> {
             (R.shows self.new) result }
     {
         match what {
-            Next::Receipt(number) => close_mdn(
+            Next::Receipt(number) => close_receipt(
                 &mut self.records,
                 alloc,
                 agreements,
@@ -247,11 +247,11 @@ impl<R: Records> Station<R> {
                 let what = Next::Document(number);
                 Ok(said_to_outcome(self.close(alloc, agreements, what, answer, moment)?))
             }
-            Event::BeginMdn { number, moment } => {
+            Event::BeginReceipt { number, moment } => {
                 let what = Next::Receipt(number);
                 Ok(said_to_begin(self.begin(alloc, agreements, what, moment)?))
             }
-            Event::OutcomeMdn {
+            Event::OutcomeReceipt {
                 number,
                 answer,
                 moment,
@@ -273,7 +273,7 @@ impl<R: Records> Station<R> {
         ensures least { Reads (λ s found. IsNext s moment found) (R.shows self.old) (R.shows self.new) result }
         ensures fault { IfErr result (λ f. may_come f ≡ true) }
     {
-        if let Some(number) = self.records.due_mdn(moment)? {
+        if let Some(number) = self.records.due_receipt(moment)? {
             return Ok(Some(Next::Receipt(number)));
         }
         match self.records.due_out(moment)? {

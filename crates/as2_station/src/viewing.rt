@@ -7,7 +7,7 @@ ghost use Rattle.as2_records.specs.Standing.{may_come};
 
 use crate::texts::{document_text, in_text, out_text, outstanding_text};
 use as2_exchange::StoreFault;
-use as2_mdn::State;
+use as2_mdn::DetailClass;
 use as2_records::{OutRow, Records};
 use as2_text::Moment;
 use std::alloc::Global;
@@ -23,7 +23,7 @@ pub struct Marked {
 fn documents<R: Records>(
     records: &mut R,
     alloc: Global,
-    wanted: Option<State>,
+    wanted: Option<DetailClass>,
 ) -> Result<Marked, StoreFault>
     ensures marked { Reads (λ s m. (m.rows.items ≡ listed_rows wanted s)
         × (m.settled.items ≡ settled_numbers s)) (R.shows records.old) (R.shows records.new) result }
@@ -38,7 +38,7 @@ fn documents<R: Records>(
 pub fn sent_listing<R: Records>(
     records: &mut R,
     alloc: Global,
-    wanted: Option<State>,
+    wanted: Option<DetailClass>,
 ) -> Result<String, StoreFault>
     ensures listing { Reads (λ s text. string_bytes text
         ≡ list_out s wanted) (R.shows records.old) (R.shows records.new) result }

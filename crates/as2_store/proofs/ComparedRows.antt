@@ -12,8 +12,8 @@ use Rattle.as2_exchange.specs.Progress.{is_in}
 use Rattle.as2_exchange.specs.declared.attempt.Attempt.{Attempt}
 use Rattle.as2_exchange.specs.declared.attempt.Attempt.TheVariants.{Idle, Running, Last, Used}
 use Rattle.as2_exchange.specs.declared.inbox.InEntry.{InEntry}
-use Rattle.as2_exchange.specs.declared.inbox.MdnState.{MdnState}
-use Rattle.as2_exchange.specs.declared.inbox.MdnState.TheVariants.{Unasked, Pending, Sent}
+use Rattle.as2_exchange.specs.declared.inbox.ReceiptStage.{ReceiptStage}
+use Rattle.as2_exchange.specs.declared.inbox.ReceiptStage.TheVariants.{Unasked, Pending, Sent}
 use Rattle.as2_exchange.specs.declared.outbox.OutEntry.{OutEntry}
 use Rattle.as2_records.specs.Finding.{AreNext}
 use Rattle.as2_records.specs.Listing.{listed_rows}
@@ -23,9 +23,9 @@ use Rattle.as2_records.specs.declared.discrepancy.Discrepancy.TheVariants.{Recei
 use Rattle.as2_records.specs.declared.numbers.NextNumbers.{NextNumbers}
 use Rattle.as2_records.specs.declared.summaries.InRow.{InRow}
 use Rattle.as2_records.specs.declared.summaries.OutRow.{OutRow}
-use Rattle.as2_rows.specs.Waiting.{WaitingRow, in_kind, out_kind, to_answer, to_end, to_hear, to_send, waiting_in, waiting_out}
+use Rattle.as2_rows.specs.Waiting.{WaitingRow, in_kind, out_kind, to_send_receipt, to_end, to_hear, to_send, waiting_in, waiting_out}
 use Rattle.as2_store.specs.declared.discrepancies.WaitRow.{WaitRow}
-use Rattle.as2_store.specs.Discrepancies.{Compares, IsFirst, IsFirstOf, all_wanted, documents_wanted, is_kind, is_owed, is_waiting, last, not_below, number_told, receipts_wanted, rows_of, row_shown, wait_row, wait_told}
+use Rattle.as2_store.specs.Discrepancies.{Compares, IsFirst, IsFirstOf, all_wanted, documents_wanted, is_kind, owes_receipt, is_waiting, last, not_below, number_told, receipts_wanted, rows_of, row_shown, wait_row, wait_told}
 use Rattle.as2_store.specs.Stands.{Holds, Rests, all_waiting, documents_waiting, waiting_row}
 use Rattle.as2_store.specs.Tables.{waiting_tree}
 use Rattle.as2_store.proofs.CountedRows.{each_shown}
@@ -53,7 +53,7 @@ finds_waiting old new rows h s r =
 -- ---- what is wanted
 
 -- what a receipt waits for is to be sent
-answered : (m : MdnState) (a : Attempt) → IfSome (in_kind m a) (λ k. k ≡ to_answer)
+answered : (m : ReceiptStage) (a : Attempt) → IfSome (in_kind m a) (λ k. k ≡ to_send_receipt)
 answered Pending Idle = refl
 answered Pending Running = refl
 answered Pending Last = tt
@@ -62,19 +62,19 @@ answered Unasked a = tt
 answered Sent a = tt
 
 abbrev owed : List InEntry → List InRow
-owed es = filter is_owed (map in_summary es)
+owed es = filter owes_receipt (map in_summary es)
 
 abbrev receipt_rows : List InRow → List WaitRow
-receipt_rows rows = map (λ (e : InRow). wait_row to_answer e.number e.due) rows
+receipt_rows rows = map (λ (e : InRow). wait_row to_send_receipt e.number e.due) rows
 
 abbrev row_if : ℕ → Option ℕ → Option ℕ → Option WaitingRow
 row_if number due o = option_map (λ kind. record { kind = kind; number = number; due = due }) o
 
 receipts_kept : (es : List InEntry) → receipts_wanted (map in_summary es) ≡ rows_of (waiting_in es)
 receipts_kept [] = refl
-receipts_kept (e ∷ es) = go (in_kind e.mdn e.attempt) (answered e.mdn e.attempt) (receipts_kept es)
+receipts_kept (e ∷ es) = go (in_kind e.receipt_stage e.attempt) (answered e.receipt_stage e.attempt) (receipts_kept es)
   where
-    go : (o : Option ℕ) → IfSome o (λ k. k ≡ to_answer) → receipt_rows (owed es) ≡ rows_of (waiting_in es)
+    go : (o : Option ℕ) → IfSome o (λ k. k ≡ to_send_receipt) → receipt_rows (owed es) ≡ rows_of (waiting_in es)
         → receipt_rows (cond (is_some o) (in_summary e ∷ owed es) (owed es)) ≡ rows_of (cons_option (row_if e.number e.due o) (waiting_in es))
     go None is rest = rest
     go (Some k) is rest = ap₂ (λ n l. wait_row n e.number e.due ∷ l) (sym is) rest

@@ -8,13 +8,13 @@ use Rattle.as2_exchange.specs.State.{State}
 use Rattle.as2_exchange.specs.declared.inbox.InEntry.{InEntry}
 use Rattle.as2_exchange.specs.declared.outbox.OutEntry.{OutEntry}
 use Rattle.as2_rows.specs.Rows.{in_row, out_row}
-use Rattle.as2_store.specs.Counting.{detail_row, details_of, mdn_row, mdns_of}
+use Rattle.as2_store.specs.Counting.{detail_row, details_of, receipt_stage_row, receipt_stages_of}
 use Rattle.as2_store.specs.Stands.{Rests}
 use Rattle.as2_store.specs.Tables.{inbox_tree, outbox_tree}
 use Rattle.as2_store.proofs.NumberedRows.{entries_rise}
 use Rattle.as2_store.proofs.QueriedRows.{reads_rows}
-use Rattle.as2_store.proofs.Statements.{detail_text, mdn_text}
-use Rattle.as2_store.proofs.Texts.{detail_column_terms, detail_is, detail_plain, detail_unlisted, mdn_column_terms, mdn_is, mdn_plain, mdn_unlisted}
+use Rattle.as2_store.proofs.Statements.{detail_text, receipt_stage_text}
+use Rattle.as2_store.proofs.Texts.{detail_column_terms, detail_is, detail_plain, detail_unlisted, receipt_stage_column_terms, receipt_stage_is, receipt_stage_plain, receipt_stage_unlisted}
 
 -- all rows, each showing one column
 pub each_shown : {X Y : Type 0} (column : X → Y) (row : Y → Row) (xs : List X) → map (λ x. row (column x)) (filter (λ _. true) xs) ≡ map row (map column xs)
@@ -31,11 +31,11 @@ finds_details old new rows h s r =
     (entries_rise out_row (λ (d : OutEntry). d.number) (λ _. refl) s.next_out s.outbox it.documents.1)
     ∙ each_shown (λ (d : OutEntry). d.detail) detail_row s.outbox
 
-pub finds_mdns : (old new : Connected) (rows : List Row) → Shown mdn_text [] old new rows → (s : State) → Rests old s → rows ≡ map mdn_row (mdns_of s)
-finds_mdns old new rows h s r =
-    let here = r.stands (shown_open mdn_text [] old new rows h) in
+pub finds_receipt_stages : (old new : Connected) (rows : List Row) → Shown receipt_stage_text [] old new rows → (s : State) → Rests old s → rows ≡ map receipt_stage_row (receipt_stages_of s)
+finds_receipt_stages old new rows h s r =
+    let here = r.stands (shown_open receipt_stage_text [] old new rows h) in
     let way = here.way in
     let it = here.stands in
-    reads_rows way mdn_text (mdn_plain way) (mdn_unlisted way) (inbox_tree way) [] mdn_column_terms (codes "mdn" ∷ []) (mdn_is way) [] in_row (λ (e : InEntry). mdn_row e.mdn) (λ _. refl) (λ _. true) (λ _. refl) old new rows h it.schema s.inbox it.entries.inbox
+    reads_rows way receipt_stage_text (receipt_stage_plain way) (receipt_stage_unlisted way) (inbox_tree way) [] receipt_stage_column_terms (codes "mdn" ∷ []) (receipt_stage_is way) [] in_row (λ (e : InEntry). receipt_stage_row e.receipt_stage) (λ _. refl) (λ _. true) (λ _. refl) old new rows h it.schema s.inbox it.entries.inbox
     (entries_rise in_row (λ (e : InEntry). e.number) (λ _. refl) s.next_in s.inbox it.receipts.1)
-    ∙ each_shown (λ (e : InEntry). e.mdn) mdn_row s.inbox
+    ∙ each_shown (λ (e : InEntry). e.receipt_stage) receipt_stage_row s.inbox

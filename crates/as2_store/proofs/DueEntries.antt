@@ -7,14 +7,14 @@ use Rattle.as2_mdn.specs.declared.detail.Detail.{Detail}
 use Rattle.as2_mdn.specs.declared.detail.Detail.TheVariants.{New, Sending, Awaiting, Retry, Processed, NoReceiptAsked, Warning, NoMic, UnknownMic, NotProcessed, ErrorModifier, MicDiffers, TriesUsed, Overdue}
 use Rattle.as2_exchange.specs.State.{State}
 use Rattle.as2_exchange.specs.Tries.{is_due}
-use Rattle.as2_exchange.specs.Due.{due_documents, due_receipts, is_due_document, is_due_receipt, may_begin, mdn_may_begin}
+use Rattle.as2_exchange.specs.Due.{due_documents, due_receipts, is_due_document, is_due_receipt, may_begin, receipt_may_begin}
 use Rattle.as2_exchange.specs.declared.attempt.Attempt.{Attempt}
 use Rattle.as2_exchange.specs.declared.attempt.Attempt.TheVariants.{Idle, Running, Last, Used}
 use Rattle.as2_exchange.specs.declared.inbox.InEntry.{InEntry}
-use Rattle.as2_exchange.specs.declared.inbox.MdnState.{MdnState}
-use Rattle.as2_exchange.specs.declared.inbox.MdnState.TheVariants.{Pending, Sent, Unasked}
+use Rattle.as2_exchange.specs.declared.inbox.ReceiptStage.{ReceiptStage}
+use Rattle.as2_exchange.specs.declared.inbox.ReceiptStage.TheVariants.{Pending, Sent, Unasked}
 use Rattle.as2_exchange.specs.declared.outbox.OutEntry.{OutEntry}
-use Rattle.as2_rows.specs.Waiting.{WaitingRow, in_kind, out_kind, in_waiting, waiting_in, waiting_out, to_send, to_answer, to_hear, to_end}
+use Rattle.as2_rows.specs.Waiting.{WaitingRow, in_kind, out_kind, in_waiting, waiting_in, waiting_out, to_send, to_send_receipt, to_hear, to_end}
 use Rattle.as2_store.specs.Stands.{documents_waiting}
 use Rattle.as2_store.specs.Due.{due_numbers}
 use Rattle.as2_store.specs.Expiring.{over, waits_for}
@@ -99,15 +99,15 @@ of_kind kind (w ∷ ws) = go (w.kind == kind) refl (of_kind kind ws)
     go true is rest = (is, rest)
     go false is rest = rest
 
-pub answers : (es : List InEntry) → AllByRecursion (λ w. (w.kind == to_answer) ≡ true) (waiting_in es)
+pub answers : (es : List InEntry) → AllByRecursion (λ w. (w.kind == to_send_receipt) ≡ true) (waiting_in es)
 answers [] = tt
-answers (e ∷ es) = go (in_waiting e) (kind_is_last e.mdn e.attempt e.number e.due) (answers es)
+answers (e ∷ es) = go (in_waiting e) (kind_is_last e.receipt_stage e.attempt e.number e.due) (answers es)
   where
-    itself : (k : ℕ) → k ≡ to_answer → (k == to_answer) ≡ true
-    itself k same = ap (λ n. n == to_answer) same
+    itself : (k : ℕ) → k ≡ to_send_receipt → (k == to_send_receipt) ≡ true
+    itself k same = ap (λ n. n == to_send_receipt) same
 
-    go : (o : Option WaitingRow) → IfSome o (IsLast e.number) → AllByRecursion (λ w. (w.kind == to_answer) ≡ true) (waiting_in es)
-        → AllByRecursion (λ w. (w.kind == to_answer) ≡ true) (cons_option o (waiting_in es))
+    go : (o : Option WaitingRow) → IfSome o (IsLast e.number) → AllByRecursion (λ w. (w.kind == to_send_receipt) ≡ true) (waiting_in es)
+        → AllByRecursion (λ w. (w.kind == to_send_receipt) ≡ true) (cons_option o (waiting_in es))
     go None is rest = rest
     go (Some w) is rest = (itself w.kind is.0, rest)
 
@@ -121,7 +121,7 @@ due_are_documents m s =
     (filter-append (is_wanted to_send m) send (answer ++ (hear ++ end))
     ∙ ap₂ ◌++◌ (kept to_send m (waiting_out s.outbox))
     (filter-append (is_wanted to_send m) answer (hear ++ end)
-    ∙ ap₂ ◌++◌ (none_wanted to_send m to_answer refl answer (answers s.inbox))
+    ∙ ap₂ ◌++◌ (none_wanted to_send m to_send_receipt refl answer (answers s.inbox))
     (filter-append (is_wanted to_send m) hear end ∙ ap₂ ◌++◌ (none_wanted to_send m to_hear refl hear (of_kind to_hear (waiting_out s.outbox))) (none_wanted to_send m to_end refl end (of_kind to_end (waiting_out s.outbox)))))
     ∙ append-nil (filter (is_wanted to_send m) (waiting_out s.outbox)))
     ∙ each to_send m (λ (d : OutEntry). d.number) (λ d. out_kind d.detail d.attempt) (λ d. d.due) s.outbox
@@ -139,7 +139,7 @@ due_are_heard m s =
     (filter-append (is_wanted to_hear m) send (answer ++ (hear ++ end))
     ∙ ap₂ ◌++◌ (none_wanted to_hear m to_send refl send (of_kind to_send (waiting_out s.outbox)))
     (filter-append (is_wanted to_hear m) answer (hear ++ end)
-    ∙ ap₂ ◌++◌ (none_wanted to_hear m to_answer refl answer (answers s.inbox))
+    ∙ ap₂ ◌++◌ (none_wanted to_hear m to_send_receipt refl answer (answers s.inbox))
     (filter-append (is_wanted to_hear m) hear end ∙ ap₂ ◌++◌ (kept to_hear m (waiting_out s.outbox)) (none_wanted to_hear m to_end refl end (of_kind to_end (waiting_out s.outbox)))))
     ∙ append-nil (filter (is_wanted to_hear m) (waiting_out s.outbox)))
     ∙ each to_hear m (λ (d : OutEntry). d.number) (λ d. out_kind d.detail d.attempt) (λ d. d.due) s.outbox
@@ -154,32 +154,32 @@ due_are_ended m s =
     (filter-append (is_wanted to_end m) send (answer ++ (hear ++ end))
     ∙ ap₂ ◌++◌ (none_wanted to_end m to_send refl send (of_kind to_send (waiting_out s.outbox)))
     (filter-append (is_wanted to_end m) answer (hear ++ end)
-    ∙ ap₂ ◌++◌ (none_wanted to_end m to_answer refl answer (answers s.inbox))
+    ∙ ap₂ ◌++◌ (none_wanted to_end m to_send_receipt refl answer (answers s.inbox))
     (filter-append (is_wanted to_end m) hear end ∙ ap₂ ◌++◌ (none_wanted to_end m to_hear refl hear (of_kind to_hear (waiting_out s.outbox))) (kept to_end m (waiting_out s.outbox)))))
     ∙ each to_end m (λ (d : OutEntry). d.number) (λ d. out_kind d.detail d.attempt) (λ d. d.due) s.outbox
 
 -- ---- receipts
 
-mdn_begins : (mdn : MdnState) (attempt : Attempt) → mdn_may_begin mdn attempt ≡ waits_for to_answer (in_kind mdn attempt)
-mdn_begins Pending Idle = refl
-mdn_begins Pending Running = refl
-mdn_begins Pending Last = refl
-mdn_begins Pending Used = refl
-mdn_begins Unasked a = refl
-mdn_begins Sent a = refl
+receipt_begins : (receipt_stage : ReceiptStage) (attempt : Attempt) → receipt_may_begin receipt_stage attempt ≡ waits_for to_send_receipt (in_kind receipt_stage attempt)
+receipt_begins Pending Idle = refl
+receipt_begins Pending Running = refl
+receipt_begins Pending Last = refl
+receipt_begins Pending Used = refl
+receipt_begins Unasked a = refl
+receipt_begins Sent a = refl
 
-pub due_are_receipts : (m : ℕ) (s : State) → due_numbers to_answer m s ≡ due_receipts s m
+pub due_are_receipts : (m : ℕ) (s : State) → due_numbers to_send_receipt m s ≡ due_receipts s m
 due_are_receipts m s =
     let send = documents_waiting to_send s.outbox in
     let answer = waiting_in s.inbox in
     let hear = documents_waiting to_hear s.outbox in
     let end = documents_waiting to_end s.outbox in
     ap (map (λ w. w.number))
-    (filter-append (is_wanted to_answer m) send (answer ++ (hear ++ end))
-    ∙ ap₂ ◌++◌ (none_wanted to_answer m to_send refl send (of_kind to_send (waiting_out s.outbox)))
-    (filter-append (is_wanted to_answer m) answer (hear ++ end)
-    ∙ ap (λ l. filter (is_wanted to_answer m) answer ++ l)
-    (filter-append (is_wanted to_answer m) hear end ∙ ap₂ ◌++◌ (none_wanted to_answer m to_hear refl hear (of_kind to_hear (waiting_out s.outbox))) (none_wanted to_answer m to_end refl end (of_kind to_end (waiting_out s.outbox)))))
-    ∙ append-nil (filter (is_wanted to_answer m) answer))
-    ∙ each to_answer m (λ (e : InEntry). e.number) (λ e. in_kind e.mdn e.attempt) (λ e. e.due) s.inbox
-    ∙ ap (map (λ (e : InEntry). e.number)) (filter_agree _ (is_due_receipt m) (λ e. ap (λ t. t && is_due m e.due) (sym (mdn_begins e.mdn e.attempt))) s.inbox)
+    (filter-append (is_wanted to_send_receipt m) send (answer ++ (hear ++ end))
+    ∙ ap₂ ◌++◌ (none_wanted to_send_receipt m to_send refl send (of_kind to_send (waiting_out s.outbox)))
+    (filter-append (is_wanted to_send_receipt m) answer (hear ++ end)
+    ∙ ap (λ l. filter (is_wanted to_send_receipt m) answer ++ l)
+    (filter-append (is_wanted to_send_receipt m) hear end ∙ ap₂ ◌++◌ (none_wanted to_send_receipt m to_hear refl hear (of_kind to_hear (waiting_out s.outbox))) (none_wanted to_send_receipt m to_end refl end (of_kind to_end (waiting_out s.outbox)))))
+    ∙ append-nil (filter (is_wanted to_send_receipt m) answer))
+    ∙ each to_send_receipt m (λ (e : InEntry). e.number) (λ e. in_kind e.receipt_stage e.attempt) (λ e. e.due) s.inbox
+    ∙ ap (map (λ (e : InEntry). e.number)) (filter_agree _ (is_due_receipt m) (λ e. ap (λ t. t && is_due m e.due) (sym (receipt_begins e.receipt_stage e.attempt))) s.inbox)

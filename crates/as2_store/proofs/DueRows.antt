@@ -27,7 +27,7 @@ use Rattle.as2_exchange.specs.declared.inbox.InEntry.{InEntry}
 use Rattle.as2_exchange.specs.declared.outbox.OutEntry.{OutEntry}
 use Rattle.as2_exchange.proofs.Lists.{all_weaken}
 use Rattle.as2_rows.specs.Rows.{whole, whole_or_null}
-use Rattle.as2_rows.specs.Waiting.{WaitingRow, waiting_in, to_send, to_answer, to_hear, to_end}
+use Rattle.as2_rows.specs.Waiting.{WaitingRow, waiting_in, to_send, to_send_receipt, to_hear, to_end}
 use Rattle.as2_store.specs.Tables.{Layout, store_schema, waiting_tree}
 use Rattle.as2_store.specs.Stands.{Stands, Rests, place, waiting_row, documents_waiting, all_waiting}
 use Rattle.as2_store.specs.Due.{due_waiting, due_numbers, number_rows}
@@ -76,7 +76,7 @@ numbers_small t s it =
     let ins = all_weaken (λ k. k < s.next_in) (λ k. k < end_of_numbers) (λ k less. omega (arith, less, it.receipts.0.most)) (map (λ (e : InEntry). e.number) s.inbox) it.receipts.1.below in
     let of = λ (kind : ℕ). all_weaker (IsOf kind end_of_numbers) (λ w. w.number < end_of_numbers) (λ w is. is.1) (documents_waiting kind s.outbox) (documents_of kind end_of_numbers s.outbox outs) in
     all-append (λ w. w.number < end_of_numbers) (documents_waiting to_send s.outbox) (waiting_in s.inbox ++ (documents_waiting to_hear s.outbox ++ documents_waiting to_end s.outbox)) (of to_send)
-    (all-append (λ w. w.number < end_of_numbers) (waiting_in s.inbox) (documents_waiting to_hear s.outbox ++ documents_waiting to_end s.outbox) (all_weaker (IsOf to_answer end_of_numbers) (λ w. w.number < end_of_numbers) (λ w is. is.1) (waiting_in s.inbox) (ins_small end_of_numbers s.inbox ins))
+    (all-append (λ w. w.number < end_of_numbers) (waiting_in s.inbox) (documents_waiting to_hear s.outbox ++ documents_waiting to_end s.outbox) (all_weaker (IsOf to_send_receipt end_of_numbers) (λ w. w.number < end_of_numbers) (λ w is. is.1) (waiting_in s.inbox) (ins_small end_of_numbers s.inbox ins))
     (all-append (λ w. w.number < end_of_numbers) (documents_waiting to_hear s.outbox) (documents_waiting to_end s.outbox) (of to_hear) (of to_end)))
 
 of_the_kind : (kind m : ℕ) (ws : List WaitingRow) → AllByRecursion (λ w. w.kind ≡ kind) (filter (λ w. w.kind == kind && is_due m w.due) ws)

@@ -7,17 +7,17 @@ use Rattle.sqlite.specs.Tree.{put_row}
 use Rattle.sqlite.specs.State.{State as Connected, Executes}
 use Rattle.sql_tables.specs.Changes.{ChangesTable}
 use Rattle.sql_tables.proofs.Writes.{cast_int, cast_null, IsOneRow, inserts_given}
-use Rattle.as2_mdn.specs.declared.report.ReportMic.{ReportMic}
+use Rattle.as2_mdn.specs.declared.report.ReceiptMic.{ReceiptMic}
 use Rattle.as2_exchange.specs.declared.inbox.InEntry.{InEntry}
 use Rattle.as2_exchange.specs.declared.inbox.ReceiptDelivery.{ReceiptDelivery}
 use Rattle.as2_exchange.specs.declared.inbox.ReceiptDelivery.TheVariants.{NoReceipt, Sync, Async}
 use Rattle.as2_mdn.specs.declared.outcome.Outcome.{Outcome}
 use Rattle.as2_mdn.specs.declared.outcome.Outcome.TheVariants.{DecryptionFailed, DecompressionFailed, AuthenticationFailed, UnsupportedFormat, UnsupportedMicAlgorithms, Processed}
-use Rattle.as2_exchange.specs.declared.inbox.MdnState.{MdnState}
-use Rattle.as2_exchange.specs.declared.inbox.MdnState.TheVariants.{Unasked, Pending, Sent}
+use Rattle.as2_exchange.specs.declared.inbox.ReceiptStage.{ReceiptStage}
+use Rattle.as2_exchange.specs.declared.inbox.ReceiptStage.TheVariants.{Unasked, Pending, Sent}
 use Rattle.as2_exchange.specs.declared.attempt.Attempt.{Attempt}
 use Rattle.as2_exchange.specs.declared.attempt.Attempt.TheVariants.{Idle, Running, Last, Used}
-use Rattle.as2_rows.specs.Codes.{outcome_code, how_code, mdn_code, attempt_code}
+use Rattle.as2_rows.specs.Codes.{outcome_code, how_code, receipt_stage_code, attempt_code}
 use Rattle.as2_store.proofs.MetaRow.{fits_i64}
 use Rattle.as2_rows.specs.Rows.{in_row, in_shown, url_value, digest_value, mic_value}
 use Rattle.as2_store.specs.Tables.{Way, store_schema, inbox_table, inbox_tree}
@@ -30,11 +30,11 @@ cast_url NoReceipt = refl
 cast_url Sync = refl
 cast_url (Async url) = refl
 
-pub cast_digest : (mic : Option ReportMic) → cast Text (digest_value mic) ≡ digest_value mic
+pub cast_digest : (mic : Option ReceiptMic) → cast Text (digest_value mic) ≡ digest_value mic
 cast_digest None = refl
 cast_digest (Some mic) = refl
 
-pub cast_mic : (mic : Option ReportMic) → cast Blob (mic_value mic) ≡ mic_value mic
+pub cast_mic : (mic : Option ReceiptMic) → cast Blob (mic_value mic) ≡ mic_value mic
 cast_mic None = refl
 cast_mic (Some mic) = refl
 
@@ -45,11 +45,11 @@ bound_url NoReceipt = refl
 bound_url Sync = refl
 bound_url (Async url) = refl
 
-pub bound_digest : (mic : Option ReportMic) → bound_value (digest_value mic) ≡ digest_value mic
+pub bound_digest : (mic : Option ReceiptMic) → bound_value (digest_value mic) ≡ digest_value mic
 bound_digest None = refl
 bound_digest (Some mic) = refl
 
-pub bound_mic : (mic : Option ReportMic) → bound_value (mic_value mic) ≡ mic_value mic
+pub bound_mic : (mic : Option ReceiptMic) → bound_value (mic_value mic) ≡ mic_value mic
 bound_mic None = refl
 bound_mic (Some mic) = refl
 
@@ -73,10 +73,10 @@ passed_how how = fits_i64 (how_code how) (small how)
     small Sync = omega arith
     small (Async url) = omega arith
 
-pub passed_mdn : (mdn : MdnState) → to_z w64 (of_z w64 (pos (mdn_code mdn))) ≡ pos (mdn_code mdn)
-passed_mdn mdn = fits_i64 (mdn_code mdn) (small mdn)
+pub passed_receipt : (receipt_stage : ReceiptStage) → to_z w64 (of_z w64 (pos (receipt_stage_code receipt_stage))) ≡ pos (receipt_stage_code receipt_stage)
+passed_receipt receipt_stage = fits_i64 (receipt_stage_code receipt_stage) (small receipt_stage)
   where
-    small : (mdn : MdnState) → mdn_code mdn < 2 ^ 63
+    small : (receipt_stage : ReceiptStage) → receipt_stage_code receipt_stage < 2 ^ 63
     small Unasked = omega arith
     small Pending = omega arith
     small Sent = omega arith

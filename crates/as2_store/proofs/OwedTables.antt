@@ -20,19 +20,19 @@ use Rattle.as2_exchange.specs.Invariants.{AreNumbers}
 use Rattle.as2_exchange.specs.declared.inbox.InEntry.{InEntry}
 use Rattle.as2_exchange.specs.declared.outbox.OutEntry.{OutEntry}
 use Rattle.as2_exchange.proofs.Lists.{all_weaken, map_kept}
-use Rattle.as2_rows.specs.Codes.{attempt_code, mdn_code}
+use Rattle.as2_rows.specs.Codes.{attempt_code, receipt_stage_code}
 use Rattle.as2_rows.specs.Rows.{in_row, whole, whole_or_null}
 use Rattle.as2_rows.specs.Contents.{pieces, piece_shown}
-use Rattle.as2_rows.specs.Waiting.{WaitingRow, in_waiting, waiting_in, to_send, to_answer, to_hear, to_end}
+use Rattle.as2_rows.specs.Waiting.{WaitingRow, in_waiting, waiting_in, to_send, to_send_receipt, to_hear, to_end}
 use Rattle.as2_store.specs.Tables.{Way, Layout, VersionThree, store_schema, inbox_table, inbox_tree, inbox_piece_tree}
 use Rattle.as2_store.proofs.Statements.{in_set_text}
 use Rattle.as2_store.specs.Stands.{IsWhole, Stands, waiting_row, documents_waiting, all_waiting, inbox_pieces}
 use Rattle.as2_store.specs.Adding.{noted_rows}
 use Rattle.as2_store.specs.Owing.{answers_at}
-use Rattle.as2_records.specs.Owing.{owed_as, set_mdn_in}
+use Rattle.as2_records.specs.Owing.{with_receipt_progress, set_receipt_in}
 use Rattle.as2_store.specs.Requeuing.{not_at, HoldsWaiting, RenewsWaiting}
 use Rattle.as2_store.specs.Settling.{place_of}
-use Rattle.as2_records.specs.declared.progress.MdnProgress.{MdnProgress}
+use Rattle.as2_records.specs.declared.progress.ReceiptProgress.{ReceiptProgress}
 use Rattle.as2_store.proofs.NumberedRows.{numbers_rise, entries_rise}
 use Rattle.as2_store.proofs.WaitingRows.{IsLast, cast_optional, documents_of, ins_small, kind_is_last}
 use Rattle.as2_store.proofs.InboxRow.{cast_url, cast_digest, cast_mic}
@@ -47,33 +47,33 @@ use Rattle.as2_store.proofs.WaitingPlaces.{documents_rise, receipts_rise, places
 
 -- ---- the statement
 
-abbrev pub owed_params : ℕ → MdnProgress → Row
-owed_params n p = Int (pos n) ∷ whole (mdn_code p.mdn) ∷ whole p.tries ∷ whole (attempt_code p.attempt) ∷ whole_or_null p.due ∷ []
+abbrev pub owed_params : ℕ → ReceiptProgress → Row
+owed_params n p = Int (pos n) ∷ whole (receipt_stage_code p.receipt_stage) ∷ whole p.tries ∷ whole (attempt_code p.attempt) ∷ whole_or_null p.due ∷ []
 
-as_rows : (n w : ℕ) (p : MdnProgress) (es : List InEntry) → AllByRecursion (λ (e : InEntry). (e.number == w) ≡ (e.number == n)) es
-    → map (λ (e : InEntry). cond (passes number_terms (owed_params w p) (in_row e)) (in_row (owed_as p e)) (in_row e)) es ≡ map in_row (changed in_number n (owed_as p) es)
+as_rows : (n w : ℕ) (p : ReceiptProgress) (es : List InEntry) → AllByRecursion (λ (e : InEntry). (e.number == w) ≡ (e.number == n)) es
+    → map (λ (e : InEntry). cond (passes number_terms (owed_params w p) (in_row e)) (in_row (with_receipt_progress p e)) (in_row e)) es ≡ map in_row (changed in_number n (with_receipt_progress p) es)
 as_rows n w p [] same = refl
 as_rows n w p (e ∷ es) same =
-    ap₂ ◌∷◌ (ap (λ t. cond t (in_row (owed_as p e)) (in_row e)) (ap (λ b. b && true) (numbers_equal e.number w) ∙ and_true _ ∙ same.0) ∙ by_case (e.number == n)) (as_rows n w p es same.1)
+    ap₂ ◌∷◌ (ap (λ t. cond t (in_row (with_receipt_progress p e)) (in_row e)) (ap (λ b. b && true) (numbers_equal e.number w) ∙ and_true _ ∙ same.0) ∙ by_case (e.number == n)) (as_rows n w p es same.1)
   where
-    by_case : (t : Bool) → cond t (in_row (owed_as p e)) (in_row e) ≡ in_row (cond t (owed_as p e) e)
+    by_case : (t : Bool) → cond t (in_row (with_receipt_progress p e)) (in_row e) ≡ in_row (cond t (with_receipt_progress p e) e)
     by_case true = refl
     by_case false = refl
 
-pub sets_owed : {way : Way} (n w count : ℕ) (p : MdnProgress) → (end_of_numbers ≤ n → w ≡ end_of_numbers) → (n < end_of_numbers → w ≡ n)
+pub sets_owed : {way : Way} (n w count : ℕ) (p : ReceiptProgress) → (end_of_numbers ≤ n → w ≡ end_of_numbers) → (n < end_of_numbers → w ≡ n)
     → (old new : Connected) (s : State) → Stands (VersionThree way) old.now s → Executes in_set_text (owed_params w p) old new (Ok count)
-    → ChangesTable old new (store_schema way) (inbox_tree way) (map in_row (change_received s n (owed_as p)).inbox)
+    → ChangesTable old new (store_schema way) (inbox_tree way) (map in_row (change_received s n (with_receipt_progress p)).inbox)
     × (count ≡ length (filter (λ (e : InEntry). e.number == n) s.inbox))
 sets_owed {way} n w count p beyond within old new s it h =
     let low = all_weaken (λ k. k < s.next_in) (λ k. k < end_of_numbers) (λ k less. omega (arith, less, it.receipts.0.most)) (map (λ (e : InEntry). e.number) s.inbox) it.receipts.1.below in
     let same = same_tests (λ (e : InEntry). e.number) n w beyond within s.inbox low in
-    let done = updates in_set_text (owed_params w p) old new (store_schema way) it.schema (inbox_place way) (inbox_table way) (inbox_there way) number_terms owed_project (λ (e : InEntry). pos e.number) in_row (λ _. refl) (λ (e : InEntry). in_row (owed_as p e)) (λ _. refl)
+    let done = updates in_set_text (owed_params w p) old new (store_schema way) it.schema (inbox_place way) (inbox_table way) (inbox_there way) number_terms owed_project (λ (e : InEntry). pos e.number) in_row (λ _. refl) (λ (e : InEntry). in_row (with_receipt_progress p e)) (λ _. refl)
     (λ e. simp (cast_int, cast_null, cast_optional, cast_url, cast_digest, cast_mic)) s.inbox it.entries.inbox (entries_rise in_row (λ (e : InEntry). e.number) (λ _. refl) s.next_in s.inbox it.receipts.1) (quiet way (inbox_tree way)) (in_set_is way) (in_set_plain way) count h in (
       subst (ChangesTable old new (store_schema way) (inbox_tree way)) (as_rows n w p s.inbox same) done.0,
       done.1 ∙ ap length (filter_same (λ (e : InEntry). passes number_terms (owed_params w p) (in_row e)) (λ (e : InEntry). e.number == w) s.inbox (of_number w p s.inbox) ∙ filter_same (λ (e : InEntry). e.number == w) (λ (e : InEntry). e.number == n) s.inbox same),
     )
   where
-    of_number : (w : ℕ) (p : MdnProgress) (es : List InEntry)
+    of_number : (w : ℕ) (p : ReceiptProgress) (es : List InEntry)
         → AllByRecursion (λ (e : InEntry). passes number_terms (owed_params w p) (in_row e) ≡ (e.number == w)) es
     of_number w p [] = tt
     of_number w p (e ∷ es) = (ap (λ b. b && true) (numbers_equal e.number w) ∙ and_true _, of_number w p es)
@@ -102,26 +102,26 @@ holds way a b s it rows one = record {
 }
 
 waiting_above : (n : ℕ) (es : List InEntry) → AllByRecursion (λ (e : InEntry). n < e.number) es
-    → AllByRecursion (λ v. (v.kind ≡ to_answer) × (n < v.number)) (waiting_in es)
+    → AllByRecursion (λ v. (v.kind ≡ to_send_receipt) × (n < v.number)) (waiting_in es)
 waiting_above n [] all = tt
-waiting_above n (e ∷ es) all = go (in_waiting e) (kind_is_last e.mdn e.attempt e.number e.due) (waiting_above n es all.1)
+waiting_above n (e ∷ es) all = go (in_waiting e) (kind_is_last e.receipt_stage e.attempt e.number e.due) (waiting_above n es all.1)
   where
-    go : (o : Option WaitingRow) → IfSome o (IsLast e.number) → AllByRecursion (λ v. (v.kind ≡ to_answer) × (n < v.number)) (waiting_in es)
-        → AllByRecursion (λ v. (v.kind ≡ to_answer) × (n < v.number)) (cons_option o (waiting_in es))
+    go : (o : Option WaitingRow) → IfSome o (IsLast e.number) → AllByRecursion (λ v. (v.kind ≡ to_send_receipt) × (n < v.number)) (waiting_in es)
+        → AllByRecursion (λ v. (v.kind ≡ to_send_receipt) × (n < v.number)) (cons_option o (waiting_in es))
     go None is rest = rest
     go (Some v) is rest = ((is.0, omega (arith, is.1, all.0)), rest)
 
-waits_on : (s : State) (n : ℕ) (p : MdnProgress) → n < end_of_numbers → AllByRecursion (λ k. k < end_of_numbers) (map (λ (d : OutEntry). d.number) s.outbox)
+waits_on : (s : State) (n : ℕ) (p : ReceiptProgress) → n < end_of_numbers → AllByRecursion (λ k. k < end_of_numbers) (map (λ (d : OutEntry). d.number) s.outbox)
     → Split in_number n s.inbox
-    → noted_rows (answers_at n p) (map waiting_row (not_at (place_of to_answer n) (all_waiting s))) ≡ map waiting_row (all_waiting (change_received s n (owed_as p)))
+    → noted_rows (answers_at n p) (map waiting_row (not_at (place_of to_send_receipt n) (all_waiting s))) ≡ map waiting_row (all_waiting (change_received s n (with_receipt_progress p)))
 waits_on s n p small outs it =
     let send = documents_waiting to_send s.outbox in
     let late = documents_waiting to_hear s.outbox ++ documents_waiting to_end s.outbox in
     let was : waiting_in s.inbox ≡ waiting_in it.front ++ cons_option (in_waiting it.one) (waiting_in it.back) = ap waiting_in it.whole ∙ filter_map-append in_waiting it.front (it.one ∷ it.back) in
-    let now : waiting_in (changed in_number n (owed_as p) s.inbox) ≡ waiting_in it.front ++ cons_option (answers_at n p) (waiting_in it.back) =
-    ap waiting_in (changed_split in_number n (owed_as p) s.inbox it) ∙ filter_map-append in_waiting it.front (owed_as p it.one ∷ it.back) ∙ ap (λ k. waiting_in it.front ++ cons_option (answers_at k p) (waiting_in it.back)) it.here in
-    ap (λ l. noted_rows (answers_at n p) (map waiting_row (not_at (place_of to_answer n) (send ++ (l ++ late))))) was
-    ∙ renewed n (answers_at n p) (kind_is_last p.mdn p.attempt n p.due) small (in_waiting it.one) (subst (λ k. IfSome (in_waiting it.one) (IsLast k)) it.here (kind_is_last it.one.mdn it.one.attempt it.one.number it.one.due))
+    let now : waiting_in (changed in_number n (with_receipt_progress p) s.inbox) ≡ waiting_in it.front ++ cons_option (answers_at n p) (waiting_in it.back) =
+    ap waiting_in (changed_split in_number n (with_receipt_progress p) s.inbox it) ∙ filter_map-append in_waiting it.front (with_receipt_progress p it.one ∷ it.back) ∙ ap (λ k. waiting_in it.front ++ cons_option (answers_at k p) (waiting_in it.back)) it.here in
+    ap (λ l. noted_rows (answers_at n p) (map waiting_row (not_at (place_of to_send_receipt n) (send ++ (l ++ late))))) was
+    ∙ renewed n (answers_at n p) (kind_is_last p.receipt_stage p.attempt n p.due) small (in_waiting it.one) (subst (λ k. IfSome (in_waiting it.one) (IsLast k)) it.here (kind_is_last it.one.receipt_stage it.one.attempt it.one.number it.one.due))
     send (waiting_in it.front) (waiting_in it.back) (documents_waiting to_hear s.outbox) (documents_waiting to_end s.outbox)
     (documents_of to_send end_of_numbers s.outbox outs) (ins_small n it.front (all-map (λ k. k < n) (λ (e : InEntry). e.number) it.front it.low)) (waiting_above n it.back it.high)
     (documents_of to_hear end_of_numbers s.outbox outs) (documents_of to_end end_of_numbers s.outbox outs)
@@ -129,28 +129,28 @@ waits_on s n p small outs it =
 
 -- ---- the state
 
-same_pieces : (n : ℕ) (p : MdnProgress) (es : List InEntry) → inbox_pieces (changed in_number n (owed_as p) es) ≡ inbox_pieces es
+same_pieces : (n : ℕ) (p : ReceiptProgress) (es : List InEntry) → inbox_pieces (changed in_number n (with_receipt_progress p) es) ≡ inbox_pieces es
 same_pieces n p [] = refl
 same_pieces n p (e ∷ es) = ap₂ ◌++◌ (by_case (e.number == n)) (same_pieces n p es)
   where
-    by_case : (t : Bool) → pieces (cond t (owed_as p e) e).number (cond t (owed_as p e) e).posted.content ≡ pieces e.number e.posted.content
+    by_case : (t : Bool) → pieces (cond t (with_receipt_progress p e) e).number (cond t (with_receipt_progress p e) e).posted.content ≡ pieces e.number e.posted.content
     by_case true = refl
     by_case false = refl
 
-same_numbers : (n : ℕ) (p : MdnProgress) (es : List InEntry)
-    → map (λ (e : InEntry). e.number) (changed in_number n (owed_as p) es) ≡ map (λ (e : InEntry). e.number) es
-same_numbers n p es = map_kept (λ (e : InEntry). e.number) (λ (e : InEntry). cond (e.number == n) (owed_as p e) e) (λ e. by_case e (e.number == n)) es
+same_numbers : (n : ℕ) (p : ReceiptProgress) (es : List InEntry)
+    → map (λ (e : InEntry). e.number) (changed in_number n (with_receipt_progress p) es) ≡ map (λ (e : InEntry). e.number) es
+same_numbers n p es = map_kept (λ (e : InEntry). e.number) (λ (e : InEntry). cond (e.number == n) (with_receipt_progress p e) e) (λ e. by_case e (e.number == n)) es
   where
-    by_case : (e : InEntry) (t : Bool) → (cond t (owed_as p e) e).number ≡ e.number
+    by_case : (e : InEntry) (t : Bool) → (cond t (with_receipt_progress p e) e).number ≡ e.number
     by_case e true = refl
     by_case e false = refl
 
 -- the tables stand for the state with the receipt further on, where an entry has the number
-pub stands_owed : (way : Way) (a b c : Connected) (s : State) (n w : ℕ) (p : MdnProgress) → (n < end_of_numbers → w ≡ n) → Stands (VersionThree way) a.now s
+pub stands_owed : (way : Way) (a b c : Connected) (s : State) (n w : ℕ) (p : ReceiptProgress) → (n < end_of_numbers → w ≡ n) → Stands (VersionThree way) a.now s
     → length (filter (λ (e : InEntry). e.number == n) s.inbox) ≢ 0
-    → ChangesTable a b (store_schema way) (inbox_tree way) (map in_row (change_received s n (owed_as p)).inbox)
-    → RenewsWaiting way b c (noted_rows (answers_at w p) (map waiting_row (not_at (place_of to_answer w) (all_waiting s))))
-    → Stands (VersionThree way) c.now (change_received s n (owed_as p))
+    → ChangesTable a b (store_schema way) (inbox_tree way) (map in_row (change_received s n (with_receipt_progress p)).inbox)
+    → RenewsWaiting way b c (noted_rows (answers_at w p) (map waiting_row (not_at (place_of to_send_receipt w) (all_waiting s))))
+    → Stands (VersionThree way) c.now (change_received s n (with_receipt_progress p))
 unfolding IsWhole
 stands_owed way a b c s n w p within it some one two =
     let has = it.entries in
@@ -171,7 +171,7 @@ stands_owed way a b c s n w p within it some one two =
         outbox = k2 AtOutbox (λ e. omega arith) ∙ k1 AtOutbox (λ e. omega arith) ∙ has.outbox;
         outbox_contents = unchanged (k2 AtOutboxPiece (λ e. omega arith) ∙ k1 AtOutboxPiece (λ e. omega arith)) has.outbox_contents;
         evidence = k2 AtEvidence (λ e. omega arith) ∙ k1 AtEvidence (λ e. omega arith) ∙ has.evidence;
-        waits = two.rows_are ∙ ap (λ k. noted_rows (answers_at k p) (map waiting_row (not_at (place_of to_answer k) (all_waiting s)))) (within small) ∙ waits_on s n p small outs found;
+        waits = two.rows_are ∙ ap (λ k. noted_rows (answers_at k p) (map waiting_row (not_at (place_of to_send_receipt k) (all_waiting s)))) (within small) ∙ waits_on s n p small outs found;
       };
       version = still_origin (k2 AtOrigin (λ e. omega arith) ∙ k1 AtOrigin (λ e. omega arith)) it.version;
       begun = still_resent (k2 AtResent (λ e. omega arith) ∙ k1 AtResent (λ e. omega arith)) it.begun;
@@ -181,14 +181,14 @@ stands_owed way a b c s n w p within it some one two =
     }
 
 -- and where none has it, the state is as it was
-pub nothing_owed : (s : State) (n : ℕ) (p : MdnProgress) → length (filter (λ (e : InEntry). e.number == n) s.inbox) ≡ 0 → change_received s n (owed_as p) ≡ s
-nothing_owed s n p none = ap (λ es. record s { inbox = es }) (changed_none in_number n (owed_as p) s.inbox (none_numbered in_number n s.inbox none))
+pub nothing_owed : (s : State) (n : ℕ) (p : ReceiptProgress) → length (filter (λ (e : InEntry). e.number == n) s.inbox) ≡ 0 → change_received s n (with_receipt_progress p) ≡ s
+nothing_owed s n p none = ap (λ es. record s { inbox = es }) (changed_none in_number n (with_receipt_progress p) s.inbox (none_numbered in_number n s.inbox none))
 
 -- the tables then stand for what they stood for
-pub stands_unnumbered : (way : Way) (a b : Connected) (s : State) (n : ℕ) (p : MdnProgress) → Stands (VersionThree way) a.now s
+pub stands_unnumbered : (way : Way) (a b : Connected) (s : State) (n : ℕ) (p : ReceiptProgress) → Stands (VersionThree way) a.now s
     → length (filter (λ (e : InEntry). e.number == n) s.inbox) ≡ 0
-    → ChangesTable a b (store_schema way) (inbox_tree way) (map in_row (change_received s n (owed_as p)).inbox)
-    → Stands (VersionThree way) b.now (change_received s n (owed_as p))
+    → ChangesTable a b (store_schema way) (inbox_tree way) (map in_row (change_received s n (with_receipt_progress p)).inbox)
+    → Stands (VersionThree way) b.now (change_received s n (with_receipt_progress p))
 unfolding IsWhole
 stands_unnumbered way a b s n p it none one =
     let has = it.entries in
@@ -216,24 +216,24 @@ stands_unnumbered way a b s n p it none one =
 -- ---- the transaction
 
 module _ {S : Type 0} (g : Ghosts S) (old : Held S) (mid : Connected) (n : ℕ) where
-  abbrev Set : MdnProgress → ℕ → Type 0
-  Set p count = (way : Way) (s : State) → Stands (VersionThree way) (state g old).now s → ChangesTable (state g (record old { in_transaction = true })) mid (store_schema way) (inbox_tree way) (map in_row (change_received s n (owed_as p)).inbox) × (count ≡ length (filter (λ (e : InEntry). e.number == n) s.inbox))
+  abbrev Set : ReceiptProgress → ℕ → Type 0
+  Set p count = (way : Way) (s : State) → Stands (VersionThree way) (state g old).now s → ChangesTable (state g (record old { in_transaction = true })) mid (store_schema way) (inbox_tree way) (map in_row (change_received s n (with_receipt_progress p)).inbox) × (count ≡ length (filter (λ (e : InEntry). e.number == n) s.inbox))
 
-  pub owes_none : (p : MdnProgress) (count : ℕ) → count ≡ 0 → (HasCleanDisk mid → IsTrue (state g old).is_open) → (HasCleanDisk mid → Set p count)
-      → HasCleanDisk mid → FollowsEach g old mid (set_mdn_in n p)
+  pub owes_none : (p : ReceiptProgress) (count : ℕ) → count ≡ 0 → (HasCleanDisk mid → IsTrue (state g old).is_open) → (HasCleanDisk mid → Set p count)
+      → HasCleanDisk mid → FollowsEach g old mid (set_receipt_in n p)
   owes_none p count none opened put clean = record {
     was_open = opened clean;
     reaches = λ s r.
         let here = r.stands (opened clean) in
         let one = put clean here.way s here.stands in
-        (change_received s n (owed_as p), refl, record { way = here.way; stands = stands_unnumbered here.way (state g (record old { in_transaction = true })) mid s n p here.stands (sym one.1 ∙ none) one.0 });
+        (change_received s n (with_receipt_progress p), refl, record { way = here.way; stands = stands_unnumbered here.way (state g (record old { in_transaction = true })) mid s n p here.stands (sym one.1 ∙ none) one.0 });
   }
 
-  pub owes_some : (last : Connected) (w : ℕ) (p : MdnProgress) → (n < end_of_numbers → w ≡ n) → (count : ℕ) → count ≢ 0
+  pub owes_some : (last : Connected) (w : ℕ) (p : ReceiptProgress) → (n < end_of_numbers → w ≡ n) → (count : ℕ) → count ≢ 0
       → (HasCleanDisk last → HasCleanDisk mid) → (HasCleanDisk mid → IsTrue (state g old).is_open) → (HasCleanDisk mid → Set p count)
       → (HasCleanDisk last → (way : Way) (ws : List WaitingRow) → HoldsWaiting way mid.now ws
-      → RenewsWaiting way mid last (noted_rows (answers_at w p) (map waiting_row (not_at (place_of to_answer w) ws)))) → HasCleanDisk last
-      → FollowsEach g old last (set_mdn_in n p)
+      → RenewsWaiting way mid last (noted_rows (answers_at w p) (map waiting_row (not_at (place_of to_send_receipt w) ws)))) → HasCleanDisk last
+      → FollowsEach g old last (set_receipt_in n p)
   owes_some last w p within count some was opened put renewed clean = record {
     was_open = opened (was clean);
     reaches = λ s r.
@@ -242,5 +242,5 @@ module _ {S : Type 0} (g : Ghosts S) (old : Held S) (mid : Connected) (n : ℕ) 
         let way = here.way in
         let one = put (was clean) way s here.stands in
         let two = renewed clean way (all_waiting s) (holds way begun mid s here.stands _ one.0) in
-        (change_received s n (owed_as p), refl, record { way = way; stands = stands_owed way begun mid last s n w p within here.stands (λ none. some (one.1 ∙ none)) one.0 two });
+        (change_received s n (with_receipt_progress p), refl, record { way = way; stands = stands_owed way begun mid last s n w p within here.stands (λ none. some (one.1 ∙ none)) one.0 two });
   }

@@ -19,7 +19,7 @@ use Rattle.as2_exchange.specs.declared.outbox.OutEntry.{OutEntry}
 use Rattle.as2_exchange.proofs.Lists.{map_kept}
 use Rattle.as2_rows.specs.Contents.{pieces}
 use Rattle.as2_rows.specs.Rows.{evidence_row}
-use Rattle.as2_rows.specs.Waiting.{WaitingRow, out_kind, out_waiting, waiting_in, waiting_out, to_send, to_answer, to_hear, to_end}
+use Rattle.as2_rows.specs.Waiting.{WaitingRow, out_kind, out_waiting, waiting_in, waiting_out, to_send, to_send_receipt, to_hear, to_end}
 use Rattle.as2_store.specs.Stands.{all_waiting, documents_waiting, evidence_rows, outbox_pieces}
 use Rattle.as2_store.specs.Due.{due_numbers}
 use Rattle.as2_store.specs.Expiring.{PassesInto, over, passed_documents, passing_in, passing_one, waits_for, without_due}
@@ -140,9 +140,9 @@ ended : (kind : ℕ) (detail : Detail) → PassesInto kind detail → (a : Attem
 ended kind detail (inl is) a = ap (λ x. out_kind x a) is.1
 ended kind detail (inr is) a = ap (λ x. out_kind x a) is.1
 
-other_kind : (kind : ℕ) (detail : Detail) → PassesInto kind detail → (to_answer == kind) ≡ false
-other_kind kind detail (inl is) = ap (λ k. to_answer == k) is.0
-other_kind kind detail (inr is) = ap (λ k. to_answer == k) is.0
+other_kind : (kind : ℕ) (detail : Detail) → PassesInto kind detail → (to_send_receipt == kind) ≡ false
+other_kind kind detail (inl is) = ap (λ k. to_send_receipt == k) is.0
+other_kind kind detail (inr is) = ap (λ k. to_send_receipt == k) is.0
 
 pub due_are_over : (kind : ℕ) (detail : Detail) → PassesInto kind detail → (m : ℕ) (s : State)
     → due_numbers kind m s ≡ map number_of (filter (over kind m) s.outbox)
@@ -170,11 +170,11 @@ module _ (kind m : ℕ) (detail : Detail) (into : PassesInto kind detail) where
   left_of : (k : ℕ) (ds : List OutEntry) → documents_waiting k (moved detail (over kind m) ds) ≡ without_due kind m (documents_waiting k ds)
   left_of k ds = ap (filter (λ w. w.kind == k)) (left ds) ∙ commute (λ w. w.kind == k) (λ w. not (w.kind == kind && is_due m w.due)) (waiting_out ds)
 
-  answers_stay : (ws : List WaitingRow) → AllByRecursion (λ w. (w.kind == to_answer) ≡ true) ws → without_due kind m ws ≡ ws
-  answers_stay ws all = filter_all (λ w. not (w.kind == kind && is_due m w.due)) ws (all_weaker (λ w. (w.kind == to_answer) ≡ true) (λ w. not (w.kind == kind && is_due m w.due) ≡ true) (λ w is. one w is) ws all)
+  answers_stay : (ws : List WaitingRow) → AllByRecursion (λ w. (w.kind == to_send_receipt) ≡ true) ws → without_due kind m ws ≡ ws
+  answers_stay ws all = filter_all (λ w. not (w.kind == kind && is_due m w.due)) ws (all_weaker (λ w. (w.kind == to_send_receipt) ≡ true) (λ w. not (w.kind == kind && is_due m w.due) ≡ true) (λ w is. one w is) ws all)
     where
-      one : (w : WaitingRow) → (w.kind == to_answer) ≡ true → not (w.kind == kind && is_due m w.due) ≡ true
-      one w is = let same : w.kind ≡ to_answer = grind (arith, nat_tests, is) in ap (λ t. not (t && is_due m w.due)) (ap (λ k. k == kind) same ∙ other_kind kind detail into)
+      one : (w : WaitingRow) → (w.kind == to_send_receipt) ≡ true → not (w.kind == kind && is_due m w.due) ≡ true
+      one w is = let same : w.kind ≡ to_send_receipt = grind (arith, nat_tests, is) in ap (λ t. not (t && is_due m w.due)) (ap (λ k. k == kind) same ∙ other_kind kind detail into)
 
   -- what waits is what waited, without what was due so
   pub waits_left : (s : State) → all_waiting (passing_in kind detail m s) ≡ without_due kind m (all_waiting s)

@@ -17,7 +17,7 @@ use Rattle.as2_mic.specs.declared.alg.Alg.{Alg}
 use Rattle.as2_mic.specs.declared.alg.Alg.TheVariants.{Md5, Sha1, Sha256}
 use Rattle.as2_mic.specs.Algs.{alg_name}
 use Rattle.as2_mic.specs.Pieces.{piece_size}
-use Rattle.as2_mdn.specs.declared.report.ReportMic.{ReportMic}
+use Rattle.as2_mdn.specs.declared.report.ReceiptMic.{ReceiptMic}
 use Rattle.as2_mdn.specs.declared.outcome.Outcome.{Outcome}
 use Rattle.as2_mdn.specs.declared.outcome.Outcome.TheVariants as outcome
 use Rattle.as2_mdn.specs.declared.detail.Detail.{Detail}
@@ -27,13 +27,13 @@ use Rattle.as2_exchange.specs.declared.attempt.Attempt.{Attempt}
 use Rattle.as2_exchange.specs.declared.attempt.Attempt.TheVariants as attempt
 use Rattle.as2_exchange.specs.declared.inbox.ReceiptDelivery.{ReceiptDelivery}
 use Rattle.as2_exchange.specs.declared.inbox.ReceiptDelivery.TheVariants.{NoReceipt, Sync, Async}
-use Rattle.as2_exchange.specs.declared.inbox.MdnState.{MdnState}
-use Rattle.as2_exchange.specs.declared.inbox.MdnState.TheVariants as mdn
+use Rattle.as2_exchange.specs.declared.inbox.ReceiptStage.{ReceiptStage}
+use Rattle.as2_exchange.specs.declared.inbox.ReceiptStage.TheVariants as receipt_stage
 use Rattle.as2_exchange.specs.declared.inbox.InEntry.{InEntry}
 use Rattle.as2_exchange.specs.declared.outbox.Evidence.{Evidence}
 use Rattle.as2_exchange.specs.declared.outbox.OutEntry.{OutEntry}
 use Rattle.as2_rows.specs.Rows.{whole, whole_or_null, url_value, digest_value, mic_value, in_columns, out_columns, in_row, out_row}
-use Rattle.as2_rows.specs.Codes.{outcome_code, how_code, mdn_code, attempt_code, detail_code}
+use Rattle.as2_rows.specs.Codes.{outcome_code, how_code, receipt_stage_code, attempt_code, detail_code}
 use Rattle.as2_rows.specs.Contents.{Piece, pieces, piece_bytes, piece_shown}
 use Rattle.as2_rows.specs.Summaries.{evidence_in}
 use Rattle.as2_records.specs.Summaries.{in_summary, in_entry, out_summary, out_entry}
@@ -81,16 +81,16 @@ outcome_injective = by_code outcome_code outcomes outcome.Processed back
     back outcome.UnsupportedMicAlgorithms = refl
     back outcome.Processed = refl
 
-abbrev receipt_states : List MdnState
-receipt_states = mdn.Unasked ∷ mdn.Unasked ∷ mdn.Pending ∷ mdn.Sent ∷ []
+abbrev receipt_states : List ReceiptStage
+receipt_states = receipt_stage.Unasked ∷ receipt_stage.Unasked ∷ receipt_stage.Pending ∷ receipt_stage.Sent ∷ []
 
-mdn_in : (a b : MdnState) → whole (mdn_code a) ≡ whole (mdn_code b) → a ≡ b
-mdn_in = by_code mdn_code receipt_states mdn.Unasked back
+receipt_stage_in : (a b : ReceiptStage) → whole (receipt_stage_code a) ≡ whole (receipt_stage_code b) → a ≡ b
+receipt_stage_in = by_code receipt_stage_code receipt_states receipt_stage.Unasked back
   where
-    back : (x : MdnState) → get_or receipt_states (mdn_code x) mdn.Unasked ≡ x
-    back mdn.Unasked = refl
-    back mdn.Pending = refl
-    back mdn.Sent = refl
+    back : (x : ReceiptStage) → get_or receipt_states (receipt_stage_code x) receipt_stage.Unasked ≡ x
+    back receipt_stage.Unasked = refl
+    back receipt_stage.Pending = refl
+    back receipt_stage.Sent = refl
 
 abbrev attempts : List Attempt
 attempts = attempt.Idle ∷ attempt.Idle ∷ attempt.Running ∷ attempt.Last ∷ attempt.Used ∷ []
@@ -154,7 +154,7 @@ alg_in Sha256 Md5 same = absurd (let names : alg_name Sha256 ≡ alg_name Md5 = 
 alg_in Sha256 Sha1 same = absurd (let names : alg_name Sha256 ≡ alg_name Sha1 = cc in omega (arith, ap length names))
 alg_in Sha256 Sha256 same = refl
 
-mic_in : (a b : Option ReportMic) → digest_value a ≡ digest_value b → mic_value a ≡ mic_value b → a ≡ b
+mic_in : (a b : Option ReceiptMic) → digest_value a ≡ digest_value b → mic_value a ≡ mic_value b → a ≡ b
 mic_in None None digests texts = refl
 mic_in None (Some y) digests texts = absurd cc
 mic_in (Some x) None digests texts = absurd cc
@@ -178,7 +178,7 @@ in_same a b same =
     let became = outcome_injective a.outcome b.outcome (at 9) in
     let how = how_in a.how b.how (at 10) (at 11) in
     let mic = mic_in a.mic b.mic (at 12) (at 13) in
-    let receipt = mdn_in a.mdn b.mdn (at 14) in
+    let receipt = receipt_stage_in a.receipt_stage b.receipt_stage (at 14) in
     let tries = whole_in a.tries b.tries (at 15) in
     let try = attempt_in a.attempt b.attempt (at 16) in
     let due = optional_in a.due b.due (at 17) in
@@ -193,7 +193,7 @@ in_same a b same =
       outcome = became i;
       how = how i;
       mic = mic i;
-      mdn = receipt i;
+      receipt_stage = receipt i;
       tries = tries i;
       attempt = try i;
       due = due i;

@@ -10,8 +10,8 @@ use Rattle.sql_tables.proofs.Queries.{numbers_at_least, numbers_at_most}
 use Rattle.as2_mdn.specs.Details.{class_of}
 use Rattle.as2_mdn.specs.declared.detail.Detail.{Detail}
 use Rattle.as2_mdn.specs.declared.detail.Detail.TheVariants.{New, Sending, Awaiting, Retry, Processed, NoReceiptAsked, Warning, NoMic, UnknownMic, NotProcessed, ErrorModifier, MicDiffers, TriesUsed, Overdue}
-use Rattle.as2_mdn.specs.declared.detail.State.{State as StateOf}
-use Rattle.as2_mdn.specs.declared.detail.State.TheVariants.{P, R, S, W, E}
+use Rattle.as2_mdn.specs.declared.detail.DetailClass.{DetailClass}
+use Rattle.as2_mdn.specs.declared.detail.DetailClass.TheVariants.{P, R, S, W, E}
 use Rattle.as2_exchange.specs.State.{State}
 use Rattle.as2_exchange.specs.Progress.{is_in, same_state}
 use Rattle.as2_exchange.specs.declared.outbox.OutEntry.{OutEntry}
@@ -28,12 +28,12 @@ use Rattle.as2_store.proofs.Statements.{out_by_details_text}
 use Rattle.as2_store.proofs.Texts.{details_terms, out_by_details_is, out_by_details_plain, out_by_details_unlisted, out_column_terms, out_names}
 
 -- the code is one of those between the first and the last of the state
-abbrev is_between : Option StateOf → Detail → Bool
+abbrev is_between : Option DetailClass → Detail → Bool
 is_between wanted detail = nat_le (detail_code (first_detail wanted)) (detail_code detail) && nat_le (detail_code detail) (detail_code (last_detail wanted))
 
 -- of each state, the codes between its first and its last are all of its own
 module _ (x : Detail) where
-  abbrev Covers : StateOf → Type 0
+  abbrev Covers : DetailClass → Type 0
   Covers state = (is_between (Some state) x && same_state state (class_of x)) ≡ same_state state (class_of x)
 
 covers : (x : Detail) → is_between None x ≡ true × Covers x P × Covers x R × Covers x S × Covers x W × Covers x E
@@ -52,7 +52,7 @@ covers MicDiffers = (refl, refl, refl, refl, refl, refl)
 covers TriesUsed = (refl, refl, refl, refl, refl, refl)
 covers Overdue = (refl, refl, refl, refl, refl, refl)
 
-covered : (wanted : Option StateOf) (d : OutEntry) → (is_between wanted d.detail && is_in wanted d) ≡ is_in wanted d
+covered : (wanted : Option DetailClass) (d : OutEntry) → (is_between wanted d.detail && is_in wanted d) ≡ is_in wanted d
 covered None d = ap (λ t. t && true) (covers d.detail).0
 covered (Some P) d = (covers d.detail).1
 covered (Some R) d = (covers d.detail).2
@@ -60,7 +60,7 @@ covered (Some S) d = (covers d.detail).3
 covered (Some W) d = (covers d.detail).4
 covered (Some E) d = (covers d.detail).5
 
-pub kept_all : (wanted : Option StateOf) (ds : List OutEntry)
+pub kept_all : (wanted : Option DetailClass) (ds : List OutEntry)
     → filter (is_in wanted) (filter (λ (d : OutEntry). is_between wanted d.detail) ds) ≡ filter (is_in wanted) ds
 kept_all wanted [] = refl
 kept_all wanted (d ∷ ds) = go (is_between wanted d.detail) (is_in wanted d) refl (covered wanted d) (kept_all wanted ds)
@@ -72,7 +72,7 @@ kept_all wanted (d ∷ ds) = go (is_between wanted d.detail) (is_in wanted d) re
     go false true own is rest = absurd cc
     go false false own is rest = rest ∙ sym (ap (λ t. cond t (d ∷ filter (is_in wanted) ds) (filter (is_in wanted) ds)) own)
 
-pub lists_between : (wanted : Option StateOf) (old new : Connected) (rows : List Row) → Shown out_by_details_text (state_codes wanted) old new rows
+pub lists_between : (wanted : Option DetailClass) (old new : Connected) (rows : List Row) → Shown out_by_details_text (state_codes wanted) old new rows
     → (s : State) → Rests old s
     → rows ≡ map out_shown (filter (λ (d : OutEntry). is_between wanted d.detail) s.outbox)
 lists_between wanted old new rows h s r =
@@ -85,7 +85,7 @@ lists_between wanted old new rows h s r =
     (entries_rise out_row (λ (d : OutEntry). d.number) (λ _. refl) s.next_out s.outbox it.documents.1)
 
 -- one row more is listed where it is of the state
-pub one_more_document : (wanted : Option StateOf) (ds : List OutEntry) (d : OutEntry) (done : List OutRow) (row : OutRow)
+pub one_more_document : (wanted : Option DetailClass) (ds : List OutEntry) (d : OutEntry) (done : List OutRow) (row : OutRow)
     → done ≡ map out_summary (filter (is_in wanted) ds) → row ≡ out_summary d
     → cond (detail_in wanted row.detail) (done ++ row ∷ []) done ≡ map out_summary (filter (is_in wanted) (ds ++ d ∷ []))
 one_more_document wanted ds d done row so_far is =
@@ -97,7 +97,7 @@ one_more_document wanted ds d done row so_far is =
     by true l = refl
     by false l = sym (append-nil l)
 
-    joined : (wanted : Option StateOf)
+    joined : (wanted : Option DetailClass)
         → cond (detail_in wanted d.detail) (map out_summary (filter (is_in wanted) ds) ++ out_summary d ∷ []) (map out_summary (filter (is_in wanted) ds)) ≡ (map out_summary (filter (is_in wanted) ds) ++ map out_summary (filter (is_in wanted) (d ∷ [])))
     joined None = by true (map out_summary (filter (is_in None) ds))
     joined (Some state) = by (detail_in (Some state) d.detail) (map out_summary (filter (is_in (Some state)) ds))

@@ -59,8 +59,8 @@ abbrev pub piece_put_text : Mailbox → List ℕ
 piece_put_text Inbox = codes "INSERT INTO inbox2_piece (number, position, bytes) VALUES (?1, ?2, ?3)"
 piece_put_text Outbox = codes "INSERT INTO outbox_piece (number, position, bytes) VALUES (?1, ?2, ?3)"
 
-abbrev pub mdn_text : List ℕ
-mdn_text = codes "SELECT mdn FROM inbox2 ORDER BY number"
+abbrev pub receipt_stage_text : List ℕ
+receipt_stage_text = codes "SELECT mdn FROM inbox2 ORDER BY number"
 
 abbrev pub in_by_key_text : List ℕ
 in_by_key_text = codes "SELECT number, sender, receiver, identifier_value, identifier, content_type, length, moment, outcome, how, url, digest, mic, mdn, tries, attempt, due FROM inbox2 WHERE sender = ?1 AND receiver = ?2 AND identifier_value = ?3 ORDER BY number"

@@ -20,7 +20,7 @@ use Rattle.sql_tables.proofs.Changing.{update_program}
 use Rattle.sql_tables.proofs.Deleting.{delete_program}
 use Rattle.as2_store.specs.declared.contents.Mailbox.TheVariants.{Inbox, Outbox}
 use Rattle.as2_store.specs.Tables.{Way, Fresh, Migrated, store_schema, meta_table, meta_tree, inbox_table, inbox_piece_table, origin_table, resent_table, inbox_tree, inbox_piece_tree, outbox_tree, outbox_piece_tree, evidence_tree, waiting_tree, origin_tree, resent_tree}
-use Rattle.as2_store.proofs.Statements.{meta_put_text, meta_read_text, receipt_text, document_text, in_put_text, piece_put_text, in_by_key_text, in_by_number_text, in_all_text, in_pieces_text, in_set_text, out_put_text, out_by_id_text, out_by_number_text, out_by_details_text, out_pieces_text, evidence_by_number_text, settled_text, mdn_text, detail_text, evidence_put_text, out_set_text, out_settle_text, out_pass_text, waiting_put_text, waiting_read_text, waiting_take_text, waiting_take_due_text, any_due_text, all_due_text, least_due_text, origin_put_text, origin_read_text, resent_put_text, resent_take_text, resent_read_text, tried_text}
+use Rattle.as2_store.proofs.Statements.{meta_put_text, meta_read_text, receipt_text, document_text, in_put_text, piece_put_text, in_by_key_text, in_by_number_text, in_all_text, in_pieces_text, in_set_text, out_put_text, out_by_id_text, out_by_number_text, out_by_details_text, out_pieces_text, evidence_by_number_text, settled_text, receipt_stage_text, detail_text, evidence_put_text, out_set_text, out_settle_text, out_pass_text, waiting_put_text, waiting_read_text, waiting_take_text, waiting_take_due_text, any_due_text, all_due_text, least_due_text, origin_put_text, origin_read_text, resent_put_text, resent_take_text, resent_read_text, tried_text}
 
 -- ---- where the tables stand
 
@@ -418,24 +418,24 @@ unfolding understood everything
 detail_unlisted Fresh = refl
 detail_unlisted Migrated = refl
 
-abbrev pub mdn_column_terms : List Term
-mdn_column_terms = col 1 14 ∷ []
+abbrev pub receipt_stage_column_terms : List Term
+receipt_stage_column_terms = col 1 14 ∷ []
 
-pub mdn_is : (way : Way)
-    → command_of (understood (store_schema way) mdn_text) ≡ Select (record { lets = []; body = over_table (inbox_tree way) [] mdn_column_terms by_number (lit (Int (negsuc 0))) }) (codes "mdn" ∷ [])
+pub receipt_stage_is : (way : Way)
+    → command_of (understood (store_schema way) receipt_stage_text) ≡ Select (record { lets = []; body = over_table (inbox_tree way) [] receipt_stage_column_terms by_number (lit (Int (negsuc 0))) }) (codes "mdn" ∷ [])
 unfolding understood everything
-mdn_is Fresh = refl
-mdn_is Migrated = refl
+receipt_stage_is Fresh = refl
+receipt_stage_is Migrated = refl
 
-pub mdn_plain : (way : Way) → IsPlain (understood (store_schema way) mdn_text)
+pub receipt_stage_plain : (way : Way) → IsPlain (understood (store_schema way) receipt_stage_text)
 unfolding understood everything
-mdn_plain Fresh = (refl, refl)
-mdn_plain Migrated = (refl, refl)
+receipt_stage_plain Fresh = (refl, refl)
+receipt_stage_plain Migrated = (refl, refl)
 
-pub mdn_unlisted : (way : Way) → reads_listing (store_schema way) mdn_text ≡ false
+pub receipt_stage_unlisted : (way : Way) → reads_listing (store_schema way) receipt_stage_text ≡ false
 unfolding understood everything
-mdn_unlisted Fresh = refl
-mdn_unlisted Migrated = refl
+receipt_stage_unlisted Fresh = refl
+receipt_stage_unlisted Migrated = refl
 
 abbrev pub evidence_put_terms : List Term
 evidence_put_terms = col 0 0 ∷ lit Null ∷ col 0 1 ∷ col 0 2 ∷ col 0 3 ∷ []

@@ -4,11 +4,11 @@ use Rattle.sqlite.specs.Steps.{FailsToCommit}
 use Rattle.sqlite.specs.declared.error.Error.{Error}
 use Rattle.sqlite.specs.Effect.{Database}
 use Rattle.sqlite.specs.State.{State as Connected, Shows, IsRolledBack, KeepsCommit}
-use Rattle.as2_exchange.specs.State.{State, AllDigests, digests_of, known_digests}
+use Rattle.as2_exchange.specs.State.{State, AllDigests, state_digests, known_digests}
 use Rattle.as2_store.specs.Stands.{Holds, Rests}
 
 -- tables of the version that is read hold a state that knows each digest
-pub knows_all : (d : Database) (s : State) → Holds d s → digests_of s ≡ AllDigests
+pub knows_all : (d : Database) (s : State) → Holds d s → state_digests s ≡ AllDigests
 knows_all d s it = ap known_digests it.stands.version.version_is
 
 -- what goes back to the last commit stands for what it stood for

@@ -12,7 +12,7 @@ use Rattle.as2_exchange.specs.declared.attempt.Attempt.{Attempt}
 use Rattle.as2_exchange.specs.declared.attempt.Attempt.TheVariants.{Idle, Running, Last, Used}
 use Rattle.as2_exchange.specs.declared.inbox.InEntry.{InEntry}
 use Rattle.as2_exchange.specs.declared.outbox.OutEntry.{OutEntry}
-use Rattle.as2_rows.specs.Waiting.{WaitingRow, out_kind, out_waiting, waiting_in, waiting_out, to_send, to_answer, to_hear, to_end}
+use Rattle.as2_rows.specs.Waiting.{WaitingRow, out_kind, out_waiting, waiting_in, waiting_out, to_send, to_send_receipt, to_hear, to_end}
 use Rattle.as2_store.specs.Stands.{place, waiting_row, documents_waiting}
 use Rattle.as2_store.specs.Adding.{noted_rows}
 use Rattle.as2_store.specs.Requeuing.{not_at}
@@ -86,7 +86,7 @@ at_place n due kind (Some k) = go (k == kind) refl
 
 -- lists in order of the places, before and behind those of number n
 module _ (n : ℕ) (small : n < end_of_numbers) (send1 send2 answer hear1 hear2 end1 end2 : List WaitingRow)
-    (s1 : AllByRecursion (IsOf to_send n) send1) (s2 : AllByRecursion (λ w. IsOf to_send end_of_numbers w × (n < w.number)) send2) (a : AllByRecursion (IsOf to_answer end_of_numbers) answer)
+    (s1 : AllByRecursion (IsOf to_send n) send1) (s2 : AllByRecursion (λ w. IsOf to_send end_of_numbers w × (n < w.number)) send2) (a : AllByRecursion (IsOf to_send_receipt end_of_numbers) answer)
     (h1 : AllByRecursion (IsOf to_hear n) hear1) (h2 : AllByRecursion (λ w. IsOf to_hear end_of_numbers w × (n < w.number)) hear2)
     (e1 : AllByRecursion (IsOf to_end n) end1) (e2 : AllByRecursion (λ w. IsOf to_end end_of_numbers w × (n < w.number)) end2) where
   abbrev joined : Option WaitingRow → Option WaitingRow → Option WaitingRow → List WaitingRow
@@ -134,12 +134,12 @@ module _ (n : ℕ) (small : n < end_of_numbers) (send1 send2 answer hear1 hear2 
 
   low3 : AllByRecursion (λ w. place w < place_of to_hear n) before3
   low3 = all-append (λ w. place w < place_of to_hear n) (send1 ++ send2) (answer ++ hear1) (sends_low to_hear (omega arith))
-      (all-append (λ w. place w < place_of to_hear n) answer hear1 (all_weaker (IsOf to_answer end_of_numbers) (λ w. place w < place_of to_hear n) (λ w is. omega (arith, is.0, is.1)) answer a)
+      (all-append (λ w. place w < place_of to_hear n) answer hear1 (all_weaker (IsOf to_send_receipt end_of_numbers) (λ w. place w < place_of to_hear n) (λ w is. omega (arith, is.0, is.1)) answer a)
       (all_weaker (IsOf to_hear n) (λ w. place w < place_of to_hear n) (λ w is. omega (arith, is.0, is.1)) hear1 h1))
 
   low4 : AllByRecursion (λ w. place w < place_of to_end n) before4
   low4 = all-append (λ w. place w < place_of to_end n) (send1 ++ send2) (answer ++ ((hear1 ++ hear2) ++ end1)) (sends_low to_end (omega arith))
-      (all-append (λ w. place w < place_of to_end n) answer ((hear1 ++ hear2) ++ end1) (all_weaker (IsOf to_answer end_of_numbers) (λ w. place w < place_of to_end n) (λ w is. omega (arith, is.0, is.1)) answer a)
+      (all-append (λ w. place w < place_of to_end n) answer ((hear1 ++ hear2) ++ end1) (all_weaker (IsOf to_send_receipt end_of_numbers) (λ w. place w < place_of to_end n) (λ w is. omega (arith, is.0, is.1)) answer a)
       (all-append (λ w. place w < place_of to_end n) (hear1 ++ hear2) end1
       (all-append (λ w. place w < place_of to_end n) hear1 hear2 (all_weaker (IsOf to_hear n) (λ w. place w < place_of to_end n) (λ w is. omega (arith, is.0, is.1, small)) hear1 h1)
       (all_weaker (λ w. IsOf to_hear end_of_numbers w × (n < w.number)) (λ w. place w < place_of to_end n) (λ w is. omega (arith, is.0.0, is.0.1)) hear2 h2))
@@ -167,7 +167,7 @@ module _ (n : ℕ) (small : n < end_of_numbers) (send1 send2 answer hear1 hear2 
       → AllByRecursion (λ w. place_of to_send n < place w) (behind1 o3 o4)
   high1 o3 o4 at3 at4 = all-append (λ w. place_of to_send n < place w) send2 (answer ++ ((hear1 ++ cons_option o3 hear2) ++ (end1 ++ cons_option o4 end2)))
       (all_weaker (λ w. IsOf to_send end_of_numbers w × (n < w.number)) (λ w. place_of to_send n < place w) (λ w is. omega (arith, is.0.0, is.1)) send2 s2)
-      (all-append (λ w. place_of to_send n < place w) answer ((hear1 ++ cons_option o3 hear2) ++ (end1 ++ cons_option o4 end2)) (all_weaker (IsOf to_answer end_of_numbers) (λ w. place_of to_send n < place w) (λ w is. omega (arith, is.0, small)) answer a)
+      (all-append (λ w. place_of to_send n < place w) answer ((hear1 ++ cons_option o3 hear2) ++ (end1 ++ cons_option o4 end2)) (all_weaker (IsOf to_send_receipt end_of_numbers) (λ w. place_of to_send n < place w) (λ w is. omega (arith, is.0, small)) answer a)
       (all-append (λ w. place_of to_send n < place w) (hear1 ++ cons_option o3 hear2) (end1 ++ cons_option o4 end2)
       (all-append (λ w. place_of to_send n < place w) hear1 (cons_option o3 hear2) (all_weaker (IsOf to_hear n) (λ w. place_of to_send n < place w) (λ w is. omega (arith, is.0, small)) hear1 h1)
       (own o3 at3 (all_weaker (λ w. IsOf to_hear end_of_numbers w × (n < w.number)) (λ w. place_of to_send n < place w) (λ w is. omega (arith, is.0.0, small)) hear2 h2)))

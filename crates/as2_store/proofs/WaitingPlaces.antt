@@ -14,7 +14,7 @@ use Rattle.sql_tables.proofs.Deleting.{deletes}
 use Rattle.as2_exchange.specs.State.{end_of_numbers}
 use Rattle.as2_exchange.specs.declared.inbox.InEntry.{InEntry}
 use Rattle.as2_exchange.specs.declared.outbox.OutEntry.{OutEntry}
-use Rattle.as2_rows.specs.Waiting.{WaitingRow, out_kind, in_kind, in_waiting, out_waiting, waiting_in, to_send, to_answer, to_hear, to_end}
+use Rattle.as2_rows.specs.Waiting.{WaitingRow, out_kind, in_kind, in_waiting, out_waiting, waiting_in, to_send, to_send_receipt, to_hear, to_end}
 use Rattle.as2_store.specs.Tables.{Way, store_schema, waiting_table, waiting_tree}
 use Rattle.as2_store.proofs.Statements.{waiting_take_text}
 use Rattle.as2_store.specs.Stands.{place, waiting_row, documents_waiting}
@@ -120,20 +120,20 @@ pub documents_rise : (kind : ℕ) (ds : List OutEntry) → IsAscending (λ (x y 
 documents_rise kind ds up = ascending-filter IsUnder (λ w. w.kind == kind) (filter_map out_waiting ds) (given_rise out_waiting (λ (d : OutEntry). d.number) (λ (w : WaitingRow). w.number) (λ d. number_kept d.number d.due (out_kind d.detail d.attempt)) ds up)
 
 pub receipts_rise : (es : List InEntry) → IsAscending (λ (x y : InEntry). x.number < y.number) es → IsAscending IsUnder (waiting_in es)
-receipts_rise es up = given_rise in_waiting (λ (e : InEntry). e.number) (λ (w : WaitingRow). w.number) (λ e. number_kept e.number e.due (in_kind e.mdn e.attempt)) es up
+receipts_rise es up = given_rise in_waiting (λ (e : InEntry). e.number) (λ (w : WaitingRow). w.number) (λ e. number_kept e.number e.due (in_kind e.receipt_stage e.attempt)) es up
 
 pub places_rise : (send answer hear end : List WaitingRow) → AllByRecursion (IsOf to_send end_of_numbers) send
-    → AllByRecursion (IsOf to_answer end_of_numbers) answer → AllByRecursion (IsOf to_hear end_of_numbers) hear
+    → AllByRecursion (IsOf to_send_receipt end_of_numbers) answer → AllByRecursion (IsOf to_hear end_of_numbers) hear
     → AllByRecursion (IsOf to_end end_of_numbers) end → IsAscending IsUnder send → IsAscending IsUnder answer → IsAscending IsUnder hear
     → IsAscending IsUnder end → IsTable (map waiting_row (send ++ (answer ++ (hear ++ end))))
 places_rise send answer hear end s a h e us ua uh ue =
-    let hears = past to_answer to_hear end_of_numbers (omega arith) hear h in
-    let ends = past to_answer to_end end_of_numbers (omega arith) end e in
-    let last = all-append (IsPast to_answer) hear end hears ends in
-    let lasts = all_weaker (IsPast to_answer) (IsPast to_send) (λ w far. omega (arith, far)) (hear ++ end) last in
+    let hears = past to_send_receipt to_hear end_of_numbers (omega arith) hear h in
+    let ends = past to_send_receipt to_end end_of_numbers (omega arith) end e in
+    let last = all-append (IsPast to_send_receipt) hear end hears ends in
+    let lasts = all_weaker (IsPast to_send_receipt) (IsPast to_send) (λ w far. omega (arith, far)) (hear ++ end) last in
     ordered_rise waiting_row place (λ _. refl) (send ++ (answer ++ (hear ++ end)))
-    (then to_send send (answer ++ (hear ++ end)) s us (all-append (IsPast to_send) answer (hear ++ end) (past to_send to_answer end_of_numbers (omega arith) answer a) lasts)
-    (then to_answer answer (hear ++ end) a ua last
+    (then to_send send (answer ++ (hear ++ end)) s us (all-append (IsPast to_send) answer (hear ++ end) (past to_send to_send_receipt end_of_numbers (omega arith) answer a) lasts)
+    (then to_send_receipt answer (hear ++ end) a ua last
     (then to_hear hear end h uh (past to_hear to_end end_of_numbers (omega arith) end e) (by_place to_end end_of_numbers end e ue))))
 
 -- ---- one is put in anew
@@ -167,17 +167,17 @@ taken p (Some w) at front back low high =
 
 pub renewed : (n : ℕ) (new : Option WaitingRow) → IfSome new (IsLast n) → n < end_of_numbers → (o : Option WaitingRow) → IfSome o (IsLast n)
     → (send front back hear end : List WaitingRow)
-    → AllByRecursion (IsOf to_send end_of_numbers) send → AllByRecursion (IsOf to_answer n) front
-    → AllByRecursion (λ v. (v.kind ≡ to_answer) × (n < v.number)) back
+    → AllByRecursion (IsOf to_send end_of_numbers) send → AllByRecursion (IsOf to_send_receipt n) front
+    → AllByRecursion (λ v. (v.kind ≡ to_send_receipt) × (n < v.number)) back
     → AllByRecursion (IsOf to_hear end_of_numbers) hear → AllByRecursion (IsOf to_end end_of_numbers) end
-    → noted_rows new (map waiting_row (not_at (place_of to_answer n) (send ++ ((front ++ cons_option o back) ++ (hear ++ end))))) ≡ map waiting_row (send ++ ((front ++ cons_option new back) ++ (hear ++ end)))
+    → noted_rows new (map waiting_row (not_at (place_of to_send_receipt n) (send ++ ((front ++ cons_option o back) ++ (hear ++ end))))) ≡ map waiting_row (send ++ ((front ++ cons_option new back) ++ (hear ++ end)))
 renewed n new is small o was send front back hear end s f b h e =
-    let p = place_of to_answer n in
+    let p = place_of to_send_receipt n in
     let low = all-append (λ q. place q < p) send front (all_weaker (IsOf to_send end_of_numbers) (λ q. place q < p) (λ q of. omega (arith, of.0, of.1)) send s)
-    (all_weaker (IsOf to_answer n) (λ q. place q < p) (λ q of. omega (arith, of.0, of.1)) front f) in
+    (all_weaker (IsOf to_send_receipt n) (λ q. place q < p) (λ q of. omega (arith, of.0, of.1)) front f) in
     let ends = all-append (λ q. p < place q) hear end (all_weaker (IsOf to_hear end_of_numbers) (λ q. p < place q) (λ q of. omega (arith, of.0, of.1, small)) hear h)
     (all_weaker (IsOf to_end end_of_numbers) (λ q. p < place q) (λ q of. omega (arith, of.0, of.1, small)) end e) in
-    let high = all-append (λ q. p < place q) back (hear ++ end) (all_weaker (λ v. (v.kind ≡ to_answer) × (n < v.number)) (λ q. p < place q) (λ q of. omega (arith, of.0, of.1)) back b) ends in
+    let high = all-append (λ q. p < place q) back (hear ++ end) (all_weaker (λ v. (v.kind ≡ to_send_receipt) × (n < v.number)) (λ q. p < place q) (λ q of. omega (arith, of.0, of.1)) back b) ends in
     ap (λ l. noted_rows new (map waiting_row (not_at p l))) (spread o)
     ∙ ap (λ l. noted_rows new (map waiting_row l)) (taken p o (stood o was) (send ++ front) (back ++ (hear ++ end)) low high)
     ∙ put new is low high
@@ -187,15 +187,15 @@ renewed n new is small o was send front back hear end s f b h e =
     spread None = joined send front back (hear ++ end)
     spread (Some v) = joined send front (v ∷ back) (hear ++ end)
 
-    at_place : (v : WaitingRow) → IsLast n v → place v ≡ place_of to_answer n
+    at_place : (v : WaitingRow) → IsLast n v → place v ≡ place_of to_send_receipt n
     at_place v is = omega (arith, is.0, is.1)
 
-    stood : (o : Option WaitingRow) → IfSome o (IsLast n) → IfSome o (λ v. place v ≡ place_of to_answer n)
+    stood : (o : Option WaitingRow) → IfSome o (IsLast n) → IfSome o (λ v. place v ≡ place_of to_send_receipt n)
     stood None was = tt
     stood (Some v) was = at_place v was
 
-    put : (new : Option WaitingRow) → IfSome new (IsLast n) → AllByRecursion (λ q. place q < place_of to_answer n) (send ++ front)
-        → AllByRecursion (λ q. place_of to_answer n < place q) (back ++ (hear ++ end))
+    put : (new : Option WaitingRow) → IfSome new (IsLast n) → AllByRecursion (λ q. place q < place_of to_send_receipt n) (send ++ front)
+        → AllByRecursion (λ q. place_of to_send_receipt n < place q) (back ++ (hear ++ end))
         → noted_rows new (map waiting_row ((send ++ front) ++ (back ++ (hear ++ end)))) ≡ map waiting_row ((send ++ front) ++ cons_option new (back ++ (hear ++ end)))
     put None is low high = refl
     put (Some w) is low high =

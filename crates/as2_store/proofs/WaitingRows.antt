@@ -14,13 +14,13 @@ use Rattle.sqlite_trees.proofs.ListLemmas.{all-append, all_weaker}
 use Rattle.sql_tables.proofs.Writes.{cast_int, cast_null, IsOneRow, inserts_given}
 use Rattle.as2_exchange.specs.State.{State, end_of_numbers}
 use Rattle.as2_exchange.specs.declared.inbox.InEntry.{InEntry}
-use Rattle.as2_exchange.specs.declared.inbox.MdnState.{MdnState}
-use Rattle.as2_exchange.specs.declared.inbox.MdnState.TheVariants.{Unasked, Pending, Sent}
+use Rattle.as2_exchange.specs.declared.inbox.ReceiptStage.{ReceiptStage}
+use Rattle.as2_exchange.specs.declared.inbox.ReceiptStage.TheVariants.{Unasked, Pending, Sent}
 use Rattle.as2_exchange.specs.declared.attempt.Attempt.{Attempt}
 use Rattle.as2_exchange.specs.declared.attempt.Attempt.TheVariants.{Idle, Running, Last, Used}
 use Rattle.as2_exchange.specs.declared.outbox.OutEntry.{OutEntry}
 use Rattle.as2_rows.specs.Rows.{whole, whole_or_null}
-use Rattle.as2_rows.specs.Waiting.{WaitingRow, out_kind, in_kind, in_waiting, waiting_in, waiting_out, waiting_shown, to_send, to_answer, to_hear, to_end}
+use Rattle.as2_rows.specs.Waiting.{WaitingRow, out_kind, in_kind, in_waiting, waiting_in, waiting_out, waiting_shown, to_send, to_send_receipt, to_hear, to_end}
 use Rattle.as2_store.specs.Tables.{Way, store_schema, waiting_table}
 use Rattle.as2_store.proofs.Statements.{waiting_put_text}
 use Rattle.as2_store.specs.Stands.{place, waiting_row, documents_waiting, all_waiting}
@@ -65,8 +65,8 @@ outs_small : (next : ℕ) (ds : List OutEntry) → AllByRecursion (λ n. n < nex
 outs_small next [] all = tt
 outs_small next (d ∷ ds) all = small_out next d.number d.due (out_kind d.detail d.attempt) (waiting_out ds) all.0 (outs_small next ds all.1)
 
-small_in : (next n : ℕ) (due : Option ℕ) (m : MdnState) (a : Attempt) (rest : List WaitingRow) → n < next → AllByRecursion (IsOf to_answer next) rest
-    → AllByRecursion (IsOf to_answer next) (cons_option (option_map (λ kind. record { kind = kind; number = n; due = due }) (in_kind m a)) rest)
+small_in : (next n : ℕ) (due : Option ℕ) (m : ReceiptStage) (a : Attempt) (rest : List WaitingRow) → n < next → AllByRecursion (IsOf to_send_receipt next) rest
+    → AllByRecursion (IsOf to_send_receipt next) (cons_option (option_map (λ kind. record { kind = kind; number = n; due = due }) (in_kind m a)) rest)
 small_in next n due Pending Idle rest small all = ((refl, small), all)
 small_in next n due Pending Running rest small all = ((refl, small), all)
 small_in next n due Pending Last rest small all = all
@@ -75,9 +75,9 @@ small_in next n due Unasked a rest small all = all
 small_in next n due Sent a rest small all = all
 
 pub ins_small : (next : ℕ) (es : List InEntry) → AllByRecursion (λ n. n < next) (map (λ (e : InEntry). e.number) es)
-    → AllByRecursion (IsOf to_answer next) (waiting_in es)
+    → AllByRecursion (IsOf to_send_receipt next) (waiting_in es)
 ins_small next [] all = tt
-ins_small next (e ∷ es) all = small_in next e.number e.due e.mdn e.attempt (waiting_in es) all.0 (ins_small next es all.1)
+ins_small next (e ∷ es) all = small_in next e.number e.due e.receipt_stage e.attempt (waiting_in es) all.0 (ins_small next es all.1)
 
 kind_below : (kind next : ℕ) (ws : List WaitingRow) → AllByRecursion (λ w. w.number < next) ws
     → AllByRecursion (IsOf kind next) (filter (λ w. w.kind == kind) ws)
@@ -96,9 +96,9 @@ documents_of kind next ds all = kind_below kind next (waiting_out ds) (outs_smal
 -- ---- the rows with one more
 
 abbrev pub IsLast : ℕ → WaitingRow → Type 0
-IsLast n w = (w.kind ≡ to_answer) × (w.number ≡ n)
+IsLast n w = (w.kind ≡ to_send_receipt) × (w.number ≡ n)
 
-pub kind_is_last : (m : MdnState) (a : Attempt) (n : ℕ) (due : Option ℕ)
+pub kind_is_last : (m : ReceiptStage) (a : Attempt) (n : ℕ) (due : Option ℕ)
     → IfSome (option_map (λ kind. record { kind = kind; number = n; due = due }) (in_kind m a)) (IsLast n)
 kind_is_last Pending Idle n due = (refl, refl)
 kind_is_last Pending Running n due = (refl, refl)
@@ -108,13 +108,13 @@ kind_is_last Unasked a n due = tt
 kind_is_last Sent a n due = tt
 
 noted_in : (n : ℕ) (o : Option WaitingRow) → IfSome o (IsLast n) → n < end_of_numbers → (send answer hear end : List WaitingRow)
-    → AllByRecursion (IsOf to_send end_of_numbers) send → AllByRecursion (IsOf to_answer n) answer
+    → AllByRecursion (IsOf to_send end_of_numbers) send → AllByRecursion (IsOf to_send_receipt n) answer
     → AllByRecursion (IsOf to_hear end_of_numbers) hear → AllByRecursion (IsOf to_end end_of_numbers) end
     → noted_rows o (map waiting_row (send ++ (answer ++ (hear ++ end)))) ≡ map waiting_row (send ++ ((answer ++ cons_option o []) ++ (hear ++ end)))
 noted_in n None last small send answer hear end s a h e = ap (λ l. map waiting_row (send ++ (l ++ (hear ++ end)))) (sym (append-nil answer))
 noted_in n (Some w) last small send answer hear end s a h e =
     let low = all-append (λ q. place q < place w) send answer (all_weaker (IsOf to_send end_of_numbers) (λ q. place q < place w) (λ q is. omega (arith, is.0, is.1, last.0, last.1)) send s)
-    (all_weaker (IsOf to_answer n) (λ q. place q < place w) (λ q is. omega (arith, is.0, is.1, last.0, last.1)) answer a) in
+    (all_weaker (IsOf to_send_receipt n) (λ q. place q < place w) (λ q is. omega (arith, is.0, is.1, last.0, last.1)) answer a) in
     let high = all-append (λ q. place w < place q) hear end (all_weaker (IsOf to_hear end_of_numbers) (λ q. place w < place q) (λ q is. omega (arith, is.0, is.1, last.0, last.1)) hear h)
     (all_weaker (IsOf to_end end_of_numbers) (λ q. place w < place q) (λ q is. omega (arith, is.0, is.1, last.0, last.1)) end e) in
     ap (λ l. put_row (waiting_row w) (map waiting_row l)) (sym (append_assoc send answer (hear ++ end)))
@@ -126,7 +126,7 @@ pub noted : (s : State) (e : InEntry) → AllByRecursion (λ n. n < s.next_in) (
     → e.number ≡ s.next_in → e.number < end_of_numbers
     → noted_rows (in_waiting e) (map waiting_row (all_waiting s)) ≡ map waiting_row (all_waiting (with_received s e))
 noted s e ins outs is small =
-    noted_in e.number (in_waiting e) (kind_is_last e.mdn e.attempt e.number e.due) small (documents_waiting to_send s.outbox) (waiting_in s.inbox) (documents_waiting to_hear s.outbox) (documents_waiting to_end s.outbox)
-    (documents_of to_send end_of_numbers s.outbox outs) (subst (λ n. AllByRecursion (IsOf to_answer n) (waiting_in s.inbox)) (sym is) (ins_small s.next_in s.inbox ins))
+    noted_in e.number (in_waiting e) (kind_is_last e.receipt_stage e.attempt e.number e.due) small (documents_waiting to_send s.outbox) (waiting_in s.inbox) (documents_waiting to_hear s.outbox) (documents_waiting to_end s.outbox)
+    (documents_of to_send end_of_numbers s.outbox outs) (subst (λ n. AllByRecursion (IsOf to_send_receipt n) (waiting_in s.inbox)) (sym is) (ins_small s.next_in s.inbox ins))
     (documents_of to_hear end_of_numbers s.outbox outs) (documents_of to_end end_of_numbers s.outbox outs)
     ∙ ap (λ l. map waiting_row (documents_waiting to_send s.outbox ++ (l ++ (documents_waiting to_hear s.outbox ++ documents_waiting to_end s.outbox)))) (sym (filter_map-append in_waiting s.inbox (e ∷ [])))

@@ -10,7 +10,7 @@ use Rattle.as2_records.specs.declared.numbers.NextNumbers.{NextNumbers}
 use Rattle.as2_records.specs.declared.summaries.InRow.{InRow}
 use Rattle.as2_records.specs.declared.summaries.OutRow.{OutRow}
 use Rattle.as2_rows.specs.Rows.{whole, whole_or_null}
-use Rattle.as2_rows.specs.Waiting.{WaitingRow, in_kind, out_kind, to_answer, to_end, to_hear, to_send}
+use Rattle.as2_rows.specs.Waiting.{WaitingRow, in_kind, out_kind, to_send_receipt, to_end, to_hear, to_send}
 use Rattle.as2_store.specs.declared.discrepancies.WaitRow.{WaitRow}
 
 -- ---- the rows
@@ -37,8 +37,8 @@ abbrev pub is_waiting : ℕ → OutRow → Bool
 is_waiting kind d = is_kind kind (out_kind d.detail d.attempt)
 
 -- the receipt for the entry is to be sent
-abbrev pub is_owed : InRow → Bool
-is_owed e = is_some (in_kind e.mdn e.attempt)
+abbrev pub owes_receipt : InRow → Bool
+owes_receipt e = is_some (in_kind e.receipt_stage e.attempt)
 
 -- the rows of the documents that wait for this
 abbrev pub documents_wanted : ℕ → List OutRow → List WaitRow
@@ -46,7 +46,7 @@ documents_wanted kind sent = map (λ d. wait_row kind d.number d.due) (filter (i
 
 -- the rows of the receipts that are to be sent
 abbrev pub receipts_wanted : List InRow → List WaitRow
-receipts_wanted received = map (λ e. wait_row to_answer e.number e.due) (filter is_owed received)
+receipts_wanted received = map (λ e. wait_row to_send_receipt e.number e.due) (filter owes_receipt received)
 
 -- all of them, in the order of the places: documents to send, receipts to send, receipts awaited, last tries
 abbrev pub all_wanted : List InRow → List OutRow → List WaitRow
@@ -73,7 +73,7 @@ Compares wanted kept (Some row) = (at : ℕ) × DifferAt wanted kept at × (lowe
 -- ---- the first discrepancy
 
 abbrev pub wait_told : WaitRow → Discrepancy
-wait_told row = if row.kind == to_answer then ReceivedWait row.number else SentWait row.number
+wait_told row = if row.kind == to_send_receipt then ReceivedWait row.number else SentWait row.number
 
 abbrev pub last : {X : Type 0} → List X → Option X
 last xs = slice_get xs (length xs - 1)

@@ -9,7 +9,7 @@ use Rattle.sqlite.specs.Table.{Table}
 use Rattle.sqlite_schema.specs.declared.schema.Index.{Index}
 use Rattle.sqlite.specs.State.{State as Connected}
 use Rattle.sql_tables.specs.Changes.{HasRows}
-use Rattle.as2_exchange.specs.State.{State, Version, FirstVersion, LaterVersion, AllDigests, digests_of, end_of_numbers}
+use Rattle.as2_exchange.specs.State.{State, Version, FirstVersion, LaterVersion, AllDigests, state_digests, end_of_numbers}
 use Rattle.as2_exchange.specs.declared.inbox.InEntry.{InEntry}
 use Rattle.as2_exchange.specs.declared.outbox.OutEntry.{OutEntry}
 use Rattle.as2_exchange.specs.Invariants.{IsCounter, AreNumbers}
@@ -156,7 +156,7 @@ pub record Rests (c : Connected) (s : State) : Type 0 where
   pub autocommit : c.in_transaction ≡ false
   pub stands : IsTrue c.is_open → Holds c.now s
   pub committed : IsTrue c.is_open → c.committed ≡ c.now
-  pub knows : digests_of s ≡ AllDigests
+  pub knows : state_digests s ≡ AllDigests
 
 -- outside a transaction there is no table, unless a fault of the disk has shut the connection
 pub record IsBlank (c : Connected) : Type 0 where

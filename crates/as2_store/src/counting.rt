@@ -7,18 +7,18 @@ ghost use Rattle.as2_exchange.specs.State.{State};
 ghost use Rattle.as2_exchange.specs.Progress.{same_state};
 ghost use Rattle.as2_mdn.specs.Details.{class_of};
 ghost use Rattle.as2_mdn.specs.declared.detail.Detail.{Detail as DetailOf};
-ghost use Rattle.as2_exchange.specs.declared.inbox.MdnState.{MdnState as MdnStateOf};
+ghost use Rattle.as2_exchange.specs.declared.inbox.ReceiptStage.{ReceiptStage as ReceiptStage};
 ghost use Rattle.as2_store.specs.Calls.{ReadsTables};
-ghost use Rattle.as2_store.specs.Counting.{detail_row, details_of, is_awaiting, is_unsent, mdn_row, mdns_of};
+ghost use Rattle.as2_store.specs.Counting.{detail_row, details_of, is_awaiting, is_unsent, receipt_stage_row, receipt_stages_of};
 ghost use Rattle.as2_records.specs.Standing.{may_come};
 ghost use Rattle.as2_records.specs.Counting.{counts_of};
 
 use crate::fault::fault_of;
 use crate::reading::query_all;
-use as2_exchange::{MdnState, StoreFault};
-use as2_mdn::{Detail, State as StateOf};
+use as2_exchange::{ReceiptStage, StoreFault};
+use as2_mdn::{Detail, DetailClass};
 use as2_records::Counts;
-use as2_rows::{detail_of_code, mdn_of_code};
+use as2_rows::{detail_of_code, receipt_stage_of_code};
 use sqlite::{Alter, Connection, Error, Row};
 use std::alloc::Global;
 
@@ -33,11 +33,11 @@ fn detail_rows<S: Alter>(conn: &mut Connection<S>) -> Result<Vec<Row>, Error>
 }
 
 /// The rows of how the receipts for all received documents stand, in order of number.
-fn mdn_rows<S: Alter>(conn: &mut Connection<S>) -> Result<Vec<Row>, Error>
+fn receipt_stage_rows<S: Alter>(conn: &mut Connection<S>) -> Result<Vec<Row>, Error>
     requires autocommit { conn.old.in_transaction ≡ false }
     ensures autocommit { conn.new.in_transaction ≡ false }
     ensures rows { ReadsTables (λ s rows. rows.items
-        ≡ map mdn_row (mdns_of s)) (state S.Store conn.old) (state S.Store conn.new) result }
+        ≡ map receipt_stage_row (receipt_stages_of s)) (state S.Store conn.old) (state S.Store conn.new) result }
 {
     query_all(conn, "SELECT mdn FROM inbox2 ORDER BY number", &[])
 }
@@ -52,12 +52,12 @@ fn detail_of(row: &Row) -> Result<Detail, StoreFault>
 }
 
 /// How the receipt stands that a row shows.
-fn mdn_of(row: &Row) -> Result<MdnState, StoreFault>
-    ensures shown { IfOk result (λ mdn. (m : MdnStateOf) → row.now ≡ mdn_row m → mdn ≡ m) }
+fn receipt_stage_of(row: &Row) -> Result<ReceiptStage, StoreFault>
+    ensures shown { IfOk result (λ receipt_stage. (m : ReceiptStage) → row.now ≡ receipt_stage_row m → receipt_stage ≡ m) }
     ensures fault { IfErr result (λ f. may_come f ≡ true) }
 {
     let code: i64 = row.get(0).map_err(fault_of)?;
-    mdn_of_code(code).ok_or(StoreFault::Refused)
+    receipt_stage_of_code(code).ok_or(StoreFault::Refused)
 }
 
 /// The details that the rows show.
@@ -77,19 +77,19 @@ fn details_in(alloc: Global, rows: &[Row]) -> Result<Vec<Detail>, StoreFault>
 }
 
 /// How the receipts stand that the rows show.
-fn mdns_in(alloc: Global, rows: &[Row]) -> Result<Vec<MdnState>, StoreFault>
-    ensures shown { IfOk result (λ mdns. (ms : List MdnStateOf) → rows.now ≡ map mdn_row ms → mdns.items ≡ ms) }
+fn receipt_stages_in(alloc: Global, rows: &[Row]) -> Result<Vec<ReceiptStage>, StoreFault>
+    ensures shown { IfOk result (λ receipt_stages. (ms : List ReceiptStage) → rows.now ≡ map receipt_stage_row ms → receipt_stages.items ≡ ms) }
     ensures fault { IfErr result (λ f. may_come f ≡ true) }
 {
-    let mut mdns = Vec::new(alloc);
+    let mut receipt_stages = Vec::new(alloc);
     'rows: for row in rows {
-        let mdn = mdn_of(row)?;
-        match mdns.push(mdn) {
+        let receipt_stage = receipt_stage_of(row)?;
+        match receipt_stages.push(receipt_stage) {
             Ok(()) => (),
             Err(_) => return Err(StoreFault::Memory),
         }
     }
-    Ok(mdns)
+    Ok(receipt_stages)
 }
 
 /// The details of all documents, in order of number.
@@ -105,14 +105,14 @@ pub fn details<S: Alter>(conn: &mut Connection<S>, alloc: Global) -> Result<Vec<
 }
 
 /// How the receipts for all received documents stand, in order of number.
-pub fn mdns<S: Alter>(conn: &mut Connection<S>, alloc: Global) -> Result<Vec<MdnState>, StoreFault>
+pub fn receipt_stages<S: Alter>(conn: &mut Connection<S>, alloc: Global) -> Result<Vec<ReceiptStage>, StoreFault>
     requires autocommit { conn.old.in_transaction ≡ false }
     ensures autocommit { conn.new.in_transaction ≡ false }
-    ensures mdns { ReadsTables (λ s mdns. mdns.items ≡ mdns_of s) (state S.Store conn.old) (state S.Store conn.new) result }
+    ensures receipt_stages { ReadsTables (λ s receipt_stages. receipt_stages.items ≡ receipt_stages_of s) (state S.Store conn.old) (state S.Store conn.new) result }
     ensures fault { IfErr result (λ f. may_come f ≡ true) }
 {
-    let rows = mdn_rows(conn).map_err(fault_of)?;
-    mdns_in(alloc, rows.as_slice())
+    let rows = receipt_stage_rows(conn).map_err(fault_of)?;
+    receipt_stages_in(alloc, rows.as_slice())
 }
 
 /// How many of the documents have not been tried.
@@ -130,28 +130,28 @@ fn awaiting(details: &[Detail]) -> u64
 }
 
 /// How many of the documents are in this state.
-fn in_state(details: &[Detail], wanted: StateOf) -> u64
+fn in_state(details: &[Detail], wanted: DetailClass) -> u64
     ensures { result ≡ count_by (λ d. same_state wanted (class_of d)) details.now }
 {
-    details.iter().filter(|it| it.state() == wanted).count() as u64
+    details.iter().filter(|it| it.class() == wanted).count() as u64
 }
 
 /// How many of the receipts are to be sent.
-fn pending(mdns: &[MdnState]) -> u64
-    ensures { result ≡ count_by is_pending mdns.now }
+fn pending(receipt_stages: &[ReceiptStage]) -> u64
+    ensures { result ≡ count_by is_pending receipt_stages.now }
 {
-    mdns.iter().filter(|it| **it == MdnState::Pending).count() as u64
+    receipt_stages.iter().filter(|it| **it == ReceiptStage::Pending).count() as u64
 }
 
 /// The counts of documents of these details, and of receipts that stand so.
-pub fn counted(details: &[Detail], mdns: &[MdnState]) -> Counts
-    ensures { (s : State) → details.now ≡ details_of s → mdns.now ≡ mdns_of s → result ≡ counts_of s }
+pub fn counted(details: &[Detail], receipt_stages: &[ReceiptStage]) -> Counts
+    ensures { (s : State) → details.now ≡ details_of s → receipt_stages.now ≡ receipt_stages_of s → result ≡ counts_of s }
 {
     Counts {
         not_sent: unsent(details),
-        in_retry: in_state(details, StateOf::R),
+        in_retry: in_state(details, DetailClass::R),
         awaited: awaiting(details),
-        in_error: in_state(details, StateOf::E),
-        to_send: pending(mdns),
+        in_error: in_state(details, DetailClass::E),
+        to_send: pending(receipt_stages),
     }
 }

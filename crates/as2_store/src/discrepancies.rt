@@ -6,7 +6,7 @@ ghost use Rattle.sqlite.specs.Held.{state};
 ghost use Rattle.as2_rows.specs.Waiting.{kind_code};
 ghost use Rattle.as2_records.specs.Standing.{may_come};
 ghost use Rattle.as2_store.specs.Calls.{ReadsTables};
-ghost use Rattle.as2_store.specs.Discrepancies.{Compares, IsFirst, all_wanted, documents_wanted, is_owed, lower, number_told, receipts_wanted, rows_of, row_shown, wait_row, wait_told, is_waiting};
+ghost use Rattle.as2_store.specs.Discrepancies.{Compares, IsFirst, all_wanted, documents_wanted, owes_receipt, lower, number_told, receipts_wanted, rows_of, row_shown, wait_row, wait_told, is_waiting};
 ghost use Rattle.as2_store.specs.Stands.{all_waiting};
 ghost use Rattle.as2_store.specs.declared.discrepancies.WaitRow.{WaitRow as RowOf};
 
@@ -136,9 +136,9 @@ fn push_documents(wanted: &mut Vec<WaitRow>, sent: &[OutRow], wait: Wait) -> Res
 
 /// Whether the receipt for the entry is to be sent.
 fn owes(entry: &InRow) -> bool
-    ensures { result ≡ is_owed entry.now }
+    ensures { result ≡ owes_receipt entry.now }
 {
-    is_to_answer(entry.mdn, entry.attempt)
+    is_to_answer(entry.receipt_stage, entry.attempt)
 }
 
 /// Adds the rows of the receipts that are to be sent.
@@ -148,7 +148,7 @@ fn push_receipts(wanted: &mut Vec<WaitRow>, received: &[InRow]) -> Result<(), St
 {
     'entries: for entry in received {
         if owes(entry) {
-            push_row(wanted, Wait::ToAnswer, entry.number, entry.due)?;
+            push_row(wanted, Wait::ToSendReceipt, entry.number, entry.due)?;
         }
     }
     Ok(())
@@ -226,7 +226,7 @@ fn difference(wanted: &[WaitRow], kept: &[WaitRow]) -> Option<WaitRow>
 fn told(row: WaitRow) -> Discrepancy
     ensures { result ≡ wait_told row }
 {
-    if row.kind == Wait::ToAnswer.code() {
+    if row.kind == Wait::ToSendReceipt.code() {
         Discrepancy::ReceivedWait(row.number)
     } else {
         Discrepancy::SentWait(row.number)

@@ -16,7 +16,7 @@ ghost use Rattle.as2_exchange.specs.State.{has_key};
 use crate::numbers::{asked, whole, whole_or_none};
 use crate::reading::query_all;
 use as2_exchange::InEntry;
-use as2_rows::{attempt_code, digest_of, how_code, mdn_code, mic_of, outcome_code, url_of};
+use as2_rows::{attempt_code, digest_of, how_code, receipt_stage_code, mic_of, outcome_code, url_of};
 use sqlite::{Alter, Connection, Error, Row, Transaction, params};
 
 /// Puts in the row of an entry.
@@ -54,7 +54,7 @@ pub fn put_in<S: Alter>(tx: &mut Transaction<'_, S>, entry: &InEntry) -> Result<
             url_of(&posted.how),
             digest_of(&posted.mic),
             mic_of(&posted.mic),
-            mdn_code(entry.mdn),
+            receipt_stage_code(entry.receipt_stage),
             tries,
             attempt_code(entry.attempt),
             due

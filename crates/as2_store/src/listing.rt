@@ -12,7 +12,7 @@ ghost use Rattle.as2_records.specs.Standing.{may_come};
 
 use crate::fault::{fault_of, unread_row};
 use as2_exchange::{END_OF_NUMBERS, StoreFault};
-use as2_mdn::{Detail, State};
+use as2_mdn::{Detail, DetailClass};
 use as2_records::{InRow, OutRow};
 use as2_rows::{detail_code, read_in_row, read_out_row};
 use sqlite::types::ValueRef;
@@ -54,25 +54,25 @@ pub fn entries<S: Alter>(conn: &mut Connection<S>, alloc: Global) -> Result<Vec<
 }
 
 /// The first and the last of the details of a state, or of all.
-fn details_of(wanted: Option<State>) -> (Detail, Detail)
+fn details_of(wanted: Option<DetailClass>) -> (Detail, Detail)
     ensures { result ≡ (first_detail wanted, last_detail wanted) }
 {
     match wanted {
         None => (Detail::New, Detail::Overdue),
-        Some(State::P) => (Detail::New, Detail::Awaiting),
-        Some(State::R) => (Detail::Sending, Detail::Retry),
-        Some(State::S) => (Detail::Processed, Detail::Processed),
-        Some(State::W) => (Detail::NoReceiptAsked, Detail::UnknownMic),
-        Some(State::E) => (Detail::NotProcessed, Detail::Overdue),
+        Some(DetailClass::P) => (Detail::New, Detail::Awaiting),
+        Some(DetailClass::R) => (Detail::Sending, Detail::Retry),
+        Some(DetailClass::S) => (Detail::Processed, Detail::Processed),
+        Some(DetailClass::W) => (Detail::NoReceiptAsked, Detail::UnknownMic),
+        Some(DetailClass::E) => (Detail::NotProcessed, Detail::Overdue),
     }
 }
 
 /// Whether the detail is one of that state, where one is asked for.
-fn is_in(wanted: Option<State>, detail: Detail) -> bool
+fn is_in(wanted: Option<DetailClass>, detail: Detail) -> bool
     ensures { result ≡ detail_in wanted detail }
 {
     match wanted {
-        Some(state) => detail.state() == state,
+        Some(state) => detail.class() == state,
         None => true,
     }
 }
@@ -80,7 +80,7 @@ fn is_in(wanted: Option<State>, detail: Detail) -> bool
 /// Lists the document, where it is of that state.
 fn list_if(
     documents: &mut Vec<OutRow>,
-    wanted: Option<State>,
+    wanted: Option<DetailClass>,
     document: OutRow,
 ) -> Result<(), StoreFault>
     ensures listed { OnOk result (documents.new.items
@@ -100,7 +100,7 @@ fn list_if(
 fn documents_between<S: Alter>(
     conn: &mut Connection<S>,
     alloc: Global,
-    wanted: Option<State>,
+    wanted: Option<DetailClass>,
     codes: &[ValueRef<'_>],
 ) -> Result<Vec<OutRow>, StoreFault>
     requires autocommit { conn.old.in_transaction ≡ false }
@@ -138,7 +138,7 @@ fn documents_between<S: Alter>(
 pub fn documents<S: Alter>(
     conn: &mut Connection<S>,
     alloc: Global,
-    wanted: Option<State>,
+    wanted: Option<DetailClass>,
 ) -> Result<Vec<OutRow>, StoreFault>
     requires autocommit { conn.old.in_transaction ≡ false }
     requires open { HasCleanDisk (state S.Store conn.old) → IsTrue (state S.Store conn.old).is_open }

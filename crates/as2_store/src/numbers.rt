@@ -3,12 +3,12 @@
 ghost use Rattle.std.specs.Prelude.{◌≡◌, ◌<◌, ◌≤◌, ◌^◌, pos, IfSome, IsTrue, option_map};
 ghost use Rattle.as2_exchange.specs.State.{end_of_numbers};
 ghost use Rattle.as2_store.specs.Adding.{EntryFits};
-ghost use Rattle.as2_store.specs.Owing.{FitsMdn};
+ghost use Rattle.as2_store.specs.Owing.{FitsReceipt};
 ghost use Rattle.as2_store.specs.Progressing.{FitsProgress};
 
 use as2_exchange::END_OF_NUMBERS;
 use as2_mic::Pieces;
-use as2_records::{MdnProgress, Progress};
+use as2_records::{ReceiptProgress, Progress};
 use std::cmp::min;
 
 /// The greatest number that fits into a column.
@@ -58,8 +58,8 @@ pub fn fits_progress(progress: Progress) -> bool
 }
 
 /// Whether the numbers of a receipt that has come so far fit into its columns.
-pub fn fits_mdn(progress: MdnProgress) -> bool
-    ensures { IsTrue result → FitsMdn progress }
+pub fn fits_receipt(progress: ReceiptProgress) -> bool
+    ensures { IsTrue result → FitsReceipt progress }
 {
     progress.tries <= MOST && may_stand(progress.due)
 }

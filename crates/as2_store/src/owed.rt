@@ -9,22 +9,22 @@ ghost use Rattle.as2_exchange.specs.State.{State, change_received};
 ghost use Rattle.as2_rows.specs.Rows.{in_row};
 ghost use Rattle.as2_store.specs.Tables.{Way, VersionThree, store_schema, inbox_tree};
 ghost use Rattle.as2_store.specs.Stands.{Stands};
-ghost use Rattle.as2_store.specs.Owing.{FitsMdn};
-ghost use Rattle.as2_records.specs.Owing.{owed_as, set_mdn_in};
+ghost use Rattle.as2_store.specs.Owing.{FitsReceipt};
+ghost use Rattle.as2_records.specs.Owing.{with_receipt_progress, set_receipt_in};
 
 use crate::numbers::{asked, whole, whole_or_none};
 use crate::waiting::answer_for;
-use as2_records::MdnProgress;
-use as2_rows::{attempt_code, mdn_code};
+use as2_records::ReceiptProgress;
+use as2_rows::{attempt_code, receipt_stage_code};
 use sqlite::{Alter, Connection, Error, Transaction, params};
 
 /// Sets how far the receipt of the entry of this number has come, and answers how many entries have the number.
-fn set_owed<S: Alter>(
+fn set_receipt_row<S: Alter>(
     tx: &mut Transaction<'_, S>,
     number: u64,
-    progress: MdnProgress,
+    progress: ReceiptProgress,
 ) -> Result<usize, Error>
-    requires fits { FitsMdn progress }
+    requires fits { FitsReceipt progress }
     ensures same_reference { tx.new.conn.ghost_name ≡ tx.old.conn.ghost_name }
     ensures within { IsInside (state S.Store tx.old.conn.now) (state S.Store tx.new.conn.now) }
     ensures open { HasCleanDisk (state S.Store tx.new.conn.now)
@@ -35,7 +35,7 @@ fn set_owed<S: Alter>(
         → IfOk result (λ count. (way : Way) (s : State)
         → Stands (VersionThree way) (state S.Store tx.old.conn.now).now s
         → ChangesTable (state S.Store tx.old.conn.now) (state S.Store tx.new.conn.now) (store_schema way) (inbox_tree way)
-        (map in_row (change_received s number (owed_as progress)).inbox)
+        (map in_row (change_received s number (with_receipt_progress progress)).inbox)
         × (count ≡ length (filter (λ e. e.number == number) s.inbox))) }
 {
     let wanted = asked(number);
@@ -46,7 +46,7 @@ fn set_owed<S: Alter>(
         "UPDATE inbox2 SET mdn = ?2, tries = ?3, attempt = ?4, due = ?5 WHERE number = ?1",
         params![
             param,
-            mdn_code(progress.mdn),
+            receipt_stage_code(progress.receipt_stage),
             tries,
             attempt_code(progress.attempt),
             due
@@ -58,15 +58,15 @@ fn set_owed<S: Alter>(
 pub fn set<S: Alter>(
     conn: &mut Connection<S>,
     number: u64,
-    progress: MdnProgress,
+    progress: ReceiptProgress,
 ) -> Result<(), Error>
     requires autocommit { conn.old.in_transaction ≡ false }
-    requires fits { FitsMdn progress }
+    requires fits { FitsReceipt progress }
     ensures autocommit { conn.new.in_transaction ≡ false }
-    ensures set { WritesTables (set_mdn_in number progress) (state S.Store conn.old) (state S.Store conn.new) result }
+    ensures set { WritesTables (set_receipt_in number progress) (state S.Store conn.old) (state S.Store conn.new) result }
 {
     let mut tx = conn.transaction();
-    if set_owed(&mut tx, number, progress)? == 0 {
+    if set_receipt_row(&mut tx, number, progress)? == 0 {
         tx.commit()?;
         return Ok(());
     }

@@ -16,7 +16,7 @@ ghost use Rattle.as2_records.specs.Expiring.{ticked_in};
 ghost use Rattle.as2_store.specs.Finding.{evidence_at};
 ghost use Rattle.as2_store.specs.Migrating.{CommitsMigrated, IsMigrationReason, Migrates};
 ghost use Rattle.as2_records.specs.Finding.{AreNext, IsPostedAs};
-ghost use Rattle.as2_records.specs.Owing.{set_mdn_in};
+ghost use Rattle.as2_records.specs.Owing.{set_receipt_in};
 ghost use Rattle.as2_records.specs.Progressing.{set_out_in};
 ghost use Rattle.as2_records.specs.Requeuing.{requeued_in};
 ghost use Rattle.as2_records.specs.Resending.{resent_in};
@@ -26,7 +26,7 @@ ghost use Rattle.as2_records.specs.Standing.{may_come};
 use crate::adding::add;
 use crate::adopting::check;
 use crate::counters::{meta_rows, next_numbers};
-use crate::counting::{counted, details, mdns};
+use crate::counting::{counted, details, receipt_stages};
 use crate::creating::make;
 use crate::discrepancies::discrepancy;
 use crate::documents::{evidence_in, shown_document};
@@ -36,7 +36,7 @@ use crate::expiring::expire;
 use crate::fault::fault_of;
 use crate::inbox::rows_by_key;
 use crate::migrating::migrate;
-use crate::numbers::{fits, fits_mdn, fits_progress};
+use crate::numbers::{fits, fits_receipt, fits_progress};
 use crate::origin::{origin_in, origin_rows};
 use crate::outbox::rows_by_id;
 use crate::progress::set;
@@ -45,10 +45,10 @@ use crate::settling::settle;
 use crate::submitting::{add_document, is_begun_by_tries};
 use crate::{inbox, listing, outbox, owed};
 use as2_exchange::{
-    Attempt, END_OF_NUMBERS, Evidence, InEntry, MdnState, OutEntry, StoreFault, is_by_receipt,
+    Attempt, END_OF_NUMBERS, Evidence, InEntry, ReceiptStage, OutEntry, StoreFault, is_by_receipt,
 };
-use as2_mdn::{Detail, State};
-use as2_records::{Counts, Discrepancy, InRow, MdnProgress, NextNumbers, OutRow, Progress};
+use as2_mdn::{Detail, DetailClass};
+use as2_records::{Counts, Discrepancy, InRow, ReceiptProgress, NextNumbers, OutRow, Progress};
 use as2_rows::Wait;
 use as2_text::{AsName, Moment};
 use sqlite::{Alter, Connection};
@@ -198,12 +198,12 @@ impl<S: Alter> Store<S> {
 
     /// Sets the receipt of the entry of the inbox of this number, if there is one, to be sent from this moment on, with all
     /// tries left. Answers Memory, Disk or Refused, and then the state stays.
-    pub fn requeue_mdn(&mut self, number: u64, moment: Moment) -> Result<(), StoreFault>
+    pub fn requeue_receipt(&mut self, number: u64, moment: Moment) -> Result<(), StoreFault>
         ensures requeued { WritesTables (requeued_in number moment) (state S.Store self.old) (state S.Store self.new) result }
         ensures fault { IfErr result (λ f. may_come f ≡ true) }
     {
-        let anew = MdnProgress {
-            mdn: MdnState::Pending,
+        let anew = ReceiptProgress {
+            receipt_stage: ReceiptStage::Pending,
             tries: 0,
             attempt: Attempt::Idle,
             due: Some(moment.seconds()),
@@ -213,11 +213,11 @@ impl<S: Alter> Store<S> {
 
     /// Sets how far the receipt of the entry of the inbox of this number, if there is one, has come. Answers Memory, Disk or
     /// Refused, and then the state stays.
-    pub fn set_mdn(&mut self, number: u64, progress: MdnProgress) -> Result<(), StoreFault>
-        ensures set { WritesTables (set_mdn_in number progress) (state S.Store self.old) (state S.Store self.new) result }
+    pub fn set_receipt(&mut self, number: u64, progress: ReceiptProgress) -> Result<(), StoreFault>
+        ensures set { WritesTables (set_receipt_in number progress) (state S.Store self.old) (state S.Store self.new) result }
         ensures fault { IfErr result (λ f. may_come f ≡ true) }
     {
-        if !fits_mdn(progress) {
+        if !fits_receipt(progress) {
             return Err(StoreFault::Refused);
         }
         owed::set(&mut self.conn, number, progress).map_err(fault_of)
@@ -366,12 +366,12 @@ impl<S: Alter> Store<S> {
 
     /// The least number of the receipts of which a try may begin at this moment, if there is one. Answers Memory, Disk or
     /// Refused.
-    pub fn due_mdn(&mut self, moment: Moment) -> Result<Option<u64>, StoreFault>
+    pub fn due_receipt(&mut self, moment: Moment) -> Result<Option<u64>, StoreFault>
         ensures due { ReadsTables (λ s number. number
             ≡ least (due_receipts s moment)) (state S.Store self.old) (state S.Store self.new) result }
         ensures fault { IfErr result (λ f. may_come f ≡ true) }
     {
-        least_due(&mut self.conn, Wait::ToAnswer, moment).map_err(fault_of)
+        least_due(&mut self.conn, Wait::ToSendReceipt, moment).map_err(fault_of)
     }
 
     /// The documents of that state, or all, in order of number, each with the length of its content in place of the content,
@@ -379,7 +379,7 @@ impl<S: Alter> Store<S> {
     pub fn list_out(
         &mut self,
         alloc: Global,
-        wanted: Option<State>,
+        wanted: Option<DetailClass>,
     ) -> Result<Vec<OutRow>, StoreFault>
         ensures documents { ReadsTables (λ s documents. documents.items
             ≡ listed_rows wanted s) (state S.Store self.old) (state S.Store self.new) result }
@@ -417,8 +417,8 @@ impl<S: Alter> Store<S> {
         ensures fault { IfErr result (λ f. may_come f ≡ true) }
     {
         let details = details(&mut self.conn, alloc)?;
-        let mdns = mdns(&mut self.conn, alloc)?;
-        Ok(counted(details.as_slice(), mdns.as_slice()))
+        let receipt_stages = receipt_stages(&mut self.conn, alloc)?;
+        Ok(counted(details.as_slice(), receipt_stages.as_slice()))
     }
 
     /// The first discrepancy between the entries and what is kept beside them, the counters and what waits. Tables that stand for a

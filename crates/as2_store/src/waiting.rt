@@ -6,7 +6,7 @@ ghost use Rattle.sqlite.specs.State.{HasCleanDisk};
 ghost use Rattle.as2_store.specs.Calls.{IsInside};
 ghost use Rattle.sql_tables.specs.Changes.{ChangesTable};
 ghost use Rattle.as2_exchange.specs.State.{end_of_numbers};
-ghost use Rattle.as2_rows.specs.Waiting.{WaitingRow, in_kind, in_waiting, kind_code, out_kind, to_answer};
+ghost use Rattle.as2_rows.specs.Waiting.{WaitingRow, in_kind, in_waiting, kind_code, out_kind, to_send_receipt};
 ghost use Rattle.as2_store.specs.Tables.{Way, store_schema, waiting_tree};
 ghost use Rattle.as2_store.specs.Stands.{waiting_row};
 ghost use Rattle.as2_store.specs.Adding.{NotesWaiting, noted_rows};
@@ -16,9 +16,9 @@ ghost use Rattle.as2_store.specs.Progressing.{waits_at};
 ghost use Rattle.as2_store.specs.Settling.{place_of, without_document};
 
 use crate::numbers::{whole, whole_or_none};
-use as2_exchange::{Attempt, END_OF_NUMBERS, InEntry, MdnState};
+use as2_exchange::{Attempt, END_OF_NUMBERS, InEntry, ReceiptStage};
 use as2_mdn::Detail;
-use as2_records::{MdnProgress, Progress};
+use as2_records::{ReceiptProgress, Progress};
 use as2_rows::Wait;
 use sqlite::{Alter, Error, Transaction, params};
 
@@ -79,12 +79,12 @@ fn take_waiting<S: Alter>(tx: &mut Transaction<'_, S>, place: u64) -> Result<(),
 }
 
 /// Whether a receipt that stands so is to be sent.
-pub fn is_to_answer(mdn: MdnState, attempt: Attempt) -> bool
-    ensures to_answer { IsTrue result → in_kind mdn attempt ≡ Some to_answer }
-    ensures nothing { result ≡ false → in_kind mdn attempt ≡ None }
+pub fn is_to_answer(receipt_stage: ReceiptStage, attempt: Attempt) -> bool
+    ensures to_send_receipt { IsTrue result → in_kind receipt_stage attempt ≡ Some to_send_receipt }
+    ensures nothing { result ≡ false → in_kind receipt_stage attempt ≡ None }
 {
-    match mdn {
-        MdnState::Pending => matches!(attempt, Attempt::Idle | Attempt::Running),
+    match receipt_stage {
+        ReceiptStage::Pending => matches!(attempt, Attempt::Idle | Attempt::Running),
         _ => false,
     }
 }
@@ -93,7 +93,7 @@ pub fn is_to_answer(mdn: MdnState, attempt: Attempt) -> bool
 fn put_owed_waiting<S: Alter>(
     tx: &mut Transaction<'_, S>,
     number: u64,
-    progress: MdnProgress,
+    progress: ReceiptProgress,
 ) -> Result<(), Error>
     requires number { number ≤ end_of_numbers }
     requires due { IfSome progress.due (λ due. due < 2 ^ 63) }
@@ -106,8 +106,8 @@ fn put_owed_waiting<S: Alter>(
         → OnOk result ((way : Way) → (state S.Store tx.old.conn.now).now.schema ≡ store_schema way
         → NotesWaiting way (state S.Store tx.old.conn.now) (state S.Store tx.new.conn.now) (answers_at number progress)) }
 {
-    if is_to_answer(progress.mdn, progress.attempt) {
-        put_waiting(tx, Wait::ToAnswer, number, progress.due)?;
+    if is_to_answer(progress.receipt_stage, progress.attempt) {
+        put_waiting(tx, Wait::ToSendReceipt, number, progress.due)?;
     }
     Ok(())
 }
@@ -122,8 +122,8 @@ pub fn put_in_waiting<S: Alter>(tx: &mut Transaction<'_, S>, entry: &InEntry) ->
         → OnOk result ((way : Way) → (state S.Store tx.old.conn.now).now.schema ≡ store_schema way
         → NotesWaiting way (state S.Store tx.old.conn.now) (state S.Store tx.new.conn.now) (in_waiting entry.now)) }
 {
-    if is_to_answer(entry.mdn, entry.attempt) {
-        put_waiting(tx, Wait::ToAnswer, entry.number, entry.due)?;
+    if is_to_answer(entry.receipt_stage, entry.attempt) {
+        put_waiting(tx, Wait::ToSendReceipt, entry.number, entry.due)?;
     }
     Ok(())
 }
@@ -192,7 +192,7 @@ pub fn wait_for<S: Alter>(
 pub fn answer_for<S: Alter>(
     tx: &mut Transaction<'_, S>,
     number: u64,
-    progress: MdnProgress,
+    progress: ReceiptProgress,
 ) -> Result<(), Error>
     requires number { number ≤ end_of_numbers }
     requires due { IfSome progress.due (λ due. due < 2 ^ 63) }
@@ -203,9 +203,9 @@ pub fn answer_for<S: Alter>(
     ensures put { HasCleanDisk (state S.Store tx.new.conn.now)
         → OnOk result ((way : Way) (ws : List WaitingRow) → HoldsWaiting way (state S.Store tx.old.conn.now).now ws
         → RenewsWaiting way (state S.Store tx.old.conn.now) (state S.Store tx.new.conn.now)
-        (noted_rows (answers_at number progress) (map waiting_row (not_at (place_of to_answer number) ws)))) }
+        (noted_rows (answers_at number progress) (map waiting_row (not_at (place_of to_send_receipt number) ws)))) }
 {
-    take_waiting(tx, place_of(Wait::ToAnswer, number))?;
+    take_waiting(tx, place_of(Wait::ToSendReceipt, number))?;
     put_owed_waiting(tx, number, progress)
 }
 

@@ -4,7 +4,7 @@ use Rattle.std.specs.Prelude.{nat_lt}
 use Rattle.std.specs.List.{AllByRecursion, IsDistinct, filter, flat_map}
 use Rattle.std.proofs.lemmas.Bool.Decides.{nat_tests}
 use Rattle.std.proofs.lemmas.List.Folds.{flat_map-map}
-use Rattle.as2_mdn.specs.declared.detail.State.{State as StateOf}
+use Rattle.as2_mdn.specs.declared.detail.DetailClass.{DetailClass}
 use Rattle.as2_exchange.specs.Invariants.{AreNumbers}
 use Rattle.as2_exchange.specs.State.{State, is_settled}
 use Rattle.as2_exchange.specs.Tries.{is_due}
@@ -45,7 +45,7 @@ settled_rise s up = rise_kept is_settled s.outbox up
 pub inbox_lines : (s : State) → flat_map in_row_line (map in_summary s.inbox) ≡ list_in s
 inbox_lines s = flat_map-map in_row_line in_summary s.inbox
 
-pub outbox_lines : (s : State) (wanted : Option StateOf) → Rise (document_numbers s)
+pub outbox_lines : (s : State) (wanted : Option DetailClass) → Rise (document_numbers s)
     → flat_map (marked_line (settled_numbers s)) (map out_summary (filter (is_in wanted) s.outbox)) ≡ list_out s wanted
 outbox_lines s wanted up = lines (settled_numbers s) (is_in wanted) s.outbox (marks s.outbox up)
 

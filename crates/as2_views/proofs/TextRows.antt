@@ -6,12 +6,12 @@ use Rattle.as2_names.specs.Ascii.{space}
 use Rattle.as2_mic.specs.declared.alg.Alg.TheVariants.{Sha1}
 use Rattle.as2_mdn.specs.declared.detail.Detail.{Detail}
 use Rattle.as2_mdn.specs.declared.detail.Detail.TheVariants.{New, Sending, Awaiting, Retry, Processed, Overdue}
-use Rattle.as2_mdn.specs.declared.detail.State.TheVariants.{R, S}
+use Rattle.as2_mdn.specs.declared.detail.DetailClass.TheVariants.{R, S}
 use Rattle.as2_mdn.specs.declared.outcome.Outcome.TheVariants.{Processed as WasProcessed}
 use Rattle.as2_exchange.specs.State.{LaterVersion, State, empty}
 use Rattle.as2_exchange.specs.declared.attempt.Attempt.{Attempt}
 use Rattle.as2_exchange.specs.declared.attempt.Attempt.TheVariants.{Idle, Running}
-use Rattle.as2_exchange.specs.declared.inbox.MdnState.TheVariants.{Pending}
+use Rattle.as2_exchange.specs.declared.inbox.ReceiptStage.TheVariants.{Pending}
 use Rattle.as2_exchange.specs.declared.inbox.ReceiptDelivery.TheVariants.{Async}
 use Rattle.as2_exchange.specs.declared.outbox.Evidence.{Evidence}
 use Rattle.as2_exchange.specs.declared.outbox.OutEntry.{OutEntry}
@@ -72,7 +72,7 @@ after_a_post = record {
         number = 1;
         posted = record { sender = codes "Depot"; receiver = codes "Supplier"; id = codes "<m1@x>"; content_type = codes "application/edi-x12"; content = codes "abc"; outcome = WasProcessed; how = Async (codes "http://127.0.0.1:8082/mdn"); mic = Some (record { digest = Sha1; text = codes "qZk+NkcGgWq6PiVxeFDCbJzQ2J0=" }) };
         moment = 1000;
-        mdn = Pending;
+        receipt_stage = Pending;
         tries = 0;
         attempt = Idle;
         due = Some 1000;

@@ -2,11 +2,11 @@
 use Rattle.std.specs.Prelude.{ℕ, ◌-◌, Bool, true, false, ◌++◌, length, replicate, codes, decimal, Option, Some, None}
 use Rattle.as2_names.specs.Ascii.{space}
 use Rattle.as2_names.specs.Names.{name_spelling}
-use Rattle.as2_mdn.specs.declared.detail.State.{State as StateOf}
-use Rattle.as2_mdn.specs.declared.detail.State.TheVariants.{P, R, S, W, E}
+use Rattle.as2_mdn.specs.declared.detail.DetailClass.{DetailClass}
+use Rattle.as2_mdn.specs.declared.detail.DetailClass.TheVariants.{P, R, S, W, E}
 use Rattle.as2_exchange.specs.Agreement.{Text}
-use Rattle.as2_exchange.specs.declared.inbox.MdnState.{MdnState}
-use Rattle.as2_exchange.specs.declared.inbox.MdnState.TheVariants.{Unasked, Pending, Sent}
+use Rattle.as2_exchange.specs.declared.inbox.ReceiptStage.{ReceiptStage}
+use Rattle.as2_exchange.specs.declared.inbox.ReceiptStage.TheVariants.{Unasked, Pending, Sent}
 use Rattle.as2_exchange.specs.declared.outbox.Evidence.{Evidence}
 
 -- the text in so many places, at their right or left end
@@ -16,7 +16,7 @@ right_in places text = replicate (places - length text) space ++ text
 abbrev pub left_in : ℕ → Text → Text
 left_in places text = text ++ replicate (places - length text) space
 
-abbrev pub state_text : StateOf → Text
+abbrev pub state_text : DetailClass → Text
 state_text P = codes "P"
 state_text R = codes "R"
 state_text S = codes "S"
@@ -34,10 +34,10 @@ processed_mark true = codes "S"
 processed_mark false = codes "E"
 
 -- no receipt asked, pending or sent
-abbrev pub mdn_mark : MdnState → Text
-mdn_mark Unasked = codes "-"
-mdn_mark Pending = codes "P"
-mdn_mark Sent = codes "S"
+abbrev pub receipt_stage_mark : ReceiptStage → Text
+receipt_stage_mark Unasked = codes "-"
+receipt_stage_mark Pending = codes "P"
+receipt_stage_mark Sent = codes "S"
 
 -- both names as they are spelled
 abbrev pub from_to : Text → Text → Text

@@ -3,7 +3,7 @@ use Rattle.std.specs.Prelude.{Bool, ◌++◌, codes, decimal}
 use Rattle.as2_mdn.specs.Details.{class_of, name_of}
 use Rattle.as2_exchange.specs.Agreement.{Text}
 use Rattle.as2_exchange.specs.Readings.{is_processed}
-use Rattle.as2_views.specs.Layout.{from_to, kept_mark, left_in, mdn_mark, processed_mark, right_in, state_text}
+use Rattle.as2_views.specs.Layout.{from_to, kept_mark, left_in, receipt_stage_mark, processed_mark, right_in, state_text}
 use Rattle.as2_records.specs.declared.summaries.InRow.{InRow}
 use Rattle.as2_records.specs.declared.summaries.OutRow.{OutRow}
 
@@ -12,7 +12,7 @@ abbrev pub in_row_line : InRow → Text
 in_row_line r =
     right_in 12 (decimal r.number)
     ++ codes " " ++ processed_mark (is_processed r.outcome)
-    ++ codes " " ++ mdn_mark r.mdn
+    ++ codes " " ++ receipt_stage_mark r.receipt_stage
     ++ codes " " ++ from_to r.sender r.receiver
     ++ codes " " ++ r.id
     ++ codes "\n"

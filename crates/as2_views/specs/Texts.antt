@@ -3,8 +3,8 @@ use Rattle.std.specs.Prelude.{ℕ, ◌&&◌, ◌++◌, length, count_by, codes, 
 use Rattle.std.specs.List.{filter, flat_map}
 use Rattle.as2_names.specs.Names.{name_spelling}
 use Rattle.as2_mdn.specs.Details.{class_of, name_of}
-use Rattle.as2_mdn.specs.declared.detail.State.{State as StateOf}
-use Rattle.as2_mdn.specs.declared.detail.State.TheVariants.{R, E}
+use Rattle.as2_mdn.specs.declared.detail.DetailClass.{DetailClass}
+use Rattle.as2_mdn.specs.declared.detail.DetailClass.TheVariants.{R, E}
 use Rattle.as2_exchange.specs.Agreement.{Text}
 use Rattle.as2_exchange.specs.OwedReceipts.{is_pending}
 use Rattle.as2_exchange.specs.Progress.{is_awaited, is_in, is_new, is_under_way}
@@ -13,7 +13,7 @@ use Rattle.as2_exchange.specs.State.{State, document, received_entry, is_settled
 use Rattle.as2_exchange.specs.Tries.{is_due}
 use Rattle.as2_exchange.specs.declared.inbox.InEntry.{InEntry}
 use Rattle.as2_exchange.specs.declared.outbox.OutEntry.{OutEntry}
-use Rattle.as2_views.specs.Layout.{count_line, due_text, evidence_text, from_to, kept_mark, left_in, mdn_mark, named_line, processed_mark, right_in, state_text}
+use Rattle.as2_views.specs.Layout.{count_line, due_text, evidence_text, from_to, kept_mark, left_in, receipt_stage_mark, named_line, processed_mark, right_in, state_text}
 
 -- ---- the outbox
 
@@ -29,7 +29,7 @@ out_line d =
     ++ codes "\n"
 
 -- the lines of these documents, in order of number
-abbrev pub list_out : State → Option StateOf → Text
+abbrev pub list_out : State → Option DetailClass → Text
 list_out s state = flat_map out_line (filter (is_in state) s.outbox)
 
 -- ---- the inbox
@@ -39,7 +39,7 @@ abbrev pub in_line : InEntry → Text
 in_line e =
     right_in 12 (decimal e.number)
     ++ codes " " ++ processed_mark (is_processed e.posted.outcome)
-    ++ codes " " ++ mdn_mark e.mdn
+    ++ codes " " ++ receipt_stage_mark e.receipt_stage
     ++ codes " " ++ from_to e.posted.sender e.posted.receiver
     ++ codes " " ++ e.posted.id
     ++ codes "\n"
@@ -57,7 +57,7 @@ outstanding_text s m =
     ++ count_line (codes "documents in retry:") (count_by (is_in (Some R)) s.outbox)
     ++ count_line (codes "receipts awaited:") (count_by is_awaited s.outbox)
     ++ count_line (codes "documents in error:") (count_by (is_in (Some E)) s.outbox)
-    ++ count_line (codes "receipts to send:") (count_by (λ e. is_pending e.mdn) s.inbox)
+    ++ count_line (codes "receipts to send:") (count_by (λ e. is_pending e.receipt_stage) s.inbox)
     ++ flat_map out_line (filter (λ d. is_under_way d.detail && is_due m d.due) s.outbox)
 
 -- ---- one document

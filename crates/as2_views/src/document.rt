@@ -6,7 +6,7 @@ ghost use Rattle.as2_views.specs.Texts.{shown_words};
 ghost use Rattle.as2_views.specs.Pieces.{label, names_text, receipt_line, size_text, standing_text, tries_text};
 
 use crate::pieces::{add_name, add_number, add_text, add_word};
-use crate::rows::state_letter;
+use crate::rows::class_letter;
 use as2_exchange::{Evidence, OutEntry};
 use as2_mdn::Detail;
 use as2_text::{AsName, Memory};
@@ -52,7 +52,7 @@ pub fn add_name_line(text: &mut Vec<u8>, name: &[u8], value: &AsName) -> Result<
 fn add_standing(text: &mut Vec<u8>, detail: Detail) -> Result<(), AllocError>
     ensures { OnOk result (text.new.items ≡ text.old.items ++ standing_text detail) }
 {
-    add_text(text, state_letter(detail.state()))?;
+    add_text(text, class_letter(detail.class()))?;
     add_word(text, detail.name().as_bytes())
 }
 

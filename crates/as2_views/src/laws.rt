@@ -1,7 +1,7 @@
 //! What holds of rows and lines, as laws: they are proved, and do nothing.
 ghost use Rattle.std.specs.Prelude.{◌≡◌, ◌&&◌, ◌++◌, ℕ, List, None, Option, map};
 ghost use Rattle.std.specs.List.{filter, flat_map};
-ghost use Rattle.as2_mdn.specs.declared.detail.State.{State as StateOf};
+ghost use Rattle.as2_mdn.specs.declared.detail.DetailClass.{DetailClass};
 ghost use Rattle.as2_exchange.specs.State.{State, is_settled};
 ghost use Rattle.as2_exchange.specs.declared.inbox.InEntry.{InEntry};
 ghost use Rattle.as2_exchange.specs.declared.outbox.OutEntry.{OutEntry};
@@ -26,7 +26,7 @@ pub fn rows_give_lines()
 /// The lines of a state's rows are its listings.
 pub fn lists_of_rows()
     ensures inbox { (s : State) → flat_map in_row_line (map in_summary s.inbox) ≡ list_in s }
-    ensures outbox { (s : State) (wanted : Option StateOf) → Rise (document_numbers s) →
+    ensures outbox { (s : State) (wanted : Option DetailClass) → Rise (document_numbers s) →
         flat_map (marked_line (settled_numbers s)) (map out_summary (filter (is_in wanted) s.outbox))
         ≡ list_out s wanted }
     ensures outstanding { (s : State) (m : ℕ) → Rise (document_numbers s) →

@@ -1,12 +1,12 @@
 //! Lines of rows.
 ghost use Rattle.std.specs.Prelude.{◌≡◌, ◌++◌, OnOk};
 ghost use Rattle.as2_exchange.specs.Readings.{is_processed};
-ghost use Rattle.as2_views.specs.Layout.{kept_mark, mdn_mark, processed_mark, state_text};
+ghost use Rattle.as2_views.specs.Layout.{kept_mark, receipt_stage_mark, processed_mark, state_text};
 ghost use Rattle.as2_views.specs.RowLines.{in_row_line, out_row_line};
 
 use crate::pieces::{add_from_to, add_left, add_right, add_text, add_word};
-use as2_exchange::MdnState;
-use as2_mdn::{Outcome, State};
+use as2_exchange::ReceiptStage;
+use as2_mdn::{Outcome, DetailClass};
 use as2_records::{InRow, OutRow};
 use as2_text::Memory;
 
@@ -18,15 +18,15 @@ const TRIES_PLACES: usize = 2;
 const DETAIL_PLACES: usize = 16;
 
 /// The letter of a state.
-pub fn state_letter(state: State) -> &'static [u8]
+pub fn class_letter(state: DetailClass) -> &'static [u8]
     ensures { result.now ≡ state_text state }
 {
     match state {
-        State::P => b"P",
-        State::R => b"R",
-        State::S => b"S",
-        State::W => b"W",
-        State::E => b"E",
+        DetailClass::P => b"P",
+        DetailClass::R => b"R",
+        DetailClass::S => b"S",
+        DetailClass::W => b"W",
+        DetailClass::E => b"E",
     }
 }
 
@@ -49,13 +49,13 @@ fn outcome_mark(outcome: Outcome) -> &'static [u8]
 }
 
 /// The mark of the receipt that is owed for a received document.
-fn owed_mark(mdn: MdnState) -> &'static [u8]
-    ensures { result.now ≡ mdn_mark mdn }
+fn receipt_mark_of(receipt_stage: ReceiptStage) -> &'static [u8]
+    ensures { result.now ≡ receipt_stage_mark receipt_stage }
 {
-    match mdn {
-        MdnState::Unasked => b"-",
-        MdnState::Pending => b"P",
-        MdnState::Sent => b"S",
+    match receipt_stage {
+        ReceiptStage::Unasked => b"-",
+        ReceiptStage::Pending => b"P",
+        ReceiptStage::Sent => b"S",
     }
 }
 
@@ -66,7 +66,7 @@ pub fn add_in_line(text: &mut Vec<u8>, row: &InRow) -> Result<(), Memory>
 {
     add_right(text, NUMBER_PLACES, row.number)?;
     add_word(text, outcome_mark(row.outcome))?;
-    add_word(text, owed_mark(row.mdn))?;
+    add_word(text, receipt_mark_of(row.receipt_stage))?;
     add_text(text, b" ")?;
     add_from_to(text, &row.sender, &row.receiver)?;
     add_word(text, row.id.as_received().as_bytes())?;
@@ -80,7 +80,7 @@ pub fn add_out_line(text: &mut Vec<u8>, row: &OutRow, is_settled: bool) -> Resul
     ensures { OnOk result (text.new.items ≡ text.old.items ++ out_row_line is_settled row.now) }
 {
     add_right(text, NUMBER_PLACES, row.number)?;
-    add_word(text, state_letter(row.detail.state()))?;
+    add_word(text, class_letter(row.detail.class()))?;
     add_text(text, b" ")?;
     add_right(text, TRIES_PLACES, row.tries)?;
     add_word(text, receipt_mark(is_settled))?;

@@ -1,6 +1,6 @@
 //! Replies as they are written (RFC 9112, section 4).
 use as2_exchange::{Bytes, HttpAnswer, HttpBody, Line};
-use as2_mdn::{Outcome, ReportOut, write_report};
+use as2_mdn::{Outcome, ReceiptOut, write_receipt};
 use as2_messages::{Form, RequestFault, refusal, write_reply};
 use as2_text::{AsName, Domain, MessageId, Moment};
 use script_lines::{Answer, Trouble};
@@ -68,7 +68,7 @@ fn empty_answer(word: &str, answer: &mut Answer) -> Option<HttpAnswer> {
 }
 
 /// The report that `DOMAIN ID FROM TO` tells: the first one of the domain, of a document that couldn't be decompressed.
-fn report_in(words: &str, answer: &mut Answer) -> Option<ReportOut> {
+fn report_in(words: &str, answer: &mut Answer) -> Option<ReceiptOut> {
     let (domain, words) = answer.cut(words, " ", "no report");
     let (original_id, words) = answer.cut(words, " ", "no report");
     let (from, to) = answer.cut(words, " ", "no report");
@@ -84,7 +84,7 @@ fn report_in(words: &str, answer: &mut Answer) -> Option<ReportOut> {
     let Ok(original_id) = MessageId::parse(answer.alloc(), original_id.as_bytes()) else {
         return None;
     };
-    Some(ReportOut {
+    Some(ReceiptOut {
         number: 1,
         domain,
         from,
@@ -101,7 +101,7 @@ fn report_answer(words: &str, answer: &mut Answer) -> Option<HttpAnswer> {
         answer.lack("no report");
         return None;
     };
-    match write_report(answer.alloc(), &out) {
+    match write_receipt(answer.alloc(), &out) {
         Ok(text) => Some(HttpAnswer {
             status: 200,
             body: HttpBody::Report {

@@ -275,13 +275,13 @@ fn try_event(
     match words.name {
         "begin" => Some(Event::Begin { number, moment }),
         "resend" => Some(Event::Resend { number, moment }),
-        "begin-mdn" => Some(Event::BeginMdn { number, moment }),
+        "begin-mdn" => Some(Event::BeginReceipt { number, moment }),
         "reply" | "unanswered" => Some(Event::Outcome {
             number,
             answer: reply(settings, brought, words.status, answer),
             moment,
         }),
-        "reply-mdn" | "unanswered-mdn" => Some(Event::OutcomeMdn {
+        "reply-mdn" | "unanswered-mdn" => Some(Event::OutcomeReceipt {
             number,
             answer: reply(settings, brought, words.status, answer),
             moment,

@@ -29,7 +29,7 @@ fn say_tries(answer: &mut Answer, tries: u64) {
 fn say_detail(answer: &mut Answer, detail: Detail) {
     answer.say(detail.name());
     answer.say(" ");
-    answer.say_name(&detail.state());
+    answer.say_name(&detail.class());
 }
 
 /// How a document to a partner stands: its detail and state, its tries, whether one is open, when it is due, and whether a receipt
@@ -48,7 +48,7 @@ fn say_document(answer: &mut Answer, document: &OutEntry) {
 
 /// How the receipt of a received document stands.
 pub fn say_owed(answer: &mut Answer, entry: &InEntry) {
-    answer.say_small(&entry.mdn);
+    answer.say_small(&entry.receipt_stage);
     say_tries(answer, entry.tries);
     answer.say_small(&entry.attempt);
     say_due(answer, entry.due);
@@ -119,7 +119,7 @@ fn say_in_row(answer: &mut Answer, row: &InRow) {
     say_size(answer, row.length, row.moment.seconds());
     answer.say_small(&row.outcome);
     answer.say(", ");
-    answer.say_small(&row.mdn);
+    answer.say_small(&row.receipt_stage);
     say_tries(answer, row.tries);
     answer.say_small(&row.attempt);
     say_due(answer, row.due);
@@ -147,7 +147,7 @@ fn say_inbox(answer: &mut Answer, listed: Result<Vec<InRow>, StoreFault>) {
         say_between(answer, at, ", ");
         answer.say_number(row.number);
         answer.say(" ");
-        answer.say_small(&row.mdn);
+        answer.say_small(&row.receipt_stage);
     }
 }
 

@@ -5,7 +5,7 @@ use crate::sending::say_sent;
 use crate::stage::Stage;
 use crate::told::{say, say_report_bytes};
 use as2_exchange::{Next, StoreFault};
-use as2_mdn::State;
+use as2_mdn::DetailClass;
 use as2_records::Records;
 use as2_station::{Filter, Station};
 use script_lines::Answer;
@@ -31,13 +31,13 @@ fn say_text(answer: &mut Answer, text: Result<String, StoreFault>) {
 }
 
 /// The state of that letter.
-pub fn state_in(letter: &str, answer: &mut Answer) -> Option<State> {
+pub fn state_in(letter: &str, answer: &mut Answer) -> Option<DetailClass> {
     match letter {
-        "P" => Some(State::P),
-        "R" => Some(State::R),
-        "S" => Some(State::S),
-        "W" => Some(State::W),
-        "E" => Some(State::E),
+        "P" => Some(DetailClass::P),
+        "R" => Some(DetailClass::R),
+        "S" => Some(DetailClass::S),
+        "W" => Some(DetailClass::W),
+        "E" => Some(DetailClass::E),
         _ => {
             answer.lack("no state");
             None

@@ -1,11 +1,11 @@
 //! What is said to an event, as a line tells it.
 use crate::made::{change, copied, made};
 use as2_exchange::{Answer as Said, HttpAnswer, HttpBody, Job, StoreFault};
-use as2_mdn::ReportOut;
+use as2_mdn::ReceiptOut;
 use script_lines::{Answer, Settings};
 
 /// The MIC of a report and its digest, or `-`.
-fn say_mic(answer: &mut Answer, out: &ReportOut) {
+fn say_mic(answer: &mut Answer, out: &ReceiptOut) {
     match &out.mic {
         Some(mic) => {
             answer.say_bytes(mic.text.bytes());
@@ -17,7 +17,7 @@ fn say_mic(answer: &mut Answer, out: &ReportOut) {
 }
 
 /// Puts the MIC of a report into the text of reports: the line of it that tells the MIC is left out where the report has none.
-fn put_mic(text: &mut String, out: &ReportOut, answer: &mut Answer) {
+fn put_mic(text: &mut String, out: &ReceiptOut, answer: &mut Answer) {
     if out.mic.is_none() {
         change(text, "Received-content-MIC: @mic\\r\\n", "", answer);
         return;
@@ -28,7 +28,7 @@ fn put_mic(text: &mut String, out: &ReportOut, answer: &mut Answer) {
 }
 
 /// Puts what a report says into the text of reports.
-fn put_report(text: &mut String, out: &ReportOut, answer: &mut Answer) {
+fn put_report(text: &mut String, out: &ReceiptOut, answer: &mut Answer) {
     let number = made(out.number.to_string(answer.alloc()), answer);
     change(text, "@number", number.as_str(), answer);
     change(
@@ -43,7 +43,7 @@ fn put_report(text: &mut String, out: &ReportOut, answer: &mut Answer) {
 }
 
 /// Whether the bytes of a report are those of the text `report-text`.
-fn is_by_text(settings: &Settings, answer: &mut Answer, out: &ReportOut, bytes: &[u8]) -> bool {
+fn is_by_text(settings: &Settings, answer: &mut Answer, out: &ReceiptOut, bytes: &[u8]) -> bool {
     let Some(text) = settings.text("report-text") else {
         answer.lack("no text report-text");
         return false;
@@ -54,7 +54,7 @@ fn is_by_text(settings: &Settings, answer: &mut Answer, out: &ReportOut, bytes: 
 }
 
 /// Whom a report is from and to.
-fn say_names(answer: &mut Answer, out: &ReportOut) {
+fn say_names(answer: &mut Answer, out: &ReceiptOut) {
     answer.say("> from ");
     answer.say_bytes(out.from.bytes());
     answer.say(" to ");
@@ -63,7 +63,7 @@ fn say_names(answer: &mut Answer, out: &ReportOut) {
 }
 
 /// What a report says, if its bytes are those of the text of reports.
-fn say_report(settings: &Settings, answer: &mut Answer, out: &ReportOut, bytes: &[u8]) {
+fn say_report(settings: &Settings, answer: &mut Answer, out: &ReceiptOut, bytes: &[u8]) {
     if !is_by_text(settings, answer, out, bytes) {
         answer.say("a report of other bytes");
         return;

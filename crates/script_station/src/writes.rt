@@ -141,7 +141,7 @@ fn requeue<K: Records>(records: &mut K, rest: &str, answer: &mut Answer) {
     let (number, moment) = rest.split_once(" ").unwrap_or((rest, ""));
     if let Some(moment) = moment_in(moment, answer) {
         let number = answer.number_in(number);
-        say_done(answer, records.requeue_mdn(number, moment));
+        say_done(answer, records.requeue_receipt(number, moment));
     }
 }
 
@@ -252,7 +252,7 @@ fn due<K: Records>(records: &mut K, verb: &str, rest: &str, answer: &mut Answer)
     if verb == "due-document" {
         say_number(answer, records.due_out(moment));
     } else {
-        say_number(answer, records.due_mdn(moment));
+        say_number(answer, records.due_receipt(moment));
     }
 }
 

@@ -1,6 +1,6 @@
 //! Posted documents.
 use crate::arguments::{Arguments, parts_of, value_in};
-use crate::told::{attempt_word, mdn_word, say_due, say_how, say_mic};
+use crate::told::{attempt_word, receipt_stage_word, say_due, say_how, say_mic};
 use as2_exchange::{InEntry, Line, Posted};
 use as2_posts::{Opened, document, first_entry, has_kept_mic, is_requeued, repeats};
 use as2_text::{AsName, Head, HeadFault, MediaType};
@@ -133,7 +133,7 @@ fn say_whether_kept(rest: &str, answer: &mut Answer) {
 fn say_entry(answer: &mut Answer, entry: &InEntry) {
     answer.say_number(entry.number);
     answer.say(", receipt ");
-    answer.say(mdn_word(entry.mdn));
+    answer.say(receipt_stage_word(entry.receipt_stage));
     answer.say(", ");
     answer.say(attempt_word(entry.attempt));
     say_due(answer, entry.due);

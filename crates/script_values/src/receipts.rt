@@ -1,6 +1,6 @@
 //! Receipts: their dispositions, what they say of a document, and the details that come of it.
 use crate::arguments::{Arguments, pieces_of, value_in};
-use as2_mdn::{Detail, Disposition, MicPart, Receipt, State, verdict, verdict_pieces};
+use as2_mdn::{Detail, Disposition, MicPart, Receipt, DetailClass, verdict, verdict_pieces};
 use as2_mic::MicField;
 use script_lines::Answer;
 
@@ -110,13 +110,13 @@ fn is_receipt_of(rest: &str, answer: &mut Answer) {
 }
 
 /// The letter of a state.
-fn letter(state: State) -> &'static str {
+fn letter(state: DetailClass) -> &'static str {
     match state {
-        State::P => "P",
-        State::R => "R",
-        State::S => "S",
-        State::W => "W",
-        State::E => "E",
+        DetailClass::P => "P",
+        DetailClass::R => "R",
+        DetailClass::S => "S",
+        DetailClass::W => "W",
+        DetailClass::E => "E",
     }
 }
 
@@ -125,7 +125,7 @@ fn say_detail(rest: &str, answer: &mut Answer) {
     if let Some(detail) = value_in(rest, &DETAILS, "no detail", answer) {
         answer.say(detail.name());
         answer.say(", ");
-        answer.say(letter(detail.state()));
+        answer.say(letter(detail.class()));
     }
 }
 

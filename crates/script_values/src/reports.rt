@@ -2,7 +2,7 @@
 use crate::arguments::Arguments;
 use crate::outcomes::outcome_in;
 use as2_mdn::{
-    MicPart, Receipt, ReportMic, ReportOut, read_report, write_head_fields, write_report,
+    MicPart, Receipt, ReceiptMic, ReceiptOut, read_report, write_head_fields, write_receipt,
 };
 use as2_mic::{Alg, Compared, mic_of};
 use as2_text::{Domain, MediaType};
@@ -105,7 +105,7 @@ fn say_each_reading(rest: &str, answer: &mut Answer) {
 }
 
 /// The MIC that `DIGEST CONTENT` asks for; none where it is `nothing`.
-fn mic_for(word: &str, answer: &mut Answer) -> Option<ReportMic> {
+fn mic_for(word: &str, answer: &mut Answer) -> Option<ReceiptMic> {
     if word == "nothing" {
         return None;
     }
@@ -115,7 +115,7 @@ fn mic_for(word: &str, answer: &mut Answer) -> Option<ReportMic> {
         return None;
     };
     let content = answer.bytes_of(content);
-    Some(ReportMic {
+    Some(ReceiptMic {
         digest,
         text: mic_of(digest, content.as_slice()),
     })
@@ -131,13 +131,13 @@ fn domain_in(word: &str, answer: &mut Answer) -> Option<Domain> {
 }
 
 /// The report that `NUMBER | DOMAIN | FROM | TO | IDENTIFIER | OUTCOME | MIC` describes.
-fn report_in(arguments: &mut Arguments<'_>, answer: &mut Answer) -> Option<ReportOut> {
+fn report_in(arguments: &mut Arguments<'_>, answer: &mut Answer) -> Option<ReceiptOut> {
     let number = arguments.number(answer);
     let domain = domain_in(arguments.word(), answer)?;
     let from = arguments.name(answer)?;
     let to = arguments.name(answer)?;
     let original_id = arguments.identifier(answer)?;
-    Some(ReportOut {
+    Some(ReceiptOut {
         number,
         domain,
         from,
@@ -153,7 +153,7 @@ fn say_report(rest: &str, answer: &mut Answer) {
     let Some(out) = report_in(&mut Arguments::of(rest), answer) else {
         return;
     };
-    let body = write_report(answer.alloc(), &out);
+    let body = write_receipt(answer.alloc(), &out);
     if let Some(body) = answer.unless_memory(body) {
         answer.say_bytes(body.as_slice());
     }

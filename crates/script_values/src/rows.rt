@@ -1,13 +1,13 @@
 //! Rows of the station's tables, made of values.
 use crate::arguments::{Arguments, parts_of};
-use crate::told::{attempt_word, mdn_word, say_due};
+use crate::told::{attempt_word, receipt_stage_word, say_due};
 use as2_exchange::{Address, Attempt, Evidence, InEntry, OutEntry, ReceiptDelivery};
-use as2_mdn::ReportMic;
+use as2_mdn::ReceiptMic;
 use as2_mic::{Alg, MicText, Pieces};
 use as2_records::{InRow, OutRow};
 use as2_rows::{
     EvidenceRow, RowFault, attempt_code, attempt_of_code, content_in, detail_code, detail_of_code,
-    digest_of, how_code, mdn_code, mdn_of_code, mic_of, outcome_code, outcome_of_code, read_in_row,
+    digest_of, how_code, receipt_stage_code, receipt_stage_of_code, mic_of, outcome_code, outcome_of_code, read_in_row,
     read_out_row, url_of,
 };
 use as2_text::{AsName, MessageId, Moment, Url};
@@ -139,7 +139,7 @@ fn say_how(answer: &mut Answer, how: &ReceiptDelivery) {
 }
 
 /// Answers with the two values of a MIC.
-fn say_mic(answer: &mut Answer, mic: &Option<ReportMic>) {
+fn say_mic(answer: &mut Answer, mic: &Option<ReceiptMic>) {
     answer.say(digest_of(mic).unwrap_or("nothing"));
     answer.say(", ");
     answer.say_bytes(mic_of(mic).unwrap_or(b"nothing"));
@@ -188,7 +188,7 @@ fn say_in_row(answer: &mut Answer, row: &InRow) {
     answer.say("; MIC ");
     say_mic(answer, &row.mic);
     answer.say("\nreceipt ");
-    let state = mdn_word(row.mdn);
+    let state = receipt_stage_word(row.receipt_stage);
     say_tries(answer, state, row.tries, row.attempt, row.due)
 }
 
@@ -365,7 +365,7 @@ fn meaning(column: &str, code: i64, answer: &mut Answer) -> Option<(&'static str
     match column {
         "outcome" => outcome_of_code(code).map(|x| (x.text(), outcome_code(x))),
         "detail" => detail_of_code(code).map(|x| (x.name(), detail_code(x))),
-        "receipt" => mdn_of_code(code).map(|x| (mdn_word(x), mdn_code(x))),
+        "receipt" => receipt_stage_of_code(code).map(|x| (receipt_stage_word(x), receipt_stage_code(x))),
         "attempt" => attempt_of_code(code).map(|x| (attempt_word(x), attempt_code(x))),
         _ => {
             answer.lack("no column of codes");
@@ -416,10 +416,10 @@ fn say_how_values(rest: &str, answer: &mut Answer) {
 }
 
 /// The MIC of that digest and text; none where it is `nothing`.
-fn mic_in(word: &str, answer: &mut Answer) -> Option<ReportMic> {
+fn mic_in(word: &str, answer: &mut Answer) -> Option<ReceiptMic> {
     let (digest, text) = word.split_once(" ")?;
     match (Alg::named(digest.as_bytes()), MicText::of(text.as_bytes())) {
-        (Some(digest), Some(text)) => Some(ReportMic { digest, text }),
+        (Some(digest), Some(text)) => Some(ReceiptMic { digest, text }),
         _ => {
             answer.lack("no MIC");
             None

@@ -1,14 +1,14 @@
 //! What entries are told by.
-use as2_exchange::{Attempt, MdnState, ReceiptDelivery};
-use as2_mdn::ReportMic;
+use as2_exchange::{Attempt, ReceiptStage, ReceiptDelivery};
+use as2_mdn::ReceiptMic;
 use script_lines::Answer;
 
 /// How the receipt that is owed for a document stands.
-pub fn mdn_word(mdn: MdnState) -> &'static str {
-    match mdn {
-        MdnState::Unasked => "unasked",
-        MdnState::Pending => "pending",
-        MdnState::Sent => "sent",
+pub fn receipt_stage_word(receipt_stage: ReceiptStage) -> &'static str {
+    match receipt_stage {
+        ReceiptStage::Unasked => "unasked",
+        ReceiptStage::Pending => "pending",
+        ReceiptStage::Sent => "sent",
     }
 }
 
@@ -35,7 +35,7 @@ pub fn say_how(answer: &mut Answer, how: &ReceiptDelivery) {
 }
 
 /// Answers with the text of a MIC.
-pub fn say_mic(answer: &mut Answer, mic: &Option<ReportMic>) {
+pub fn say_mic(answer: &mut Answer, mic: &Option<ReceiptMic>) {
     match mic {
         None => answer.say("no MIC"),
         Some(mic) => {

@@ -132,7 +132,8 @@ fn opened(
 
 impl OpenStores for Stores<'_> {
     ghost use Rattle.std.specs.Prelude.{⊤};
-    ghost use Rattle.as2_script.specs.Stores.{MemoryKeeps, opens_by, size_by};
+    ghost use Rattle.as2_host.specs.Stores.{opens_by};
+    ghost use Rattle.as2_script.specs.Stores.{MemoryKeeps, size_by};
 
     type Opened = Kept<MemStore>;
 

@@ -9,7 +9,7 @@ pub returns : goal.returns
 returns c =
     let content = c.args.entry.posted.content in
     let front = stem Inbox c.args.entry.number in
-    let receipt = given_receipt c.args.agreements.now c.args.entry c.args.entry.mdn in
+    let receipt = given_receipt c.args.agreements.now c.args.entry c.args.entry.receipt_stage in
     IfOk-weaker c.files_in.result _ _ (λ files is. record {
       came = c.date_of-came.result;
       on = c.date_of-came.ensures;

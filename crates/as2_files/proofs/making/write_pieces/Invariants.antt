@@ -1,5 +1,5 @@
 use Rattle.std.specs.Io.KnownBytes.{Appends}
-use Rattle.as2_files.proofs.Pieced.{front}
+use Rattle.as2_mic.proofs.Fronts.{front}
 use Rattle.as2_files.proofs.making.write_pieces.Given as goal
 
 abbrev pub invariant-loop-i : goal.invariant-loop-i

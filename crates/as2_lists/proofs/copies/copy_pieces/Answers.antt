@@ -1,6 +1,6 @@
 use Rattle.std.proofs.Common.{◌≡◌, ◌∙◌, ◌++◌, Some, sym, ap, option_map}
 use Rattle.as2_mic.specs.Pieces.{piece_at}
-use Rattle.as2_lists.proofs.Copied.{piece_more, piece_none}
+use Rattle.as2_mic.proofs.Fronts.{piece_more, piece_none}
 use Rattle.as2_lists.proofs.copies.copy_pieces.Goals.{in-Some+in_ok-append, in_default}
 use Rattle.as2_lists.proofs.copies.copy_pieces.Goals as goal
 

@@ -1,6 +1,6 @@
 use Rattle.std.proofs.Common.{◌<◌, length, ◌∙◌, sym, ap, arith}
 use Rattle.as2_exchange.specs.declared.inbox.InEntry.{InEntry}
-use Rattle.as2_records.specs.Owing.{owed_as}
+use Rattle.as2_records.specs.Owing.{with_receipt_progress}
 use Rattle.as2_lists.proofs.Changed.{one_changed, one_left}
 use Rattle.as2_lists.proofs.inbox.set_numbered.Goals.{then-entry-number, else-entry-number}
 use Rattle.as2_lists.proofs.inbox.set_numbered.Goals as goal
@@ -12,7 +12,7 @@ loop-entry-preserved c =
     let ys = c.loop-entry.entry-items in
     let i = c.loop-entry.entry-index in
     let x = c.entry-item.result in
-    let change = owed_as c.args.progress in
+    let change = with_receipt_progress c.args.progress in
     let within : i < length xs = omega (arith, ap length c.deref_mut-entry-items.ensures.value) in
     let here = ap (λ (e : InEntry). e.number) c.entry-item.is in
     elim c.if-entry-number.branch [

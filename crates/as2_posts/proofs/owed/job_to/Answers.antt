@@ -6,7 +6,7 @@ use Rattle.as2_posts.proofs.owed.job_to.Goals as goal
 
 pub returns : goal.returns
 returns c =
-    let report = c.as_slice-report.ensures ∙ c.of-report.ensures ∙ c.in_ok-write_report.ensures.text ∙ ap receipt_text c.in_ok-out.ensures in
+    let report = c.as_slice-report.ensures ∙ c.of-report.ensures ∙ c.in_ok-write_receipt.ensures.text ∙ ap receipt_text c.in_ok-out.ensures in
     let head = ap₂ head_fields_of c.in_ok-out.ensures (ap length report) in
     let opened = c.in_ok-add_opening.ensures ∙ ap (λ (l : List ℕ). l ++ request_opening c.args.url.now) c.in_ok-bytes.ensures.items in
     let headed = c.in_ok-write_head_fields.ensures.added ∙ ap₂ (λ (l h : List ℕ). l ++ h) opened head in

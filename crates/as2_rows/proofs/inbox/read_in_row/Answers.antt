@@ -18,7 +18,7 @@ returns-clause-shown c =
     (same (sym c.column-11.ensures ∙ c.in_ok-how.ensures.url)
     (same (sym c.column-12.ensures ∙ c.in_ok-mic.ensures.digest)
     (same (sym c.column-13.ensures ∙ c.in_ok-mic.ensures.text)
-    (same (sym c.column-14.ensures ∙ c.in_ok-mdn_in.ensures.read)
+    (same (sym c.column-14.ensures ∙ c.in_ok-receipt_stage_in.ensures.read)
     (same (sym c.column-15.ensures ∙ c.in_ok-whole-3.ensures.read)
     (same (sym c.column-16.ensures ∙ c.in_ok-attempt_in.ensures.read)
     (same (sym c.column-17.ensures ∙ c.in_ok-whole_or_null.ensures.read)

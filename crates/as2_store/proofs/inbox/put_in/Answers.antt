@@ -6,7 +6,7 @@ use Rattle.as2_rows.specs.Rows.{in_shown}
 use Rattle.as2_store.proofs.Statements.{in_put_text}
 use Rattle.as2_store.proofs.MetaRow.{fits_i64}
 use Rattle.as2_store.proofs.WaitingRows.{bound_optional}
-use Rattle.as2_store.proofs.InboxRow.{puts_in, passed_outcome, passed_how, passed_mdn, passed_attempt, bound_url, bound_digest, bound_mic}
+use Rattle.as2_store.proofs.InboxRow.{puts_in, passed_outcome, passed_how, passed_receipt, passed_attempt, bound_url, bound_digest, bound_mic}
 use Rattle.as2_store.proofs.Committing.{ran_inside}
 use Rattle.as2_store.proofs.inbox.put_in.Goals as goal
 
@@ -57,7 +57,7 @@ returns-clause-put g c clean way has =
       c.url_of.ensures,
       c.digest_of.ensures,
       c.mic_of.ensures,
-      c.mdn_code.ensures,
+      c.receipt_stage_code.ensures,
       c.attempt_code.ensures,
       fits_i64 e.number c.requires.number,
       fits_i64 (length e.posted.content) c.requires.fits.length_fits,
@@ -65,7 +65,7 @@ returns-clause-put g c clean way has =
       fits_i64 e.tries c.requires.fits.tries_fit,
       passed_outcome e.posted.outcome,
       passed_how e.posted.how,
-      passed_mdn e.mdn,
+      passed_receipt e.receipt_stage,
       passed_attempt e.attempt,
       bound_optional,
       bound_url,

@@ -3,7 +3,7 @@ use Rattle.as2_exchange.specs.declared.event.Event.TheVariants as event
 use Rattle.as2_station.proofs.ByHistory.{takes_event}
 use Rattle.as2_station.specs.Steps.{Does, TakesEvent, always}
 use Rattle.as2_exchange.specs.Documents.{begun}
-use Rattle.as2_exchange.specs.OwedReceipts.{mdn_begun}
+use Rattle.as2_exchange.specs.OwedReceipts.{begun_receipt}
 use Rattle.as2_exchange.specs.Step.{on_document, on_received}
 use Rattle.as2_exchange.specs.declared.next.Next.{Next}
 use Rattle.as2_station.specs.Said.{begin_event, said_to_begin}
@@ -15,11 +15,11 @@ returns-in-Receipt g c = record {
       let A = c.args.agreements.now in
       let n = c.in-Receipt.number in
       let m = c.args.moment in
-      let new = g.R.Records.shows c.begin_mdn.new.records in
-      subst (λ (w : Next). TakesEvent A (begin_event w m) said_to_begin (g.R.Records.shows c.args.self.now) new c.begin_mdn.result) (sym c.in-Receipt.is)
-      (takes_event A (event.BeginMdn n m) said_to_begin _ new c.begin_mdn.result
-      (subst (λ (h : g.row.R.Denot). Does (λ s. Some (on_received s n (mdn_begun A m))) always (true ≡ true) said_to_begin (g.R.Records.shows h) new c.begin_mdn.result) c.self.view_is c.begin_mdn.ensures.taken)
-      (g.met.R.Records.rests_last c.begin_mdn.new.records)
+      let new = g.R.Records.shows c.begin_receipt.new.records in
+      subst (λ (w : Next). TakesEvent A (begin_event w m) said_to_begin (g.R.Records.shows c.args.self.now) new c.begin_receipt.result) (sym c.in-Receipt.is)
+      (takes_event A (event.BeginReceipt n m) said_to_begin _ new c.begin_receipt.result
+      (subst (λ (h : g.row.R.Denot). Does (λ s. Some (on_received s n (begun_receipt A m))) always (true ≡ true) said_to_begin (g.R.Records.shows h) new c.begin_receipt.result) c.self.view_is c.begin_receipt.ensures.taken)
+      (g.met.R.Records.rests_last c.begin_receipt.new.records)
       (λ head body moment is. absurd (let other = is in cc)));
 }
 

@@ -4,8 +4,8 @@ use Rattle.as2_exchange.specs.State.{State}
 use Rattle.as2_exchange.specs.Due.{due_receipts, is_due_receipt, least}
 use Rattle.as2_exchange.specs.declared.inbox.InEntry.{InEntry}
 use Rattle.as2_lists.proofs.Calls.{reads_ok}
-use Rattle.as2_lists.proofs.Leasts.{due_receipt}
-use Rattle.as2_lists.proofs.lists.ListsRecords.due_mdn.Goals as goal
+use Rattle.as2_lists.proofs.Leasts.{least_due_receipt}
+use Rattle.as2_lists.proofs.lists.ListsRecords.due_receipt.Goals as goal
 
 pub returns-clause-due : goal.returns-clause-due
 returns-clause-due c =
@@ -13,4 +13,4 @@ returns-clause-due c =
     let first = λ (l : List InEntry). option_map (λ (e : InEntry). e.number) (find (is_due_receipt m) l) in
     let here = c.deref.ensures.value ∙ ap (λ (s : State). s.inbox) c.self.view_is in
     reads_ok (λ (s : State) number. number ≡ least (due_receipts s m)) c.args.self.now c.first_due.result
-    (λ counted. c.first_due.ensures ∙ ap first here ∙ due_receipt c.args.self.now m counted)
+    (λ counted. c.first_due.ensures ∙ ap first here ∙ least_due_receipt c.args.self.now m counted)

@@ -3,7 +3,7 @@ use Rattle.as2_exchange.specs.Recording.{requeued_receipt}
 use Rattle.as2_exchange.specs.declared.inbox.InEntry.{InEntry}
 use Rattle.as2_records.specs.Requeuing.{requeued_in}
 use Rattle.as2_lists.proofs.Writing.{writes_from, takes_owed}
-use Rattle.as2_lists.proofs.lists.ListsRecords.requeue_mdn.Goals as goal
+use Rattle.as2_lists.proofs.lists.ListsRecords.requeue_receipt.Goals as goal
 
 pub returns-clause-requeued : goal.returns-clause-requeued
 returns-clause-requeued c =

@@ -5,11 +5,11 @@ use Rattle.sql_tables.proofs.Inside.{made, if_made}
 use Rattle.as2_store.proofs.Statements.{in_set_text}
 use Rattle.as2_store.proofs.MetaRow.{fits_i64}
 use Rattle.as2_store.proofs.InboxQueries.{asked_small}
-use Rattle.as2_store.proofs.InboxRow.{passed_attempt, passed_mdn}
+use Rattle.as2_store.proofs.InboxRow.{passed_attempt, passed_receipt}
 use Rattle.as2_store.proofs.WaitingRows.{bound_optional}
 use Rattle.as2_store.proofs.OwedTables.{sets_owed, owed_params}
 use Rattle.as2_store.proofs.Committing.{ran_inside}
-use Rattle.as2_store.proofs.owed.set_owed.Goals as goal
+use Rattle.as2_store.proofs.owed.set_receipt_row.Goals as goal
 
 pub returns-clause-within : goal.returns-clause-within
 returns-clause-within g c = ran_inside g.S.Store _ _ c.args.tx.now.conn.now c.execute.new.self.conn.now c.execute.result _ c.execute.ensures.ended c.execute.ensures.runs c.execute.ensures.survives
@@ -32,11 +32,11 @@ returns-clause-put g c clean = if_made c.execute.result _ (λ count is way s it.
       c.whole-param.ensures,
       c.whole-tries.ensures,
       c.whole_or_none-due.ensures,
-      c.mdn_code.ensures,
+      c.receipt_stage_code.ensures,
       c.attempt_code.ensures,
       fits_i64 w small,
       fits_i64 p.tries c.requires.fits.tries_fit,
-      passed_mdn p.mdn,
+      passed_receipt p.receipt_stage,
       passed_attempt p.attempt,
       bound_optional,
     ) at ran in

@@ -1,7 +1,0 @@
-use Rattle.std.proofs.Common.{ap}
-use Rattle.sqlite.specs.Held.{state}
-use Rattle.as2_kept.proofs.Writing.{write_over}
-use Rattle.as2_kept.proofs.KeptRecords.requeue_mdn.Goals as goal
-
-pub returns-clause-requeued : goal.returns-clause-requeued
-returns-clause-requeued g c = write_over _ _ _ _ _ (ap (state g.S.Store) c.self.view_is) c.requeue_mdn.ensures.requeued
